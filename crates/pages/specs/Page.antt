@@ -1,0 +1,54 @@
+-- A page's items in a lent list, a page as one value, and where a number stands in it.
+-- Assumes nothing.
+use Prim.Native.Nat.{ℕ, suc, _*_, _-_}
+use mathlib.Core.Bool.{Bool, true, cond, _&&_, _||_}
+use mathlib.Core.List.{List, [], _∷_, _++_}
+use lib.Dec.{leb, ltb, eqb}
+use lib.ListN.{length, take, drop, getD, replicate}
+use Rattle.pages.specs.declared.page.Page.{Page}
+use Rattle.pages.specs.declared.page.Place.{Place}
+
+-- "Place i of page p is item p·b + i": the items of a page in a lent list
+unfoldable pub part : ℕ → ℕ → List ℕ → List ℕ
+part places page l = take places (drop (page * places) l)
+
+-- "one value of 32 places, unused ones empty"; 0 marks an empty place, whose word is 0
+unfoldable pub filled : List ℕ → List ℕ
+filled l = l ++ replicate (32 - length l) 0
+
+-- a page of the lent numbers and words as one value
+abbrev pub pageAt : ℕ → ℕ → List ℕ → List ℕ → Page
+pageAt places page ns ws =
+    record { numbers = filled (part places page ns); words = filled (part places page ws) }
+
+-- the search of k ends at n: an empty place, or a number not below k
+abbrev pub stops : ℕ → ℕ → Bool
+stops k n = eqb n 0 || leb k n
+
+-- the first place that is empty or holds a number not below k, or the number of places
+unfoldable pub placeOf : ℕ → List ℕ → ℕ
+placeOf k [] = 0
+placeOf k (n ∷ ns) = cond (stops k n) 0 (suc (placeOf k ns))
+
+-- whether k stands at that place
+unfoldable pub heldAt : ℕ → List ℕ → Bool
+heldAt k ns = ltb (placeOf k ns) (length ns) && eqb (getD ns (placeOf k ns) 0) k
+
+-- what the search of k answers
+abbrev pub placeIn : ℕ → List ℕ → Place
+placeIn k ns = record { at = placeOf k ns; held = heldAt k ns }
+
+-- only empty places
+unfoldable pub empties : List ℕ → Bool
+empties [] = true
+empties (n ∷ ns) = eqb n 0 && empties ns
+
+-- numbers above `low` that rise strictly
+unfoldable pub rising : ℕ → List ℕ → Bool
+rising low [] = true
+rising low (n ∷ ns) = ltb low n && rising n ns
+
+-- "its numbers rise strictly ... and precede the empty places": numbers above `low`, then empty places
+unfoldable pub orderly : ℕ → List ℕ → Bool
+orderly low [] = true
+orderly low (n ∷ ns) = cond (eqb n 0) (empties ns) (ltb low n && orderly n ns)

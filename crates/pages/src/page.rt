@@ -1,0 +1,76 @@
+// A page as one value of 32 places, copied from the lent lists and back, and the search of one.
+ghost use mathlib.Core.Path.{_≡_};
+ghost use Prim.Native.Nat.{_+_, _*_, _≤_};
+ghost use lib.ListN.{length, take};
+ghost use lib.Seq.{paste};
+ghost use Rattle.pages.specs.Page.{pageAt, placeIn};
+
+// Unused places are empty: number 0, word 0.
+pub struct Page {
+    pub numbers: [u32; 32],
+    pub words: [u64; 32],
+}
+
+// Where a number stands in a page or would stand, and whether it is held.
+pub struct Place {
+    pub at: usize,
+    pub held: bool,
+}
+
+pub fn load(numbers: &[u32], words: &[u64], places: usize, page: usize) -> Page
+    requires { ⌜ places ≤ 32 ⌝ }
+    requires { ⌜ page * places + places ≤ length (now numbers) ⌝ }
+    requires { ⌜ page * places + places ≤ length (now words) ⌝ }
+    ensures { λ r. ⌜ r ≡ pageAt places page (now (numbers .entry)) (now (words .entry)) ⌝ }
+{
+    let mut value = Page {
+        numbers: [0u32; 32],
+        words: [0u64; 32],
+    };
+    let first = page * places;
+    let mut i = 0;
+    while i < places {
+        value.numbers[i] = numbers[first + i];
+        value.words[i] = words[first + i];
+        i += 1;
+    }
+    value
+}
+
+// Everything but the page's items keeps its contents.
+pub fn store(numbers: &mut [u32], words: &mut [u64], places: usize, page: usize, value: Page)
+    requires { ⌜ places ≤ 32 ⌝ }
+    requires { ⌜ page * places + places ≤ length (now numbers) ⌝ }
+    requires { ⌜ page * places + places ≤ length (now words) ⌝ }
+    ensures { λ _. ⌜ now (numbers .exit) ≡ paste (now (numbers .entry)) (page * places) (value .numbers) places ⌝ }
+    ensures { λ _. ⌜ now (words .exit) ≡ paste (now (words .entry)) (page * places) (value .words) places ⌝ }
+{
+    let first = page * places;
+    let mut i = 0;
+    while i < places {
+        numbers[first + i] = value.numbers[i];
+        words[first + i] = value.words[i];
+        i += 1;
+    }
+}
+
+pub fn search(value: Page, places: usize, number: u32) -> Place
+    requires { ⌜ places ≤ 32 ⌝ }
+    ensures { λ r. ⌜ r ≡ placeIn number (take places (value .numbers)) ⌝ }
+{
+    let mut i = 0;
+    while i < places {
+        let there = value.numbers[i];
+        if there == 0 || number <= there {
+            return Place {
+                at: i,
+                held: there == number,
+            };
+        }
+        i += 1;
+    }
+    Place {
+        at: places,
+        held: false,
+    }
+}
