@@ -17,9 +17,9 @@ use Rattle.pages.specs.Page.{part, filled}
 pub pages-apart : (places p q : ℕ) → p < q → p * places + places ≤ q * places
 pages-apart places p q h = omega (arith, mul-le-mul-right {m = suc p} {n = q} places h, suc-mul p places)
 
--- page p of m pages lies within a list of m·places items
-pub page-fits : {A : Type 0} (places m p : ℕ) (l : List A) → p < m → length l ≡ m * places → p * places + places ≤ length l
-page-fits places m p l h e = omega (arith, pages-apart places p m h)
+-- page p of m pages lies within a list of m·places items, whose length is n
+pub page-fits : (places m p : ℕ) {n : ℕ} → p < m → n ≡ m * places → p * places + places ≤ n
+page-fits places m p h e = omega (arith, pages-apart places p m h)
 
 -- a part in the middle is the end of a front
 take-drop : (f k : ℕ) (l : List ℕ) → take k (drop f l) ≡ drop f (take (f + k) l)
