@@ -1,0 +1,36 @@
+-- The number generator and the signature: document 01, "Home and signature". The multiplier is a parameter of every definition.
+use mathlib.Core.List.{List, [], _∷_}
+use Prim.Native.Nat.{ℕ, zero, suc, _+_, _-_, _*_, _%_, _^_}
+
+-- m = 2,147,483,647
+abbrev pub modulus : ℕ
+modulus = 2147483647
+
+-- 16,807, the multiplier of the file's own table
+abbrev pub multiplier : ℕ
+multiplier = 16807
+
+-- the j-th multiplier of the table: a^j mod m
+unfoldable pub power : ℕ → ℕ → ℕ
+power a j = a ^ j % modulus
+
+-- Xj(K) = a^j·K mod m
+unfoldable pub scrambled : ℕ → ℕ → ℕ → ℕ
+scrambled a j k = a ^ j * k % modulus
+
+-- 2^k − 1, the greatest separator; every signature is below it
+unfoldable pub topOf : ℕ → ℕ
+topOf bits = 2 ^ bits - 1
+
+-- signature t of K is X(2t+1) mod (2^k − 1), used on the t-th page probed, t = 1 at home
+unfoldable pub signature : ℕ → ℕ → ℕ → ℕ → ℕ
+signature a bits k t = scrambled a (2 * t + 1) k % topOf bits
+
+-- n entries, each being the one before times a mod m; p is the one before the first
+unfoldable pub chain : ℕ → ℕ → ℕ → List ℕ
+chain a p zero = []
+chain a p (suc n) = p * a % modulus ∷ chain a (p * a % modulus) n
+
+-- the 2,049 multipliers, the first 16,807
+unfoldable pub multipliers : List ℕ
+multipliers = chain multiplier 1 2049

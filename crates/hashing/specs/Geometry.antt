@@ -1,0 +1,48 @@
+-- Group size, group count and page count: document 01, "The lent buffers"; the growth step: "The cut".
+use mathlib.Core.Bool.{Bool, true, false}
+use Prim.Native.Nat.{ℕ, _+_, _-_, _*_, _/_, _%_, _^_, min}
+use lib.Dec.{eqb}
+use Rattle.hashing.specs.declared.Parameters.{Parameters}
+use Rattle.hashing.specs.declared.Growth.{Growth}
+
+-- n = n0 + (e mod n0), the pages of a group after e partial expansions
+unfoldable pub sizeAt : Parameters → ℕ → ℕ
+sizeAt p e = p .width + e % p .width
+
+-- G = N·2^(e div n0), the groups after e partial expansions
+unfoldable pub countAt : Parameters → ℕ → ℕ
+countAt p e = p .groups * 2 ^ (e / p .width)
+
+abbrev pub groupSize : Parameters → Growth → ℕ
+groupSize p g = sizeAt p (g .expansions)
+
+abbrev pub groupCount : Parameters → Growth → ℕ
+groupCount p g = countAt p (g .expansions)
+
+-- n·G + x; pages from here on hold overflow only
+unfoldable pub pageCount : Parameters → Growth → ℕ
+pageCount p g = groupSize p g * groupCount p g + g .expanded
+
+-- the highest address, n·G + x − 1
+unfoldable pub highest : Parameters → Growth → ℕ
+highest p g = pageCount p g - 1
+
+-- growth makes x + 1, or e + 1 and 0 where that equals G
+unfoldable pub grownBy : Bool → Growth → Growth
+grownBy true g = record { expansions = g .expansions + 1; expanded = 0 }
+grownBy false g = record { expansions = g .expansions; expanded = g .expanded + 1 }
+
+unfoldable pub grown : Parameters → Growth → Growth
+grown p g = grownBy (eqb (g .expanded + 1) (groupCount p g)) g
+
+-- a new file's growth state
+abbrev pub ungrown : Growth
+ungrown = record { expansions = 0; expanded = 0 }
+
+-- with t = G − 1 − g and w = t mod s: w·(G div s) + the smaller of w and G mod s + t div s
+unfoldable pub swept : ℕ → ℕ → ℕ → ℕ
+swept step count t = t % step * (count / step) + min (t % step) (count % step) + t / step
+
+-- the rank of a group among G groups, by backward sweeps of step s
+unfoldable pub rank : ℕ → ℕ → ℕ → ℕ
+rank step count group = swept step count (count - 1 - group)

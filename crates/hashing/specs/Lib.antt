@@ -1,0 +1,4 @@
+pub mod Generator
+pub mod Geometry
+pub mod Limits
+pub mod Home

@@ -1,0 +1,33 @@
+// Scrambled star numbers and signatures, over the table of multipliers.
+ghost use mathlib.Core.Path.{_≡_};
+ghost use Prim.Native.Nat.{_≤_};
+ghost use Rattle.hashing.specs.Generator.{multiplier};
+ghost use Rattle.hashing.specs.Generator.{multipliers as Generator·multipliers, scrambled as Generator·scrambled, signature as Generator·signature};
+use crate::MULTIPLIERS;
+
+// A copy of the table, for a caller that must know no more of it than that it is the table.
+pub fn multipliers() -> [u32; 2049]
+    ensures { λ r. ⌜ r ≡ Generator·multipliers ⌝ }
+{
+    MULTIPLIERS
+}
+
+// Xj of a number.
+pub fn scrambled(table: &[u32; 2049], j: usize, number: u32) -> u32
+    requires { ⌜ now table ≡ Generator·multipliers ⌝ }
+    requires { ⌜ (1 ≤ j) × (j ≤ 2049) ⌝ }
+    ensures { λ r. ⌜ r ≡ Generator·scrambled multiplier j number ⌝ }
+{
+    let product = table[j - 1] as u64 * number as u64;
+    (product % 2147483647) as u32
+}
+
+// The signature of a number on the probe-th page probed.
+pub fn signature(table: &[u32; 2049], bits: u32, number: u32, probe: usize) -> u32
+    requires { ⌜ now table ≡ Generator·multipliers ⌝ }
+    requires { ⌜ (1 ≤ bits) × (bits ≤ 8) ⌝ }
+    requires { ⌜ (1 ≤ probe) × (probe ≤ 1024) ⌝ }
+    ensures { λ r. ⌜ r ≡ Generator·signature multiplier bits number probe ⌝ }
+{
+    scrambled(table, 2 * probe + 1, number) % ((1 << bits) - 1)
+}

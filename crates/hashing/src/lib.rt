@@ -1,0 +1,40 @@
+// Where a star's home page is and which signatures it has: the number generator, the geometry of a linear hashing file with
+// partial expansions, and the growth step.
+mod address;
+mod generator;
+mod groups;
+mod limits;
+mod table;
+
+pub use address::home;
+pub use address::home_grown;
+pub use generator::multipliers;
+pub use generator::scrambled;
+pub use generator::signature;
+pub use groups::grown;
+pub use groups::rank;
+pub use limits::growth_valid;
+pub use limits::parameters_valid;
+pub use table::MULTIPLIERS;
+
+// A file's parameters, with document 01's letters.
+pub struct Parameters {
+    pub places: u32, // b, places of a page
+    pub groups: u32, // N, first groups
+    pub width: u32, // n0, first pages of a group
+    pub step: u32, // s, step of a sweep
+    pub bits: u32, // k, bits of a separator
+    pub load: u32, // A, per cent
+    pub pages: u32, // M
+}
+
+// The growth state.
+pub struct Growth {
+    pub expansions: u32, // e, partial expansions finished
+    pub expanded: u32, // x, groups expanded in the present one
+}
+
+pub struct Geometry {
+    pub parameters: Parameters,
+    pub growth: Growth,
+}
