@@ -1,0 +1,11 @@
+pub mod Filters
+pub mod Separator
+pub mod Composition
+pub mod Irrelevance
+pub mod Standing
+pub mod Domination
+pub mod Order
+pub mod Collecting
+pub mod Locality
+pub mod Mapping
+pub mod Writing

@@ -1,0 +1,216 @@
+-- Laws of `written`, `part` and `column`: pages in the lent buffers.
+use mathlib.Core.Path.{_≡_, refl, sym, ap, _∙_}
+use mathlib.Core.Bool.{Bool, true, false, not, cond}
+use mathlib.Core.List.{List, [], _∷_, _++_, map, append-assoc, append-nil}
+use Prim.Native.Nat.{ℕ, zero, suc, _+_, _-_, _*_, _≤_, _<_}
+use native.Mathlib.Nat.{zero-add, add-zero, suc-add, add-suc, add-assoc, add-comm, suc-mul, zero-mul, add-mul, mul-le-mul-right, le-refl, le-trans}
+use native.Mathlib.Omega.{arith}
+use lib.ListN.{length, take, drop, getD, replicate, length-append, length-take, length-drop, length-map, length-replicate, take-append-drop, List·getD-map}
+use lib.Seq.{take-at, drop-at, take-append-le, drop-append-le, drop-append-add, take-append-add, length-take-le, drop-drop, take-length, take-take, take-add}
+use Rattle.placement.specs.Rule.{Star, Contents, separators, blank}
+use Rattle.placement.specs.File.{part, padded, column, written}
+use Rattle.placement.proofs.Standing.{length-separators}
+
+module _ {A : Type 0} where
+  pub written-middle : (a : ℕ) (P Q X R : List A) → length P ≡ a → length X ≡ length Q → written a X (P ++ (Q ++ R)) ≡ P ++ (X ++ R)
+  unfolding written
+  written-middle a P Q X R lp lx =
+      rw (take-at P (Q ++ R) a lp)
+      (ap (λ (l : List A). P ++ (X ++ l))
+      (sym (drop-drop (length X) a (P ++ (Q ++ R))) ∙ ap (drop (length X)) (drop-at P (Q ++ R) a lp) ∙ drop-at Q R (length X) (sym lx)))
+
+  pub length-written : (a : ℕ) (s d : List A) → a + length s ≤ length d → length (written a s d) ≡ length d
+  unfolding written
+  length-written a s d h =
+      length-append (take a d) (s ++ drop (a + length s) d)
+      ∙ omega (arith, length-append s (drop (a + length s) d), length-take-le a d (omega arith), length-drop (a + length s) d)
+
+  -- One after the other, as one.
+  pub written-add : (a : ℕ) (s u d : List A) → a ≤ length d → written (a + length s) u (written a s d) ≡ written a (s ++ u) d
+  unfolding written
+  written-add a s u d h =
+      ap (λ (l : List A). take (a + length s) l ++ (u ++ drop (a + length s + length u) l)) (sym (append-assoc (take a d) s (drop (a + length s) d)))
+      ∙ ap (λ (l : List A). l ++ (u ++ drop (a + length s + length u) (take a d ++ s ++ drop (a + length s) d))) (take-at (take a d ++ s) (drop (a + length s) d) (a + length s) size)
+      ∙ ap (λ (l : List A). take a d ++ s ++ (u ++ l)) rest
+      ∙ append-assoc (take a d) s (u ++ drop (a + length (s ++ u)) d)
+      ∙ ap (λ (l : List A). take a d ++ l) (sym (append-assoc s u (drop (a + length (s ++ u)) d)))
+    where
+      size : length (take a d ++ s) ≡ a + length s
+      size = length-append (take a d) s ∙ ap (λ (k : ℕ). k + length s) (length-take-le a d h)
+
+      rest : drop (a + length s + length u) (take a d ++ s ++ drop (a + length s) d) ≡ drop (a + length (s ++ u)) d
+      rest =
+          let sum : a + length s + length u ≡ a + length (s ++ u) = omega (arith, length-append s u) in
+          sym (drop-drop (length u) (a + length s) (take a d ++ s ++ drop (a + length s) d))
+          ∙ ap (drop (length u)) (drop-at (take a d ++ s) (drop (a + length s) d) (a + length s) size)
+          ∙ drop-drop (length u) (a + length s) d
+          ∙ ap (λ (k : ℕ). drop k d) sum
+
+  -- A list around its n items from a.
+  pub around : (a n : ℕ) (d : List A) → d ≡ take a d ++ (take n (drop a d) ++ drop (a + n) d)
+  around a n d =
+      sym (take-append-drop a d)
+      ∙ ap (λ (l : List A). take a d ++ l) (sym (take-append-drop n (drop a d)) ∙ ap (λ (l : List A). take n (drop a d) ++ l) (drop-drop n a d))
+
+  -- What stands there already.
+  pub written-same : (a n : ℕ) (d : List A) → a + n ≤ length d → written a (take n (drop a d)) d ≡ d
+  unfolding written
+  written-same a n d h =
+      ap (λ (k : ℕ). take a d ++ (take n (drop a d) ++ drop (a + k) d)) (length-take-le n (drop a d) (omega (arith, length-drop a d)))
+      ∙ sym (around a n d)
+
+-- ---- parts
+
+pub part-zero : (b : ℕ) (l : List ℕ) → part b 0 l ≡ take b l
+unfolding part
+part-zero b l = rw (zero-mul b)
+
+pub part-suc : (b p : ℕ) (l : List ℕ) → part b (suc p) l ≡ part b p (drop b l)
+unfolding part
+part-suc b p l =
+    ap (take b) (ap (λ (k : ℕ). drop k l) (suc-mul p b ∙ add-comm (p * b) b) ∙ sym (drop-drop (p * b) b l))
+
+-- Page q of a list that goes on, and page i + j of one that begins with i pages.
+pub part-front : (b q : ℕ) (xs ys : List ℕ) → suc q * b ≤ length xs → part b q (xs ++ ys) ≡ part b q xs
+unfolding part
+part-front b q xs ys h =
+    ap (take b) (drop-append-le (q * b) xs ys (omega (arith, suc-mul q b)))
+    ∙ take-append-le b (drop (q * b) xs) ys (omega (arith, suc-mul q b, length-drop (q * b) xs))
+
+pub part-back : (b i j : ℕ) (xs ys : List ℕ) → length xs ≡ i * b → part b (i + j) (xs ++ ys) ≡ part b j ys
+unfolding part
+part-back b i j xs ys e =
+    ap (take b)
+    (ap (λ (k : ℕ). drop k (xs ++ ys)) (add-mul i j b) ∙ sym (drop-drop (j * b) (i * b) (xs ++ ys)) ∙ ap (drop (j * b)) (drop-at xs ys (i * b) e))
+
+pub length-part : (b p M : ℕ) (l : List ℕ) → length l ≡ M * b → p < M → length (part b p l) ≡ b
+unfolding part
+length-part b p M l e h =
+    length-take-le b (drop (p * b) l) (omega (arith, length-drop (p * b) l, suc-mul p b, mul-le-mul-right b h))
+
+-- A list of M pages is determined by them.
+pub parts-same : (b M : ℕ) (k l : List ℕ) → length k ≡ M * b → length l ≡ M * b → ((p : ℕ) → p < M → part b p k ≡ part b p l) → k ≡ l
+parts-same b zero k l ek el h = empty k (ek ∙ zero-mul b) ∙ sym (empty l (el ∙ zero-mul b))
+  where
+    empty : (m : List ℕ) → length m ≡ 0 → m ≡ []
+    empty [] e = refl
+    empty (x ∷ xs) e = absurd (omega arith)
+parts-same b (suc M) k l ek el h =
+    sym (take-append-drop b k)
+    ∙ ap (λ (m : List ℕ). m ++ drop b k) (sym (part-zero b k) ∙ h 0 (omega arith) ∙ part-zero b l)
+    ∙ ap (λ (m : List ℕ). take b l ++ m)
+    (parts-same b M (drop b k) (drop b l) (shorter k ek) (shorter l el) (λ p g. sym (part-suc b p k) ∙ h (suc p) (omega arith) ∙ part-suc b p l))
+    ∙ take-append-drop b l
+  where
+    shorter : (m : List ℕ) → length m ≡ suc M * b → length (drop b m) ≡ M * b
+    shorter m e = omega (arith, length-drop b m, suc-mul M b)
+
+-- ---- pages in columns
+
+-- At most so many stars on each page.
+abbrev pub Roomy : ℕ → List Contents → Type 0
+Roomy b [] = Unit {0}
+Roomy b (c ∷ cs) = (length (c .stars) ≤ b) × Roomy b cs
+
+pub roomy-append : (b : ℕ) (cs ds : List Contents) → Roomy b (cs ++ ds) → Roomy b cs × Roomy b ds
+roomy-append b [] ds r = (tt, r)
+roomy-append b (c ∷ cs) ds r = ((r .0, roomy-append b cs ds (r .1) .0), roomy-append b cs ds (r .1) .1)
+
+pub append-roomy : (b : ℕ) (cs ds : List Contents) → Roomy b cs → Roomy b ds → Roomy b (cs ++ ds)
+append-roomy b [] ds r s = s
+append-roomy b (c ∷ cs) ds r s = (r .0, append-roomy b cs ds (r .1) s)
+
+pub length-padded : (n : ℕ) (l : List ℕ) → length l ≤ n → length (padded n l) ≡ n
+unfolding padded
+length-padded n l h = length-append l (replicate (n - length l) 0) ∙ omega (arith, length-replicate {A = ℕ} (n - length l) 0)
+
+pub separators-append : (cs ds : List Contents) → separators (cs ++ ds) ≡ separators cs ++ separators ds
+unfolding separators
+separators-append [] ds = refl
+separators-append (c ∷ cs) ds = ap (λ (l : List ℕ). c .separator ∷ l) (separators-append cs ds)
+
+pub getD-separators : (cs : List Contents) (i : ℕ) → getD (separators cs) i 0 ≡ getD cs i blank .separator
+unfolding separators
+getD-separators cs i = List·getD-map (λ (c : Contents). c .separator) cs i blank
+
+module _ (b : ℕ) (g : Star → ℕ) where
+  pub column-append : (cs ds : List Contents) → column b g (cs ++ ds) ≡ column b g cs ++ column b g ds
+  unfolding column
+  column-append [] ds = refl
+  column-append (c ∷ cs) ds =
+      ap (λ (l : List ℕ). padded b (map g (c .stars)) ++ l) (column-append cs ds)
+      ∙ sym (append-assoc (padded b (map g (c .stars))) (column b g cs) (column b g ds))
+
+  pub length-column : (cs : List Contents) → Roomy b cs → length (column b g cs) ≡ length cs * b
+  unfolding column
+  length-column [] r = sym (zero-mul b)
+  length-column (c ∷ cs) r =
+      length-append (padded b (map g (c .stars))) (column b g cs)
+      ∙ omega (arith, length-padded b (map g (c .stars)) (rw (length-map (c .stars) g) (r .0)), length-column cs (r .1), suc-mul (length cs) b)
+
+  pub part-column : (cs : List Contents) (p : ℕ) → Roomy b cs → p < length cs → part b p (column b g cs) ≡ padded b (map g (getD cs p blank .stars))
+  unfolding column
+  part-column [] p r h = absurd (omega arith)
+  part-column (c ∷ cs) zero r h =
+      part-zero b (column b g (c ∷ cs)) ∙ take-at (padded b (map g (c .stars))) (column b g cs) b (length-padded b (map g (c .stars)) (rw (length-map (c .stars) g) (r .0)))
+  part-column (c ∷ cs) (suc p) r h =
+      part-suc b p (column b g (c ∷ cs))
+      ∙ ap (part b p) (drop-at (padded b (map g (c .stars))) (column b g cs) b (length-padded b (map g (c .stars)) (rw (length-map (c .stars) g) (r .0))))
+      ∙ part-column cs p (r .1) (omega arith)
+
+  pub written-column : (p : ℕ) (ds cs : List Contents) → Roomy b cs → Roomy b ds → p + length ds ≤ length cs
+      → written (p * b) (column b g ds) (column b g cs) ≡ column b g (written p ds cs)
+  unfolding written
+  written-column p ds cs rc rd h =
+      ap (written (p * b) (column b g ds)) (ap (column b g) whole ∙ column-append P (Q ++ R) ∙ ap (λ (l : List ℕ). column b g P ++ l) (column-append Q R))
+      ∙ written-middle (p * b) (column b g P) (column b g Q) (column b g ds) (column b g R)
+      (length-column P roomyP ∙ ap (λ (k : ℕ). k * b) lengthP)
+      (length-column ds rd ∙ sym (length-column Q roomyQ ∙ ap (λ (k : ℕ). k * b) lengthQ))
+      ∙ ap (λ (l : List ℕ). column b g P ++ l) (sym (column-append ds R))
+      ∙ sym (column-append P (ds ++ R))
+    where
+      P : List Contents
+      P = take p cs
+
+      Q : List Contents
+      Q = take (length ds) (drop p cs)
+
+      R : List Contents
+      R = drop (p + length ds) cs
+
+      whole : cs ≡ P ++ (Q ++ R)
+      whole = around p (length ds) cs
+
+      roomy : Roomy b (P ++ (Q ++ R))
+      roomy = rw whole at rc
+
+      roomyP : Roomy b P
+      roomyP = roomy-append b P (Q ++ R) roomy .0
+
+      roomyQ : Roomy b Q
+      roomyQ = roomy-append b Q R (roomy-append b P (Q ++ R) roomy .1) .0
+
+      lengthP : length P ≡ p
+      lengthP = length-take-le p cs (omega arith)
+
+      lengthQ : length Q ≡ length ds
+      lengthQ = length-take-le (length ds) (drop p cs) (omega (arith, length-drop p cs))
+
+pub written-separators : (p : ℕ) (ds cs : List Contents) → p + length ds ≤ length cs → written p (separators ds) (separators cs) ≡ separators (written p ds cs)
+unfolding written
+written-separators p ds cs h =
+    ap (written p (separators ds)) (ap separators (around p (length ds) cs) ∙ separators-append P (Q ++ R) ∙ ap (λ (l : List ℕ). separators P ++ l) (separators-append Q R))
+    ∙ written-middle p (separators P) (separators Q) (separators ds) (separators R)
+    (length-separators P ∙ length-take-le p cs (omega arith))
+    (length-separators ds ∙ sym (length-separators Q ∙ length-take-le (length ds) (drop p cs) (omega (arith, length-drop p cs))))
+    ∙ ap (λ (l : List ℕ). separators P ++ l) (sym (separators-append ds R))
+    ∙ sym (separators-append P (ds ++ R))
+  where
+    P : List Contents
+    P = take p cs
+
+    Q : List Contents
+    Q = take (length ds) (drop p cs)
+
+    R : List Contents
+    R = drop (p + length ds) cs
