@@ -1,0 +1,10 @@
+pub mod Split
+pub mod Numbers
+pub mod Writing
+pub mod Digits
+pub mod Declinations
+pub mod Alone
+pub mod Commands
+pub mod Signs
+pub mod Lengths
+pub mod Kept
