@@ -1,0 +1,9 @@
+pub mod Lists
+pub mod Packing
+pub mod Counting
+pub mod Items
+pub mod Order
+pub mod Grouping
+pub mod Placing
+pub mod Scattering
+pub mod Gathered

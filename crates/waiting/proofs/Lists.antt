@@ -1,0 +1,103 @@
+-- Laws of `filter` and `all`. Assumes nothing.
+use mathlib.Core.Path.{_≡_, refl, ap, _∙_}
+use mathlib.Core.Bool.{Bool, true, false, cond, _&&_}
+use mathlib.Core.List.{List, [], _∷_, _++_}
+use Prim.Native.Nat.{ℕ, zero, suc, _≤_, _<_, zero-le}
+use native.Mathlib.Nat.{not-suc-le-zero, le-of-suc-le-suc}
+use native.Mathlib.Omega.{arith}
+use lib.ListN.{length, getD}
+use Rattle.waiting.specs.Lists.{filter, all}
+
+module _ (q : ℕ → Bool) where
+  pub filter-append : (a b : List ℕ) → filter q (a ++ b) ≡ filter q a ++ filter q b
+  unfolding filter
+  filter-append [] b = refl
+  filter-append (x ∷ a) b = go (q x) (filter-append a b)
+    where
+      go : (t : Bool) → filter q (a ++ b) ≡ filter q a ++ filter q b →
+          cond t (x ∷ filter q (a ++ b)) (filter q (a ++ b)) ≡ cond t (x ∷ filter q a) (filter q a) ++ filter q b
+      go true e = rw e
+      go false e = e
+
+  pub filter-length : (l : List ℕ) → length (filter q l) ≤ length l
+  unfolding filter
+  filter-length [] = zero-le
+  filter-length (x ∷ l) = go (q x) (filter-length l)
+    where
+      go : (t : Bool) → length (filter q l) ≤ length l → length (cond t (x ∷ filter q l) (filter q l)) ≤ suc (length l)
+      go true h = omega arith
+      go false h = omega arith
+
+  pub filter-true : (x : ℕ) (l : List ℕ) → q x ≡ true → filter q (x ∷ l) ≡ x ∷ filter q l
+  unfolding filter
+  filter-true x l e = rw e
+
+  pub filter-false : (x : ℕ) (l : List ℕ) → q x ≡ false → filter q (x ∷ l) ≡ filter q l
+  unfolding filter
+  filter-false x l e = rw e
+
+  pub all-head : (x : ℕ) (l : List ℕ) → all q (x ∷ l) ≡ true → q x ≡ true
+  unfolding all
+  all-head x l = go (q x)
+    where
+      go : (t : Bool) → t && all q l ≡ true → t ≡ true
+      go true e = refl
+      go false e = e
+
+  pub all-tail : (x : ℕ) (l : List ℕ) → all q (x ∷ l) ≡ true → all q l ≡ true
+  unfolding all
+  all-tail x l = go (q x)
+    where
+      go : (t : Bool) → t && all q l ≡ true → all q l ≡ true
+      go true e = e
+      go false e = go′ (all q l) e
+        where
+          go′ : (s : Bool) → false ≡ true → s ≡ true
+          go′ true f = refl
+          go′ false f = f
+
+  pub all-cons : (x : ℕ) (l : List ℕ) → q x ≡ true → all q l ≡ true → all q (x ∷ l) ≡ true
+  unfolding all
+  all-cons x l e f = rw (e, f)
+
+  pub all-append : (a b : List ℕ) → all q a ≡ true → all q b ≡ true → all q (a ++ b) ≡ true
+  all-append [] b e f = f
+  all-append (x ∷ a) b e f = all-cons x (a ++ b) (all-head x a e) (all-append a b (all-tail x a e) f)
+
+  pub all-getD : (l : List ℕ) (j : ℕ) → all q l ≡ true → j < length l → q (getD l j 0) ≡ true
+  all-getD [] j e h = absurd (not-suc-le-zero h)
+  all-getD (x ∷ l) zero e h = all-head x l e
+  all-getD (x ∷ l) (suc j) e h = all-getD l j (all-tail x l e) (le-of-suc-le-suc h)
+
+  -- those that pass a test all pass it
+  pub all-filtered : (l : List ℕ) → all q (filter q l) ≡ true
+  unfolding filter all
+  all-filtered [] = refl
+  all-filtered (x ∷ l) = go (q x) refl (all-filtered l)
+    where
+      go : (t : Bool) → q x ≡ t → all q (filter q l) ≡ true → all q (cond t (x ∷ filter q l) (filter q l)) ≡ true
+      go true e h = rw (e, h)
+      go false e h = h
+
+  -- a selection from those that all pass
+  pub all-filter : (r : ℕ → Bool) (l : List ℕ) → all q l ≡ true → all q (filter r l) ≡ true
+  unfolding filter
+  all-filter r [] e = e
+  all-filter r (x ∷ l) e = go (r x) (all-head x l e) (all-filter r l (all-tail x l e))
+    where
+      go : (t : Bool) → q x ≡ true → all q (filter r l) ≡ true → all q (cond t (x ∷ filter r l) (filter r l)) ≡ true
+      go true f h = all-cons x (filter r l) f h
+      go false f h = h
+
+  pub filter-all : (l : List ℕ) → all q l ≡ true → filter q l ≡ l
+  filter-all [] e = filter-nil
+    where
+      filter-nil : filter q [] ≡ []
+      filter-nil = unfold filter in refl
+  filter-all (x ∷ l) e = filter-true x l (all-head x l e) ∙ ap (λ (r : List ℕ). x ∷ r) (filter-all l (all-tail x l e))
+
+-- a weaker test
+pub all-mono : (q r : ℕ → Bool) (l : List ℕ) → ((x : ℕ) → q x ≡ true → r x ≡ true) → all q l ≡ true → all r l ≡ true
+unfolding all
+all-mono q r [] f e = refl
+all-mono q r (x ∷ l) f e = all-cons r x l (f x (all-head q x l e)) (all-mono q r l f (all-tail q x l e))

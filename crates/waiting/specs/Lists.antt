@@ -1,0 +1,29 @@
+-- Lists of numbers selected and judged by a test. Assumes nothing.
+use mathlib.Core.Bool.{Bool, true, _&&_, cond}
+use mathlib.Core.List.{List, [], _∷_}
+use Prim.Native.Nat.{ℕ, zero, suc, _+_}
+use lib.Dec.{ltb, eqb}
+
+-- those that pass the test, in order
+unfoldable pub filter : (ℕ → Bool) → List ℕ → List ℕ
+filter q [] = []
+filter q (x ∷ l) = cond (q x) (x ∷ filter q l) (filter q l)
+
+-- those of which f is v
+abbrev pub alike : (ℕ → ℕ) → ℕ → List ℕ → List ℕ
+alike f v l = filter (λ x. eqb (f x) v) l
+
+-- all pass the test
+unfoldable pub all : (ℕ → Bool) → List ℕ → Bool
+all q [] = true
+all q (x ∷ l) = q x && all q l
+
+-- all are below a bound
+abbrev pub allBelow : ℕ → List ℕ → Bool
+allBelow b l = all (λ x. ltb x b) l
+
+-- the sum of the first n
+unfoldable pub sumTo : ℕ → List ℕ → ℕ
+sumTo zero l = zero
+sumTo (suc n) [] = zero
+sumTo (suc n) (x ∷ l) = x + sumTo n l

@@ -1,0 +1,11 @@
+// The stars that wait for a page, each as one word of a lent list: gathered from a stretch of pages and grouped by home.
+mod gathering;
+mod words;
+
+pub use gathering::count_stars;
+pub use gathering::gather;
+pub use words::home_of;
+pub use words::low_of;
+pub use words::number_of;
+pub use words::pack;
+pub use words::source_of;
