@@ -2,7 +2,7 @@
 use mathlib.Core.Path.{_≡_, refl, sym, ap, _∙_}
 use mathlib.Core.Bool.{Bool, true, false, not}
 use mathlib.Core.List.{List, [], _∷_, _++_, map}
-use Prim.Native.Nat.{ℕ, zero, suc, _+_, _*_, _≤_, _<_}
+use Prim.Native.Nat.{ℕ, zero, suc, _+_, _-_, _*_, _≤_, _<_}
 use native.Mathlib.Nat.{zero-add, add-zero, suc-add, add-suc, suc-mul, zero-mul, le-refl}
 use native.Mathlib.Omega.{arith}
 use lib.ListN.{length, take, drop, length-map}
@@ -34,6 +34,19 @@ take-pages H p n m w =
 pub drop-pages : (H : Hash) (p n m : ℕ) (w : List Star) → drop n (pages H p (n + m) w) ≡ pages H (p + n) m (left H p n w)
 drop-pages H p n m w =
     rw (pages-add H p n m w) (drop-at (pages H p n w) (pages H (p + n) m (left H p n w)) n (length-pages H p n w))
+
+-- The n pages from a, of M.
+pub middle-pages : (H : Hash) (a n M : ℕ) (w : List Star) → a + n ≤ M → take n (drop a (pages H 0 M w)) ≡ pages H a n (left H 0 a w)
+middle-pages H a n M w h =
+    ap (λ (k : ℕ). take n (drop a (pages H 0 k w))) whole
+    ∙ ap (take n) (drop-pages H 0 a (n + rest) w)
+    ∙ rw (zero-add a) (take-pages H a n rest (left H 0 a w))
+  where
+    rest : ℕ
+    rest = M - (a + n)
+
+    whole : M ≡ a + (n + rest)
+    whole = omega arith
 
 -- The n pages keep at most room stars each.
 pub count : (H : Hash) (p n : ℕ) (w : List Star) → length w ≤ n * H .room + length (left H p n w)

@@ -9,3 +9,7 @@ pub mod Collecting
 pub mod Locality
 pub mod Mapping
 pub mod Writing
+pub mod Pages
+pub mod Files
+pub mod Sound
+pub mod Entry

@@ -8,7 +8,8 @@ use native.Mathlib.Omega.{arith}
 use lib.ListN.{length, take, drop, getD, replicate, length-append, length-take, length-drop, length-map, length-replicate, take-append-drop, List·getD-map}
 use lib.Seq.{take-at, drop-at, take-append-le, drop-append-le, drop-append-add, take-append-add, length-take-le, drop-drop, take-length, take-take, take-add}
 use Rattle.placement.specs.Rule.{Star, Contents, separators, blank}
-use Rattle.placement.specs.File.{part, padded, column, written}
+use Rattle.pages.specs.Page.{part}
+use Rattle.placement.specs.File.{padded, column, written}
 use Rattle.placement.proofs.Standing.{length-separators}
 
 module _ {A : Type 0} where

@@ -5,16 +5,13 @@ use mathlib.Core.List.{List, [], _∷_, _++_, map}
 use Prim.Native.Nat.{ℕ, zero, suc, _+_, _-_, _*_, _<_}
 use lib.Dec.{leb, ltb, eqb}
 use lib.ListN.{length, take, drop, getD, replicate}
+use Rattle.pages.specs.Page.{part}
 use Rattle.placement.specs.Rule.{Star, Hash, Contents, keep, pages, first, pour, separators}
 
 pub record File : Type 0 where
   pub separators : List ℕ
   pub numbers : List ℕ
   pub words : List ℕ
-
--- "Place i of page p is item p·b + i": the items of a page.
-unfoldable pub part : ℕ → ℕ → List ℕ → List ℕ
-part places page l = take places (drop (page * places) l)
 
 -- "0 marks an empty place": the stars of parallel numbers and words, in order.
 unfoldable pub starsOf : List ℕ → List ℕ → List Star
