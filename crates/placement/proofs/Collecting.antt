@@ -1,19 +1,15 @@
 -- The stars of the pages, inserted one by one, give the waiting list back.
 use mathlib.Core.Path.{_≡_, refl, sym, ap, _∙_}
-use mathlib.Core.Bool.{Bool, true, false, not, cond, _&&_, false≢true}
-use mathlib.Core.List.{List, [], _∷_, _++_, map, List·Memᴰ, List·Memᴰ·not-nil}
-use mathlib.Core.Logic.{⊎-elim, _⊎_, inl, inr}
-use Prim.Native.Nat.{ℕ, zero, suc, _+_, _≤_, _<_}
-use native.Mathlib.Nat.{suc-add, add-suc, add-zero}
+use mathlib.Core.Bool.{not}
+use mathlib.Core.List.{List, [], _∷_, _++_}
+use Prim.Native.Nat.{ℕ, zero, suc, _+_, _≤_}
 use native.Mathlib.Omega.{arith}
-use lib.Dec.{leb, ltb, eqb}
-use lib.ListN.{length, getD}
-use borrow.Author.Tests.{lt-ltb, leb-true}
-use Rattle.placement.specs.Rule.{Star, Hash, Contents, filter, below, staying, passing, separatorOf, contentsOf, onward, pages, left, first, insert, pour, collected}
-use Rattle.placement.proofs.Filters.{filter-within, member-filter}
+use borrow.Author.Tests.{lt-ltb}
+use Rattle.placement.specs.Rule.{Star, Hash, Contents, filter, staying, passing, separatorOf, contentsOf, onward, pages, left, pour, collected}
+use Rattle.placement.proofs.Filters.{filter-within}
 use Rattle.placement.proofs.Separator.{stays, below-home}
 use Rattle.placement.proofs.Irrelevance.{near}
-use Rattle.placement.proofs.Order.{Sorted, Rising, sorted-pour, rising-filter, rising-sorted, sorted-filter, filter-pour, pour-split, pour-pour, pour-nil}
+use Rattle.placement.proofs.Order.{Sorted, Rising, sorted-pour, rising-filter, sorted-filter, filter-pour, pour-split, pour-pour, pour-nil}
 
 pub sorted-collected : (cs : List Contents) → Sorted 0 (collected cs)
 unfolding collected

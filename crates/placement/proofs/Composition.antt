@@ -1,15 +1,14 @@
 -- The rule over n + m pages is the rule over n, then over m from what is left. Lengths and counts.
-use mathlib.Core.Path.{_≡_, refl, sym, ap, _∙_}
-use mathlib.Core.Bool.{Bool, true, false, not}
-use mathlib.Core.List.{List, [], _∷_, _++_, map}
+use mathlib.Core.Path.{_≡_, refl, ap, _∙_}
+use mathlib.Core.List.{List, [], _∷_, _++_}
 use Prim.Native.Nat.{ℕ, zero, suc, _+_, _-_, _*_, _≤_, _<_}
-use native.Mathlib.Nat.{zero-add, add-zero, suc-add, add-suc, suc-mul, zero-mul, le-refl}
+use native.Mathlib.Nat.{zero-add, add-zero, suc-add, add-suc, suc-mul, zero-mul}
 use native.Mathlib.Omega.{arith}
-use lib.ListN.{length, take, drop, length-map}
+use lib.ListN.{length, take, drop}
 use lib.Seq.{take-at, drop-at}
-use Rattle.placement.specs.Rule.{Star, Hash, Contents, filter, staying, passing, separatorOf, contentsOf, onward, pages, left}
+use Rattle.placement.specs.Rule.{Star, Hash, Contents, staying, passing, separatorOf, contentsOf, onward, pages, left}
 use Rattle.placement.proofs.Filters.{length-split}
-use Rattle.placement.proofs.Separator.{stays, sep-fits, sep-le}
+use Rattle.placement.proofs.Separator.{stays, sep-fits}
 
 pub left-add : (H : Hash) (p n m : ℕ) (w : List Star) → left H p (n + m) w ≡ left H (p + n) m (left H p n w)
 unfolding left

@@ -1,15 +1,14 @@
 -- Over sound pages the rule never lowers a separator below the stored one, and leaves nothing.
 use mathlib.Core.Path.{_≡_, refl, sym, ap, _∙_}
-use mathlib.Core.Bool.{Bool, true, false, not, cond, _&&_, false≢true}
-use mathlib.Core.List.{List, [], _∷_, _++_, map}
+use mathlib.Core.Bool.{Bool, true, false, not, false≢true}
+use mathlib.Core.List.{List, [], _∷_}
 use Prim.Native.Nat.{ℕ, zero, suc, _+_, _≤_, _<_}
-use native.Mathlib.Nat.{suc-add, add-suc, add-zero, le-refl, le-trans}
+use native.Mathlib.Nat.{suc-add, add-suc, add-zero, le-trans}
 use native.Mathlib.Omega.{arith}
-use lib.Dec.{leb, ltb, eqb}
 use lib.ListN.{length, getD}
-use borrow.Author.Tests.{eq-eqb, ne-eqb}
-use Rattle.placement.specs.Rule.{Star, Hash, Contents, separators, filter, below, staying, passing, separatorOf, contentsOf, onward, pages, left, first}
-use Rattle.placement.proofs.Filters.{filter-ext, filter-all, filter-comm, filter-filter, filter-absorb, length-filter}
+use borrow.Author.Tests.{eq-eqb}
+use Rattle.placement.specs.Rule.{Star, Hash, separators, filter, below, staying, passing, separatorOf, contentsOf, onward, pages, left, first}
+use Rattle.placement.proofs.Filters.{filter-all, filter-comm, filter-absorb, length-filter}
 use Rattle.placement.proofs.Separator.{stays, staying-filter, sep-fits, sep-le, sep-great, below-mono}
 use Rattle.placement.proofs.Standing.{length-separators, standsAt, stands-here, stands-later}
 use Rattle.placement.proofs.Composition.{length-pages}

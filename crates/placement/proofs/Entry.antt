@@ -1,20 +1,21 @@
 -- Entry and removal in the file that the rule lays.
-use mathlib.Core.Path.{_≡_, refl, sym, ap, _∙_, subst}
+use mathlib.Core.Path.{_≡_, sym, ap, _∙_, subst}
 use mathlib.Core.Bool.{Bool}
-use mathlib.Core.List.{List, [], List·Memᴰ}
+use mathlib.Core.List.{List, [], _++_, List·Memᴰ}
 use mathlib.Core.Logic.{⊎-elim, _⊎_}
-use Prim.Native.Nat.{ℕ, zero, suc, _+_, _-_, _≤_, _<_}
+use Prim.Native.Nat.{ℕ, suc, _+_, _-_, _≤_, _<_}
 use native.Mathlib.Nat.{zero-add}
 use native.Mathlib.Omega.{arith}
-use lib.ListN.{length, take, drop, getD}
-use lib.Seq.{getD-take, getD-drop}
-use Rattle.placement.specs.Rule.{Star, Hash, Contents, pages, left, insert, without, separators, blank}
+use lib.ListN.{length, take, drop, getD, length-append}
+use lib.Seq.{getD-take, getD-drop, drop-at, length-take-le}
+use Rattle.placement.specs.Rule.{Star, Hash, Contents, pages, left, first, insert, without, separators, blank}
 use Rattle.placement.specs.File.{File, gathered, written, fileOf, replaced, laid}
 use Rattle.placement.proofs.Separator.{Bounded}
 use Rattle.placement.proofs.Composition.{length-pages, left-add, middle-pages}
-use Rattle.placement.proofs.Order.{Rising}
+use Rattle.placement.proofs.Standing.{length-separators, looked-up, first-home-on, first-append}
+use Rattle.placement.proofs.Order.{Rising, inserted}
 use Rattle.placement.proofs.Locality.{Ended, ended-top, ended-empty, standing, enters, refused, removes}
-use Rattle.placement.proofs.Writing.{getD-separators}
+use Rattle.placement.proofs.Writing.{getD-separators, separators-append}
 use Rattle.placement.proofs.Pages.{Proper}
 use Rattle.placement.proofs.Files.{roomy-pages, replaced-of, gathered-stretch}
 
@@ -57,19 +58,63 @@ module _ (ok : ℕ → Bool) (H : Hash) (b : Bounded H) (M a d : ℕ) (t : List 
   here = gathered-stretch ok H M t proper a (suc d) inside
 
   -- Entry: the stretch from home to the end of the reach, with the new star, leaves nothing.
-  pub entered : (s : Star) → H .home (s .number) ≡ a → Ends H M (laid (H .room) H M t) a d
-      → left H a (suc d) (insert s (gathered (H .room) (laid (H .room) H M t) a (suc d))) ≡ []
-      → (replaced (H .room) (laid (H .room) H M t) a (pages H a (suc d) (insert s (gathered (H .room) (laid (H .room) H M t) a (suc d)))) ≡ laid (H .room) H M (insert s t))
-      × (left H 0 M (insert s t) ≡ [])
-  entered s e c f =
-      rw here (relaid H M a (suc d) t (insert s t) (insert s (standing H a (suc d) t)) inside (both .0), both .1 ∙ fits)
+  entry-pages : (s : Star) → H .home (s .number) ≡ a → Ends H M (laid (H .room) H M t) a d → left H a (suc d) (insert s (standing H a (suc d) t)) ≡ []
+      → (pages H 0 M (insert s t) ≡ written a (pages H a (suc d) (insert s (standing H a (suc d) t))) (pages H 0 M t)) × (left H 0 M (insert s t) ≡ left H 0 M t)
+  entry-pages s e c f = subst Both whole (enters H a (suc d) rest t s rising e (omega arith) (ends-ended H b M a d t fits inside c) f)
     where
       Both : ℕ → Type 0
       Both k =
           (pages H 0 k (insert s t) ≡ written a (pages H a (suc d) (insert s (standing H a (suc d) t))) (pages H 0 k t)) × (left H 0 k (insert s t) ≡ left H 0 k t)
 
-      both : Both M
-      both = subst Both whole (enters H a (suc d) rest t s rising e (omega arith) (ends-ended H b M a d t fits inside c) (rw here at f))
+  pub entered : (s : Star) → H .home (s .number) ≡ a → Ends H M (laid (H .room) H M t) a d
+      → left H a (suc d) (insert s (gathered (H .room) (laid (H .room) H M t) a (suc d))) ≡ []
+      → (replaced (H .room) (laid (H .room) H M t) a (pages H a (suc d) (insert s (gathered (H .room) (laid (H .room) H M t) a (suc d)))) ≡ laid (H .room) H M (insert s t))
+      × (left H 0 M (insert s t) ≡ [])
+  entered s e c f =
+      let both = entry-pages s e c (rw here at f) in
+      rw here (relaid H M a (suc d) t (insert s t) (insert s (standing H a (suc d) t)) inside (both .0), both .1 ∙ fits)
+
+  -- The page where the new star stands, by the stretch's new separators alone.
+  pub entered-page : (s : Star) → H .home (s .number) ≡ a → Ends H M (laid (H .room) H M t) a d
+      → left H a (suc d) (insert s (gathered (H .room) (laid (H .room) H M t) a (suc d))) ≡ []
+      → first H 0 (laid (H .room) H M (insert s t) .separators) (s .number)
+      ≡ first H a (separators (pages H a (suc d) (insert s (gathered (H .room) (laid (H .room) H M t) a (suc d))))) (s .number)
+  unfolding laid fileOf written
+  entered-page s e c f =
+      ap (λ (cs : List Contents). first H 0 (separators cs) (s .number)) (entry-pages s e c fitted .0)
+      ∙ ap (λ (vs : List ℕ). first H 0 vs (s .number)) (separators-append P (X ++ R) ∙ ap (λ (vs : List ℕ). separators P ++ vs) (separators-append X R))
+      ∙ sym from-home
+      ∙ ap (λ (vs : List ℕ). first H a vs (s .number)) (drop-at (separators P) (separators X ++ separators R) a size)
+      ∙ first-append H a (separators X) (separators R) (s .number) (omega (arith, length-separators X, length-pages H a (suc d) A, stand .1, stand .2))
+      ∙ ap (λ (l : List Star). first H a (separators (pages H a (suc d) (insert s l))) (s .number)) (sym here)
+    where
+      A : List Star
+      A = insert s (standing H a (suc d) t)
+
+      fitted : left H a (suc d) A ≡ []
+      fitted = rw here at f
+
+      P : List Contents
+      P = take a (pages H 0 M t)
+
+      X : List Contents
+      X = pages H a (suc d) A
+
+      R : List Contents
+      R = drop (a + length X) (pages H 0 M t)
+
+      size : length (separators P) ≡ a
+      size = length-separators P ∙ length-take-le a (pages H 0 M t) (omega (arith, length-pages H 0 M t))
+
+      stand : (i : ℕ) × (i < suc d) × (first H a (separators X) (s .number) ≡ a + i) × List·Memᴰ s (getD X i blank .stars)
+      stand = looked-up H a (suc d) A s fitted (inserted s (standing H a (suc d) t))
+
+      from-home : first H a (drop a (separators P ++ (separators X ++ separators R))) (s .number) ≡ first H 0 (separators P ++ (separators X ++ separators R)) (s .number)
+      from-home =
+          rw (zero-add a) at
+          (first-home-on H 0 a (separators P ++ (separators X ++ separators R)) (s .number)
+          (omega (arith, size, length-append (separators P) (separators X ++ separators R)))
+          (omega (arith, zero-add a)))
 
   -- Entry whose reach runs to the last page: what the whole rule leaves is what the stretch leaves (refusal 8).
   pub entry-refused : (s : Star) → H .home (s .number) ≡ a → a + suc d ≡ M

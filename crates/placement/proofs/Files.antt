@@ -1,27 +1,23 @@
 -- Files under the rule: what they say, their soundness, and entry and removal in them.
 use mathlib.Core.Path.{_≡_, refl, sym, ap, _∙_, subst}
-use mathlib.Core.Bool.{Bool, true, false, not, cond, _&&_}
-use mathlib.Core.List.{List, [], _∷_, _++_, map, List·Memᴰ, List·Memᴰ·not-nil}
-use mathlib.Core.Logic.{⊎-elim, _⊎_, inl, inr}
-use Prim.Native.Nat.{ℕ, zero, suc, _+_, _-_, _*_, _≤_, _<_}
-use native.Mathlib.Nat.{zero-add, add-zero, suc-add, add-suc, add-mul, suc-mul, mul-le-mul-right, le-refl}
+use mathlib.Core.Bool.{Bool}
+use mathlib.Core.List.{List, [], _∷_, _++_, map, List·Memᴰ}
+use Prim.Native.Nat.{ℕ, zero, suc, _+_, _*_, _≤_, _<_}
+use native.Mathlib.Nat.{add-mul, mul-le-mul-right}
 use native.Mathlib.Omega.{arith}
-use lib.Dec.{leb, ltb, eqb}
-use lib.ListN.{length, take, drop, getD, length-take, length-drop, List·getD-append}
-use lib.Seq.{drop-cons, take-at, drop-at, drop-drop, take-all, take-append-le, length-take-le, getD-append-add, getD-drop, getD-take}
-use borrow.Author.Tests.{leb-true, le-leb, eqb-true, eq-eqb}
+use lib.ListN.{length, take, drop, getD}
+use lib.Seq.{drop-cons, take-all, length-take-le}
 use Rattle.pages.specs.Page.{part}
-use Rattle.placement.specs.Rule.{Star, Hash, Contents, filter, staying, separatorOf, contentsOf, onward, pages, left, first, insert, pour, without, collected, separators, blank}
-use Rattle.placement.specs.File.{File, starsOf, starsAt, contentsAt, pagesAt, gathered, greatest, orderly, every, sound, padded, column, written, fileOf, replaced, laid, Sized, Clean}
-use Rattle.placement.proofs.Filters.{and-true, member-filter}
-use Rattle.placement.proofs.Separator.{Bounded, sep-fits, sep-le}
-use Rattle.placement.proofs.Composition.{length-pages, pages-add, left-add, middle-pages}
-use Rattle.placement.proofs.Standing.{length-separators, page-first, stands-first, firstIn, standsAt}
-use Rattle.placement.proofs.Order.{Rising, rising-filter, rising-less, rising-insert}
+use Rattle.placement.specs.Rule.{Star, Hash, Contents, contentsOf, onward, pages, left, pour, collected, separators, blank}
+use Rattle.placement.specs.File.{File, starsAt, contentsAt, pagesAt, gathered, padded, column, written, fileOf, replaced, laid, Sized}
+use Rattle.placement.proofs.Separator.{sep-fits}
+use Rattle.placement.proofs.Composition.{length-pages, middle-pages}
+use Rattle.placement.proofs.Standing.{length-separators, page-first, stands-first, standsAt}
+use Rattle.placement.proofs.Order.{Rising, rising-same, rising-filter}
 use Rattle.placement.proofs.Collecting.{on-all}
-use Rattle.placement.proofs.Locality.{Ended, ended-top, ended-empty, standing, enters, refused, removes}
-use Rattle.placement.proofs.Writing.{Roomy, written-middle, written-add, written-same, around, length-written, part-front, part-back, part-column, parts-same, length-part, length-column, column-append, written-column, written-separators, separators-append, getD-separators, length-padded}
-use Rattle.placement.proofs.Pages.{Proper, Numbered, every-member, member-every, orderly-rising, orderly-proper, orderly-columns, starsOf-padded, orderly-padded}
+use Rattle.placement.proofs.Locality.{standing}
+use Rattle.placement.proofs.Writing.{Roomy, written-add, length-written, part-front, part-back, part-column, parts-same, length-column, column-append, written-column, written-separators, separators-append, getD-separators}
+use Rattle.placement.proofs.Pages.{Proper, Numbered, starsOf-padded}
 
 abbrev pub numberOf : Star → ℕ
 numberOf s = s .number
@@ -181,3 +177,8 @@ module _ (ok : ℕ → Bool) (H : Hash) (M : ℕ) (w : List Star) (proper : Prop
   pub sized-laid : Sized (H .room) M (laid (H .room) H M w)
   unfolding laid
   sized-laid = subst (λ (k : ℕ). Sized (H .room) k (fileOf (H .room) (pages H 0 M w))) (length-pages H 0 M w) (sized-of (H .room) (pages H 0 M w) (roomy-pages H 0 M w))
+
+-- Lists with the same stars have the same layout.
+pub same-layout : (H : Hash) (M j k : ℕ) (t u : List Star) → Rising j t → Rising k u → ((s : Star) → List·Memᴰ s t → List·Memᴰ s u) → ((s : Star) → List·Memᴰ s u → List·Memᴰ s t)
+    → laid (H .room) H M t ≡ laid (H .room) H M u
+same-layout H M j k t u rt ru f g = ap (laid (H .room) H M) (rising-same j k t u rt ru f g)

@@ -1,16 +1,14 @@
 -- Stars homed above a stretch do not matter to it: a test that fails only for such stars.
-use mathlib.Core.Path.{_≡_, refl, sym, ap, _∙_}
+use mathlib.Core.Path.{_≡_, refl, ap, _∙_}
 use mathlib.Core.Bool.{Bool, true, false, not, false≢true}
-use mathlib.Core.List.{List, [], _∷_, _++_, map}
+use mathlib.Core.List.{List, _∷_}
 use Prim.Native.Nat.{ℕ, zero, suc, _+_, _≤_, _<_}
-use native.Mathlib.Nat.{suc-add, add-suc}
 use native.Mathlib.Omega.{arith}
-use lib.Dec.{leb, ltb}
-use lib.ListN.{length}
-use borrow.Author.Tests.{leb-true, leb-false, ltb-true, ltb-false, le-leb, lt-leb, lt-ltb, le-ltb}
-use Rattle.placement.specs.Rule.{Star, Hash, Contents, filter, below, staying, passing, separatorFrom, separatorOf, contentsOf, onward, pages, left}
-use Rattle.placement.proofs.Filters.{Within, filter-comm, filter-absorb, filter-within}
-use Rattle.placement.proofs.Separator.{stays, staying-filter, staying-probing, below-home, not-below-home}
+use lib.Dec.{ltb}
+use borrow.Author.Tests.{ltb-false, lt-ltb, le-ltb}
+use Rattle.placement.specs.Rule.{Star, Hash, Contents, filter, staying, passing, separatorFrom, separatorOf, contentsOf, onward, pages, left}
+use Rattle.placement.proofs.Filters.{filter-comm, filter-absorb}
+use Rattle.placement.proofs.Separator.{stays, below-home, not-below-home}
 
 -- Q holds of each star homed below page e.
 abbrev pub Covers : Hash → ℕ → (Star → Bool) → Type 0

@@ -13,3 +13,5 @@ pub mod Pages
 pub mod Files
 pub mod Sound
 pub mod Entry
+pub mod Search
+pub mod Change

@@ -1,24 +1,24 @@
 -- A change of stars homed at one page reaches no further than the stretch that settles it.
 use mathlib.Core.Path.{_≡_, refl, sym, ap, _∙_}
-use mathlib.Core.Bool.{Bool, true, false, not, cond, _&&_, false≢true}
-use mathlib.Core.List.{List, [], _∷_, _++_, map, append-assoc}
-use Prim.Native.Nat.{ℕ, zero, suc, _+_, _≤_, _<_}
-use native.Mathlib.Nat.{suc-add, add-suc, add-zero, zero-add, add-assoc}
+use mathlib.Core.Bool.{Bool, true, false, not, _&&_}
+use mathlib.Core.List.{List, [], _∷_, _++_}
+use Prim.Native.Nat.{ℕ, suc, _+_, _<_}
+use native.Mathlib.Nat.{zero-add}
 use native.Mathlib.Decide.{decLt}
 use native.Mathlib.Omega.{arith}
-use lib.Dec.{leb, ltb, eqb}
-use lib.ListN.{length, getD, take, drop}
-use borrow.Author.Tests.{leb-true, leb-false, ltb-true, ltb-false, lt-ltb, le-ltb, eqb-true, ne-eqb, eq-eqb}
-use Rattle.placement.specs.Rule.{Star, Hash, Contents, separators, filter, below, pages, left, first, insert, pour, without, collected}
+use lib.Dec.{eqb}
+use lib.ListN.{length, getD}
+use borrow.Author.Tests.{lt-ltb, le-ltb, eqb-true, ne-eqb, eq-eqb}
+use Rattle.placement.specs.Rule.{Star, Hash, Contents, separators, filter, pages, left, first, insert, pour, without, collected}
 use Rattle.placement.specs.File.{written}
 use Rattle.placement.proofs.Writing.{written-middle}
-use Rattle.placement.proofs.Filters.{Within, filter-ext, filter-all, filter-none, filter-comm, filter-filter, filter-within, filter-absorb, filter-rest}
+use Rattle.placement.proofs.Filters.{Within, filter-none, filter-comm, filter-filter, filter-within, filter-absorb, filter-rest}
 use Rattle.placement.proofs.Separator.{Bounded}
 use Rattle.placement.proofs.Composition.{left-add, pages-add, length-pages}
 use Rattle.placement.proofs.Irrelevance.{Covers, near, far, near-covers, far-home, pages-irr, left-irr, left-far}
-use Rattle.placement.proofs.Standing.{standsAt, left-first, first-le, first-ge, first-home, past-top, length-separators}
+use Rattle.placement.proofs.Standing.{standsAt, left-first, first-le, first-home, past-top, length-separators}
 use Rattle.placement.proofs.Domination.{left-part}
-use Rattle.placement.proofs.Order.{Sorted, sorted-less, Rising, rising-sorted, sorted-filter, filter-insert, filter-insert-out, filter-pour, pour-nil}
+use Rattle.placement.proofs.Order.{Sorted, sorted-less, Rising, rising-sorted, filter-insert, filter-insert-out, filter-pour, pour-nil}
 use Rattle.placement.proofs.Collecting.{gathered-all, on-all, sorted-collected, collected-near, rising-left, sorted-left}
 
 -- Stars homed above a stretch, poured in beforehand or afterwards.

@@ -1,10 +1,10 @@
 -- A map of stars that keeps numbers commutes with the rule.
-use mathlib.Core.Path.{_≡_, refl, sym, ap, _∙_}
+use mathlib.Core.Path.{_≡_, refl, ap, _∙_}
 use mathlib.Core.Bool.{Bool, true, false, not, cond}
 use mathlib.Core.List.{List, [], _∷_, map}
-use Prim.Native.Nat.{ℕ, zero, suc, _+_, _≤_, _<_}
-use lib.Dec.{leb, ltb, eqb}
-use lib.ListN.{length, length-map}
+use Prim.Native.Nat.{ℕ, zero, suc}
+use lib.Dec.{leb, eqb}
+use lib.ListN.{length-map}
 use Rattle.placement.specs.Rule.{Star, Hash, Contents, keep, filter, below, staying, passing, separatorFrom, separatorOf, contentsOf, onward, pages, left, insert, pour, without, collected}
 
 abbrev pub Keeps : (Star → Star) → Type 0

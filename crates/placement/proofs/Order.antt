@@ -1,16 +1,17 @@
 -- Lists of stars by number: insertion, its order, and lists with the same members.
 use mathlib.Core.Path.{_≡_, refl, sym, ap, _∙_}
-use mathlib.Core.Bool.{Bool, true, false, not, cond, _&&_, false≢true}
-use mathlib.Core.List.{List, [], _∷_, _++_, map, List·Memᴰ, List·Memᴰ·head, List·Memᴰ·tail, List·Memᴰ·cases-cons, List·Memᴰ·not-nil}
+use mathlib.Core.Bool.{Bool, true, false, not, cond, false≢true}
+use mathlib.Core.List.{List, [], _∷_, _++_, List·Memᴰ, List·Memᴰ·head, List·Memᴰ·tail, List·Memᴰ·cases-cons, List·Memᴰ·not-nil}
 use mathlib.Core.Logic.{⊎-elim, _⊎_, inl, inr}
-use Prim.Native.Nat.{ℕ, zero, suc, _+_, _≤_, _<_}
-use native.Mathlib.Nat.{le-refl, le-trans, le-antisymm}
+use Prim.Native.Nat.{ℕ, suc, _+_, _≤_, _<_}
+use native.Mathlib.Nat.{le-trans}
 use native.Mathlib.Decide.{decLe}
 use native.Mathlib.Omega.{arith}
-use lib.Dec.{leb, ltb, eqb}
+use lib.Dec.{leb, eqb}
 use lib.ListN.{length}
 use borrow.Author.Tests.{leb-true, leb-false, le-leb, lt-leb, eq-eqb, ne-eqb}
 use Rattle.placement.specs.Rule.{Star, keep, filter, insert, pour, without}
+use Rattle.placement.proofs.Filters.{member-filter, filter-member}
 
 -- Numbers from k on, in order; strictly for Rising.
 abbrev pub Sorted : ℕ → List Star → Type 0
@@ -349,6 +350,21 @@ rising-pour (x ∷ xs) l d a r =
     rising-insert 0 x (pour xs l) (omega arith)
     (λ t m e. ⊎-elim (λ (n : List·Memᴰ t xs). d .0 t n e) (λ (n : List·Memᴰ t l). a x (List·Memᴰ·head refl) t n e) (member-pour xs l t m))
     (rising-pour xs l (d .1) (λ y m. a y (List·Memᴰ·tail m)) r)
+
+pub rising-without : (j k : ℕ) (l : List Star) → Rising j l → Rising j (without k l)
+unfolding without
+rising-without j k l r = rising-filter j (λ (s : Star). not (eqb (s .number) k)) l r
+
+-- The number is gone, the others are kept.
+pub member-without : (k : ℕ) (l : List Star) (s : Star) → List·Memᴰ s (without k l) → List·Memᴰ s l × (s .number ≡ k → ⊥)
+unfolding without
+member-without k l s m =
+    let r = member-filter (λ (t : Star). not (eqb (t .number) k)) l s m in
+    (r .0, λ e. false≢true (sym (ap not (eq-eqb (s .number) k e)) ∙ r .1))
+
+pub without-member : (k : ℕ) (l : List Star) (s : Star) → List·Memᴰ s l → (s .number ≡ k → ⊥) → List·Memᴰ s (without k l)
+unfolding without
+without-member k l s m h = filter-member (λ (t : Star). not (eqb (t .number) k)) l s m (rw (ne-eqb (s .number) k h))
 
 -- Stars of different numbers, inserted in any order, make the rising list of the same members.
 pub poured-same : (k : ℕ) (xs w : List Star) → Distinct xs → Rising k w → ((s : Star) → List·Memᴰ s xs → List·Memᴰ s w)

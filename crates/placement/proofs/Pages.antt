@@ -1,18 +1,18 @@
 -- A page's numbers and words against its stars: what `orderly` says, both ways.
 use mathlib.Core.Path.{_≡_, refl, sym, ap, _∙_}
-use mathlib.Core.Bool.{Bool, true, false, not, cond, _&&_, true≢false, false≢true}
+use mathlib.Core.Bool.{Bool, true, false, not, cond, _&&_}
 use mathlib.Core.List.{List, [], _∷_, _++_, map, List·Memᴰ, List·Memᴰ·head, List·Memᴰ·tail, List·Memᴰ·cases-cons, List·Memᴰ·not-nil}
-use mathlib.Core.Logic.{⊎-elim, _⊎_, inl, inr}
-use Prim.Native.Nat.{ℕ, zero, suc, _+_, _-_, _*_, _≤_, _<_}
-use native.Mathlib.Nat.{suc-sub-suc, sub-zero, sub-self, le-refl}
+use mathlib.Core.Logic.{⊎-elim}
+use Prim.Native.Nat.{ℕ, zero, suc, _-_, _≤_, _<_}
+use native.Mathlib.Nat.{suc-sub-suc, sub-zero, le-refl}
 use native.Mathlib.Omega.{arith}
 use lib.Dec.{leb, ltb, eqb}
 use lib.ListN.{length, replicate, length-map}
-use borrow.Author.Tests.{leb-true, ltb-true, eqb-true, eqb-false, le-leb, lt-ltb, ne-eqb, eq-eqb}
-use Rattle.placement.specs.Rule.{Star, keep}
+use borrow.Author.Tests.{leb-true, ltb-true, eqb-true, le-leb, lt-ltb, ne-eqb}
+use Rattle.placement.specs.Rule.{Star, keep, filter, insert}
 use Rattle.placement.specs.File.{starsOf, greatest, orderly, every, padded}
-use Rattle.placement.proofs.Filters.{and-true}
-use Rattle.placement.proofs.Order.{Rising, rising-less}
+use Rattle.placement.proofs.Filters.{and-true, member-filter}
+use Rattle.placement.proofs.Order.{Rising, rising-less, member-insert}
 
 pub every-member : {A : Type 0} (q : A → Bool) (l : List A) → every q l ≡ true → (x : A) → List·Memᴰ x l → q x ≡ true
 unfolding every
@@ -31,6 +31,16 @@ Proper ok l = (s : Star) → List·Memᴰ s l → (1 ≤ s .number) × (s .numbe
 
 abbrev pub Numbered : List Star → Type 0
 Numbered l = (s : Star) → List·Memᴰ s l → 1 ≤ s .number
+
+pub proper-insert : (ok : ℕ → Bool) (s : Star) (l : List Star) → (1 ≤ s .number) × (s .number ≤ greatest) × (ok (s .word) ≡ true) → Proper ok l → Proper ok (insert s l)
+proper-insert ok s l v h t m =
+    ⊎-elim
+    (λ (e : t ≡ s). (rw e (v .0), rw e (v .1), rw e (v .2)))
+    (λ (n : List·Memᴰ t l). h t n)
+    (member-insert s l t m)
+
+pub proper-filter : (ok : ℕ → Bool) (q : Star → Bool) (l : List Star) → Proper ok l → Proper ok (filter q l)
+proper-filter ok q l h t m = h t (member-filter q l t m .0)
 
 pub rising-one : (l : List Star) → Rising 0 l → Numbered l → Rising 1 l
 rising-one [] r h = tt

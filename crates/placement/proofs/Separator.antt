@@ -1,16 +1,16 @@
 -- Laws of a page's separator: it fits, is the greatest that fits, and rises when stars go.
-use mathlib.Core.Path.{_≡_, refl, sym, ap, _∙_}
-use mathlib.Core.Bool.{Bool, true, false, not, cond, _&&_, false≢true, and-false}
-use mathlib.Core.List.{List, [], _∷_}
-use Prim.Native.Nat.{ℕ, zero, suc, _+_, _≤_, _<_}
+use mathlib.Core.Path.{_≡_, refl}
+use mathlib.Core.Bool.{Bool, true, false, cond, _&&_, and-false}
+use mathlib.Core.List.{List}
+use Prim.Native.Nat.{ℕ, zero, suc, _≤_, _<_}
 use native.Mathlib.Nat.{le-antisymm, le-refl, le-trans}
-use native.Mathlib.Decide.{decLe, decLt}
+use native.Mathlib.Decide.{decLe}
 use native.Mathlib.Omega.{arith}
 use lib.Dec.{leb, ltb}
 use lib.ListN.{length}
-use borrow.Author.Tests.{leb-true, leb-false, ltb-true, ltb-false, le-leb, lt-leb, lt-ltb, le-ltb}
-use Rattle.placement.specs.Rule.{Star, Hash, filter, below, staying, passing, separatorFrom, separatorOf}
-use Rattle.placement.proofs.Filters.{Within, and-true, filter-ext, filter-comm, filter-none, filter-absorb, length-filter, length-within}
+use borrow.Author.Tests.{leb-true, leb-false, ltb-true, le-leb, lt-leb, lt-ltb, le-ltb}
+use Rattle.placement.specs.Rule.{Star, Hash, filter, below, staying, separatorFrom, separatorOf}
+use Rattle.placement.proofs.Filters.{and-true, filter-ext, filter-comm, filter-none, filter-absorb, length-filter, length-within}
 
 -- The one fact of the hash that the rule needs.
 abbrev pub Bounded : Hash → Type 0

@@ -1,30 +1,30 @@
 -- Sound pages of any file: named facts, what the stars of a sound stretch are, and that the rule holds them.
-use mathlib.Core.Path.{_≡_, refl, sym, ap, _∙_, subst}
-use mathlib.Core.Bool.{Bool, true, false, not, cond, _&&_}
+use mathlib.Core.Path.{_≡_, refl, sym, ap, _∙_}
+use mathlib.Core.Bool.{Bool, true, _&&_}
 use mathlib.Core.List.{List, [], _∷_, _++_, map, List·Memᴰ, List·Memᴰ·not-nil}
-use mathlib.Core.Logic.{⊎-elim, _⊎_, inl, inr}
-use Prim.Native.Nat.{ℕ, zero, suc, _+_, _-_, _*_, _≤_, _<_}
+use mathlib.Core.Logic.{_⊎_, inl, inr}
+use Prim.Native.Nat.{ℕ, zero, suc, _+_, _*_, _≤_, _<_}
 use native.Mathlib.Nat.{zero-add, add-zero, suc-add, add-suc, add-comm, zero-mul, suc-mul, add-mul, mul-le-mul-right, le-refl}
 use native.Mathlib.Decide.{decLe}
 use native.Mathlib.Omega.{arith}
-use lib.Dec.{leb, ltb, eqb}
+use lib.Dec.{leb, eqb}
 use lib.ListN.{length, take, drop, getD, length-drop}
 use lib.Seq.{drop-cons, drop-drop, take-add, take-all, length-take-le, getD-take, getD-drop}
 use borrow.Author.Tests.{leb-true, le-leb, le-ltb, eqb-true, eq-eqb, ne-eqb}
 use Rattle.pages.specs.Page.{part}
-use Rattle.placement.specs.Rule.{Star, Hash, Contents, filter, contentsOf, onward, pages, left, first, insert, pour, collected, separators, blank}
-use Rattle.placement.specs.File.{File, starsOf, starsAt, contentsAt, pagesAt, gathered, orderly, every, sound, padded, column, written, fileOf, replaced, laid, Sized, Clean}
+use Rattle.placement.specs.Rule.{Star, Hash, Contents, filter, contentsOf, onward, pages, left, first, insert, pour, separators, blank}
+use Rattle.placement.specs.File.{File, starsAt, contentsAt, pagesAt, gathered, orderly, every, sound, padded, column, written, fileOf, replaced, laid, Sized, Clean}
 use Rattle.placement.proofs.Filters.{and-true, filter-all, filter-ext-on, filter-all-on, filter-none-on}
 use Rattle.placement.proofs.Separator.{Bounded, sep-le}
 use Rattle.placement.proofs.Composition.{length-pages}
 use Rattle.placement.proofs.Irrelevance.{near}
 use Rattle.placement.proofs.Standing.{stands-first, standsAt, first-later, first-within, past-top}
 use Rattle.placement.proofs.Domination.{Holds, holds-part, holds-first, dominated, stored}
-use Rattle.placement.proofs.Order.{Sorted, Rising, Absent, Distinct, sorted-insert, rising-less, rising-sorted, rising-distinct, rising-pour, pour-insert, pour-comm, pour-pour, pour-nil, filter-pour, member-pour, poured, pour-keeps, sorted-pour}
+use Rattle.placement.proofs.Order.{Sorted, Rising, Absent, sorted-insert, rising-sorted, rising-distinct, rising-pour, pour-insert, pour-comm, pour-pour, pour-nil, filter-pour, member-pour, poured, pour-keeps, sorted-pour}
 use Rattle.placement.proofs.Locality.{blocks-pages, blocks-left}
 use Rattle.placement.proofs.Writing.{Roomy, written-same, part-column, length-part}
-use Rattle.placement.proofs.Pages.{Proper, Numbered, rising-one, every-member, member-every, orderly-rising, orderly-proper, orderly-columns, orderly-padded, length-starsOf}
-use Rattle.placement.proofs.Files.{numberOf, wordOf, roomy-pages, page-member, rising-page, starsAt-laid, gathered-laid, length-pagesAt}
+use Rattle.placement.proofs.Pages.{Proper, rising-one, every-member, member-every, orderly-rising, orderly-proper, orderly-columns, orderly-padded, length-starsOf}
+use Rattle.placement.proofs.Files.{numberOf, wordOf, roomy-pages, page-member, rising-page, starsAt-laid, gathered-laid}
 
 pub separator-top : (H : Hash) (p n i : ℕ) (w : List Star) → i < n → getD (separators (pages H p n w)) i 0 ≤ H .top
 unfolding pages separators contentsOf

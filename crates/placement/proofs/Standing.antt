@@ -1,17 +1,17 @@
 -- Who stands where: the separators alone determine it.
 use mathlib.Core.Path.{_≡_, refl, sym, ap, _∙_}
-use mathlib.Core.Bool.{Bool, true, false, not, cond, _&&_, false≢true, true≢false}
-use mathlib.Core.List.{List, [], _∷_, _++_, map, List·Memᴰ, List·Memᴰ·not-nil}
+use mathlib.Core.Bool.{Bool, true, false, not, cond, _&&_}
+use mathlib.Core.List.{List, [], _∷_, _++_, List·Memᴰ, List·Memᴰ·not-nil}
 use Prim.Native.Nat.{ℕ, zero, suc, _+_, _-_, _≤_, _<_}
-use native.Mathlib.Nat.{suc-add, add-suc, add-zero, le-refl, le-trans}
+use native.Mathlib.Nat.{suc-add, add-suc, add-zero, le-refl}
 use native.Mathlib.Decide.{decLt}
 use native.Mathlib.Omega.{arith}
-use lib.Dec.{leb, ltb, eqb}
+use lib.Dec.{eqb}
 use lib.ListN.{length, getD, take, drop, length-map}
-use borrow.Author.Tests.{leb-true, leb-false, ltb-true, eqb-true, eq-eqb, ne-eqb, le-leb, lt-leb, lt-ltb, le-ltb}
+use borrow.Author.Tests.{leb-false, eqb-true, eq-eqb, ne-eqb}
 use Rattle.placement.specs.Rule.{Star, Hash, Contents, filter, below, staying, passing, separatorOf, contentsOf, onward, pages, left, first, separators, blank}
 use Rattle.placement.proofs.Filters.{filter-ext, filter-all, filter-filter, member-filter, filter-member}
-use Rattle.placement.proofs.Separator.{Bounded, stays, below-top, below-home, not-below-home}
+use Rattle.placement.proofs.Separator.{Bounded, stays, below-top, below-home}
 use Rattle.placement.proofs.Composition.{length-pages}
 
 pub length-separators : (cs : List Contents) → length (separators cs) ≡ length cs
@@ -175,6 +175,17 @@ first-within H p (suc n) (v ∷ vs) k h = go (below H p v k) (first-within H (su
   where
     go : (t : Bool) → (first H (suc p) vs k < suc p + n → first H (suc p) (take n vs) k ≡ first H (suc p) vs k)
         → cond t p (first H (suc p) vs k) < p + suc n → cond t p (first H (suc p) (take n vs) k) ≡ cond t p (first H (suc p) vs k)
+    go true ih h = refl
+    go false ih h = ih (omega arith)
+
+-- More separators behind do not matter to a star that stands before them.
+pub first-append : (H : Hash) (p : ℕ) (us vs : List ℕ) (k : ℕ) → first H p us k < p + length us → first H p (us ++ vs) k ≡ first H p us k
+unfolding first
+first-append H p [] vs k h = absurd (omega (arith, add-zero p))
+first-append H p (u ∷ us) vs k h = go (below H p u k) (first-append H (suc p) us vs k) h
+  where
+    go : (t : Bool) → (first H (suc p) us k < suc p + length us → first H (suc p) (us ++ vs) k ≡ first H (suc p) us k)
+        → cond t p (first H (suc p) us k) < p + suc (length us) → cond t p (first H (suc p) (us ++ vs) k) ≡ cond t p (first H (suc p) us k)
     go true ih h = refl
     go false ih h = ih (omega arith)
 

@@ -1,12 +1,11 @@
 -- Laws of `written`, `part` and `column`: pages in the lent buffers.
 use mathlib.Core.Path.{_≡_, refl, sym, ap, _∙_}
-use mathlib.Core.Bool.{Bool, true, false, not, cond}
-use mathlib.Core.List.{List, [], _∷_, _++_, map, append-assoc, append-nil}
+use mathlib.Core.List.{List, [], _∷_, _++_, map, append-assoc}
 use Prim.Native.Nat.{ℕ, zero, suc, _+_, _-_, _*_, _≤_, _<_}
-use native.Mathlib.Nat.{zero-add, add-zero, suc-add, add-suc, add-assoc, add-comm, suc-mul, zero-mul, add-mul, mul-le-mul-right, le-refl, le-trans}
+use native.Mathlib.Nat.{add-comm, suc-mul, zero-mul, add-mul, mul-le-mul-right}
 use native.Mathlib.Omega.{arith}
-use lib.ListN.{length, take, drop, getD, replicate, length-append, length-take, length-drop, length-map, length-replicate, take-append-drop, List·getD-map}
-use lib.Seq.{take-at, drop-at, take-append-le, drop-append-le, drop-append-add, take-append-add, length-take-le, drop-drop, take-length, take-take, take-add}
+use lib.ListN.{length, take, drop, getD, replicate, length-append, length-drop, length-map, length-replicate, take-append-drop, List·getD-map}
+use lib.Seq.{take-at, drop-at, take-append-le, drop-append-le, length-take-le, drop-drop}
 use Rattle.placement.specs.Rule.{Star, Contents, separators, blank}
 use Rattle.pages.specs.Page.{part}
 use Rattle.placement.specs.File.{padded, column, written}

@@ -1,7 +1,7 @@
 -- The rule by which stars are placed on pages, over any hash. The waiting list is kept by number.
 use mathlib.Core.Bool.{Bool, true, false, not, cond, _&&_}
 use mathlib.Core.List.{List, [], _∷_, map}
-use Prim.Native.Nat.{ℕ, zero, suc, _+_}
+use Prim.Native.Nat.{ℕ, zero, suc}
 use lib.Dec.{leb, ltb, eqb}
 use lib.ListN.{length}
 
@@ -83,6 +83,13 @@ pour (x ∷ xs) l = insert x (pour xs l)
 -- The stars but the one of number k.
 unfoldable pub without : ℕ → List Star → List Star
 without k w = filter (λ (s : Star). not (eqb (s .number) k)) w
+
+-- "A change writes one word": the star of number k gets the word v.
+unfoldable pub reworded : ℕ → ℕ → Star → Star
+reworded k v s = cond (eqb (s .number) k) (record { number = s .number; word = v }) s
+
+unfoldable pub changed : ℕ → ℕ → List Star → List Star
+changed k v w = map (reworded k v) w
 
 -- The stars that stand on these pages, by number.
 unfoldable pub collected : List Contents → List Star

@@ -1,0 +1,139 @@
+-- A page's stars against the search of its numbers (crate pages), and look-ups in the file that the rule lays.
+use mathlib.Core.Path.{_≡_, refl, sym, ap, _∙_}
+use mathlib.Core.Bool.{Bool, true, false, not, true≢false}
+use mathlib.Core.List.{List, [], _∷_, map, List·Memᴰ, List·Memᴰ·head, List·Memᴰ·tail, List·Memᴰ·cases-cons, List·Memᴰ·not-nil, Memᴰ·cast}
+use mathlib.Core.Logic.{⊎-elim}
+use Prim.Native.Nat.{ℕ, zero, suc, _-_, _≤_, _<_}
+use native.Mathlib.Nat.{zero-add}
+use native.Mathlib.Omega.{arith}
+use lib.Dec.{eqb}
+use lib.ListN.{length, getD}
+use borrow.Author.Tests.{lt-ltb, eqb-false, ne-eqb}
+use Rattle.pages.specs.Page as page
+use Rattle.pages.specs.Page.{part, placeOf, heldAt}
+use Rattle.pages.proofs.Places.{held-there, place-is, held-at, rising-orderly}
+use Rattle.placement.specs.Rule.{Star, Hash, keep, pages, left, first, separators}
+use Rattle.placement.specs.File.{starsOf, starsAt, orderly, greatest, padded, fileOf, laid}
+use Rattle.placement.proofs.Standing.{looked-up}
+use Rattle.placement.proofs.Order.{Rising, Absent}
+use Rattle.placement.proofs.Writing.{length-part}
+use Rattle.placement.proofs.Pages.{Proper, orderly-rising, orderly-columns}
+use Rattle.placement.proofs.Files.{numberOf, page-member, starsAt-laid, sized-laid}
+use Rattle.placement.proofs.Sound.{sound-laid}
+
+rising-numbers : (last : ℕ) (l : List Star) → Rising (suc last) l → page.rising last (map numberOf l) ≡ true
+unfolding page.rising
+rising-numbers last [] r = refl
+rising-numbers last (s ∷ l) r = rw (lt-ltb last (s .number) (r .0)) (rising-numbers (s .number) l (r .1))
+
+-- The numbers of an orderly page are orderly in the sense of the search.
+pub orderly-numbers : (ok : ℕ → Bool) (last : ℕ) (ns ws : List ℕ) → last ≤ greatest → length ns ≡ length ws → orderly ok last ns ws ≡ true → page.orderly last ns ≡ true
+unfolding padded
+orderly-numbers ok last ns ws h l e =
+    ap (page.orderly last) (orderly-columns ok last ns ws l e .0)
+    ∙ rising-orderly last (map numberOf (starsOf ns ws)) (length ns - length (map numberOf (starsOf ns ws)))
+    (rising-numbers last (starsOf ns ws) (orderly-rising ok last ns ws h e))
+
+-- A star's place, and the star at a place.
+pub star-at : (ns ws : List ℕ) (s : Star) → List·Memᴰ s (starsOf ns ws) → (i : ℕ) × (i < length ns) × (getD ns i 0 ≡ s .number) × (getD ws i 0 ≡ s .word) × (1 ≤ s .number)
+unfolding starsOf
+star-at [] ws s m = absurd (List·Memᴰ·not-nil m)
+star-at (n ∷ ns) [] s m = absurd (List·Memᴰ·not-nil m)
+star-at (n ∷ ns) (w ∷ ws) s m = go (eqb n 0) refl (star-at ns ws s) m
+  where
+    Place : List ℕ → List ℕ → Type 0
+    Place xs ys = (i : ℕ) × (i < length xs) × (getD xs i 0 ≡ s .number) × (getD ys i 0 ≡ s .word) × (1 ≤ s .number)
+
+    later : Place ns ws → Place (n ∷ ns) (w ∷ ws)
+    later r = (suc (r .0), omega (arith, r .1), r .2, r .3, r .4)
+
+    go : (t : Bool) → eqb n 0 ≡ t → (List·Memᴰ s (starsOf ns ws) → Place ns ws) → List·Memᴰ s (keep (not t) (record { number = n; word = w }) (starsOf ns ws)) → Place (n ∷ ns) (w ∷ ws)
+    go true e ih m = later (ih m)
+    go false e ih m =
+        ⊎-elim
+        (λ (d : s ≡ record { number = n; word = w }).
+        let k : s .number ≡ n = ap numberOf d in
+        let v : s .word ≡ w = ap (λ (x : Star). x .word) d in
+        let some : (n ≡ 0 → ⊥) = eqb-false n 0 e in
+        (zero, omega arith, sym k, sym v, omega arith))
+        (λ (d : List·Memᴰ s (starsOf ns ws)). later (ih d))
+        (List·Memᴰ·cases-cons m)
+
+pub at-star : (ns ws : List ℕ) (i : ℕ) → i < length ns → i < length ws → 1 ≤ getD ns i 0 → List·Memᴰ (record { number = getD ns i 0; word = getD ws i 0 }) (starsOf ns ws)
+unfolding starsOf
+at-star [] ws i h k g = absurd (omega arith)
+at-star (n ∷ ns) [] i h k g = absurd (omega arith)
+at-star (n ∷ ns) (w ∷ ws) zero h k g = rw (ne-eqb n 0 (λ z. omega (arith, z))) (List·Memᴰ·head refl)
+at-star (n ∷ ns) (w ∷ ws) (suc i) h k g = go (not (eqb n 0)) (at-star ns ws i (omega arith) (omega arith) g)
+  where
+    S : Star
+    S = record { number = getD ns i 0; word = getD ws i 0 }
+
+    go : (t : Bool) → List·Memᴰ S (starsOf ns ws) → List·Memᴰ S (keep t (record { number = n; word = w }) (starsOf ns ws))
+    go true m = List·Memᴰ·tail m
+    go false m = m
+
+-- What the search finds.
+pub star-held : (ok : ℕ → Bool) (ns ws : List ℕ) (s : Star) → length ns ≡ length ws → orderly ok 0 ns ws ≡ true → List·Memᴰ s (starsOf ns ws)
+    → (heldAt (s .number) ns ≡ true) × (getD ws (placeOf (s .number) ns) 0 ≡ s .word)
+star-held ok ns ws s l e m =
+    let r = star-at ns ws s m in
+    let o : page.orderly 0 ns ≡ true = orderly-numbers ok 0 ns ws (omega arith) l e in (
+      held-at 0 (s .number) ns (r .0) o (r .4) (r .1) (r .2),
+      ap (λ (i : ℕ). getD ws i 0) (place-is 0 (s .number) ns (r .0) o (r .4) (r .1) (r .2)) ∙ r .3,
+    )
+
+pub held-star : (ns ws : List ℕ) (k : ℕ) → length ns ≡ length ws → 1 ≤ k → heldAt k ns ≡ true → List·Memᴰ (record { number = k; word = getD ws (placeOf k ns) 0 }) (starsOf ns ws)
+held-star ns ws k l h e =
+    let r = held-there k ns e in
+    Memᴰ·cast (λ i. record { number = sym (r .1) i; word = getD ws (placeOf k ns) 0 }) (at-star ns ws (placeOf k ns) (r .0) (omega (arith, r .0)) (omega (arith, r .1)))
+
+pub absent-held : (ok : ℕ → Bool) (ns ws : List ℕ) (k : ℕ) → length ns ≡ length ws → orderly ok 0 ns ws ≡ true → heldAt k ns ≡ false → Absent k (starsOf ns ws)
+absent-held ok ns ws k l e none t m d = true≢false (sym (star-held ok ns ws t l e m .0) ∙ ap (λ (n : ℕ). heldAt n ns) d ∙ none)
+
+pub held-absent : (ns ws : List ℕ) (k : ℕ) → length ns ≡ length ws → 1 ≤ k → Absent k (starsOf ns ws) → heldAt k ns ≡ false
+held-absent ns ws k l h none = go (heldAt k ns) refl
+  where
+    go : (t : Bool) → heldAt k ns ≡ t → heldAt k ns ≡ false
+    go true e = absurd (none (record { number = k; word = getD ws (placeOf k ns) 0 }) (held-star ns ws k l h e) refl)
+    go false e = e
+
+-- ---- look-ups in a laid file
+
+module _ (ok : ℕ → Bool) (H : Hash) (M : ℕ) (t : List Star) (rising : Rising 0 t) (proper : Proper ok t) (fits : left H 0 M t ≡ []) where
+  sizes : (q : ℕ) → q < M → length (part (H .room) q (laid (H .room) H M t .numbers)) ≡ length (part (H .room) q (laid (H .room) H M t .words))
+  sizes q h =
+      length-part (H .room) q M (laid (H .room) H M t .numbers) (sized-laid ok H M t proper .ofNumbers) h
+      ∙ sym (length-part (H .room) q M (laid (H .room) H M t .words) (sized-laid ok H M t proper .ofWords) h)
+
+  -- A star of the list is on the page that its separators name.
+  pub found-at : (s : Star) → List·Memᴰ s t
+      → (first H 0 (laid (H .room) H M t .separators) (s .number) < M)
+      × List·Memᴰ s (starsAt (H .room) (laid (H .room) H M t) (first H 0 (laid (H .room) H M t .separators) (s .number)))
+  unfolding laid fileOf
+  found-at s m =
+      let r = looked-up H 0 M t s fits m in
+      let at : first H 0 (separators (pages H 0 M t)) (s .number) ≡ r .0 = r .2 ∙ zero-add (r .0) in
+      (omega (arith, at, r .1), rw (at, starsAt-laid ok H M t proper (r .0) (r .1)) (r .3))
+
+  pub found : (s : Star) (q : ℕ) → List·Memᴰ s t → first H 0 (laid (H .room) H M t .separators) (s .number) ≡ q
+      → (q < M) × (heldAt (s .number) (part (H .room) q (laid (H .room) H M t .numbers)) ≡ true)
+      × (getD (part (H .room) q (laid (H .room) H M t .words)) (placeOf (s .number) (part (H .room) q (laid (H .room) H M t .numbers))) 0 ≡ s .word)
+  unfolding starsAt
+  found s q m e = (inside, held .0, held .1)
+    where
+      inside : q < M
+      inside = rw e at (found-at s m .0)
+
+      held : (heldAt (s .number) (part (H .room) q (laid (H .room) H M t .numbers)) ≡ true)
+          × (getD (part (H .room) q (laid (H .room) H M t .words)) (placeOf (s .number) (part (H .room) q (laid (H .room) H M t .numbers))) 0 ≡ s .word)
+      held =
+          star-held ok (part (H .room) q (laid (H .room) H M t .numbers)) (part (H .room) q (laid (H .room) H M t .words)) s (sizes q inside)
+          (sound-laid ok H M t rising proper q inside .inOrder) (rw e at (found-at s m .1))
+
+  -- A number that no star of the list has is on no page.
+  pub missing : (k q : ℕ) → 1 ≤ k → Absent k t → q < M → heldAt k (part (H .room) q (laid (H .room) H M t .numbers)) ≡ false
+  unfolding starsAt
+  missing k q h none inside =
+      held-absent (part (H .room) q (laid (H .room) H M t .numbers)) (part (H .room) q (laid (H .room) H M t .words)) k (sizes q inside) h
+      (λ s m. none s (page-member H 0 M q t inside s (rw (starsAt-laid ok H M t proper q inside) at m)))
