@@ -2,7 +2,7 @@
 use mathlib.Core.Path.{_≡_, refl, sym, ap, _∙_}
 use mathlib.Core.Bool.{Bool, true, false, not, cond, _&&_}
 use mathlib.Core.List.{List, [], _∷_, _++_, map, List·Memᴰ, List·Memᴰ·head, List·Memᴰ·tail, List·Memᴰ·cases-cons, List·Memᴰ·not-nil}
-use mathlib.Core.Logic.{⊎-elim}
+use mathlib.Core.Logic.{⊎-elim, _⊎_, inl, inr}
 use Prim.Native.Nat.{ℕ, zero, suc, _-_, _≤_, _<_}
 use native.Mathlib.Nat.{suc-sub-suc, sub-zero, le-refl}
 use native.Mathlib.Omega.{arith}
@@ -53,19 +53,21 @@ data Item (ok : ℕ → Bool) (last n w : ℕ) (ns ws : List ℕ) : Type 0 where
   empty : n ≡ 0 → w ≡ 0 → orderly ok greatest ns ws ≡ true → starsOf (n ∷ ns) (w ∷ ws) ≡ starsOf ns ws → Item ok last n w ns ws
   star : last < n → n ≤ greatest → ok w ≡ true → orderly ok n ns ws ≡ true → starsOf (n ∷ ns) (w ∷ ws) ≡ record { number = n; word = w } ∷ starsOf ns ws → Item ok last n w ns ws
 
+picked : (t a b : Bool) → cond t a b ≡ true → ((t ≡ true) × (a ≡ true)) ⊎ ((t ≡ false) × (b ≡ true))
+picked true a b e = inl (refl, e)
+picked false a b e = inr (refl, e)
+
 item : (ok : ℕ → Bool) (last n w : ℕ) (ns ws : List ℕ) → orderly ok last (n ∷ ns) (w ∷ ws) ≡ true → Item ok last n w ns ws
 unfolding orderly starsOf
-item ok last n w ns ws e = go (eqb n 0) refl e
-  where
-    go : (t : Bool) → eqb n 0 ≡ t
-        → cond t (eqb w 0 && orderly ok greatest ns ws) (ltb last n && (leb n greatest && (ok w && orderly ok n ns ws))) ≡ true → Item ok last n w ns ws
-    go true z e =
-        empty (eqb-true n 0 z) (eqb-true w 0 (and-true (eqb w 0) (orderly ok greatest ns ws) e .0)) (and-true (eqb w 0) (orderly ok greatest ns ws) e .1) (rw z)
-    go false z e =
-        let a = and-true (ltb last n) (leb n greatest && (ok w && orderly ok n ns ws)) e in
-        let b = and-true (leb n greatest) (ok w && orderly ok n ns ws) (a .1) in
-        let c = and-true (ok w) (orderly ok n ns ws) (b .1) in
-        star (ltb-true last n (a .0)) (leb-true n greatest (b .0)) (c .0) (c .1) (rw z)
+item ok last n w ns ws e =
+    ⊎-elim
+    (λ h. let a = and-true (eqb w 0) _ (h .1) in empty (eqb-true n 0 (h .0)) (eqb-true w 0 (a .0)) (a .1) (rw (h .0)))
+    (λ h.
+    let a = and-true (ltb last n) _ (h .1) in
+    let b = and-true (leb n greatest) _ (a .1) in
+    let c = and-true (ok w) _ (b .1) in
+    star (ltb-true last n (a .0)) (leb-true n greatest (b .0)) (c .0) (c .1) (rw (h .0)))
+    (picked (eqb n 0) _ _ e)
 
 pub orderly-rising : (ok : ℕ → Bool) (last : ℕ) (ns ws : List ℕ) → last ≤ greatest → orderly ok last ns ws ≡ true → Rising (suc last) (starsOf ns ws)
 unfolding starsOf

@@ -21,11 +21,11 @@ stays H p v s = below H p v (s .number)
 
 pub below-home : (H : Hash) (p v k : ℕ) → below H p v k ≡ true → H .home k ≤ p
 unfolding below
-below-home H p v k e = leb-true (H .home k) p (and-true (leb (H .home k) p) (ltb (H .signature k p) v) e .0)
+below-home H p v k e = leb-true (H .home k) p (and-true (leb (H .home k) p) _ e .0)
 
 pub below-signature : (H : Hash) (p v k : ℕ) → below H p v k ≡ true → H .signature k p < v
 unfolding below
-below-signature H p v k e = ltb-true (H .signature k p) v (and-true (leb (H .home k) p) (ltb (H .signature k p) v) e .1)
+below-signature H p v k e = ltb-true (H .signature k p) v (and-true (leb (H .home k) p) _ e .1)
 
 pub is-below : (H : Hash) (p v k : ℕ) → H .home k ≤ p → H .signature k p < v → below H p v k ≡ true
 unfolding below
