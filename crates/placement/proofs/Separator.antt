@@ -147,3 +147,6 @@ probing-top H b p w h =
 -- Then all who probe stay.
 pub top-all : (H : Hash) → Bounded H → (p : ℕ) (w : List Star) → separatorOf H p w ≡ H .top → staying H p (separatorOf H p w) w ≡ filter (probes H p) w
 top-all H b p w e = rw e (staying-top H b p w)
+
+pub all-top : (H : Hash) → Bounded H → (p : ℕ) (w : List Star) → staying H p (separatorOf H p w) w ≡ filter (probes H p) w → separatorOf H p w ≡ H .top
+all-top H b p w e = probing-top H b p w (rw e at (sep-fits H p w))
