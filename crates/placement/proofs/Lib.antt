@@ -15,3 +15,6 @@ pub mod Sound
 pub mod Entry
 pub mod Search
 pub mod Change
+pub mod Probing
+pub mod Items
+pub mod Tested

@@ -1,2 +1,4 @@
 pub mod Rule
 pub mod File
+pub mod Hash
+pub mod Survey

@@ -1,0 +1,7 @@
+// The page that the separators name for a number, and the soundness of a page, with its stars' homes.
+mod naming;
+mod soundness;
+
+pub use naming::named_page;
+pub use soundness::page_sound;
+pub use soundness::survey;

@@ -1,0 +1,103 @@
+-- Probing from home upward, and that no page above the one asked about matters.
+use mathlib.Core.Path.{_≡_, refl, sym, _∙_}
+use mathlib.Core.Bool.{true, false, cond, true≢false}
+use mathlib.Core.List.{List, [], _∷_}
+use Prim.Native.Nat.{ℕ, suc, _+_, _-_, _≤_, _<_}
+use native.Mathlib.Nat.{zero-add}
+use native.Mathlib.Numerals.{add-one}
+use native.Mathlib.Decide.{decLt}
+use native.Mathlib.Omega.{arith}
+use lib.Dec.{eqb, ltb}
+use lib.ListN.{length, getD, take, drop}
+use lib.Seq.{drop-cons, drop-length, take-length, length-take-le, getD-take}
+use borrow.Author.Tests.{ne-eqb, le-leb}
+use Rattle.hashing.specs.declared.Parameters.{Parameters}
+use Rattle.hashing.specs.declared.Growth.{Growth}
+use Rattle.hashing.specs.Generator.{signature}
+use Rattle.hashing.specs.Home.{home}
+use Rattle.hashing.specs.Limits.{validParameters, validGrowth}
+use Rattle.hashing.proofs.Bounds.{limits}
+use Rattle.hashing.proofs.Laws.{signature-below, home-pages}
+use Rattle.placement.specs.Rule.{Hash, below, first}
+use Rattle.placement.specs.Hash.{hashOf, hashFrom, namedPage}
+use Rattle.placement.proofs.Separator.{Bounded}
+use Rattle.placement.proofs.Standing.{first-home, first-home-on, first-within, first-below, first-before}
+
+-- No page below p is the first one.
+pub record Probed (H : Hash) (vs : List ℕ) (k p : ℕ) : Type 0 where
+  pub is : first H 0 vs k ≡ first H p (drop p vs) k
+
+module _ (H : Hash) (vs : List ℕ) (k p : ℕ) where
+  pub probed-none : p ≤ length vs → p ≤ H .home k → Probed H vs k p
+  probed-none h g = record { is = sym (rw (zero-add p) at (first-home-on H 0 p vs k h (rw (zero-add p) g))) }
+
+  -- the next page is the first one, or the one after it may be
+  next : p < length vs → first H p (drop p vs) k ≡ cond (below H p (getD vs p 0) k) p (first H (suc p) (drop (suc p) vs) k)
+  unfolding first
+  next h = rw (drop-cons vs p 0 h)
+
+  pub probed-more : p < length vs → below H p (getD vs p 0) k ≡ false → Probed H vs k p → Probed H vs k (p + 1)
+  probed-more h e done = record { is = rw (add-one p) (done .is ∙ next h ∙ rw e) }
+
+  pub probed-found : p < length vs → below H p (getD vs p 0) k ≡ true → Probed H vs k p → p ≡ first H 0 vs k
+  probed-found h e done = sym (done .is ∙ next h ∙ rw e)
+
+  pub probed-all : p ≡ length vs → Probed H vs k p → p ≡ first H 0 vs k
+  unfolding first
+  probed-all h done =
+      let none : drop p vs ≡ [] = rw h (drop-length vs) in
+      sym (done .is ∙ rw none)
+
+  -- whether p is the first page is seen without the pages above it
+  pub first-taken : p < length vs → eqb (first H 0 (take (suc p) vs) k) p ≡ eqb (first H 0 vs k) p
+  first-taken h = go (decLt (first H 0 vs k) (suc p))
+    where
+      go : Dec (first H 0 vs k < suc p) → eqb (first H 0 (take (suc p) vs) k) p ≡ eqb (first H 0 vs k) p
+      go (yes d) = rw (first-within H 0 (suc p) vs k (rw (zero-add (suc p)) d))
+      go (no d) = ne-eqb (first H 0 (take (suc p) vs) k) p other ∙ sym (ne-eqb (first H 0 vs k) p (λ e. omega (arith, e)))
+        where
+          not-here : below H p (getD vs p 0) k ≡ false
+          not-here = rw (zero-add p) at (first-before H 0 p vs k h (omega arith))
+
+          other : first H 0 (take (suc p) vs) k ≡ p → ⊥
+          other e =
+              true≢false
+              (sym (rw (zero-add p, getD-take (suc p) vs p 0 (omega arith)) at
+              (first-below H 0 p (take (suc p) vs) k (omega (arith, length-take-le (suc p) vs h)) (e ∙ sym (zero-add p))))
+              ∙ not-here)
+
+-- From home on, a page keeps those with a signature below its separator.
+pub below-from : (a bits h k page v : ℕ) → h ≤ page → below (hashFrom a bits h) page v k ≡ ltb (signature a bits k (page - h + 1)) v
+unfolding below hashFrom
+below-from a bits h k page v g = rw (le-leb h page g)
+
+pub first-from : (a : ℕ) (p : Parameters) (g : Growth) (page : ℕ) (vs : List ℕ) (k : ℕ) → first (hashFrom a (p .bits) (home a p g k)) page vs k ≡ first (hashOf a p g) page vs k
+unfolding first below hashFrom hashOf
+first-from a p g page [] k = refl
+first-from a p g page (v ∷ vs) k = rw (first-from a p g (suc page) vs k)
+
+-- What a probe of a number from its home finds: of all pages the named one, of those up to a page whether that is named.
+module _ (a : ℕ) (p : Parameters) (g : Growth) (seps : List ℕ) (k h : ℕ) (at-home : h ≡ home a p g k) where
+  pub named-is : first (hashFrom a (p .bits) h) 0 (take (length seps) seps) k ≡ namedPage a p g seps k
+  unfolding namedPage
+  named-is = rw (at-home, take-length seps) (first-from a p g 0 seps k)
+
+  pub named-here : (page : ℕ) → page < length seps → eqb (first (hashFrom a (p .bits) h) 0 (take (page + 1) seps) k) page ≡ eqb (namedPage a p g seps k) page
+  unfolding namedPage
+  named-here page i =
+      rw (at-home, add-one page, first-from a p g 0 (take (suc page) seps) k) (first-taken (hashOf a p g) seps k page i)
+
+  pub named-above : (page : ℕ) → page < length seps → page < h → eqb (namedPage a p g seps k) page ≡ false
+  unfolding namedPage hashOf
+  named-above page i low =
+      ne-eqb (first (hashOf a p g) 0 seps k) page
+      (λ e. omega (arith, e, first-home (hashOf a p g) 0 seps k (omega (arith, e))))
+
+-- What the rule's laws ask of the hash, and a home is one of the pages.
+pub bounded-real : (a : ℕ) (p : Parameters) (g : Growth) → validParameters p ≡ true → Bounded (hashOf a p g)
+unfolding hashOf
+bounded-real a p g v k page = signature-below a (p .bits) k (page - home a p g k + 1) (limits p v .bits-least)
+
+pub homed-real : (a : ℕ) (p : Parameters) (g : Growth) → validParameters p ≡ true → validGrowth p g ≡ true → (k : ℕ) → hashOf a p g .home k < p .pages
+unfolding hashOf
+homed-real a p g v w k = home-pages a p g k v w

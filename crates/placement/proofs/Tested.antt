@@ -1,0 +1,206 @@
+-- What a sound page tells of its items, under the file's hash.
+use mathlib.Core.Path.{_≡_, refl, sym, _∙_}
+use mathlib.Core.Bool.{Bool, true, false, not, cond, _&&_, false≢true}
+use mathlib.Core.List.{List, [], _∷_, List·Memᴰ, List·Memᴰ·head, List·Memᴰ·tail}
+use Prim.Native.Nat.{ℕ, zero, suc, _+_, _-_, _*_, _≤_, _<_}
+use native.Mathlib.Nat.{zero-add}
+use native.Mathlib.Omega.{arith}
+use lib.Dec.{leb, ltb, eqb}
+use lib.ListN.{length, getD, List·getD-map}
+use borrow.Author.Tests.{leb-true, ltb-true, eqb-true, eqb-false, le-leb, ne-eqb}
+use Rattle.hashing.specs.declared.Parameters.{Parameters}
+use Rattle.hashing.specs.declared.Growth.{Growth}
+use Rattle.hashing.specs.Generator.{signature}
+use Rattle.hashing.specs.Home.{home}
+use Rattle.pages.specs.Position.{validNumber, validWord}
+use Rattle.pages.specs.Page.{part}
+use Rattle.pages.proofs.Parts.{page-fits, part-length, part-item}
+use Rattle.placement.specs.Rule.{Star, keep}
+use Rattle.placement.specs.File.{File, Sized, starsOf, starsAt, greatest, orderly}
+use Rattle.placement.specs.Hash.{hashOf, soundAt, namedPage, homeIn, homesOf}
+use Rattle.placement.specs.Survey.{lastAfter}
+use Rattle.placement.proofs.Filters.{and-true}
+use Rattle.placement.proofs.Separator.{below-home, below-signature}
+use Rattle.placement.proofs.Standing.{first-below}
+use Rattle.placement.proofs.Sound.{Sound, sound-facts, facts-sound, sound-proper}
+
+-- ---- items in order
+
+record Ordered (ok : ℕ → Bool) (last n w : ℕ) (ns ws : List ℕ) : Type 0 where
+  rest : orderly ok (lastAfter n) ns ws ≡ true
+  empty : n ≡ 0 → w ≡ 0
+  above : (n ≡ 0 → ⊥) → last < n
+  most : n ≤ greatest
+
+ordered : (ok : ℕ → Bool) (last n w : ℕ) (ns ws : List ℕ) → orderly ok last (n ∷ ns) (w ∷ ws) ≡ true → Ordered ok last n w ns ws
+unfolding orderly
+ordered ok last n w ns ws e = go (eqb n 0) refl e
+  where
+    go : (t : Bool) → eqb n 0 ≡ t → cond t (eqb w 0 && orderly ok greatest ns ws) (ltb last n && (leb n greatest && (ok w && orderly ok n ns ws))) ≡ true → Ordered ok last n w ns ws
+    go true z e =
+        let c = and-true (eqb w 0) (orderly ok greatest ns ws) e in
+        let none : n ≡ 0 = eqb-true n 0 z in
+        record { rest = rw z (c .1); empty = λ h. eqb-true w 0 (c .0); above = λ h. absurd (h none); most = omega arith }
+    go false z e =
+        let b = and-true (ltb last n) (leb n greatest && (ok w && orderly ok n ns ws)) e in
+        let c = and-true (leb n greatest) (ok w && orderly ok n ns ws) (b .1) in
+        let d = and-true (ok w) (orderly ok n ns ws) (c .1) in
+        record { rest = rw z (d .1); empty = λ h. absurd (eqb-false n 0 z h); above = λ h. ltb-true last n (b .0); most = leb-true n greatest (c .0) }
+
+-- after an item the bound does not fall
+after-most : (n : ℕ) → n ≤ greatest → lastAfter n ≤ greatest
+after-most n h = go (eqb n 0)
+  where
+    go : (t : Bool) → cond t greatest n ≤ greatest
+    go true = omega arith
+    go false = h
+
+module _ (ok : ℕ → Bool) where
+  item-most : (last : ℕ) (ns ws : List ℕ) → orderly ok last ns ws ≡ true → (i : ℕ) → getD ns i 0 ≤ greatest
+  unfolding orderly
+  item-most last [] ws e i = omega arith
+  item-most last (n ∷ ns) [] e i = absurd (false≢true e)
+  item-most last (n ∷ ns) (w ∷ ws) e zero = ordered ok last n w ns ws e .most
+  item-most last (n ∷ ns) (w ∷ ws) e (suc i) = item-most (lastAfter n) ns ws (ordered ok last n w ns ws e .rest) i
+
+  item-empty : (last : ℕ) (ns ws : List ℕ) → orderly ok last ns ws ≡ true → (i : ℕ) → i < length ns → getD ns i 0 ≡ 0 → getD ws i 0 ≡ 0
+  unfolding orderly
+  item-empty last [] ws e i h z = absurd (omega arith)
+  item-empty last (n ∷ ns) [] e i h z = absurd (false≢true e)
+  item-empty last (n ∷ ns) (w ∷ ws) e zero h z = ordered ok last n w ns ws e .empty z
+  item-empty last (n ∷ ns) (w ∷ ws) e (suc i) h z = item-empty (lastAfter n) ns ws (ordered ok last n w ns ws e .rest) i (omega arith) z
+
+  item-above : (last : ℕ) (ns ws : List ℕ) → orderly ok last ns ws ≡ true → last ≤ greatest → (i : ℕ) → (getD ns i 0 ≡ 0 → ⊥) → last < getD ns i 0
+  unfolding orderly
+  item-above last [] ws e l i s = absurd (s refl)
+  item-above last (n ∷ ns) [] e l i s = absurd (false≢true e)
+  item-above last (n ∷ ns) (w ∷ ws) e l zero s = ordered ok last n w ns ws e .above s
+  item-above last (n ∷ ns) (w ∷ ws) e l (suc i) s =
+      go (eqb n 0) refl (item-above (lastAfter n) ns ws (o .rest) (after-most n (o .most)) i s)
+    where
+      o : Ordered ok last n w ns ws
+      o = ordered ok last n w ns ws e
+
+      go : (t : Bool) → eqb n 0 ≡ t → cond t greatest n < getD ns i 0 → last < getD ns i 0
+      go true z h = omega arith
+      go false z h = omega (arith, o .above (eqb-false n 0 z))
+
+  -- a star has only smaller stars before it
+  items-rise : (last : ℕ) (ns ws : List ℕ) → orderly ok last ns ws ≡ true → (i j : ℕ) → i < j → (getD ns j 0 ≡ 0 → ⊥) → (0 < getD ns i 0) × (getD ns i 0 < getD ns j 0)
+  unfolding orderly
+  items-rise last [] ws e i j h s = absurd (s refl)
+  items-rise last (n ∷ ns) [] e i j h s = absurd (false≢true e)
+  items-rise last (n ∷ ns) (w ∷ ws) e i zero h s = absurd (omega arith)
+  items-rise last (n ∷ ns) (w ∷ ws) e zero (suc j) h s =
+      go (eqb n 0) refl (item-above (lastAfter n) ns ws (o .rest) (after-most n (o .most)) j s)
+    where
+      o : Ordered ok last n w ns ws
+      o = ordered ok last n w ns ws e
+
+      go : (t : Bool) → eqb n 0 ≡ t → cond t greatest n < getD ns j 0 → (0 < n) × (n < getD ns j 0)
+      go true z h = absurd (omega (arith, item-most (lastAfter n) ns ws (o .rest) j))
+      go false z h = let star : (n ≡ 0 → ⊥) = eqb-false n 0 z in (omega (arith, star), h)
+  items-rise last (n ∷ ns) (w ∷ ws) e (suc i) (suc j) h s = items-rise (lastAfter n) ns ws (ordered ok last n w ns ws e .rest) i j (omega arith) s
+
+-- an item that is not empty is a star
+item-star : (ns ws : List ℕ) (i : ℕ) → i < length ws → (getD ns i 0 ≡ 0 → ⊥) → List·Memᴰ (record { number = getD ns i 0; word = getD ws i 0 }) (starsOf ns ws)
+unfolding starsOf
+item-star [] ws i h s = absurd (s refl)
+item-star (n ∷ ns) [] i h s = absurd (omega arith)
+item-star (n ∷ ns) (w ∷ ws) zero h s = rw (ne-eqb n 0 s) (List·Memᴰ·head refl)
+item-star (n ∷ ns) (w ∷ ws) (suc i) h s = go (not (eqb n 0)) (item-star ns ws i (omega arith) s)
+  where
+    go : (t : Bool) → List·Memᴰ (record { number = getD ns i 0; word = getD ws i 0 }) (starsOf ns ws) → List·Memᴰ (record { number = getD ns i 0; word = getD ws i 0 }) (keep t (record { number = n; word = w }) (starsOf ns ws))
+    go true m = List·Memᴰ·tail m
+    go false m = m
+
+-- ---- sound pages under the file's hash
+
+-- What holds of a star that stands on a sound page.
+pub record StarOn (a : ℕ) (p : Parameters) (g : Growth) (f : File) (page n w : ℕ) : Type 0 where
+  pub number : validNumber n ≡ true
+  pub word : validWord w ≡ true
+  pub named : namedPage a p g (f .separators) n ≡ page
+  pub homed : home a p g n ≤ page
+  pub below : signature a (p .bits) n (page - home a p g n + 1) < getD (f .separators) page 0
+
+-- What holds of an item of a sound page.
+pub record ItemOn (a : ℕ) (p : Parameters) (g : Growth) (f : File) (page n w : ℕ) : Type 0 where
+  pub star : (n ≡ 0 → ⊥) → StarOn a p g f page n w
+  pub empty : n ≡ 0 → w ≡ 0
+  pub most : n ≤ greatest
+  pub homed : homeIn a p g n ≤ page
+
+module _ (a : ℕ) (p : Parameters) (g : Growth) (f : File) (page : ℕ) where
+  -- the named facts, both ways
+  pub real-facts : soundAt a p g f page ≡ true → Sound validWord (hashOf a p g) f page
+  unfolding soundAt
+  real-facts e = sound-facts validWord (hashOf a p g) f page e
+
+  pub facts-real : Sound validWord (hashOf a p g) f page → soundAt a p g f page ≡ true
+  unfolding soundAt
+  facts-real c = facts-sound validWord (hashOf a p g) f page c
+
+  module _ (sized : Sized (p .places) (p .pages) f) (inside : page < p .pages) (e : soundAt a p g f page ≡ true) where
+    pub star-on : (s : Star) → List·Memᴰ s (starsAt (p .places) f page) → StarOn a p g f page (s .number) (s .word)
+    unfolding validNumber namedPage hashOf
+    star-on s m =
+        let c = real-facts e in
+        let proper = sound-proper validWord (hashOf a p g) f page c s m in
+        let stands = c .here s m in
+        let stays =
+        rw (zero-add page) at
+        (first-below (hashOf a p g) 0 page (f .separators) (s .number) (omega (arith, sized .ofSeparators)) (stands ∙ sym (zero-add page))) in
+        record {
+          number = rw (le-leb 1 (s .number) (proper .0), le-leb (s .number) greatest (proper .1));
+          word = proper .2;
+          named = stands;
+          homed = below-home (hashOf a p g) page (getD (f .separators) page 0) (s .number) stays;
+          below = below-signature (hashOf a p g) page (getD (f .separators) page 0) (s .number) stays;
+        }
+
+    -- place i
+    module _ (i : ℕ) (h : i < p .places) where
+      pub item-on : ItemOn a p g f page (getD (f .numbers) (page * p .places + i) 0) (getD (f .words) (page * p .places + i) 0)
+      unfolding starsAt hashOf
+      item-on =
+          rw (← part-item (p .places) page (f .numbers) i h, ← part-item (p .places) page (f .words) i h)
+          (record {
+            star = star;
+            empty = item-empty validWord 0 ns ws inOrder i (omega (arith, part-length (p .places) page (f .numbers) (page-fits (p .places) (p .pages) page inside (sized .ofNumbers))));
+            most = item-most validWord 0 ns ws inOrder i;
+            homed = go (eqb (getD ns i 0) 0) refl;
+          })
+        where
+          ns : List ℕ
+          ns = part (p .places) page (f .numbers)
+
+          ws : List ℕ
+          ws = part (p .places) page (f .words)
+
+          inOrder : orderly validWord 0 ns ws ≡ true
+          inOrder = real-facts e .inOrder
+
+          star : (getD ns i 0 ≡ 0 → ⊥) → StarOn a p g f page (getD ns i 0) (getD ws i 0)
+          star s =
+              star-on (record { number = getD ns i 0; word = getD ws i 0 })
+              (item-star ns ws i (omega (arith, part-length (p .places) page (f .words) (page-fits (p .places) (p .pages) page inside (sized .ofWords)))) s)
+
+          go : (t : Bool) → eqb (getD ns i 0) 0 ≡ t → cond t 0 (home a p g (getD ns i 0)) ≤ page
+          go true z = omega arith
+          go false z = star (eqb-false (getD ns i 0) 0 z) .homed
+
+    -- the numbers rise strictly, and no empty place stands before a star
+    pub rising-on : (i j : ℕ) → i < j → j < p .places → (getD (f .numbers) (page * p .places + j) 0 ≡ 0 → ⊥)
+        → (0 < getD (f .numbers) (page * p .places + i) 0) × (getD (f .numbers) (page * p .places + i) 0 < getD (f .numbers) (page * p .places + j) 0)
+    unfolding hashOf
+    rising-on i j h k =
+        rw (← part-item (p .places) page (f .numbers) i (omega arith), ← part-item (p .places) page (f .numbers) j k)
+        (items-rise validWord 0 (part (p .places) page (f .numbers)) (part (p .places) page (f .words)) (real-facts e .inOrder) i j h)
+
+    -- the homes that a survey keeps
+    pub homes-on : (i : ℕ) → i < p .places → getD (homesOf a p g (part (p .places) page (f .numbers))) i 0 ≤ page
+    unfolding homesOf
+    homes-on i h =
+        rw (List·getD-map (homeIn a p g) (part (p .places) page (f .numbers)) i 0, part-item (p .places) page (f .numbers) i h)
+        (item-on i h .homed)

@@ -1,0 +1,122 @@
+-- `placement::soundness::page_sound` meets its contract. The invariant: the first i items are admitted, and their homes kept.
+-- Assumes nothing.
+use mathlib.Core.Path.{_≡_, sym, _∙_}
+use mathlib.Core.Bool.{false≢true, and-false}
+use Prim.Native.Nat.{_-_, _≤_}
+use native.Mathlib.Omega.{arith}
+use borrow.Author.Needs.{needs}
+use borrow.Author.Tests.{not-false}
+use lib.ListN.{length}
+use Rattle.hashing.specs.Generator.{multiplier}
+use Rattle.hashing.proofs.Bounds.{limits, failed, passed}
+use Rattle.placement.specs.Survey.{soundIn}
+use Rattle.placement.proofs.Items.{Surveyed, surveyed-none, surveyed-refused, surveyed-more, surveyed-all}
+use Rattle.placement.proofs.soundness.page_sound.Statement.{statement}
+use Rattle.placement.proofs.soundness.page_sound.Tie as tie
+
+abbrev Inv-loop : tie.InvT-loop
+Inv-loop table geometry separators page value places homes₀ last₀ i₀ homes last i =
+    (i ≤ places) × (places ≤ 32) × Surveyed multiplier (geometry .parameters) (geometry .growth) separators page (value .numbers) (value .words) places i last homes
+
+abbrev μ-loop : tie.MeasureT-loop
+μ-loop table geometry separators page value places homes₀ last₀ i₀ homes last i = places - i
+
+cast-places : tie.Need-cast-places Inv-loop μ-loop
+cast-places c = search needs
+
+shared-slice-read-in-range : tie.Need-shared-slice-read-in-range Inv-loop μ-loop
+shared-slice-read-in-range c = search needs
+
+in-range-requires : tie.Need-in-range-requires Inv-loop μ-loop
+in-range-requires c κs =
+    let s = c .before .before .before in
+    let l = limits (s .args .geometry .parameters) (s .pre .1 .0) in
+    (l .bits-least, l .bits-most)
+
+returns : tie.Need-returns Inv-loop μ-loop
+unfolding soundIn
+returns c = (rw (failed _ _ (c .before .in-range .ensures) (c .if1 .taken)), λ e. absurd (false≢true e))
+
+loop-holds : tie.Need-loop-holds Inv-loop μ-loop
+loop-holds c =
+    let s = c .before .before .before .before .before in
+    let l = limits (s .args .geometry .parameters) (s .pre .1 .0) in
+    let ns : length (s .args .t4 .numbers) ≡ 32 = search needs in
+    let ws : length (s .args .t4 .words) ≡ 32 = search needs in
+    (search needs, l .places-most, surveyed-none _ _ _ _ _ _ _ _ (omega (arith, l .places-most)) (omega (arith, l .places-most)))
+
+mul-admitted : tie.Need-mul-admitted Inv-loop μ-loop
+mul-admitted c = search needs
+
+element-copy-out-admitted : tie.Need-element-copy-out-admitted Inv-loop μ-loop
+element-copy-out-admitted c = search needs
+
+mul-admitted-2 : tie.Need-mul-admitted-2 Inv-loop μ-loop
+mul-admitted-2 c = search needs
+
+element-copy-out-admitted-2 : tie.Need-element-copy-out-admitted-2 Inv-loop μ-loop
+element-copy-out-admitted-2 c = search needs
+
+admitted-requires : tie.Need-admitted-requires Inv-loop μ-loop
+admitted-requires c κs = c .before .before .before .before .before .before .before .before .before .pre
+
+returns-2 : tie.Need-returns-2 Inv-loop μ-loop
+unfolding soundIn
+returns-2 c =
+    let item = c .before .before .admitted .ensures in
+    let inside = c .before .before .before .before .before .loop-test .taken in
+    let refused = surveyed-refused _ _ _ _ _ (c .before .before .before .before .before .before .loop .inv .2) inside (failed _ _ (item .sound) (c .if2 .taken)) in
+    (simp (refused, and-false), λ e. absurd (false≢true e))
+
+mul-homes : tie.Need-mul-homes Inv-loop μ-loop
+mul-homes c = search needs
+
+array-write-homes : tie.Need-array-write-homes Inv-loop μ-loop
+array-write-homes c = search needs
+
+add-i : tie.Need-add-i Inv-loop μ-loop
+add-i c = search needs
+
+loop-less : tie.Need-loop-less Inv-loop μ-loop
+loop-less c = search needs
+
+loop-again : tie.Need-loop-again Inv-loop μ-loop
+loop-again c =
+    let item = c .before .before .admitted in
+    let taken = not-false _ (c .if2 .left) in (
+      search needs,
+      search needs,
+      surveyed-more _ _ _ _ _ (c .before .before .before .before .before .before .loop .inv .2) (search needs) (search needs) (sym (item .ensures .sound) ∙ taken) (item .ensures .home taken) (item .ensures .last taken),
+    )
+
+returns-3 : tie.Need-returns-3 Inv-loop μ-loop
+unfolding soundIn
+returns-3 c =
+    let done = c .before .loop .inv .2 in
+    let places = c .before .before .before .before .before .before .before .args .geometry .parameters .places in
+    let e : c .before .loop .i ≡ places = omega arith in
+    (rw (passed _ _ (c .before .before .before .in-range .ensures) (c .before .before .if1 .left)) (sym (surveyed-all _ _ _ _ _ done e)), λ t. rw e at (done .homed))
+
+pub page-sound-spec : {M : Type 1} → statement M
+page-sound-spec =
+    tie.close
+    (tie.spec
+    Inv-loop
+    μ-loop
+    cast-places
+    shared-slice-read-in-range
+    in-range-requires
+    returns
+    loop-holds
+    mul-admitted
+    element-copy-out-admitted
+    mul-admitted-2
+    element-copy-out-admitted-2
+    admitted-requires
+    returns-2
+    mul-homes
+    array-write-homes
+    add-i
+    loop-less
+    loop-again
+    returns-3)

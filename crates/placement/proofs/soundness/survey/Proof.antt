@@ -1,0 +1,82 @@
+-- `placement::soundness::survey` meets its contract.
+-- Assumes nothing.
+use mathlib.Core.Path.{_≡_, sym, _∙_}
+use mathlib.Core.Bool.{false≢true}
+use Prim.Native.Nat.{_*_, _≤_}
+use native.Mathlib.Omega.{arith}
+use borrow.Author.Needs.{needs}
+use borrow.Author.Tests.{not-true, not-false}
+use Rattle.hashing.specs.Generator.{multiplier}
+use Rattle.hashing.proofs.Bounds.{limits}
+use Rattle.placement.specs.Hash.{soundAt, lent}
+use Rattle.placement.proofs.Items.{sound-loaded, homes-loaded, paste-front}
+use Rattle.placement.proofs.soundness.survey.Statement.{statement}
+use Rattle.placement.proofs.soundness.survey.Tie as tie
+
+cast-places : tie.Need-cast-places
+cast-places c = search needs
+
+-- a page has at most 32 places, and lies within the lent lists
+places-most : (c : tie.Start) → c .args .geometry .parameters .places ≤ 32
+places-most c = limits (c .args .geometry .parameters) (c .pre .1 .0) .places-most
+
+load-requires : tie.Need-load-requires
+load-requires c κs =
+    let s = c .before .before .before .before .before in
+    (places-most s, (s .pre .1 .1 .1 .1 .1 .0, s .pre .1 .1 .1 .1 .1 .1 .0))
+
+page-sound-requires : tie.Need-page-sound-requires
+page-sound-requires c κs =
+    let pre = c .before .before .before .before .before .before .pre in
+    (pre .0, (pre .1 .0, (pre .1 .1 .0, (pre .1 .1 .1 .0, pre .1 .1 .1 .1 .0))))
+
+-- the value tested is the page's
+told : (c : tie.After-page-sound) →
+    let s = c .before .before .before .before .before .before .before .args in
+    c .page-sound .result .sound ≡ soundAt multiplier (s .geometry .parameters) (s .geometry .growth) (lent (s .separators .now) (s .numbers .now) (s .words .now)) (s .page)
+told c =
+    let s = c .before .before .before .before .before .before .before in
+    c .page-sound .ensures .0
+    ∙ sound-loaded _ _ _ (lent (s .args .separators .now) (s .args .numbers .now) (s .args .words .now)) _ _
+    (s .pre .1 .1 .1 .1 .1 .0)
+    (s .pre .1 .1 .1 .1 .1 .1 .0)
+    (c .before .load .ensures)
+
+returns : tie.Need-returns
+returns c = (sym (sym (told (c .before .before)) ∙ not-true _ (c .if1 .taken)), λ e. absurd (false≢true e))
+
+mul-keep : tie.Need-mul-keep
+mul-keep c = omega (arith, c .before .before .before .before .before .before .before .before .before .before .before)
+
+keep-requires : tie.Need-keep-requires
+keep-requires c κs =
+    let s = c .before .before .before .before .before .before .before .before .before .before .before in
+    (places-most s, s .pre .1 .1 .1 .1 .1 .1 .1)
+
+same-length : tie.Need-same-length
+same-length c = search needs
+
+returns-2 : tie.Need-returns-2
+returns-2 c =
+    let tested = c .before .before .before .before .before .before .before in
+    let s = tested .before .before .before .before .before .before .before in
+    let yes = not-false _ (c .before .before .before .before .before .if1 .left) in (
+      sym (sym (told tested) ∙ yes),
+      λ e.
+          c .before .before .keep .ensures
+          ∙ paste-front (s .args .homes .now) (tested .page-sound .result .homes) _ (s .args .page * s .args .geometry .parameters .places) (s .args .geometry .parameters .places)
+          (tested .page-sound .ensures .1 yes ∙ homes-loaded _ _ _ _ _ _ _ (s .pre .1 .1 .1 .1 .1 .0) (tested .before .load .ensures)),
+    )
+
+pub survey-spec : {M : Type 1} → statement M
+survey-spec =
+    tie.close
+    (tie.spec
+    cast-places
+    load-requires
+    page-sound-requires
+    returns
+    mul-keep
+    keep-requires
+    same-length
+    returns-2)

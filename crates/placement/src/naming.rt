@@ -1,0 +1,96 @@
+// The page that the separators name for a number.
+ghost use mathlib.Core.Path.{_≡_};
+ghost use mathlib.Core.Bool.{true};
+ghost use Prim.Native.Nat.{_≤_, _<_};
+ghost use lib.Dec.{eqb};
+ghost use lib.ListN.{length, take};
+ghost use Rattle.hashing.specs.Generator.{multiplier, multipliers};
+ghost use Rattle.hashing.specs.Home.{home as Home·home};
+ghost use Rattle.hashing.specs.Limits.{validParameters, validGrowth};
+ghost use Rattle.placement.specs.Rule.{first};
+ghost use Rattle.placement.specs.Hash.{hashFrom, namedPage};
+use hashing::Geometry;
+
+// A number's home, and whether the page asked about is the one that the separators name.
+pub struct Standing {
+    pub here: bool,
+    pub home: u32,
+}
+
+pub fn named_page(table: &[u32; 2049], geometry: Geometry, separators: &[u8], number: u32) -> usize
+    requires { ⌜ now table ≡ multipliers ⌝ }
+    requires { ⌜ validParameters (geometry .parameters) ≡ true ⌝ }
+    requires { ⌜ validGrowth (geometry .parameters) (geometry .growth) ≡ true ⌝ }
+    requires { ⌜ length (now separators) ≡ geometry .parameters .pages ⌝ }
+    ensures { λ r. ⌜ r ≡ namedPage multiplier (geometry .parameters) (geometry .growth) (now (separators .entry)) number ⌝ }
+{
+    let home = hashing::home(table, geometry, number) as usize;
+    probe(
+        table,
+        geometry.parameters.bits,
+        separators,
+        number,
+        home,
+        separators.len(),
+    )
+}
+
+// Probes the pages from home upward to the one before `stop`: one signature for each.
+fn probe(
+    table: &[u32; 2049],
+    bits: u32,
+    separators: &[u8],
+    number: u32,
+    home: usize,
+    stop: usize,
+) -> usize
+    requires { ⌜ now table ≡ multipliers ⌝ }
+    requires { ⌜ (1 ≤ bits) × (bits ≤ 8) ⌝ }
+    requires { ⌜ (home ≤ stop) × (stop ≤ 1024) ⌝ }
+    requires { ⌜ stop ≤ length (now separators) ⌝ }
+    ensures { λ r. ⌜ r ≡ first (hashFrom multiplier bits home) 0 (take stop (now (separators .entry))) number ⌝ }
+{
+    let mut page = home;
+    while page < stop {
+        if hashing::signature(table, bits, number, page - home + 1) < separators[page] as u32 {
+            return page;
+        }
+        page += 1;
+    }
+    page
+}
+
+// Probes no page above the one asked about.
+pub fn stands_on(
+    table: &[u32; 2049],
+    geometry: Geometry,
+    separators: &[u8],
+    number: u32,
+    page: usize,
+) -> Standing
+    requires { ⌜ now table ≡ multipliers ⌝ }
+    requires { ⌜ validParameters (geometry .parameters) ≡ true ⌝ }
+    requires { ⌜ validGrowth (geometry .parameters) (geometry .growth) ≡ true ⌝ }
+    requires { ⌜ length (now separators) ≡ geometry .parameters .pages ⌝ }
+    requires { ⌜ page < geometry .parameters .pages ⌝ }
+    ensures { λ r. ⌜ r .here ≡ eqb (namedPage multiplier (geometry .parameters) (geometry .growth) (now (separators .entry)) number) page ⌝ }
+    ensures { λ r. ⌜ r .home ≡ Home·home multiplier (geometry .parameters) (geometry .growth) number ⌝ }
+{
+    let home = hashing::home(table, geometry, number);
+    let lowest = home as usize;
+    if page < lowest {
+        return Standing { here: false, home };
+    }
+    let found = probe(
+        table,
+        geometry.parameters.bits,
+        separators,
+        number,
+        lowest,
+        page + 1,
+    );
+    Standing {
+        here: found == page,
+        home,
+    }
+}
