@@ -3,14 +3,15 @@ use mathlib.Core.Path.{_≡_, refl, ap, sym, _∙_}
 use mathlib.Core.Bool.{Bool, true, false}
 use mathlib.Core.List.{List, [], _∷_}
 use Prim.Native.Nat.{ℕ, zero, suc, _+_, _≤_, _<_}
-use native.Mathlib.Nat.{le-of-suc-le-suc, not-suc-le-zero}
+use native.Mathlib.Nat.{add-zero, zero-add, le-of-suc-le-suc, not-suc-le-zero}
+use native.Mathlib.Numerals.{add-one}
 use native.Mathlib.Omega.{arith}
 use lib.Dec.{eqb}
-use lib.ListN.{length, getD, set}
-use lib.Seq.{getD-set-same, getD-set-other}
+use lib.ListN.{length, getD, set, length-set}
+use lib.Seq.{getD-set-same, getD-set-other, slice, slice-cons, slice-empty, length-slice}
 use borrow.Author.Tests.{eqb-true, eqb-false, eq-eqb, ne-eqb}
-use Rattle.waiting.specs.Lists.{alike, sumTo}
-use Rattle.waiting.proofs.Lists.{filter-true, filter-false}
+use Rattle.waiting.specs.Lists.{filter, alike, sumTo}
+use Rattle.waiting.proofs.Lists.{filter-length, filter-true, filter-false}
 
 pub alike-here : (f : ℕ → ℕ) (v x : ℕ) (l : List ℕ) → f x ≡ v → alike f v (x ∷ l) ≡ x ∷ alike f v l
 alike-here f v x l e = filter-true (λ y. eqb (f y) v) x l (eq-eqb (f x) v e)
@@ -43,11 +44,12 @@ counted f e n counts g x l eg long H v h = go (eqb g v) refl
         let more : length (alike f v (x ∷ l)) ≡ length (alike f v l) = ap length (alike-other f v x l (λ p. other (sym eg ∙ p))) in
         omega (arith, H v h)
 
-pub sum-next : (n : ℕ) (l : List ℕ) → n < length l → sumTo (suc n) l ≡ sumTo n l + getD l n 0
+pub sum-next : (n : ℕ) (l : List ℕ) → sumTo (suc n) l ≡ sumTo n l + getD l n 0
 unfolding sumTo
-sum-next n [] h = absurd (not-suc-le-zero h)
-sum-next zero (x ∷ l) h = omega arith
-sum-next (suc n) (x ∷ l) h = let r : sumTo (suc n) l ≡ sumTo n l + getD l n 0 = sum-next n l (le-of-suc-le-suc h) in omega arith
+sum-next zero [] = omega arith
+sum-next (suc n) [] = omega arith
+sum-next zero (x ∷ l) = omega arith
+sum-next (suc n) (x ∷ l) = let r : sumTo (suc n) l ≡ sumTo n l + getD l n 0 = sum-next n l in omega arith
 
 pub sum-mono : (m n : ℕ) (l : List ℕ) → m ≤ n → sumTo m l ≤ sumTo n l
 unfolding sumTo
@@ -68,3 +70,38 @@ set-first l v x e long H ex u h = go (eqb v u) refl
     go : (t : Bool) → eqb v u ≡ t → getD (set l v x) u 0 ≡ e u
     go true q = let same : v ≡ u = eqb-true v u q in set-here l v u x same (omega arith) ∙ ex ∙ ap e same
     go false q = let other : v ≡ u → ⊥ = eqb-false v u q in set-elsewhere l v u x other ∙ H u (omega arith)
+
+-- the counters of the values of f, with the items of l from `from` up to i counted; they lack those from i up to `reach`
+pub record Lacking (f : ℕ → ℕ) (n : ℕ) (l : List ℕ) (from reach : ℕ) (counts : List ℕ) (i : ℕ) : Type 0 where
+  pub least : from ≤ i
+  pub upto : i ≤ reach
+  pub inside : reach ≤ length l
+  pub size : length counts ≡ n
+  pub lacks : (v : ℕ) → v < n → getD counts v 0 + length (alike f v (slice i reach l)) ≡ length (alike f v (slice from reach l))
+
+pub lacking-none : (f : ℕ → ℕ) (n : ℕ) (l : List ℕ) (from reach : ℕ) (counts : List ℕ) → from ≤ reach → reach ≤ length l → length counts ≡ n
+    → ((v : ℕ) → v < n → getD counts v 0 ≡ 0) → Lacking f n l from reach counts from
+lacking-none f n l from reach counts order inside size H =
+    record { least = omega arith; upto = order; inside = inside; size = size; lacks = λ v h. rw (H v h, zero-add) }
+
+module _ (f : ℕ → ℕ) (n : ℕ) (l : List ℕ) (from reach : ℕ) (counts : List ℕ) (i : ℕ) (L : Lacking f n l from reach counts i) where
+  pub lacking-next : (g : ℕ) → i < reach → f (getD l i 0) ≡ g → Lacking f n l from reach (set counts g (getD counts g 0 + 1)) (i + 1)
+  lacking-next g h e =
+      record {
+        least = omega (arith, L .least);
+        upto = omega arith;
+        inside = L .inside;
+        size = length-set counts g (getD counts g 0 + 1) ∙ L .size;
+        lacks =
+            rw (add-one i)
+            (counted f (λ v. length (alike f v (slice from reach l))) n counts g (getD l i 0) (slice (suc i) reach l) e (omega (arith, L .size))
+            (λ v k. rw (slice-cons i reach l 0 h (L .inside)) at (L .lacks v k)));
+      }
+
+  pub lacking-fits : (g : ℕ) → g < n → getD counts g 0 ≤ reach
+  lacking-fits g h =
+      omega (arith, L .lacks g h, filter-length (λ x. eqb (f x) g) (slice from reach l), length-slice from reach l (L .inside))
+
+  pub lacking-all : i ≡ reach → (v : ℕ) → v < n → getD counts v 0 ≡ length (alike f v (slice from reach l))
+  unfolding filter
+  lacking-all e v h = sym (add-zero (getD counts v 0)) ∙ rw (e, slice-empty reach l) at (L .lacks v h)

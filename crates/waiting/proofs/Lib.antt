@@ -7,3 +7,6 @@ pub mod Grouping
 pub mod Placing
 pub mod Scattering
 pub mod Gathered
+pub mod Inserting
+pub mod Cutting
+pub mod Sifting

@@ -1,12 +1,16 @@
 -- Laws of `filter` and `all`. Assumes nothing.
 use mathlib.Core.Path.{_≡_, refl, ap, _∙_}
-use mathlib.Core.Bool.{Bool, true, false, cond, _&&_}
+use mathlib.Core.Bool.{Bool, true, false, cond, _&&_, false≢true}
 use mathlib.Core.List.{List, [], _∷_, _++_}
 use Prim.Native.Nat.{ℕ, zero, suc, _≤_, _<_, zero-le}
 use native.Mathlib.Nat.{not-suc-le-zero, le-of-suc-le-suc}
 use native.Mathlib.Omega.{arith}
 use lib.ListN.{length, getD}
 use Rattle.waiting.specs.Lists.{filter, all}
+
+pub and-true : (s t : Bool) → s && t ≡ true → (s ≡ true) × (t ≡ true)
+and-true true t e = (refl, e)
+and-true false t e = absurd (false≢true e)
 
 module _ (q : ℕ → Bool) where
   pub filter-append : (a b : List ℕ) → filter q (a ++ b) ≡ filter q a ++ filter q b
@@ -36,25 +40,17 @@ module _ (q : ℕ → Bool) where
   unfolding filter
   filter-false x l e = rw e
 
+  pub all-nil : all q [] ≡ true
+  unfolding all
+  all-nil = refl
+
   pub all-head : (x : ℕ) (l : List ℕ) → all q (x ∷ l) ≡ true → q x ≡ true
   unfolding all
-  all-head x l = go (q x)
-    where
-      go : (t : Bool) → t && all q l ≡ true → t ≡ true
-      go true e = refl
-      go false e = e
+  all-head x l e = and-true (q x) (all q l) e .0
 
   pub all-tail : (x : ℕ) (l : List ℕ) → all q (x ∷ l) ≡ true → all q l ≡ true
   unfolding all
-  all-tail x l = go (q x)
-    where
-      go : (t : Bool) → t && all q l ≡ true → all q l ≡ true
-      go true e = e
-      go false e = go′ (all q l) e
-        where
-          go′ : (s : Bool) → false ≡ true → s ≡ true
-          go′ true f = refl
-          go′ false f = f
+  all-tail x l e = and-true (q x) (all q l) e .1
 
   pub all-cons : (x : ℕ) (l : List ℕ) → q x ≡ true → all q l ≡ true → all q (x ∷ l) ≡ true
   unfolding all

@@ -2,7 +2,7 @@
 use mathlib.Core.Bool.{Bool, true, _&&_, cond}
 use mathlib.Core.List.{List, [], _∷_}
 use Prim.Native.Nat.{ℕ, zero, suc, _+_}
-use lib.Dec.{ltb, eqb}
+use lib.Dec.{leb, ltb, eqb}
 
 -- those that pass the test, in order
 unfoldable pub filter : (ℕ → Bool) → List ℕ → List ℕ
@@ -27,3 +27,8 @@ unfoldable pub sumTo : ℕ → List ℕ → ℕ
 sumTo zero l = zero
 sumTo (suc n) [] = zero
 sumTo (suc n) (x ∷ l) = x + sumTo n l
+
+-- no number is below the one before it, nor the first below b
+unfoldable pub rises : ℕ → List ℕ → Bool
+rises b [] = true
+rises b (x ∷ l) = leb b x && rises x l
