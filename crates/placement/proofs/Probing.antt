@@ -21,7 +21,7 @@ use Rattle.hashing.proofs.Laws.{signature-below, home-pages}
 use Rattle.placement.specs.Rule.{Hash, below, first}
 use Rattle.placement.specs.Hash.{hashOf, hashFrom, namedPage}
 use Rattle.placement.proofs.Separator.{Bounded}
-use Rattle.placement.proofs.Standing.{first-home, first-home-on, first-within, first-below, first-before}
+use Rattle.placement.proofs.Standing.{first-le, first-home, first-home-on, first-within, first-below, first-before}
 
 -- No page below p is the first one.
 pub record Probed (H : Hash) (vs : List ℕ) (k p : ℕ) : Type 0 where
@@ -101,3 +101,8 @@ bounded-real a p g v k page = signature-below a (p .bits) k (page - home a p g k
 pub homed-real : (a : ℕ) (p : Parameters) (g : Growth) → validParameters p ≡ true → validGrowth p g ≡ true → (k : ℕ) → hashOf a p g .home k < p .pages
 unfolding hashOf
 homed-real a p g v w k = home-pages a p g k v w
+
+-- M where no page is named
+pub named-most : (a : ℕ) (p : Parameters) (g : Growth) (seps : List ℕ) (k : ℕ) → namedPage a p g seps k ≤ length seps
+unfolding namedPage
+named-most a p g seps k = omega (arith, first-le (hashOf a p g) 0 seps k)
