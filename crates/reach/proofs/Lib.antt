@@ -1,0 +1,3 @@
+pub mod Search
+pub mod Pastes
+pub mod Surveyed

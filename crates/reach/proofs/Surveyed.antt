@@ -1,0 +1,101 @@
+-- The survey of a stretch, page after page.
+use mathlib.Core.Path.{_≡_, refl, sym, ap, _∙_}
+use mathlib.Core.Bool.{Bool, true, false, not, cond}
+use mathlib.Core.List.{List, [], _∷_, _++_, map}
+use Prim.Native.Nat.{ℕ, zero, suc, _+_, _-_, _*_, _≤_, _<_}
+use native.Mathlib.Nat.{add-zero, zero-mul, mul-le-mul-right, suc-mul, add-mul}
+use native.Mathlib.Numerals.{add-one}
+use native.Mathlib.Omega.{arith}
+use lib.ListN.{length, take, drop, length-drop, length-map}
+use lib.Seq.{paste, paste-zero, length-paste, take-take, drop-drop}
+use Rattle.hashing.specs.declared.Parameters.{Parameters}
+use Rattle.hashing.specs.declared.Growth.{Growth}
+use Rattle.hashing.specs.Generator.{multiplier}
+use Rattle.pages.specs.Page.{part}
+use Rattle.placement.specs.File.{File, Sized}
+use Rattle.placement.specs.Hash.{soundAt, homesOf, homeIn}
+use Rattle.reach.specs.Reach.{firstUnsound}
+use Rattle.reach.proofs.Search.{Sought, sought-none, sought-next, sought-found, sought-all}
+use Rattle.reach.proofs.Pastes.{paste-more, map-take, map-drop}
+
+-- the page is unsound
+abbrev pub unsound : Parameters → Growth → File → ℕ → Bool
+unsound p g f q = not (soundAt multiplier p g f q)
+
+-- the homes of the items from a page on
+abbrev pub homesFrom : Parameters → Growth → File → ℕ → List ℕ
+homesFrom p g f from = homesOf multiplier p g (drop (from * p .places) (f .numbers))
+
+-- the pages from `from` up to the one before `page` are sound, and their homes are kept
+pub record Surveyed (p : Parameters) (g : Growth) (f : File) (before : List ℕ) (from n : ℕ) (homes : List ℕ) (page : ℕ) : Type 0 where
+  pub sought : Sought (unsound p g f) from n page
+  pub long : length homes ≡ length before
+  pub kept : homes ≡ paste before (from * p .places) (homesFrom p g f from) ((page - from) * p .places)
+
+pub surveyed-none : (p : Parameters) (g : Growth) (f : File) (before : List ℕ) (from n : ℕ) → Surveyed p g f before from n before from
+surveyed-none p g f before from n =
+    record {
+      sought = sought-none (unsound p g f) from n;
+      long = refl;
+      kept =
+          let none : (from - from) * p .places ≡ 0 = ap (λ (k : ℕ). k * p .places) (omega arith) ∙ zero-mul (p .places) in
+          rw none (paste-zero before (from * p .places) (homesFrom p g f from));
+    }
+
+module _ (p : Parameters) (g : Growth) (f : File) (before : List ℕ) (from n : ℕ) (homes : List ℕ) (page : ℕ)
+    (s : Surveyed p g f before from n homes page) (sized : Sized (p .places) (p .pages) f) (fits : length before ≡ p .pages * p .places)
+    (inside : page < from + n) (bound : from + n ≤ p .pages) where
+  ahead : from * p .places + (page - from) * p .places ≡ page * p .places
+  ahead =
+      let e : from + (page - from) ≡ page = omega (arith, s .sought .low) in
+      sym (add-mul from (page - from) (p .places)) ∙ ap (λ (k : ℕ). k * p .places) e
+
+  more : (page - from) * p .places + p .places ≡ (page + 1 - from) * p .places
+  more =
+      let e : page + 1 - from ≡ suc (page - from) = omega (arith, s .sought .low) in
+      sym (rw e (suc-mul (page - from) (p .places)))
+
+  within : page * p .places + p .places ≤ p .pages * p .places
+  within = omega (arith, suc-mul page (p .places), mul-le-mul-right {m = suc page} {n = p .pages} (p .places) (omega arith))
+
+  page-homes : take (p .places) (homesOf multiplier p g (part (p .places) page (f .numbers)))
+      ≡ take (p .places) (drop ((page - from) * p .places) (homesFrom p g f from))
+  unfolding homesOf part
+  page-homes =
+      rw (map-take (homeIn multiplier p g) (p .places) (take (p .places) (drop (page * p .places) (f .numbers))))
+      (rw (take-take (p .places) (p .places) (drop (page * p .places) (f .numbers)) (omega arith))
+      (rw (map-drop (homeIn multiplier p g) ((page - from) * p .places) (drop (from * p .places) (f .numbers)))
+      (rw (drop-drop ((page - from) * p .places) (from * p .places) (f .numbers), ahead)
+      (sym (map-take (homeIn multiplier p g) (p .places) (drop (page * p .places) (f .numbers)))))))
+
+  long-enough : (page - from) * p .places ≤ length (homesFrom p g f from)
+  unfolding homesOf
+  long-enough =
+      rw (length-map (drop (from * p .places) (f .numbers)) (homeIn multiplier p g), length-drop (from * p .places) (f .numbers))
+      (omega (arith, ahead, within, sized .ofNumbers))
+
+  pub surveyed-next : (after : List ℕ) → soundAt multiplier p g f page ≡ true
+      → after ≡ paste homes (page * p .places) (homesOf multiplier p g (part (p .places) page (f .numbers))) (p .places)
+      → length after ≡ length homes
+      → Surveyed p g f before from n after (page + 1)
+  unfolding homesOf
+  surveyed-next after e h l =
+      record {
+        sought = rw (add-one page) (sought-next (unsound p g f) from n page (s .sought) inside (ap not e));
+        long = l ∙ s .long;
+        kept =
+            h
+            ∙ (rw (s .kept, ← ahead)
+            (paste-more before (from * p .places) (homesFrom p g f from) ((page - from) * p .places) (homesOf multiplier p g (part (p .places) page (f .numbers))) (p .places) (omega (arith, ahead, within)) long-enough page-homes
+            ∙ rw more));
+      }
+
+pub surveyed-fails : (p : Parameters) (g : Growth) (f : File) (before : List ℕ) (from n : ℕ) (homes : List ℕ) (page : ℕ) → Surveyed p g f before from n homes page
+    → page < from + n → soundAt multiplier p g f page ≡ false → page ≡ firstUnsound p g f from n
+unfolding firstUnsound
+surveyed-fails p g f before from n homes page s h e = sought-found (unsound p g f) from n page (s .sought) h (ap not e)
+
+pub surveyed-all : (p : Parameters) (g : Growth) (f : File) (before : List ℕ) (from n : ℕ) (homes : List ℕ) (page : ℕ) → Surveyed p g f before from n homes page
+    → from + n ≤ page → page ≡ firstUnsound p g f from n
+unfolding firstUnsound
+surveyed-all p g f before from n homes page s h = sought-all (unsound p g f) from n page (s .sought) h
