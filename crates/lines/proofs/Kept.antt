@@ -1,13 +1,15 @@
 -- What is kept of a line means what the line means.
-use Prim.Native.Nat.{ℕ, suc, _+_, _<_, _≤_}
+use Prim.Native.Nat.{ℕ, zero, suc, _+_, _<_, _≤_}
 use native.Mathlib.Decide.{decLt}
 use native.Mathlib.Numerals.{add-one}
 use native.Mathlib.Omega.{arith}
-use mathlib.Core.List.{List, [], _∷_, _++_}
+use mathlib.Core.Bool.{Bool, true, false, cond}
+use mathlib.Core.List.{List, [], _∷_, _++_, map}
+use lib.Dec.{eqb, eqb·suc-zero}
 use mathlib.Core.Path.{_≡_, refl, sym, ap, _∙_}
-use lib.ListN.{length, take, set, length-take}
+use lib.ListN.{length, take, set, length-take, length-map}
 use lib.Seq.{take-all, take-take, take-append-le, length-take-le, take-suc-set}
-use Rattle.lines.specs.Grammar.{commandOf, kept}
+use Rattle.lines.specs.Grammar.{commandOf, kept, isEmpty, linesFrom}
 use Rattle.lines.specs.declared.Command.the-variants.{Bad}
 use Rattle.lines.proofs.Lengths.{long-bad}
 
@@ -19,22 +21,85 @@ kept-command l = go (decLt 64 (length l))
     go (yes p) = long-bad (take 65 l) (omega (arith, length-take-le 65 l p)) ∙ sym (long-bad l p)
     go (no p) = ap commandOf (take-all 65 l (omega arith))
 
-module _ (bytes : List ℕ) (whole : length bytes ≡ 72) (n b : ℕ) where
-  pub kept-long : 64 < n → commandOf (kept (take n bytes)) ≡ Bad
-  unfolding kept
-  kept-long h = long-bad (take 65 (take n bytes)) (simp length-take (omega arith))
+pub kept-then : (l : List ℕ) (b : ℕ) → kept (kept l ++ (b ∷ [])) ≡ kept (l ++ (b ∷ []))
+unfolding kept
+kept-then l b = go (decLt 64 (length l))
+  where
+    go : Dec (64 < length l) → take 65 (take 65 l ++ (b ∷ [])) ≡ take 65 (l ++ (b ∷ []))
+    go (yes p) =
+        take-append-le 65 (take 65 l) (b ∷ []) (simp length-take (omega arith))
+        ∙ take-take 65 65 l (omega arith)
+        ∙ sym (take-append-le 65 l (b ∷ []) p)
+    go (no p) = rw (take-all 65 l (omega arith))
 
-  pub kept-short : n ≤ 64 → kept (take n bytes) ≡ take n bytes
+pub kept-twice : (l : List ℕ) → kept (kept l) ≡ kept l
+unfolding kept
+kept-twice l = take-take 65 65 l (omega arith)
+
+same : (k m : List ℕ) → kept k ≡ kept m → commandOf k ≡ commandOf m
+same k m e = sym (kept-command k) ∙ ap commandOf e ∙ kept-command m
+
+-- a byte more of what is kept of a line
+pub kept-next : (k l : List ℕ) (b : ℕ) → kept k ≡ kept l → kept (k ++ (b ∷ [])) ≡ kept (l ++ (b ∷ []))
+kept-next k l b e = sym (kept-then k b) ∙ ap (λ (m : List ℕ). kept (m ++ (b ∷ []))) e ∙ kept-then l b
+
+pub kept-empty : (l : List ℕ) → isEmpty (kept l) ≡ isEmpty l
+unfolding kept isEmpty
+kept-empty [] = refl
+kept-empty (c ∷ l) = refl
+
+-- lines of which only the first bytes are kept mean the same commands
+pub commands-kept :
+    (l k m : List ℕ) → kept k ≡ kept m → map commandOf (linesFrom k l) ≡ map commandOf (linesFrom m l)
+unfolding linesFrom
+commands-kept [] k m e =
+    rw (sym (kept-empty k) ∙ ap isEmpty e ∙ kept-empty m) (go (isEmpty m))
+  where
+    go : (t : Bool) → map commandOf (cond t [] (k ∷ [])) ≡ map commandOf (cond t [] (m ∷ []))
+    go true = refl
+    go false = rw (same k m e)
+commands-kept (c ∷ l) k m e = go (eqb c 10) (commands-kept l (k ++ (c ∷ [])) (m ++ (c ∷ [])) (kept-next k m c e))
+  where
+    go :
+        (t : Bool) →
+        map commandOf (linesFrom (k ++ (c ∷ [])) l) ≡ map commandOf (linesFrom (m ++ (c ∷ [])) l) →
+        map commandOf (cond t (k ∷ linesFrom [] l) (linesFrom (k ++ (c ∷ [])) l))
+        ≡ map commandOf (cond t (m ∷ linesFrom [] l) (linesFrom (m ++ (c ∷ [])) l))
+    go true h = rw (same k m e)
+    go false h = h
+
+-- the bytes of a Line's array, of which `c .good` says how many they are
+pub counted : (bytes : List ℕ) → length (map (λ (v : ℕ). v) bytes) ≡ 72 → length bytes ≡ 72
+counted bytes e = sym (length-map {A = ℕ} bytes (λ v. v)) ∙ e
+
+module _ (bytes : List ℕ) (array : length (map (λ (v : ℕ). v) bytes) ≡ 72) (n b : ℕ) where
+  whole : length bytes ≡ 72
+  whole = counted bytes array
+
+  pub kept-long : 65 ≤ n → commandOf (kept (take n bytes)) ≡ Bad
   unfolding kept
-  kept-short h = take-all 65 (take n bytes) (simp length-take (omega arith))
+  kept-long h = long-bad (take 65 (take n bytes)) (simp length-take (omega (arith, whole)))
+
+  pub kept-short : n < 65 → kept (take n bytes) ≡ take n bytes
+  unfolding kept
+  kept-short h = take-all 65 (take n bytes) (simp length-take (omega (arith, whole)))
 
   -- no byte is kept after the 65th
-  pub kept-full : 64 < n → kept (take n bytes) ≡ kept (kept (take n bytes) ++ (b ∷ []))
+  pub kept-full : 65 ≤ n → kept (take n bytes) ≡ kept (kept (take n bytes) ++ (b ∷ []))
   unfolding kept
   kept-full h =
       sym
-      (take-append-le 65 (take 65 (take n bytes)) (b ∷ []) (simp length-take (omega arith))
+      (take-append-le 65 (take 65 (take n bytes)) (b ∷ []) (simp length-take (omega (arith, whole)))
       ∙ take-take 65 65 (take n bytes) (omega arith))
 
-  pub kept-more : n ≤ 64 → kept (take (n + 1) (set bytes n b)) ≡ kept (kept (take n bytes) ++ (b ∷ []))
-  kept-more h = rw (kept-short h, add-one n, take-suc-set bytes n b (omega arith))
+  pub kept-more : n < 65 → kept (take (n + 1) (set bytes n b)) ≡ kept (kept (take n bytes) ++ (b ∷ []))
+  kept-more h = rw (kept-short h, add-one n, take-suc-set bytes n b (omega (arith, whole)))
+
+  pub kept-none : isEmpty (kept (take n bytes)) ≡ eqb n 0
+  unfolding kept isEmpty
+  kept-none = go n bytes whole
+    where
+      go : (m : ℕ) (l : List ℕ) → length l ≡ 72 → isEmpty (kept (take m l)) ≡ eqb m 0
+      go zero l e = refl
+      go (suc m) [] e = absurd (omega arith)
+      go (suc m) (c ∷ l) e = sym (eqb·suc-zero m)

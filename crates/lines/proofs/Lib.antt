@@ -8,3 +8,4 @@ pub mod Commands
 pub mod Signs
 pub mod Lengths
 pub mod Kept
+pub mod Texts

@@ -127,6 +127,14 @@ byFields (f ∷ fs) = byLetter (letterOf f) fs
 unfoldable pub commandOf : List ℕ → Command
 commandOf l = byFields (fields l)
 
+-- the lines of the input after the bytes `begun` of one: a newline (byte 10) ends a line, and "the last line may lack it" unless it is empty
+unfoldable pub linesFrom : List ℕ → List ℕ → List (List ℕ)
+linesFrom begun [] = cond (isEmpty begun) [] (begun ∷ [])
+linesFrom begun (c ∷ l) = cond (eqb c 10) (begun ∷ linesFrom [] l) (linesFrom (begun ++ (c ∷ [])) l)
+
+abbrev pub linesOf : List ℕ → List (List ℕ)
+linesOf input = linesFrom [] input
+
 -- what is kept of a line while it is read: enough to tell that it is too long for a command
 unfoldable pub kept : List ℕ → List ℕ
 kept l = take 65 l

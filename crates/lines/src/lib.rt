@@ -3,7 +3,7 @@ ghost use Prim.Native.Nat.{ℕ, _+_, _-_, _*_, _≤_, _<_};
 ghost use mathlib.Core.Path.{_≡_};
 ghost use mathlib.Core.List.{List, [], _∷_, _++_};
 ghost use lib.ListN.{length, take, drop};
-ghost use Rattle.lines.specs.Grammar.{fields, fieldLength, commandOf, enterOf, lookUpOf, removeOf, naturalOf, declinationOf, kept, lineBytes};
+ghost use Rattle.lines.specs.Grammar.{fields, fieldLength, commandOf, enterOf, lookUpOf, removeOf, naturalOf, declinationOf, isEmpty, kept, lineBytes};
 ghost use Rattle.lines.specs.Replies.{digits, signedDigits, fieldBytes, replyBytes, Written};
 
 pub enum Command {
@@ -26,7 +26,10 @@ pub enum Declination {
     Nowhere,
 }
 
-// A line as it is read: its bytes so far, of which no more than 65 are kept.
+// Of a line no more bytes are kept: one with more than 64 is Bad.
+const KEPT: usize = 65;
+
+// A line as it is read: its bytes so far, the first KEPT of them.
 pub struct Line {
     pub bytes: [u8; 72],
     pub length: usize,
@@ -196,15 +199,15 @@ pub fn push(line: Line, byte: u8) -> Line
     ensures { λ r. ⌜ lineBytes r ≡ kept (lineBytes line ++ (byte ∷ [])) ⌝ }
 {
     let n = line.length;
-    if n > 64 {
-        return line;
+    if n < KEPT {
+        let mut bytes = line.bytes;
+        bytes[n] = byte;
+        return Line {
+            bytes,
+            length: n + 1,
+        };
     }
-    let mut bytes = line.bytes;
-    bytes[n] = byte;
-    Line {
-        bytes,
-        length: n + 1,
-    }
+    line
 }
 
 // A line of no bytes.
@@ -217,12 +220,18 @@ pub fn blank_line() -> Line
     }
 }
 
+pub fn is_blank(line: Line) -> bool
+    ensures { λ r. ⌜ r ≡ isEmpty (lineBytes line) ⌝ }
+{
+    line.length == 0
+}
+
 pub fn parse_line(line: Line) -> Command
     ensures { λ r. ⌜ r ≡ commandOf (lineBytes line) ⌝ }
 {
     let n = line.length;
     let bytes = line.bytes;
-    if n > 64 {
+    if n >= KEPT {
         return Command::Bad;
     }
     parse(&bytes[..n])
