@@ -1,0 +1,180 @@
+-- What applying a plan leaves: the planned pages with each source replaced by the star that it names.
+use mathlib.Core.Path.{_≡_, refl, sym, ap, _∙_}
+use mathlib.Core.Bool.{Bool, true, false, cond, not, _&&_, false≢true}
+use mathlib.Core.List.{List, [], _∷_, _++_, map, map-append}
+use Prim.Native.Nat.{ℕ, zero, suc, _+_, _-_, _*_}
+use native.Mathlib.Omega.{arith}
+use lib.Dec.{leb, eqb}
+use lib.ListN.{length, take, drop, replicate, length-map}
+use borrow.Author.Tests.{eqb-true}
+use Rattle.placement.specs.Rule.{Star, Contents, separators}
+use Rattle.placement.specs.File.{File, every, padded, column, written, replaced}
+use Rattle.placement.proofs.Mapping.{Keeps, mapped}
+use Rattle.waiting.specs.Lists.{filter, all}
+use Rattle.waiting.specs.Words.{lowOf, numberOf, sourceOf}
+use Rattle.waiting.specs.Gather.{group, groupOf, stretch}
+use Rattle.waiting.specs.Settle.{insertLow, pourLow, slotsOf, staying, passing, under, separatorOf}
+use Rattle.waiting.proofs.Lists.{all-head, all-tail, all-append, all-filter, all-mono}
+use Rattle.planning.specs.Sources.{named, renamed, sourced}
+use Rattle.planning.specs.Plans.{starOf, waits, settled, carriedOn, plans}
+use Rattle.planning.proofs.Pouring.{pour-cons}
+use Rattle.planning.proofs.Ties.{number-low}
+
+-- every star of these pages has the number that its source names
+abbrev pub Sourced : List ℕ → ℕ → List Contents → Type 0
+Sourced ns new [] = Unit {0}
+Sourced ns new (c ∷ cs) = (every (λ (s : Star). eqb (named ns new (s .word)) (s .number)) (c .stars) ≡ true) × Sourced ns new cs
+
+every-head : (q : Star → Bool) (s : Star) (l : List Star) → every q (s ∷ l) ≡ true → (q s ≡ true) × (every q l ≡ true)
+unfolding every
+every-head q s l = go (q s)
+  where
+    go : (t : Bool) → t && every q l ≡ true → (t ≡ true) × (every q l ≡ true)
+    go true e = (refl, e)
+    go false e = absurd (false≢true e)
+
+map-zeros : (f : ℕ → ℕ) (n : ℕ) → f 0 ≡ 0 → map f (replicate n 0) ≡ replicate n 0
+map-zeros f zero e = refl
+map-zeros f (suc n) e = rw (e, map-zeros f n e)
+
+-- a map of the items of a page's star fields
+map-padded : (b : ℕ) (f : ℕ → ℕ) (g h : Star → ℕ) (l : List Star) → f 0 ≡ 0 → map f (map g l) ≡ map h l → map f (padded b (map g l)) ≡ padded b (map h l)
+unfolding padded
+map-padded b f g h l e m =
+    map-append f (map g l) (replicate (b - length (map g l)) 0)
+    ∙ ap (λ (r : List ℕ). r ++ map f (replicate (b - length (map g l)) 0)) m
+    ∙ ap (λ (r : List ℕ). map h l ++ r) (map-zeros f (b - length (map g l)) e)
+    ∙ ap (λ (k : ℕ). map h l ++ replicate (b - k) 0) (length-map l g ∙ sym (length-map l h))
+
+named-zero : (l : List ℕ) (new : ℕ) → named l new 0 ≡ 0
+unfolding named
+named-zero l new = refl
+
+numbers-of : (ns : List ℕ) (new : ℕ) (l : List Star) → every (λ (s : Star). eqb (named ns new (s .word)) (s .number)) l ≡ true
+    → map (named ns new) (map (λ (s : Star). s .word) l) ≡ map (λ (s : Star). s .number) l
+numbers-of ns new [] e = refl
+numbers-of ns new (s ∷ l) e =
+    let t = every-head (λ (x : Star). eqb (named ns new (x .word)) (x .number)) s l e in
+    ap (λ (n : ℕ). n ∷ map (named ns new) (map (λ (x : Star). x .word) l)) (eqb-true (named ns new (s .word)) (s .number) (t .0))
+    ∙ ap (λ (r : List ℕ). s .number ∷ r) (numbers-of ns new l (t .1))
+
+words-of : (ws : List ℕ) (new : ℕ) (l : List Star) → map (named ws new) (map (λ (s : Star). s .word) l) ≡ map (λ (s : Star). renamed ws new s .word) l
+unfolding renamed
+words-of ws new [] = refl
+words-of ws new (s ∷ l) = ap (λ (r : List ℕ). named ws new (s .word) ∷ r) (words-of ws new l)
+
+words-renamed : (ws : List ℕ) (new : ℕ) (l : List Star) → map (λ (s : Star). renamed ws new s .word) l ≡ map (λ (s : Star). s .word) (map (renamed ws new) l)
+words-renamed ws new [] = refl
+words-renamed ws new (s ∷ l) = ap (λ (r : List ℕ). renamed ws new s .word ∷ r) (words-renamed ws new l)
+
+numbers-kept : (ws : List ℕ) (new : ℕ) (l : List Star) → map (λ (s : Star). s .number) (map (renamed ws new) l) ≡ map (λ (s : Star). s .number) l
+unfolding renamed
+numbers-kept ws new [] = refl
+numbers-kept ws new (s ∷ l) = ap (λ (r : List ℕ). s .number ∷ r) (numbers-kept ws new l)
+
+pub renamed-keeps : (ws : List ℕ) (new : ℕ) → Keeps (renamed ws new)
+unfolding renamed
+renamed-keeps ws new s = refl
+
+module _ (b : ℕ) (ns ws : List ℕ) (newnumber newword : ℕ) where
+  pub numbers-column : (cs : List Contents) → Sourced ns newnumber cs
+      → map (named ns newnumber) (column b (λ (s : Star). s .word) cs) ≡ column b (λ (s : Star). s .number) (map (mapped (renamed ws newword)) cs)
+  unfolding column
+  numbers-column [] e = refl
+  numbers-column (c ∷ cs) e =
+      map-append (named ns newnumber) (padded b (map (λ (s : Star). s .word) (c .stars))) (column b (λ (s : Star). s .word) cs)
+      ∙ ap (λ (r : List ℕ). r ++ map (named ns newnumber) (column b (λ (s : Star). s .word) cs))
+      (map-padded b (named ns newnumber) (λ (s : Star). s .word) (λ (s : Star). s .number) (c .stars) (named-zero ns newnumber) (numbers-of ns newnumber (c .stars) (e .0))
+      ∙ ap (padded b) (sym (numbers-kept ws newword (c .stars))))
+      ∙ ap (λ (r : List ℕ). padded b (map (λ (s : Star). s .number) (map (renamed ws newword) (c .stars))) ++ r) (numbers-column cs (e .1))
+
+  pub words-column : (cs : List Contents)
+      → map (named ws newword) (column b (λ (s : Star). s .word) cs) ≡ column b (λ (s : Star). s .word) (map (mapped (renamed ws newword)) cs)
+  unfolding column
+  words-column [] = refl
+  words-column (c ∷ cs) =
+      map-append (named ws newword) (padded b (map (λ (s : Star). s .word) (c .stars))) (column b (λ (s : Star). s .word) cs)
+      ∙ ap (λ (r : List ℕ). r ++ map (named ws newword) (column b (λ (s : Star). s .word) cs))
+      (map-padded b (named ws newword) (λ (s : Star). s .word) (λ (s : Star). renamed ws newword s .word) (c .stars) (named-zero ws newword) (words-of ws newword (c .stars))
+      ∙ ap (padded b) (words-renamed ws newword (c .stars)))
+      ∙ ap (λ (r : List ℕ). padded b (map (λ (s : Star). s .word) (map (renamed ws newword) (c .stars))) ++ r) (words-column cs)
+
+separators-mapped : (g : Star → Star) (cs : List Contents) → separators (map (mapped g) cs) ≡ separators cs
+unfolding separators
+separators-mapped g [] = refl
+separators-mapped g (c ∷ cs) = ap (λ (r : List ℕ). c .separator ∷ r) (separators-mapped g cs)
+
+-- the lists that `apply` leaves
+unfoldable pub applied : ℕ → ℕ → ℕ → ℕ → ℕ → List ℕ → List ℕ → File → File
+applied places lo count newnumber newword pool planned f =
+    record {
+      separators = written lo (take count (drop lo planned)) (f .separators);
+      numbers = written (lo * places) (map (named (f .numbers) newnumber) (stretch places lo count pool)) (f .numbers);
+      words = written (lo * places) (map (named (f .words) newword) (stretch places lo count pool)) (f .words);
+    }
+
+-- applying the plan of the pages cs replaces them
+pub applied-is : (places lo count newnumber newword : ℕ) (pool planned : List ℕ) (f : File) (cs : List Contents)
+    → stretch places lo count pool ≡ column places (λ (s : Star). s .word) cs → take count (drop lo planned) ≡ separators cs → Sourced (f .numbers) newnumber cs
+    → applied places lo count newnumber newword pool planned f ≡ replaced places f lo (map (mapped (renamed (f .words) newword)) cs)
+unfolding applied replaced
+applied-is places lo count newnumber newword pool planned f cs ep es so =
+    rw (
+      es,
+      ep,
+      separators-mapped (renamed (f .words) newword) cs,
+      numbers-column places (f .numbers) (f .words) newnumber newword cs so,
+      words-column places (f .numbers) (f .words) newnumber newword cs,
+    )
+
+-- ---- the plan's stars have sources that name their numbers
+
+every-insert : (q : Star → Bool) (x : ℕ) (l : List ℕ) → q (starOf x) ≡ true → every q (map starOf l) ≡ true → every q (map starOf (insertLow x l)) ≡ true
+unfolding every insertLow
+every-insert q x [] e h = rw e
+every-insert q x (y ∷ l) e h = go (leb x y) (every-head q (starOf y) (map starOf l) h) (every-insert q x l e)
+  where
+    go : (t : Bool) → (q (starOf y) ≡ true) × (every q (map starOf l) ≡ true) → (every q (map starOf l) ≡ true → every q (map starOf (insertLow x l)) ≡ true)
+        → every q (map starOf (cond t (x ∷ y ∷ l) (y ∷ insertLow x l))) ≡ true
+    go true t ih = rw (e, t .0, t .1)
+    go false t ih = rw (t .0, ih (t .1))
+
+pub every-waits : (q : Star → Bool) (l : List ℕ) → all (λ w. q (starOf (lowOf w))) l ≡ true → every q (waits l) ≡ true
+unfolding waits slotsOf
+every-waits q [] e = unfold every pourLow in refl
+every-waits q (x ∷ l) e =
+    ap (λ (s : List ℕ). every q (map starOf s)) (pour-cons (lowOf x) (map lowOf l) [])
+    ∙ every-insert q (lowOf x) (pourLow (map lowOf l) []) (all-head (λ w. q (starOf (lowOf w))) x l e) (every-waits q l (all-tail (λ w. q (starOf (lowOf w))) x l e))
+
+word-low : (w : ℕ) → starOf (lowOf w) .word ≡ sourceOf w
+unfolding starOf lowOf sourceOf
+word-low w = omega arith
+
+pub sourced-waits : (ns : List ℕ) (new : ℕ) (l : List ℕ) → sourced ns new l ≡ true → every (λ (s : Star). eqb (named ns new (s .word)) (s .number)) (waits l) ≡ true
+unfolding sourced
+sourced-waits ns new l e =
+    every-waits (λ (s : Star). eqb (named ns new (s .word)) (s .number)) l
+    (all-mono (λ w. eqb (named ns new (sourceOf w)) (numberOf w)) (λ w. eqb (named ns new (starOf (lowOf w) .word)) (starOf (lowOf w) .number)) l
+    (λ w t. rw (word-low w, number-low w) t) e)
+
+sourced-filter : (ns : List ℕ) (new : ℕ) (q : ℕ → Bool) (l : List ℕ) → sourced ns new l ≡ true → sourced ns new (filter q l) ≡ true
+unfolding sourced
+sourced-filter ns new q l = all-filter (λ w. eqb (named ns new (sourceOf w)) (numberOf w)) q l
+
+pub sourced-append : (ns : List ℕ) (new : ℕ) (a b : List ℕ) → sourced ns new a ≡ true → sourced ns new b ≡ true → sourced ns new (a ++ b) ≡ true
+unfolding sourced
+sourced-append ns new a b = all-append (λ w. eqb (named ns new (sourceOf w)) (numberOf w)) a b
+
+pub plans-sourced : (ns : List ℕ) (new bits room lo v n : ℕ) (w l : List ℕ) → sourced ns new w ≡ true → sourced ns new l ≡ true
+    → Sourced ns new (plans bits room lo v n w l)
+unfolding plans settled staying carriedOn passing
+plans-sourced ns new bits room lo v zero w l hw hl = tt
+plans-sourced ns new bits room lo v (suc n) w l hw hl =
+    let p : ℕ = lo + v in
+    let here : List ℕ = w ++ group lo v l in
+    let hh : sourced ns new here ≡ true = sourced-append ns new w (group lo v l) hw (sourced-filter ns new (λ x. eqb (groupOf lo x) v) l hl) in
+    let s : ℕ = separatorOf bits room p here in (
+      sourced-waits ns new (staying bits p s here) (sourced-filter ns new (under bits p s) here hh),
+      plans-sourced ns new bits room lo (suc v) n (carriedOn bits room p here) l
+          (sourced-filter ns new (λ x. not (under bits p s x)) here hh) hl,
+    )

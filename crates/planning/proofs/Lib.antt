@@ -1,0 +1,9 @@
+pub mod Copies
+pub mod Pouring
+pub mod Ties
+pub mod Applying
+pub mod Sourcing
+pub mod Blocks
+pub mod Slots
+pub mod Stretch
+pub mod Placed

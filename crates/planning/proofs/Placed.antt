@@ -1,0 +1,245 @@
+-- The plan in the rule's terms: what the planned pages are, with the words that their sources name, and what applying them leaves.
+use mathlib.Core.Path.{_≡_, refl, sym, ap, _∙_}
+use mathlib.Core.Bool.{true}
+use mathlib.Core.List.{List, [], _∷_, _++_, map}
+use Prim.Native.Nat.{ℕ, _+_, _*_, _^_, _≤_, _<_}
+use native.Mathlib.Nat.{add-zero, add-mul, le-refl, mul-one}
+use native.Mathlib.Numerals.{add-one}
+use native.Mathlib.Omega.{arith}
+use lib.ListN.{length, take, drop, length-drop, take-append-drop}
+use lib.Seq.{take-at, drop-at, length-take-le, drop-append-le, take-append-le, take-add, drop-drop}
+use borrow.Author.Tests.{eq-eqb, le-leb}
+use Rattle.hashing.specs.declared.Parameters.{Parameters}
+use Rattle.hashing.specs.declared.Growth.{Growth}
+use Rattle.hashing.specs.Generator.{multiplier}
+use Rattle.hashing.specs.Home.{home}
+use Rattle.placement.specs.Rule.{Star, Hash, Contents, pages, left, insert, without, separators}
+use Rattle.placement.specs.File.{File, gathered, column, written, replaced}
+use Rattle.placement.specs.Hash.{hashOf, homesOf}
+use Rattle.placement.proofs.Mapping.{mapped, pages-map, left-map}
+use Rattle.placement.proofs.Standing.{length-separators}
+use Rattle.placement.proofs.Writing.{length-column, column-append, separators-append}
+use Rattle.waiting.specs.Lists.{all, allBelow}
+use Rattle.waiting.specs.Words.{pack}
+use Rattle.waiting.specs.Gather.{stretch, grouped, groupsBelow}
+use Rattle.waiting.specs.Settle.{homesUpTo}
+use Rattle.waiting.proofs.Packing.{home-pack, number-pack, source-pack}
+use Rattle.planning.specs.Sources.{named, renamed, sourced}
+use Rattle.planning.specs.Plans.{stretchWords, waits, homed, plans, remains, Planned}
+use Rattle.planning.proofs.Pouring.{waits-grouped}
+use Rattle.planning.proofs.Ties.{Probes, plans-are}
+use Rattle.planning.proofs.Applying.{renamed-keeps, plans-sourced, applied, applied-is}
+use Rattle.planning.proofs.Sourcing.{itemHome, words-homed, words-grouped, words-sourced, words-fresh, fresh, named-stretch, named-last, length-stretch, true-stars, new-star}
+use Rattle.planning.proofs.Stretch.{plans-roomy, length-plans}
+use Rattle.planning.proofs.Blocks.{from, plans-blocks}
+
+-- document 01's hash probes as the words do
+pub probes-real : (p : Parameters) (g : Growth) → Probes (hashOf multiplier p g) (p .bits) (p .places)
+unfolding hashOf
+probes-real p g = record { signatures = λ k page. refl; top = refl; room-is = refl }
+
+pub homes-real : (p : Parameters) (g : Growth) (ns : List ℕ) → homesOf multiplier p g ns ≡ map (itemHome (hashOf multiplier p g)) ns
+unfolding hashOf homesOf itemHome
+homes-real p g ns = refl
+
+-- the planned pages are the rule's over the waiting list of all words
+pub planned-pages : (H : Hash) (bits room : ℕ) → Probes H bits room → (lo n : ℕ) (w l : List ℕ)
+    → homed H w ≡ true → homesUpTo lo w ≡ true → homed H l ≡ true → groupsBelow lo n l ≡ true
+    → (plans bits room lo 0 n w l ≡ pages H lo n (waits (w ++ l))) × (waits (remains bits room lo 0 n w l) ≡ left H lo n (waits (w ++ l)))
+planned-pages H bits room real lo n w l hw nw hl gl =
+    let t = rw (add-zero lo) at (plans-are H bits room real lo 0 n w l hw (rw (add-zero lo) nw) hl) in
+    let same : waits (w ++ grouped lo 0 n l) ≡ waits (w ++ l) = waits-grouped lo n w l gl in
+    (sym (t .0) ∙ ap (pages H lo n) same, sym (t .1) ∙ ap (left H lo n) same)
+
+-- the word of an entry's new star
+pub new-homed : (H : Hash) (h k s : ℕ) → h ≡ H .home k → k < 2 ^ 31 → s < 2 ^ 16 → homed H (pack h k s ∷ []) ≡ true
+unfolding homed all
+new-homed H h k s e hk hs = rw (number-pack h k s hk hs, home-pack h k s hk hs, eq-eqb (H .home k) h (sym e))
+
+pub new-near : (lo h k s : ℕ) → h ≤ lo → k < 2 ^ 31 → s < 2 ^ 16 → homesUpTo lo (pack h k s ∷ []) ≡ true
+unfolding all
+new-near lo h k s le hk hs = rw (home-pack h k s hk hs, le-leb h lo le)
+
+pub new-sourced : (ns : List ℕ) (h k : ℕ) → k < 2 ^ 31 → length ns + 1 < 2 ^ 16 → sourced ns k (pack h k (length ns + 1) ∷ []) ≡ true
+unfolding sourced all
+new-sourced ns h k hk hs =
+    let last : named ns k (length ns + 1) ≡ k = ap (named ns k) (add-one (length ns)) ∙ named-last ns k in
+    rw (number-pack h k (length ns + 1) hk hs, source-pack h k (length ns + 1) hs, last, eq-eqb k k refl)
+
+-- what a stretch of n pages from lo must satisfy: its items' homes are hs
+pub record Ready (H : Hash) (places lo n : ℕ) (f : File) (hs : List ℕ) : Type 0 where
+  pub some : 0 < n
+  pub few : (lo + n) * places < 2 ^ 16
+  pub numbers : (lo + n) * places ≤ length (f .numbers)
+  pub words : (lo + n) * places ≤ length (f .words)
+  pub homes : (lo + n) * places ≤ length hs
+  pub valid : allBelow (2 ^ 31) (stretch places lo n (f .numbers)) ≡ true
+  pub within : allBelow (lo + n) (stretch places lo n hs) ≡ true
+  pub true-homes : stretch places lo n hs ≡ map (itemHome H) (stretch places lo n (f .numbers))
+
+module _ (H : Hash) (bits places : ℕ) (real : Probes H bits places) (lo n : ℕ) (f : File) (hs : List ℕ) (R : Ready H places lo n f hs) (k newword : ℕ) where
+  few-items : lo * places + length (stretch places lo n (f .numbers)) < 2 ^ 16
+  few-items = omega (arith, length-stretch places lo n (f .numbers) (R .numbers), add-mul lo n places, R .few)
+
+  pub stretch-homed : homed H (stretchWords places lo n k (f .numbers) hs) ≡ true
+  stretch-homed = words-homed (lo * places) k (stretch places lo n (f .numbers)) (stretch places lo n hs) (R .valid) few-items H (R .true-homes)
+
+  pub stretch-grouped : groupsBelow lo n (stretchWords places lo n k (f .numbers) hs) ≡ true
+  stretch-grouped = words-grouped (lo * places) k (stretch places lo n (f .numbers)) (stretch places lo n hs) (R .valid) few-items lo n (R .some) (R .within)
+
+  pub stretch-sourced : (newnumber : ℕ) → sourced (f .numbers) newnumber (stretchWords places lo n k (f .numbers) hs) ≡ true
+  stretch-sourced newnumber =
+      words-sourced (lo * places) k (stretch places lo n (f .numbers)) (stretch places lo n hs) (R .valid) few-items (f .numbers) newnumber
+      (named-stretch places lo n newnumber (f .numbers) (R .numbers))
+
+  stretch-fresh : fresh k (stretchWords places lo n k (f .numbers) hs) ≡ true
+  stretch-fresh = words-fresh (lo * places) k (stretch places lo n (f .numbers)) (stretch places lo n hs) (R .valid) few-items
+
+  stretch-stars : map (renamed (f .words) newword) (waits (stretchWords places lo n k (f .numbers) hs)) ≡ without k (gathered places f lo n)
+  stretch-stars = true-stars places lo n k newword f hs (R .valid) (R .few) (R .numbers) (R .words) (R .homes)
+
+  -- any words w carried in: the rule over the stars that these and the stretch's words name
+  placed-with : (w : List ℕ) (t : List Star) → homed H w ≡ true → homesUpTo lo w ≡ true
+      → map (renamed (f .words) newword) (waits (w ++ stretchWords places lo n k (f .numbers) hs)) ≡ t
+      → (map (mapped (renamed (f .words) newword)) (plans bits places lo 0 n w (stretchWords places lo n k (f .numbers) hs)) ≡ pages H lo n t)
+      × (map (renamed (f .words) newword) (waits (remains bits places lo 0 n w (stretchWords places lo n k (f .numbers) hs))) ≡ left H lo n t)
+  placed-with w t hw nw e =
+      let g : Star → Star = renamed (f .words) newword in
+      let l : List ℕ = stretchWords places lo n k (f .numbers) hs in
+      let both = planned-pages H bits places real lo n w l hw nw stretch-homed stretch-grouped in (
+        ap (map (mapped g)) (both .0) ∙ sym (pages-map g (renamed-keeps (f .words) newword) H lo n (waits (w ++ l))) ∙ ap (pages H lo n) e,
+        ap (map g) (both .1) ∙ sym (left-map g (renamed-keeps (f .words) newword) H lo n (waits (w ++ l))) ∙ ap (left H lo n) e,
+      )
+
+  -- the stretch by itself: the rule over its stars but the star k
+  pub placed : (map (mapped (renamed (f .words) newword)) (plans bits places lo 0 n [] (stretchWords places lo n k (f .numbers) hs)) ≡ pages H lo n (without k (gathered places f lo n)))
+      × (map (renamed (f .words) newword) (waits (remains bits places lo 0 n [] (stretchWords places lo n k (f .numbers) hs))) ≡ left H lo n (without k (gathered places f lo n)))
+  placed = placed-with [] (without k (gathered places f lo n)) (unfold homed all in refl) (unfold all in refl) stretch-stars
+
+  -- .. and with the new star k, whose source is past the items
+  pub placed-new : (h : ℕ) → h ≡ H .home k → h ≤ lo → k < 2 ^ 31 → length (f .words) + 1 < 2 ^ 16
+      → (map (mapped (renamed (f .words) newword)) (plans bits places lo 0 n (pack h k (length (f .words) + 1) ∷ []) (stretchWords places lo n k (f .numbers) hs))
+      ≡ pages H lo n (insert (record { number = k; word = newword }) (without k (gathered places f lo n))))
+      × (map (renamed (f .words) newword) (waits (remains bits places lo 0 n (pack h k (length (f .words) + 1) ∷ []) (stretchWords places lo n k (f .numbers) hs)))
+      ≡ left H lo n (insert (record { number = k; word = newword }) (without k (gathered places f lo n))))
+  placed-new h eh near hk few =
+      let s : ℕ = length (f .words) + 1 in
+      let x : ℕ = pack h k s in
+      let l : List ℕ = stretchWords places lo n k (f .numbers) hs in
+      let last : named (f .words) newword s ≡ newword = ap (named (f .words) newword) (add-one (length (f .words))) ∙ named-last (f .words) newword in
+      placed-with (x ∷ []) (insert (record { number = k; word = newword }) (without k (gathered places f lo n)))
+      (new-homed H h k s eh hk few) (new-near lo h k s near hk few)
+      (new-star (f .words) newword h k s l hk few stretch-fresh ∙ ap (λ (y : ℕ). insert (record { number = k; word = y }) (map (renamed (f .words) newword) (waits l))) last
+      ∙ ap (insert (record { number = k; word = newword })) stretch-stars)
+
+-- ---- what the plan leaves, applied
+
+-- what was written is there
+stretch-written : (b lo n : ℕ) (s d : List ℕ) → length s ≡ n * b → lo * b ≤ length d → stretch b lo n (written (lo * b) s d) ≡ s
+unfolding written
+stretch-written b lo n s d e h =
+    ap (take (n * b)) (drop-at (take (lo * b) d) (s ++ drop (lo * b + length s) d) (lo * b) (length-take-le (lo * b) d h))
+    ∙ take-at s (drop (lo * b + length s) d) (n * b) e
+
+taken-written : (at n : ℕ) (s d : List ℕ) → length s ≡ n → at ≤ length d → take n (drop at (written at s d)) ≡ s
+taken-written at n s d e h = simp mul-one at (stretch-written 1 at n s d (e ∙ sym (mul-one n)) (rw (mul-one at) h))
+
+pub stretch-add : (b lo n m : ℕ) (l : List ℕ) → stretch b lo (n + m) l ≡ stretch b lo n l ++ stretch b (lo + n) m l
+stretch-add b lo n m l =
+    ap (λ (k : ℕ). take k (drop (lo * b) l)) (add-mul n m b)
+    ∙ take-add (n * b) (m * b) (drop (lo * b) l)
+    ∙ ap (λ (x : List ℕ). stretch b lo n l ++ take (m * b) x) (drop-drop (n * b) (lo * b) l ∙ ap (λ (k : ℕ). drop k l) (sym (add-mul lo n b)))
+
+-- a stretch before what is written stays
+pub stretch-before : (b lo n at : ℕ) (s d : List ℕ) → (lo + n) * b ≤ at → at ≤ length d → stretch b lo n (written at s d) ≡ stretch b lo n d
+unfolding written
+stretch-before b lo n at s d h k =
+    let inside : lo * b + n * b ≤ at = omega (arith, add-mul lo n b) in
+    front (take at d) (s ++ drop (at + length s) d) (rw (length-take-le at d k) inside) ∙ sym (sym-front inside)
+  where
+    front : (x y : List ℕ) → lo * b + n * b ≤ length x → stretch b lo n (x ++ y) ≡ stretch b lo n x
+    front x y le =
+        ap (take (n * b)) (drop-append-le (lo * b) x y (omega arith))
+        ∙ take-append-le (n * b) (drop (lo * b) x) y (rw (length-drop (lo * b) x) (omega arith))
+
+    sym-front : lo * b + n * b ≤ at → stretch b lo n d ≡ stretch b lo n (take at d)
+    sym-front le = ap (stretch b lo n) (sym (take-append-drop at d)) ∙ front (take at d) (drop at d) (rw (length-take-le at d k) le)
+
+-- a stretch that goes on with what is written
+stretch-on : (b lo n m : ℕ) (s d : List ℕ) → length s ≡ m * b → (lo + n) * b ≤ length d
+    → stretch b lo (n + m) (written ((lo + n) * b) s d) ≡ stretch b lo n d ++ s
+stretch-on b lo n m s d e h =
+    stretch-add b lo n m (written ((lo + n) * b) s d)
+    ∙ ap (λ (x : List ℕ). x ++ stretch b (lo + n) m (written ((lo + n) * b) s d)) (stretch-before b lo n ((lo + n) * b) s d (le-refl ((lo + n) * b)) h)
+    ∙ ap (λ (x : List ℕ). stretch b lo n d ++ x) (stretch-written b (lo + n) m s d e h)
+
+taken-on : (lo n m : ℕ) (s d : List ℕ) → length s ≡ m → lo + n ≤ length d → take (n + m) (drop lo (written (lo + n) s d)) ≡ take n (drop lo d) ++ s
+taken-on lo n m s d e h = simp mul-one at (stretch-on 1 lo n m s d (e ∙ sym (mul-one m)) (rw (mul-one (lo + n)) h))
+
+-- what has been planned of n pages from lo: the sources in the pool, the separators, and the r words carried past
+pub record Layout (bits places lo n : ℕ) (w l pool planned W : List ℕ) (r : ℕ) : Type 0 where
+  pub sources : stretch places lo n pool ≡ column places (λ (s : Star). s .word) (plans bits places lo 0 n w l)
+  pub separators-are : take n (drop lo planned) ≡ separators (plans bits places lo 0 n w l)
+  pub passed : take r W ≡ remains bits places lo 0 n w l
+  pub counted : r ≡ length (remains bits places lo 0 n w l)
+
+length-sources : (bits places lo n : ℕ) (w l : List ℕ) → length (column places (λ (s : Star). s .word) (plans bits places lo 0 n w l)) ≡ n * places
+length-sources bits places lo n w l =
+    length-column places (λ (s : Star). s .word) (plans bits places lo 0 n w l) (plans-roomy bits places lo 0 n w l)
+    ∙ ap (λ (m : ℕ). m * places) (length-plans bits places lo 0 n w l)
+
+length-planned : (bits places lo n : ℕ) (w l : List ℕ) → length (separators (plans bits places lo 0 n w l)) ≡ n
+length-planned bits places lo n w l = length-separators (plans bits places lo 0 n w l) ∙ length-plans bits places lo 0 n w l
+
+pub layout : (bits places lo n : ℕ) (w l pool pool′ planned planned′ W′ : List ℕ) (r : ℕ)
+    → Planned bits places lo n w l pool pool′ planned planned′ W′ r → (lo + n) * places ≤ length pool → lo + n ≤ length planned
+    → Layout bits places lo n w l pool′ planned′ W′ r
+layout bits places lo n w l pool pool′ planned planned′ W′ r P hp hd =
+    record {
+      sources =
+          ap (stretch places lo n) (P .sources)
+          ∙ stretch-written places lo n (column places (λ (s : Star). s .word) (plans bits places lo 0 n w l)) pool (length-sources bits places lo n w l) (omega (arith, add-mul lo n places));
+      separators-are =
+          ap (λ (m : List ℕ). take n (drop lo m)) (P .separators-are)
+          ∙ taken-written lo n (separators (plans bits places lo 0 n w l)) planned (length-planned bits places lo n w l) (omega arith);
+      passed = P .passed;
+      counted = P .counted;
+    }
+
+-- the next stretch planned: where none of its words b is homed below it, the two are one
+pub layout-next : (bits places lo n m : ℕ) (w a b pool pool′ planned planned′ W W′ : List ℕ) (r r′ : ℕ)
+    → groupsBelow lo n a ≡ true → from (lo + n) b ≡ true → (lo + n) * places ≤ length pool → lo + n ≤ length planned
+    → Layout bits places lo n w a pool planned W r → Planned bits places (lo + n) m (take r W) b pool pool′ planned planned′ W′ r′
+    → Layout bits places lo (n + m) w (a ++ b) pool′ planned′ W′ r′
+layout-next bits places lo n m w a b pool pool′ planned planned′ W W′ r r′ ga fb hp hd A P =
+    let both = plans-blocks bits places lo n m w a b ga fb in
+    let cs : List Contents = plans bits places lo 0 n w a in
+    let ds : List Contents = plans bits places (lo + n) 0 m (take r W) b in
+    let all-pages : plans bits places lo 0 (n + m) w (a ++ b) ≡ cs ++ ds
+    = both .0 ∙ ap (λ (u : List ℕ). cs ++ plans bits places (lo + n) 0 m u b) (sym (A .passed)) in
+    let past : remains bits places (lo + n) 0 m (take r W) b ≡ remains bits places lo 0 (n + m) w (a ++ b)
+    = ap (λ (u : List ℕ). remains bits places (lo + n) 0 m u b) (A .passed) ∙ sym (both .1) in
+    record {
+      sources =
+          ap (stretch places lo (n + m)) (P .sources)
+          ∙ stretch-on places lo n m (column places (λ (s : Star). s .word) ds) pool (length-sources bits places (lo + n) m (take r W) b) hp
+          ∙ ap (λ (x : List ℕ). x ++ column places (λ (s : Star). s .word) ds) (A .sources)
+          ∙ sym (column-append places (λ (s : Star). s .word) cs ds)
+          ∙ ap (column places (λ (s : Star). s .word)) (sym all-pages);
+      separators-are =
+          ap (λ (x : List ℕ). take (n + m) (drop lo x)) (P .separators-are)
+          ∙ taken-on lo n m (separators ds) planned (length-planned bits places (lo + n) m (take r W) b) hd
+          ∙ ap (λ (x : List ℕ). x ++ separators ds) (A .separators-are)
+          ∙ sym (separators-append cs ds)
+          ∙ ap separators (sym all-pages);
+      passed = P .passed ∙ past;
+      counted = P .counted ∙ ap length past;
+    }
+
+-- applying the plan replaces the stretch by the planned pages, with the words that the sources name
+pub applied-layout : (bits places lo n newnumber newword : ℕ) (f : File) (w l pool planned W : List ℕ) (r : ℕ) → Layout bits places lo n w l pool planned W r
+    → sourced (f .numbers) newnumber w ≡ true → sourced (f .numbers) newnumber l ≡ true
+    → applied places lo n newnumber newword pool planned f ≡ replaced places f lo (map (mapped (renamed (f .words) newword)) (plans bits places lo 0 n w l))
+applied-layout bits places lo n newnumber newword f w l pool planned W r A sw sl =
+    applied-is places lo n newnumber newword pool planned f (plans bits places lo 0 n w l) (A .sources) (A .separators-are)
+    (plans-sourced (f .numbers) newnumber bits places lo 0 n w l sw sl)

@@ -1,0 +1,357 @@
+-- The stretch's words: they carry true homes, fall into the stretch's groups, name their sources, and stand for the stretch's stars.
+use mathlib.Core.Path.{_≡_, refl, sym, ap, _∙_}
+use mathlib.Core.Bool.{Bool, true, false, cond, not, _&&_, _||_, false≢true}
+use mathlib.Core.List.{List, [], _∷_, _++_, map}
+use Prim.Native.Nat.{ℕ, zero, suc, _+_, _-_, _*_, _/_, _%_, _^_, _≤_, _<_}
+use native.Mathlib.Nat.{le-refl, add-mul, mul-le-mul-right, suc-mul, zero-mul, add-suc, suc-add, add-zero, add-comm}
+use native.Mathlib.Decide.{decLe}
+use native.Mathlib.Omega.{arith}
+use lib.Dec.{leb, ltb, eqb}
+use lib.ListN.{length, take, drop, getD, length-drop, List·getD-map, List·getD-eq-default}
+use lib.Seq.{getD-take, getD-drop, take-add, drop-drop, length-take-le}
+use borrow.Author.Tests.{le-leb, lt-leb, lt-ltb, leb-true, leb-false, ltb-true, eq-eqb, eqb-false, not-true}
+use Rattle.placement.specs.Rule.{Star, Hash, keep, insert, pour, without}
+use Rattle.placement.specs.Rule.{filter as select}
+use Rattle.pages.specs.Page.{part}
+use Rattle.placement.specs.File.{File, starsOf, starsAt, gathered}
+use Rattle.placement.proofs.Order.{pour-append}
+use Rattle.placement.proofs.Order.{filter-pour as select-pour}
+use Rattle.placement.proofs.Mapping.{pour-map, insert-map}
+use Rattle.waiting.specs.Lists.{all, allBelow}
+use Rattle.waiting.specs.Words.{pack, homeOf, numberOf, sourceOf, lowOf}
+use Rattle.waiting.specs.Gather.{skipped, wordsFrom, groupOf, groupsBelow, stretch}
+use Rattle.waiting.specs.Settle.{insertLow, pourLow, slotsOf}
+use Rattle.waiting.proofs.Lists.{all-head, all-tail, all-cons, all-getD, all-mono}
+use Rattle.waiting.proofs.Packing.{home-pack, number-pack, source-pack}
+use Rattle.planning.specs.Sources.{named, renamed, sourced}
+use Rattle.planning.specs.Plans.{starOf, waits, homed}
+use Rattle.planning.proofs.Pouring.{pour-cons}
+use Rattle.planning.proofs.Copies.{within}
+use Rattle.planning.proofs.Applying.{renamed-keeps}
+
+-- a test that every word of the items passes
+all-words : (q : ℕ → Bool) (at k : ℕ) (ns hs : List ℕ)
+    → ((i : ℕ) → i < length ns → i < length hs → skipped k (getD ns i 0) ≡ false → q (pack (getD hs i 0) (getD ns i 0) (suc (at + i))) ≡ true)
+    → all q (wordsFrom at k ns hs) ≡ true
+unfolding wordsFrom
+all-words q at k [] hs t = unfold all in refl
+all-words q at k (n ∷ ns) [] t = unfold all in refl
+all-words q at k (n ∷ ns) (h ∷ hs) t =
+    go (skipped k n) refl (all-words q (suc at) k ns hs (λ i a b e. rw (suc-add at i, ← add-suc at i) (t (suc i) (omega arith) (omega arith) e)))
+  where
+    go : (s : Bool) → skipped k n ≡ s → all q (wordsFrom (suc at) k ns hs) ≡ true
+        → all q (cond s (wordsFrom (suc at) k ns hs) (pack h n (suc at) ∷ wordsFrom (suc at) k ns hs)) ≡ true
+    go true e ih = ih
+    go false e ih =
+        all-cons q (pack h n (suc at)) (wordsFrom (suc at) k ns hs)
+        (rw (add-zero at) at (t 0 (omega arith) (omega arith) e)) ih
+
+item-below : (b : ℕ) (l : List ℕ) (i : ℕ) → allBelow b l ≡ true → i < length l → getD l i 0 < b
+item-below b l i e h = ltb-true (getD l i 0) b (all-getD (λ x. ltb x b) l i e h)
+
+unskipped : (k n : ℕ) → skipped k n ≡ false → (eqb n 0 ≡ false) × (eqb n k ≡ false)
+unfolding skipped
+unskipped k n = go (eqb n 0) (eqb n k)
+  where
+    go : (s t : Bool) → s || t ≡ false → (s ≡ false) × (t ≡ false)
+    go true t e = absurd (false≢true (sym e))
+    go false t e = (refl, e)
+
+-- the home of an item's star, 0 for an empty place
+unfoldable pub itemHome : Hash → ℕ → ℕ
+itemHome H n = cond (eqb n 0) 0 (H .home n)
+
+module _ (at k : ℕ) (ns hs : List ℕ) (valid : allBelow (2 ^ 31) ns ≡ true) (items : at + length ns < 2 ^ 16) where
+  pub words-homed : (H : Hash) → hs ≡ map (itemHome H) ns → homed H (wordsFrom at k ns hs) ≡ true
+  unfolding homed itemHome
+  words-homed H e =
+      all-words (λ w. eqb (H .home (numberOf w)) (homeOf w)) at k ns hs
+      (λ i a b s.
+      let small : getD ns i 0 < 2 ^ 31 = item-below (2 ^ 31) ns i valid a in
+      let there : getD hs i 0 ≡ H .home (getD ns i 0) =
+      ap (λ (l : List ℕ). getD l i 0) e ∙ List·getD-map (itemHome H) ns i 0 ∙ rw (unskipped k (getD ns i 0) s .0) in
+      rw (number-pack (getD hs i 0) (getD ns i 0) (suc (at + i)) small (omega arith), home-pack (getD hs i 0) (getD ns i 0) (suc (at + i)) small (omega arith))
+      (eq-eqb (H .home (getD ns i 0)) (getD hs i 0) (sym there)))
+
+  pub words-grouped : (lo n : ℕ) → 0 < n → allBelow (lo + n) hs ≡ true → groupsBelow lo n (wordsFrom at k ns hs) ≡ true
+  unfolding groupOf
+  words-grouped lo n some e =
+      all-words (λ w. ltb (groupOf lo w) n) at k ns hs
+      (λ i a b s.
+      let small : getD ns i 0 < 2 ^ 31 = item-below (2 ^ 31) ns i valid a in
+      let low : getD hs i 0 < lo + n = item-below (lo + n) hs i e b in
+      rw (home-pack (getD hs i 0) (getD ns i 0) (suc (at + i)) small (omega arith))
+      (lt-ltb (getD hs i 0 - lo) n (omega arith)))
+
+  pub words-sourced : (all-numbers : List ℕ) (new : ℕ) → ((i : ℕ) → i < length ns → named all-numbers new (suc (at + i)) ≡ getD ns i 0)
+      → sourced all-numbers new (wordsFrom at k ns hs) ≡ true
+  unfolding sourced
+  words-sourced l new e =
+      all-words (λ w. eqb (named l new (sourceOf w)) (numberOf w)) at k ns hs
+      (λ i a b s.
+      let small : getD ns i 0 < 2 ^ 31 = item-below (2 ^ 31) ns i valid a in
+      rw (number-pack (getD hs i 0) (getD ns i 0) (suc (at + i)) small (omega arith), source-pack (getD hs i 0) (getD ns i 0) (suc (at + i)) (omega arith))
+      (eq-eqb (named l new (suc (at + i))) (getD ns i 0) (e i a)))
+
+-- ---- the order of low parts is the rule's order
+
+-- the star of x goes before that of y, whichever is inserted later
+unfoldable pub leads : ℕ → ℕ → Bool
+leads x y = leb x y || ltb (y / 2 ^ 16) (x / 2 ^ 16)
+
+leads-same : (x y : ℕ) → leads x y ≡ true → leb x y ≡ leb (x / 2 ^ 16) (y / 2 ^ 16)
+unfolding leads
+leads-same x y = go (leb x y) refl
+  where
+    go : (t : Bool) → leb x y ≡ t → t || ltb (y / 2 ^ 16) (x / 2 ^ 16) ≡ true → t ≡ leb (x / 2 ^ 16) (y / 2 ^ 16)
+    go true e l = sym (le-leb (x / 2 ^ 16) (y / 2 ^ 16) (omega (arith, leb-true x y e)))
+    go false e l = sym (lt-leb (x / 2 ^ 16) (y / 2 ^ 16) (ltb-true (y / 2 ^ 16) (x / 2 ^ 16) l))
+
+-- a word before all of a list
+unfoldable pub led : ℕ → List ℕ → Bool
+led x l = all (λ y. leads (lowOf x) (lowOf y)) l
+
+-- each word before all later ones
+unfoldable pub ordered : List ℕ → Bool
+ordered [] = true
+ordered (x ∷ l) = led x l && ordered l
+
+star-insert : (x : ℕ) (l : List ℕ) → all (leads x) l ≡ true → map starOf (insertLow x l) ≡ insert (starOf x) (map starOf l)
+unfolding insertLow insert starOf
+star-insert x [] e = refl
+star-insert x (y ∷ l) e =
+    ap (λ (t : Bool). map starOf (cond t (x ∷ y ∷ l) (y ∷ insertLow x l))) (leads-same x y (all-head (leads x) y l e))
+    ∙ go (leb (x / 2 ^ 16) (y / 2 ^ 16)) (star-insert x l (all-tail (leads x) y l e))
+  where
+    go : (t : Bool) → map starOf (insertLow x l) ≡ insert (starOf x) (map starOf l)
+        → map starOf (cond t (x ∷ y ∷ l) (y ∷ insertLow x l)) ≡ cond t (starOf x ∷ starOf y ∷ map starOf l) (starOf y ∷ insert (starOf x) (map starOf l))
+    go true ih = refl
+    go false ih = ap (λ (s : List Star). starOf y ∷ s) ih
+
+all-insert : (q : ℕ → Bool) (x : ℕ) (l : List ℕ) → q x ≡ true → all q l ≡ true → all q (insertLow x l) ≡ true
+unfolding insertLow
+all-insert q x [] e h = all-cons q x [] e h
+all-insert q x (y ∷ l) e h = go (leb x y) (all-insert q x l e (all-tail q y l h))
+  where
+    go : (t : Bool) → all q (insertLow x l) ≡ true → all q (cond t (x ∷ y ∷ l) (y ∷ insertLow x l)) ≡ true
+    go true ih = all-cons q x (y ∷ l) e h
+    go false ih = all-cons q y (insertLow x l) (all-head q y l h) ih
+
+all-slots : (q : ℕ → Bool) (l : List ℕ) → all (λ w. q (lowOf w)) l ≡ true → all q (slotsOf l) ≡ true
+unfolding slotsOf
+all-slots q [] e = unfold all pourLow in refl
+all-slots q (x ∷ l) e =
+    ap (all q) (pour-cons (lowOf x) (map lowOf l) [])
+    ∙ all-insert q (lowOf x) (pourLow (map lowOf l) []) (all-head (λ w. q (lowOf w)) x l e) (all-slots q l (all-tail (λ w. q (lowOf w)) x l e))
+
+-- one more word is one more star inserted
+pub waits-cons : (x : ℕ) (l : List ℕ) → led x l ≡ true → waits (x ∷ l) ≡ insert (starOf (lowOf x)) (waits l)
+unfolding waits slotsOf led
+waits-cons x l e =
+    ap (map starOf) (pour-cons (lowOf x) (map lowOf l) [])
+    ∙ star-insert (lowOf x) (slotsOf l) (all-slots (leads (lowOf x)) l e)
+
+both : (s t : Bool) → s && t ≡ true → (s ≡ true) × (t ≡ true)
+both true t e = (refl, e)
+both false t e = absurd (false≢true e)
+
+pub waits-poured : (l : List ℕ) → ordered l ≡ true → waits l ≡ pour (map (λ w. starOf (lowOf w)) l) []
+unfolding ordered pour
+waits-poured [] e = unfold waits slotsOf pourLow in refl
+waits-poured (x ∷ l) e =
+    let t = both (led x l) (ordered l) e in
+    waits-cons x l (t .0) ∙ ap (insert (starOf (lowOf x))) (waits-poured l (t .1))
+
+-- words of items in order, and a word whose number is none of theirs
+low-of-pack : (h k s : ℕ) → k < 2 ^ 31 → s < 2 ^ 16 → lowOf (pack h k s) ≡ k * 2 ^ 16 + s
+unfolding pack lowOf
+low-of-pack h k s hk hs = omega arith
+
+earlier : (k s k′ s′ : ℕ) → s < 2 ^ 16 → s′ < 2 ^ 16 → s ≤ s′ → leads (k * 2 ^ 16 + s) (k′ * 2 ^ 16 + s′) ≡ true
+unfolding leads
+earlier k s k′ s′ h h′ le = go (decLe k k′)
+  where
+    or-true : (t : Bool) → t || true ≡ true
+    or-true true = refl
+    or-true false = refl
+
+    go : Dec (k ≤ k′) → leb (k * 2 ^ 16 + s) (k′ * 2 ^ 16 + s′) || ltb ((k′ * 2 ^ 16 + s′) / 2 ^ 16) ((k * 2 ^ 16 + s) / 2 ^ 16) ≡ true
+    go (yes p) = rw (le-leb (k * 2 ^ 16 + s) (k′ * 2 ^ 16 + s′) (omega arith))
+    go (no p) = rw (lt-ltb ((k′ * 2 ^ 16 + s′) / 2 ^ 16) ((k * 2 ^ 16 + s) / 2 ^ 16) (omega arith)) (or-true (leb (k * 2 ^ 16 + s) (k′ * 2 ^ 16 + s′)))
+
+words-led : (h n at k : ℕ) (ns hs : List ℕ) → n < 2 ^ 31 → allBelow (2 ^ 31) ns ≡ true → suc at + length ns < 2 ^ 16
+    → led (pack h n (suc at)) (wordsFrom (suc at) k ns hs) ≡ true
+unfolding led
+words-led h n at k ns hs small valid items =
+    all-words (λ y. leads (lowOf (pack h n (suc at))) (lowOf y)) (suc at) k ns hs
+    (λ i a b s.
+    rw (
+      low-of-pack h n (suc at) small (omega arith),
+      low-of-pack (getD hs i 0) (getD ns i 0) (suc (suc at + i)) (item-below (2 ^ 31) ns i valid a) (omega arith),
+    )
+    (earlier n (suc at) (getD ns i 0) (suc (suc at + i)) (omega arith) (omega arith) (omega arith)))
+
+pub words-ordered : (at k : ℕ) (ns hs : List ℕ) → allBelow (2 ^ 31) ns ≡ true → at + length ns < 2 ^ 16 → ordered (wordsFrom at k ns hs) ≡ true
+unfolding wordsFrom ordered
+words-ordered at k [] hs v h = refl
+words-ordered at k (n ∷ ns) [] v h = refl
+words-ordered at k (n ∷ ns) (x ∷ hs) v h =
+    go (skipped k n) (words-ordered (suc at) k ns hs (all-tail (λ y. ltb y (2 ^ 31)) n ns v) (omega arith))
+    (words-led x n at k ns hs (ltb-true n (2 ^ 31) (all-head (λ y. ltb y (2 ^ 31)) n ns v)) (all-tail (λ y. ltb y (2 ^ 31)) n ns v) (omega arith))
+  where
+    go : (t : Bool) → ordered (wordsFrom (suc at) k ns hs) ≡ true → led (pack x n (suc at)) (wordsFrom (suc at) k ns hs) ≡ true
+        → ordered (cond t (wordsFrom (suc at) k ns hs) (pack x n (suc at) ∷ wordsFrom (suc at) k ns hs)) ≡ true
+    go true ih later = ih
+    go false ih later = rw later ih
+
+-- no word has the number k
+unfoldable pub fresh : ℕ → List ℕ → Bool
+fresh k l = all (λ w. not (eqb (numberOf w) k)) l
+
+pub fresh-led : (x : ℕ) (l : List ℕ) → fresh (numberOf x) l ≡ true → led x l ≡ true
+unfolding fresh led
+fresh-led x l e = all-mono (λ w. not (eqb (numberOf w) (numberOf x))) (λ w. leads (lowOf x) (lowOf w)) l (λ w t. other w (not-true (eqb (numberOf w) (numberOf x)) t)) e
+  where
+    other : (w : ℕ) → eqb (numberOf w) (numberOf x) ≡ false → leads (lowOf x) (lowOf w) ≡ true
+    other w t = go (leb (lowOf x) (lowOf w)) refl (eqb-false (numberOf w) (numberOf x) t)
+      where
+        go : (s : Bool) → leb (lowOf x) (lowOf w) ≡ s → (numberOf w ≡ numberOf x → ⊥) → leads (lowOf x) (lowOf w) ≡ true
+        go true a b = unfold leads in rw a
+        go false a b = unfold leads lowOf numberOf in rw (a, lt-ltb (lowOf w / 2 ^ 16) (lowOf x / 2 ^ 16) (omega (arith, leb-false (lowOf x) (lowOf w) a)))
+
+-- the words without the number k have it not
+pub words-fresh : (at k : ℕ) (ns hs : List ℕ) → allBelow (2 ^ 31) ns ≡ true → at + length ns < 2 ^ 16 → fresh k (wordsFrom at k ns hs) ≡ true
+unfolding fresh
+words-fresh at k ns hs valid items =
+    all-words (λ w. not (eqb (numberOf w) k)) at k ns hs
+    (λ i a b s.
+    rw (number-pack (getD hs i 0) (getD ns i 0) (suc (at + i)) (item-below (2 ^ 31) ns i valid a) (omega arith), unskipped k (getD ns i 0) s .1))
+
+-- ---- the stars of a stretch
+
+star-pack : (ws : List ℕ) (new h k s : ℕ) → k < 2 ^ 31 → s < 2 ^ 16 → renamed ws new (starOf (lowOf (pack h k s))) ≡ record { number = k; word = named ws new s }
+unfolding renamed starOf
+star-pack ws new h k s hk hs =
+    let e : lowOf (pack h k s) ≡ k * 2 ^ 16 + s = low-of-pack h k s hk hs in
+    let n : lowOf (pack h k s) / 2 ^ 16 ≡ k = omega arith in
+    let m : lowOf (pack h k s) % 2 ^ 16 ≡ s = omega arith in
+    rw (n, m)
+
+words-stars : (all-words : List ℕ) (new at k : ℕ) (ns hs ws : List ℕ) → allBelow (2 ^ 31) ns ≡ true → at + length ns < 2 ^ 16
+    → length hs ≡ length ns → length ws ≡ length ns → ((i : ℕ) → i < length ns → named all-words new (suc (at + i)) ≡ getD ws i 0)
+    → map (λ w. renamed all-words new (starOf (lowOf w))) (wordsFrom at k ns hs) ≡ without k (starsOf ns ws)
+unfolding wordsFrom starsOf without select skipped
+words-stars W new at k [] hs ws v h eh ew named-is = refl
+words-stars W new at k (n ∷ ns) [] ws v h eh ew named-is = absurd (omega arith)
+words-stars W new at k (n ∷ ns) (x ∷ hs) [] v h eh ew named-is = absurd (omega arith)
+words-stars W new at k (n ∷ ns) (x ∷ hs) (w ∷ ws) v h eh ew named-is =
+    go (eqb n 0) (eqb n k) refl
+    (words-stars W new (suc at) k ns hs ws (all-tail (λ y. ltb y (2 ^ 31)) n ns v) (omega arith) (omega arith) (omega arith)
+    (λ i a. rw (suc-add at i, ← add-suc at i) (named-is (suc i) (omega arith))))
+    (star-pack W new x n (suc at) (ltb-true n (2 ^ 31) (all-head (λ y. ltb y (2 ^ 31)) n ns v)) (omega arith)
+    ∙ ap (λ (y : ℕ). record { number = n; word = y }) (rw (add-zero at) at (named-is 0 (omega arith))))
+  where
+    f : ℕ → Star
+    f y = renamed W new (starOf (lowOf y))
+
+    q : Star → Bool
+    q y = not (eqb (y .number) k)
+
+    go : (s t : Bool) → eqb n k ≡ t → map f (wordsFrom (suc at) k ns hs) ≡ select q (starsOf ns ws)
+        → f (pack x n (suc at)) ≡ record { number = n; word = w }
+        → map f (cond (s || t) (wordsFrom (suc at) k ns hs) (pack x n (suc at) ∷ wordsFrom (suc at) k ns hs))
+        ≡ select q (keep (not s) (record { number = n; word = w }) (starsOf ns ws))
+    go true t e ih star = ih
+    go false true e ih star = rw e ih
+    go false false e ih star = rw e (rw (star, ih))
+
+-- ---- the items of a stretch in the lent lists
+
+pub length-stretch : (b lo n : ℕ) (l : List ℕ) → (lo + n) * b ≤ length l → length (stretch b lo n l) ≡ n * b
+length-stretch b lo n l h = length-take-le (n * b) (drop (lo * b) l) (rw (length-drop (lo * b) l) (omega (arith, add-mul lo n b)))
+
+-- the item's own source names it
+pub named-stretch : (b lo n new : ℕ) (l : List ℕ) → (lo + n) * b ≤ length l → (i : ℕ) → i < length (stretch b lo n l)
+    → named l new (suc (lo * b + i)) ≡ getD (stretch b lo n l) i 0
+unfolding named
+named-stretch b lo n new l h i a =
+    let short : i < n * b = rw (length-stretch b lo n l h) at a in
+    within l new (lo * b + i) (omega (arith, add-mul lo n b))
+    ∙ sym (getD-take (n * b) (drop (lo * b) l) i 0 short ∙ getD-drop (lo * b) l i 0)
+
+stretch-suc : (b p n : ℕ) (l : List ℕ) → stretch b p (suc n) l ≡ part b p l ++ stretch b (suc p) n l
+unfolding part
+stretch-suc b p n l =
+    ap (λ (k : ℕ). take k (drop (p * b) l)) (suc-mul n b ∙ add-comm (n * b) b)
+    ∙ take-add b (n * b) (drop (p * b) l)
+    ∙ ap (λ (r : List ℕ). take b (drop (p * b) l) ++ take (n * b) r) (drop-drop b (p * b) l ∙ ap (λ (k : ℕ). drop k l) (sym (suc-mul p b)))
+
+starsOf-append : (a c x y : List ℕ) → length a ≡ length c → starsOf (a ++ x) (c ++ y) ≡ starsOf a c ++ starsOf x y
+unfolding starsOf
+starsOf-append [] [] x y e = refl
+starsOf-append [] (w ∷ c) x y e = absurd (omega arith)
+starsOf-append (n ∷ a) [] x y e = absurd (omega arith)
+starsOf-append (n ∷ a) (w ∷ c) x y e = go (not (eqb n 0)) (starsOf-append a c x y (omega arith))
+  where
+    go : (t : Bool) → starsOf (a ++ x) (c ++ y) ≡ starsOf a c ++ starsOf x y
+        → keep t (record { number = n; word = w }) (starsOf (a ++ x) (c ++ y)) ≡ keep t (record { number = n; word = w }) (starsOf a c) ++ starsOf x y
+    go true ih = rw ih
+    go false ih = ih
+
+length-part : (b p : ℕ) (l : List ℕ) → suc p * b ≤ length l → length (part b p l) ≡ b
+unfolding part
+length-part b p l h = length-take-le b (drop (p * b) l) (rw (length-drop (p * b) l) (omega (arith, suc-mul p b)))
+
+pub gathered-stretch : (b : ℕ) (f : File) (p n : ℕ) → (p + n) * b ≤ length (f .numbers) → (p + n) * b ≤ length (f .words)
+    → gathered b f p n ≡ pour (starsOf (stretch b p n (f .numbers)) (stretch b p n (f .words))) []
+unfolding gathered starsAt
+gathered-stretch b f p zero hn hw = unfold starsOf pour in rw (zero-mul b)
+gathered-stretch b f p (suc n) hn hw =
+    let more : suc p * b ≤ (p + suc n) * b = mul-le-mul-right b (omega arith) in
+    let same : (p + suc n) * b ≡ (suc p + n) * b = ap (λ (k : ℕ). k * b) (omega arith) in
+    ap (pour (starsAt b f p)) (gathered-stretch b f (suc p) n (omega arith) (omega arith))
+    ∙ sym (pour-append (starsAt b f p) (starsOf (stretch b (suc p) n (f .numbers)) (stretch b (suc p) n (f .words))) [])
+    ∙ ap (λ (s : List Star). pour s [])
+    (sym (starsOf-append (part b p (f .numbers)) (part b p (f .words)) (stretch b (suc p) n (f .numbers)) (stretch b (suc p) n (f .words))
+    (length-part b p (f .numbers) (omega arith) ∙ sym (length-part b p (f .words) (omega arith))))
+    ∙ rw (stretch-suc b p n (f .numbers), stretch-suc b p n (f .words)))
+
+-- a map after a map
+map-map : (g : Star → Star) (h : ℕ → Star) (l : List ℕ) → map g (map h l) ≡ map (λ w. g (h w)) l
+map-map g h [] = refl
+map-map g h (x ∷ l) = ap (λ (s : List Star). g (h x) ∷ s) (map-map g h l)
+
+-- the waiting stars of a stretch, with the words that their sources name, are the file's stars there but the one of number k
+pub true-stars : (b lo n k new : ℕ) (f : File) (hs : List ℕ) → allBelow (2 ^ 31) (stretch b lo n (f .numbers)) ≡ true → (lo + n) * b < 2 ^ 16
+    → (lo + n) * b ≤ length (f .numbers) → (lo + n) * b ≤ length (f .words) → (lo + n) * b ≤ length hs
+    → map (renamed (f .words) new) (waits (wordsFrom (lo * b) k (stretch b lo n (f .numbers)) (stretch b lo n hs))) ≡ without k (gathered b f lo n)
+unfolding without pour select
+true-stars b lo n k new f hs valid items hn hw hh =
+    let ns : List ℕ = stretch b lo n (f .numbers) in
+    let ws : List ℕ = stretch b lo n (f .words) in
+    let L : List ℕ = wordsFrom (lo * b) k ns (stretch b lo n hs) in
+    let g : Star → Star = renamed (f .words) new in
+    let ln : length ns ≡ n * b = length-stretch b lo n (f .numbers) hn in
+    let lw : length ws ≡ n * b = length-stretch b lo n (f .words) hw in
+    let lh : length (stretch b lo n hs) ≡ n * b = length-stretch b lo n hs hh in
+    let few : lo * b + length ns < 2 ^ 16 = omega (arith, add-mul lo n b) in
+    ap (map g) (waits-poured L (words-ordered (lo * b) k ns (stretch b lo n hs) valid few))
+    ∙ sym (pour-map g (renamed-keeps (f .words) new) (map (λ w. starOf (lowOf w)) L) [])
+    ∙ ap (λ (s : List Star). pour s [])
+    (map-map g (λ w. starOf (lowOf w)) L
+    ∙ words-stars (f .words) new (lo * b) k ns (stretch b lo n hs) ws valid few (lh ∙ sym ln) (lw ∙ sym ln)
+    (λ i a. named-stretch b lo n new (f .words) hw i (omega arith)))
+    ∙ sym (select-pour (λ (s : Star). not (eqb (s .number) k)) (starsOf ns ws) [] tt)
+    ∙ ap (select (λ (s : Star). not (eqb (s .number) k))) (sym (gathered-stretch b f lo n hn hw))
+
+-- .. and with the new star of an entry
+pub new-star : (ws : List ℕ) (new h k s : ℕ) (l : List ℕ) → k < 2 ^ 31 → s < 2 ^ 16 → fresh k l ≡ true
+    → map (renamed ws new) (waits (pack h k s ∷ l)) ≡ insert (record { number = k; word = named ws new s }) (map (renamed ws new) (waits l))
+new-star ws new h k s l hk hs e =
+    ap (map (renamed ws new)) (waits-cons (pack h k s) l (fresh-led (pack h k s) l (rw (number-pack h k s hk hs) e)))
+    ∙ sym (insert-map (renamed ws new) (renamed-keeps ws new) (starOf (lowOf (pack h k s))) (waits l))
+    ∙ ap (λ (t : Star). insert t (map (renamed ws new) (waits l))) (star-pack ws new h k s hk hs)
+
+pub named-last : (l : List ℕ) (new : ℕ) → named l new (suc (length l)) ≡ new
+unfolding named
+named-last l new = List·getD-eq-default l new (le-refl (length l))

@@ -1,0 +1,21 @@
+-- What a planned source names. Assumes nothing.
+use mathlib.Core.Bool.{Bool}
+use mathlib.Core.List.{List, _∷_}
+use Prim.Native.Nat.{ℕ}
+use lib.Dec.{eqb}
+use lib.ListN.{getD}
+use Rattle.placement.specs.Rule.{Star}
+use Rattle.waiting.specs.Lists.{all}
+use Rattle.waiting.specs.Words.{numberOf, sourceOf}
+
+-- a source is an item plus 1, and 0 for an empty place; past the items it is the new star of an entry
+unfoldable pub named : List ℕ → ℕ → ℕ → ℕ
+named l new source = getD (0 ∷ l) source new
+
+-- a planned star with the position word that its source names
+unfoldable pub renamed : List ℕ → ℕ → Star → Star
+renamed words newword s = record { number = s .number; word = named words newword (s .word) }
+
+-- every word's source names its number
+unfoldable pub sourced : List ℕ → ℕ → List ℕ → Bool
+sourced numbers newnumber l = all (λ w. eqb (named numbers newnumber (sourceOf w)) (numberOf w)) l

@@ -1,0 +1,138 @@
+// The plan of a stretch of pages: where each star will stand and which separators the pages get, written to the pool and to `planned`.
+ghost use mathlib.Core.Path.{_≡_};
+ghost use mathlib.Core.Bool.{true};
+ghost use mathlib.Core.List.{map};
+ghost use Prim.Native.Nat.{_+_, _-_, _*_, _^_, _≤_, _<_};
+ghost use lib.ListN.{length, take, drop};
+ghost use lib.Seq.{slice};
+ghost use Rattle.placement.specs.File.{padded, written};
+ghost use Rattle.waiting.specs.Words.{sourceOf};
+ghost use Rattle.hashing.specs.Generator.{multipliers};
+ghost use Rattle.waiting.specs.Lists.{allBelow};
+ghost use Rattle.waiting.specs.Gather.{stretch, starsIn};
+ghost use Rattle.waiting.specs.Settle.{homesUpTo};
+ghost use Rattle.planning.specs.Plans.{slotSource, stretchWords, PagePlanned, Planned};
+use waiting::gather;
+use waiting::settle;
+
+// The source of the star in slot i, 0 for an empty place.
+fn source_at(slots: &[u64; 32], kept: usize, i: usize) -> u32
+    requires { ⌜ i < 32 ⌝ }
+    ensures { λ r. ⌜ r ≡ slotSource (now (slots .entry)) kept i ⌝ }
+{
+    if kept <= i {
+        return 0;
+    }
+    (slots[i] % 65536) as u32
+}
+
+// The sources of a page's places, empty places last.
+fn store_sources(pool: &mut [u32], slots: &[u64; 32], at: usize, places: usize, kept: usize)
+    requires { ⌜ (at + places ≤ length (now pool)) × (places ≤ 32) ⌝ }
+    requires { ⌜ (kept ≤ places) × (kept ≤ length (now slots)) ⌝ }
+    ensures { λ _. ⌜ now (pool .exit) ≡ written at (padded places (map sourceOf (take kept (now (slots .entry))))) (now (pool .entry)) ⌝ }
+{
+    let mut i = 0;
+    while i < places {
+        pool[at + i] = source_at(slots, kept, i);
+        i += 1;
+    }
+}
+
+// The words from `from` up to `end`, moved down to the front.
+fn close_up(waiting: &mut [u64], from: usize, end: usize) -> usize
+    requires { ⌜ (from ≤ end) × (end ≤ length (now waiting)) ⌝ }
+    ensures { λ r. ⌜ r ≡ end - from ⌝ }
+    ensures { λ r. ⌜ take r (now (waiting .exit)) ≡ slice from end (now (waiting .entry)) ⌝ }
+{
+    let left = end - from;
+    let mut i = 0;
+    while i < left {
+        waiting[i] = waiting[from + i];
+        i += 1;
+    }
+    left
+}
+
+// One page of the plan. The words that pass on stand from the answer up to `reach`.
+fn settle_page(
+    table: &[u32; 2049],
+    bits: u32,
+    pool: &mut [u32],
+    waiting: &mut [u64],
+    planned: &mut [u8],
+    places: usize,
+    from: usize,
+    reach: usize,
+    page: usize,
+) -> usize
+    requires { ⌜ now table ≡ multipliers ⌝ }
+    requires { ⌜ ((1 ≤ bits) × (bits ≤ 8)) × (places ≤ 32) ⌝ }
+    requires { ⌜ (from ≤ reach) × ((reach ≤ length (now waiting)) × (reach ≤ 32768)) ⌝ }
+    requires { ⌜ (page < 1024) × (homesUpTo page (slice from reach (now waiting)) ≡ true) ⌝ }
+    requires { ⌜ (page < length (now planned)) × (page * places + places ≤ length (now pool)) ⌝ }
+    ensures { λ r. ⌜ PagePlanned bits places page (slice from reach (now (waiting .entry))) reach (now (waiting .entry)) (now (waiting .exit)) (now (pool .entry)) (now (pool .exit)) (now (planned .entry)) (now (planned .exit)) r ⌝ }
+{
+    let mut slots = [0u64; 32];
+    let settled = settle(table, bits, places, waiting, from, reach, page, &mut slots);
+    planned[page] = settled.separator as u8;
+    store_sources(pool, &slots, page * places, places, settled.kept);
+    settled.from
+}
+
+// Plans the stretch of `count` pages from page lo, with the words carried in at the front of `waiting` and the stars of the stretch but `without`.
+// The pool holds the homes of the stretch's items, and sources afterwards. The words carried past the stretch are left at the front; the answer is their count.
+pub fn plan(
+    table: &[u32; 2049],
+    bits: u32,
+    numbers: &[u32],
+    pool: &mut [u32],
+    waiting: &mut [u64],
+    planned: &mut [u8],
+    places: usize,
+    lo: usize,
+    count: usize,
+    without: u32,
+    carried: usize,
+) -> usize
+    requires { ⌜ now table ≡ multipliers ⌝ }
+    requires { ⌜ ((1 ≤ bits) × (bits ≤ 8)) × (places ≤ 32) ⌝ }
+    requires { ⌜ (0 < count) × ((lo + count ≤ 1024) × (lo + count ≤ length (now planned))) ⌝ }
+    requires { ⌜ ((lo + count) * places ≤ length (now numbers)) × ((lo + count) * places ≤ length (now pool)) ⌝ }
+    requires { ⌜ allBelow (2 ^ 31) (stretch places lo count (now numbers)) ≡ true ⌝ }
+    requires { ⌜ allBelow (lo + count) (stretch places lo count (now pool)) ≡ true ⌝ }
+    requires { ⌜ (carried + starsIn without (stretch places lo count (now numbers)) ≤ length (now waiting)) × (length (now waiting) ≤ 32768) ⌝ }
+    requires { ⌜ homesUpTo lo (take carried (now waiting)) ≡ true ⌝ }
+    ensures { λ r. ⌜ Planned bits places lo count (take carried (now (waiting .entry))) (stretchWords places lo count without (now (numbers .entry)) (now (pool .entry))) (now (pool .entry)) (now (pool .exit)) (now (planned .entry)) (now (planned .exit)) (now (waiting .exit)) r ⌝ }
+{
+    let mut ends = [0u32; 1024];
+    let end = gather(
+        numbers,
+        pool,
+        waiting,
+        &mut ends,
+        places,
+        lo,
+        count,
+        without,
+        carried,
+    );
+    let mut from = 0;
+    let mut v = 0;
+    while v < count {
+        let reach = ends[v] as usize;
+        from = settle_page(
+            table,
+            bits,
+            pool,
+            waiting,
+            planned,
+            places,
+            from,
+            reach,
+            lo + v,
+        );
+        v += 1;
+    }
+    close_up(waiting, from, end)
+}

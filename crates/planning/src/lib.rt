@@ -1,0 +1,7 @@
+// The planning engine: the plan of a stretch of pages over star numbers, and its application to the file.
+mod layout;
+mod moving;
+
+pub use layout::plan;
+pub use moving::apply;
+pub use moving::clear;

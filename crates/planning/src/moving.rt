@@ -1,0 +1,198 @@
+// Applying a plan: what the sources name is fetched through the pool, and the stretch is copied back to the file.
+ghost use mathlib.Core.Path.{_≡_};
+ghost use mathlib.Core.List.{_∷_, map};
+ghost use Prim.Native.Nat.{_+_, _*_, _≤_};
+ghost use lib.ListN.{length, getD, take, drop, replicate};
+ghost use lib.Seq.{paste};
+ghost use Rattle.placement.specs.File.{written};
+ghost use Rattle.waiting.specs.Gather.{stretch};
+ghost use Rattle.planning.specs.Sources.{named};
+
+fn word_named(words: &[u64], source: u32, newword: u64) -> u64
+    ensures { λ r. ⌜ r ≡ named (now (words .entry)) newword source ⌝ }
+{
+    if source == 0 {
+        return 0;
+    }
+    let item = source as usize - 1;
+    if item < words.len() {
+        return words[item];
+    }
+    newword
+}
+
+fn number_named(numbers: &[u32], source: u32, newnumber: u32) -> u32
+    ensures { λ r. ⌜ r ≡ named (now (numbers .entry)) newnumber source ⌝ }
+{
+    if source == 0 {
+        return 0;
+    }
+    let item = source as usize - 1;
+    if item < numbers.len() {
+        return numbers[item];
+    }
+    newnumber
+}
+
+fn fetch_words(
+    words: &[u64],
+    pool: &[u32],
+    waiting: &mut [u64],
+    at: usize,
+    items: usize,
+    newword: u64,
+)
+    requires { ⌜ at + items ≤ length (now pool) ⌝ }
+    requires { ⌜ at + items ≤ length (now waiting) ⌝ }
+    ensures { λ _. ⌜ now (waiting .exit) ≡ paste (now (waiting .entry)) at (map (named (now (words .entry)) newword) (drop at (now (pool .entry)))) items ⌝ }
+{
+    let mut i = 0;
+    while i < items {
+        waiting[at + i] = word_named(words, pool[at + i], newword);
+        i += 1;
+    }
+}
+
+fn fetch_numbers(numbers: &[u32], pool: &mut [u32], at: usize, items: usize, newnumber: u32)
+    requires { ⌜ at + items ≤ length (now pool) ⌝ }
+    ensures { λ _. ⌜ now (pool .exit) ≡ paste (now (pool .entry)) at (map (named (now (numbers .entry)) newnumber) (drop at (now (pool .entry)))) items ⌝ }
+{
+    let mut i = 0;
+    while i < items {
+        pool[at + i] = number_named(numbers, pool[at + i], newnumber);
+        i += 1;
+    }
+}
+
+fn copy_words(words: &mut [u64], waiting: &[u64], at: usize, items: usize)
+    requires { ⌜ at + items ≤ length (now words) ⌝ }
+    requires { ⌜ at + items ≤ length (now waiting) ⌝ }
+    ensures { λ _. ⌜ now (words .exit) ≡ paste (now (words .entry)) at (drop at (now (waiting .entry))) items ⌝ }
+{
+    let mut i = 0;
+    while i < items {
+        words[at + i] = waiting[at + i];
+        i += 1;
+    }
+}
+
+fn copy_numbers(numbers: &mut [u32], pool: &[u32], at: usize, items: usize)
+    requires { ⌜ at + items ≤ length (now numbers) ⌝ }
+    requires { ⌜ at + items ≤ length (now pool) ⌝ }
+    ensures { λ _. ⌜ now (numbers .exit) ≡ paste (now (numbers .entry)) at (drop at (now (pool .entry))) items ⌝ }
+{
+    let mut i = 0;
+    while i < items {
+        numbers[at + i] = pool[at + i];
+        i += 1;
+    }
+}
+
+fn copy_separators(separators: &mut [u8], planned: &[u8], lo: usize, count: usize)
+    requires { ⌜ lo + count ≤ length (now separators) ⌝ }
+    requires { ⌜ lo + count ≤ length (now planned) ⌝ }
+    ensures { λ _. ⌜ now (separators .exit) ≡ paste (now (separators .entry)) lo (drop lo (now (planned .entry))) count ⌝ }
+{
+    let mut i = 0;
+    while i < count {
+        separators[lo + i] = planned[lo + i];
+        i += 1;
+    }
+}
+
+// Words first: the sources stand where the numbers go.
+fn fetch(
+    numbers: &[u32],
+    words: &[u64],
+    pool: &mut [u32],
+    waiting: &mut [u64],
+    at: usize,
+    items: usize,
+    newnumber: u32,
+    newword: u64,
+)
+    requires { ⌜ at + items ≤ length (now pool) ⌝ }
+    requires { ⌜ at + items ≤ length (now waiting) ⌝ }
+    ensures { λ _. ⌜ now (pool .exit) ≡ paste (now (pool .entry)) at (map (named (now (numbers .entry)) newnumber) (drop at (now (pool .entry)))) items ⌝ }
+    ensures { λ _. ⌜ now (waiting .exit) ≡ paste (now (waiting .entry)) at (map (named (now (words .entry)) newword) (drop at (now (pool .entry)))) items ⌝ }
+{
+    fetch_words(words, pool, waiting, at, items, newword);
+    fetch_numbers(numbers, pool, at, items, newnumber);
+}
+
+fn put_back(
+    numbers: &mut [u32],
+    words: &mut [u64],
+    pool: &[u32],
+    waiting: &[u64],
+    at: usize,
+    items: usize,
+)
+    requires { ⌜ at + items ≤ length (now numbers) ⌝ }
+    requires { ⌜ at + items ≤ length (now words) ⌝ }
+    requires { ⌜ at + items ≤ length (now pool) ⌝ }
+    requires { ⌜ at + items ≤ length (now waiting) ⌝ }
+    ensures { λ _. ⌜ now (numbers .exit) ≡ paste (now (numbers .entry)) at (drop at (now (pool .entry))) items ⌝ }
+    ensures { λ _. ⌜ now (words .exit) ≡ paste (now (words .entry)) at (drop at (now (waiting .entry))) items ⌝ }
+{
+    copy_words(words, waiting, at, items);
+    copy_numbers(numbers, pool, at, items);
+}
+
+// The stretch of `count` pages from page lo becomes what the planned sources and separators say.
+pub fn apply(
+    separators: &mut [u8],
+    numbers: &mut [u32],
+    words: &mut [u64],
+    pool: &mut [u32],
+    waiting: &mut [u64],
+    planned: &[u8],
+    places: usize,
+    lo: usize,
+    count: usize,
+    newnumber: u32,
+    newword: u64,
+)
+    requires { ⌜ (places ≤ 32) × (lo + count ≤ 1024) ⌝ }
+    requires { ⌜ (lo + count ≤ length (now separators)) × (lo + count ≤ length (now planned)) ⌝ }
+    requires { ⌜ ((lo + count) * places ≤ length (now numbers)) × ((lo + count) * places ≤ length (now words)) ⌝ }
+    requires { ⌜ ((lo + count) * places ≤ length (now pool)) × ((lo + count) * places ≤ length (now waiting)) ⌝ }
+    ensures { λ _. ⌜ now (separators .exit) ≡ written lo (take count (drop lo (now (planned .entry)))) (now (separators .entry)) ⌝ }
+    ensures { λ _. ⌜ now (numbers .exit) ≡ written (lo * places) (map (named (now (numbers .entry)) newnumber) (stretch places lo count (now (pool .entry)))) (now (numbers .entry)) ⌝ }
+    ensures { λ _. ⌜ now (words .exit) ≡ written (lo * places) (map (named (now (words .entry)) newword) (stretch places lo count (now (pool .entry)))) (now (words .entry)) ⌝ }
+{
+    let at = lo * places;
+    let items = count * places;
+    fetch(numbers, words, pool, waiting, at, items, newnumber, newword);
+    put_back(numbers, words, pool, waiting, at, items);
+    copy_separators(separators, planned, lo, count);
+}
+
+fn clear_numbers(pool: &mut [u32])
+    ensures { λ _. ⌜ now (pool .exit) ≡ replicate (length (now (pool .entry))) 0 ⌝ }
+{
+    let mut i = 0;
+    while i < pool.len() {
+        pool[i] = 0;
+        i += 1;
+    }
+}
+
+fn clear_words(waiting: &mut [u64])
+    ensures { λ _. ⌜ now (waiting .exit) ≡ replicate (length (now (waiting .entry))) 0 ⌝ }
+{
+    let mut i = 0;
+    while i < waiting.len() {
+        waiting[i] = 0;
+        i += 1;
+    }
+}
+
+// The pool after every call that uses it.
+pub fn clear(pool: &mut [u32], waiting: &mut [u64])
+    ensures { λ _. ⌜ now (pool .exit) ≡ replicate (length (now (pool .entry))) 0 ⌝ }
+    ensures { λ _. ⌜ now (waiting .exit) ≡ replicate (length (now (waiting .entry))) 0 ⌝ }
+{
+    clear_numbers(pool);
+    clear_words(waiting);
+}
