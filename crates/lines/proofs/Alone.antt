@@ -1,15 +1,15 @@
 -- A blank is no part of a number, so a list of bytes that is read as a number is one field.
-use Prim.Native.Nat.{ℕ, zero, suc, _+_, _<_, _≤_}
+use Prim.Native.Nat.{ℕ, zero, suc, _<_}
 use native.Mathlib.Omega.{arith}
 use native.Mathlib.Decide.{decLt}
 use mathlib.Core.Bool.{Bool, true, false, cond, _&&_}
 use mathlib.Core.List.{List, [], _∷_}
-use mathlib.Core.Path.{_≡_, refl, sym, ap, _∙_}
-use borrow.Author.Tests.{eqb-true, leb-true}
+use mathlib.Core.Path.{_≡_, refl, sym}
+use borrow.Author.Tests.{eqb-true}
 use lib.Dec.{eqb, leb, ltb}
 use lib.IntN.{pos, negℤ}
-use lib.ListN.{length, take, drop}
-use Rattle.lines.specs.Grammar.{fields, fieldLength, isDigit, allDigits, isEmpty, isDecimal, isUpTo, naturalOf, declinationOf, value, valueFrom, lookUpOf, lookUpWith, removeOf, removeWith, enterOf, enterWith}
+use lib.ListN.{length, drop}
+use Rattle.lines.specs.Grammar.{fields, fieldLength, isDigit, allDigits, isEmpty, isDecimal, isUpTo, naturalOf, declinationOf, value, numberOf, numberWith, enterOf, enterWith}
 use Rattle.lines.specs.declared.Command.{Command}
 use Rattle.lines.specs.declared.Command.the-variants.{Bad}
 use Rattle.lines.specs.declared.Natural.{Natural}
@@ -76,13 +76,9 @@ alone command w l one more = go (decLt (fieldLength l) (length l))
         rw (fields-more l p, after .2) (more p _ _ _)
     go (no p) = rw (fields-last l (omega (arith, field-within l))) one
 
-pub look-up-alone : (l : List ℕ) → lookUpOf (fields l) ≡ lookUpWith (naturalOf l)
-unfolding lookUpOf lookUpWith
-look-up-alone l = alone lookUpOf _ l refl (λ p a b fs. rw (not-natural l p))
-
-pub remove-alone : (l : List ℕ) → removeOf (fields l) ≡ removeWith (naturalOf l)
-unfolding removeOf removeWith
-remove-alone l = alone removeOf _ l refl (λ p a b fs. rw (not-natural l p))
+pub number-alone : (make : ℕ → Command) (l : List ℕ) → numberOf make (fields l) ≡ numberWith make (naturalOf l)
+unfolding numberOf numberWith
+number-alone make l = alone (numberOf make) _ l refl (λ p a b fs. rw (not-natural l p))
 
 pub nowhere : (x y : Natural) → enterWith x y Nowhere ≡ Bad
 unfolding enterWith

@@ -1,18 +1,18 @@
 -- The command of a line from its first two bytes and the fields after them.
-use Prim.Native.Nat.{ℕ, zero, suc, _+_, _<_, _≤_}
+use Prim.Native.Nat.{ℕ, _<_}
 use native.Mathlib.Omega.{arith}
 use mathlib.Core.Bool.{Bool, true, false, cond}
 use mathlib.Core.List.{List, [], _∷_}
-use mathlib.Core.Path.{_≡_, refl, sym, ap, _∙_}
+use mathlib.Core.Path.{_≡_, refl}
 use borrow.Author.Tests.{eqb-true, ne-eqb}
 use lib.Dec.{eqb}
-use lib.ListN.{length, take, drop, getD}
-use Rattle.lines.specs.Grammar.{fields, inFirst, fieldLength, naturalOf, declinationOf, enterWith, enterOf, lookUpOf, removeOf, growOf, letterOf, byLetter, byFields, commandOf}
-use Rattle.lines.specs.declared.Command.{Command}
-use Rattle.lines.specs.declared.Command.the-variants.{Grow, Bad}
+use lib.ListN.{length, drop, getD}
+use Rattle.lines.specs.Grammar.{fields, inFirst, fieldLength, naturalOf, declinationOf, enterWith, enterOf, numberOf, numberWith, growOf, letterOf, byLetter, byFields, commandOf}
+use Rattle.lines.specs.declared.Command.the-variants.{LookUp, Remove, Grow, Bad}
 use Rattle.lines.specs.declared.Natural.{Natural}
 use Rattle.lines.specs.declared.Natural.the-variants.{Of, Wrong}
 use Rattle.lines.specs.declared.Declination.{Declination}
+use Rattle.lines.proofs.Alone.{number-alone}
 use Rattle.lines.proofs.Split.{fields-last, fields-some}
 
 pub either : (t : Bool) → cond t Bad Bad ≡ Bad
@@ -35,7 +35,7 @@ grow-alone (c ∷ []) e g = rw g
 grow-alone (c ∷ d ∷ l) e g = absurd (omega arith)
 
 pub other-alone : (l : List ℕ) → length l ≡ 1 → (getD l 0 0 ≡ 71 → ⊥) → commandOf l ≡ Bad
-unfolding commandOf byFields fields inFirst letterOf byLetter enterOf lookUpOf removeOf
+unfolding commandOf byFields fields inFirst letterOf byLetter enterOf numberOf
 other-alone [] e g = absurd (omega arith)
 other-alone (c ∷ []) e g = go (eqb c 32)
   where
@@ -78,9 +78,13 @@ grow-more : (l : List ℕ) → growOf (fields l) ≡ Bad
 unfolding growOf
 grow-more l = rw (fields-some l .2)
 
--- the letters that take operands are E, L and R
-pub other-letter :
-    (c : ℕ) (l : List ℕ) → (c ≡ 69 → ⊥) → (c ≡ 76 → ⊥) → (c ≡ 82 → ⊥) → byLetter c (fields l) ≡ Bad
+-- without a number after it no letter but E is a command
+pub wrong-number : (c : ℕ) (l : List ℕ) → (c ≡ 69 → ⊥) → naturalOf l ≡ Wrong → byLetter c (fields l) ≡ Bad
+unfolding byLetter numberWith
+wrong-number c l e h =
+    rw (ne-eqb c 69 e, number-alone LookUp l, number-alone Remove l, h, grow-more l) (simp either)
+
+pub other-letter : (c : ℕ) (l : List ℕ) → (c ≡ 69 → ⊥) → (c ≡ 76 → ⊥) → (c ≡ 82 → ⊥) → byLetter c (fields l) ≡ Bad
 unfolding byLetter
 other-letter c l e f g = rw (ne-eqb c 69 e, ne-eqb c 76 f, ne-eqb c 82 g, grow-more l) (either (eqb c 71))
 

@@ -1,20 +1,18 @@
 -- A declination field from the number that it holds, and its sign.
-use Prim.Native.Nat.{ℕ, zero, suc, _+_, _-_, _<_, _≤_}
+use Prim.Native.Nat.{ℕ, zero, suc, _<_, _≤_}
 use native.Mathlib.Omega.{arith}
-use mathlib.Core.Bool.{Bool, true, false, cond, _&&_, true≢false, false≢true}
+use mathlib.Core.Bool.{Bool, true, false, cond, _&&_}
 use mathlib.Core.List.{List, [], _∷_}
-use mathlib.Core.Path.{_≡_, refl, sym, ap, _∙_}
-use borrow.Author.Tests.{eq-eqb, ne-eqb, le-leb, lt-leb, lt-ltb, le-ltb, leb-false}
-use lib.Dec.{eqb, leb, ltb}
-use lib.IntN.{ℤ, pos, negsuc, negℤ, _-ℤ_, _+ℤ_, +ℤ-idl}
+use mathlib.Core.Path.{_≡_, refl}
+use borrow.Author.Tests.{ne-eqb, lt-leb, leb-false}
+use lib.Dec.{leb, ltb}
+use lib.IntN.{pos, negℤ, _-ℤ_, +ℤ-idl}
 use lib.ListN.{length, drop, getD}
 use mir.Syntax.{w32, w64}
 use mir.Val.{SFits, toZ, ofZ}
 use mir.ValLaws.{toZ-pos, toZ-ofZ}
-use Rattle.lines.specs.Grammar.{isDecimal, value, valueFrom, isUpTo, naturalOf, declinationOf}
-use Rattle.lines.specs.declared.Natural.{Natural}
+use Rattle.lines.specs.Grammar.{isDecimal, value, isUpTo, naturalOf, declinationOf}
 use Rattle.lines.specs.declared.Natural.the-variants.{Of, Wrong}
-use Rattle.lines.specs.declared.Declination.{Declination}
 use Rattle.lines.specs.declared.Declination.the-variants.{At, Nowhere}
 
 -- a field that is no number of 32 bits is none below a smaller limit

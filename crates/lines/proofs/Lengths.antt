@@ -1,20 +1,18 @@
 -- A line of more than 64 bytes is Bad: a field of more than ten digits is beyond 32 bits.
 use Prim.Native.Nat.{ℕ, zero, suc, _+_, _-_, _*_, _<_, _≤_}
-use native.Mathlib.Nat.{suc-add, add-suc}
 use native.Mathlib.Decide.{decLt}
 use native.Mathlib.Omega.{arith}
 use mathlib.Core.Bool.{Bool, true, false, cond, _&&_}
 use mathlib.Core.List.{List, [], _∷_}
-use mathlib.Core.Path.{_≡_, refl, sym, ap, _∙_}
+use mathlib.Core.Path.{_≡_, refl}
 use borrow.Author.Tests.{eqb-false, leb-true, lt-leb}
-use lib.Dec.{eqb, leb, ltb}
-use lib.IntN.{pos, negℤ}
+use lib.Dec.{eqb, leb}
 use lib.ListN.{length}
-use Rattle.lines.specs.Grammar.{fields, inFirst, isDigit, allDigits, isEmpty, isDecimal, valueFrom, value, isUpTo, naturalOf, declinationOf, enterWith, enterOf, lookUpWith, lookUpOf, removeWith, removeOf, growOf, letterOf, byLetter, byFields, commandOf}
+use Rattle.lines.specs.Grammar.{fields, inFirst, isDigit, allDigits, isEmpty, isDecimal, valueFrom, isUpTo, naturalOf, declinationOf, enterWith, enterOf, numberWith, numberOf, growOf, letterOf, byLetter, byFields, commandOf}
 use Rattle.lines.specs.declared.Command.{Command}
-use Rattle.lines.specs.declared.Command.the-variants.{Bad}
-use Rattle.lines.specs.declared.Natural.the-variants.{Of, Wrong}
-use Rattle.lines.specs.declared.Declination.the-variants.{At, Nowhere}
+use Rattle.lines.specs.declared.Command.the-variants.{LookUp, Remove, Bad}
+use Rattle.lines.specs.declared.Natural.the-variants.{Wrong}
+use Rattle.lines.specs.declared.Declination.the-variants.{Nowhere}
 use Rattle.lines.proofs.Alone.{nowhere}
 use Rattle.lines.proofs.Commands.{either, no-letter, wrong-ra}
 use Rattle.lines.proofs.Numbers.{value-grows, and-false}
@@ -91,17 +89,11 @@ long-enter (a ∷ b ∷ d ∷ []) h = go (decLt 10 (length a)) (decLt 10 (length
     go (no p) (no q) = rw (long-declination d (omega arith)) (nowhere (naturalOf a) (naturalOf b))
 long-enter (a ∷ b ∷ d ∷ e ∷ fs) h = refl
 
-long-look-up : (fs : List (List ℕ)) → 36 < total fs → lookUpOf fs ≡ Bad
-unfolding total lookUpOf lookUpWith
-long-look-up [] h = refl
-long-look-up (a ∷ []) h = rw (long-natural a (omega arith))
-long-look-up (a ∷ b ∷ fs) h = refl
-
-long-remove : (fs : List (List ℕ)) → 36 < total fs → removeOf fs ≡ Bad
-unfolding total removeOf removeWith
-long-remove [] h = refl
-long-remove (a ∷ []) h = rw (long-natural a (omega arith))
-long-remove (a ∷ b ∷ fs) h = refl
+long-number : (make : ℕ → Command) (fs : List (List ℕ)) → 36 < total fs → numberOf make fs ≡ Bad
+unfolding total numberOf numberWith
+long-number make [] h = refl
+long-number make (a ∷ []) h = rw (long-natural a (omega arith))
+long-number make (a ∷ b ∷ fs) h = refl
 
 long-grow : (fs : List (List ℕ)) → 36 < total fs → growOf fs ≡ Bad
 unfolding total growOf
@@ -113,8 +105,12 @@ unfolding total byFields byLetter letterOf
 long-fields [] h = refl
 long-fields ([] ∷ fs) h = no-letter fs
 long-fields ((c ∷ []) ∷ fs) h =
-    rw
-    (long-enter fs (omega arith), long-look-up fs (omega arith), long-remove fs (omega arith), long-grow fs (omega arith))
+    rw (
+      long-enter fs (omega arith),
+      long-number LookUp fs (omega arith),
+      long-number Remove fs (omega arith),
+      long-grow fs (omega arith),
+    )
     (simp either)
 long-fields ((c ∷ d ∷ f) ∷ fs) h = no-letter fs
 

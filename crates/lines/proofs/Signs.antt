@@ -1,9 +1,9 @@
 -- A signed number's text, from its sign and its size as the code computes them.
-use Prim.Native.Nat.{ℕ, zero, suc, _+_, _<_, _≤_}
+use Prim.Native.Nat.{ℕ, zero, suc}
 use native.Mathlib.Omega.{arith}
-use mathlib.Core.Bool.{Bool, true, false}
-use mathlib.Core.List.{List, [], _∷_, _++_}
-use mathlib.Core.Path.{_≡_, refl, sym, ap, _∙_}
+use mathlib.Core.Bool.{true, false, true≢false}
+use mathlib.Core.List.{[], _∷_, _++_}
+use mathlib.Core.Path.{_≡_}
 use borrow.Author.Tests.{ltb-true}
 use lib.Dec.{T}
 use lib.IntN.{ℤ, pos, negsuc, negℤ, natAbs, _-ℤ_, +ℤ-idl}
@@ -11,7 +11,7 @@ use lib.Signed.{ltZ, nonNeg}
 use mir.Syntax.{w32, w64}
 use mir.Val.{Fits, SFits, toZ, ofZ}
 use mir.ValLaws.{toZ-ofZ}
-use Rattle.lines.specs.Replies.{digits, signedDigits, fieldBytes}
+use Rattle.lines.specs.Replies.{signedDigits, fieldBytes}
 
 -- z, and minus z, as a 64-bit number made of 32 bits
 abbrev pub wide : ℤ → ℤ
@@ -56,15 +56,18 @@ unfolding signedDigits fieldBytes
 text-below (pos n) f e = absurd (not-negative n (rw (toZ-ofZ w32 (pos n) f) at e))
 text-below (negsuc n) f e = rw (minus-is (negsuc n) f)
 
+not-positive : (n : ℕ) → ltZ (negsuc n) (pos 0) ≡ false → ⊥
+not-positive n e = true≢false e
+
 pub size-above :
     (z : ℤ) → SFits w32 z → ltZ (toZ w32 (ofZ w32 z)) (pos 0) ≡ false →
     T (nonNeg (toZ w32 (ofZ w32 z))) × Fits w32 (natAbs (toZ w32 (ofZ w32 z)))
 size-above (pos n) f e = rw (toZ-ofZ w32 (pos n) f) (tt, record { fits = omega (arith, f .sfits) })
-size-above (negsuc n) f e = let h : true ≡ false = rw (toZ-ofZ w32 (negsuc n) f) at e in let z : _≡_ {A = ℕ} 0 1 = cc in absurd (omega arith)
+size-above (negsuc n) f e = absurd (not-positive n (rw (toZ-ofZ w32 (negsuc n) f) at e))
 
 pub text-above :
     (z : ℤ) → SFits w32 z → ltZ (toZ w32 (ofZ w32 z)) (pos 0) ≡ false →
     signedDigits z ++ (10 ∷ []) ≡ fieldBytes (natAbs (toZ w32 (ofZ w32 z))) 10
 unfolding signedDigits fieldBytes
 text-above (pos n) f e = rw (toZ-ofZ w32 (pos n) f)
-text-above (negsuc n) f e = let h : true ≡ false = rw (toZ-ofZ w32 (negsuc n) f) at e in let z : _≡_ {A = ℕ} 0 1 = cc in absurd (omega arith)
+text-above (negsuc n) f e = absurd (not-positive n (rw (toZ-ofZ w32 (negsuc n) f) at e))

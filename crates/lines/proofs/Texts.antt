@@ -5,13 +5,13 @@ use native.Mathlib.Decide.{decLt}
 use native.Mathlib.Omega.{arith}
 use mathlib.Core.Bool.{Bool, true, false, cond, _&&_}
 use mathlib.Core.List.{List, [], _∷_, _++_}
-use mathlib.Core.Path.{_≡_, refl, sym, ap, _∙_}
+use mathlib.Core.Path.{_≡_, refl}
 use borrow.Author.Tests.{eqb-true, le-leb, lt-ltb, le-ltb}
-use lib.Dec.{eqb, leb, ltb}
+use lib.Dec.{eqb}
 use lib.IntN.{ℤ, pos, negsuc}
 use lib.ListN.{length, length-append}
 use Rattle.lines.specs.Grammar.{isDigit, allDigits, isEmpty, isDecimal, valueFrom, value, isUpTo, naturalOf}
-use Rattle.lines.specs.Replies.{digitsBy, digits, signedDigits, fieldBytes, replyBytes}
+use Rattle.lines.specs.Replies.{digitsBy, digits, signedDigits, replyBytes}
 use Rattle.lines.specs.declared.Natural.the-variants.{Of}
 use Rattle.lines.specs.declared.Reply.{Reply}
 use Rattle.lines.specs.declared.Reply.the-variants.{Accepted, Found, Missing, Refused, Malformed}

@@ -1,12 +1,11 @@
 -- Runs of stores.
-use Prim.Native.Nat.{ℕ, zero, suc, _+_, _<_, _≤_}
+use Prim.Native.Nat.{ℕ, suc, _+_, _<_}
 use native.Mathlib.Nat.{add-zero, add-suc, suc-add}
-use native.Mathlib.Numerals.{add-one}
 use native.Mathlib.Omega.{arith}
 use mathlib.Core.List.{List, [], _∷_, _++_}
-use mathlib.Core.Path.{_≡_, refl, sym, ap, _∙_}
-use lib.ListN.{length, take, drop, getD, set, length-append}
-use lib.Seq.{sets, take-suc, length-take-le, length-sets}
+use mathlib.Core.Path.{_≡_, refl, _∙_}
+use lib.ListN.{length, take, getD, set, length-append}
+use lib.Seq.{sets, take-suc, length-take-le}
 use Rattle.lines.specs.Replies.{Written}
 
 pub sets-append : (l : List ℕ) (i : ℕ) (a b : List ℕ) → sets l i (a ++ b) ≡ sets (sets l i a) (i + length a) b

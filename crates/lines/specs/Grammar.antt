@@ -3,7 +3,7 @@ use Prim.Native.Nat.{ℕ, zero, suc, _+_, _-_, _*_}
 use mathlib.Core.Bool.{Bool, true, false, cond, _&&_}
 use mathlib.Core.List.{List, [], _∷_, _++_}
 use lib.Dec.{leb, ltb, eqb}
-use lib.IntN.{ℤ, pos, negℤ}
+use lib.IntN.{pos, negℤ}
 use lib.ListN.{take}
 use Rattle.lines.specs.declared.Command.{Command}
 use Rattle.lines.specs.declared.Command.the-variants.{Enter, LookUp, Remove, Grow, Bad}
@@ -83,25 +83,15 @@ enterOf (number ∷ ra ∷ []) = Bad
 enterOf (number ∷ ra ∷ dec ∷ []) = enterWith (naturalOf number) (naturalOf ra) (declinationOf dec)
 enterOf (number ∷ ra ∷ dec ∷ more ∷ l) = Bad
 
-unfoldable pub lookUpWith : Natural → Command
-lookUpWith Wrong = Bad
-lookUpWith (Of number) = LookUp number
+unfoldable pub numberWith : (ℕ → Command) → Natural → Command
+numberWith make Wrong = Bad
+numberWith make (Of number) = make number
 
--- `L number`, after its letter
-unfoldable pub lookUpOf : List (List ℕ) → Command
-lookUpOf [] = Bad
-lookUpOf (number ∷ []) = lookUpWith (naturalOf number)
-lookUpOf (number ∷ more ∷ l) = Bad
-
-unfoldable pub removeWith : Natural → Command
-removeWith Wrong = Bad
-removeWith (Of number) = Remove number
-
--- `R number`, after its letter
-unfoldable pub removeOf : List (List ℕ) → Command
-removeOf [] = Bad
-removeOf (number ∷ []) = removeWith (naturalOf number)
-removeOf (number ∷ more ∷ l) = Bad
+-- `L number` or `R number`, after its letter
+unfoldable pub numberOf : (ℕ → Command) → List (List ℕ) → Command
+numberOf make [] = Bad
+numberOf make (number ∷ []) = numberWith make (naturalOf number)
+numberOf make (number ∷ more ∷ l) = Bad
 
 -- `G`, after its letter
 unfoldable pub growOf : List (List ℕ) → Command
@@ -117,7 +107,8 @@ letterOf (c ∷ d ∷ l) = 0
 -- by the letter E, L, R or G of the first field, from the fields after it
 unfoldable pub byLetter : ℕ → List (List ℕ) → Command
 byLetter c fs =
-    cond (eqb c 69) (enterOf fs) (cond (eqb c 76) (lookUpOf fs) (cond (eqb c 82) (removeOf fs) (cond (eqb c 71) (growOf fs) Bad)))
+    cond (eqb c 69) (enterOf fs)
+    (cond (eqb c 76) (numberOf LookUp fs) (cond (eqb c 82) (numberOf Remove fs) (cond (eqb c 71) (growOf fs) Bad)))
 
 unfoldable pub byFields : List (List ℕ) → Command
 byFields [] = Bad

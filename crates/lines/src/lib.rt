@@ -1,9 +1,9 @@
 // A line of the program starline as a command, and its answers as text.
-ghost use Prim.Native.Nat.{ℕ, _+_, _-_, _*_, _≤_, _<_};
+ghost use Prim.Native.Nat.{ℕ, _+_, _≤_};
 ghost use mathlib.Core.Path.{_≡_};
 ghost use mathlib.Core.List.{List, [], _∷_, _++_};
-ghost use lib.ListN.{length, take, drop};
-ghost use Rattle.lines.specs.Grammar.{fields, fieldLength, commandOf, enterOf, lookUpOf, removeOf, naturalOf, declinationOf, isEmpty, kept, lineBytes};
+ghost use lib.ListN.{length};
+ghost use Rattle.lines.specs.Grammar.{fields, fieldLength, commandOf, enterOf, naturalOf, declinationOf, isEmpty, kept, lineBytes};
 ghost use Rattle.lines.specs.Replies.{digits, signedDigits, fieldBytes, replyBytes, Written};
 
 pub enum Command {
@@ -64,11 +64,14 @@ pub fn parse(line: &[u8]) -> Command
     if letter == b'E' {
         return enter(operands);
     }
+    let Natural::Of(number) = read_natural(operands) else {
+        return Command::Bad;
+    };
     if letter == b'L' {
-        return look_up(operands);
+        return Command::LookUp(number);
     }
     if letter == b'R' {
-        return remove(operands);
+        return Command::Remove(number);
     }
     Command::Bad
 }
@@ -101,24 +104,6 @@ fn enter_at(number: u32, position: &[u8]) -> Command
         return Command::Bad;
     };
     Command::Enter { number, ra, dec }
-}
-
-fn look_up(operands: &[u8]) -> Command
-    ensures { λ r. ⌜ r ≡ lookUpOf (fields (now (operands .entry))) ⌝ }
-{
-    let Natural::Of(number) = read_natural(operands) else {
-        return Command::Bad;
-    };
-    Command::LookUp(number)
-}
-
-fn remove(operands: &[u8]) -> Command
-    ensures { λ r. ⌜ r ≡ removeOf (fields (now (operands .entry))) ⌝ }
-{
-    let Natural::Of(number) = read_natural(operands) else {
-        return Command::Bad;
-    };
-    Command::Remove(number)
 }
 
 // Where the first field ends: at the first blank, or at the end.

@@ -1,11 +1,9 @@
 -- `lines::first_blank` meets its contract. The loop's invariant: no blank stands before i.
 use Prim.Native.Nat.{_+_, _-_, _≤_}
-use native.Mathlib.Nat.{add-zero}
 use native.Mathlib.Numerals.{add-one}
 use native.Mathlib.Omega.{arith}
-use mathlib.Core.Path.{_≡_, refl, sym, _∙_}
+use mathlib.Core.Path.{_≡_, _∙_}
 use lib.ListN.{length, drop, length-drop}
-use lib.Seq.{drop-length}
 use Rattle.lines.proofs.Split.{blank-here, blank-later, field-within}
 use Rattle.lines.specs.Grammar.{fieldLength}
 use Rattle.lines.proofs.first_blank.Statement.{statement}

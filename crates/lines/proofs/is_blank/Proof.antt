@@ -1,5 +1,5 @@
 -- `lines::is_blank` meets its contract.
-use mathlib.Core.Path.{_≡_, sym, _∙_}
+use mathlib.Core.Path.{sym}
 use Rattle.lines.specs.Grammar.{lineBytes}
 use Rattle.lines.proofs.Kept.{kept-none}
 use Rattle.lines.proofs.is_blank.Statement.{statement}

@@ -1,9 +1,12 @@
 -- `lines::parse` meets its contract.
 use native.Mathlib.Omega.{arith}
 use mathlib.Core.Path.{_≡_, sym, ap, _∙_}
-use Rattle.lines.specs.Grammar.{commandOf, fields, byLetter}
+use lib.ListN.{drop, getD}
+use Rattle.lines.specs.Grammar.{commandOf, fields, naturalOf, numberWith, byLetter}
+use Rattle.lines.specs.declared.Command.the-variants.{LookUp, Remove}
 use Rattle.lines.proofs.Split.{rest-is}
-use Rattle.lines.proofs.Commands.{empty-bad, grow-alone, other-alone, second-bad, lettered, other-letter}
+use Rattle.lines.proofs.Alone.{number-alone}
+use Rattle.lines.proofs.Commands.{empty-bad, grow-alone, other-alone, second-bad, lettered, wrong-number, other-letter}
 use borrow.Author.Needs.{needs}
 use Rattle.lines.proofs.parse.Statement.{statement}
 use Rattle.lines.proofs.parse.Tie as tie
@@ -38,32 +41,52 @@ part-operands-end c = search needs
 enter-requires : tie.Need-enter-requires
 enter-requires c κs = search needs
 
+-- a letter and a blank
+by-letter :
+    (c : tie.Else4) →
+    let l = c .before .before .before .before .before .before .args .line .now in
+    commandOf l ≡ byLetter (getD l 0 0) (fields (drop 2 l))
+by-letter c = lettered _ (omega arith) (c .if4 .left)
+
+-- what stands after them, as one number
+read :
+    (c : tie.After-read-natural) → naturalOf (drop 2 (c .before .before .before .before .before .before .before .before .before .args .line .now)) ≡ c .read-natural .result
+read c = sym (rw rest-is at (c .read-natural .ensures))
+
 returns-5 : tie.Need-returns-5
 unfolding byLetter
-returns-5 c =
-    c .enter .ensures
-    ∙ sym (rw rest-is (lettered _ (omega arith) (c .before .before .before .if4 .left) ∙ rw (c .before .if5 .taken)))
+returns-5 c = c .enter .ensures ∙ sym (rw rest-is (by-letter (c .before .before .before) ∙ rw (c .before .if5 .taken)))
 
-look-up-requires : tie.Need-look-up-requires
-look-up-requires c κs = search needs
+read-natural-requires : tie.Need-read-natural-requires
+read-natural-requires c κs = search needs
+
+enum-known-number : tie.Need-enum-known-number
+enum-known-number c = search needs
+
+enum-told : tie.Need-enum-told
+enum-told c = search needs
 
 returns-6 : tie.Need-returns-6
-unfolding byLetter
-returns-6 c =
-    c .look-up .ensures
-    ∙ sym (rw rest-is (lettered _ (omega arith) (c .before .before .before .before .if4 .left) ∙ rw (c .before .if6 .taken)))
-
-remove-requires : tie.Need-remove-requires
-remove-requires c κs = search needs
+returns-6 c = sym (by-letter (c .before .before .before .before .before) ∙ wrong-number _ _ (c .before .before .before .if5 .left) (read (c .before .before) ∙ c .enum-told .given .1))
 
 returns-7 : tie.Need-returns-7
-unfolding byLetter
+unfolding byLetter numberWith
 returns-7 c =
-    c .remove .ensures
-    ∙ sym (rw rest-is (lettered _ (omega arith) (c .before .before .before .before .before .if4 .left) ∙ rw (c .before .if7 .taken)))
+    sym
+    (by-letter (c .before .before .before .before .before .before .before)
+    ∙ rw (c .if6 .taken)
+    (number-alone LookUp _ ∙ ap (numberWith LookUp) (read (c .before .before .before .before) ∙ c .before .before .number .given .1)))
 
 returns-8 : tie.Need-returns-8
-returns-8 c = sym (lettered _ (omega arith) (c .before .before .before .before .if4 .left) ∙ other-letter _ _ (c .before .before .if5 .left) (c .before .if6 .left) (c .if7 .left))
+unfolding byLetter numberWith
+returns-8 c =
+    sym
+    (by-letter (c .before .before .before .before .before .before .before .before)
+    ∙ rw (c .if7 .taken)
+    (number-alone Remove _ ∙ ap (numberWith Remove) (read (c .before .before .before .before .before) ∙ c .before .before .before .number .given .1)))
+
+returns-9 : tie.Need-returns-9
+returns-9 c = sym (by-letter (c .before .before .before .before .before .before .before .before) ∙ other-letter _ _ (c .before .before .before .before .before .before .if5 .left) (c .before .if6 .left) (c .if7 .left))
 
 pub parse-spec : {M : Type 1} → statement M
 parse-spec =
@@ -80,8 +103,10 @@ parse-spec =
     part-operands-end
     enter-requires
     returns-5
-    look-up-requires
+    read-natural-requires
+    enum-known-number
+    enum-told
     returns-6
-    remove-requires
     returns-7
-    returns-8)
+    returns-8
+    returns-9)

@@ -1,4 +1,6 @@
 -- `lines::push` meets its contract.
+use Prim.Native.Nat.{_<_}
+use native.Mathlib.Omega.{arith}
 use borrow.Author.Needs.{needs}
 use Rattle.lines.specs.Grammar.{lineBytes}
 use Rattle.lines.proofs.Kept.{kept-full, kept-more}
@@ -13,7 +15,9 @@ add-t9 c = search needs
 
 returns : tie.Need-returns
 unfolding lineBytes
-returns c = kept-more _ (c .before .before .good .0 .1 .1 .0 .1 .0 .1) _ _ (c .before .if1 .taken)
+returns c =
+    let room : c .before .before .args .line .length < 65 = omega arith in
+    kept-more _ (c .before .before .good .0 .1 .1 .0 .1 .0 .1) _ _ room
 
 returns-2 : tie.Need-returns-2
 unfolding lineBytes

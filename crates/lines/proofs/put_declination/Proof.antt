@@ -1,9 +1,8 @@
 -- `lines::put_declination` meets its contract: a minus and the size, or the size alone.
-use Prim.Native.Nat.{_+_}
 use native.Mathlib.Omega.{arith}
 use mathlib.Core.List.{[], _∷_}
 use mathlib.Core.Path.{refl, _∙_}
-use lib.ListN.{length, length-set}
+use lib.ListN.{length-set}
 use Rattle.lines.proofs.Signs.{widens, minus-fits, size-below, text-below, size-above, text-above}
 use Rattle.lines.proofs.Writing.{then}
 use borrow.Author.Needs.{needs}

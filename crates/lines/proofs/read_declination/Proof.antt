@@ -2,10 +2,9 @@
 use Prim.Native.Nat.{_<_}
 use native.Mathlib.Omega.{arith}
 use mathlib.Core.Path.{_≡_, sym, ap, _∙_}
-use borrow.Author.Tests.{le-leb, lt-leb, lt-ltb, le-ltb}
+use borrow.Author.Tests.{le-leb, lt-leb, lt-ltb}
 use lib.Dec.{leb, ltb}
 use lib.IntN.{pos, negℤ}
-use lib.ListN.{length}
 use mathlib.Core.Bool.{cond, _&&_}
 use mir.Syntax.{w32}
 use mir.ValLaws.{toZ-pos}
