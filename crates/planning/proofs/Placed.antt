@@ -2,12 +2,12 @@
 use mathlib.Core.Path.{_≡_, refl, sym, ap, _∙_}
 use mathlib.Core.Bool.{true}
 use mathlib.Core.List.{List, [], _∷_, _++_, map}
-use Prim.Native.Nat.{ℕ, _+_, _*_, _^_, _≤_, _<_}
+use Prim.Native.Nat.{ℕ, suc, zero, _+_, _*_, _^_, _≤_, _<_}
 use native.Mathlib.Nat.{add-zero, add-mul, le-refl, mul-one}
 use native.Mathlib.Numerals.{add-one}
 use native.Mathlib.Omega.{arith}
-use lib.ListN.{length, take, drop, length-drop, take-append-drop}
-use lib.Seq.{take-at, drop-at, length-take-le, drop-append-le, take-append-le, take-add, drop-drop}
+use lib.ListN.{length, take, drop, length-map, length-drop, take-append-drop}
+use lib.Seq.{paste, take-at, drop-at, length-take-le, drop-append-le, take-append-le, take-add, drop-drop}
 use borrow.Author.Tests.{eq-eqb, le-leb}
 use Rattle.hashing.specs.declared.Parameters.{Parameters}
 use Rattle.hashing.specs.declared.Growth.{Growth}
@@ -21,15 +21,16 @@ use Rattle.placement.proofs.Standing.{length-separators}
 use Rattle.placement.proofs.Writing.{length-column, column-append, separators-append}
 use Rattle.waiting.specs.Lists.{all, allBelow}
 use Rattle.waiting.specs.Words.{pack}
-use Rattle.waiting.specs.Gather.{stretch, grouped, groupsBelow}
+use Rattle.waiting.specs.Gather.{stretch, wordsFrom, group, grouped, groupsBelow}
 use Rattle.waiting.specs.Settle.{homesUpTo}
 use Rattle.waiting.proofs.Packing.{home-pack, number-pack, source-pack}
 use Rattle.planning.specs.Sources.{named, renamed, sourced}
-use Rattle.planning.specs.Plans.{stretchWords, waits, homed, plans, remains, Planned}
-use Rattle.planning.proofs.Pouring.{waits-grouped}
-use Rattle.planning.proofs.Ties.{Probes, plans-are}
+use Rattle.planning.specs.Plans.{stretchWords, waits, homed, carriedOn, plans, remains, Planned}
+use Rattle.planning.proofs.Copies.{paste-written, map-take}
+use Rattle.planning.proofs.Pouring.{waits-grouped, length-waits}
+use Rattle.planning.proofs.Ties.{Probes, plans-are, homed-onward, homed-probing}
 use Rattle.planning.proofs.Applying.{renamed-keeps, plans-sourced, applied, applied-is}
-use Rattle.planning.proofs.Sourcing.{itemHome, words-homed, words-grouped, words-sourced, words-fresh, fresh, named-stretch, named-last, length-stretch, true-stars, new-star}
+use Rattle.planning.proofs.Sourcing.{itemHome, words-append, words-homed, words-grouped, words-sourced, words-fresh, fresh, named-stretch, named-last, length-stretch, true-stars, new-star}
 use Rattle.planning.proofs.Stretch.{plans-roomy, length-plans}
 use Rattle.planning.proofs.Blocks.{from, plans-blocks}
 
@@ -243,3 +244,40 @@ pub applied-layout : (bits places lo n newnumber newword : ℕ) (f : File) (w l 
 applied-layout bits places lo n newnumber newword f w l pool planned W r A sw sl =
     applied-is places lo n newnumber newword pool planned f (plans bits places lo 0 n w l) (A .sources) (A .separators-are)
     (plans-sourced (f .numbers) newnumber bits places lo 0 n w l sw sl)
+
+-- ---- for a caller that surveys its pages and plans them in blocks
+
+-- the homes that a survey leaves in the pool
+pub surveyed-homes : (p : Parameters) (g : Growth) (places lo n : ℕ) (hs ns : List ℕ) → (lo + n) * places ≤ length hs → (lo + n) * places ≤ length ns
+    → stretch places lo n (paste hs (lo * places) (homesOf multiplier p g (drop (lo * places) ns)) (n * places)) ≡ map (itemHome (hashOf multiplier p g)) (stretch places lo n ns)
+surveyed-homes p g places lo n hs ns hh hn =
+    let items : List ℕ = map (itemHome (hashOf multiplier p g)) (drop (lo * places) ns) in
+    let long : n * places ≤ length items = rw (length-map (drop (lo * places) ns) (itemHome (hashOf multiplier p g)), length-drop (lo * places) ns) (omega (arith, add-mul lo n places)) in
+    ap (λ (l : List ℕ). stretch places lo n (paste hs (lo * places) l (n * places))) (homes-real p g (drop (lo * places) ns))
+    ∙ ap (stretch places lo n) (paste-written hs (lo * places) items (n * places) long)
+    ∙ stretch-written places lo n (take (n * places) items) hs (length-take-le (n * places) items long) (omega (arith, add-mul lo n places))
+    ∙ map-take (itemHome (hashOf multiplier p g)) (n * places) (drop (lo * places) ns)
+
+-- the words of two stretches, one after the other
+pub stretch-words-add : (places lo n m k : ℕ) (ns hs : List ℕ) → (lo + n) * places ≤ length ns → (lo + n) * places ≤ length hs
+    → stretchWords places lo (n + m) k ns hs ≡ stretchWords places lo n k ns hs ++ stretchWords places (lo + n) m k ns hs
+stretch-words-add places lo n m k ns hs hn hh =
+    let ln : length (stretch places lo n ns) ≡ n * places = length-stretch places lo n ns hn in
+    let lh : length (stretch places lo n hs) ≡ n * places = length-stretch places lo n hs hh in
+    let seam : lo * places + length (stretch places lo n ns) ≡ (lo + n) * places = omega (arith, add-mul lo n places) in
+    ap (λ (l : List ℕ). wordsFrom (lo * places) k l (stretch places lo (n + m) hs)) (stretch-add places lo n m ns)
+    ∙ ap (λ (l : List ℕ). wordsFrom (lo * places) k (stretch places lo n ns ++ stretch places (lo + n) m ns) l) (stretch-add places lo n m hs)
+    ∙ words-append (lo * places) k (stretch places lo n ns) (stretch places lo n hs) (stretch places (lo + n) m ns) (stretch places (lo + n) m hs) (ln ∙ sym lh)
+    ∙ ap (λ (at : ℕ). stretchWords places lo n k ns hs ++ wordsFrom at k (stretch places (lo + n) m ns) (stretch places (lo + n) m hs)) seam
+
+-- as many stars are left as words
+pub left-count : (g : Star → Star) (l : List ℕ) (t : List Star) → map g (waits l) ≡ t → length t ≡ length l
+left-count g l t e = ap length (sym e) ∙ length-map (waits l) g ∙ length-waits l
+
+-- what is carried past a stretch carries true homes
+pub remains-homed : (H : Hash) (bits room : ℕ) → Probes H bits room → (lo v n : ℕ) (w l : List ℕ) → homed H w ≡ true → homed H l ≡ true → homed H (remains bits room lo v n w l) ≡ true
+unfolding remains
+remains-homed H bits room real lo v zero w l hw hl = hw
+remains-homed H bits room real lo v (suc n) w l hw hl =
+    remains-homed H bits room real lo (suc v) n (carriedOn bits room (lo + v) (w ++ group lo v l)) l
+    (homed-onward H bits room real (lo + v) (w ++ group lo v l) (homed-probing H bits room real lo v w l hw hl)) hl

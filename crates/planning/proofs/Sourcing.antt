@@ -28,6 +28,7 @@ use Rattle.planning.specs.Plans.{starOf, waits, homed}
 use Rattle.planning.proofs.Pouring.{pour-cons}
 use Rattle.planning.proofs.Copies.{within}
 use Rattle.planning.proofs.Applying.{renamed-keeps}
+use Rattle.planning.proofs.Blocks.{from}
 
 -- a test that every word of the items passes
 all-words : (q : ℕ → Bool) (at k : ℕ) (ns hs : List ℕ)
@@ -264,6 +265,31 @@ words-stars W new at k (n ∷ ns) (x ∷ hs) (w ∷ ws) v h eh ew named-is =
     go true t e ih star = ih
     go false true e ih star = rw e ih
     go false false e ih star = rw e (rw (star, ih))
+
+-- the words of two lists of items, one after the other
+pub words-append : (at k : ℕ) (ns hs ms js : List ℕ) → length ns ≡ length hs
+    → wordsFrom at k (ns ++ ms) (hs ++ js) ≡ wordsFrom at k ns hs ++ wordsFrom (at + length ns) k ms js
+unfolding wordsFrom
+words-append at k [] [] ms js e = rw (add-zero at)
+words-append at k [] (h ∷ hs) ms js e = absurd (omega arith)
+words-append at k (n ∷ ns) [] ms js e = absurd (omega arith)
+words-append at k (n ∷ ns) (h ∷ hs) ms js e =
+    rw (add-suc at (length ns), ← suc-add at (length ns)) (go (skipped k n) (words-append (suc at) k ns hs ms js (omega arith)))
+  where
+    go : (t : Bool) → wordsFrom (suc at) k (ns ++ ms) (hs ++ js) ≡ wordsFrom (suc at) k ns hs ++ wordsFrom (suc at + length ns) k ms js
+        → cond t (wordsFrom (suc at) k (ns ++ ms) (hs ++ js)) (pack h n (suc at) ∷ wordsFrom (suc at) k (ns ++ ms) (hs ++ js))
+        ≡ cond t (wordsFrom (suc at) k ns hs) (pack h n (suc at) ∷ wordsFrom (suc at) k ns hs) ++ wordsFrom (suc at + length ns) k ms js
+    go true ih = ih
+    go false ih = ap (λ (l : List ℕ). pack h n (suc at) ∷ l) ih
+
+-- words whose items are homed at page p or higher
+pub words-from : (p at k : ℕ) (ns hs : List ℕ) → allBelow (2 ^ 31) ns ≡ true → at + length ns < 2 ^ 16
+    → ((i : ℕ) → i < length ns → skipped k (getD ns i 0) ≡ false → p ≤ getD hs i 0) → from p (wordsFrom at k ns hs) ≡ true
+unfolding from
+words-from p at k ns hs valid items high =
+    all-words (λ w. leb p (homeOf w)) at k ns hs
+    (λ i a b s.
+    rw (home-pack (getD hs i 0) (getD ns i 0) (suc (at + i)) (item-below (2 ^ 31) ns i valid a) (omega arith)) (le-leb p (getD hs i 0) (high i a s)))
 
 -- ---- the items of a stretch in the lent lists
 

@@ -172,10 +172,10 @@ module _ (H : Hash) (bits room : ℕ) (real : Probes H bits room) where
       homed-append (group lo v l) (grouped lo (suc v) n l) (homed-filter (λ w. eqb (groupOf lo w) v) l h) (homed-grouped lo (suc v) n l h)
 
   -- the words that page lo + v is probed by: those carried on to it and its group
-  homed-probing : (lo v : ℕ) (w l : List ℕ) → homed H w ≡ true → homed H l ≡ true → homed H (w ++ group lo v l) ≡ true
+  pub homed-probing : (lo v : ℕ) (w l : List ℕ) → homed H w ≡ true → homed H l ≡ true → homed H (w ++ group lo v l) ≡ true
   homed-probing lo v w l hw hl = homed-append w (group lo v l) hw (homed-filter (λ x. eqb (groupOf lo x) v) l hl)
 
-  homed-onward : (p : ℕ) (l : List ℕ) → homed H l ≡ true → homed H (carriedOn bits room p l) ≡ true
+  pub homed-onward : (p : ℕ) (l : List ℕ) → homed H l ≡ true → homed H (carriedOn bits room p l) ≡ true
   unfolding carriedOn passing
   homed-onward p l h = homed-filter (λ w. not (under bits p (separatorOf bits room p l) w)) l h
 

@@ -1,8 +1,8 @@
 // Applying a plan: what the sources name is fetched through the pool, and the stretch is copied back to the file.
 ghost use mathlib.Core.Path.{_≡_};
-ghost use mathlib.Core.List.{_∷_, map};
+ghost use mathlib.Core.List.{map};
 ghost use Prim.Native.Nat.{_+_, _*_, _≤_};
-ghost use lib.ListN.{length, getD, take, drop, replicate};
+ghost use lib.ListN.{length, take, drop, replicate};
 ghost use lib.Seq.{paste};
 ghost use Rattle.placement.specs.File.{written};
 ghost use Rattle.waiting.specs.Gather.{stretch};
