@@ -5,3 +5,4 @@ mod moving;
 pub use layout::plan;
 pub use moving::apply;
 pub use moving::clear;
+pub use moving::fetch;

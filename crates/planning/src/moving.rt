@@ -101,7 +101,7 @@ fn copy_separators(separators: &mut [u8], planned: &[u8], lo: usize, count: usiz
 }
 
 // Words first: the sources stand where the numbers go.
-fn fetch(
+pub fn fetch(
     numbers: &[u32],
     words: &[u64],
     pool: &mut [u32],
