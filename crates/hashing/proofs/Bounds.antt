@@ -1,8 +1,8 @@
 -- What valid parameters and a valid growth state say, as bounds, both ways.
-use mathlib.Core.Path.{_≡_, _∙_, refl, sym, ap}
+use mathlib.Core.Path.{_≡_, _∙_, refl, sym}
 use mathlib.Core.Bool.{Bool, true, false, not, _&&_, false≢true}
-use Prim.Native.Nat.{ℕ, zero, suc, _+_, _-_, _*_, _/_, _%_, _^_, _≤_, _<_}
-use native.Mathlib.Nat.{mod-lt, le-trans, mul-le-mul, mul-le-mul-left, mul-le-mul-right, mul-one, one-mul, div-add-mod, pow-zero}
+use Prim.Native.Nat.{ℕ, _*_, _/_, _^_, _≤_, _<_}
+use native.Mathlib.Nat.{mod-lt, mul-le-mul, mul-le-mul-left, mul-le-mul-right, mul-one, one-mul, div-add-mod}
 use native.Mathlib.Decide.{decLe}
 use native.Mathlib.Omega.{arith}
 use lib.Dec.{leb, ltb}
@@ -10,9 +10,8 @@ use lib.Pow.{pow-pos, pow-mono}
 use borrow.Author.Tests.{not-true, not-false, leb-true, ltb-true, le-leb, lt-ltb}
 use Rattle.hashing.specs.declared.Parameters.{Parameters}
 use Rattle.hashing.specs.declared.Growth.{Growth}
-use Rattle.hashing.specs.Geometry.{sizeAt, countAt, groupSize, groupCount, pageCount, ungrown}
+use Rattle.hashing.specs.Geometry.{sizeAt, countAt, groupSize, groupCount, pageCount}
 use Rattle.hashing.specs.Limits.{within, validParameters, validGrowth}
-use Rattle.hashing.proofs.Numbers.{div-mono}
 
 pub record Limits (p : Parameters) : Type 0 where
   pub places-least : 1 ≤ p .places
@@ -121,15 +120,12 @@ pub count-least : (p : Parameters) (e : ℕ) → p .groups ≤ countAt p e
 unfolding countAt
 count-least p e = omega (arith, mul-le-mul-left (p .groups) (pow-pos (e / p .width)), mul-one (p .groups))
 
-pub count-mono : (p : Parameters) (i e : ℕ) → i ≤ e → countAt p i ≤ countAt p e
-unfolding countAt
-count-mono p i e h = mul-le-mul-left (p .groups) (pow-mono (div-mono (p .width) h))
+pub doubled-most : (groups d : ℕ) → groups ≤ 256 → d ≤ 10 → groups * 2 ^ d ≤ 262144
+doubled-most groups d h l = mul-le-mul {n₂ = 256} {m₂ = 2 ^ 10} h (pow-mono l)
 
 pub count-most : (p : Parameters) (e : ℕ) → Limits p → e / p .width ≤ 10 → countAt p e ≤ 262144
 unfolding countAt
-count-most p e l h =
-    let few : 2 ^ (e / p .width) ≤ 2 ^ 10 = pow-mono h in
-    omega (arith, mul-le-mul (l .groups-most) few)
+count-most p e l h = doubled-most (p .groups) (e / p .width) (l .groups-most) h
 
 -- what the code needs of a valid growth state
 pub record Spread (p : Parameters) (g : Growth) : Type 0 where

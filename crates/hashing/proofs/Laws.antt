@@ -1,23 +1,23 @@
 -- The laws of signatures, ranks, homes and growth, for any multiplier.
-use mathlib.Core.Path.{_≡_, _∙_, refl, sym, ap}
-use mathlib.Core.Bool.{Bool, true, false, _&&_, _||_, cond, and-false, and-true}
-use mathlib.Core.Logic.{_⊎_, inl, inr, ⊎-elim}
-use Prim.Native.Nat.{ℕ, zero, suc, _+_, _-_, _*_, _/_, _%_, _^_, _≤_, _<_, min}
-use native.Mathlib.Nat.{mod-lt, le-trans, lt-of-lt-of-le, add-mul, mul-add, mul-assoc, one-mul, mul-one, two-pow-succ, div-add-mod, zero-mod, zero-div, pow-zero, add-zero, mod-le, le-refl, mul-le-mul, mod-eq-of-lt}
+use mathlib.Core.Path.{_≡_, _∙_, refl}
+use mathlib.Core.Bool.{Bool, true, false, _&&_, cond, and-false, and-true}
+use mathlib.Core.Logic.{_⊎_, inl, inr}
+use Prim.Native.Nat.{ℕ, zero, suc, _+_, _-_, _*_, _/_, _%_, _^_, _≤_, _<_}
+use native.Mathlib.Nat.{mod-lt, add-mul, mul-add, one-mul, mul-one, two-pow-succ, div-add-mod, zero-mod, zero-div, pow-zero, add-zero, mul-le-mul}
 use native.Mathlib.Decide.{decLe, decLt}
 use native.Mathlib.Numerals.{add-one}
 use native.Mathlib.Omega.{arith}
 use lib.Dec.{leb, ltb, eqb}
-use lib.Pow.{pow-pos, pow-mono}
-use borrow.Author.Tests.{leb-true, ltb-true, eqb-true, leb-false, ltb-false, eqb-false, le-leb, lt-ltb, le-ltb, lt-leb, eq-eqb, ne-eqb}
+use lib.Pow.{pow-mono}
+use borrow.Author.Tests.{ltb-true, eqb-true, eqb-false, le-leb, lt-ltb, le-ltb, lt-leb, eq-eqb, ne-eqb}
 use Rattle.hashing.specs.declared.Parameters.{Parameters}
 use Rattle.hashing.specs.declared.Growth.{Growth}
 use Rattle.hashing.specs.Generator.{modulus, scrambled, topOf, signature}
 use Rattle.hashing.specs.Geometry.{sizeAt, countAt, groupSize, groupCount, pageCount, highest, grown, grownBy, ungrown, rank, swept}
 use Rattle.hashing.specs.Limits.{validParameters, validGrowth}
 use Rattle.hashing.specs.Home.{rankAt, chosen, expandedAt, movedIf, stepFrom, afterSteps, home}
-use Rattle.hashing.proofs.Numbers.{next, Next, sweep-below}
-use Rattle.hashing.proofs.Bounds.{Limits, Within, Spread, limits, growth-within, within-valid, spread, size-least, size-most, count-least, both}
+use Rattle.hashing.proofs.Numbers.{next, Next, sweep-below, shifted}
+use Rattle.hashing.proofs.Bounds.{Limits, limits, growth-within, within-valid, count-least, both}
 
 -- signatures
 
@@ -32,9 +32,7 @@ top-most bits h = omega (arith, pow-mono {i = bits} {j = 8} h)
 -- the same as a shift of 32 bits computes it
 pub top-shifted : (bits : ℕ) → bits ≤ 8 → 1 * 2 ^ bits % 2 ^ 32 - 1 ≡ topOf bits
 unfolding topOf
-top-shifted bits h =
-    let most : 2 ^ bits ≤ 2 ^ 8 = pow-mono h in
-    omega (arith, one-mul (2 ^ bits), mod-eq-of-lt {n = 1 * 2 ^ bits} {m = 2 ^ 32} (omega (arith, one-mul (2 ^ bits))))
+top-shifted bits h = rw (shifted bits (omega arith))
 
 pub signature-below : (a bits k t : ℕ) → 1 ≤ bits → signature a bits k t < topOf bits
 unfolding signature

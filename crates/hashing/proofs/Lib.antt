@@ -1,6 +1,6 @@
 pub mod Bounds
+pub mod Codes
 pub mod Laws
 pub mod Numbers
 pub mod Points
 pub mod Powers
-pub mod Products

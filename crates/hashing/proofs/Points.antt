@@ -1,6 +1,5 @@
 -- The points of document 01 that this crate's definitions answer, each by computation.
 use mathlib.Core.Path.{_≡_, refl}
-use Prim.Native.Nat.{ℕ}
 use Rattle.hashing.specs.declared.Parameters.{Parameters}
 use Rattle.hashing.specs.declared.Growth.{Growth}
 use Rattle.hashing.specs.Generator.{multiplier, scrambled, topOf, signature}

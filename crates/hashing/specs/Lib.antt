@@ -2,3 +2,4 @@ pub mod Generator
 pub mod Geometry
 pub mod Limits
 pub mod Home
+pub mod Moves

@@ -1,7 +1,7 @@
 // Scrambled star numbers and signatures, over the table of multipliers.
 ghost use mathlib.Core.Path.{_≡_};
-ghost use Prim.Native.Nat.{_≤_};
-ghost use Rattle.hashing.specs.Generator.{multiplier};
+ghost use Prim.Native.Nat.{_≤_, _<_};
+ghost use Rattle.hashing.specs.Generator.{modulus, multiplier};
 ghost use Rattle.hashing.specs.Generator.{multipliers as Generator·multipliers, scrambled as Generator·scrambled, signature as Generator·signature};
 use crate::MULTIPLIERS;
 
@@ -12,14 +12,28 @@ pub fn multipliers() -> [u32; 2049]
     MULTIPLIERS
 }
 
+// Xj of a number below the modulus. As 2^31 is 1 mod m, the product's two halves are added in place of a division.
+pub fn residue(table: &[u32; 2049], j: usize, key: u32) -> u32
+    requires { ⌜ now table ≡ Generator·multipliers ⌝ }
+    requires { ⌜ (1 ≤ j) × (j ≤ 2049) ⌝ }
+    requires { ⌜ key < modulus ⌝ }
+    ensures { λ r. ⌜ r ≡ Generator·scrambled multiplier j key ⌝ }
+{
+    let product = table[j - 1] as u64 * key as u64;
+    let sum = product / 2147483648 + product % 2147483648;
+    if sum < 2147483647 {
+        return sum as u32;
+    }
+    (sum - 2147483647) as u32
+}
+
 // Xj of a number.
 pub fn scrambled(table: &[u32; 2049], j: usize, number: u32) -> u32
     requires { ⌜ now table ≡ Generator·multipliers ⌝ }
     requires { ⌜ (1 ≤ j) × (j ≤ 2049) ⌝ }
     ensures { λ r. ⌜ r ≡ Generator·scrambled multiplier j number ⌝ }
 {
-    let product = table[j - 1] as u64 * number as u64;
-    (product % 2147483647) as u32
+    residue(table, j, number % 2147483647)
 }
 
 // The signature of a number on the probe-th page probed.

@@ -4,6 +4,7 @@ mod address;
 mod generator;
 mod groups;
 mod limits;
+mod moves;
 mod table;
 
 pub use address::home;

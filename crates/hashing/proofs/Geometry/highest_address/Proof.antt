@@ -1,10 +1,9 @@
 -- `hashing::Geometry::highest_address` meets its contract.
 use native.Mathlib.Omega.{arith}
 use borrow.Author.Needs.{needs}
-use mathlib.Core.Path.{_≡_}
-use Prim.Native.Nat.{_+_, _*_, _≤_}
-use Rattle.hashing.specs.Geometry.{highest, pageCount, groupSize, groupCount}
-use Rattle.hashing.proofs.Bounds.{Spread, limits, growth-within, spread, Limits, Within}
+use Prim.Native.Nat.{_≤_}
+use Rattle.hashing.specs.Geometry.{highest, pageCount}
+use Rattle.hashing.proofs.Bounds.{limits, growth-within, spread}
 use Rattle.hashing.proofs.Geometry.highest_address.Statement.{statement}
 use Rattle.hashing.proofs.Geometry.highest_address.Tie as tie
 

@@ -1,0 +1,53 @@
+-- `hashing::regrouped` meets its contract, by the law of a group after more doublings.
+use mathlib.Core.Path.{_≡_}
+use Prim.Native.Nat.{_-_, _*_, _/_, _%_, _^_, _≤_}
+use native.Mathlib.Nat.{le-trans, mod-le, mul-le-mul}
+use native.Mathlib.Omega.{arith}
+use borrow.Author.Needs.{needs}
+use lib.Pow.{pow-pos}
+use Rattle.hashing.specs.Moves.{countOf}
+use Rattle.hashing.proofs.Numbers.{shifted}
+use Rattle.hashing.proofs.Bounds.{limits}
+use Rattle.hashing.proofs.Codes.{count-of-most, regroup}
+use Rattle.hashing.proofs.moves.regrouped.Statement.{statement}
+use Rattle.hashing.proofs.moves.regrouped.Tie as tie
+
+power : (c : tie.Start) → 1 * 2 ^ (c .args .next / 8 - c .args .code / 8) % 4294967296 ≡ 2 ^ (c .args .next / 8 - c .args .code / 8)
+power c = shifted (c .args .next / 8 - c .args .code / 8) (omega (arith, c .pre .1 .1 .1))
+
+product : (c : tie.After-count-of) → c .before .args .code % 8 % (1 * 2 ^ (c .before .args .next / 8 - c .before .args .code / 8) % 4294967296) * c .count-of .result ≤ 7 * 262144
+product c =
+    let start = c .before in
+    let most = count-of-most (start .args .parameters) (start .args .code) (limits _ (start .pre .0)) (omega (arith, start .pre .1 .1)) in
+    rw (c .count-of .ensures) (mul-le-mul {n₂ = 7} {m₂ = 262144} (le-trans (mod-le (start .args .code % 8) _) (omega arith)) most)
+
+sub-rest : tie.Need-sub-rest
+sub-rest c = search needs
+
+shl-rest : tie.Need-shl-rest
+shl-rest c = search needs
+
+rem-rest : tie.Need-rem-rest
+rem-rest c = rw (power c) (pow-pos (c .args .next / 8 - c .args .code / 8))
+
+count-of-requires : tie.Need-count-of-requires
+count-of-requires c κs = search needs
+
+mul-result : tie.Need-mul-result
+mul-result c = omega (arith, product c)
+
+add-result : tie.Need-add-result
+add-result c =
+    let start = c .before in
+    omega (arith, product c, start .pre .1 .0, count-of-most (start .args .parameters) (start .args .code) (limits _ (start .pre .0)) (omega arith))
+
+returns : tie.Need-returns
+unfolding countOf
+returns c =
+    let start = c .before in
+    rw (power start, c .count-of .ensures)
+    (regroup (start .args .parameters) (start .args .code) (start .args .order) (start .args .next / 8) (start .pre .1 .0) (start .pre .1 .1 .0))
+
+pub regrouped-spec : {M : Type 1} → statement M
+regrouped-spec =
+    tie.close (tie.spec sub-rest shl-rest rem-rest count-of-requires mul-result add-result returns)
