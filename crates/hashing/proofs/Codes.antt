@@ -16,7 +16,7 @@ use Rattle.hashing.specs.declared.Growth.{Growth}
 use Rattle.hashing.specs.Generator.{modulus, scrambled}
 use Rattle.hashing.specs.Geometry.{sizeAt, countAt, rank}
 use Rattle.hashing.specs.Home.{rankAt, chosen, movedIf, stepFrom, afterSteps, home}
-use Rattle.hashing.specs.Moves.{codeAt, moves, countOf, pageOf, movedTo, followed, Climbs}
+use Rattle.hashing.specs.Moves.{codeAt, moves, countOf, pageOf, movedTo, followed, Rising}
 use Rattle.hashing.proofs.Numbers.{next, Next, mul-mod-right, div-mono}
 use Rattle.hashing.proofs.Bounds.{Limits, size-most, doubled-most}
 use Rattle.hashing.proofs.Laws.{step-over, steps-one, rank-below}
@@ -59,11 +59,15 @@ unfolding codeAt sizeAt
 code-start p = rw (zero-div (p .width), zero-mod (p .width)) (omega arith)
 
 -- the next step: the group grows by a page, or the groups double and the size starts again
-pub code-next : (p : Parameters) (i : ℕ) → Limits p → ((codeAt p i % 8 + 1 < 2 * p .width) × (codeAt p (suc i) ≡ codeAt p i + 1)) ⊎ ((codeAt p i % 8 + 1 ≡ 2 * p .width) × (codeAt p (suc i) + p .width ≡ codeAt p i + 9))
+pub code-next :
+    (p : Parameters) (i : ℕ) → Limits p →
+    ((codeAt p i % 8 + 1 < 2 * p .width) × (codeAt p (suc i) ≡ codeAt p i + 1)) ⊎ ((codeAt p i % 8 + 1 ≡ 2 * p .width) × (codeAt p (suc i) + p .width ≡ codeAt p i + 9))
 unfolding sizeAt codeAt
 code-next p i l = rw (code-size p i l) (go (next (p .width) i (l .width-least)))
   where
-    go : Next (p .width) i → ((p .width + i % p .width + 1 < 2 * p .width) × (suc i / p .width * 8 + (p .width + suc i % p .width) ≡ i / p .width * 8 + (p .width + i % p .width) + 1)) ⊎ ((p .width + i % p .width + 1 ≡ 2 * p .width) × (suc i / p .width * 8 + (p .width + suc i % p .width) + p .width ≡ i / p .width * 8 + (p .width + i % p .width) + 9))
+    go :
+        Next (p .width) i →
+        ((p .width + i % p .width + 1 < 2 * p .width) × (suc i / p .width * 8 + (p .width + suc i % p .width) ≡ i / p .width * 8 + (p .width + i % p .width) + 1)) ⊎ ((p .width + i % p .width + 1 ≡ 2 * p .width) × (suc i / p .width * 8 + (p .width + suc i % p .width) + p .width ≡ i / p .width * 8 + (p .width + i % p .width) + 9))
     go (inl (t, m, d)) = inl (omega arith, rw (m, d) (omega arith))
     go (inr (t, m, d)) = inr (omega arith, rw (m, d) (omega arith))
 
@@ -77,11 +81,15 @@ moved-code p i page l = rw (code-count p i l, code-size p i l)
 
 -- one more step: its code is stored, and counted if the step chooses the number
 
-pub moves-taken : (a : ℕ) (p : Parameters) (k i n : ℕ) (l : List ℕ) → chosen a p k i ≡ true → n < length l → take n l ≡ moves a p k i → take (n + 1) (set l n (codeAt p i)) ≡ moves a p k (i + 1)
+pub moves-taken :
+    (a : ℕ) (p : Parameters) (k i n : ℕ) (l : List ℕ) → chosen a p k i ≡ true → n < length l → take n l ≡ moves a p k i →
+    take (n + 1) (set l n (codeAt p i)) ≡ moves a p k (i + 1)
 unfolding moves
 moves-taken a p k i n l e h s = rw (add-one i, add-one n, take-suc-set l n (codeAt p i) h, e, s)
 
-pub moves-passed : (a : ℕ) (p : Parameters) (k i n : ℕ) (l : List ℕ) → chosen a p k i ≡ false → take n l ≡ moves a p k i → take n (set l n (codeAt p i)) ≡ moves a p k (i + 1)
+pub moves-passed :
+    (a : ℕ) (p : Parameters) (k i n : ℕ) (l : List ℕ) → chosen a p k i ≡ false → take n l ≡ moves a p k i →
+    take n (set l n (codeAt p i)) ≡ moves a p k (i + 1)
 unfolding moves
 moves-passed a p k i n l e s = rw (add-one i, take-set-le n l n (codeAt p i) (le-refl n), e, s, append-nil (moves a p k i))
 
@@ -92,13 +100,15 @@ unfolding followed
 followed-append p page [] ds = refl
 followed-append p page (c ∷ cs) ds = followed-append p (movedTo p page c) cs ds
 
-pub moves-lead : (a : ℕ) (p : Parameters) (g : Growth) (k i : ℕ) → Limits p → i ≤ g .expansions → followed p (afterSteps a p g k 0) (moves a p k i) ≡ afterSteps a p g k i
+pub moves-followed :
+    (a : ℕ) (p : Parameters) (g : Growth) (k i : ℕ) → Limits p → i ≤ g .expansions →
+    followed p (afterSteps a p g k 0) (moves a p k i) ≡ afterSteps a p g k i
 unfolding moves followed afterSteps
-moves-lead a p g k zero l h = refl
-moves-lead a p g k (suc i) l h =
+moves-followed a p g k zero l h = refl
+moves-followed a p g k (suc i) l h =
     rw (
       followed-append p (afterSteps a p g k 0) (moves a p k i) (cond (chosen a p k i) (codeAt p i ∷ []) []),
-      moves-lead a p g k i l (omega arith),
+      moves-followed a p g k i l (omega arith),
       step-over a p g k i (afterSteps a p g k i) h,
     )
     (go (chosen a p k i))
@@ -107,32 +117,34 @@ moves-lead a p g k (suc i) l h =
     go true = moved-code p i (afterSteps a p g k i) l
     go false = refl
 
-pub climbs-end : (low high : ℕ) (cs : List ℕ) → Climbs low cs high → low ≤ high
-climbs-end low high [] h = h
-climbs-end low high (c ∷ cs) h = le-trans (h .0) (climbs-end (c / 8) high cs (h .1))
+pub rising-end : (low high : ℕ) (cs : List ℕ) → Rising low cs high → low ≤ high
+rising-end low high [] h = h
+rising-end low high (c ∷ cs) h = le-trans (h .0) (rising-end (c / 8) high cs (h .1))
 
-climbs-more : (low high higher : ℕ) (cs : List ℕ) → Climbs low cs high → high ≤ higher → Climbs low cs higher
-climbs-more low high higher [] h l = le-trans h l
-climbs-more low high higher (c ∷ cs) h l = (h .0, climbs-more (c / 8) high higher cs (h .1) l)
+rising-more : (low high higher : ℕ) (cs : List ℕ) → Rising low cs high → high ≤ higher → Rising low cs higher
+rising-more low high higher [] h l = le-trans h l
+rising-more low high higher (c ∷ cs) h l = (h .0, rising-more (c / 8) high higher cs (h .1) l)
 
-climbs-one : (low high c : ℕ) (cs : List ℕ) → Climbs low cs high → high ≤ c / 8 → Climbs low (cs ++ (c ∷ [])) (c / 8)
-climbs-one low high c [] h l = (le-trans h l, le-refl (c / 8))
-climbs-one low high c (d ∷ cs) h l = (h .0, climbs-one (d / 8) high c cs (h .1) l)
+rising-one : (low high c : ℕ) (cs : List ℕ) → Rising low cs high → high ≤ c / 8 → Rising low (cs ++ (c ∷ [])) (c / 8)
+rising-one low high c [] h l = (le-trans h l, le-refl (c / 8))
+rising-one low high c (d ∷ cs) h l = (h .0, rising-one (d / 8) high c cs (h .1) l)
 
-pub moves-climb : (a : ℕ) (p : Parameters) (k i : ℕ) → Limits p → Climbs 0 (moves a p k i) (i / p .width)
+pub moves-rising : (a : ℕ) (p : Parameters) (k i : ℕ) → Limits p → Rising 0 (moves a p k i) (i / p .width)
 unfolding moves
-moves-climb a p k zero l = omega arith
-moves-climb a p k (suc i) l = go (chosen a p k i) (moves-climb a p k i l)
+moves-rising a p k zero l = omega arith
+moves-rising a p k (suc i) l = go (chosen a p k i) (moves-rising a p k i l)
   where
     up : i / p .width ≤ suc i / p .width
     up = div-mono (p .width) (omega arith)
 
-    go : (t : Bool) → Climbs 0 (moves a p k i) (i / p .width) → Climbs 0 (moves a p k i ++ cond t (codeAt p i ∷ []) []) (suc i / p .width)
-    go true h = climbs-more 0 (codeAt p i / 8) (suc i / p .width) (moves a p k i ++ (codeAt p i ∷ [])) (climbs-one 0 (i / p .width) (codeAt p i) (moves a p k i) h (rw (code-level p i l) (le-refl (i / p .width)))) (rw (code-level p i l) up)
-    go false h = rw (append-nil (moves a p k i)) (climbs-more 0 (i / p .width) (suc i / p .width) (moves a p k i) h up)
+    go : (t : Bool) → Rising 0 (moves a p k i) (i / p .width) → Rising 0 (moves a p k i ++ cond t (codeAt p i ∷ []) []) (suc i / p .width)
+    go true h = rising-more 0 (codeAt p i / 8) (suc i / p .width) (moves a p k i ++ (codeAt p i ∷ [])) (rising-one 0 (i / p .width) (codeAt p i) (moves a p k i) h (rw (code-level p i l) (le-refl (i / p .width)))) (rw (code-level p i l) up)
+    go false h = rw (append-nil (moves a p k i)) (rising-more 0 (i / p .width) (suc i / p .width) (moves a p k i) h up)
 
 -- a page's group after more doublings keeps its order and the low bits of the group size
-pub regroup : (p : Parameters) (code order level : ℕ) → order < countOf p code → code / 8 ≤ level → code % 8 % 2 ^ (level - code / 8) * countOf p code + order ≡ pageOf p code order % (p .groups * 2 ^ level)
+pub regroup :
+    (p : Parameters) (code order level : ℕ) → order < countOf p code → code / 8 ≤ level →
+    code % 8 % 2 ^ (level - code / 8) * countOf p code + order ≡ pageOf p code order % (p .groups * 2 ^ level)
 unfolding pageOf countOf
 regroup p code order level h l =
     rw (
@@ -163,19 +175,21 @@ pub count-of-most : (p : Parameters) (code : ℕ) → Limits p → code / 8 ≤ 
 unfolding countOf
 count-of-most p code l h = doubled-most (p .groups) (code / 8) (l .groups-most) h
 
--- a page on the way: its code and order, with the steps from j on still to follow
-pub record Way (p : Parameters) (start : ℕ) (codes : List ℕ) (code order j : ℕ) : Type 0 where
+-- the page with that code and order is reached after j steps: following the others from it gives the same page
+pub record Reached (p : Parameters) (start : ℕ) (codes : List ℕ) (code order j : ℕ) : Type 0 where
   pub near : order < countOf p code
-  pub climbs : Climbs (code / 8) (drop j codes) 10
-  pub leads : followed p (pageOf p code order) (drop j codes) ≡ followed p start codes
+  pub rising : Rising (code / 8) (drop j codes) 10
+  pub same : followed p (pageOf p code order) (drop j codes) ≡ followed p start codes
 
-pub way-starts : (p : Parameters) (start : ℕ) (codes : List ℕ) → Limits p → start < p .width * p .groups → Climbs 0 codes 10 → Way p start codes (start / p .groups) (start % p .groups) 0
+pub reached-start :
+    (p : Parameters) (start : ℕ) (codes : List ℕ) → Limits p → start < p .width * p .groups → Rising 0 codes 10 →
+    Reached p start codes (start / p .groups) (start % p .groups) 0
 unfolding pageOf countOf
-way-starts p start codes l h climbs =
+reached-start p start codes l h r =
     record {
       near = rw (level, mul-one (p .groups)) (mod-lt start {m = p .groups} (l .groups-least));
-      climbs = rw level climbs;
-      leads = rw (level, size, mul-one (p .groups), div-add-mod' start (p .groups));
+      rising = rw level r;
+      same = rw (level, size, mul-one (p .groups), div-add-mod' start (p .groups));
     }
   where
     small : start / p .groups < p .width
@@ -187,41 +201,50 @@ way-starts p start codes l h climbs =
     size : start / p .groups % 8 ≡ start / p .groups
     size = omega (arith, small, l .width-most)
 
-pub way-next : (p : Parameters) (start : ℕ) (codes : List ℕ) (code order j : ℕ) → Limits p → j < length codes → Way p start codes code order j → Way p start codes (getD codes j 0) (rank (p .step) (countOf p (getD codes j 0)) (pageOf p code order % countOf p (getD codes j 0))) (suc j)
+pub reached-next :
+    (p : Parameters) (start : ℕ) (codes : List ℕ) (code order j : ℕ) → Limits p → j < length codes →
+    Reached p start codes code order j →
+    Reached p start codes (getD codes j 0) (rank (p .step) (countOf p (getD codes j 0)) (pageOf p code order % countOf p (getD codes j 0))) (suc j)
 unfolding followed movedTo
-way-next p start codes code order j l h w =
+reached-next p start codes code order j l h w =
     record {
       near = rank-below (p .step) (countOf p next) (pageOf p code order % countOf p next) (mod-lt (pageOf p code order) {m = countOf p next} (count-of-least p next l)) (l .step-least) (count-of-step p next l);
-      climbs = opened .1;
-      leads = rw (drop-cons codes j 0 h) at (w .leads);
+      rising = opened .1;
+      same = rw (drop-cons codes j 0 h) at (w .same);
     }
   where
     next : ℕ
     next = getD codes j 0
 
-    opened : Climbs (code / 8) (next ∷ drop (suc j) codes) 10
-    opened = rw (drop-cons codes j 0 h) at (w .climbs)
+    opened : Rising (code / 8) (next ∷ drop (suc j) codes) 10
+    opened = rw (drop-cons codes j 0 h) at (w .rising)
 
-pub way-low : {p : Parameters} {start : ℕ} {codes : List ℕ} {code order j : ℕ} → Way p start codes code order j → code / 8 ≤ 10
-way-low {p} {start} {codes} {code} {order} {j} w = climbs-end (code / 8) 10 (drop j codes) (w .climbs)
+pub reached-low : {p : Parameters} {start : ℕ} {codes : List ℕ} {code order j : ℕ} → Reached p start codes code order j → code / 8 ≤ 10
+reached-low {p} {start} {codes} {code} {order} {j} w = rising-end (code / 8) 10 (drop j codes) (w .rising)
 
 -- the next step's doublings
-pub way-level : (p : Parameters) (start : ℕ) (codes : List ℕ) (code order j : ℕ) → j < length codes → Way p start codes code order j → (code / 8 ≤ getD codes j 0 / 8) × (getD codes j 0 / 8 ≤ 10)
-way-level p start codes code order j h w =
-    let opened : Climbs (code / 8) (getD codes j 0 ∷ drop (suc j) codes) 10 = rw (drop-cons codes j 0 h) at (w .climbs) in
-    (opened .0, climbs-end (getD codes j 0 / 8) 10 (drop (suc j) codes) (opened .1))
+pub reached-level :
+    (p : Parameters) (start : ℕ) (codes : List ℕ) (code order j : ℕ) → j < length codes → Reached p start codes code order j →
+    (code / 8 ≤ getD codes j 0 / 8) × (getD codes j 0 / 8 ≤ 10)
+reached-level p start codes code order j h w =
+    let opened : Rising (code / 8) (getD codes j 0 ∷ drop (suc j) codes) 10 = rw (drop-cons codes j 0 h) at (w .rising) in
+    (opened .0, rising-end (getD codes j 0 / 8) 10 (drop (suc j) codes) (opened .1))
 
-pub way-ends : (p : Parameters) (start : ℕ) (codes : List ℕ) (code order j : ℕ) → j ≡ length codes → Way p start codes code order j → followed p start codes ≡ pageOf p code order
+pub reached-end :
+    (p : Parameters) (start : ℕ) (codes : List ℕ) (code order j : ℕ) → j ≡ length codes → Reached p start codes code order j →
+    followed p start codes ≡ pageOf p code order
 unfolding followed
-way-ends p start codes code order j e w = sym (rw (e, drop-length codes) at (w .leads))
+reached-end p start codes code order j e w = sym (rw (e, drop-length codes) at (w .same))
 
 -- the two passes together
 
-pub chosen-climb : (a : ℕ) (p : Parameters) (k i : ℕ) (codes : List ℕ) → Limits p → i / p .width ≤ 10 → codes ≡ moves a p k i → Climbs 0 codes 10
-chosen-climb a p k i codes l h e =
-    subst⁻¹ (λ (cs : List ℕ). Climbs 0 cs 10) e (climbs-more 0 (i / p .width) 10 (moves a p k i) (moves-climb a p k i l) h)
+pub chosen-rising : (a : ℕ) (p : Parameters) (k i : ℕ) (codes : List ℕ) → Limits p → i / p .width ≤ 10 → codes ≡ moves a p k i → Rising 0 codes 10
+chosen-rising a p k i codes l h e =
+    subst⁻¹ (λ (cs : List ℕ). Rising 0 cs 10) e (rising-more 0 (i / p .width) 10 (moves a p k i) (moves-rising a p k i l) h)
 
-pub home-found : (a : ℕ) (p : Parameters) (g : Growth) (k start page : ℕ) (codes : List ℕ) → Limits p → start ≡ afterSteps a p g k 0 → codes ≡ moves a p k (g .expansions) → page ≡ followed p start codes → home a p g k ≡ stepFrom a p g k (g .expansions) page
+pub home-found :
+    (a : ℕ) (p : Parameters) (g : Growth) (k start page : ℕ) (codes : List ℕ) → Limits p → start ≡ afterSteps a p g k 0 →
+    codes ≡ moves a p k (g .expansions) → page ≡ followed p start codes → home a p g k ≡ stepFrom a p g k (g .expansions) page
 unfolding home
 home-found a p g k start page codes l s m f =
-    rw (steps-one a p g k (g .expansions), f, m, s, moves-lead a p g k (g .expansions) l (le-refl (g .expansions)))
+    rw (steps-one a p g k (g .expansions), f, m, s, moves-followed a p g k (g .expansions) l (le-refl (g .expansions)))

@@ -65,7 +65,9 @@ pub span-next : (p : Parameters) (i : ℕ) → 1 ≤ p .width → sizeAt p (suc 
 unfolding sizeAt countAt
 span-next p i h = go (next (p .width) i h)
   where
-    go : Next (p .width) i → (p .width + suc i % p .width) * (p .groups * 2 ^ (suc i / p .width)) ≡ (p .width + i % p .width + 1) * (p .groups * 2 ^ (i / p .width))
+    go :
+        Next (p .width) i →
+        (p .width + suc i % p .width) * (p .groups * 2 ^ (suc i / p .width)) ≡ (p .width + i % p .width + 1) * (p .groups * 2 ^ (i / p .width))
     go (inl (t, m, d)) =
         let e : p .width + suc (i % p .width) ≡ p .width + i % p .width + 1 = omega arith in
         rw (m, d, e)
@@ -89,7 +91,9 @@ rank-at-below p l i page =
     (l .step-least)
     (omega (arith, l .step-most))
 
-moved-below : (p : Parameters) → Limits p → (i page : ℕ) (t : Bool) → page < sizeAt p i * countAt p i → movedIf p i page t < sizeAt p (suc i) * countAt p (suc i)
+moved-below :
+    (p : Parameters) → Limits p → (i page : ℕ) (t : Bool) → page < sizeAt p i * countAt p i →
+    movedIf p i page t < sizeAt p (suc i) * countAt p (suc i)
 moved-below p l i page t h =
     rw (span-next p i (l .width-least), add-mul (sizeAt p i) 1 (countAt p i), one-mul (countAt p i))
     (cond-below t (sizeAt p i * countAt p i + rankAt p i page) page (sizeAt p i * countAt p i + countAt p i)
@@ -108,7 +112,9 @@ pub step-over : (a : ℕ) (p : Parameters) (g : Growth) (k i page : ℕ) → i <
 unfolding stepFrom expandedAt
 step-over a p g k i page h = rw (le-leb (suc i) (g .expansions) h, and-true (chosen a p k i))
 
-pub steps-same : (a : ℕ) (p : Parameters) (g g′ : Growth) (k i : ℕ) → i ≤ g .expansions → i ≤ g′ .expansions → afterSteps a p g k i ≡ afterSteps a p g′ k i
+pub steps-same :
+    (a : ℕ) (p : Parameters) (g g′ : Growth) (k i : ℕ) → i ≤ g .expansions → i ≤ g′ .expansions →
+    afterSteps a p g k i ≡ afterSteps a p g′ k i
 unfolding afterSteps
 steps-same a p g g′ k zero h h′ = refl
 steps-same a p g g′ k (suc i) h h′ =
@@ -177,13 +183,17 @@ pub grown-count : (p : Parameters) (g : Growth) → validParameters p ≡ true �
 unfolding pageCount grown grownBy
 grown-count p g v = go (eqb (g .expanded + 1) (groupCount p g)) refl
   where
-    go : (t : Bool) → eqb (g .expanded + 1) (groupCount p g) ≡ t → groupSize p (grownBy t g) * groupCount p (grownBy t g) + grownBy t g .expanded ≡ groupSize p g * groupCount p g + g .expanded + 1
+    go :
+        (t : Bool) → eqb (g .expanded + 1) (groupCount p g) ≡ t →
+        groupSize p (grownBy t g) * groupCount p (grownBy t g) + grownBy t g .expanded ≡ groupSize p g * groupCount p g + g .expanded + 1
     go true e =
         rw (add-one (g .expansions), span-next p (g .expansions) (limits p v .width-least), add-mul (groupSize p g) 1 (groupCount p g), one-mul (groupCount p g))
         (omega (arith, eqb-true (g .expanded + 1) (groupCount p g) e))
     go false e = omega arith
 
-pub grown-valid : (p : Parameters) (g : Growth) → validParameters p ≡ true → validGrowth p g ≡ true → pageCount p g < p .pages → validGrowth p (grown p g) ≡ true
+pub grown-valid :
+    (p : Parameters) (g : Growth) → validParameters p ≡ true → validGrowth p g ≡ true → pageCount p g < p .pages →
+    validGrowth p (grown p g) ≡ true
 unfolding grown grownBy
 grown-valid p g v w h =
     within-valid p (grown p g)
@@ -194,7 +204,9 @@ grown-valid p g v w h =
     go false e = omega (arith, eqb-false (g .expanded + 1) (groupCount p g) e, growth-within p g w .expanded-below)
 
 -- after one growth, the same step has reached one group more
-pub home-grown-is : (a : ℕ) (p : Parameters) (g : Growth) (k : ℕ) → validParameters p ≡ true → validGrowth p g ≡ true → home a p (grown p g) k ≡ homeAt a p g k (suc (g .expanded))
+pub home-grown-is :
+    (a : ℕ) (p : Parameters) (g : Growth) (k : ℕ) → validParameters p ≡ true → validGrowth p g ≡ true →
+    home a p (grown p g) k ≡ homeAt a p g k (suc (g .expanded))
 unfolding grown grownBy
 home-grown-is a p g k v w = go (eqb (g .expanded + 1) (groupCount p g)) refl
   where
@@ -222,7 +234,9 @@ home-grown-is a p g k v w = go (eqb (g .expanded + 1) (groupCount p g)) refl
 
 -- the home after one growth, from the home before it: a star that the present partial expansion moved stays, and of the others
 -- the chosen ones of the group now expanded move
-pub home-regrown : (a : ℕ) (p : Parameters) (g : Growth) (k old : ℕ) → validParameters p ≡ true → validGrowth p g ≡ true → old ≡ home a p g k → home a p (grown p g) k ≡ cond (leb (groupSize p g * groupCount p g) old) old (cond (chosen a p k (g .expansions) && eqb (rankAt p (g .expansions) old) (g .expanded)) (groupSize p g * groupCount p g + g .expanded) old)
+pub home-regrown :
+    (a : ℕ) (p : Parameters) (g : Growth) (k old : ℕ) → validParameters p ≡ true → validGrowth p g ≡ true → old ≡ home a p g k →
+    home a p (grown p g) k ≡ cond (leb (groupSize p g * groupCount p g) old) old (cond (chosen a p k (g .expansions) && eqb (rankAt p (g .expansions) old) (g .expanded)) (groupSize p g * groupCount p g + g .expanded) old)
 home-regrown a p g k old v w h =
     home-grown-is a p g k v w
     ∙ go (chosen a p k (g .expansions)) (decLt r (g .expanded)) (decLe r (g .expanded)) (h ∙ home-is a p g k)
@@ -239,7 +253,9 @@ home-regrown a p g k old v w h =
     low : page < span
     low = steps-below a p (limits p v) g k (g .expansions)
 
-    go : (t : Bool) → Dec (r < g .expanded) → Dec (r ≤ g .expanded) → old ≡ cond (t && ltb r (g .expanded)) (span + r) page → cond (t && ltb r (suc (g .expanded))) (span + r) page ≡ cond (leb span old) old (cond (t && eqb (rankAt p (g .expansions) old) (g .expanded)) (span + g .expanded) old)
+    go :
+        (t : Bool) → Dec (r < g .expanded) → Dec (r ≤ g .expanded) → old ≡ cond (t && ltb r (g .expanded)) (span + r) page →
+        cond (t && ltb r (suc (g .expanded))) (span + r) page ≡ cond (leb span old) old (cond (t && eqb (rankAt p (g .expansions) old) (g .expanded)) (span + g .expanded) old)
     go false d d′ e = rw (e, lt-leb span page low)
     go true (yes b) d′ e =
         let e′ : old ≡ span + r = rw (lt-ltb r (g .expanded) b) at e in
@@ -253,13 +269,17 @@ home-regrown a p g k old v w h =
         rw (le-ltb r (suc (g .expanded)) (omega arith), e′, lt-leb span page low, ne-eqb r (g .expanded) (omega arith))
 
 -- a home stays, or becomes the new page
-pub home-grown : (a : ℕ) (p : Parameters) (g : Growth) (k : ℕ) → validParameters p ≡ true → validGrowth p g ≡ true → (home a p (grown p g) k ≡ home a p g k) ⊎ (home a p (grown p g) k ≡ pageCount p g)
+pub home-grown :
+    (a : ℕ) (p : Parameters) (g : Growth) (k : ℕ) → validParameters p ≡ true → validGrowth p g ≡ true →
+    (home a p (grown p g) k ≡ home a p g k) ⊎ (home a p (grown p g) k ≡ pageCount p g)
 unfolding pageCount
 home-grown a p g k v w =
     rw (home-regrown a p g k (home a p g k) v w refl)
     (go (leb (groupSize p g * groupCount p g) (home a p g k)) (chosen a p k (g .expansions) && eqb (rankAt p (g .expansions) (home a p g k)) (g .expanded)))
   where
-    go : (t t′ : Bool) → (cond t (home a p g k) (cond t′ (groupSize p g * groupCount p g + g .expanded) (home a p g k)) ≡ home a p g k) ⊎ (cond t (home a p g k) (cond t′ (groupSize p g * groupCount p g + g .expanded) (home a p g k)) ≡ groupSize p g * groupCount p g + g .expanded)
+    go :
+        (t t′ : Bool) →
+        (cond t (home a p g k) (cond t′ (groupSize p g * groupCount p g + g .expanded) (home a p g k)) ≡ home a p g k) ⊎ (cond t (home a p g k) (cond t′ (groupSize p g * groupCount p g + g .expanded) (home a p g k)) ≡ groupSize p g * groupCount p g + g .expanded)
     go true t′ = inl refl
     go false true = inr refl
     go false false = inl refl

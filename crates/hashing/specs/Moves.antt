@@ -1,4 +1,4 @@
--- How the code finds a home in two passes: first the steps that choose the number, then the pages to which they lead. A step is
+-- How the code finds a home in two passes: first the steps that choose the number, then the pages that they give. A step is
 -- kept as a code: how often the groups have doubled, times 8, and the group size.
 use mathlib.Core.Bool.{cond}
 use mathlib.Core.List.{List, [], _∷_, _++_}
@@ -32,7 +32,7 @@ unfoldable pub followed : Parameters → ℕ → List ℕ → ℕ
 followed p page [] = page
 followed p page (code ∷ codes) = followed p (movedTo p page code) codes
 
--- the doublings of the codes never fall, from low to high
-abbrev pub Climbs : ℕ → List ℕ → ℕ → Type 0
-Climbs low [] high = low ≤ high
-Climbs low (code ∷ codes) high = (low ≤ code / 8) × Climbs (code / 8) codes high
+-- the doublings of the codes do not fall, from low to high
+abbrev pub Rising : ℕ → List ℕ → ℕ → Type 0
+Rising low [] high = low ≤ high
+Rising low (code ∷ codes) high = (low ≤ code / 8) × Rising (code / 8) codes high

@@ -1,4 +1,4 @@
-// The two passes to a home. Testing every step first, and moving afterwards, leaves few jumps that the processor cannot foresee.
+// The two passes to a home. With every step tested before any move, the processor mispredicts few jumps.
 ghost use mathlib.Core.Path.{_≡_};
 ghost use mathlib.Core.Bool.{true};
 ghost use Prim.Native.Nat.{_+_, _*_, _/_, _%_, _≤_, _<_};
@@ -7,7 +7,7 @@ ghost use lib.Dec.{leb};
 ghost use Rattle.hashing.specs.Generator.{modulus, multiplier, multipliers, scrambled};
 ghost use Rattle.hashing.specs.Geometry.{rank, swept as Geometry·swept};
 ghost use Rattle.hashing.specs.Limits.{validParameters};
-ghost use Rattle.hashing.specs.Moves.{codeAt, moves, countOf, pageOf, followed, Climbs};
+ghost use Rattle.hashing.specs.Moves.{codeAt, moves, countOf, pageOf, followed, Rising};
 use crate::Parameters;
 use crate::generator::residue;
 use crate::groups::in_sweep;
@@ -130,12 +130,12 @@ fn moved(parameters: Parameters, inverse: u32, code: u32, order: u32, next: u32)
     swept(parameters.step, inverse, count, count - 1 - group)
 }
 
-// The page to which the first count codes of steps lead from a starting page.
+// The page that the first count codes of steps give from a starting page.
 pub fn follow(parameters: Parameters, steps: &[u32; 44], count: usize, start: u32) -> u32
     requires { ⌜ validParameters parameters ≡ true ⌝ }
     requires { ⌜ length (now steps) ≡ 44 ⌝ }
     requires { ⌜ count ≤ 44 ⌝ }
-    requires { ⌜ Climbs 0 (take count (now steps)) 10 ⌝ }
+    requires { ⌜ Rising 0 (take count (now steps)) 10 ⌝ }
     requires { ⌜ start < parameters .width * parameters .groups ⌝ }
     ensures { λ r. ⌜ r ≡ followed parameters start (take count (now (steps .entry))) ⌝ }
 {

@@ -7,7 +7,9 @@ use Rattle.hashing.proofs.Bounds.{limits, growth-within, spread}
 use Rattle.hashing.proofs.Geometry.highest_address.Statement.{statement}
 use Rattle.hashing.proofs.Geometry.highest_address.Tie as tie
 
-fits : (c : tie.Start) → (1 ≤ pageCount (c .args .self .parameters) (c .args .self .growth)) × (pageCount (c .args .self .parameters) (c .args .self .growth) ≤ 1024)
+fits :
+    (c : tie.Start) →
+    (1 ≤ pageCount (c .args .self .parameters) (c .args .self .growth)) × (pageCount (c .args .self .parameters) (c .args .self .growth) ≤ 1024)
 fits c =
     let l = limits _ (c .pre .0) in
     let w = growth-within _ _ (c .pre .1) in

@@ -1,4 +1,4 @@
--- `hashing::home` meets its contract: the steps that choose the number lead to the page before the last step.
+-- `hashing::home` meets its contract: the steps that choose the number give the page before the last step.
 use mathlib.Core.Path.{_∙_, refl, sym, ap}
 use Prim.Native.Nat.{ℕ, _*_, _%_}
 use native.Mathlib.Nat.{mul-le-mul, mod-lt}
@@ -6,7 +6,7 @@ use native.Mathlib.Omega.{arith}
 use Rattle.hashing.specs.Generator.{multiplier, modulus}
 use Rattle.hashing.specs.Home.{afterSteps}
 use Rattle.hashing.proofs.Bounds.{Limits, Spread, limits, growth-within, spread}
-use Rattle.hashing.proofs.Codes.{chosen-climb, home-found, home-key}
+use Rattle.hashing.proofs.Codes.{chosen-rising, home-found, home-key}
 use Rattle.hashing.proofs.address.home.Statement.{statement}
 use Rattle.hashing.proofs.address.home.Tie as tie
 
@@ -42,7 +42,7 @@ follow-requires c κs =
         (
           omega (arith, chose .0, state start .expansions-most),
           (
-            chosen-climb multiplier p (start .args .number % modulus) (start .args .geometry .growth .expansions) _ l (state start .doublings) (chose .1 .1),
+            chosen-rising multiplier p (start .args .number % modulus) (start .args .geometry .growth .expansions) _ l (state start .doublings) (chose .1 .1),
             mod-lt (c .before .before .residue .result) {m = p .width * p .groups} (omega (arith, mul-le-mul (l .width-least) (l .groups-least))),
           ),
         ),

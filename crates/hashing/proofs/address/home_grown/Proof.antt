@@ -24,7 +24,9 @@ expanded c = c .args .geometry .growth .expanded
 abbrev order : tie.Start → ℕ
 order c = rankAt (c .args .geometry .parameters) (c .args .geometry .growth .expansions) (c .args .old)
 
-regrown : (c : tie.Start) → home multiplier (c .args .geometry .parameters) (grown (c .args .geometry .parameters) (c .args .geometry .growth)) (c .args .number) ≡ cond (leb (span c) (c .args .old)) (c .args .old) (cond (chosen multiplier (c .args .geometry .parameters) (c .args .number) (c .args .geometry .growth .expansions) && eqb (order c) (expanded c)) (span c + expanded c) (c .args .old))
+regrown :
+    (c : tie.Start) →
+    home multiplier (c .args .geometry .parameters) (grown (c .args .geometry .parameters) (c .args .geometry .growth)) (c .args .number) ≡ cond (leb (span c) (c .args .old)) (c .args .old) (cond (chosen multiplier (c .args .geometry .parameters) (c .args .number) (c .args .geometry .growth .expansions) && eqb (order c) (expanded c)) (span c + expanded c) (c .args .old))
 regrown c = home-regrown multiplier _ _ _ _ (c .pre .1 .0) (c .pre .1 .1 .0) (c .pre .1 .1 .1)
 
 -- past the first test the star was not moved yet
@@ -32,7 +34,9 @@ lower : (c : tie.Else1) → leb (span (c .before .before)) (c .before .before .a
 lower c = lt-leb (span (c .before .before)) (c .before .before .args .old) (omega (arith, c .before .first-added .ensures))
 
 -- the code's test is that of the last step
-test : (c : tie.After-chosen-last) → chosen multiplier (c .before .before .before .args .geometry .parameters) (c .before .before .before .args .number) (c .before .before .before .args .geometry .growth .expansions) ≡ c .chosen-last .result
+test :
+    (c : tie.After-chosen-last) →
+    chosen multiplier (c .before .before .before .args .geometry .parameters) (c .before .before .before .args .number) (c .before .before .before .args .geometry .growth .expansions) ≡ c .chosen-last .result
 test c =
     let start = c .before .before .before in
     sym (c .chosen-last .ensures ∙ chosen-key multiplier (start .args .geometry .parameters) (start .args .number) (start .args .geometry .growth .expansions))

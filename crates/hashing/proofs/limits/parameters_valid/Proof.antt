@@ -18,13 +18,17 @@ ok2 c = passed _ _ (c .before .within2 .ensures) (c .if2 .left)
 ok3 : (c : tie.Else3) → within 1 (c .before .before .before .before .before .before .args .parameters .width) 4 ≡ true
 ok3 c = passed _ _ (c .before .within3 .ensures) (c .if3 .left)
 
-ok4 : (c : tie.Else4) → within 1 (c .before .before .before .before .before .before .before .before .args .parameters .step) (c .before .before .before .before .before .before .before .before .args .parameters .groups) ≡ true
+ok4 :
+    (c : tie.Else4) →
+    within 1 (c .before .before .before .before .before .before .before .before .args .parameters .step) (c .before .before .before .before .before .before .before .before .args .parameters .groups) ≡ true
 ok4 c = passed _ _ (c .before .within4 .ensures) (c .if4 .left)
 
 ok5 : (c : tie.Else5) → within 1 (c .before .before .before .before .before .before .before .before .before .before .args .parameters .bits) 8 ≡ true
 ok5 c = passed _ _ (c .before .within5 .ensures) (c .if5 .left)
 
-ok6 : (c : tie.Else6) → within 1 (c .before .before .before .before .before .before .before .before .before .before .before .before .args .parameters .load) 99 ≡ true
+ok6 :
+    (c : tie.Else6) →
+    within 1 (c .before .before .before .before .before .before .before .before .before .before .before .before .args .parameters .load) 99 ≡ true
 ok6 c = passed _ _ (c .before .within6 .ensures) (c .if6 .left)
 
 within-requires : tie.Need-within-requires

@@ -21,14 +21,19 @@ abbrev μ-loop : tie.MeasureT-loop
 μ-loop table parameters expansions key steps₀ count₀ code₀ i₀ steps count code i = expansions - i
 
 -- the code's test is that of the step
-test : (c : tie.After-chosen Inv-loop μ-loop) → chosen multiplier (c .before .before .before .args .parameters) (c .before .before .before .args .key) (c .before .before .loop .i) ≡ c .chosen .result
+test :
+    (c : tie.After-chosen Inv-loop μ-loop) →
+    chosen multiplier (c .before .before .before .args .parameters) (c .before .before .before .args .key) (c .before .before .loop .i) ≡ c .chosen .result
 unfolding chosen
 test c =
     let start = c .before .before .before in
     rw (c .chosen .ensures, c .before .before .loop .inv .1 .1 .1 .0, code-size (start .args .parameters) (c .before .before .loop .i) (limits _ (start .pre .1 .0)), add-one (c .before .before .loop .i))
 
 -- what the next turn starts with, whatever its count
-again : (c : tie.After-next-code Inv-loop μ-loop) (n : ℕ) → n ≤ c .before .before .before .loop .i + 1 → take n (set (c .before .before .before .loop .steps) (c .before .before .before .loop .count) (codeAt (c .before .before .before .before .args .parameters) (c .before .before .before .loop .i))) ≡ moves multiplier (c .before .before .before .before .args .parameters) (c .before .before .before .before .args .key) (c .before .before .before .loop .i + 1) → Inv-loop (c .before .before .before .before .args .table .now) (c .before .before .before .before .args .parameters) (c .before .before .before .before .args .expansions) (c .before .before .before .before .args .key) (c .before .before .before .before .args .steps .now) 0 (c .before .before .before .before .args .parameters .width) 0 (set (c .before .before .before .loop .steps) (c .before .before .before .loop .count) (c .before .before .before .loop .code)) n (c .next-code .result) (c .before .before .before .loop .i + 1)
+again :
+    (c : tie.After-next-code Inv-loop μ-loop) (n : ℕ) → n ≤ c .before .before .before .loop .i + 1 →
+    take n (set (c .before .before .before .loop .steps) (c .before .before .before .loop .count) (codeAt (c .before .before .before .before .args .parameters) (c .before .before .before .loop .i))) ≡ moves multiplier (c .before .before .before .before .args .parameters) (c .before .before .before .before .args .key) (c .before .before .before .loop .i + 1) →
+    Inv-loop (c .before .before .before .before .args .table .now) (c .before .before .before .before .args .parameters) (c .before .before .before .before .args .expansions) (c .before .before .before .before .args .key) (c .before .before .before .before .args .steps .now) 0 (c .before .before .before .before .args .parameters .width) 0 (set (c .before .before .before .loop .steps) (c .before .before .before .loop .count) (c .before .before .before .loop .code)) n (c .next-code .result) (c .before .before .before .loop .i + 1)
 again c n h e =
     let inv = c .before .before .before .loop .inv in
     (omega arith, (h, (simp length-set (inv .1 .1 .0), (c .next-code .ensures, rw (inv .1 .1 .1 .0) e))))

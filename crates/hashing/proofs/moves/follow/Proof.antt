@@ -1,4 +1,4 @@
--- `hashing::follow` meets its contract. The invariant: the code and the order are on the way, with the steps from j on still to follow.
+-- `hashing::follow` meets its contract. The invariant: the page with that code and order is reached after `j` steps.
 use mathlib.Core.Path.{_≡_, refl, sym}
 use Prim.Native.Nat.{_-_, _*_, _%_, _≤_}
 use native.Mathlib.Nat.{mul-le-mul, div-le-self}
@@ -8,13 +8,13 @@ use lib.Seq.{length-take-le, getD-take}
 use native.Mathlib.Omega.{arith}
 use Rattle.hashing.specs.Moves.{countOf, pageOf}
 use Rattle.hashing.proofs.Bounds.{Limits, limits}
-use Rattle.hashing.proofs.Codes.{Way, way-starts, way-next, way-level, way-low, way-ends, count-of-most}
+use Rattle.hashing.proofs.Codes.{Reached, reached-start, reached-next, reached-level, reached-low, reached-end, count-of-most}
 use Rattle.hashing.proofs.moves.follow.Statement.{statement}
 use Rattle.hashing.proofs.moves.follow.Tie as tie
 
 abbrev Inv-loop : tie.InvT-loop
 Inv-loop parameters steps count start inverse code₀ order₀ j₀ code order j =
-    (j ≤ count) × Way parameters start (take count steps) code order j
+    (j ≤ count) × Reached parameters start (take count steps) code order j
 
 abbrev μ-loop : tie.MeasureT-loop
 μ-loop parameters steps count start inverse code₀ order₀ j₀ code order j = count - j
@@ -25,11 +25,13 @@ bounds c = limits _ (c .pre .0)
 counted : (c : tie.Start Inv-loop μ-loop) → length (take (c .args .count) (c .args .steps .now)) ≡ c .args .count
 counted c = length-take-le (c .args .count) (c .args .steps .now) (omega (arith, c .pre .1 .0, c .pre .1 .1 .0))
 
-most : (c : tie.After-count-of Inv-loop μ-loop) → countOf (c .before .before .before .before .before .before .args .parameters) (c .before .before .loop .code) ≤ 262144
+most :
+    (c : tie.After-count-of Inv-loop μ-loop) →
+    countOf (c .before .before .before .before .before .before .args .parameters) (c .before .before .loop .code) ≤ 262144
 most c =
     let start = c .before .before .before .before .before .before in
     let turn = c .before .before .loop in
-    count-of-most (start .args .parameters) (turn .code) (bounds start) (way-low (turn .inv .1))
+    count-of-most (start .args .parameters) (turn .code) (bounds start) (reached-low (turn .inv .1))
 
 product : (c : tie.After-count-of Inv-loop μ-loop) → c .before .before .loop .code % 8 * c .count-of .result ≤ 7 * 262144
 product c =
@@ -51,7 +53,7 @@ rem-order c = bounds (c .before .before .before) .groups-least
 loop-holds : tie.Need-loop-holds Inv-loop μ-loop
 loop-holds c =
     let start = c .before .before .before in
-    (omega arith, way-starts (start .args .parameters) (start .args .start) _ (bounds start) (start .pre .1 .1 .1 .1) (start .pre .1 .1 .1 .0))
+    (omega arith, reached-start (start .args .parameters) (start .args .start) _ (bounds start) (start .pre .1 .1 .1 .1) (start .pre .1 .1 .1 .0))
 
 mul-next : tie.Need-mul-next Inv-loop μ-loop
 mul-next c = omega (arith, c .before .before .before .before .before .pre .1 .1 .0)
@@ -64,7 +66,7 @@ moved-requires c κs =
     let start = c .before .before .before .before .before .before in
     let turn = c .before .before .loop in
     let p = start .args .parameters in
-    let level = way-level p (start .args .start) (take (start .args .count) (start .args .steps .now)) (turn .code) (turn .order) (turn .j) (omega (arith, counted start)) (turn .inv .1) in
+    let level = reached-level p (start .args .start) (take (start .args .count) (start .args .steps .now)) (turn .code) (turn .order) (turn .j) (omega (arith, counted start)) (turn .inv .1) in
     (start .pre .0, (refl, (turn .inv .1 .near, rw (getD-take (start .args .count) (start .args .steps .now) (turn .j) 0 (omega arith)) at level)))
 
 add-j : tie.Need-add-j Inv-loop μ-loop
@@ -80,11 +82,11 @@ loop-again c =
     let p = start .args .parameters in (
       omega arith,
       rw (c .moved .ensures, add-one (turn .j), ← getD-take (start .args .count) (start .args .steps .now) (turn .j) 0 (omega arith))
-          (way-next p (start .args .start) (take (start .args .count) (start .args .steps .now)) (turn .code) (turn .order) (turn .j) (bounds start) (omega (arith, counted start)) (turn .inv .1)),
+          (reached-next p (start .args .start) (take (start .args .count) (start .args .steps .now)) (turn .code) (turn .order) (turn .j) (bounds start) (omega (arith, counted start)) (turn .inv .1)),
     )
 
 count-of-requires : tie.Need-count-of-requires Inv-loop μ-loop
-count-of-requires c κs = (c .before .before .before .before .before .pre .0, way-low (c .before .loop .inv .1))
+count-of-requires c κs = (c .before .before .before .before .before .pre .0, reached-low (c .before .loop .inv .1))
 
 mul-result : tie.Need-mul-result Inv-loop μ-loop
 mul-result c = omega (arith, product c)
@@ -100,7 +102,7 @@ returns c =
     let start = c .before .before .before .before .before .before in
     let turn = c .before .before .loop in
     rw (c .count-of .ensures)
-    (sym (way-ends (start .args .parameters) (start .args .start) (take (start .args .count) (start .args .steps .now)) (turn .code) (turn .order) (turn .j) (omega (arith, counted start)) (turn .inv .1)))
+    (sym (reached-end (start .args .parameters) (start .args .start) (take (start .args .count) (start .args .steps .now)) (turn .code) (turn .order) (turn .j) (omega (arith, counted start)) (turn .inv .1)))
 
 pub follow-spec : {M : Type 1} → statement M
 follow-spec =

@@ -15,7 +15,9 @@ use Rattle.hashing.proofs.moves.regrouped.Tie as tie
 power : (c : tie.Start) → 1 * 2 ^ (c .args .next / 8 - c .args .code / 8) % 4294967296 ≡ 2 ^ (c .args .next / 8 - c .args .code / 8)
 power c = shifted (c .args .next / 8 - c .args .code / 8) (omega (arith, c .pre .1 .1 .1))
 
-product : (c : tie.After-count-of) → c .before .args .code % 8 % (1 * 2 ^ (c .before .args .next / 8 - c .before .args .code / 8) % 4294967296) * c .count-of .result ≤ 7 * 262144
+product :
+    (c : tie.After-count-of) →
+    c .before .args .code % 8 % (1 * 2 ^ (c .before .args .next / 8 - c .before .args .code / 8) % 4294967296) * c .count-of .result ≤ 7 * 262144
 product c =
     let start = c .before in
     let most = count-of-most (start .args .parameters) (start .args .code) (limits _ (start .pre .0)) (omega (arith, start .pre .1 .1)) in
