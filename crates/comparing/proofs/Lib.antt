@@ -1,0 +1,5 @@
+pub mod Differences
+pub mod Alike
+pub mod Planned
+pub mod Accepting
+pub mod Told

@@ -1,0 +1,201 @@
+-- The plan over all pages of a sound file, fetched: the file that the rule over the whole file gives.
+use mathlib.Core.Path.{_≡_, refl, sym, ap, _∙_}
+use mathlib.Core.Bool.{Bool, true, false, not, cond}
+use mathlib.Core.List.{List, [], _∷_, map, append-nil}
+use Prim.Native.Nat.{ℕ, suc, _+_, _-_, _*_, _/_, _%_, _^_, _≤_, _<_}
+use native.Mathlib.Nat.{zero-add, zero-mul, mod-lt, div-add-mod', div-lt-iff-lt-mul, mul-le-mul}
+use native.Mathlib.Omega.{arith}
+use lib.Dec.{eqb, ltb}
+use lib.ListN.{length, take, drop, getD, length-map}
+use lib.Seq.{paste, take-all, drop-length, length-take-le, getD-take}
+use borrow.Author.Tests.{lt-ltb, ne-eqb, not-false}
+use Rattle.hashing.specs.declared.Parameters.{Parameters}
+use Rattle.hashing.specs.declared.Growth.{Growth}
+use Rattle.hashing.specs.Generator.{multiplier}
+use Rattle.hashing.specs.Limits.{validParameters, validGrowth}
+use Rattle.hashing.proofs.Bounds.{limits}
+use Rattle.hashing.proofs.Laws.{home-pages}
+use Rattle.pages.specs.Position.{validWord}
+use Rattle.placement.specs.Rule.{Star, pages, without}
+use Rattle.placement.specs.File.{File, Sized, greatest, gathered, replaced, written}
+use Rattle.placement.specs.Hash.{hashOf, soundAt, homeIn, homesOf, lent}
+use Rattle.placement.proofs.Filters.{filter-all-on}
+use Rattle.placement.proofs.Sound.{gathered-proper}
+use Rattle.placement.proofs.Tested.{item-on, real-facts}
+use Rattle.waiting.specs.Lists.{all, allBelow}
+use Rattle.waiting.specs.Gather.{skipped, starsIn, stretch}
+use Rattle.waiting.proofs.Lists.{all-cons}
+use Rattle.planning.specs.Sources.{named, sourced}
+use Rattle.planning.specs.Plans.{stretchWords, Planned}
+use Rattle.planning.proofs.Copies.{paste-written}
+use Rattle.planning.proofs.Applying.{applied}
+use Rattle.planning.proofs.Sourcing.{itemHome}
+use Rattle.planning.proofs.Placed.{Ready, probes-real, homes-real, stretch-sourced, placed, layout, applied-layout}
+use Rattle.reach.specs.Reach.{firstUnsound}
+use Rattle.reach.proofs.Search.{such}
+use Rattle.comparing.specs.Spots.{spotIn, firstSpot, ruled}
+use Rattle.comparing.proofs.Alike.{Alike, spot-alike}
+
+-- no page is unsound
+pub all-sound : (p : Parameters) (g : Growth) (f : File) → firstUnsound p g f 0 (p .pages) ≡ p .pages → (q : ℕ) → q < p .pages → soundAt multiplier p g f q ≡ true
+unfolding firstUnsound
+all-sound p g f e q h =
+    not-false (soundAt multiplier p g f q)
+    (such (λ (r : ℕ). not (soundAt multiplier p g f r)) 0 (p .pages) .before q (omega arith) (rw e h))
+
+-- a list of all pages' items is their stretch
+pub whole : (b n : ℕ) (l : List ℕ) → length l ≡ n * b → stretch b 0 n l ≡ l
+whole b n l e = rw (zero-mul b) (take-all (n * b) l (omega (arith, e)))
+
+pub written-whole : (s d : List ℕ) → length s ≡ length d → written 0 s d ≡ s
+unfolding written
+written-whole s d e =
+    let all-of : 0 + length s ≡ length d = zero-add (length s) ∙ e in
+    rw (all-of, drop-length d) (append-nil s)
+
+pub pasted-whole : (d s : List ℕ) (n : ℕ) → length d ≡ n → length s ≡ n → paste d 0 s n ≡ s
+pasted-whole d s n ed es =
+    paste-written d 0 s n (omega (arith, es))
+    ∙ ap (λ (l : List ℕ). written 0 l d) (take-all n s (omega (arith, es)))
+    ∙ written-whole s d (es ∙ sym ed)
+
+-- a surveyed file's homes
+pub homes-whole : (p : Parameters) (g : Growth) (d ns : List ℕ) (n : ℕ) → length d ≡ n * p .places → length ns ≡ n * p .places
+    → paste d (0 * p .places) (homesOf multiplier p g (drop (0 * p .places) ns)) ((n - 0) * p .places) ≡ homesOf multiplier p g ns
+unfolding homesOf
+homes-whole p g d ns n ed en =
+    let none : 0 * p .places ≡ 0 = zero-mul (p .places) in
+    let same : n - 0 ≡ n = omega arith in
+    rw (none, same) (pasted-whole d (map (homeIn multiplier p g) ns) (n * p .places) ed (length-map ns (homeIn multiplier p g) ∙ en))
+
+all-items : (q : ℕ → Bool) (l : List ℕ) → ((i : ℕ) → i < length l → q (getD l i 0) ≡ true) → all q l ≡ true
+unfolding all
+all-items q [] t = refl
+all-items q (x ∷ l) t = all-cons q x l (t 0 (omega arith)) (all-items q l (λ i h. t (suc i) (omega arith)))
+
+all-map : (q : ℕ → Bool) (f : ℕ → ℕ) (l : List ℕ) → ((n : ℕ) → q (f n) ≡ true) → all q (map f l) ≡ true
+unfolding all
+all-map q f [] t = refl
+all-map q f (x ∷ l) t = all-cons q (f x) (map f l) (t x) (all-map q f l t)
+
+-- at most as many stars as items
+stars-fit : (k : ℕ) (l : List ℕ) → starsIn k l ≤ length l
+unfolding starsIn
+stars-fit k [] = omega arith
+stars-fit k (n ∷ l) = go (skipped k n) (stars-fit k l)
+  where
+    go : (t : Bool) → starsIn k l ≤ length l → cond t (starsIn k l) (suc (starsIn k l)) ≤ suc (length l)
+    go true h = omega arith
+    go false h = omega arith
+
+pub some-pages : (p : Parameters) (g : Growth) → validParameters p ≡ true → validGrowth p g ≡ true → 0 < p .pages
+some-pages p g valid grows = omega (arith, home-pages multiplier p g 0 valid grows)
+
+pub few-items : (p : Parameters) → validParameters p ≡ true → p .pages * p .places ≤ 32768
+few-items p valid = let l = limits p valid in mul-le-mul (l .pages-most) (l .places-most)
+
+module _ (p : Parameters) (g : Growth) (f : File) (valid : validParameters p ≡ true) (grows : validGrowth p g ≡ true)
+    (sized : Sized (p .places) (p .pages) f) (sound : firstUnsound p g f 0 (p .pages) ≡ p .pages) (hs : List ℕ) (homes : hs ≡ homesOf multiplier p g (f .numbers)) where
+  item-most : (i : ℕ) → i < p .pages * p .places → getD (f .numbers) i 0 ≤ greatest
+  item-most i h =
+      let some : 0 < p .places = limits p valid .places-least in
+      let inside : i / p .places < p .pages = div-lt-iff-lt-mul some .1 h in
+      rw (div-add-mod' i (p .places)) at
+      (item-on multiplier p g f (i / p .places) sized inside (all-sound p g f sound (i / p .places) inside) (i % p .places) (mod-lt i some) .most)
+
+  numbers-below : allBelow (2 ^ 31) (f .numbers) ≡ true
+  numbers-below =
+      all-items (λ x. ltb x (2 ^ 31)) (f .numbers)
+      (λ i h. lt-ltb (getD (f .numbers) i 0) (2 ^ 31) (omega (arith, item-most i (rw (sized .ofNumbers) at h))))
+
+  home-inside : (n : ℕ) → homeIn multiplier p g n < p .pages
+  home-inside n = go (eqb n 0)
+    where
+      go : (t : Bool) → cond t 0 (Rattle.hashing.specs.Home.home multiplier p g n) < p .pages
+      go true = some-pages p g valid grows
+      go false = home-pages multiplier p g n valid grows
+
+  homes-below : allBelow (p .pages) hs ≡ true
+  unfolding homesOf
+  homes-below =
+      rw homes
+      (all-map (λ x. ltb x (p .pages)) (homeIn multiplier p g) (f .numbers) (λ n. lt-ltb (homeIn multiplier p g n) (p .pages) (home-inside n)))
+
+  pub homes-long : length hs ≡ p .pages * p .places
+  unfolding homesOf
+  homes-long = ap length homes ∙ length-map (f .numbers) (homeIn multiplier p g) ∙ sized .ofNumbers
+
+  pub stars-inside : starsIn 0 (stretch (p .places) 0 (p .pages) (f .numbers)) ≤ p .pages * p .places
+  stars-inside = rw (whole (p .places) (p .pages) (f .numbers) (sized .ofNumbers)) (omega (arith, stars-fit 0 (f .numbers), sized .ofNumbers))
+
+  -- the file can be planned as one stretch
+  pub ready : Ready (hashOf multiplier p g) (p .places) 0 (p .pages) f hs
+  ready =
+      let none : 0 + p .pages ≡ p .pages = zero-add (p .pages) in
+      let numbers-all = whole (p .places) (p .pages) (f .numbers) (sized .ofNumbers) in
+      let homes-all = whole (p .places) (p .pages) hs homes-long in
+      record {
+        some = some-pages p g valid grows;
+        few = rw none (omega (arith, few-items p valid));
+        numbers = rw none (omega (arith, sized .ofNumbers));
+        words = rw none (omega (arith, sized .ofWords));
+        homes = rw none (omega (arith, homes-long));
+        valid = rw numbers-all numbers-below;
+        within = rw (none, homes-all) homes-below;
+        true-homes = homes-all ∙ homes ∙ homes-real p g (f .numbers) ∙ ap (map (itemHome (hashOf multiplier p g))) (sym numbers-all);
+      }
+
+  no-empty-star : without 0 (gathered (p .places) f 0 (p .pages)) ≡ gathered (p .places) f 0 (p .pages)
+  unfolding without hashOf
+  no-empty-star =
+      filter-all-on (λ (s : Star). not (eqb (s .number) 0)) (gathered (p .places) f 0 (p .pages))
+      (λ s m.
+      let some : (1 ≤ s .number) = gathered-proper validWord (hashOf multiplier p g) f 0 (p .pages) (λ q a b. real-facts multiplier p g f q (all-sound p g f sound q (omega arith))) s m .0 in
+      ap not (ne-eqb (s .number) 0 (λ e. omega arith)))
+
+  -- the plan, applied, is the rule over the whole file
+  pub planned-ruled : (pool′ planned planned′ W′ : List ℕ) (r : ℕ) → p .pages ≤ length planned
+      → Planned (p .bits) (p .places) 0 (p .pages) [] (stretchWords (p .places) 0 (p .pages) 0 (f .numbers) hs) hs pool′ planned planned′ W′ r
+      → applied (p .places) 0 (p .pages) 0 0 pool′ planned′ f ≡ ruled p g f
+  unfolding ruled
+  planned-ruled pool′ planned planned′ W′ r h P =
+      let words : List ℕ = stretchWords (p .places) 0 (p .pages) 0 (f .numbers) hs in
+      let none : 0 + p .pages ≡ p .pages = zero-add (p .pages) in
+      applied-layout (p .bits) (p .places) 0 (p .pages) 0 0 f [] words pool′ planned′ W′ r
+      (layout (p .bits) (p .places) 0 (p .pages) [] words hs pool′ planned planned′ W′ r P (rw none (omega (arith, homes-long))) (rw none h))
+      (unfold sourced all in refl)
+      (stretch-sourced (hashOf multiplier p g) (p .bits) (p .places) (probes-real p g) 0 (p .pages) f hs ready 0 0 0)
+      ∙ ap (replaced (p .places) f 0)
+      (placed (hashOf multiplier p g) (p .bits) (p .places) (probes-real p g) 0 (p .pages) f hs ready 0 0 .0
+      ∙ ap (pages (hashOf multiplier p g) 0 (p .pages)) no-empty-star)
+
+  -- .. so that comparing with what it fetches is comparing with the rule
+  pub spot-ruled : (pool′ planned′ W′ pool″ W″ : List ℕ) → applied (p .places) 0 (p .pages) 0 0 pool′ planned′ f ≡ ruled p g f
+      → length pool′ ≡ p .pages * p .places → length W′ ≡ p .pages * p .places → p .pages ≤ length planned′
+      → pool″ ≡ paste pool′ 0 (map (named (f .numbers) 0) (drop 0 pool′)) (p .pages * p .places)
+      → W″ ≡ paste W′ 0 (map (named (f .words) 0) (drop 0 pool′)) (p .pages * p .places)
+      → spotIn (p .pages) (p .places) f (lent planned′ pool″ W″) ≡ firstSpot p f (ruled p g f)
+  unfolding firstSpot
+  spot-ruled pool′ planned′ W′ pool″ W″ e lp lw ld ep ew =
+      spot-alike (p .pages) (p .places) f (lent planned′ pool″ W″) (applied (p .places) 0 (p .pages) 0 0 pool′ planned′ f) alike
+      ∙ ap (spotIn (p .pages) (p .places) f) e
+    where
+      -- the items fetched into d are the items applied to l
+      fetched : (l d : List ℕ) → length l ≡ p .pages * p .places → length d ≡ p .pages * p .places
+          → paste d 0 (map (named l 0) pool′) (p .pages * p .places) ≡ written (0 * p .places) (map (named l 0) (stretch (p .places) 0 (p .pages) pool′)) l
+      fetched l d el ed =
+          pasted-whole d (map (named l 0) pool′) (p .pages * p .places) ed (length-map pool′ (named l 0) ∙ lp)
+          ∙ sym
+          (rw (whole (p .places) (p .pages) pool′ lp, zero-mul (p .places))
+          (written-whole (map (named l 0) pool′) l (length-map pool′ (named l 0) ∙ lp ∙ sym el)))
+
+      separators-written : written 0 (take (p .pages) planned′) (f .separators) ≡ take (p .pages) planned′
+      separators-written = written-whole (take (p .pages) planned′) (f .separators) (length-take-le (p .pages) planned′ ld ∙ sym (sized .ofSeparators))
+
+      alike : Alike (p .pages) (p .places) (lent planned′ pool″ W″) (applied (p .places) 0 (p .pages) 0 0 pool′ planned′ f)
+      alike = unfold applied in
+          record {
+            separators = λ q h. sym (ap (λ (s : List ℕ). getD s q 0) separators-written ∙ getD-take (p .pages) planned′ q 0 h);
+            numbers = λ i h. ap (λ (s : List ℕ). getD s i 0) (ep ∙ fetched (f .numbers) pool′ (sized .ofNumbers) lp);
+            words = λ i h. ap (λ (s : List ℕ). getD s i 0) (ew ∙ fetched (f .words) W′ (sized .ofWords) lw);
+          }

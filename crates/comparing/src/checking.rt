@@ -1,0 +1,101 @@
+// A whole file checked: its pages are surveyed, planned anew and compared with the plan.
+ghost use mathlib.Core.Path.{_≡_};
+ghost use mathlib.Core.Bool.{true};
+ghost use Prim.Native.Nat.{suc, _+_, _*_, _≤_};
+ghost use lib.ListN.{length};
+ghost use Rattle.hashing.specs.Generator.{multiplier, multipliers};
+ghost use Rattle.hashing.specs.Limits.{validParameters, validGrowth};
+ghost use Rattle.placement.specs.File.{Sized};
+ghost use Rattle.placement.specs.Hash.{homesOf, lent};
+ghost use Rattle.reach.specs.Reach.{firstUnsound};
+ghost use Rattle.comparing.specs.Spots.{firstSpot, ruled};
+ghost use Rattle.comparing.specs.Verdicts.{verdictOf};
+use crate::search::Spot;
+use crate::search::compare;
+use hashing::Geometry;
+
+// A clean file; the first page and place that differ from the rule over all pages, place b being the separator; or the lowest unsound page.
+pub enum Verdict {
+    Clean,
+    Differs { page: usize, place: usize },
+    Unsound(usize),
+}
+
+// The first spot at which a file of sound pages differs from the rule. The pool holds the homes of the items.
+fn compare_planned(
+    table: &[u32; 2049],
+    geometry: Geometry,
+    separators: &[u8],
+    numbers: &[u32],
+    words: &[u64],
+    pool: &mut [u32],
+    waiting: &mut [u64],
+) -> Spot
+    requires { ⌜ now table ≡ multipliers ⌝ }
+    requires { ⌜ (validParameters (geometry .parameters) ≡ true) × (validGrowth (geometry .parameters) (geometry .growth) ≡ true) ⌝ }
+    requires { ⌜ Sized (geometry .parameters .places) (geometry .parameters .pages) (lent (now separators) (now numbers) (now words)) ⌝ }
+    requires { ⌜ firstUnsound (geometry .parameters) (geometry .growth) (lent (now separators) (now numbers) (now words)) 0 (geometry .parameters .pages) ≡ geometry .parameters .pages ⌝ }
+    requires { ⌜ now pool ≡ homesOf multiplier (geometry .parameters) (geometry .growth) (now numbers) ⌝ }
+    requires { ⌜ length (now waiting) ≡ geometry .parameters .pages * geometry .parameters .places ⌝ }
+    ensures { λ r. ⌜ r .page * suc (geometry .parameters .places) + r .place ≡ firstSpot (geometry .parameters) (lent (now (separators .entry)) (now (numbers .entry)) (now (words .entry))) (ruled (geometry .parameters) (geometry .growth) (lent (now (separators .entry)) (now (numbers .entry)) (now (words .entry)))) ⌝ }
+    ensures { λ r. ⌜ r .place ≤ geometry .parameters .places ⌝ }
+{
+    let places = geometry.parameters.places as usize;
+    let pages = geometry.parameters.pages as usize;
+    let mut planned = [0u8; 1024];
+    planning::plan(
+        table,
+        geometry.parameters.bits,
+        numbers,
+        pool,
+        waiting,
+        &mut planned,
+        places,
+        0,
+        pages,
+        0,
+        0,
+    );
+    planning::fetch(numbers, words, pool, waiting, 0, pages * places, 0, 0);
+    compare(
+        separators,
+        numbers,
+        words,
+        &planned,
+        pool,
+        waiting,
+        pages,
+        places,
+    )
+}
+
+// The file is only read. The pool's contents are free afterwards.
+pub fn check_file(
+    table: &[u32; 2049],
+    geometry: Geometry,
+    separators: &[u8],
+    numbers: &[u32],
+    words: &[u64],
+    pool: &mut [u32],
+    waiting: &mut [u64],
+) -> Verdict
+    requires { ⌜ now table ≡ multipliers ⌝ }
+    requires { ⌜ (validParameters (geometry .parameters) ≡ true) × (validGrowth (geometry .parameters) (geometry .growth) ≡ true) ⌝ }
+    requires { ⌜ Sized (geometry .parameters .places) (geometry .parameters .pages) (lent (now separators) (now numbers) (now words)) ⌝ }
+    requires { ⌜ (length (now pool) ≡ geometry .parameters .pages * geometry .parameters .places) × (length (now waiting) ≡ geometry .parameters .pages * geometry .parameters .places) ⌝ }
+    ensures { λ r. ⌜ r ≡ verdictOf (geometry .parameters) (firstUnsound (geometry .parameters) (geometry .growth) (lent (now (separators .entry)) (now (numbers .entry)) (now (words .entry))) 0 (geometry .parameters .pages)) (firstSpot (geometry .parameters) (lent (now (separators .entry)) (now (numbers .entry)) (now (words .entry))) (ruled (geometry .parameters) (geometry .growth) (lent (now (separators .entry)) (now (numbers .entry)) (now (words .entry))))) ⌝ }
+{
+    let pages = geometry.parameters.pages as usize;
+    let unsound = reach::survey_pages(table, geometry, separators, numbers, words, pool, 0, pages);
+    if unsound < pages {
+        return Verdict::Unsound(unsound);
+    }
+    let spot = compare_planned(table, geometry, separators, numbers, words, pool, waiting);
+    if spot.page < pages {
+        return Verdict::Differs {
+            page: spot.page,
+            place: spot.place,
+        };
+    }
+    Verdict::Clean
+}
