@@ -1,0 +1,166 @@
+-- A growth: the homes under the next growth state, and that the rule over all pages is what the code leaves.
+use mathlib.Core.Path.{_≡_, refl, sym, ap, _∙_}
+use mathlib.Core.Bool.{Bool, true, false, not, cond}
+use mathlib.Core.List.{List, [], map, append-nil}
+use Prim.Native.Nat.{ℕ, _+_, _-_, _*_, _^_, _≤_, _<_}
+use native.Mathlib.Nat.{zero-add, zero-mul, sub-zero}
+use native.Mathlib.Omega.{arith}
+use lib.Dec.{ltb, eqb}
+use lib.ListN.{length, getD, set, take, drop, length-map, List·getD-map}
+use lib.Seq.{paste, take-all, drop-length}
+use borrow.Author.Tests.{lt-ltb, le-ltb, ne-eqb}
+use Rattle.hashing.specs.declared.Parameters.{Parameters}
+use Rattle.hashing.specs.declared.Growth.{Growth}
+use Rattle.hashing.specs.Generator.{multiplier}
+use Rattle.hashing.specs.Geometry.{pageCount, grown}
+use Rattle.hashing.specs.Limits.{validParameters, validGrowth}
+use Rattle.hashing.proofs.Laws.{grown-valid}
+use Rattle.pages.specs.Position.{validWord}
+use Rattle.placement.specs.Rule.{Star, Hash, left, without}
+use Rattle.placement.specs.File.{File, Sized, gathered}
+use Rattle.placement.specs.Hash.{hashOf, homeIn, homesOf}
+use Rattle.placement.proofs.Filters.{filter-all-on}
+use Rattle.placement.proofs.Sound.{gathered-proper}
+use Rattle.placement.proofs.Probing.{homed-real}
+use Rattle.waiting.specs.Lists.{allBelow}
+use Rattle.waiting.specs.Gather.{stretch}
+use Rattle.reach.specs.Reach.{isEmpty, firstUnsound}
+use Rattle.reach.proofs.Search.{such}
+use Rattle.reach.proofs.Surveyed.{unsound}
+use Rattle.reach.proofs.Pastes.{map-take, map-drop}
+use Rattle.planning.proofs.Copies.{Copied, turn, unread}
+use Rattle.planning.proofs.Sourcing.{itemHome}
+use Rattle.planning.proofs.Placed.{Ready, probes-real, homes-real}
+use Rattle.replacing.specs.declared.Replaced.the-variants.{Done, Unsound, Overflows}
+use Rattle.replacing.specs.Stretch.{Plannable, fitting, restretched}
+use Rattle.replacing.specs.Calls.{hash, growthAnswer, growthFile}
+use Rattle.replacing.proofs.Ruled.{fitting-is, restretched-is}
+use Rattle.replacing.proofs.Items.{all-below, all-sound, real-sound, numbers-below, plannable-stretch, ready-stretch}
+
+-- a list pasted over another of its length
+whole : (d s : List ℕ) (n : ℕ) → length d ≡ n → length s ≡ n → paste d 0 s n ≡ s
+whole d s n ed es =
+    let none : drop n d ≡ [] = rw (← ed) (drop-length d) in
+    rw (zero-add n, take-all n s (omega arith), none) (append-nil s)
+
+-- ---- homes, item by item
+
+-- the first i items have their homes under the growth state `next`
+abbrev pub Rehomed : Parameters → Growth → Growth → List ℕ → List ℕ → ℕ → Type 0
+Rehomed p g next ns homes i = Copied (homesOf multiplier p g ns) 0 (homesOf multiplier p next ns) homes i
+
+module _ (p : Parameters) (g next : Growth) (ns homes : List ℕ) (i : ℕ) (R : Rehomed p g next ns homes i) where
+  pub homes-long : length homes ≡ length ns
+  unfolding homesOf
+  homes-long = R .kept ∙ length-map ns (homeIn multiplier p g)
+
+  pub home-there : i < length ns → getD homes i 0 ≡ homeIn multiplier p g (getD ns i 0)
+  unfolding homesOf
+  home-there h =
+      rw (zero-add i) at
+      (unread (homesOf multiplier p g ns) 0 (homesOf multiplier p next ns) homes i
+      (omega (arith, length-map ns (homeIn multiplier p g))) (omega (arith, length-map ns (homeIn multiplier p next))) R)
+      ∙ List·getD-map (homeIn multiplier p g) ns i 0
+
+  pub rehomed-next : (x : ℕ) → i < length ns → x ≡ homeIn multiplier p next (getD ns i 0) → Rehomed p g next ns (set homes i x) (i + 1)
+  unfolding homesOf
+  rehomed-next x h e =
+      rw (zero-add i) at
+      (turn (homesOf multiplier p g ns) 0 (homesOf multiplier p next ns) homes i x
+      (omega (arith, length-map ns (homeIn multiplier p g))) (omega (arith, length-map ns (homeIn multiplier p next)))
+      (e ∙ sym (List·getD-map (homeIn multiplier p next) ns i 0)) R)
+
+  pub rehomed-all : i ≡ length ns → homes ≡ homesOf multiplier p next ns
+  unfolding homesOf
+  rehomed-all e =
+      R .is
+      ∙ whole (homesOf multiplier p g ns) (homesOf multiplier p next ns) i
+      (length-map ns (homeIn multiplier p g) ∙ sym e) (length-map ns (homeIn multiplier p next) ∙ sym e)
+
+-- ---- the file
+
+module _ (p : Parameters) (g : Growth) (f : File) (valid : validParameters p ≡ true) (sized : Sized (p .places) (p .pages) f) where
+  pub growth-refused : (bad : ℕ) → bad ≡ firstUnsound p g f 0 (p .pages - 0) → bad < p .pages
+      → (Unsound bad ≡ growthAnswer p g f (grown p g)) × (f ≡ growthFile p g f (grown p g))
+  unfolding growthAnswer growthFile
+  growth-refused bad e h =
+      let is : bad ≡ firstUnsound p g f 0 (p .pages) = rw (sub-zero (p .pages)) at e in
+      let t : ltb (firstUnsound p g f 0 (p .pages)) (p .pages) ≡ true = lt-ltb (firstUnsound p g f 0 (p .pages)) (p .pages) (omega arith) in
+      rw (t, is) (refl, refl)
+
+  -- the survey has found all pages sound
+  module _ (bad : ℕ) (survey : bad ≡ firstUnsound p g f 0 (p .pages - 0)) (past : p .pages ≤ bad) where
+    -- .. and left their homes in the pool
+    pub surveyed-all : (pool pool′ : List ℕ) → length pool ≡ p .pages * p .places
+        → (bad ≡ p .pages → pool′ ≡ paste pool (0 * p .places) (homesOf multiplier p g (drop (0 * p .places) (f .numbers))) ((p .pages - 0) * p .places))
+        → pool′ ≡ homesOf multiplier p g (f .numbers)
+    unfolding homesOf firstUnsound
+    surveyed-all pool pool′ size homes =
+        homes (omega (arith, such (unsound p g f) 0 (p .pages - 0) .high))
+        ∙ rw (sub-zero (p .pages), zero-mul (p .places))
+        (whole pool (homesOf multiplier p g (f .numbers)) (p .pages * p .places) size (length-map (f .numbers) (homeIn multiplier p g) ∙ sized .ofNumbers))
+
+    sound-pages : 0 + p .pages ≤ firstUnsound p g f 0 (p .pages)
+    sound-pages =
+        let is : bad ≡ firstUnsound p g f 0 (p .pages) = rw (sub-zero (p .pages)) at survey in
+        omega arith
+
+    module _ (grows : validGrowth p g ≡ true) (more : pageCount p g < p .pages) (pool : List ℕ) (e : pool ≡ homesOf multiplier p (grown p g) (f .numbers)) where
+      size : length pool ≡ p .pages * p .places
+      unfolding homesOf
+      size = ap length e ∙ length-map (f .numbers) (homeIn multiplier p (grown p g)) ∙ sized .ofNumbers
+
+      below : allBelow (2 ^ 31) (stretch (p .places) 0 (p .pages) (f .numbers)) ≡ true
+      below = numbers-below p f valid sized 0 (p .pages) (omega arith) g (all-sound p g f 0 (p .pages) sound-pages)
+
+      true-homes : stretch (p .places) 0 (p .pages) pool ≡ map (itemHome (hash p (grown p g))) (stretch (p .places) 0 (p .pages) (f .numbers))
+      true-homes =
+          let home : ℕ → ℕ = itemHome (hash p (grown p g)) in
+          ap (stretch (p .places) 0 (p .pages)) (e ∙ homes-real p (grown p g) (f .numbers))
+          ∙ ap (take (p .pages * p .places)) (map-drop home (0 * p .places) (f .numbers))
+          ∙ map-take home (p .pages * p .places) (drop (0 * p .places) (f .numbers))
+
+      home-inside : (x : ℕ) → itemHome (hash p (grown p g)) x < 0 + p .pages
+      unfolding itemHome
+      home-inside x = go (eqb x 0)
+        where
+          go : (t : Bool) → cond t 0 (hash p (grown p g) .home x) < 0 + p .pages
+          go true = omega arith
+          go false = omega (arith, homed-real multiplier p (grown p g) valid (grown-valid p g valid grows more) x)
+
+      within : allBelow (0 + p .pages) (stretch (p .places) 0 (p .pages) pool) ≡ true
+      unfolding itemHome
+      within =
+          let ns : List ℕ = stretch (p .places) 0 (p .pages) (f .numbers) in
+          rw true-homes
+          (all-below (0 + p .pages) (map (itemHome (hash p (grown p g))) ns)
+          (λ i h. rw (List·getD-map (itemHome (hash p (grown p g))) ns i 0) (home-inside (getD ns i 0))))
+
+      -- no star has the number 0
+      none-out : without 0 (gathered (p .places) f 0 (p .pages)) ≡ gathered (p .places) f 0 (p .pages)
+      unfolding without hashOf
+      none-out =
+          filter-all-on (λ (s : Star). not (eqb (s .number) 0)) (gathered (p .places) f 0 (p .pages))
+          (λ s m.
+          ap not
+          (ne-eqb (s .number) 0
+          (λ z. omega (arith, gathered-proper validWord (hash p g) f 0 (p .pages) (real-sound p g f 0 (p .pages) (all-sound p g f 0 (p .pages) sound-pages)) s m .0))))
+
+      ready : Ready (hash p (grown p g)) (p .places) 0 (p .pages) f pool
+      ready = ready-stretch p f valid sized 0 (p .pages) (omega arith) (omega arith) pool size below within (hash p (grown p g)) true-homes
+
+      all-are-sound : ltb (firstUnsound p g f 0 (p .pages)) (p .pages) ≡ false
+      all-are-sound = le-ltb (firstUnsound p g f 0 (p .pages)) (p .pages) (omega (arith, sound-pages))
+
+      pub growth-plannable : (waiting : List ℕ) → length waiting ≡ p .pages * p .places → Plannable (p .bits) (p .places) 0 (p .pages) f pool waiting
+      growth-plannable waiting ew = plannable-stretch p f valid sized 0 (p .pages) (omega arith) (omega arith) pool size below within waiting ew
+
+      pub growth-done : (r : Bool) → r ≡ fitting (p .bits) (p .places) 0 (p .pages) 0 f pool → (f′ : File) → f′ ≡ restretched (p .bits) (p .places) 0 (p .pages) 0 f pool
+          → (cond r Done Overflows ≡ growthAnswer p g f (grown p g)) × (f′ ≡ growthFile p g f (grown p g))
+      unfolding growthAnswer growthFile
+      growth-done r er f′ ef =
+          let H : Hash = hash p (grown p g) in
+          let is : r ≡ isEmpty (left H 0 (p .pages) (gathered (p .places) f 0 (p .pages))) =
+          rw none-out at (er ∙ fitting-is H (p .bits) (p .places) (probes-real p (grown p g)) 0 (p .pages) f pool ready 0) in
+          rw (all-are-sound, is)
+          (refl, ef ∙ rw none-out at (restretched-is H (p .bits) (p .places) (probes-real p (grown p g)) 0 (p .pages) f pool ready 0))

@@ -1,0 +1,4 @@
+pub mod Ruled
+pub mod Items
+pub mod Removing
+pub mod Growing

@@ -1,0 +1,107 @@
+-- A stretch planned over its own stars and applied: what the code leaves, and that it is the rule over these stars, for any hash.
+use mathlib.Core.Path.{_≡_, refl, sym, ap, _∙_}
+use mathlib.Core.Bool.{Bool, true, false, cond}
+use mathlib.Core.List.{List, [], _∷_, map}
+use Prim.Native.Nat.{ℕ, suc, _+_, _*_, _≤_}
+use native.Mathlib.Nat.{add-mul, mul-le-mul}
+use native.Mathlib.Omega.{arith}
+use lib.Dec.{eqb}
+use lib.ListN.{length, drop, take}
+use borrow.Author.Tests.{eq-eqb, ne-eqb}
+use Rattle.placement.specs.Rule.{Star, Hash, pages, left, without}
+use Rattle.placement.specs.File.{File, gathered, replaced, written}
+use Rattle.placement.specs.Hash.{lent}
+use Rattle.waiting.specs.Gather.{stretch, skipped, starsIn}
+use Rattle.reach.specs.Reach.{isEmpty}
+use Rattle.planning.specs.Sources.{named, renamed, sourced}
+use Rattle.planning.specs.Plans.{stretchWords, remains, Planned}
+use Rattle.planning.proofs.Ties.{Probes}
+use Rattle.planning.proofs.Applying.{applied}
+use Rattle.planning.proofs.Sourcing.{words-sourced, named-stretch, length-stretch}
+use Rattle.planning.proofs.Placed.{Ready, placed, left-count, layout, applied-layout}
+use Rattle.replacing.specs.Stretch.{Plannable, newPages, fitting, restretched}
+
+-- the stars of some items are at most the items
+pub stars-most : (k : ℕ) (l : List ℕ) → starsIn k l ≤ length l
+unfolding starsIn
+stars-most k [] = omega arith
+stars-most k (x ∷ l) = go (skipped k x) (stars-most k l)
+  where
+    go : (t : Bool) → starsIn k l ≤ length l → cond t (starsIn k l) (suc (starsIn k l)) ≤ suc (length l)
+    go true h = omega arith
+    go false h = omega arith
+
+module _ (bits places lo n : ℕ) (f : File) (pool waiting : List ℕ) (L : Plannable bits places lo n f pool waiting) (k : ℕ) where
+  -- the waiting list has room for the stretch's stars
+  pub stars-fit : 0 + starsIn k (stretch places lo n (f .numbers)) ≤ length waiting
+  stars-fit =
+      omega (
+        arith,
+        stars-most k (stretch places lo n (f .numbers)),
+        length-stretch places lo n (f .numbers) (L .numbers-long),
+        add-mul lo n places,
+        L .waiting-long,
+      )
+
+  stretch-sourced : sourced (f .numbers) 0 (stretchWords places lo n k (f .numbers) pool) ≡ true
+  stretch-sourced =
+      words-sourced (lo * places) k (stretch places lo n (f .numbers)) (stretch places lo n pool) (L .valid)
+      (omega (
+        arith,
+        length-stretch places lo n (f .numbers) (L .numbers-long),
+        add-mul lo n places,
+        mul-le-mul (L .pages-most) (L .places-most),
+      ))
+      (f .numbers) 0 (named-stretch places lo n 0 (f .numbers) (L .numbers-long))
+
+  -- the plan applied
+  applied-stretch : (pool′ planned planned′ W′ : List ℕ) (r : ℕ) → lo + n ≤ length planned
+      → Planned bits places lo n [] (stretchWords places lo n k (f .numbers) pool) pool pool′ planned planned′ W′ r
+      → applied places lo n 0 0 pool′ planned′ f ≡ replaced places f lo (newPages bits places lo n k f pool)
+  unfolding newPages
+  applied-stretch pool′ planned planned′ W′ r long P =
+      let l : List ℕ = stretchWords places lo n k (f .numbers) pool in
+      applied-layout bits places lo n 0 0 f [] l pool′ planned′ W′ r
+      (layout bits places lo n [] l pool pool′ planned planned′ W′ r P (L .pool-long) long)
+      (unfold sourced Rattle.waiting.specs.Lists.all in refl) stretch-sourced
+
+  -- what the answer of the plan decides
+  module _ (pool′ planned planned′ W′ : List ℕ) (r : ℕ) (P : Planned bits places lo n [] (stretchWords places lo n k (f .numbers) pool) pool pool′ planned planned′ W′ r) where
+    pub stretch-kept : (r ≡ 0 → ⊥) → (false ≡ fitting bits places lo n k f pool) × (f ≡ restretched bits places lo n k f pool)
+    unfolding fitting restretched
+    stretch-kept some =
+        let e : eqb (length (remains bits places lo 0 n [] (stretchWords places lo n k (f .numbers) pool))) 0 ≡ false = ne-eqb _ 0 (λ z. some (P .counted ∙ z)) in
+        rw e (refl, refl)
+
+    pub stretch-placed : r ≡ 0 → lo + n ≤ length planned
+        → (true ≡ fitting bits places lo n k f pool) × (applied places lo n 0 0 pool′ planned′ f ≡ restretched bits places lo n k f pool)
+    unfolding fitting restretched
+    stretch-placed none long =
+        let e : eqb (length (remains bits places lo 0 n [] (stretchWords places lo n k (f .numbers) pool))) 0 ≡ true = eq-eqb _ 0 (sym (P .counted) ∙ none) in
+        rw e (refl, applied-stretch pool′ planned planned′ W′ r long P)
+
+-- the lists that the code leaves are the applied file's
+pub applied-lists : (places lo n : ℕ) (pool planned separators numbers words separators′ numbers′ words′ : List ℕ)
+    → separators′ ≡ written lo (take n (drop lo planned)) separators
+    → numbers′ ≡ written (lo * places) (map (named numbers 0) (stretch places lo n pool)) numbers
+    → words′ ≡ written (lo * places) (map (named words 0) (stretch places lo n pool)) words
+    → lent separators′ numbers′ words′ ≡ applied places lo n 0 0 pool planned (lent separators numbers words)
+unfolding applied
+applied-lists places lo n pool planned separators numbers words separators′ numbers′ words′ es en ew = rw (es, en, ew)
+
+none-left : (w : List Star) → eqb (length w) 0 ≡ isEmpty w
+none-left [] = refl
+none-left (s ∷ w) = ne-eqb (suc (length w)) 0 (λ e. omega arith)
+
+module _ (H : Hash) (bits places : ℕ) (real : Probes H bits places) (lo n : ℕ) (f : File) (hs : List ℕ) (R : Ready H places lo n f hs) (k : ℕ) where
+  pub fitting-is : fitting bits places lo n k f hs ≡ isEmpty (left H lo n (without k (gathered places f lo n)))
+  unfolding fitting
+  fitting-is =
+      let past : List ℕ = remains bits places lo 0 n [] (stretchWords places lo n k (f .numbers) hs) in
+      let w : List Star = left H lo n (without k (gathered places f lo n)) in
+      ap (λ (m : ℕ). eqb m 0) (sym (left-count (renamed (f .words) 0) past w (placed H bits places real lo n f hs R k 0 .1))) ∙ none-left w
+
+  pub restretched-is : restretched bits places lo n k f hs
+      ≡ cond (isEmpty (left H lo n (without k (gathered places f lo n)))) (replaced places f lo (pages H lo n (without k (gathered places f lo n)))) f
+  unfolding restretched newPages
+  restretched-is = rw (fitting-is, placed H bits places real lo n f hs R k 0 .0)

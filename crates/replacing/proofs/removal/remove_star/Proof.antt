@@ -1,0 +1,140 @@
+use mathlib.Core.Path.{_∙_}
+use native.Mathlib.Omega.{arith}
+use Rattle.hashing.specs.Generator.{multiplier}
+use Rattle.hashing.proofs.Bounds.{limits}
+use Rattle.hashing.proofs.Laws.{home-pages, top-least, top-shifted}
+use Rattle.placement.specs.Hash.{hashOf, lent}
+use Rattle.replacing.proofs.Removing.{Reached, reached, removal-refused, removal-plannable, removal-done}
+use borrow.Author.Needs.{needs}
+use Rattle.replacing.proofs.removal.remove_star.Statement.{statement}
+use Rattle.replacing.proofs.removal.remove_star.Tie as tie
+
+abbrev start : tie.After-stretch-end → tie.Start
+start c = c .before .before .before .before .before .before .before .before .before
+
+-- the reach
+reach : (c : tie.After-stretch-end)
+    → Reached (start c .args .geometry .parameters) (start c .args .geometry .growth)
+    (lent (start c .args .separators .now) (start c .args .numbers .now) (start c .args .words .now)) (start c .args .number) (c .before .before .home .result) (c .stretch-end .result)
+unfolding hashOf
+reach c =
+    let pre = start c .pre in
+    reached _ _ _ _ (pre .1 .0) (pre .1 .1 .0) (pre .1 .1 .1 .0) _ _ _ (c .before .before .home .ensures) (top-shifted _ (limits _ (pre .1 .0) .bits-most)) (c .stretch-end .ensures)
+
+cast-places : tie.Need-cast-places
+cast-places c = search needs
+
+home-requires : tie.Need-home-requires
+home-requires c κs = search needs
+
+cast-from : tie.Need-cast-from
+cast-from c = search needs
+
+shl-stretch-end : tie.Need-shl-stretch-end
+shl-stretch-end c = omega (arith, limits _ (c .before .before .before .before .before .before .before .before .pre .1 .0) .bits-most)
+
+sub-stretch-end : tie.Need-sub-stretch-end
+sub-stretch-end c =
+    let l = limits _ (c .before .before .before .before .before .before .before .before .pre .1 .0) in
+    omega (arith, top-shifted _ (l .bits-most), top-least _ (l .bits-least))
+
+stretch-end-requires : tie.Need-stretch-end-requires
+stretch-end-requires c κs =
+    let pre = c .before .before .before .before .before .before .before .before .pre in
+    omega (arith, c .before .home .ensures, home-pages multiplier _ _ (c .before .before .before .before .before .before .before .before .args .number) (pre .1 .0) (pre .1 .1 .0), pre .1 .1 .1 .0 .ofSeparators)
+
+add-stop : tie.Need-add-stop
+add-stop c = omega (arith, reach c .inside, limits _ (start c .pre .1 .0) .pages-most)
+
+survey-pages-requires : tie.Need-survey-pages-requires
+survey-pages-requires c κs =
+    let end = c .before .before .before .before in
+    let pre = start end .pre in
+    let R = reach end in
+    (pre .0, (pre .1 .0, (pre .1 .1 .0, (pre .1 .1 .1 .0, (pre .1 .1 .1 .1 .0, (omega (arith, R .order), omega (arith, R .inside)))))))
+
+same-length : tie.Need-same-length
+same-length c = search needs
+
+same-length-2 : tie.Need-same-length-2
+same-length-2 c = search needs
+
+same-length-3 : tie.Need-same-length-3
+same-length-3 c = search needs
+
+same-length-4 : tie.Need-same-length-4
+same-length-4 c = search needs
+
+returns : tie.Need-returns
+returns c =
+    let surveyed = c .before .before .before in
+    removal-refused _ _ _ _ _ _ (reach (surveyed .before .before .before .before .before)) _ (surveyed .survey-pages .ensures .0) (c .if1 .taken)
+
+sub-replace-stretch : tie.Need-sub-replace-stretch
+sub-replace-stretch c = omega (arith, reach (c .before .before .before .before .before .before .before .before .before .before .before .before .before) .order)
+
+replace-stretch-requires : tie.Need-replace-stretch-requires
+replace-stretch-requires c κs =
+    let sound = c .before .before .before .before .before in
+    let surveyed = sound .before .before .before in
+    let end = surveyed .before .before .before .before .before in
+    let pre = start end .pre in
+    let lengths = pre .1 .1 .1 .1 in (
+      pre .0,
+      removal-plannable _ _ _ _ _ _ (reach end) (pre .1 .0) (pre .1 .1 .1 .0) _ (surveyed .survey-pages .ensures .0) (sound .if1 .left) _ _ (lengths .0)
+          (surveyed .survey-pages .kept .1 .1 .1 .1 .1 .0 ∙ lengths .0) (surveyed .survey-pages .ensures .1) _ (lengths .1),
+    )
+
+same-length-5 : tie.Need-same-length-5
+same-length-5 c = search needs
+
+same-length-6 : tie.Need-same-length-6
+same-length-6 c = search needs
+
+same-length-7 : tie.Need-same-length-7
+same-length-7 c = search needs
+
+same-length-8 : tie.Need-same-length-8
+same-length-8 c = search needs
+
+same-length-9 : tie.Need-same-length-9
+same-length-9 c = search needs
+
+returns-2 : tie.Need-returns-2
+returns-2 c =
+    let placed = c .before .before .before .before .before .before .before .before .before .before in
+    let sound = placed .before .before .before .before .before .before in
+    let surveyed = sound .before .before .before in
+    let end = surveyed .before .before .before .before .before in
+    let pre = start end .pre in
+    let lengths = pre .1 .1 .1 .1 in
+    let done =
+    removal-done _ _ _ _ _ _ (reach end) (pre .1 .0) (pre .1 .1 .1 .0) _ (surveyed .survey-pages .ensures .0) (sound .if1 .left) _ _ (lengths .0)
+    (surveyed .survey-pages .kept .1 .1 .1 .1 .1 .0 ∙ lengths .0) (surveyed .survey-pages .ensures .1) in
+    (done .0, placed .replace-stretch .ensures .1 ∙ done .1)
+
+pub remove-star-spec : {M : Type 1} → statement M
+remove-star-spec =
+    tie.close
+    (tie.spec
+    cast-places
+    home-requires
+    cast-from
+    shl-stretch-end
+    sub-stretch-end
+    stretch-end-requires
+    add-stop
+    survey-pages-requires
+    same-length
+    same-length-2
+    same-length-3
+    same-length-4
+    returns
+    sub-replace-stretch
+    replace-stretch-requires
+    same-length-5
+    same-length-6
+    same-length-7
+    same-length-8
+    same-length-9
+    returns-2)

@@ -1,0 +1,60 @@
+-- What a removal and a growth make of sound pages: document 01, "The cut" and "Where each refusal is met".
+use mathlib.Core.Bool.{cond}
+use mathlib.Core.List.{List}
+use Prim.Native.Nat.{ℕ, _+_}
+use lib.Dec.{ltb}
+use Rattle.hashing.specs.declared.Parameters.{Parameters}
+use Rattle.hashing.specs.declared.Growth.{Growth}
+use Rattle.hashing.specs.Generator.{multiplier}
+use Rattle.placement.specs.Rule.{Star, Hash, pages, left, without}
+use Rattle.placement.specs.File.{File, gathered, replaced}
+use Rattle.placement.specs.Hash.{hashOf}
+use Rattle.reach.specs.Reach.{isEmpty, pagesTo, removalEnd, firstUnsound}
+use Rattle.replacing.specs.declared.Replaced.{Replaced}
+use Rattle.replacing.specs.declared.Replaced.the-variants.{Done, Unsound, Overflows}
+
+abbrev pub hash : Parameters → Growth → Hash
+hash p g = hashOf multiplier p g
+
+-- "The reach of a removal": its first page, how many pages it has, and the first unsound one of them
+abbrev pub startOf : Parameters → Growth → ℕ → ℕ
+startOf p g k = hash p g .home k
+
+abbrev pub countOf : Parameters → Growth → File → ℕ → ℕ
+countOf p g f k = pagesTo (startOf p g k) (removalEnd (hash p g) (p .pages) f (startOf p g k))
+
+abbrev pub unsoundOf : Parameters → Growth → File → ℕ → ℕ
+unsoundOf p g f k = firstUnsound p g f (startOf p g k) (countOf p g f k)
+
+-- one thing if a page of the reach is unsound, another if not
+abbrev pub byReach : {A : Type 0} → Parameters → Growth → File → ℕ → A → A → A
+byReach p g f k unsound removes = cond (ltb (unsoundOf p g f k) (startOf p g k + countOf p g f k)) unsound removes
+
+unfoldable pub removalAnswer : Parameters → Growth → File → ℕ → Replaced
+removalAnswer p g f k = byReach p g f k (Unsound (unsoundOf p g f k)) Done
+
+-- "The rule is then applied to the reach .. Other pages stay."
+unfoldable pub removalFile : Parameters → Growth → File → ℕ → File
+removalFile p g f k =
+    byReach p g f k f
+    (replaced (p .places) f (startOf p g k)
+    (pages (hash p g) (startOf p g k) (countOf p g f k) (without k (gathered (p .places) f (startOf p g k) (countOf p g f k)))))
+
+-- the stars of the whole file, by number
+abbrev pub allStars : Parameters → File → List Star
+allStars p f = gathered (p .places) f 0 (p .pages)
+
+-- one thing if a page is unsound, another if the rule under the growth state `next` carries a star past page M−1, a third if it does not
+abbrev pub byGrowth : {A : Type 0} → Parameters → Growth → File → Growth → A → A → A → A
+byGrowth p g f next unsound overflows grows =
+    cond (ltb (firstUnsound p g f 0 (p .pages)) (p .pages))
+    unsound
+    (cond (isEmpty (left (hash p next) 0 (p .pages) (allStars p f))) grows overflows)
+
+unfoldable pub growthAnswer : Parameters → Growth → File → Growth → Replaced
+growthAnswer p g f next = byGrowth p g f next (Unsound (firstUnsound p g f 0 (p .pages))) Overflows Done
+
+-- "The rule is then applied .. by growth to all pages under the new (e, x)"
+unfoldable pub growthFile : Parameters → Growth → File → Growth → File
+growthFile p g f next =
+    byGrowth p g f next f f (replaced (p .places) f 0 (pages (hash p next) 0 (p .pages) (allStars p f)))
