@@ -1,0 +1,68 @@
+//! What no implementation can do without, measured beside the calls.
+
+use model::hashing::{shape, x, MODULUS, MULTIPLIER};
+use model::{Growth, Parameters};
+
+/// One expansion: the power of the generator, the greatest value that moves a star, G, G div s and G mod s,
+/// the ranks that are open, and the address of rank 0.
+struct Level {
+    power: u64,
+    limit: u64,
+    groups: u32,
+    quotient: u32,
+    remainder: u32,
+    open: u32,
+    address: u32,
+}
+
+/// Home addresses under one growth state, with everything that does not depend on the star taken out.
+pub struct Homes {
+    first: u32,
+    step: u32,
+    levels: Vec<Level>,
+}
+
+impl Homes {
+    pub fn new(parameters: &Parameters, growth: &Growth) -> Homes {
+        let level = |i: u32| {
+            let (n, groups) = shape(parameters, i - 1);
+            let open = if i <= growth.expansions { groups as u32 } else { growth.expanded };
+            let (power, limit, address) = (x(2 * u64::from(i), 1), MODULUS / (n + 1), (n * groups) as u32);
+            let groups = groups as u32;
+            let (quotient, remainder) = (groups / parameters.step, groups % parameters.step);
+            Level { power, limit, groups, quotient, remainder, open, address }
+        };
+        let levels = (1..=growth.expansions + 1).map(level).collect();
+        Homes { first: parameters.width * parameters.groups, step: parameters.step, levels }
+    }
+
+    /// First which expansions choose the star, without a branch, then the few moves.
+    pub fn home(&self, star: u32) -> u32 {
+        let mut address = (reduce(MULTIPLIER * u64::from(star)) % u64::from(self.first)) as u32;
+        let mut chosen = 0_u64;
+        for (i, level) in self.levels.iter().enumerate() {
+            chosen |= u64::from(reduce(level.power * u64::from(star)) <= level.limit) << i;
+        }
+        while chosen != 0 {
+            let level = &self.levels[chosen.trailing_zeros() as usize];
+            chosen &= chosen - 1;
+            let t = level.groups - 1 - address % level.groups;
+            let w = t % self.step;
+            let rank = w * level.quotient + w.min(level.remainder) + t / self.step;
+            if rank < level.open {
+                address = level.address + rank;
+            }
+        }
+        address
+    }
+}
+
+/// The remainder by m = 2^31 − 1 of a product below 2^62.
+fn reduce(product: u64) -> u64 {
+    let sum = (product & MODULUS) + (product >> 31);
+    if sum >= MODULUS {
+        sum - MODULUS
+    } else {
+        sum
+    }
+}

@@ -1,0 +1,149 @@
+//! A history with the plain book beside it.
+
+use crate::tester::Tester;
+use model::files::random_pool;
+use model::hashing::{grown, home, signature};
+use model::placement::{lay_out, pack, unpack, Star};
+use model::{Buffers, Call, Growth, Kind, Outcome, Parameters};
+use std::collections::BTreeMap;
+
+pub struct History {
+    pub parameters: Parameters,
+    pub growth: Growth,
+    pub lent: Buffers,
+    /// The book: number to word, and its own (e, x). It is fed accepted calls and never sees the file.
+    pub book: BTreeMap<u32, u64>,
+    book_growth: Growth,
+    /// The numbers that calls choose from.
+    pub numbers: Vec<u32>,
+}
+
+impl History {
+    /// From the empty file that making one leaves in buffers with anything in them.
+    pub fn new(tester: &mut Tester, parameters: Parameters) -> History {
+        let mut lent = Buffers::zeros(&parameters);
+        lent.separators.iter_mut().for_each(|separator| *separator = tester.random.draw() as u8);
+        lent.numbers.iter_mut().for_each(|number| *number = tester.random.draw() as u32);
+        lent.words.iter_mut().for_each(|word| *word = tester.random.draw());
+        let call = Call { kind: Kind::Make, parameters, growth: Growth::default(), number: 0, ra: 0, dec: 0 };
+        let (_, lent) = tester.compare(&call, &lent);
+        History::from(tester, parameters, Growth::default(), lent)
+    }
+
+    /// From a file that the check accepts.
+    pub fn from(tester: &mut Tester, parameters: Parameters, growth: Growth, lent: Buffers) -> History {
+        let pairs = lent.numbers.iter().copied().zip(lent.words.iter().copied());
+        let book: BTreeMap<u32, u64> = pairs.filter(|&(number, _)| number != 0).collect();
+        let mut numbers: Vec<u32> = book.keys().copied().collect();
+        numbers.extend([1, 2, 2_147_483_645, 2_147_483_646]);
+        numbers.extend((0..parameters.items() / 2 + 4).map(|_| tester.random.star_number()));
+        History { parameters, growth, lent, book, book_growth: growth, numbers }
+    }
+
+    /// One random call, now and then one with wrong values beside it.
+    pub fn step(&mut self, tester: &mut Tester) {
+        let kind = match tester.random.below(100) {
+            0..=37 => Kind::Enter,
+            38..=57 => Kind::Remove,
+            58..=75 => Kind::LookUp,
+            76..=82 => Kind::Change,
+            83..=91 => Kind::Grow,
+            92..=95 => Kind::Due,
+            _ => Kind::Check,
+        };
+        let number = tester.random.pick(&self.numbers);
+        if tester.random.once_in(8) {
+            random_pool(&mut tester.random, &mut self.lent);
+            let (ra, dec) = tester.random.position();
+            tester.deviating_call(self.make_call(kind, number, ra, dec), self.lent.clone());
+        }
+        self.call(tester, kind, number);
+    }
+
+    fn make_call(&self, kind: Kind, number: u32, ra: u32, dec: i32) -> Call {
+        Call { kind, parameters: self.parameters, growth: self.growth, number, ra, dec }
+    }
+
+    /// Runs a call with a random position.
+    pub fn call(&mut self, tester: &mut Tester, kind: Kind, number: u32) -> Outcome {
+        let (ra, dec) = tester.random.position();
+        self.call_with(tester, kind, number, ra, dec)
+    }
+
+    /// Runs a call with a random pool, feeds the book, and compares the file with the book's.
+    pub fn call_with(&mut self, tester: &mut Tester, kind: Kind, number: u32, ra: u32, dec: i32) -> Outcome {
+        random_pool(&mut tester.random, &mut self.lent);
+        let call = self.make_call(kind, number, ra, dec);
+        let (outcome, after) = tester.compare(&call, &self.lent);
+        if kind == Kind::LookUp && outcome.refusal == 0 {
+            self.look_up_alike(tester, &call, &outcome);
+        }
+        (self.lent, self.growth) = (after, outcome.growth());
+        self.check_answer(tester, &call, &outcome);
+        if outcome.refusal == 0 {
+            self.feed(&call);
+        }
+        self.check_file(tester);
+        outcome
+    }
+
+    fn feed(&mut self, call: &Call) {
+        match call.kind {
+            Kind::Enter | Kind::Change => {
+                self.book.insert(call.number, pack(call.ra, call.dec));
+            }
+            Kind::Remove => {
+                self.book.remove(&call.number);
+            }
+            Kind::Grow => self.book_growth = grown(&self.parameters, &self.book_growth),
+            _ => {}
+        }
+    }
+
+    fn check_answer(&self, tester: &mut Tester, call: &Call, outcome: &Outcome) {
+        tester.expect(outcome.refusal != 5, "a call of a history is refused with 5");
+        let held = self.book.get(&call.number);
+        match call.kind {
+            Kind::LookUp => {
+                let book = held.map(|&word| unpack(word));
+                let answer = (outcome.found == 1).then_some((outcome.ra, outcome.dec));
+                tester.expect(outcome.refusal == 0 && answer == book, "a look-up differs from the book");
+                tester.expect(self.first_page(call.number) == outcome.page.into(), "a look-up names another page");
+            }
+            Kind::Enter => tester.expect((outcome.refusal == 6) == held.is_some(), "an entry differs from the book"),
+            Kind::Change | Kind::Remove => {
+                tester.expect((outcome.refusal == 7) == held.is_none(), "a change or removal differs from the book")
+            }
+            Kind::Due => tester.expect(outcome.stars as usize == self.book.len(), "due counts other stars"),
+            _ => {}
+        }
+    }
+
+    /// The first page from home whose separator is above the signature there.
+    fn first_page(&self, number: u32) -> u64 {
+        let home = home(&self.parameters, &self.growth, number.into());
+        let signature = |page: u64| signature(&self.parameters, number.into(), page - home + 1);
+        (home..).find(|&page| u64::from(self.lent.separators[page as usize]) > signature(page)).unwrap()
+    }
+
+    fn check_file(&self, tester: &mut Tester) {
+        let stars = self.book.iter().map(|(&number, &word)| Star { number, word }).collect();
+        let same = lay_out(&self.parameters, &self.book_growth, stars).is_some_and(|expected| {
+            (&expected.separators, &expected.numbers, &expected.words)
+                == (&self.lent.separators, &self.lent.numbers, &self.lent.words)
+        });
+        tester.expect(same && self.growth == self.book_growth, "the file is not the book's");
+    }
+
+    /// The same look-up where every other page has other contents gets the same answer.
+    fn look_up_alike(&self, tester: &mut Tester, call: &Call, outcome: &Outcome) {
+        let mut lent = self.lent.clone();
+        let places = self.parameters.places as usize;
+        for item in (0..lent.numbers.len()).filter(|item| item / places != outcome.page as usize) {
+            lent.numbers[item] = tester.random.draw() as u32;
+            lent.words[item] = tester.random.draw();
+        }
+        let (other, _) = tester.compare(call, &lent);
+        tester.expect(other == *outcome, "a look-up depends on another page");
+    }
+}

@@ -1,0 +1,113 @@
+//! Random testing of the library against the model: histories [--quick | --soak MINUTES] [--seed N]
+
+mod history;
+mod scenarios;
+mod tester;
+
+use model::Kind;
+use std::panic::{catch_unwind, AssertUnwindSafe};
+use std::process::exit;
+use std::time::{Duration, Instant};
+use tester::Tester;
+
+/// A name, how often a quick run repeats it and a round of a soak, and what to do.
+type Scenario = (&'static str, u64, u64, fn(&mut Tester));
+
+const SCENARIOS: [Scenario; 12] = [
+    ("tiny files", 12, 3, scenarios::tiny_files),
+    ("edge histories", 20, 10, scenarios::edge_histories),
+    ("small histories", 4_000, 1_000, scenarios::small_history),
+    ("single-bit damage", 60, 20, scenarios::single_bit_damage),
+    ("single-bit arguments", 40, 10, scenarios::single_bit_arguments),
+    ("damaged sessions", 15_000, 4_000, scenarios::damaged_session),
+    ("sound sessions", 20_000, 5_000, scenarios::sound_session),
+    ("full files", 500, 150, scenarios::full_file_entries),
+    ("same stars", 1_500, 400, scenarios::same_stars),
+    ("large histories", 24, 10, scenarios::large_history),
+    ("largest histories", 6, 4, scenarios::largest_history),
+    ("long cascades", 1, 1, scenarios::long_cascade),
+];
+
+struct Totals {
+    tester: Tester,
+    passed: u64,
+    failed: u64,
+}
+
+impl Totals {
+    fn run(&mut self, name: &str, scenario: fn(&mut Tester), seed: u64) {
+        self.tester.random.0 = seed;
+        let tester = &mut self.tester;
+        if catch_unwind(AssertUnwindSafe(|| scenario(tester))).is_err() {
+            tester.fail("panicked".to_string());
+        }
+        if self.tester.failures.is_empty() {
+            self.passed += 1;
+            return;
+        }
+        self.failed += 1;
+        for failure in self.tester.failures.drain(..).take(3) {
+            println!("{name}, seed {seed}: {failure}");
+        }
+    }
+
+    fn round(&mut self, quick: bool, seed: u64) {
+        for (index, &(name, in_quick, in_soak, scenario)) in SCENARIOS.iter().enumerate() {
+            let start = Instant::now();
+            let count = if quick { in_quick } else { in_soak };
+            for i in 0..count {
+                self.run(name, scenario, seed.wrapping_add((index as u64) << 32).wrapping_add(i));
+            }
+            if quick {
+                println!("{name}: {count} in {:.1} s", start.elapsed().as_secs_f64());
+            }
+        }
+    }
+}
+
+fn usage() -> ! {
+    eprintln!("usage: histories [--quick | --soak MINUTES] [--seed N]");
+    exit(2)
+}
+
+fn main() {
+    let (mut soak, mut seed) = (None, 1);
+    let mut arguments = std::env::args().skip(1);
+    while let Some(argument) = arguments.next() {
+        let mut number = || arguments.next().and_then(|text| text.parse().ok()).unwrap_or_else(|| usage());
+        match argument.as_str() {
+            "--quick" => soak = None,
+            "--soak" => soak = Some(Duration::from_secs(60 * number())),
+            "--seed" => seed = number(),
+            _ => usage(),
+        }
+    }
+    println!("seed {seed}");
+    let mut totals = Totals { tester: Tester::new(), passed: 0, failed: 0 };
+    let start = Instant::now();
+    match soak {
+        None => totals.round(true, seed),
+        Some(time) => {
+            for round in 0.. {
+                // Rounds draw on seeds of their own, far from each other.
+                totals.round(false, seed.wrapping_add(round << 40));
+                let minutes = start.elapsed().as_secs_f64() / 60.0;
+                println!(
+                    "{minutes:.1} min: {} calls, {} passed, {} failed",
+                    totals.tester.calls, totals.passed, totals.failed
+                );
+                if start.elapsed() >= time {
+                    break;
+                }
+            }
+        }
+    }
+    println!("calls by refusal    0        1        2        3        4        5        6        7        8");
+    for (kind, refusals) in Kind::ALL.iter().zip(totals.tester.refusals) {
+        println!("{:<12}{}", kind.name(), refusals.map(|count| format!("{count:>9}")).concat());
+    }
+    println!("{} pairs of histories ended in the same stars", totals.tester.alike);
+    println!("{} calls compared in {:.1} s", totals.tester.calls, start.elapsed().as_secs_f64());
+    println!("{} passed, {} failed", totals.passed, totals.failed);
+    exit((totals.failed > 0) as i32);
+}

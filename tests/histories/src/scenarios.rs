@@ -1,0 +1,234 @@
+//! What is tested, each by random numbers of its own.
+
+use crate::history::History;
+use crate::tester::Tester;
+use model::files::*;
+use model::hashing::{grown, home};
+use model::placement::unpack;
+use model::{Buffers, Call, Growth, Kind, Parameters};
+
+/// Every file of two pages with a place each and a few values for each item, under every call.
+pub fn tiny_files(tester: &mut Tester) {
+    let bits = 1 + tester.random.below(3) as u32;
+    let parameters = Parameters::new([1, 1, 1, 1, bits, 50, 2]);
+    let top = parameters.top() as u8;
+    let separators = [0, 1, top / 2 + 1, top, top + 1];
+    let first = 1 + tester.random.below(1_000) as u32;
+    let numbers = [0, first, first + 1 + tester.random.below(1_000) as u32, 2_147_483_647];
+    let words = [0, 4_618_967_296, u64::MAX];
+    let sets = separators.len() * numbers.len() * words.len();
+    for choice in 0..sets * sets {
+        let page = |choice: usize| (separators[choice % 5], numbers[choice / 5 % 4], words[choice / 20]);
+        let (lower, upper) = (page(choice % sets), page(choice / sets));
+        let mut lent = Buffers::zeros(&parameters);
+        (lent.separators, lent.numbers) = (vec![lower.0, upper.0], vec![lower.1, upper.1]);
+        (lent.words, lent.pool_words) = (vec![lower.2, upper.2], vec![7, 7]);
+        let growth = Growth { expansions: tester.random.below(2) as u32, expanded: 0 };
+        tester.every_call(parameters, growth, &lent, &numbers[1..3]);
+    }
+}
+
+/// A history for each of the parameters' edges.
+pub fn edge_histories(tester: &mut Tester) {
+    for parameters in edge_parameters() {
+        let mut history = History::new(tester, parameters);
+        for _ in 0..40 {
+            history.step(tester);
+        }
+    }
+}
+
+pub fn small_history(tester: &mut Tester) {
+    let parameters = small_parameters(&mut tester.random);
+    let mut history = History::new(tester, parameters);
+    for _ in 0..150 {
+        history.step(tester);
+    }
+}
+
+/// A history of few calls on a large file that is already filled.
+pub fn large_history(tester: &mut Tester) {
+    let list = tester.random.pick(&LARGE);
+    large_history_of(tester, list);
+}
+
+pub fn largest_history(tester: &mut Tester) {
+    large_history_of(tester, LARGE[0]);
+}
+
+fn large_history_of(tester: &mut Tester, list: [u32; 7]) {
+    let parameters = Parameters::new(list);
+    let growth = random_growth(&mut tester.random, &parameters);
+    let percent = tester.random.pick(&[20, 60, 80, 90]);
+    let lent = clean_file(&mut tester.random, &parameters, &growth, percent);
+    let mut history = History::from(tester, parameters, growth, lent);
+    for _ in 0..12 {
+        history.step(tester);
+    }
+}
+
+/// Parameters, growth state and a file with some stars, for damage.
+fn small_file(tester: &mut Tester) -> (Parameters, Growth, Buffers) {
+    let list = [
+        [2, 2, 2, 1, 8, 80, 7],
+        [1, 1, 1, 1, 2, 50, 3],
+        [3, 1, 2, 1, 3, 60, 5],
+        [1, 3, 1, 2, 8, 60, 6],
+        [4, 1, 1, 1, 8, 80, 2],
+    ];
+    let parameters = Parameters::new(tester.random.pick(&list));
+    let growth = random_growth(&mut tester.random, &parameters);
+    let lent = match tester.random.below(3) {
+        0 => sound_file(&mut tester.random, &parameters, &growth),
+        _ => clean_file(&mut tester.random, &parameters, &growth, 110),
+    };
+    (parameters, growth, lent)
+}
+
+/// Some held numbers and some others.
+fn some_numbers(tester: &mut Tester, lent: &Buffers, count: usize) -> Vec<u32> {
+    let mut numbers: Vec<u32> = lent.numbers.iter().copied().filter(|&number| number != 0).collect();
+    tester.random.shuffle(&mut numbers);
+    numbers.truncate(count);
+    numbers.extend((0..count).map(|_| tester.random.star_number()));
+    numbers
+}
+
+/// Each bit of a small file changed, one at a time, then every call.
+pub fn single_bit_damage(tester: &mut Tester) {
+    let (parameters, growth, lent) = small_file(tester);
+    for bit in 0..bits(&lent) {
+        let mut damaged = lent.clone();
+        random_pool(&mut tester.random, &mut damaged);
+        flip(&mut damaged, bit);
+        let numbers = some_numbers(tester, &lent, 2);
+        tester.every_call(parameters, growth, &damaged, &numbers);
+    }
+}
+
+/// Each bit of the parameters and of the growth state changed, one at a time, then every call.
+pub fn single_bit_arguments(tester: &mut Tester) {
+    let (parameters, growth, lent) = small_file(tester);
+    let numbers = some_numbers(tester, &lent, 1);
+    for bit in 0..7 * 32 {
+        let mut list = parameters.list();
+        list[bit / 32] ^= 1 << (bit % 32);
+        tester.every_call(Parameters::new(list), growth, &lent, &numbers);
+    }
+    for bit in 0..32 {
+        let Growth { expansions, expanded } = growth;
+        tester.every_call(parameters, Growth { expansions: expansions ^ 1 << bit, expanded }, &lent, &numbers);
+        tester.every_call(parameters, Growth { expansions, expanded: expanded ^ 1 << bit }, &lent, &numbers);
+    }
+}
+
+/// Random damage of a small file of any parameters, then calls that go on with what the one before left.
+pub fn damaged_session(tester: &mut Tester) {
+    let parameters = small_parameters(&mut tester.random);
+    let growth = random_growth(&mut tester.random, &parameters);
+    let mut lent = clean_file(&mut tester.random, &parameters, &growth, 90);
+    for _ in 0..1 + tester.random.below(3) {
+        let bit = tester.random.below(bits(&lent) as u64) as usize;
+        flip(&mut lent, bit);
+    }
+    session(tester, parameters, growth, lent, 20);
+}
+
+/// Calls on a file whose pages are all sound under separators that the rule need not give.
+pub fn sound_session(tester: &mut Tester) {
+    let parameters = small_parameters(&mut tester.random);
+    let growth = random_growth(&mut tester.random, &parameters);
+    let lent = sound_file(&mut tester.random, &parameters, &growth);
+    session(tester, parameters, growth, lent, 20);
+}
+
+fn session(tester: &mut Tester, parameters: Parameters, mut growth: Growth, mut lent: Buffers, calls: u32) {
+    for _ in 0..calls {
+        random_pool(&mut tester.random, &mut lent);
+        let kind = tester.random.pick(&Kind::ALL[1..]);
+        let numbers = some_numbers(tester, &lent, 1);
+        let number = tester.random.pick(&numbers);
+        let (ra, dec) = tester.random.position();
+        let call = Call { kind, parameters, growth, number, ra, dec };
+        let (outcome, after) = tester.compare(&call, &lent);
+        (lent, growth) = (after, outcome.growth());
+    }
+}
+
+/// Entries that go through many full pages, with and without room at the end.
+pub fn full_file_entries(tester: &mut Tester) {
+    let places = tester.random.pick(&[1, 2, 5]);
+    let pages = tester.random.pick(&[4, 13, 40]);
+    let bits = tester.random.pick(&[4, 8, 8]);
+    full_entries(tester, Parameters::new([places, 4, 1, 3, bits, 99, pages]));
+}
+
+/// The same through about 1,000 pages.
+pub fn long_cascade(tester: &mut Tester) {
+    full_entries(tester, Parameters::new([4, 8, 2, 5, 8, 80, 1_024]));
+}
+
+fn full_entries(tester: &mut Tester, parameters: Parameters) {
+    let growths = parameters.pages - parameters.width * parameters.groups;
+    let growth = growth_after(&parameters, growths.into());
+    let with_room = tester.random.below(3) as usize;
+    let lent = full_file(&mut tester.random, &parameters, &growth, with_room);
+    let mut history = History::from(tester, parameters, growth, lent);
+    for entered in 0..4 {
+        let wanted = tester.random.pick(&[0, 0, 1, u64::from(parameters.pages) / 2]);
+        let number = loop {
+            let number = tester.random.star_number();
+            if home(&parameters, &growth, number.into()) == wanted {
+                break number;
+            }
+        };
+        history.call(tester, Kind::Enter, number);
+        if entered % 2 == 1 {
+            let number = tester.random.pick(&history.numbers);
+            history.call(tester, Kind::Remove, number);
+        }
+    }
+}
+
+/// Two histories that end in the same stars, positions and growth state leave the same bytes.
+pub fn same_stars(tester: &mut Tester) {
+    let parameters = small_parameters(&mut tester.random);
+    let mut first = History::new(tester, parameters);
+    for _ in 0..80 {
+        first.step(tester);
+    }
+    let mut second = History::new(tester, parameters);
+    // Entries and growths may have no room for a while, so each is tried again after the others.
+    for _ in 0..10 {
+        let mut missing: Vec<u32> =
+            first.book.keys().copied().filter(|number| !second.book.contains_key(number)).collect();
+        tester.random.shuffle(&mut missing);
+        for number in missing {
+            let passing = tester.random.star_number();
+            let stays = first.book.contains_key(&passing);
+            if !stays && second.call(tester, Kind::Enter, passing).refusal == 0 {
+                second.call(tester, Kind::Enter, number);
+                second.call(tester, Kind::Remove, passing);
+            }
+            second.call(tester, Kind::Enter, number);
+            let wanted = (first.growth.expansions, first.growth.expanded);
+            let next = grown(&parameters, &second.growth);
+            if tester.random.once_in(3) && (next.expansions, next.expanded) <= wanted {
+                second.call(tester, Kind::Grow, 0);
+            }
+        }
+        while second.growth != first.growth && second.call(tester, Kind::Grow, 0).refusal == 0 {}
+    }
+    for (&number, &word) in &first.book {
+        let (ra, dec) = unpack(word);
+        second.call_with(tester, Kind::Change, number, ra, dec);
+    }
+    let ended_alike = (&first.book, first.growth) == (&second.book, second.growth);
+    if ended_alike {
+        tester.alike += 1;
+        let bytes = |history: &History| {
+            (history.lent.separators.clone(), history.lent.numbers.clone(), history.lent.words.clone())
+        };
+        tester.expect(bytes(&first) == bytes(&second), "histories with the same stars leave different files");
+    }
+}

@@ -1,0 +1,115 @@
+//! Runs a call on the library and on the model and compares everything afterwards.
+
+use model::random::Random;
+use model::vectors::Vector;
+use model::{Buffers, Call, Growth, Kind, Outcome, Parameters};
+use std::fs;
+use std::path::PathBuf;
+
+/// Where the first failing calls are kept as vectors.
+const FOLDER: &str = concat!(env!("CARGO_MANIFEST_DIR"), "/../../target/histories");
+
+pub struct Tester {
+    pub random: Random,
+    pub calls: u64,
+    /// How often each kind of call got each refusal.
+    pub refusals: [[u64; 9]; 8],
+    /// How many pairs of histories ended in the same stars, positions and growth state.
+    pub alike: u64,
+    pub failures: Vec<String>,
+    saved: u32,
+}
+
+impl Tester {
+    pub fn new() -> Tester {
+        Tester { random: Random(0), calls: 0, refusals: [[0; 9]; 8], alike: 0, failures: Vec::new(), saved: 0 }
+    }
+
+    /// The outcome, with the growth state after the call, and the buffers that the model leaves.
+    pub fn compare(&mut self, call: &Call, before: &Buffers) -> (Outcome, Buffers) {
+        self.calls += 1;
+        let mut after = before.clone();
+        let mut outcome = model::run(call, &mut after);
+        self.refusals[call.kind as usize][outcome.refusal as usize] += 1;
+        let Growth { expansions, expanded } = call.growth_after(&outcome);
+        (outcome.expansions, outcome.expanded) = (expansions, expanded);
+        let vector = Vector { line: 1, call: *call, before: before.clone(), outcome, after };
+        let differences = vector.differences(interface::run);
+        if !differences.is_empty() {
+            let kept = self.keep(&vector).map_or(String::new(), |path| format!(" ({})", path.display()));
+            self.fail(format!("{}{kept}: {}", call.kind.name(), differences.join("; ")));
+        }
+        (outcome, vector.after)
+    }
+
+    pub fn fail(&mut self, failure: String) {
+        self.failures.push(failure);
+    }
+
+    pub fn expect(&mut self, holds: bool, failure: &str) {
+        if !holds {
+            self.fail(failure.to_string());
+        }
+    }
+
+    fn keep(&mut self, vector: &Vector) -> Option<PathBuf> {
+        self.saved += 1;
+        let path = PathBuf::from(FOLDER).join(format!("failed-{}.txt", self.saved));
+        let kept = self.saved <= 20 && fs::create_dir_all(FOLDER).is_ok() && fs::write(&path, vector.text()).is_ok();
+        kept.then_some(path)
+    }
+
+    /// Every call on copies of one file: those that take a number, for each of the numbers.
+    pub fn every_call(&mut self, parameters: Parameters, growth: Growth, lent: &Buffers, numbers: &[u32]) {
+        for kind in Kind::ALL {
+            let numbers = if kind.takes_number() { numbers } else { &[0] };
+            for &number in numbers {
+                let (ra, dec) = self.random.position();
+                self.compare(&Call { kind, parameters, growth, number, ra, dec }, lent);
+            }
+        }
+    }
+
+    /// A call like this one with one or two of its values or lengths wrong or unusual, on a copy.
+    pub fn deviating_call(&mut self, mut call: Call, mut lent: Buffers) {
+        for _ in 0..1 + self.random.below(2) {
+            self.deviate(&mut call, &mut lent);
+        }
+        self.compare(&call, &lent);
+    }
+
+    fn deviate(&mut self, call: &mut Call, lent: &mut Buffers) {
+        let random = &mut self.random;
+        let any = random.draw() as u32;
+        let small = random.below(40) as u32;
+        let value = random.pick(&[0, 1, 8, 9, 32, 33, 99, 100, 256, 257, 1_024, 1_025, u32::MAX, any, small, small]);
+        let p = &mut call.parameters;
+        match random.below(16) {
+            0 => p.places = value,
+            1 => p.groups = value,
+            2 => p.width = value,
+            3 => p.step = value,
+            4 => p.bits = value,
+            5 => p.load = value,
+            6 => p.pages = value,
+            7 => call.growth.expansions = value,
+            8 => call.growth.expanded = value,
+            9 => resize(random, &mut lent.separators),
+            10 => resize(random, &mut lent.numbers),
+            11 => resize(random, &mut lent.words),
+            12 => resize(random, &mut lent.pool_numbers),
+            13 => resize(random, &mut lent.pool_words),
+            14 => call.number = random.pick(&[0, 2_147_483_646, 2_147_483_647, 2_147_483_648, u32::MAX]),
+            _ => {
+                call.ra = random.pick(&[0, 1_295_999_999, 1_296_000_000, u32::MAX, any]);
+                call.dec = random.pick(&[-324_000_001, -324_000_000, 324_000_000, 324_000_001, i32::MIN, any as i32]);
+            }
+        }
+    }
+}
+
+fn resize<T: Clone + Default>(random: &mut Random, list: &mut Vec<T>) {
+    let length = list.len();
+    let length = random.pick(&[0, length.saturating_sub(1), length + 1, 2 * length]);
+    list.resize(length, T::default());
+}

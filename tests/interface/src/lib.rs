@@ -1,0 +1,91 @@
+//! The calls of the Rattle crate starfile_tests, linked from its static library.
+
+use model::{Buffers, Call, Growth, Kind, Outcome, Parameters};
+
+// Each slice is a pointer and a length in items.
+#[rustfmt::skip]
+extern "C" {
+    fn sft_make(
+        parameters: Parameters,
+        separators: *mut u8, separators_length: usize,
+        numbers: *mut u32, numbers_length: usize,
+        words: *mut u64, words_length: usize,
+    ) -> Outcome;
+    fn sft_look_up(
+        parameters: Parameters, growth: Growth,
+        separators: *const u8, separators_length: usize,
+        numbers: *const u32, numbers_length: usize,
+        words: *const u64, words_length: usize,
+        number: u32,
+    ) -> Outcome;
+    fn sft_enter(
+        parameters: Parameters, growth: Growth,
+        separators: *mut u8, separators_length: usize,
+        numbers: *mut u32, numbers_length: usize,
+        words: *mut u64, words_length: usize,
+        pool_numbers: *mut u32, pool_numbers_length: usize,
+        pool_words: *mut u64, pool_words_length: usize,
+        number: u32, ra: u32, dec: i32,
+    ) -> Outcome;
+    fn sft_change(
+        parameters: Parameters, growth: Growth,
+        separators: *const u8, separators_length: usize,
+        numbers: *const u32, numbers_length: usize,
+        words: *mut u64, words_length: usize,
+        number: u32, ra: u32, dec: i32,
+    ) -> Outcome;
+    fn sft_remove(
+        parameters: Parameters, growth: Growth,
+        separators: *mut u8, separators_length: usize,
+        numbers: *mut u32, numbers_length: usize,
+        words: *mut u64, words_length: usize,
+        pool_numbers: *mut u32, pool_numbers_length: usize,
+        pool_words: *mut u64, pool_words_length: usize,
+        number: u32,
+    ) -> Outcome;
+    fn sft_grow(
+        parameters: Parameters, growth: Growth,
+        separators: *mut u8, separators_length: usize,
+        numbers: *mut u32, numbers_length: usize,
+        words: *mut u64, words_length: usize,
+        pool_numbers: *mut u32, pool_numbers_length: usize,
+        pool_words: *mut u64, pool_words_length: usize,
+    ) -> Outcome;
+    fn sft_due(
+        parameters: Parameters, growth: Growth,
+        separators: *const u8, separators_length: usize,
+        numbers: *const u32, numbers_length: usize,
+        words: *const u64, words_length: usize,
+    ) -> Outcome;
+    fn sft_check(
+        parameters: Parameters, growth: Growth,
+        separators: *const u8, separators_length: usize,
+        numbers: *const u32, numbers_length: usize,
+        words: *const u64, words_length: usize,
+        pool_numbers: *mut u32, pool_numbers_length: usize,
+        pool_words: *mut u64, pool_words_length: usize,
+    ) -> Outcome;
+}
+
+/// Runs one call of the library.
+pub fn run(call: &Call, lent: &mut Buffers) -> Outcome {
+    let Call { kind, parameters: p, growth: g, number, ra, dec } = *call;
+    let (s, sl) = (lent.separators.as_mut_ptr(), lent.separators.len());
+    let (n, nl) = (lent.numbers.as_mut_ptr(), lent.numbers.len());
+    let (w, wl) = (lent.words.as_mut_ptr(), lent.words.len());
+    let (pn, pnl) = (lent.pool_numbers.as_mut_ptr(), lent.pool_numbers.len());
+    let (pw, pwl) = (lent.pool_words.as_mut_ptr(), lent.pool_words.len());
+    // SAFETY: each pointer and length is that of a vector of its own, which lives through the call.
+    unsafe {
+        match kind {
+            Kind::Make => sft_make(p, s, sl, n, nl, w, wl),
+            Kind::LookUp => sft_look_up(p, g, s, sl, n, nl, w, wl, number),
+            Kind::Enter => sft_enter(p, g, s, sl, n, nl, w, wl, pn, pnl, pw, pwl, number, ra, dec),
+            Kind::Change => sft_change(p, g, s, sl, n, nl, w, wl, number, ra, dec),
+            Kind::Remove => sft_remove(p, g, s, sl, n, nl, w, wl, pn, pnl, pw, pwl, number),
+            Kind::Grow => sft_grow(p, g, s, sl, n, nl, w, wl, pn, pnl, pw, pwl),
+            Kind::Due => sft_due(p, g, s, sl, n, nl, w, wl),
+            Kind::Check => sft_check(p, g, s, sl, n, nl, w, wl, pn, pnl, pw, pwl),
+        }
+    }
+}

@@ -1,0 +1,3 @@
+//! Document 01's points about the calls, against the library.
+
+model::point_tests!(interface::run);

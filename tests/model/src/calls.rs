@@ -1,0 +1,301 @@
+//! The eight calls on any buffers, with the refusals in the order of document 01's table.
+
+use crate::hashing::{grown, highest_address, home, shape, signature};
+use crate::placement::{pack, position_valid, rule, unpack, word_valid, write, Page, Star};
+use crate::{Buffers, Call, Growth, Kind, Outcome, Parameters};
+
+const HIGHEST_NUMBER: u32 = 2_147_483_646;
+
+struct Refusal {
+    number: u32,
+    page: usize,
+    place: usize,
+}
+
+fn refuse<T>(number: u32) -> Result<T, Refusal> {
+    Err(Refusal { number, page: 0, place: 0 })
+}
+
+fn damaged<T>(page: usize, place: usize) -> Result<T, Refusal> {
+    Err(Refusal { number: 5, page, place })
+}
+
+/// Runs one call. An accepted one works on a copy, so that a refused one changes no page.
+pub fn run(call: &Call, lent: &mut Buffers) -> Outcome {
+    let mut copy = lent.clone();
+    let outcome = match attempt(call, &mut copy) {
+        Ok(outcome) => {
+            *lent = copy;
+            outcome
+        }
+        Err(refusal) => Outcome {
+            refusal: refusal.number,
+            page: refusal.page as u32,
+            place: refusal.place as u32,
+            ..unchanged(call)
+        },
+    };
+    if call.kind.takes_pool() && !(1..=4).contains(&outcome.refusal) {
+        lent.pool_numbers.fill(0);
+        lent.pool_words.fill(0);
+    }
+    outcome
+}
+
+/// Zeros and the growth state as it was.
+fn unchanged(call: &Call) -> Outcome {
+    if call.kind == Kind::Make {
+        return Outcome::default();
+    }
+    Outcome { expansions: call.growth.expansions, expanded: call.growth.expanded, ..Outcome::default() }
+}
+
+fn attempt(call: &Call, lent: &mut Buffers) -> Result<Outcome, Refusal> {
+    let valid = parameters_valid(&call.parameters);
+    if !valid || call.kind != Kind::Make && !growth_valid(&call.parameters, &call.growth) {
+        return refuse(1);
+    }
+    if !lengths_right(call, lent) {
+        return refuse(2);
+    }
+    if call.kind.takes_number() && !(1..=HIGHEST_NUMBER).contains(&call.number) {
+        return refuse(3);
+    }
+    if call.kind.takes_position() && !position_valid(call.ra, call.dec) {
+        return refuse(4);
+    }
+    let mut file = File { parameters: call.parameters, growth: call.growth, lent };
+    let page = |page: usize| Outcome { page: page as u32, ..unchanged(call) };
+    match call.kind {
+        Kind::Make => file.make(),
+        Kind::LookUp => return file.look_up(call.number, unchanged(call)),
+        Kind::Enter => return file.enter(Star { number: call.number, word: pack(call.ra, call.dec) }).map(page),
+        Kind::Change => return file.change(Star { number: call.number, word: pack(call.ra, call.dec) }).map(page),
+        Kind::Remove => return file.remove(call.number).map(page),
+        Kind::Grow => return file.grow(),
+        Kind::Due => return Ok(file.due(unchanged(call))),
+        Kind::Check => file.check()?,
+    }
+    Ok(unchanged(call))
+}
+
+fn parameters_valid(p: &Parameters) -> bool {
+    (1..=32).contains(&p.places)
+        && (1..=256).contains(&p.groups)
+        && (1..=4).contains(&p.width)
+        && (1..=p.groups).contains(&p.step)
+        && (1..=8).contains(&p.bits)
+        && (1..=99).contains(&p.load)
+        && (p.width * p.groups..=1_024).contains(&p.pages)
+}
+
+fn growth_valid(p: &Parameters, growth: &Growth) -> bool {
+    // After more than ten doublings there would be more than 1,024 groups.
+    if growth.expansions / p.width > 10 {
+        return false;
+    }
+    let (n, groups) = shape(p, growth.expansions);
+    let expanded = u64::from(growth.expanded);
+    expanded < groups && n * groups + expanded <= p.pages.into()
+}
+
+fn lengths_right(call: &Call, lent: &Buffers) -> bool {
+    let items = call.parameters.items();
+    lent.separators.len() == call.parameters.pages as usize
+        && lent.numbers.len() == items
+        && lent.words.len() == items
+        && (!call.kind.takes_pool() || lent.pool_numbers.len() == items && lent.pool_words.len() == items)
+}
+
+/// A file whose parameters, growth state and lengths are right; its contents may be anything.
+struct File<'a> {
+    parameters: Parameters,
+    growth: Growth,
+    lent: &'a mut Buffers,
+}
+
+impl File<'_> {
+    fn last_page(&self) -> usize {
+        self.parameters.pages as usize - 1
+    }
+
+    fn items(&self, page: usize) -> std::ops::Range<usize> {
+        let places = self.parameters.places as usize;
+        page * places..(page + 1) * places
+    }
+
+    fn home(&self, number: u32) -> usize {
+        home(&self.parameters, &self.growth, number.into()) as usize
+    }
+
+    fn at_top(&self, page: usize) -> bool {
+        u64::from(self.lent.separators[page]) == self.parameters.top()
+    }
+
+    fn stars(&self, pages: std::ops::RangeInclusive<usize>) -> Vec<Star> {
+        let items = self.items(*pages.start()).start..self.items(*pages.end()).end;
+        let star = |item| Star { number: self.lent.numbers[item], word: self.lent.words[item] };
+        items.map(star).filter(|star| star.number != 0).collect()
+    }
+
+    /// The item at which a page holds the number.
+    fn held(&self, page: usize, number: u32) -> Option<usize> {
+        self.items(page).find(|&item| self.lent.numbers[item] == number)
+    }
+
+    /// The first page from home with a separator above the number's signature there.
+    fn named(&self, number: u32) -> Option<usize> {
+        let home = self.home(number);
+        let signature = |page| signature(&self.parameters, number.into(), (page - home + 1) as u64);
+        (home..=self.last_page()).find(|&page| u64::from(self.lent.separators[page]) > signature(page))
+    }
+
+    fn sound(&self, page: usize) -> bool {
+        let numbers = &self.lent.numbers[self.items(page)];
+        let words = &self.lent.words[self.items(page)];
+        let count = numbers.iter().take_while(|&&number| number != 0).count();
+        numbers[..count].windows(2).all(|pair| pair[0] < pair[1])
+            && numbers[..count].iter().all(|&number| number <= HIGHEST_NUMBER)
+            && numbers[count..].iter().all(|&number| number == 0)
+            && words[..count].iter().all(|&word| word_valid(word))
+            && words[count..].iter().all(|&word| word == 0)
+            && u64::from(self.lent.separators[page]) <= self.parameters.top()
+            && numbers[..count].iter().all(|&number| self.named(number) == Some(page))
+    }
+
+    /// The page that the separators name, if it is sound.
+    fn sound_named(&self, number: u32) -> Result<usize, Refusal> {
+        match self.named(number) {
+            Some(page) if self.sound(page) => Ok(page),
+            Some(page) => damaged(page, 0),
+            None => damaged(self.last_page() + 1, 0),
+        }
+    }
+
+    fn all_sound(&self, place: usize) -> Result<(), Refusal> {
+        match (0..=self.last_page()).find(|&page| !self.sound(page)) {
+            Some(page) => damaged(page, place),
+            None => Ok(()),
+        }
+    }
+
+    fn rule(&self, stretch: std::ops::RangeInclusive<usize>, stars: Vec<Star>) -> (Vec<Page>, Vec<Star>) {
+        rule(&self.parameters, &self.growth, stretch, stars)
+    }
+
+    fn write(&mut self, first: usize, pages: &[Page]) {
+        write(&self.parameters, self.lent, first, pages);
+    }
+
+    fn make(&mut self) {
+        self.lent.separators.fill(self.parameters.top() as u8);
+        self.lent.numbers.fill(0);
+        self.lent.words.fill(0);
+    }
+
+    fn look_up(&self, number: u32, none: Outcome) -> Result<Outcome, Refusal> {
+        let page = self.sound_named(number)?;
+        let Some(item) = self.held(page, number) else {
+            return Ok(Outcome { page: page as u32, ..none });
+        };
+        let (ra, dec) = unpack(self.lent.words[item]);
+        Ok(Outcome { page: page as u32, found: 1, ra, dec, ..none })
+    }
+
+    fn enter(&mut self, new: Star) -> Result<usize, Refusal> {
+        let named = self.sound_named(new.number)?;
+        if self.held(named, new.number).is_some() {
+            return refuse(6);
+        }
+        let home = self.home(new.number);
+        for last in home..=self.last_page() {
+            if !self.sound(last) {
+                return damaged(last, 0);
+            }
+            if !self.at_top(last) && last != self.last_page() {
+                continue;
+            }
+            let mut stars = self.stars(home..=last);
+            stars.push(new);
+            let (pages, carried) = self.rule(home..=last, stars);
+            if carried.is_empty() {
+                self.write(home, &pages);
+                return Ok(home + pages.iter().position(|page| page.stars.contains(&new)).unwrap());
+            }
+        }
+        refuse(8)
+    }
+
+    fn change(&mut self, star: Star) -> Result<usize, Refusal> {
+        let page = self.sound_named(star.number)?;
+        let Some(item) = self.held(page, star.number) else {
+            return refuse(7);
+        };
+        self.lent.words[item] = star.word;
+        Ok(page)
+    }
+
+    fn remove(&mut self, number: u32) -> Result<usize, Refusal> {
+        let page = self.sound_named(number)?;
+        if self.held(page, number).is_none() {
+            return refuse(7);
+        }
+        let home = self.home(number);
+        let last = (home..self.last_page()).find(|&page| self.at_top(page)).unwrap_or(self.last_page());
+        if let Some(page) = (home..=last).find(|&page| !self.sound(page)) {
+            return damaged(page, 0);
+        }
+        let mut stars = self.stars(home..=last);
+        stars.retain(|star| star.number != number);
+        let (pages, carried) = self.rule(home..=last, stars);
+        assert!(carried.is_empty(), "over sound pages a removal carries nothing past its reach");
+        self.write(home, &pages);
+        Ok(page)
+    }
+
+    fn grow(&mut self) -> Result<Outcome, Refusal> {
+        if highest_address(&self.parameters, &self.growth) as usize == self.last_page() {
+            return refuse(8);
+        }
+        self.all_sound(0)?;
+        self.growth = grown(&self.parameters, &self.growth);
+        let all = 0..=self.last_page();
+        let (pages, carried) = self.rule(all.clone(), self.stars(all));
+        if !carried.is_empty() {
+            return refuse(8);
+        }
+        self.write(0, &pages);
+        let Growth { expansions, expanded } = self.growth;
+        let page = highest_address(&self.parameters, &self.growth) as u32;
+        Ok(Outcome { page, expansions, expanded, ..Outcome::default() })
+    }
+
+    fn due(&self, no: Outcome) -> Outcome {
+        let stars = self.lent.numbers.iter().filter(|&&number| number != 0).count() as u64;
+        let pages = highest_address(&self.parameters, &self.growth) + 1;
+        let limit = u64::from(self.parameters.load * self.parameters.places) * pages;
+        Outcome { due: (100 * stars > limit).into(), stars: stars as u32, ..no }
+    }
+
+    fn check(&self) -> Result<(), Refusal> {
+        let places = self.parameters.places as usize;
+        self.all_sound(places)?;
+        let all = 0..=self.last_page();
+        let (pages, carried) = self.rule(all.clone(), self.stars(all.clone()));
+        assert!(carried.is_empty(), "over sound pages the rule carries nothing past the end");
+        let mut expected = self.lent.clone();
+        write(&self.parameters, &mut expected, 0, &pages);
+        for page in all {
+            let differs = |&item: &usize| {
+                self.lent.numbers[item] != expected.numbers[item] || self.lent.words[item] != expected.words[item]
+            };
+            if let Some(item) = self.items(page).find(differs) {
+                return damaged(page, item - page * places);
+            }
+            if self.lent.separators[page] != expected.separators[page] {
+                return damaged(page, places);
+            }
+        }
+        Ok(())
+    }
+}

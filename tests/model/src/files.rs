@@ -1,0 +1,148 @@
+//! Random parameters and files.
+
+use crate::hashing::{grown, highest_address, home, signature};
+use crate::placement::{lay_out, pack, write, Page, Star};
+use crate::random::Random;
+use crate::{Buffers, Growth, Parameters};
+
+/// The edges of the parameters with few pages: b, N, n0, s, k, A, M.
+pub fn edge_parameters() -> Vec<Parameters> {
+    let mut list = Vec::new();
+    for places in [1, 2] {
+        for groups in [1, 3] {
+            for width in 1..=4 {
+                for step in if groups == 1 { vec![1] } else { vec![1, groups] } {
+                    for bits in [1, 2, 8] {
+                        let least = width * groups;
+                        for pages in [least, least + 1, 2 * least + 1] {
+                            list.push(Parameters::new([places, groups, width, step, bits, 60, pages]));
+                        }
+                    }
+                }
+            }
+        }
+    }
+    list
+}
+
+pub fn small_parameters(random: &mut Random) -> Parameters {
+    let groups = 1 + random.below(6) as u32;
+    let width = 1 + random.below(4) as u32;
+    let pages = groups * width + random.below(20) as u32;
+    let places = random.pick(&[1, 1, 2, 3, 4, 8, 32]);
+    let step = 1 + random.below(groups.into()) as u32;
+    let bits = random.pick(&[1, 2, 3, 4, 6, 8, 8]);
+    let load = random.pick(&[1, 50, 80, 99]);
+    Parameters::new([places, groups, width, step, bits, load, pages])
+}
+
+/// Up to the largest file.
+pub const LARGE: [[u32; 7]; 7] = [
+    [32, 8, 2, 5, 8, 80, 1_024],
+    [32, 256, 4, 256, 8, 99, 1_024],
+    [8, 1, 4, 1, 8, 80, 1_024],
+    [1, 1, 1, 1, 8, 50, 1_024],
+    [16, 8, 2, 5, 8, 80, 256],
+    [4, 5, 3, 2, 4, 70, 300],
+    [32, 1, 1, 1, 8, 80, 40],
+];
+
+/// The growth state after this many growths.
+pub fn growth_after(parameters: &Parameters, growths: u64) -> Growth {
+    (0..growths).fold(Growth::default(), |growth, _| grown(parameters, &growth))
+}
+
+pub fn random_growth(random: &mut Random, parameters: &Parameters) -> Growth {
+    let possible = u64::from(parameters.pages - parameters.width * parameters.groups);
+    let growths = random.below(possible + 1);
+    let growths = random.pick(&[0, growths, growths, possible]);
+    growth_after(parameters, growths)
+}
+
+pub fn random_star(random: &mut Random) -> Star {
+    let (ra, dec) = random.position();
+    Star { number: random.star_number(), word: pack(ra, dec) }
+}
+
+/// A file that the check accepts, filled to about `percent` of its addressed pages, or less if that does not fit.
+pub fn clean_file(random: &mut Random, parameters: &Parameters, growth: &Growth, percent: u64) -> Buffers {
+    let room = (highest_address(parameters, growth) + 1) * u64::from(parameters.places);
+    let mut stars: Vec<Star> = (0..room * percent / 100).map(|_| random_star(random)).collect();
+    stars.sort();
+    stars.dedup_by_key(|star| star.number);
+    random.shuffle(&mut stars);
+    loop {
+        if let Some(lent) = lay_out(parameters, growth, stars.clone()) {
+            return lent;
+        }
+        stars.truncate(stars.len() * 9 / 10);
+    }
+}
+
+/// A file whose pages are all sound under random separators; the check refuses most of these.
+pub fn sound_file(random: &mut Random, parameters: &Parameters, growth: &Growth) -> Buffers {
+    let top = parameters.top();
+    let mut pages: Vec<Page> = (0..parameters.pages)
+        .map(|_| {
+            let separator = random.below(top + 1);
+            Page { separator: random.pick(&[top, top, separator, separator, 0]), stars: Vec::new() }
+        })
+        .collect();
+    for _ in 0..random.below(2 * parameters.items() as u64 + 1) {
+        let star = random_star(random);
+        let home = home(parameters, growth, star.number.into()) as usize;
+        let probe = |page: usize| signature(parameters, star.number.into(), (page - home + 1) as u64);
+        let named = (home..pages.len()).find(|&page| pages[page].separator > probe(page));
+        if let Some(page) = named.filter(|&page| pages[page].stars.len() < parameters.places as usize) {
+            pages[page].stars.push(star);
+            pages[page].stars.sort();
+        }
+    }
+    let mut lent = Buffers::zeros(parameters);
+    write(parameters, &mut lent, 0, &pages);
+    lent
+}
+
+/// All pages full of stars at home, but for the last `with_room`, which are empty.
+pub fn full_file(random: &mut Random, parameters: &Parameters, growth: &Growth, with_room: usize) -> Buffers {
+    let filled = highest_address(parameters, growth) as usize + 1 - with_room;
+    let mut homes: Vec<Vec<Star>> = vec![Vec::new(); filled];
+    let mut missing = filled * parameters.places as usize;
+    while missing > 0 {
+        let star = random_star(random);
+        let home = home(parameters, growth, star.number.into()) as usize;
+        let room = home < filled && homes[home].len() < parameters.places as usize;
+        if room && homes[home].iter().all(|other| other.number != star.number) {
+            homes[home].push(star);
+            missing -= 1;
+        }
+    }
+    lay_out(parameters, growth, homes.concat()).unwrap()
+}
+
+/// A pool of the right lengths with anything in it.
+pub fn random_pool(random: &mut Random, lent: &mut Buffers) {
+    let zeros = random.once_in(4);
+    lent.pool_numbers.iter_mut().for_each(|number| *number = if zeros { 0 } else { random.draw() as u32 });
+    lent.pool_words.iter_mut().for_each(|word| *word = if zeros { 0 } else { random.draw() });
+}
+
+/// How many bits the file has.
+pub fn bits(lent: &Buffers) -> usize {
+    8 * lent.separators.len() + 96 * lent.numbers.len()
+}
+
+/// Changes one bit, counted over the separators, then the numbers, then the words.
+pub fn flip(lent: &mut Buffers, mut bit: usize) {
+    if bit < 8 * lent.separators.len() {
+        lent.separators[bit / 8] ^= 1 << (bit % 8);
+        return;
+    }
+    bit -= 8 * lent.separators.len();
+    if bit < 32 * lent.numbers.len() {
+        lent.numbers[bit / 32] ^= 1 << (bit % 32);
+        return;
+    }
+    bit -= 32 * lent.numbers.len();
+    lent.words[bit / 64] ^= 1 << (bit % 64);
+}

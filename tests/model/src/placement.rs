@@ -1,0 +1,85 @@
+//! Position words, the cut, and the rule over a stretch of pages.
+
+use crate::hashing::{home, signature};
+use crate::{Buffers, Growth, Parameters};
+
+#[derive(Clone, Copy, Debug, PartialEq, Eq, PartialOrd, Ord)]
+pub struct Star {
+    pub number: u32,
+    pub word: u64,
+}
+
+#[derive(Clone, Debug, PartialEq, Eq)]
+pub struct Page {
+    pub separator: u64,
+    pub stars: Vec<Star>,
+}
+
+pub fn position_valid(ra: u32, dec: i32) -> bool {
+    ra <= 1_295_999_999 && (-324_000_000..=324_000_000).contains(&dec)
+}
+
+pub fn pack(ra: u32, dec: i32) -> u64 {
+    (u64::from(ra) << 32) + (i64::from(dec) + 324_000_000) as u64
+}
+
+pub fn unpack(word: u64) -> (u32, i32) {
+    ((word >> 32) as u32, ((word & 0xffff_ffff) as i64 - 324_000_000) as i32)
+}
+
+pub fn word_valid(word: u64) -> bool {
+    word >> 32 <= 1_295_999_999 && word & 0xffff_ffff <= 648_000_000
+}
+
+/// The greatest v, at most top, for which at most `room` of the signatures are below v.
+pub fn separator(room: usize, top: u64, signatures: &[u64]) -> u64 {
+    let below = |v| signatures.iter().filter(|&&signature| signature < v).count();
+    (0..=top).rev().find(|&v| below(v) <= room).unwrap()
+}
+
+/// The pages that the rule gives the stars over a stretch, and the stars carried past its end.
+pub fn rule(
+    parameters: &Parameters,
+    growth: &Growth,
+    stretch: std::ops::RangeInclusive<usize>,
+    mut stars: Vec<Star>,
+) -> (Vec<Page>, Vec<Star>) {
+    stars.sort();
+    let with_home = |star: Star| (home(parameters, growth, star.number.into()), star);
+    let mut waiting: Vec<(u64, Star)> = stars.into_iter().map(with_home).collect();
+    let mut pages = Vec::new();
+    for page in stretch {
+        let page = page as u64;
+        let signature_here = |&(home, star): &(u64, Star)| {
+            (home <= page).then(|| signature(parameters, star.number.into(), page - home + 1))
+        };
+        let signatures: Vec<u64> = waiting.iter().filter_map(signature_here).collect();
+        let separator = separator(parameters.places as usize, parameters.top(), &signatures);
+        let stays = |entry: &(u64, Star)| signature_here(entry).is_some_and(|signature| signature < separator);
+        let (staying, passing): (Vec<_>, Vec<_>) = waiting.into_iter().partition(stays);
+        pages.push(Page { separator, stars: staying.into_iter().map(|(_, star)| star).collect() });
+        waiting = passing;
+    }
+    (pages, waiting.into_iter().map(|(_, star)| star).collect())
+}
+
+/// Writes pages from `first` on, empty places last.
+pub fn write(parameters: &Parameters, lent: &mut Buffers, first: usize, pages: &[Page]) {
+    let places = parameters.places as usize;
+    for (page, new) in (first..).zip(pages) {
+        lent.separators[page] = new.separator as u8;
+        for place in 0..places {
+            let star = new.stars.get(place).copied().unwrap_or(Star { number: 0, word: 0 });
+            lent.numbers[page * places + place] = star.number;
+            lent.words[page * places + place] = star.word;
+        }
+    }
+}
+
+/// The file that the rule over all pages gives the stars, with a pool of zeros; none if a star is carried past the end.
+pub fn lay_out(parameters: &Parameters, growth: &Growth, stars: Vec<Star>) -> Option<Buffers> {
+    let (pages, carried) = rule(parameters, growth, 0..=parameters.pages as usize - 1, stars);
+    let mut lent = Buffers::zeros(parameters);
+    write(parameters, &mut lent, 0, &pages);
+    carried.is_empty().then_some(lent)
+}

@@ -1,0 +1,244 @@
+//! Points of document 01 that the model and every other implementation must meet. Each panics where one fails.
+
+use crate::placement::{lay_out, pack, Star};
+use crate::session::Session;
+use crate::{Buffers, Growth, Kind, Outcome, Parameters, Run};
+
+/// One page at home, one above it, a place in each: star 32 has signatures 223 and 126, star 170 has 149 and 215.
+const TWO_PAGES: [u32; 7] = [1, 1, 1, 1, 8, 50, 2];
+
+fn answers(outcome: Outcome) -> (u32, u32) {
+    (outcome.refusal, outcome.page)
+}
+
+/// The homes of stars 1 and 2, seen by look-ups that find none.
+pub fn homes(run: Run) {
+    let mut session = Session::new(run, [2, 2, 2, 1, 8, 80, 8]);
+    assert_eq!((answers(session.look_up(1)), answers(session.look_up(2))), ((0, 3), (0, 2)));
+    assert_eq!(answers(session.grow()), (0, 4));
+    assert_eq!(answers(session.look_up(1)), (0, 4));
+    assert_eq!(answers(session.grow()), (0, 5));
+    assert_eq!(answers(session.look_up(2)), (0, 5));
+}
+
+/// The limits of positions and of star numbers.
+pub fn value_limits(run: Run) {
+    let mut session = Session::new(run, [4, 2, 2, 1, 8, 80, 8]);
+    for kind in [Kind::Enter, Kind::Change] {
+        let mut refusal = |number, ra, dec| session.call(kind, number, ra, dec).refusal;
+        assert_eq!(refusal(1, 0, -324_000_000), 0);
+        assert_eq!(refusal(2, 0, 324_000_000), 0);
+        assert_eq!(refusal(2_147_483_646, 1_295_999_999, 0), 0);
+        assert_eq!(refusal(3, 0, -324_000_001), 4);
+        assert_eq!(refusal(3, 0, 324_000_001), 4);
+        assert_eq!(refusal(3, 0, i32::MIN), 4);
+        assert_eq!(refusal(3, 1_296_000_000, 0), 4);
+        assert_eq!(refusal(3, u32::MAX, 0), 4);
+        assert_eq!(refusal(0, u32::MAX, 0), 3);
+    }
+    for kind in Kind::ALL.into_iter().filter(|kind| kind.takes_number()) {
+        for number in [0, 2_147_483_647, u32::MAX] {
+            assert_eq!(session.call(kind, number, 0, 0).refusal, 3);
+        }
+    }
+    let found = session.look_up(2_147_483_646);
+    assert_eq!((found.found, found.ra, found.dec), (1, 1_295_999_999, 0));
+}
+
+/// The limits of the seven parameters, for every call.
+pub fn parameter_limits(run: Run) {
+    let limits = [(0, 1, 32), (1, 1, 256), (2, 1, 4), (3, 1, 4), (4, 1, 8), (5, 1, 99), (6, 8, 1_024)];
+    for kind in Kind::ALL {
+        for (index, least, greatest) in limits {
+            for (value, refused) in
+                [(least - 1, true), (least, false), (greatest, false), (greatest + 1, true), (u32::MAX, true)]
+            {
+                let mut list = [2, 4, 2, 2, 8, 80, 1_024];
+                list[index] = value;
+                // A smaller N needs a smaller step.
+                if index == 1 {
+                    list[3] = 1;
+                }
+                let refusal = on_empty_file(run, kind, list, Growth::default());
+                assert_eq!(refusal == 1, refused, "{} {list:?}", kind.name());
+            }
+        }
+    }
+}
+
+/// The refusal of a call on an empty file, whose buffers have the lengths that M and b ask if these are sensible.
+fn on_empty_file(run: Run, kind: Kind, list: [u32; 7], growth: Growth) -> u32 {
+    let mut sizes = Parameters::new(list);
+    (sizes.places, sizes.pages) = (sizes.places.min(33), sizes.pages.min(1_025));
+    let mut lent = Buffers::zeros(&sizes);
+    lent.separators.fill(((1_u32 << list[4].min(8)) - 1) as u8);
+    let mut session = Session { run, parameters: Parameters::new(list), growth, lent };
+    session.call(kind, 1, 0, 0).refusal
+}
+
+/// Growth states at and beyond the limits; e may be any number of 32 bits.
+pub fn growth_limits(run: Run) {
+    for kind in Kind::ALL.into_iter().filter(|&kind| kind != Kind::Make) {
+        let refused = |list, expansions, expanded| on_empty_file(run, kind, list, Growth { expansions, expanded }) == 1;
+        let (slow, fast) = ([1, 1, 4, 1, 8, 80, 1_024], [1, 256, 1, 256, 8, 80, 1_000]);
+        assert!(!refused(slow, 32, 0) && refused(slow, 32, 1) && refused(slow, 33, 0));
+        assert!(!refused(slow, 31, 127) && refused(slow, 31, 128));
+        assert!(!refused(fast, 1, 488) && refused(fast, 1, 489) && refused(fast, 2, 0));
+        assert!(!refused(fast, 0, 255) && refused(fast, 0, 256));
+        for e in [39, 40, 43, 44, 63, 64, 127, 128, 255, 256, 1 << 16, u32::MAX - 1, u32::MAX] {
+            assert!(refused(slow, e, 0) && refused(fast, e, 0));
+        }
+        assert!(refused(slow, 0, u32::MAX) && refused(slow, u32::MAX, u32::MAX));
+    }
+}
+
+/// k = 1, b = 1: entering a second star of the same home, into a file that the check accepts, is always 8.
+pub fn second_star_of_a_home(run: Run) {
+    for (list, growths) in [([1, 1, 1, 1, 1, 50, 3], 1), ([1, 2, 2, 1, 1, 50, 9], 3), ([1, 3, 1, 2, 1, 50, 8], 4)] {
+        let mut session = Session::new(run, list);
+        for _ in 0..growths {
+            assert_eq!(session.grow().refusal, 0);
+        }
+        let mut homes = Vec::new();
+        for number in 1..200 {
+            let home = session.home(number);
+            let refusal = session.enter(number).refusal;
+            assert_eq!(refusal, if homes.contains(&home) { 8 } else { 0 });
+            homes.push(home);
+            assert_eq!(session.check().refusal, 0);
+        }
+    }
+}
+
+/// Growth is 8 with pages left, where the rule carries a star past the last page.
+pub fn growth_without_room(run: Run) {
+    let mut session = Session::new(run, TWO_PAGES);
+    assert_eq!(answers(session.enter(32)), (0, 0));
+    assert_eq!(answers(session.enter(170)), (0, 0));
+    assert_eq!(session.lent.separators, [223, 255]);
+    let before = session.clone();
+    assert_eq!(answers(session.grow()), (8, 0));
+    assert!(session.lent == before.lent && session.growth == before.growth);
+}
+
+/// Growth repairs a file that is all sound and that the check refuses.
+pub fn growth_repairs(run: Run) {
+    let mut session = Session::new(run, TWO_PAGES);
+    session.lent.separators.fill(0);
+    let refused = session.check();
+    assert_eq!((refused.refusal, refused.page, refused.place), (5, 0, 1));
+    assert_eq!(answers(session.grow()), (0, 1));
+    assert_eq!(session.lent.separators, [255, 255]);
+    assert_eq!(answers(session.check()), (0, 0));
+}
+
+/// An entry into a file that is not clean stands below the page that was first named.
+pub fn entry_below_named_page(run: Run) {
+    let mut session = Session::new(run, TWO_PAGES);
+    session.lent.separators[0] = 0;
+    assert_eq!(answers(session.look_up(32)), (0, 1));
+    assert_eq!(answers(session.enter(32)), (0, 0));
+    assert_eq!((&session.lent.separators[..], &session.lent.numbers[..]), (&[255, 255][..], &[32, 0][..]));
+}
+
+/// A removal raises the separator of the home page, though the star stood above it.
+pub fn removal_raises_separator(run: Run) {
+    let mut session = Session::new(run, TWO_PAGES);
+    session.enter(170);
+    session.enter(32);
+    assert_eq!((&session.lent.separators[..], &session.lent.numbers[..]), (&[223, 255][..], &[170, 32][..]));
+    assert_eq!(answers(session.remove(32)), (0, 1));
+    assert_eq!((&session.lent.separators[..], &session.lent.numbers[..]), (&[255, 255][..], &[170, 0][..]));
+}
+
+/// An entry into a file that is all sound and not clean is 8, though the rule over the whole file would fit.
+pub fn entry_without_room_in_its_reach(run: Run) {
+    let mut session = Session::new(run, [1, 2, 1, 1, 8, 50, 2]);
+    let lower = (1..).find(|&number| session.home(number) == 0).unwrap();
+    let upper = (1..).find(|&number| session.home(number) == 1).unwrap();
+    session.lent.separators = vec![0, 255];
+    session.lent.numbers = vec![0, lower];
+    session.lent.words = vec![0, pack(1, 0)];
+    assert_eq!(session.check().place, 0);
+    assert_eq!(answers(session.enter(upper)), (8, 0));
+    let stars = [lower, upper].map(|number| Star { number, word: pack(1, 0) });
+    assert!(lay_out(&session.parameters, &session.growth, stars.to_vec()).is_some());
+}
+
+/// All places full and one star more: 8, but only once every page of the reach was found sound.
+pub fn entry_into_full_file(run: Run) {
+    let mut session = Session::new(run, [2, 4, 1, 2, 8, 99, 4]);
+    let mut number = 0;
+    while session.lent.numbers.contains(&0) {
+        number += 1;
+        let home = session.home(number) as usize;
+        if session.lent.numbers[2 * home + 1] == 0 {
+            assert_eq!(answers(session.enter(number)), (0, home as u32));
+        }
+    }
+    let newcomer = (number + 1..).find(|&number| session.home(number) == 0).unwrap();
+    assert_eq!(answers(session.check()), (0, 0));
+    assert_eq!(answers(session.enter(newcomer)), (8, 0));
+    session.lent.words[7] = u64::MAX;
+    assert_eq!(answers(session.enter(newcomer)), (5, 3));
+}
+
+/// What the check names, in its order: unsound pages first, then places, then the separator.
+pub fn check_order(run: Run) {
+    let spot = |session: &mut Session| {
+        let outcome = session.check();
+        (outcome.refusal, outcome.page, outcome.place)
+    };
+    let mut session = Session::new(run, TWO_PAGES);
+    assert_eq!(spot(&mut session), (0, 0, 0));
+    session.lent.separators = vec![100, 255];
+    assert_eq!(spot(&mut session), (5, 0, 1));
+    session.lent.numbers[1] = 32;
+    assert_eq!(spot(&mut session), (5, 0, 0));
+    session.lent.words[1] = u64::MAX;
+    assert_eq!(spot(&mut session), (5, 1, 1));
+}
+
+/// Due counts every number that is not 0, and a separator above 2^k − 1 still names its page.
+pub fn damaged_values(run: Run) {
+    let mut session = Session::new(run, [1, 1, 1, 1, 4, 50, 2]);
+    session.lent.numbers = vec![u32::MAX, 7];
+    let outcome = session.call(Kind::Due, 0, 0, 0);
+    assert_eq!((outcome.refusal, outcome.due, outcome.stars), (0, 1, 2));
+    let mut session = Session::new(run, [1, 1, 1, 1, 4, 50, 2]);
+    session.lent.separators = vec![0, 16];
+    assert_eq!(answers(session.look_up(1)), (5, 1));
+    session.lent.separators = vec![0, 0];
+    assert_eq!(answers(session.look_up(1)), (5, 2));
+}
+
+/// A refusal 1 to 4 leaves the pool as it is; every other call that takes it leaves zeros.
+pub fn pool_contents(run: Run) {
+    for kind in Kind::ALL.into_iter().filter(|kind| kind.takes_pool()) {
+        let mut session = Session::new(run, TWO_PAGES);
+        session.lent.pool_words.fill(7);
+        session.parameters.load = 100;
+        assert_eq!(session.call(kind, 1, 0, 0).refusal, 1);
+        assert_eq!(session.lent.pool_words, [7, 7]);
+        session.parameters.load = 50;
+        session.lent.pool_numbers.push(7);
+        assert_eq!(session.call(kind, 1, 0, 0).refusal, 2);
+        assert_eq!((&session.lent.pool_numbers[..], &session.lent.pool_words[..]), (&[0, 0, 7][..], &[7, 7][..]));
+        session.lent.pool_numbers = vec![7, 7];
+        session.call(kind, 1, 0, 0);
+        assert_eq!((&session.lent.pool_numbers[..], &session.lent.pool_words[..]), (&[0, 0][..], &[0, 0][..]));
+    }
+}
+
+/// A test of each point for an implementation.
+#[macro_export]
+macro_rules! point_tests {
+    ($run:path) => {
+        $crate::point_tests!($run: homes value_limits parameter_limits growth_limits second_star_of_a_home
+            growth_without_room growth_repairs entry_below_named_page removal_raises_separator
+            entry_without_room_in_its_reach entry_into_full_file check_order damaged_values pool_contents);
+    };
+    ($run:path: $($name:ident)*) => {
+        $(#[test] fn $name() { $crate::points::$name($run) })*
+    };
+}

@@ -1,0 +1,59 @@
+//! One file with its growth state, and the calls on it.
+
+use crate::placement::Star;
+use crate::{Buffers, Call, Growth, Kind, Outcome, Parameters, Run};
+
+#[derive(Clone)]
+pub struct Session {
+    pub run: Run,
+    pub parameters: Parameters,
+    pub growth: Growth,
+    pub lent: Buffers,
+}
+
+impl Session {
+    /// An empty file; the parameters in the order b, N, n0, s, k, A, M.
+    pub fn new(run: Run, parameters: [u32; 7]) -> Session {
+        let parameters = Parameters::new(parameters);
+        let lent = Buffers::zeros(&parameters);
+        let mut session = Session { run, parameters, growth: Growth::default(), lent };
+        assert_eq!(session.call(Kind::Make, 0, 0, 0).refusal, 0, "making {parameters:?}");
+        session
+    }
+
+    pub fn call(&mut self, kind: Kind, number: u32, ra: u32, dec: i32) -> Outcome {
+        let call = Call { kind, parameters: self.parameters, growth: self.growth, number, ra, dec };
+        let outcome = (self.run)(&call, &mut self.lent);
+        self.growth = call.growth_after(&outcome);
+        outcome
+    }
+
+    pub fn enter(&mut self, number: u32) -> Outcome {
+        self.call(Kind::Enter, number, 1, 0)
+    }
+
+    pub fn look_up(&mut self, number: u32) -> Outcome {
+        self.call(Kind::LookUp, number, 0, 0)
+    }
+
+    pub fn remove(&mut self, number: u32) -> Outcome {
+        self.call(Kind::Remove, number, 0, 0)
+    }
+
+    pub fn grow(&mut self) -> Outcome {
+        self.call(Kind::Grow, 0, 0, 0)
+    }
+
+    pub fn check(&mut self) -> Outcome {
+        self.call(Kind::Check, 0, 0, 0)
+    }
+
+    pub fn home(&self, number: u32) -> u64 {
+        crate::hashing::home(&self.parameters, &self.growth, number.into())
+    }
+
+    pub fn stars(&self) -> Vec<Star> {
+        let pairs = self.lent.numbers.iter().zip(&self.lent.words);
+        pairs.filter(|(&number, _)| number != 0).map(|(&number, &word)| Star { number, word }).collect()
+    }
+}

@@ -1,0 +1,100 @@
+//! Document 01's points about the definitions, and the given vectors, against the model.
+
+use model::hashing::{home, rank, signature, x, MODULUS, MULTIPLIER};
+use model::placement::{pack, separator, unpack, word_valid};
+use model::{starline::starline, vectors, Growth, Parameters};
+use std::fs;
+
+const FOLDER: &str = concat!(env!("CARGO_MANIFEST_DIR"), "/../vectors");
+
+#[test]
+fn generator() {
+    assert_eq!(x(2, 1), 282_475_249);
+    assert_eq!(x(3, 1), 1_622_650_073);
+    assert_eq!(x(1, 2_147_483_646), 2_147_466_840);
+    assert_eq!((0..10_000).fold(1, |value, _| value * MULTIPLIER % MODULUS), 1_043_618_065);
+}
+
+#[test]
+fn signatures() {
+    let parameters = Parameters::new([2, 2, 2, 1, 8, 80, 8]);
+    assert_eq!(signature(&parameters, 1, 1), 158);
+    assert_eq!(signature(&parameters, 1, 2), 175);
+    assert_eq!(signature(&parameters, 2, 1), 189);
+    assert_eq!(
+        [(32, 1), (32, 2), (170, 1), (170, 2)].map(|(star, t)| signature(&parameters, star, t)),
+        [223, 126, 149, 215]
+    );
+}
+
+#[test]
+fn ranks() {
+    assert_eq!([9, 8, 7, 1].map(|group| rank(3, 10, group)), [0, 4, 7, 9]);
+    for groups in 1..=64 {
+        for step in 1..=groups {
+            let mut ranks: Vec<u64> = (0..groups).map(|group| rank(step, groups, group)).collect();
+            ranks.sort();
+            assert!(ranks.into_iter().eq(0..groups));
+        }
+    }
+}
+
+#[test]
+fn home_addresses() {
+    let parameters = Parameters::new([2, 2, 2, 1, 8, 80, 8]);
+    let home = |expanded, star| home(&parameters, &Growth { expansions: 0, expanded }, star);
+    assert_eq!((home(0, 1), home(1, 1)), (3, 4));
+    let after_two = Growth { expansions: 1, expanded: 0 };
+    assert_eq!((home(0, 2), model::hashing::home(&parameters, &after_two, 2)), (2, 5));
+}
+
+#[test]
+fn separators() {
+    let kept = |room, signatures: &[u64]| {
+        let separator = separator(room, 15, signatures);
+        (signatures.iter().filter(|&&signature| signature < separator).count(), separator)
+    };
+    assert_eq!(kept(4, &[1, 3, 4, 4, 8]), (4, 8));
+    assert_eq!(kept(3, &[1, 3, 4, 4, 8]), (2, 4));
+    assert_eq!(kept(1, &[3, 8]), (1, 8));
+    assert_eq!(kept(1, &[5, 5]), (0, 5));
+}
+
+#[test]
+fn position_words() {
+    assert_eq!(pack(1, 0), 4_618_967_296);
+    for (ra, dec) in [(0, -324_000_000), (0, 324_000_000), (1_295_999_999, 0), (1_295_999_999, 324_000_000)] {
+        assert!(word_valid(pack(ra, dec)));
+        assert_eq!(unpack(pack(ra, dec)), (ra, dec));
+    }
+    assert!(!word_valid(pack(0, 324_000_001)) && !word_valid(pack(1_296_000_000, 0)));
+}
+
+#[test]
+fn call_vectors() {
+    for name in ["calls-1.txt", "calls-2.txt"] {
+        let text = fs::read_to_string(format!("{FOLDER}/{name}")).unwrap();
+        let vectors = vectors::parse(&text).unwrap();
+        assert_eq!(vectors.len(), 1_500);
+        for vector in &vectors {
+            assert_eq!(vector.differences(model::run), Vec::<String>::new(), "{name}, line {}", vector.line);
+        }
+        assert_eq!(vectors.iter().map(|vector| vector.text()).collect::<String>(), text);
+    }
+}
+
+#[test]
+fn starline_example() {
+    let output = starline(b"E 1 10 -5\nL 1\nG\nL 1\nL 2\nR 2");
+    assert_eq!(output, "ok 3\nat 3 10 -5\nok 4\nat 4 10 -5\nnone 2\nno 7 0\n");
+}
+
+#[test]
+fn starline_vectors() {
+    let folder = format!("{FOLDER}/starline");
+    for case in 0..40 {
+        let input = fs::read(format!("{folder}/case-{case}.in")).unwrap();
+        let expected = fs::read_to_string(format!("{folder}/case-{case}.out")).unwrap();
+        assert_eq!(starline(&input), expected, "case {case}");
+    }
+}
