@@ -1,0 +1,465 @@
+-- The reach of an entry, block after block: what stands when the blocks up to page lo are planned, and what the answers say.
+use mathlib.Core.Path.{_≡_, refl, sym, ap, _∙_, subst}
+use mathlib.Core.Bool.{Bool, true, false, not, cond, _&&_, true≢false, false≢true}
+use mathlib.Core.List.{List, [], _∷_, _++_, map}
+use Prim.Native.Nat.{ℕ, zero, suc, _+_, _-_, _*_, _≤_, _<_}
+use native.Mathlib.Nat.{add-zero, zero-add, add-suc, suc-add, add-mul, mul-le-mul, mul-le-mul-right, zero-mul, suc-mul}
+use native.Mathlib.Decide.{decLt}
+use native.Mathlib.Omega.{arith}
+use lib.Dec.{leb, ltb, eqb}
+use lib.Seq.{take-suc-set}
+use lib.ListN.{length, take, drop, getD, set, length-map, length-take}
+use borrow.Author.Tests.{le-ltb, lt-ltb, eqb-true, eqb-false, eq-eqb, ne-eqb}
+use Rattle.hashing.specs.declared.Parameters.{Parameters}
+use Rattle.hashing.specs.declared.Growth.{Growth}
+use Rattle.hashing.specs.Generator.{multiplier}
+use Rattle.hashing.specs.Limits.{validParameters, validGrowth}
+use Rattle.hashing.proofs.Bounds.{limits}
+use Rattle.pages.specs.Position.{validNumber}
+use Rattle.placement.specs.Rule.{Star, Hash, Contents, separators, pages, left, insert}
+use Rattle.placement.specs.File.{File, Sized, gathered, column, replaced, written}
+use Rattle.placement.specs.Hash.{hashOf, soundAt}
+use Rattle.placement.proofs.Mapping.{mapped}
+use Rattle.placement.proofs.Probing.{homed-real}
+use Rattle.placement.proofs.Composition.{crowded}
+use Rattle.placement.proofs.Standing.{length-separators}
+use Rattle.placement.proofs.Writing.{column-append, length-column, separators-append}
+use Rattle.waiting.specs.Gather.{stretch, starsIn}
+use Rattle.waiting.specs.Settle.{homesUpTo}
+use Rattle.planning.specs.Plans.{plans, remains, waits, Planned}
+use Rattle.planning.specs.Sources.{renamed}
+use Rattle.planning.proofs.Pouring.{length-waits}
+use Rattle.planning.proofs.Stretch.{plans-roomy, length-plans, remains-near}
+use Rattle.planning.proofs.Applying.{applied, applied-is}
+use Rattle.reach.specs.Reach.{firstSuch, isEmpty, pagesTo, storedTop, removalEnd, entering, entersWithin, entryEnd, firstUnsound}
+use Rattle.reach.proofs.Search.{Such, such}
+use Rattle.entering.specs.declared.blocks.Reach.{Reach}
+use Rattle.entering.specs.declared.blocks.Reach.the-variants.{Ends, Unsound, Overflows}
+use Rattle.entering.specs.Entry.{Unheld, hash, newStar, startOf, endOf, countOf, unsoundOf, contentsOf, byReach, reachAnswer, entryFile, Applies, blockEnd, blockCount, blockNumbers, blockWords, BlockSound, PlannedBlock, UnsoundBlock, CrowdedBlock}
+use Rattle.entering.proofs.Firsts.{such-is}
+use Rattle.entering.proofs.Written.{written-next}
+use Rattle.entering.proofs.Joined.{newWord, plansTo, remainsTo, new-near, planned-pages, planned-left, planned-sourced, joined, crowds, few-stars}
+
+-- a file has items
+pub some-items : (p : Parameters) (g : Growth) → validParameters p ≡ true → validGrowth p g ≡ true → (k : ℕ) → 0 < p .pages * p .places
+some-items p g v w k = let few : 0 < p .pages = omega (arith, homed-real multiplier p g v w k) in omega (arith, mul-le-mul few (limits p v .places-least))
+
+-- the answers differ
+pub unsound-ends : (page last : ℕ) → Unsound page ≡ Ends last → ⊥
+unsound-ends page last e = let z : _≡_ {A = ℕ} 0 1 = cc in omega arith
+
+pub overflows-ends : (last : ℕ) → Overflows ≡ Ends last → ⊥
+overflows-ends last e = let z : _≡_ {A = ℕ} 0 1 = cc in omega arith
+
+-- a page at which the reach may end
+abbrev pub ending : Parameters → Growth → File → ℕ → ℕ → ℕ → Bool
+ending p g f k word q = storedTop (f .separators) (hash p g .top) q && entersWithin (hash p g) f (newStar k word) q
+
+-- d pages from home on are sound and planned
+pub record Spanned (p : Parameters) (g : Growth) (f : File) (k : ℕ) (pool planned W : List ℕ) (d carried : ℕ) : Type 0 where
+  pub most : startOf p g k + d ≤ p .pages
+  pub sound : (q : ℕ) → startOf p g k ≤ q → q < startOf p g k + d → soundAt multiplier p g f q ≡ true
+  pub sources : stretch (p .places) (startOf p g k) d pool ≡ column (p .places) (λ (s : Star). s .word) (plansTo p g f k d)
+  pub planned-are : take d (drop (startOf p g k) planned) ≡ separators (plansTo p g f k d)
+  pub waiting-are : take carried W ≡ remainsTo p g f k d
+  pub counted : carried ≡ length (remainsTo p g f k d)
+
+-- they are the pages below page lo, end at a page whose separator is top, and at none of them the reach ends
+pub record Reached (p : Parameters) (g : Growth) (f : File) (k : ℕ) (pool planned W : List ℕ) (lo carried : ℕ) : Type 0 where
+  pub done : ℕ
+  pub at : lo ≡ startOf p g k + done
+  pub inside : lo < p .pages
+  pub spanned : Spanned p g f k pool planned W done carried
+  pub ended : (e : ℕ) → startOf p g k ≤ e → suc e ≡ lo → getD (f .separators) e 0 ≡ hash p g .top
+  pub passed : (word q : ℕ) → startOf p g k ≤ q → q < lo → ending p g f k word q ≡ false
+
+and-false : (s t : Bool) → s ≡ false → s && t ≡ false
+and-false s t e = rw e
+
+and-none : (s : Bool) → s && false ≡ false
+and-none true = refl
+and-none false = refl
+
+-- ---- a block
+
+module _ (p : Parameters) (g : Growth) (f : File) (lo : ℕ) (inside : lo < p .pages) where
+  -- where it ends
+  pub block-such : Such (storedTop (f .separators) (hash p g .top)) lo (p .pages - 1 - lo) (blockEnd p g f lo)
+  unfolding removalEnd
+  block-such = such (storedTop (f .separators) (hash p g .top)) lo (p .pages - 1 - lo)
+
+  pub block-most : blockEnd p g f lo < p .pages
+  block-most = omega (arith, block-such .high)
+
+  pub block-sum : lo + blockCount p g f lo ≡ suc (blockEnd p g f lo)
+  block-sum = omega (arith, block-such .low)
+
+  -- its pages are sound up to the first unsound one
+  pub block-sound : (q : ℕ) → lo ≤ q → q < firstUnsound p g f lo (blockCount p g f lo) → soundAt multiplier p g f q ≡ true
+  unfolding firstUnsound
+  block-sound q a b = untrue (soundAt multiplier p g f q) (such (λ (r : ℕ). not (soundAt multiplier p g f r)) lo (blockCount p g f lo) .before q a b)
+    where
+      untrue : (t : Bool) → not t ≡ false → t ≡ true
+      untrue true e = refl
+      untrue false e = absurd (true≢false e)
+
+-- ---- the answers
+
+module _ (p : Parameters) (g : Growth) (f : File) (k last : ℕ) (least : startOf p g k ≤ last)
+    (sound : (q : ℕ) → startOf p g k ≤ q → q ≤ last → soundAt multiplier p g f q ≡ true) where
+  -- the reach to `last` is sound
+  pub sound-to : firstUnsound p g f (startOf p g k) (pagesTo (startOf p g k) last) ≡ startOf p g k + pagesTo (startOf p g k) last
+  unfolding firstUnsound
+  sound-to =
+      sym
+      (such-is (λ (r : ℕ). not (soundAt multiplier p g f r)) (startOf p g k) (pagesTo (startOf p g k) last) (startOf p g k + pagesTo (startOf p g k) last)
+      (record {
+        low = omega arith;
+        high = omega arith;
+        before = λ q a b. ap not (sound q a (omega arith));
+        passes = λ a. absurd (omega arith);
+      }))
+
+  -- what the reach that ends at `last` decides
+  pub by-reach : {A : Type 0} (word : ℕ) (t : Bool) (unsound overflows enters : A) → endOf p g f k word ≡ last → entersWithin (hash p g) f (newStar k word) last ≡ t
+      → byReach p g f k word unsound overflows enters ≡ cond t enters overflows
+  by-reach word t unsound overflows enters e w =
+      rw (e, w, sound-to, le-ltb (startOf p g k + pagesTo (startOf p g k) last) (startOf p g k + pagesTo (startOf p g k) last) (omega arith))
+
+-- ---- one more block
+
+is-empty : (l : List Star) → isEmpty l ≡ eqb (length l) 0
+is-empty [] = refl
+is-empty (s ∷ l) = sym (ne-eqb (suc (length l)) 0 (λ e. omega (arith, e)))
+
+pub empty-is : (l : List Star) → isEmpty l ≡ true → l ≡ []
+empty-is [] e = refl
+empty-is (s ∷ l) e = absurd (false≢true e)
+
+module _ (p : Parameters) (g : Growth) (f : File) (k : ℕ) (valid : validParameters p ≡ true) (sized : Sized (p .places) (p .pages) f) (number : validNumber k ≡ true) (unheld : Unheld p g f k) where
+  pub reached-none : (pool planned W : List ℕ) → startOf p g k < p .pages → 0 < length W → Reached p g f k pool planned (set W 0 (newWord p g k)) (startOf p g k) 1
+  reached-none pool planned W inside some =
+      record {
+        done = 0;
+        at = sym (add-zero (startOf p g k));
+        inside = inside;
+        spanned =
+            record {
+              most = omega arith;
+              sound = λ q a b. absurd (omega arith);
+              sources = unfold plans column in ap (λ (n : ℕ). take n (drop (startOf p g k * p .places) pool)) (zero-mul (p .places));
+              planned-are = unfold plans separators in refl;
+              waiting-are = unfold remains in take-suc-set W 0 (newWord p g k) some;
+              counted = unfold remains in refl;
+            };
+        ended = λ e a b. absurd (omega arith);
+        passed = λ word q a b. absurd (omega arith);
+      }
+
+  module _ (pool planned W : List ℕ) (d carried : ℕ) (s : Spanned p g f k pool planned W d carried) where
+    pub spanned-near : homesUpTo (startOf p g k + d) (take carried W) ≡ true
+    spanned-near =
+        rw (s .waiting-are)
+        (rw (zero-add d) at (remains-near (p .bits) (p .places) (startOf p g k) (blockWords p g f (startOf p g k) d) 0 d (newWord p g k ∷ [])
+        (rw (add-zero (startOf p g k)) (new-near p g f k valid sized number unheld))))
+
+    pub spanned-few : carried ≤ length W
+    spanned-few = omega (arith, s .counted, ap length (s .waiting-are), length-take carried W)
+
+    -- nothing is carried on exactly if the star enters within these pages
+    spanned-within : (word last : ℕ) → d ≡ pagesTo (startOf p g k) last → entersWithin (hash p g) f (newStar k word) last ≡ eqb carried 0
+    unfolding entersWithin entering hashOf
+    spanned-within word last e =
+        is-empty (left (hash p g) (startOf p g k) (pagesTo (startOf p g k) last) (insert (newStar k word) (gathered (p .places) f (startOf p g k) (pagesTo (startOf p g k) last))))
+        ∙ ap (λ (n : ℕ). eqb (length (left (hash p g) (startOf p g k) n (insert (newStar k word) (gathered (p .places) f (startOf p g k) n)))) 0) (sym e)
+        ∙ ap (λ (l : List Star). eqb (length l) 0) (planned-left p g f k valid sized number unheld d (s .most) (s .sound) word)
+        ∙ ap (λ (n : ℕ). eqb n 0) (length-map (waits (remainsTo p g f k d)) (renamed (f .words) word) ∙ length-waits (remainsTo p g f k d) ∙ sym (s .counted))
+
+    spanned-next : (pool′ planned′ W′ : List ℕ) (m left : ℕ) → length pool ≡ p .pages * p .places → p .pages ≤ length planned
+        → startOf p g k + (d + m) ≤ p .pages → ((q : ℕ) → startOf p g k + d ≤ q → q < startOf p g k + (d + m) → soundAt multiplier p g f q ≡ true)
+        → ((e : ℕ) → startOf p g k ≤ e → suc e ≡ startOf p g k + d → getD (f .separators) e 0 ≡ hash p g .top)
+        → Planned (p .bits) (p .places) (startOf p g k + d) m (take carried W) (blockWords p g f (startOf p g k + d) m) pool pool′ planned planned′ W′ left
+        → Spanned p g f k pool′ planned′ W′ (d + m) left
+    spanned-next pool′ planned′ W′ m left lp ln inside sound ended plan =
+        record {
+          most = inside;
+          sound = all-sound;
+          sources =
+              ap (stretch (p .places) h (d + m)) (plan .sources)
+              ∙ ap (λ (n : ℕ). take n (drop (h * p .places) (written ((h + d) * p .places) sources pool))) (add-mul d m (p .places))
+              ∙ ap (λ (n : ℕ). take (d * p .places + m * p .places) (drop (h * p .places) (written n sources pool))) (add-mul h d (p .places))
+              ∙ written-next (h * p .places) (d * p .places) (m * p .places) sources pool long (omega (arith, lp, add-mul h d (p .places), mul-le-mul-right (p .places) (s .most)))
+              ∙ ap (λ (l : List ℕ). l ++ sources) (s .sources)
+              ∙ sym (column-append (p .places) (λ (x : Star). x .word) (plansTo p g f k d) block)
+              ∙ ap (column (p .places) (λ (x : Star). x .word)) whole;
+          planned-are =
+              ap (λ (l : List ℕ). take (d + m) (drop h l)) (plan .separators-are)
+              ∙ written-next h d m (separators block) planned (length-separators block ∙ size) (omega (arith, s .most, ln))
+              ∙ ap (λ (l : List ℕ). l ++ separators block) (s .planned-are)
+              ∙ sym (separators-append (plansTo p g f k d) block)
+              ∙ ap separators whole;
+          waiting-are = plan .passed ∙ same-left;
+          counted = plan .counted ∙ ap length same-left;
+        }
+      where
+        h : ℕ
+        h = startOf p g k
+
+        all-sound : (q : ℕ) → h ≤ q → q < h + (d + m) → soundAt multiplier p g f q ≡ true
+        all-sound q a b = go (decLt q (h + d))
+          where
+            go : Dec (q < h + d) → soundAt multiplier p g f q ≡ true
+            go (yes l) = s .sound q a l
+            go (no l) = sound q (omega arith) b
+
+        both : (plansTo p g f k (d + m) ≡ plansTo p g f k d ++ plans (p .bits) (p .places) (h + d) 0 m (remainsTo p g f k d) (blockWords p g f (h + d) m))
+            × (remainsTo p g f k (d + m) ≡ remains (p .bits) (p .places) (h + d) 0 m (remainsTo p g f k d) (blockWords p g f (h + d) m))
+        both = joined p g f k valid sized number unheld d m inside all-sound ended
+
+        block : List Contents
+        block = plans (p .bits) (p .places) (h + d) 0 m (take carried W) (blockWords p g f (h + d) m)
+
+        sources : List ℕ
+        sources = column (p .places) (λ (x : Star). x .word) block
+
+        size : length block ≡ m
+        size = length-plans (p .bits) (p .places) (h + d) 0 m (take carried W) (blockWords p g f (h + d) m)
+
+        long : length sources ≡ m * p .places
+        long = length-column (p .places) (λ (x : Star). x .word) block (plans-roomy (p .bits) (p .places) (h + d) 0 m (take carried W) (blockWords p g f (h + d) m)) ∙ ap (λ (n : ℕ). n * p .places) size
+
+        whole : plansTo p g f k d ++ block ≡ plansTo p g f k (d + m)
+        whole =
+            ap (λ (w : List ℕ). plansTo p g f k d ++ plans (p .bits) (p .places) (h + d) 0 m w (blockWords p g f (h + d) m)) (s .waiting-are)
+            ∙ sym (both .0)
+
+        same-left : remains (p .bits) (p .places) (h + d) 0 m (take carried W) (blockWords p g f (h + d) m) ≡ remainsTo p g f k (d + m)
+        same-left = ap (λ (w : List ℕ). remains (p .bits) (p .places) (h + d) 0 m w (blockWords p g f (h + d) m)) (s .waiting-are) ∙ sym (both .1)
+
+  module _ (pool planned W : List ℕ) (lo carried : ℕ) (r : Reached p g f k pool planned W lo carried) where
+    last : ℕ
+    last = blockEnd p g f lo
+
+    such-block : Such (storedTop (f .separators) (hash p g .top)) lo (p .pages - 1 - lo) last
+    unfolding last
+    such-block = block-such p g f lo (r .inside)
+
+    least : startOf p g k ≤ last
+    least = omega (arith, r .at, such-block .low)
+
+    below-last : last < p .pages
+    below-last = omega (arith, r .inside, such-block .high)
+
+    -- no page below the block's end is the reach's end
+    not-before : (word q : ℕ) → startOf p g k ≤ q → q < last → ending p g f k word q ≡ false
+    not-before word q a b = go (decLt q lo)
+      where
+        go : Dec (q < lo) → ending p g f k word q ≡ false
+        go (yes l) = r .passed word q a l
+        go (no l) = and-false (storedTop (f .separators) (hash p g .top) q) (entersWithin (hash p g) f (newStar k word) q) (such-block .before q (omega arith) b)
+
+    abbrev rest : ℕ
+    rest = p .pages - 1 - startOf p g k
+
+    end-such : (word : ℕ) → Such (ending p g f k word) (startOf p g k) rest (endOf p g f k word)
+    unfolding entryEnd
+    end-such word = such (ending p g f k word) (startOf p g k) rest
+
+    -- the reach goes as far as the block
+    end-past : (word : ℕ) → last ≤ endOf p g f k word
+    end-past word = go (decLt (endOf p g f k word) last)
+      where
+        go : Dec (endOf p g f k word < last) → last ≤ endOf p g f k word
+        go (yes l) = absurd (true≢false (sym (end-such word .passes (omega (arith, below-last))) ∙ not-before word (endOf p g f k word) (end-such word .low) l))
+        go (no l) = omega arith
+
+    -- it ends there if the star enters within it, or at the last page
+    end-is : (word : ℕ) → (suc last < p .pages → entersWithin (hash p g) f (newStar k word) last ≡ true) → endOf p g f k word ≡ last
+    unfolding entryEnd
+    end-is word enters =
+        sym
+        (such-is (ending p g f k word) (startOf p g k) rest last
+        (record {
+          low = least;
+          high = omega (arith, below-last, least);
+          before = not-before word;
+          passes = λ h. rw (such-block .passes (omega (arith, r .inside, such-block .low)), enters (omega arith));
+        }))
+
+    -- the pages up to a sound one of the block
+    sound-below : (q : ℕ) → startOf p g k ≤ q → q < firstUnsound p g f lo (blockCount p g f lo) → soundAt multiplier p g f q ≡ true
+    sound-below q a b = go (decLt q lo)
+      where
+        go : Dec (q < lo) → soundAt multiplier p g f q ≡ true
+        go (yes l) = r .spanned .sound q a (omega (arith, r .at))
+        go (no l) = block-sound p g f lo (r .inside) q (omega arith) b
+
+    pub reached-unsound : (page : ℕ) → UnsoundBlock p g f lo page → (word : ℕ) → Unsound page ≡ reachAnswer p g f k word
+    unfolding reachAnswer firstUnsound last
+    reached-unsound page u word =
+        let found = such (λ (q : ℕ). not (soundAt multiplier p g f q)) lo (blockCount p g f lo) in
+        let inside : page < startOf p g k + countOf p g f k word = omega (arith, u .inside, end-past word, such-block .low, least) in
+        let is : page ≡ unsoundOf p g f k word =
+        such-is (λ (q : ℕ). not (soundAt multiplier p g f q)) (startOf p g k) (countOf p g f k word) page
+        (record {
+          low = omega (arith, r .at, u .is, found .low);
+          high = omega arith;
+          before = λ q a b. ap not (sound-below q a (omega (arith, u .is)));
+          passes = λ h. rw (u .is) (found .passes (omega (arith, u .is, u .inside)));
+        }) in
+        rw (← is, lt-ltb page (startOf p g k + countOf p g f k word) inside)
+
+    pagesHere : ℕ
+    pagesHere = pagesTo (startOf p g k) last
+
+    same : r .done + blockCount p g f lo ≡ pagesHere
+    unfolding last pagesHere
+    same = omega (arith, r .at, such-block .low)
+
+    few-pages : startOf p g k + pagesHere ≤ p .pages
+    unfolding pagesHere
+    few-pages = omega (arith, below-last, least)
+
+    all-sound : BlockSound p g f lo → (q : ℕ) → startOf p g k ≤ q → q ≤ last → soundAt multiplier p g f q ≡ true
+    unfolding last
+    all-sound e q a h = sound-below q a (omega (arith, e, such-block .low))
+
+    pages-sound : BlockSound p g f lo → (q : ℕ) → startOf p g k ≤ q → q < startOf p g k + pagesHere → soundAt multiplier p g f q ≡ true
+    unfolding pagesHere
+    pages-sound e q a h = all-sound e q a (omega (arith, least))
+
+    -- the block's stars and those carried on are more than all places: the reach runs to the last page, and its stars do not fit
+    module _ (c : CrowdedBlock p g f lo (take carried W)) (word : ℕ) where
+      stars : List Star
+      stars = insert (newStar k word) (gathered (p .places) f (startOf p g k) pagesHere)
+
+      many : p .pages * p .places < length stars
+      unfolding stars
+      many =
+          let more : length (remainsTo p g f k (r .done)) + starsIn 0 (blockNumbers p f lo (blockCount p g f lo)) ≤ length (insert (newStar k word) (gathered (p .places) f (startOf p g k) pagesHere)) =
+          subst (λ (x : ℕ). length (remainsTo p g f k (r .done)) + starsIn 0 (blockNumbers p f lo (blockCount p g f lo)) ≤ length (insert (newStar k word) (gathered (p .places) f (startOf p g k) x))) same
+          (subst (λ (x : ℕ). length (remainsTo p g f k (r .done)) + starsIn 0 (blockNumbers p f x (blockCount p g f lo)) ≤ length (insert (newStar k word) (gathered (p .places) f (startOf p g k) (r .done + blockCount p g f lo)))) (sym (r .at))
+          (crowds p g f k valid sized number unheld (r .done) (blockCount p g f lo) (omega (arith, same, few-pages)) (λ q a b. pages-sound (c .sound) q a (omega (arith, same))) word)) in
+          omega (arith, more, c .many, ap length (r .spanned .waiting-are))
+
+      -- so the reach has all pages
+      all-pages : suc last ≡ p .pages
+      unfolding pagesHere stars
+      all-pages = go (decLt pagesHere (p .pages))
+        where
+          go : Dec (pagesHere < p .pages) → suc last ≡ p .pages
+          go (yes l) =
+              absurd (omega (
+                arith,
+                many,
+                few-stars p g f k valid sized number unheld pagesHere few-pages (pages-sound (c .sound)) word,
+                suc-mul pagesHere (p .places),
+                mul-le-mul-right {m = suc pagesHere} {n = p .pages} (p .places) l,
+                limits p valid .places-least,
+              ))
+          go (no l) = omega (arith, below-last, least)
+
+      no-place : entersWithin (hash p g) f (newStar k word) last ≡ false
+      unfolding entersWithin entering hashOf stars pagesHere
+      no-place = go (isEmpty rest-of) refl
+        where
+          rest-of : List Star
+          rest-of = left (hash p g) (startOf p g k) pagesHere stars
+
+          go : (t : Bool) → isEmpty rest-of ≡ t → isEmpty rest-of ≡ false
+          go true e = absurd (crowded (hash p g) (startOf p g k) pagesHere stars (omega (arith, many, mul-le-mul-right {m = pagesHere} {n = p .pages} (p .places) (omega (arith, few-pages)))) (empty-is rest-of e))
+          go false e = e
+
+      pub reached-crowded : Overflows ≡ reachAnswer p g f k word
+      unfolding reachAnswer
+      reached-crowded =
+          sym (by-reach p g f k last least (all-sound (c .sound)) word false (Unsound (unsoundOf p g f k word)) Overflows (Ends (endOf p g f k word))
+          (end-is word (λ l. absurd (omega (arith, l, all-pages)))) no-place)
+
+    module _ (pool′ planned′ W′ : List ℕ) (stop left : ℕ) (lp : length pool ≡ p .pages * p .places) (ln : p .pages ≤ length planned)
+        (b : PlannedBlock p g f lo (take carried W) pool pool′ planned planned′ W′ stop left) where
+      stop-is : stop ≡ last
+      unfolding last
+      stop-is = b .is
+
+      spanned-block : Spanned p g f k pool′ planned′ W′ (pagesTo (startOf p g k) last) left
+      unfolding pagesHere
+      spanned-block =
+          subst (λ (x : ℕ). Spanned p g f k pool′ planned′ W′ x left) same
+          (spanned-next pool planned W (r .done) carried (r .spanned) pool′ planned′ W′ (blockCount p g f lo) left lp ln
+          (omega (arith, same, few-pages))
+          (λ q a h. pages-sound (b .sound) q (omega arith) (omega (arith, same)))
+          (λ e a h. r .ended e a (h ∙ sym (r .at)))
+          (subst (λ (x : ℕ). Planned (p .bits) (p .places) x (blockCount p g f lo) (take carried W) (blockWords p g f x (blockCount p g f lo)) pool pool′ planned planned′ W′ left) (r .at) (b .plan)))
+
+      within-block : (word : ℕ) → entersWithin (hash p g) f (newStar k word) last ≡ eqb left 0
+      within-block word = spanned-within pool′ planned′ W′ (pagesTo (startOf p g k) last) left spanned-block word last refl
+
+      -- nothing is carried on: the reach ends here
+      module _ (none : left ≡ 0) where
+        enters : (word : ℕ) → entersWithin (hash p g) f (newStar k word) last ≡ true
+        enters word = within-block word ∙ eq-eqb left 0 none
+
+        end-here : (word : ℕ) → endOf p g f k word ≡ last
+        end-here word = end-is word (λ _. enters word)
+
+        pub reached-ends : (word : ℕ) → Ends stop ≡ reachAnswer p g f k word
+        unfolding reachAnswer
+        reached-ends word =
+            ap Ends (stop-is ∙ sym (end-here word))
+            ∙ sym (by-reach p g f k last least (all-sound (b .sound)) word true (Unsound (unsoundOf p g f k word)) Overflows (Ends (endOf p g f k word)) (end-here word) (enters word))
+
+        contents : (word : ℕ) → map (mapped (renamed (f .words) word)) (plansTo p g f k (pagesTo (startOf p g k) last)) ≡ contentsOf p g f k word
+        unfolding entering hashOf
+        contents word =
+            sym (planned-pages p g f k valid sized number unheld (pagesTo (startOf p g k) last) (spanned-block .most) (spanned-block .sound) word)
+            ∙ ap (λ (q : ℕ). pages (hash p g) (startOf p g k) (pagesTo (startOf p g k) q) (insert (newStar k word) (gathered (p .places) f (startOf p g k) (pagesTo (startOf p g k) q)))) (sym (end-here word))
+
+        pub reached-applies : Applies p g f k pool′ planned′ (Ends stop)
+        unfolding entryFile
+        reached-applies word l same-end =
+            let e : stop ≡ l = cc in
+            let el : l ≡ last = sym e ∙ stop-is in (
+              omega (arith, el, below-last),
+              ap (λ (q : ℕ). applied (p .places) (startOf p g k) (pagesTo (startOf p g k) q) k word pool′ planned′ f) el
+                  ∙ applied-is (p .places) (startOf p g k) (pagesTo (startOf p g k) last) k word pool′ planned′ f (plansTo p g f k (pagesTo (startOf p g k) last))
+                  (spanned-block .sources) (spanned-block .planned-are) (planned-sourced p g f k valid sized number unheld (pagesTo (startOf p g k) last) (spanned-block .most) (spanned-block .sound))
+                  ∙ ap (replaced (p .places) f (startOf p g k)) (contents word)
+                  ∙ sym (by-reach p g f k last least (all-sound (b .sound)) word true f f (replaced (p .places) f (startOf p g k) (contentsOf p g f k word)) (end-here word) (enters word)),
+            )
+
+      -- a star is carried on
+      module _ (some : left ≡ 0 → ⊥) where
+        stays-out : (word : ℕ) → entersWithin (hash p g) f (newStar k word) last ≡ false
+        stays-out word = within-block word ∙ ne-eqb left 0 some
+
+        pub reached-overflows : suc stop ≡ p .pages → (word : ℕ) → Overflows ≡ reachAnswer p g f k word
+        unfolding reachAnswer
+        reached-overflows h word =
+            sym (by-reach p g f k last least (all-sound (b .sound)) word false (Unsound (unsoundOf p g f k word)) Overflows (Ends (endOf p g f k word))
+            (end-is word (λ l. absurd (omega (arith, l, stop-is)))) (stays-out word))
+
+        top-there : suc stop < p .pages → (e : ℕ) → startOf p g k ≤ e → suc e ≡ suc stop → getD (f .separators) e 0 ≡ hash p g .top
+        top-there h e a n =
+            let same-page : e ≡ last = omega (arith, n, stop-is) in
+            eqb-true (getD (f .separators) e 0) (hash p g .top) (rw same-page (such-block .passes (omega (arith, stop-is, r .inside))))
+
+        passes-by : (word q : ℕ) → startOf p g k ≤ q → q < suc stop → ending p g f k word q ≡ false
+        passes-by word q a l = go (decLt q last)
+          where
+            go : Dec (q < last) → ending p g f k word q ≡ false
+            go (yes h) = not-before word q a h
+            go (no h) =
+                let same-page : q ≡ last = omega (arith, stop-is) in
+                rw (same-page, stays-out word) (and-none (storedTop (f .separators) (hash p g .top) last))
+
+        pub reached-next : suc stop < p .pages → Reached p g f k pool′ planned′ W′ (suc stop) left
+        reached-next h =
+            record {
+              done = pagesTo (startOf p g k) last;
+              at = omega (arith, stop-is, least);
+              inside = h;
+              spanned = spanned-block;
+              ended = top-there h;
+              passed = passes-by;
+            }

@@ -1,0 +1,138 @@
+-- One block: its end, its survey, and its plan over the surveyed homes.
+use mathlib.Core.Path.{_≡_, refl, sym, ap, _∙_, subst}
+use mathlib.Core.Bool.{Bool, true, false, not}
+use mathlib.Core.List.{List, [], _∷_, _++_, map}
+use Prim.Native.Nat.{ℕ, zero, suc, _+_, _-_, _*_, _%_, _^_, _≤_, _<_}
+use native.Mathlib.Nat.{add-mul, mul-le-mul, mul-le-mul-right}
+use native.Mathlib.Omega.{arith}
+use lib.ListN.{length, take, drop, length-map, length-drop, length-append}
+use lib.Seq.{paste, slice, take-at, drop-at, take-add, drop-drop, take-append-le, drop-append-le, length-take-le}
+use Rattle.hashing.specs.declared.Parameters.{Parameters}
+use Rattle.hashing.specs.declared.Growth.{Growth}
+use Rattle.hashing.specs.Generator.{multiplier, topOf}
+use Rattle.hashing.specs.Limits.{validParameters}
+use Rattle.hashing.proofs.Bounds.{limits}
+use Rattle.hashing.proofs.Laws.{top-shifted}
+use Rattle.placement.specs.Rule.{Star, Contents, separators}
+use Rattle.placement.specs.File.{File, Sized, column, written}
+use Rattle.placement.specs.Hash.{hashOf, soundAt, homesOf, homeIn}
+use Rattle.placement.proofs.Writing.{length-column}
+use Rattle.waiting.specs.Lists.{all, allBelow}
+use Rattle.waiting.specs.Gather.{stretch, starsIn, wordsFrom}
+use Rattle.waiting.proofs.Gathered.{stretch-slice}
+use Rattle.planning.specs.Plans.{plans, remains, Planned}
+use Rattle.planning.proofs.Stretch.{plans-roomy, length-plans}
+use Rattle.reach.specs.Reach.{firstSuch, pagesTo, storedTop, removalEnd, firstUnsound}
+use Rattle.reach.proofs.Search.{such}
+use Rattle.reach.proofs.Pastes.{map-take}
+use Rattle.entering.specs.Entry.{hash, blockEnd, blockCount, blockNumbers, blockWords, BlockSound, PlannedBlock, UnsoundBlock, CrowdedBlock}
+use Rattle.entering.proofs.Items.{numbers-below, homes-below, numbers-count}
+use Rattle.entering.proofs.Written.{written-paste, pasted-part}
+use Rattle.entering.proofs.Reached.{block-such, block-most, block-sound, block-sum}
+
+module _ (p : Parameters) (g : Growth) (f : File) (valid : validParameters p ≡ true) (sized : Sized (p .places) (p .pages) f) (lo : ℕ) (inside : lo < p .pages) where
+  pub end-found : (last : ℕ) → last ≡ firstSuch (storedTop (f .separators) (1 * 2 ^ p .bits % 2 ^ 32 - 1)) lo (length (f .separators) - 1 - lo) → last ≡ blockEnd p g f lo
+  unfolding removalEnd hashOf
+  end-found last e = e ∙ rw (sized .ofSeparators, top-shifted (p .bits) (limits p valid .bits-most))
+
+  module _ (last : ℕ) (e : last ≡ blockEnd p g f lo) where
+    pub count-is : last + 1 - lo ≡ blockCount p g f lo
+    count-is = omega (arith, e, block-such p g f lo inside .low)
+
+    pub last-low : lo ≤ last
+    last-low = omega (arith, e, block-such p g f lo inside .low)
+
+    pub last-high : last < p .pages
+    last-high = omega (arith, e, block-most p g f lo inside)
+
+    stop-is : last + 1 ≡ lo + blockCount p g f lo
+    stop-is = omega (arith, e, block-sum p g f lo inside)
+
+    module _ (bad : ℕ) (u : bad ≡ firstUnsound p g f lo (last + 1 - lo)) where
+      bad-is : bad ≡ firstUnsound p g f lo (blockCount p g f lo)
+      bad-is = u ∙ ap (firstUnsound p g f lo) count-is
+
+      pub block-unsound : bad < last + 1 → UnsoundBlock p g f lo bad
+      block-unsound h = record { is = bad-is; inside = omega (arith, stop-is) }
+
+      pub bad-none : last + 1 ≤ bad → bad ≡ last + 1
+      unfolding firstUnsound
+      bad-none h = omega (arith, stop-is, bad-is, such (λ (q : ℕ). not (soundAt multiplier p g f q)) lo (blockCount p g f lo) .high)
+
+      pub block-clear : last + 1 ≤ bad → BlockSound p g f lo
+      block-clear h = sym bad-is ∙ bad-none h ∙ stop-is
+
+    module _ (clear : BlockSound p g f lo) where
+      sound : (q : ℕ) → lo ≤ q → q < lo + (last + 1 - lo) → soundAt multiplier p g f q ≡ true
+      sound q a b = block-sound p g f lo inside q a (omega (arith, clear, stop-is))
+
+      few : lo + (last + 1 - lo) ≤ p .pages
+      few = omega (arith, last-high, last-low)
+
+      pub found-numbers : allBelow (2 ^ 31) (stretch (p .places) lo (last + 1 - lo) (f .numbers)) ≡ true
+      found-numbers = numbers-below p g f valid sized lo (last + 1 - lo) few sound
+
+      module _ (pool homes : List ℕ) (long : length pool ≡ p .pages * p .places)
+          (kept : homes ≡ paste pool (lo * p .places) (homesOf multiplier p g (drop (lo * p .places) (f .numbers))) ((last + 1 - lo) * p .places)) where
+        room : lo * p .places + (last + 1 - lo) * p .places ≤ p .pages * p .places
+        room = omega (arith, add-mul lo (last + 1 - lo) (p .places), mul-le-mul-right {m = lo + (last + 1 - lo)} {n = p .pages} (p .places) few)
+
+        homes-long : (last + 1 - lo) * p .places ≤ length (homesOf multiplier p g (drop (lo * p .places) (f .numbers)))
+        unfolding homesOf
+        homes-long = omega (arith, room, length-map (drop (lo * p .places) (f .numbers)) (homeIn multiplier p g), length-drop (lo * p .places) (f .numbers), sized .ofNumbers)
+
+        pub found-homes : stretch (p .places) lo (last + 1 - lo) homes ≡ homesOf multiplier p g (stretch (p .places) lo (last + 1 - lo) (f .numbers))
+        unfolding homesOf
+        found-homes =
+            ap (stretch (p .places) lo (last + 1 - lo)) kept
+            ∙ pasted-part pool (lo * p .places) (homesOf multiplier p g (drop (lo * p .places) (f .numbers))) ((last + 1 - lo) * p .places) (omega (arith, room, long)) homes-long
+            ∙ map-take (homeIn multiplier p g) ((last + 1 - lo) * p .places) (drop (lo * p .places) (f .numbers))
+
+        pub found-below : allBelow (lo + (last + 1 - lo)) (stretch (p .places) lo (last + 1 - lo) homes) ≡ true
+        found-below = rw found-homes (homes-below p g f valid sized lo (last + 1 - lo) few sound)
+
+        -- the plan over the surveyed homes
+        module _ (w planned sources planned′ W′ : List ℕ) (left : ℕ)
+            (plan : Planned (p .bits) (p .places) lo (last + 1 - lo) w (wordsFrom (lo * p .places) 0 (stretch (p .places) lo (last + 1 - lo) (f .numbers)) (stretch (p .places) lo (last + 1 - lo) homes)) homes sources planned planned′ W′ left) where
+          renewed : Planned (p .bits) (p .places) lo (last + 1 - lo) w (blockWords p g f lo (last + 1 - lo)) homes sources planned planned′ W′ left
+          unfolding blockWords
+          renewed = rw found-homes at plan
+
+          items : List ℕ
+          items = column (p .places) (λ (s : Star). s .word) (plans (p .bits) (p .places) lo 0 (last + 1 - lo) w (blockWords p g f lo (last + 1 - lo)))
+
+          items-long : length items ≡ (last + 1 - lo) * p .places
+          unfolding items
+          items-long =
+              length-column (p .places) (λ (s : Star). s .word) (plans (p .bits) (p .places) lo 0 (last + 1 - lo) w (blockWords p g f lo (last + 1 - lo)))
+              (plans-roomy (p .bits) (p .places) lo 0 (last + 1 - lo) w (blockWords p g f lo (last + 1 - lo)))
+              ∙ ap (λ (n : ℕ). n * p .places) (length-plans (p .bits) (p .places) lo 0 (last + 1 - lo) w (blockWords p g f lo (last + 1 - lo)))
+
+          pub block-planned : PlannedBlock p g f lo w pool sources planned planned′ W′ last left
+          unfolding items
+          block-planned =
+              record {
+                is = e;
+                sound = clear;
+                plan =
+                    subst (λ (n : ℕ). Planned (p .bits) (p .places) lo n w (blockWords p g f lo n) pool sources planned planned′ W′ left) count-is
+                    (record {
+                      sources =
+                          renewed .sources
+                          ∙ ap (written (lo * p .places) items) kept
+                          ∙ written-paste pool (lo * p .places) (homesOf multiplier p g (drop (lo * p .places) (f .numbers))) ((last + 1 - lo) * p .places) items items-long (omega (arith, room, long)) homes-long;
+                      separators-are = renewed .separators-are;
+                      passed = renewed .passed;
+                      counted = renewed .counted;
+                    });
+              }
+
+      -- the stars of the block, as they are counted
+      pub found-count : starsIn 0 (slice (lo * p .places) ((last + 1) * p .places) (f .numbers)) ≡ starsIn 0 (stretch (p .places) lo (last + 1 - lo) (f .numbers))
+      found-count =
+          let sum : last + 1 ≡ lo + (last + 1 - lo) = omega (arith, last-low) in
+          ap (λ (n : ℕ). starsIn 0 (slice (lo * p .places) (n * p .places) (f .numbers))) sum
+          ∙ ap (starsIn 0) (stretch-slice (p .places) lo (last + 1 - lo) (f .numbers))
+
+      pub block-crowded : (w : List ℕ) (carried : ℕ) → length w ≡ carried → p .pages * p .places < carried + starsIn 0 (stretch (p .places) lo (last + 1 - lo) (f .numbers)) → CrowdedBlock p g f lo w
+      block-crowded w carried l h = record { sound = clear; many = rw (l, ← count-is) h }

@@ -1,0 +1,269 @@
+use mathlib.Core.Path.{_≡_, refl, sym, ap, _∙_, subst}
+use mathlib.Core.List.{List}
+use Prim.Native.Nat.{ℕ, suc, _+_, _-_, _*_, _≤_, _<_}
+use native.Mathlib.Nat.{mul-le-mul-right}
+use native.Mathlib.Omega.{arith}
+use lib.ListN.{length}
+use denote.Ref.{now}
+use borrow.Author.Needs.{needs}
+use Rattle.hashing.specs.declared.Parameters.{Parameters}
+use Rattle.hashing.specs.declared.Growth.{Growth}
+use Rattle.hashing.specs.Generator.{multiplier}
+use Rattle.hashing.specs.Home.{home as Home·home}
+use Rattle.hashing.proofs.Bounds.{Limits, limits}
+use Rattle.placement.specs.File.{File}
+use Rattle.placement.specs.Hash.{lent, hashOf, namedPage}
+use Rattle.entering.specs.declared.blocks.Reach.{Reach}
+use Rattle.entering.specs.declared.blocks.Reach.the-variants.{Ends, Unsound, Overflows}
+use Rattle.entering.specs.Entry.{startOf, reachAnswer, entryFile, Applies}
+use Rattle.entering.proofs.Holding.{unsound-answer, overflows-answer, last-least, named-holds, ends-answer, entry-file}
+use Rattle.entering.proofs.stretch.enter_stretch.Statement.{statement}
+use Rattle.entering.proofs.stretch.enter_stretch.Tie as tie
+use Rattle.entering.proofs.stretch.enter_stretch.Reads as reads
+use Rattle.entering.proofs.stretch.enter_stretch.Lts as lts
+use Rattle.entering.proofs.blocks.plan_entry.Reads as plan-entry-reads
+use Rattle.hashing.proofs.home.Reads as home-reads
+use Rattle.placement.proofs.named_page.Reads as named-page-reads
+use Rattle.planning.proofs.apply.Reads as apply-reads
+
+abbrev file : tie.Start → File
+file s = lent (now (s .args .separators)) (now (s .args .numbers)) (now (s .args .words))
+
+bounds : (s : tie.Start) → Limits (s .args .geometry .parameters)
+bounds s = limits (s .args .geometry .parameters) (s .pre .1 .0)
+
+-- from the plan on
+abbrev Place : Type 0
+Place = tie.After-plan-entry
+
+abbrev start : Place → tie.Start
+start x = x .before .before .before .before .before .before .before .before .before .before .before .before .before .before
+
+unfolded : (p : Parameters) (g : Growth) (k : ℕ) → Home·home multiplier p g k ≡ startOf p g k
+unfolding hashOf
+unfolded p g k = refl
+
+home-is : (x : Place) → x .before .before .before .before .before .before .before .home .result ≡ startOf (start x .args .geometry .parameters) (start x .args .geometry .growth) (start x .args .number)
+home-is x = x .before .before .before .before .before .before .before .home .ensures ∙ unfolded (start x .args .geometry .parameters) (start x .args .geometry .growth) (start x .args .number)
+
+-- where the reach ends at `last`
+module _ (x : Place) (last : ℕ) (v : x .plan-entry .result ≡ Ends last) where
+  answer : Ends last ≡ reachAnswer (start x .args .geometry .parameters) (start x .args .geometry .growth) (file (start x)) (start x .args .number) (start x .args .word)
+  answer = sym v ∙ x .plan-entry .ensures .0 (start x .args .word)
+
+  low : x .before .before .before .before .before .before .before .home .result ≤ last
+  low = let s = start x in rw (home-is x) (last-least (s .args .geometry .parameters) (s .args .geometry .growth) (file s) (s .args .number) (s .args .word) last answer)
+
+  high : last < start x .args .geometry .parameters .pages
+  high = x .plan-entry .ensures .1 (start x .args .word) last v .0
+
+  stop : x .before .before .before .before .before .before .before .home .result + (last + 1 - x .before .before .before .before .before .before .before .home .result) ≡ last + 1
+  stop = omega (arith, low)
+
+  items : (x .before .before .before .before .before .before .before .home .result + (last + 1 - x .before .before .before .before .before .before .before .home .result)) * start x .args .geometry .parameters .places ≤ start x .args .geometry .parameters .pages * start x .args .geometry .parameters .places
+  items = mul-le-mul-right (start x .args .geometry .parameters .places) (omega (arith, stop, high))
+
+cast-places : tie.Need-cast-places
+cast-places c = search needs
+
+-- src/stretch.rt:36:16
+home-requires : tie.Need-home-requires
+home-requires c κs = search needs
+
+-- src/stretch.rt:36:16
+cast-from : tie.Need-cast-from
+cast-from c = search needs
+
+-- src/stretch.rt:38:82
+slice-aggregate-plan-entry : tie.Need-slice-aggregate-plan-entry
+slice-aggregate-plan-entry c = search needs
+
+-- src/stretch.rt:38:11
+plan-entry-requires : tie.Need-plan-entry-requires
+plan-entry-requires c κs =
+    let s = c .before .before .before .before .before .before .before .before .before .before .before .before .before in
+    (s .pre .0, (s .pre .1 .0, (s .pre .1 .1 .0, (s .pre .1 .1 .1 .0, (s .pre .1 .1 .1 .1 .0, (bounds s .pages-most, (s .pre .1 .1 .1 .1 .1 .0, s .pre .1 .1 .1 .1 .1 .1)))))))
+
+-- src/stretch.rt:39:24
+enum-known-page : tie.Need-enum-known-page
+enum-known-page c = search needs
+
+-- src/stretch.rt:40:29
+enum-told : tie.Need-enum-told
+enum-told c = search needs
+
+-- src/stretch.rt:41:21
+enum-known-last : tie.Need-enum-known-last
+enum-known-last c = search needs
+
+-- src/stretch.rt:42:72
+slice-aggregate-apply : tie.Need-slice-aggregate-apply
+slice-aggregate-apply c = search needs
+
+-- src/stretch.rt:42:96
+add-apply : tie.Need-add-apply
+add-apply c =
+    let x = c .before .before .before .before .before .before .before .before .before .before .before .before .before .before in
+    let v = c .before .before .before .before .before .before .before .last .given in
+    omega (arith, high x (v .0 .0) (v .1), bounds (start x) .pages-most)
+
+-- src/stretch.rt:42:96
+sub-apply : tie.Need-sub-apply
+sub-apply c =
+    let x = c .before .before .before .before .before .before .before .before .before .before .before .before .before .before in
+    let v = c .before .before .before .before .before .before .before .last .given in
+    omega (arith, low x (v .0 .0) (v .1))
+
+-- src/stretch.rt:42:13
+apply-requires : tie.Need-apply-requires
+apply-requires c κs =
+    let x = c .before .before .before .before .before .before .before .before .before .before .before .before .before .before in
+    let s = start x in
+    let v = c .before .before .before .before .before .before .before .last .given in
+    let l = v .0 .0 in (
+      (bounds s .places-most, omega (arith, stop x l (v .1), high x l (v .1), bounds s .pages-most)),
+      (
+        (omega (arith, stop x l (v .1), high x l (v .1), s .pre .1 .1 .1 .0 .ofSeparators), omega (arith, stop x l (v .1), high x l (v .1), bounds s .pages-most, x .plan-entry .kept .1 .1 .1 .1 .1 .1 .1 .0)),
+        (
+          (omega (arith, items x l (v .1), s .pre .1 .1 .1 .0 .ofNumbers), omega (arith, items x l (v .1), s .pre .1 .1 .1 .0 .ofWords)),
+          (omega (arith, items x l (v .1), s .pre .1 .1 .1 .1 .0 .0, x .plan-entry .kept .1 .1 .1 .1 .1 .0), omega (arith, items x l (v .1), s .pre .1 .1 .1 .1 .0 .1, x .plan-entry .kept .1 .1 .1 .1 .1 .1 .0)),
+        ),
+      ),
+    )
+
+-- src/stretch.rt:43:25
+named-page-requires : tie.Need-named-page-requires
+named-page-requires c κs =
+    let x = c .before .before .before .before .before .before .before .before .before .before .before .before .before .before .before .before .before .before .before .before .before .before .before .before .before .before in
+    let s = start x in
+    (s .pre .0, (s .pre .1 .0, (s .pre .1 .1 .0, c .before .before .before .before .before .before .before .before .before .before .before .apply .kept .0 ∙ s .pre .1 .1 .1 .0 .ofSeparators)))
+
+-- src/stretch.rt:24:1
+same-length : tie.Need-same-length
+same-length c = search needs
+
+-- src/stretch.rt:24:1
+same-length-2 : tie.Need-same-length-2
+same-length-2 c = search needs
+
+-- src/stretch.rt:24:1
+same-length-3 : tie.Need-same-length-3
+same-length-3 c = search needs
+
+-- src/stretch.rt:24:1
+same-length-4 : tie.Need-same-length-4
+same-length-4 c = search needs
+
+-- src/stretch.rt:24:1
+same-length-5 : tie.Need-same-length-5
+same-length-5 c = search needs
+
+-- src/stretch.rt:24:1
+returns : tie.Need-returns
+returns c =
+    let x = c .before .before .before .before .before .before .before .before in
+    let s = start x in
+    let v = c .before .page .given in
+    unsound-answer (s .args .geometry .parameters) (s .args .geometry .growth) (file s) (s .args .number) (s .args .word) (v .0 .0) (sym (v .1) ∙ x .plan-entry .ensures .0 (s .args .word))
+
+-- src/stretch.rt:24:1
+same-length-6 : tie.Need-same-length-6
+same-length-6 c = search needs
+
+-- src/stretch.rt:24:1
+same-length-7 : tie.Need-same-length-7
+same-length-7 c = search needs
+
+-- src/stretch.rt:24:1
+same-length-8 : tie.Need-same-length-8
+same-length-8 c = search needs
+
+-- src/stretch.rt:24:1
+same-length-9 : tie.Need-same-length-9
+same-length-9 c = search needs
+
+-- src/stretch.rt:24:1
+same-length-10 : tie.Need-same-length-10
+same-length-10 c = search needs
+
+-- src/stretch.rt:24:1
+returns-2 : tie.Need-returns-2
+returns-2 c =
+    let x = c .before .before .before .before .before .before .before in
+    let s = start x in
+    overflows-answer (s .args .geometry .parameters) (s .args .geometry .growth) (file s) (s .args .number) (s .args .word) (sym (c .enum-told .given .1) ∙ x .plan-entry .ensures .0 (s .args .word))
+
+-- src/stretch.rt:24:1
+same-length-11 : tie.Need-same-length-11
+same-length-11 c = search needs
+
+-- src/stretch.rt:24:1
+same-length-12 : tie.Need-same-length-12
+same-length-12 c = search needs
+
+-- src/stretch.rt:24:1
+same-length-13 : tie.Need-same-length-13
+same-length-13 c = search needs
+
+-- src/stretch.rt:24:1
+same-length-14 : tie.Need-same-length-14
+same-length-14 c = search needs
+
+-- src/stretch.rt:24:1
+same-length-15 : tie.Need-same-length-15
+same-length-15 c = search needs
+
+-- src/stretch.rt:24:1
+returns-3 : tie.Need-returns-3
+returns-3 c =
+    let x = c .before .before .before .before .before .before .before .before .before .before .before .before .before .before .before .before .before .before .before .before .before .before .before .before .before .before .before in
+    let s = start x in
+    let v = c .before .before .before .before .before .before .before .before .before .before .before .before .before .before .before .before .before .before .before .before .last .given in
+    let y = c .before .before .before .before .before .before .before .before .before .before .before .before .apply in
+    let last = v .0 .0 in
+    let whole : lent (y .last .0) (y .last .1 .0) (y .last .1 .1 .0) ≡ entryFile (s .args .geometry .parameters) (s .args .geometry .growth) (file s) (s .args .number) (s .args .word) =
+    entry-file (s .args .geometry .parameters) (s .args .geometry .growth) (file s) (s .args .number) (s .args .word) (x .plan-entry .last .1 .1 .1 .1 .1 .0) (x .plan-entry .last .1 .1 .1 .1 .1 .1 .1 .0) last (answer x last (v .1))
+    (λ word l e. x .plan-entry .ensures .1 word l (v .1 ∙ e)) (y .last .0) (y .last .1 .0) (y .last .1 .1 .0)
+    (rw (home-is x) at (y .ensures .0)) (rw (home-is x) at (y .ensures .1 .0)) (rw (home-is x) at (y .ensures .1 .1)) in (
+      ends-answer (s .args .geometry .parameters) (s .args .geometry .growth) (file s) (s .args .number) (s .args .word) last (answer x last (v .1)) (c .named-page .result)
+          (c .named-page .ensures
+          ∙ ap (λ (f : File). namedPage multiplier (s .args .geometry .parameters) (s .args .geometry .growth) (f .separators) (s .args .number)) whole
+          ∙ named-holds (s .args .geometry .parameters) (s .args .geometry .growth) (file s) (s .args .number) (s .args .word) last (answer x last (v .1)) (omega (arith, home-is x, low x last (v .1), high x last (v .1), s .pre .1 .1 .1 .0 .ofSeparators))),
+      whole,
+    )
+
+pub enter-stretch-spec : {M : Type 1} → statement M
+enter-stretch-spec =
+    tie.close
+    (tie.spec
+    cast-places
+    home-requires
+    cast-from
+    slice-aggregate-plan-entry
+    plan-entry-requires
+    enum-known-page
+    enum-told
+    enum-known-last
+    slice-aggregate-apply
+    add-apply
+    sub-apply
+    apply-requires
+    named-page-requires
+    same-length
+    same-length-2
+    same-length-3
+    same-length-4
+    same-length-5
+    returns
+    same-length-6
+    same-length-7
+    same-length-8
+    same-length-9
+    same-length-10
+    returns-2
+    same-length-11
+    same-length-12
+    same-length-13
+    same-length-14
+    same-length-15
+    returns-3)

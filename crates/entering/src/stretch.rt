@@ -1,0 +1,78 @@
+// An entry over its reach.
+ghost use mathlib.Core.Path.{_≡_};
+ghost use mathlib.Core.Bool.{true};
+ghost use Prim.Native.Nat.{_*_};
+ghost use lib.ListN.{length};
+ghost use Rattle.hashing.specs.Generator.{multipliers};
+ghost use Rattle.hashing.specs.Limits.{validParameters, validGrowth};
+ghost use Rattle.pages.specs.Position.{validNumber};
+ghost use Rattle.placement.specs.File.{Sized};
+ghost use Rattle.placement.specs.Hash.{lent};
+ghost use Rattle.entering.specs.Entry.{Unheld, entryAnswer, entryFile};
+use crate::blocks::Reach;
+use crate::blocks::plan_entry;
+use hashing::Geometry;
+
+// The page where the new star stands; the first unsound page of the reach; or a star is carried past the last page.
+pub enum Entered {
+    On(usize),
+    Unsound(usize),
+    Overflows,
+}
+
+// The entry of a number that the file does not hold. A refusal leaves the file as it was.
+pub fn enter_stretch(
+    table: &[u32; 2049],
+    geometry: Geometry,
+    separators: &mut [u8],
+    numbers: &mut [u32],
+    words: &mut [u64],
+    pool: &mut [u32],
+    waiting: &mut [u64],
+    number: u32,
+    word: u64,
+) -> Entered
+    requires { ⌜ now table ≡ multipliers ⌝ }
+    requires { ⌜ validParameters (geometry .parameters) ≡ true ⌝ }
+    requires { ⌜ validGrowth (geometry .parameters) (geometry .growth) ≡ true ⌝ }
+    requires { ⌜ Sized (geometry .parameters .places) (geometry .parameters .pages) (lent (now separators) (now numbers) (now words)) ⌝ }
+    requires { ⌜ (length (now pool) ≡ geometry .parameters .pages * geometry .parameters .places) × (length (now waiting) ≡ geometry .parameters .pages * geometry .parameters .places) ⌝ }
+    requires { ⌜ validNumber number ≡ true ⌝ }
+    requires { ⌜ Unheld (geometry .parameters) (geometry .growth) (lent (now separators) (now numbers) (now words)) number ⌝ }
+    ensures { λ r. ⌜ r ≡ entryAnswer (geometry .parameters) (geometry .growth) (lent (now (separators .entry)) (now (numbers .entry)) (now (words .entry))) number word ⌝ }
+    ensures { λ _. ⌜ lent (now (separators .exit)) (now (numbers .exit)) (now (words .exit)) ≡ entryFile (geometry .parameters) (geometry .growth) (lent (now (separators .entry)) (now (numbers .entry)) (now (words .entry))) number word ⌝ }
+{
+    let places = geometry.parameters.places as usize;
+    let from = hashing::home(table, geometry, number) as usize;
+    let mut planned = [0u8; 1024];
+    match plan_entry(
+        table,
+        geometry,
+        separators,
+        numbers,
+        words,
+        pool,
+        waiting,
+        &mut planned,
+        number,
+    ) {
+        Reach::Unsound(page) => Entered::Unsound(page),
+        Reach::Overflows => Entered::Overflows,
+        Reach::Ends(last) => {
+            planning::apply(
+                separators,
+                numbers,
+                words,
+                pool,
+                waiting,
+                &planned,
+                places,
+                from,
+                last + 1 - from,
+                number,
+                word,
+            );
+            Entered::On(placement::named_page(table, geometry, separators, number))
+        }
+    }
+}
