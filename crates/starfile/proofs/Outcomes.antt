@@ -1,0 +1,205 @@
+-- The answers and files of the crates below are those of the calls' definitions, and their pages are small.
+use mathlib.Core.Path.{_≡_, refl, sym, ap, _∙_}
+use mathlib.Core.Bool.{Bool, true, false, not, cond}
+use mathlib.Core.List.{List, [], _∷_}
+use Prim.Native.Nat.{ℕ, zero, suc, _+_, _-_, _*_, _/_, _%_, _^_, _≤_, _<_}
+use native.Mathlib.Nat.{add-suc, suc-add, mod-lt, div-lt-iff-lt-mul}
+use native.Mathlib.Omega.{arith}
+use lib.Dec.{eqb, ltb}
+use lib.ListN.{length}
+use borrow.Author.Tests.{ltb-true}
+use Rattle.hashing.specs.declared.Parameters.{Parameters}
+use Rattle.hashing.specs.declared.Growth.{Growth}
+use Rattle.hashing.specs.Geometry.{pageCount}
+use Rattle.hashing.specs.Limits.{validParameters, validGrowth}
+use Rattle.hashing.specs.Generator.{multiplier}
+use Rattle.hashing.proofs.Bounds.{limits}
+use Rattle.hashing.proofs.Laws.{home-pages}
+use Rattle.placement.specs.Rule.{Star, Hash, Contents, pages, left, without}
+use Rattle.placement.specs.File.{File, gathered, replaced}
+use Rattle.placement.specs.Hash.{hashOf, soundAt}
+use Rattle.placement.proofs.Composition.{length-pages}
+use Rattle.reach.specs.Reach.{firstSuch, storedTop, pagesTo, removalEnd, entering, entersWithin, entryEnd, firstUnsound, isEmpty, hasNumber, holding}
+use Rattle.reach.proofs.Search.{such}
+use Rattle.entering.specs.declared.stretch.Entered.the-variants.{On, Unsound, Overflows}
+use Rattle.entering.specs.Entry.{entryAnswer, entryFile}
+use Rattle.entering.specs.Entry as entry
+use Rattle.replacing.specs.declared.Replaced.the-variants.{Done, Unsound as replaced·Unsound, Overflows as replaced·Overflows}
+use Rattle.replacing.specs.Calls.{removalAnswer, removalFile, growthAnswer, growthFile}
+use Rattle.replacing.specs.Calls as removal
+use Rattle.comparing.specs.declared.checking.Verdict.the-variants.{Clean, Differs, Unsound as verdict·Unsound}
+use Rattle.comparing.specs.Verdicts.{verdictOf}
+use Rattle.starfile.specs.Answers.{Answer, After, Pool, placed, checked, refusedBy, numberOf, pageOf, accepted, refused, spotted}
+use Rattle.starfile.specs.Calls.{hash, unchanged, enterTo, removeTo, growTo, checkedAt, allStars}
+use Rattle.starfile.specs.Outcomes.{EntrySmall, entryPlaced, ReplacedSmall, replacedPlaced, replacedGrown, VerdictSmall, verdictChecked}
+
+holding-most : (k from : ℕ) (cs : List Contents) → holding k from cs ≤ from + length cs
+unfolding holding
+holding-most k from [] = omega arith
+holding-most k from (c ∷ cs) = go (hasNumber k (c .stars)) (holding-most k (suc from) cs)
+  where
+    go : (t : Bool) → holding k (suc from) cs ≤ suc from + length cs → cond t from (holding k (suc from) cs) ≤ from + suc (length cs)
+    go true h = omega arith
+    go false h = omega (arith, add-suc from (length cs), suc-add from (length cs))
+
+-- a stretch from a page of the file that ends by a search ends within the file
+stretch-most : (test : ℕ → Bool) (from m : ℕ) → from < m → from + pagesTo from (firstSuch test from (m - 1 - from)) ≤ m
+stretch-most test from m h =
+    let s = such test from (m - 1 - from) in
+    omega (arith, s .low, s .high, add-suc from (firstSuch test from (m - 1 - from) - from))
+
+unsound-most : (p : Parameters) (g : Growth) (f : File) (from n : ℕ) → firstUnsound p g f from n ≤ from + n
+unfolding firstUnsound
+unsound-most p g f from n = such (λ (q : ℕ). not (soundAt multiplier p g f q)) from n .high
+
+removal-most : (p : Parameters) (g : Growth) (f : File) (from : ℕ) → from < p .pages → from + pagesTo from (removalEnd (hash p g) (p .pages) f from) ≤ p .pages
+unfolding removalEnd
+removal-most p g f from h = stretch-most (storedTop (f .separators) (hash p g .top)) from (p .pages) h
+
+module _ (p : Parameters) (g : Growth) (f : File) (v : validParameters p ≡ true) (w : validGrowth p g ≡ true) where
+  -- ---- entry
+  module _ (k word : ℕ) where
+    inside : entry.startOf p g k + entry.countOf p g f k word ≤ p .pages
+    unfolding entryEnd hashOf
+    inside = stretch-most _ (entry.startOf p g k) (p .pages) (home-pages multiplier p g k v w)
+
+    bad-small : entry.unsoundOf p g f k word < 2 ^ 32
+    bad-small = omega (arith, unsound-most p g f (entry.startOf p g k) (entry.countOf p g f k word), inside, limits p v .pages-most)
+
+    page-small : holding k (entry.startOf p g k) (entry.contentsOf p g f k word) < 2 ^ 32
+    page-small =
+        omega (
+          arith,
+          holding-most k (entry.startOf p g k) (entry.contentsOf p g f k word),
+          length-pages (hash p g) (entry.startOf p g k) (entry.countOf p g f k word) (entering (hash p g) f (entry.newStar k word) (entry.endOf p g f k word)),
+          inside,
+          limits p v .pages-most,
+        )
+
+    pub entry-small : EntrySmall (entryAnswer p g f k word)
+    unfolding entryAnswer
+    entry-small = go (ltb (entry.unsoundOf p g f k word) (entry.startOf p g k + entry.countOf p g f k word)) (entersWithin (hash p g) f (entry.newStar k word) (entry.endOf p g f k word))
+      where
+        go : (t u : Bool) → EntrySmall (cond t (Unsound (entry.unsoundOf p g f k word)) (cond u (On (holding k (entry.startOf p g k) (entry.contentsOf p g f k word))) Overflows))
+        go true u = bad-small
+        go false true = page-small
+        go false false = tt
+
+  -- ---- removal and growth
+  pub removal-small : (k : ℕ) → ReplacedSmall (removalAnswer p g f k)
+  unfolding removalAnswer hashOf
+  removal-small k = go (ltb (removal.unsoundOf p g f k) (removal.startOf p g k + removal.countOf p g f k))
+    where
+      go : (t : Bool) → ReplacedSmall (cond t (replaced·Unsound (removal.unsoundOf p g f k)) Done)
+      go true =
+          omega (arith, unsound-most p g f (removal.startOf p g k) (removal.countOf p g f k), removal-most p g f (removal.startOf p g k) (home-pages multiplier p g k v w), limits p v .pages-most)
+      go false = tt
+
+  pub growth-small : (next : Growth) → ReplacedSmall (growthAnswer p g f next)
+  unfolding growthAnswer
+  growth-small next = go (ltb (firstUnsound p g f 0 (p .pages)) (p .pages)) (isEmpty (left (hash p next) 0 (p .pages) (allStars p f)))
+    where
+      go : (t u : Bool) → ReplacedSmall (cond t (replaced·Unsound (firstUnsound p g f 0 (p .pages))) (cond u Done replaced·Overflows))
+      go true u = omega (arith, unsound-most p g f 0 (p .pages), limits p v .pages-most)
+      go false true = tt
+      go false false = tt
+
+-- ---- the answers and files are those of the definitions
+
+module _ (p : Parameters) (g : Growth) (f : File) (pool : Pool) where
+  module _ (k word : ℕ) where
+    entered-cases : (t u : Bool) (bad page : ℕ) (next : File)
+        → (placed (entryPlaced (cond t (Unsound bad) (cond u (On page) Overflows)))
+        ≡ cond t (unchanged g f pool (refused 5 bad)) (cond u (record { answer = accepted page; growth = g; file = next; pool = pool }) (unchanged g f pool (refused 8 0))) .answer)
+        × (cond t f (cond u next f)
+        ≡ cond t (unchanged g f pool (refused 5 bad)) (cond u (record { answer = accepted page; growth = g; file = next; pool = pool }) (unchanged g f pool (refused 8 0))) .file)
+    unfolding placed refusedBy numberOf pageOf
+    entered-cases true u bad page next = (refl, refl)
+    entered-cases false true bad page next = (refl, refl)
+    entered-cases false false bad page next = (refl, refl)
+
+    pub entered-is : (placed (entryPlaced (entryAnswer p g f k word)) ≡ enterTo p g f pool (entry.newStar k word) (entry.endOf p g f k word) .answer)
+        × (entryFile p g f k word ≡ enterTo p g f pool (entry.newStar k word) (entry.endOf p g f k word) .file)
+    unfolding entryAnswer entryFile enterTo
+    entered-is =
+        entered-cases
+        (ltb (entry.unsoundOf p g f k word) (entry.startOf p g k + entry.countOf p g f k word))
+        (entersWithin (hash p g) f (entry.newStar k word) (entry.endOf p g f k word))
+        (entry.unsoundOf p g f k word)
+        (holding k (entry.startOf p g k) (entry.contentsOf p g f k word))
+        (replaced (p .places) f (entry.startOf p g k) (entry.contentsOf p g f k word))
+
+  removed-cases : (t : Bool) (bad page : ℕ) (next : File)
+      → (placed (replacedPlaced (cond t (replaced·Unsound bad) Done) page) ≡ cond t (unchanged g f pool (refused 5 bad)) (record { answer = accepted page; growth = g; file = next; pool = pool }) .answer)
+      × (cond t f next ≡ cond t (unchanged g f pool (refused 5 bad)) (record { answer = accepted page; growth = g; file = next; pool = pool }) .file)
+  unfolding placed refusedBy numberOf pageOf
+  removed-cases true bad page next = (refl, refl)
+  removed-cases false bad page next = (refl, refl)
+
+  pub removed-is : (page k : ℕ)
+      → (placed (replacedPlaced (removalAnswer p g f k) page) ≡ removeTo p g f pool page k (removalEnd (hash p g) (p .pages) f (hash p g .home k)) .answer)
+      × (removalFile p g f k ≡ removeTo p g f pool page k (removalEnd (hash p g) (p .pages) f (hash p g .home k)) .file)
+  unfolding removalAnswer removalFile removeTo
+  removed-is page k =
+      removed-cases
+      (ltb (removal.unsoundOf p g f k) (removal.startOf p g k + removal.countOf p g f k))
+      (removal.unsoundOf p g f k)
+      page
+      (replaced (p .places) f (removal.startOf p g k)
+      (pages (hash p g) (removal.startOf p g k) (removal.countOf p g f k) (without k (gathered (p .places) f (removal.startOf p g k) (removal.countOf p g f k)))))
+
+  grown-cases : (t u : Bool) (bad page : ℕ) (next : Growth) (to : File)
+      → (placed (replacedGrown (cond t (replaced·Unsound bad) (cond u Done replaced·Overflows)) page g next .answer)
+      ≡ cond t (unchanged g f pool (refused 5 bad)) (cond u (record { answer = accepted page; growth = next; file = to; pool = pool }) (unchanged g f pool (refused 8 0))) .answer)
+      × (cond t f (cond u to f)
+      ≡ cond t (unchanged g f pool (refused 5 bad)) (cond u (record { answer = accepted page; growth = next; file = to; pool = pool }) (unchanged g f pool (refused 8 0))) .file)
+      × (replacedGrown (cond t (replaced·Unsound bad) (cond u Done replaced·Overflows)) page g next .growth
+      ≡ cond t (unchanged g f pool (refused 5 bad)) (cond u (record { answer = accepted page; growth = next; file = to; pool = pool }) (unchanged g f pool (refused 8 0))) .growth)
+  unfolding placed refusedBy numberOf pageOf
+  grown-cases true u bad page next to = (refl, refl, refl)
+  grown-cases false true bad page next to = (refl, refl, refl)
+  grown-cases false false bad page next to = (refl, refl, refl)
+
+  pub grown-is : (next : Growth)
+      → (placed (replacedGrown (growthAnswer p g f next) (pageCount p g) g next .answer) ≡ growTo p g f pool next .answer)
+      × (growthFile p g f next ≡ growTo p g f pool next .file)
+      × (replacedGrown (growthAnswer p g f next) (pageCount p g) g next .growth ≡ growTo p g f pool next .growth)
+  unfolding growthAnswer growthFile growTo
+  grown-is next =
+      grown-cases
+      (ltb (firstUnsound p g f 0 (p .pages)) (p .pages))
+      (isEmpty (left (hash p next) 0 (p .pages) (allStars p f)))
+      (firstUnsound p g f 0 (p .pages))
+      (pageCount p g)
+      next
+      (replaced (p .places) f 0 (pages (hash p next) 0 (p .pages) (allStars p f)))
+
+-- ---- check
+
+module _ (p : Parameters) (v : validParameters p ≡ true) (bad spot : ℕ) where
+  pub verdict-is : checked (verdictChecked (verdictOf p bad spot) (p .places)) ≡ checkedAt p bad spot
+  unfolding verdictOf checkedAt checked
+  verdict-is = go (ltb bad (p .pages)) (ltb spot (p .pages * suc (p .places)))
+    where
+      go : (t u : Bool)
+          → checked (verdictChecked (cond t (verdict·Unsound bad) (cond u (Differs (spot / suc (p .places)) (spot % suc (p .places))) Clean)) (p .places))
+          ≡ cond t (spotted 5 bad (p .places)) (cond u (spotted 5 (spot / suc (p .places)) (spot % suc (p .places))) (accepted 0))
+      go true u = refl
+      go false true = refl
+      go false false = refl
+
+  pub verdict-small : VerdictSmall (verdictOf p bad spot)
+  unfolding verdictOf
+  verdict-small = go (ltb bad (p .pages)) refl (ltb spot (p .pages * suc (p .places))) refl
+    where
+      go : (t : Bool)
+          → ltb bad (p .pages) ≡ t
+          → (u : Bool)
+          → ltb spot (p .pages * suc (p .places)) ≡ u
+          → VerdictSmall (cond t (verdict·Unsound bad) (cond u (Differs (spot / suc (p .places)) (spot % suc (p .places))) Clean))
+      go true e u d = omega (arith, ltb-true bad (p .pages) e, limits p v .pages-most)
+      go false e true d = (
+        omega (arith, div-lt-iff-lt-mul {k = suc (p .places)} {x = spot} {y = p .pages} (omega arith) .1 (ltb-true spot (p .pages * suc (p .places)) d), limits p v .pages-most),
+        omega (arith, mod-lt spot {m = suc (p .places)} (omega arith), limits p v .places-most),
+      )
+      go false e false d = tt

@@ -1,0 +1,27 @@
+-- `starfile::lending::pool_fits` meets its contract.
+use mathlib.Core.Bool.{false}
+use Prim.Native.Nat.{_*_, _≤_}
+use native.Mathlib.Omega.{arith}
+use borrow.Author.Tests.{eq-eqb, ne-eqb}
+use Rattle.starfile.proofs.Refusals.{items-most}
+use borrow.Author.Needs.{needs}
+use Rattle.starfile.proofs.lending.pool_fits.Statement.{statement}
+use Rattle.starfile.proofs.lending.pool_fits.Tie as tie
+
+cast-items : tie.Need-cast-items
+cast-items c = search needs
+
+cast-items-2 : tie.Need-cast-items-2
+cast-items-2 c = search needs
+
+mul-items : tie.Need-mul-items
+mul-items c = omega (arith, items-most (c .before .before .args .parameters) (c .before .before .pre))
+
+returns : tie.Need-returns
+returns c = rw (ne-eqb _ _ (c .if1 .taken))
+
+returns-2 : tie.Need-returns-2
+returns-2 c = rw (eq-eqb _ _ (c .if1 .left))
+
+pub pool-fits-spec : {M : Type 1} → statement M
+pool-fits-spec = tie.close (tie.spec cast-items cast-items-2 mul-items returns returns-2)

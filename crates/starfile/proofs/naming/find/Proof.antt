@@ -1,0 +1,177 @@
+-- `starfile::naming::find` meets its contract.
+use mathlib.Core.Path.{_≡_, sym, _∙_}
+use mathlib.Core.Bool.{true}
+use Prim.Native.Nat.{_+_, _*_, _≤_, _<_}
+use native.Mathlib.Omega.{arith}
+use lib.ListN.{length}
+use borrow.Author.Tests.{not-true, not-false}
+use denote.Ref.{now}
+use Rattle.hashing.specs.Generator.{multiplier}
+use Rattle.hashing.proofs.Bounds.{limits}
+use Rattle.pages.proofs.Parts.{page-fits}
+use Rattle.placement.specs.File.{File}
+use Rattle.placement.specs.Hash.{lent, soundAt}
+use Rattle.placement.proofs.Items.{sound-loaded}
+use Rattle.starfile.proofs.Refusals.{items-most}
+use Rattle.starfile.proofs.Finding.{named-most, past-file, in-file, unread-as, absent-as, held-as, held-is, at-is, at-below, word-is, item-below, word-valid, one-least}
+use borrow.Author.Needs.{needs}
+use Rattle.starfile.proofs.naming.find.Statement.{statement}
+use Rattle.starfile.proofs.naming.find.Tie as tie
+use Rattle.starfile.proofs.naming.find.Reads as reads
+use Rattle.starfile.proofs.naming.find.Lts as lts
+use Rattle.pages.proofs.page.load.Reads as load-reads
+use Rattle.pages.proofs.page.search.Reads as search-reads
+use Rattle.placement.proofs.named_page.Reads as named-page-reads
+use Rattle.placement.proofs.page_sound.Reads as page-sound-reads
+use Rattle.starfile.proofs.naming.unread.Reads as unread-reads
+
+abbrev fileOf : tie.Start → File
+fileOf s = lent (now (s .args .separators)) (now (s .args .numbers)) (now (s .args .words))
+
+-- src/naming.rt:31:18
+cast-places : tie.Need-cast-places
+cast-places c = search needs
+
+-- src/naming.rt:32:9
+named-page-requires : tie.Need-named-page-requires
+named-page-requires c κs = search needs
+
+-- src/naming.rt:33:16
+cast-if1 : tie.Need-cast-if1
+cast-if1 c = search needs
+
+-- src/naming.rt:34:9
+unread-requires : tie.Need-unread-requires
+unread-requires c κs = search needs
+
+-- src/naming.rt:34:9
+returns : tie.Need-returns
+returns c =
+    let s = c .before .before .before .before .before .before .before .before in
+    rw (c .unread .ensures)
+    (unread-as (s .args .geometry .parameters) (s .args .geometry .growth) (fileOf s) (s .args .number) _ (s .pre .1 .1 .1 .0) (c .before .before .before .named-page .ensures)
+    (past-file _ _ _ _ (c .before .if1 .taken)))
+
+-- src/naming.rt:36:17
+-- past the first test, the page is one of the file
+abbrev begun : tie.Else1 → tie.Start
+begun c = c .before .before .before .before .before .before .before
+
+inside : (c : tie.Else1) → c .before .before .named-page .result < begun c .args .geometry .parameters .pages
+inside c =
+    let most = named-most (begun c .args .geometry .parameters) (begun c .args .geometry .growth) (fileOf (begun c)) (begun c .args .number) (begun c .pre .1 .1 .1 .0) in
+    omega (arith, c .if1 .left, c .before .before .named-page .ensures)
+
+fits : (c : tie.Else1) → c .before .before .named-page .result * begun c .args .geometry .parameters .places + begun c .args .geometry .parameters .places ≤ length (now (begun c .args .numbers))
+fits c = page-fits _ _ _ (inside c) (begun c .pre .1 .1 .1 .0 .ofNumbers)
+
+fits-words : (c : tie.Else1) → c .before .before .named-page .result * begun c .args .geometry .parameters .places + begun c .args .geometry .parameters .places ≤ length (now (begun c .args .words))
+fits-words c = page-fits _ _ _ (inside c) (begun c .pre .1 .1 .1 .0 .ofWords)
+
+load-requires : tie.Need-load-requires
+load-requires c κs = (limits _ (begun c .pre .1 .0) .places-most, (fits c, fits-words c))
+
+-- src/naming.rt:37:9
+page-sound-requires : tie.Need-page-sound-requires
+page-sound-requires c κs =
+    let pre = begun (c .before) .pre in
+    (pre .0, (pre .1 .0, (pre .1 .1 .0, (pre .1 .1 .1 .0 .ofSeparators, inside (c .before)))))
+
+-- src/naming.rt:38:9
+-- the value tested is the page's
+told : (c : tie.After-page-sound) → c .page-sound .result .sound ≡ soundAt multiplier (begun (c .before .before) .args .geometry .parameters) (begun (c .before .before) .args .geometry .growth) (fileOf (begun (c .before .before))) (c .before .before .before .before .named-page .result)
+told c = c .page-sound .ensures .0 ∙ sound-loaded _ _ _ (fileOf (begun (c .before .before))) _ _ (fits (c .before .before)) (fits-words (c .before .before)) (c .before .load .ensures)
+
+unread-requires-2 : tie.Need-unread-requires-2
+unread-requires-2 c κs = search needs
+
+-- src/naming.rt:38:9
+returns-2 : tie.Need-returns-2
+returns-2 c =
+    let s = c .before .before .before .before .before .before .before .before .before .before .before .before in
+    rw (c .unread2 .ensures)
+    (unread-as (s .args .geometry .parameters) (s .args .geometry .growth) (fileOf s) (s .args .number) _ (s .pre .1 .1 .1 .0) (c .before .before .before .before .before .before .before .named-page .ensures)
+    (in-file _ _ _ _ _ (inside (c .before .before .before .before .before)) (sym (told (c .before .before .before)) ∙ not-true _ (c .before .if2 .taken))))
+
+-- src/naming.rt:40:9
+search-requires : tie.Need-search-requires
+search-requires c κs = limits _ (c .before .before .before .before .before .before .before .before .before .before .before .pre .1 .0) .places-most
+
+-- src/naming.rt:43:9
+-- what the search of the page tells of the lent lists
+abbrev tested : tie.After-search → tie.After-page-sound
+tested c = c .before .before .before
+
+sound : (c : tie.After-search) → soundAt multiplier (begun (tested c .before .before) .args .geometry .parameters) (begun (tested c .before .before) .args .geometry .growth) (fileOf (begun (tested c .before .before))) (tested c .before .before .before .before .named-page .result) ≡ true
+sound c = sym (told (tested c)) ∙ not-false _ (c .before .if2 .left)
+
+returns-3 : tie.Need-returns-3
+returns-3 c =
+    let d = c .before .before in
+    let e = tested d .before .before in
+    let s = begun e in
+    absent-as (s .args .geometry .parameters) (s .args .geometry .growth) (fileOf s) (s .args .number) _ (s .pre .1 .1 .1 .0) (c .before .before .before .before .before .before .before .before .before .named-page .ensures)
+    (in-file _ _ _ _ _ (inside e) (sound d))
+    (sym (held-is (s .args .geometry .parameters) (fileOf s) _ _ _ _ (fits e) (c .before .before .before .before .before .before .load .ensures) (d .search .ensures)) ∙ not-true _ (c .if3 .taken))
+
+-- src/naming.rt:55:15
+-- the number is held
+held : (c : tie.Else3) → c .before .before .search .result .held ≡ true
+held c = not-false _ (c .if3 .left)
+
+within : (c : tie.Else3) → c .before .before .search .result .at < c .before .before .before .before .before .before .before .before .before .before .before .before .before .before .args .geometry .parameters .places
+within c =
+    let e = tested (c .before .before) .before .before in
+    at-below (begun e .args .geometry .parameters) (fileOf (begun e)) (begun e .args .number) _ _ _ (fits e) (c .before .before .before .before .before .before .load .ensures) (c .before .before .search .ensures) (held c)
+
+mul-t12 : tie.Need-mul-t12
+mul-t12 c = omega (arith, fits (tested (c .before .before) .before .before), items-most _ (c .before .before .before .before .before .before .before .before .before .before .before .before .before .before .pre .1 .0), c .before .before .before .before .before .before .before .before .before .before .before .before .before .before .pre .1 .1 .1 .0 .ofNumbers)
+
+-- src/naming.rt:55:15
+add-t16 : tie.Need-add-t16
+add-t16 c = omega (arith, fits (tested (c .before .before) .before .before), items-most _ (c .before .before .before .before .before .before .before .before .before .before .before .before .before .before .pre .1 .0), c .before .before .before .before .before .before .before .before .before .before .before .before .before .before .pre .1 .1 .1 .0 .ofNumbers, within c)
+
+-- src/naming.rt:56:15
+mul-t17 : tie.Need-mul-t17
+mul-t17 c = omega (arith, within c, limits _ (c .before .before .before .before .before .before .before .before .before .before .before .before .before .before .pre .1 .0) .places-most)
+
+-- src/naming.rt:56:15
+element-copy-out-t20 : tie.Need-element-copy-out-t20
+element-copy-out-t20 c = omega (arith, within c, limits _ (c .before .before .before .before .before .before .before .before .before .before .before .before .before .before .pre .1 .0) .places-most)
+
+-- src/naming.rt:23:1
+returns-4 : tie.Need-returns-4
+returns-4 c =
+    let d = c .before .before .before in
+    let e = tested d .before .before in
+    let s = begun e in
+    held-as (s .args .geometry .parameters) (s .args .geometry .growth) (fileOf s) (s .args .number) _ (s .pre .1 .1 .1 .0) (c .before .before .before .before .before .before .before .before .before .before .named-page .ensures) _ _
+    (in-file _ _ _ _ _ (inside e) (sound d))
+    (sym (held-is (s .args .geometry .parameters) (fileOf s) _ _ _ _ (fits e) (c .before .before .before .before .before .before .before .load .ensures) (d .search .ensures)) ∙ held (c .before))
+    (at-is (s .args .geometry .parameters) (fileOf s) _ _ _ _ (fits e) (c .before .before .before .before .before .before .before .load .ensures) (d .search .ensures))
+    (word-is (s .args .geometry .parameters) (fileOf s) _ _ _ _ (fits e) (c .before .before .before .before .before .before .before .load .ensures) (d .search .ensures) (held (c .before)))
+    (item-below (s .args .geometry .parameters) (fileOf s) (s .args .number) _ _ _ (fits e) (c .before .before .before .before .before .before .before .load .ensures) (d .search .ensures) (held (c .before)) (sym (s .pre .1 .1 .1 .0 .ofNumbers)))
+    (rw (word-is (s .args .geometry .parameters) (fileOf s) (s .args .number) _ _ _ (fits e) (c .before .before .before .before .before .before .before .load .ensures) (d .search .ensures) (held (c .before)))
+    (word-valid (s .args .geometry .parameters) (s .args .geometry .growth) (fileOf s) _ _ (s .pre .1 .1 .1 .0) (inside e) (one-least _ (s .pre .1 .1 .1 .1)) (sound d)
+    (sym (held-is (s .args .geometry .parameters) (fileOf s) _ _ _ _ (fits e) (c .before .before .before .before .before .before .before .load .ensures) (d .search .ensures)) ∙ held (c .before))))
+
+pub find-spec : {M : Type 1} → statement M
+find-spec =
+    tie.close
+    (tie.spec
+    cast-places
+    named-page-requires
+    cast-if1
+    unread-requires
+    returns
+    load-requires
+    page-sound-requires
+    unread-requires-2
+    returns-2
+    search-requires
+    returns-3
+    mul-t12
+    add-t16
+    mul-t17
+    element-copy-out-t20
+    returns-4)

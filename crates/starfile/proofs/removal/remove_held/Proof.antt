@@ -1,0 +1,146 @@
+-- `starfile::removal::remove_held` meets its contract.
+use mathlib.Core.Path.{_≡_, refl, sym, ap, _∙_}
+use mathlib.Core.Bool.{true, false, _&&_}
+use Prim.Native.Nat.{_+_, _-_, _*_, _≤_, _<_}
+use native.Mathlib.Omega.{arith}
+use lib.ListN.{length}
+use borrow.Author.Tests.{not-true, not-false, eq-eqb, ne-eqb}
+use denote.Ref.{now}
+use Rattle.hashing.specs.Limits.{validParameters, validGrowth}
+use Rattle.hashing.proofs.Bounds.{limits, both, passed, failed, growth-within, spread}
+use Rattle.pages.specs.Position.{validNumber, validPosition}
+use Rattle.placement.specs.File.{File}
+use Rattle.placement.specs.Hash.{lent}
+use Rattle.starfile.specs.Answers.{Pool, placed, checked, refusedBy, numberOf, pageOf, pooled, cleared}
+use Rattle.starfile.specs.Calls.{removeOn, named, readable, holds}
+use Rattle.starfile.specs.Outcomes.{replacedPlaced}
+use Rattle.replacing.specs.Calls.{removalAnswer}
+use Rattle.starfile.proofs.Outcomes.{removal-small, removed-is}
+use Rattle.starfile.proofs.Pools.{pool-sized}
+use borrow.Author.Needs.{needs}
+use Rattle.starfile.proofs.removal.remove_held.Statement.{statement}
+use Rattle.starfile.proofs.removal.remove_held.Tie as tie
+use Rattle.starfile.proofs.removal.remove_held.Reads as reads
+use Rattle.starfile.proofs.removal.remove_held.Lts as lts
+use Rattle.hashing.proofs.multipliers.Reads as multipliers-reads
+use Rattle.replacing.proofs.remove_star.Reads as remove-star-reads
+use Rattle.starfile.proofs.naming.find.Reads as find-reads
+use Rattle.starfile.proofs.removal.replaced_placed.Reads as replaced-placed-reads
+
+abbrev fileOf : tie.Start → File
+fileOf s = lent (now (s .args .separators)) (now (s .args .numbers)) (now (s .args .words))
+
+abbrev poolOf : tie.Start → Pool
+poolOf s = pooled (now (s .args .poolnumbers)) (now (s .args .poolwords))
+
+multipliers-requires : tie.Need-multipliers-requires
+multipliers-requires c κs = search needs
+
+find-requires : tie.Need-find-requires
+find-requires c κs =
+    let pre = c .before .before .before .before .before .before .before .before .before .before .pre in
+    (c .before .before .before .before .multipliers .ensures, (pre .0, (pre .1 .0, (pre .1 .1 .0, pre .1 .1 .1 .1))))
+
+cast-page : tie.Need-cast-page
+cast-page c = omega (arith, c .before .find .ensures .pageMost, limits _ (c .before .before .before .before .before .before .before .before .before .before .before .before .pre .0) .pages-most)
+
+same-length : tie.Need-same-length
+same-length c = search needs
+
+same-length-2 : tie.Need-same-length-2
+same-length-2 c = search needs
+
+same-length-3 : tie.Need-same-length-3
+same-length-3 c = search needs
+
+returns : tie.Need-returns
+unfolding removeOn placed refusedBy numberOf pageOf
+returns c =
+    let found = c .before .before .before .find .ensures in
+    let unread = sym (found .readableIs) ∙ not-true _ (c .if1 .taken) in
+    record { answers = rw (unread, found .pageIs); files = rw unread }
+
+same-length-4 : tie.Need-same-length-4
+same-length-4 c = search needs
+
+same-length-5 : tie.Need-same-length-5
+same-length-5 c = search needs
+
+same-length-6 : tie.Need-same-length-6
+same-length-6 c = search needs
+
+returns-2 : tie.Need-returns-2
+unfolding removeOn placed refusedBy numberOf pageOf
+returns-2 c =
+    let found = c .before .before .before .before .before .find .ensures in
+    let opened = not-false _ (c .before .before .if1 .left) in
+    let read = sym (found .readableIs) ∙ opened in
+    let held = sym (found .heldIs opened) ∙ not-true _ (c .if2 .taken) in
+    record { answers = rw (read, held); files = rw (read, held) }
+
+remove-star-requires : tie.Need-remove-star-requires
+remove-star-requires c κs =
+    let s = c .before .before .before .before .before .before .before .before .before .before .before .before .before .before .before .before .before .before .before .before .before .before in (
+      c .before .before .before .before .before .before .before .before .before .before .before .before .before .before .before .before .multipliers .ensures,
+      (s .pre .0, (s .pre .1 .0, (s .pre .1 .1 .0, pool-sized (s .args .parameters) (poolOf s) (s .pre .1 .1 .1 .0)))),
+    )
+
+replaced-placed-requires : tie.Need-replaced-placed-requires
+replaced-placed-requires c κs =
+    let s = c .before .before .before .before .before .before .before .before .before .before .before .before .before .before .before .before .before .before .before .before .before .before .before .before .before .before .before .before .before .before .before .before .before in
+    rw (c .before .before .before .before .before .before .before .before .before .before .remove-star .ensures .0)
+    (removal-small (s .args .parameters) (s .args .growth) (fileOf s) (s .pre .0) (s .pre .1 .0) (s .args .number))
+
+same-length-7 : tie.Need-same-length-7
+same-length-7 c = search needs
+
+same-length-8 : tie.Need-same-length-8
+same-length-8 c = search needs
+
+same-length-9 : tie.Need-same-length-9
+same-length-9 c = search needs
+
+same-length-10 : tie.Need-same-length-10
+same-length-10 c = search needs
+
+same-length-11 : tie.Need-same-length-11
+same-length-11 c = search needs
+
+returns-3 : tie.Need-returns-3
+unfolding removeOn
+returns-3 c =
+    let s = c .before .before .before .before .before .before .before .before .before .before .before .before .before .before .before .before .before .before .before .before .before .before .before .before .before .before .before .before .before .before .before .before .before .before in
+    let found = c .before .before .before .before .before .before .before .before .before .before .before .before .before .before .before .before .before .before .before .before .before .before .before .find .ensures in
+    let opened = not-false _ (c .before .before .before .before .before .before .before .before .before .before .before .before .before .before .before .before .before .before .before .before .if1 .left) in
+    let read = sym (found .readableIs) ∙ opened in
+    let held = sym (found .heldIs opened) ∙ not-false _ (c .before .before .before .before .before .before .before .before .before .before .before .before .before .before .before .before .before .before .if2 .left) in
+    let done = c .before .before .before .before .before .before .before .before .before .before .before .remove-star .ensures in
+    let is = removed-is (s .args .parameters) (s .args .growth) (fileOf s) (cleared (poolOf s)) (named (s .args .parameters) (s .args .growth) (fileOf s) (s .args .number)) (s .args .number) in
+    record {
+      answers = rw (read, held) (ap placed (rw (done .0, found .pageIs) at (c .replaced-placed .ensures)) ∙ is .0);
+      files = rw (read, held) (done .1 ∙ is .1);
+    }
+
+pub remove-held-spec : {M : Type 1} → statement M
+remove-held-spec =
+    tie.close
+    (tie.spec
+    multipliers-requires
+    find-requires
+    cast-page
+    same-length
+    same-length-2
+    same-length-3
+    returns
+    same-length-4
+    same-length-5
+    same-length-6
+    returns-2
+    remove-star-requires
+    replaced-placed-requires
+    same-length-7
+    same-length-8
+    same-length-9
+    same-length-10
+    same-length-11
+    returns-3)

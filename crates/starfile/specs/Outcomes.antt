@@ -1,0 +1,56 @@
+-- The answers of the crates below, as answers of the calls. Their pages are small enough for 32 bits.
+use Prim.Native.Nat.{ℕ, _^_, _<_}
+use Rattle.hashing.specs.declared.Growth.{Growth}
+use Rattle.entering.specs.declared.stretch.Entered.{Entered}
+use Rattle.entering.specs.declared.stretch.Entered.the-variants.{On, Unsound, Overflows}
+use Rattle.replacing.specs.declared.Replaced.{Replaced}
+use Rattle.replacing.specs.declared.Replaced.the-variants.{Done, Unsound as replaced·Unsound, Overflows as replaced·Overflows}
+use Rattle.comparing.specs.declared.checking.Verdict.{Verdict}
+use Rattle.comparing.specs.declared.checking.Verdict.the-variants.{Clean, Differs, Unsound as verdict·Unsound}
+use Rattle.starfile.specs.declared.answers.Refusal.{Refusal}
+use Rattle.starfile.specs.declared.answers.Refusal.the-variants.{Damaged, Full}
+use Rattle.starfile.specs.declared.answers.Placed.{Placed}
+use Rattle.starfile.specs.declared.answers.Placed.the-variants.{On as placed·On, Refused}
+use Rattle.starfile.specs.declared.answers.Grown.{Grown}
+use Rattle.starfile.specs.declared.answers.Checked.{Checked}
+use Rattle.starfile.specs.declared.answers.Checked.the-variants.{Clean as checked·Clean, Differs as checked·Differs}
+
+abbrev pub EntrySmall : Entered → Type 0
+EntrySmall (On page) = page < 2 ^ 32
+EntrySmall (Unsound page) = page < 2 ^ 32
+EntrySmall Overflows = Unit {0}
+
+abbrev pub entryPlaced : Entered → Placed
+entryPlaced (On page) = placed·On page
+entryPlaced (Unsound page) = Refused (Damaged page)
+entryPlaced Overflows = Refused Full
+
+abbrev pub ReplacedSmall : Replaced → Type 0
+ReplacedSmall Done = Unit {0}
+ReplacedSmall (replaced·Unsound page) = page < 2 ^ 32
+ReplacedSmall replaced·Overflows = Unit {0}
+
+abbrev pub replacedPlaced : Replaced → ℕ → Placed
+replacedPlaced Done page = placed·On page
+replacedPlaced (replaced·Unsound bad) page = Refused (Damaged bad)
+replacedPlaced replaced·Overflows page = Refused Full
+
+-- refused, with the growth state as it was
+abbrev pub unmovedBy : Growth → Refusal → Grown
+unmovedBy growth refusal = record { answer = Refused refusal; growth = growth }
+
+abbrev pub replacedGrown : Replaced → ℕ → Growth → Growth → Grown
+replacedGrown Done page growth next = record { answer = placed·On page; growth = next }
+replacedGrown (replaced·Unsound bad) page growth next = unmovedBy growth (Damaged bad)
+replacedGrown replaced·Overflows page growth next = unmovedBy growth Full
+
+abbrev pub VerdictSmall : Verdict → Type 0
+VerdictSmall Clean = Unit {0}
+VerdictSmall (Differs page place) = (page < 2 ^ 32) × (place < 2 ^ 32)
+VerdictSmall (verdict·Unsound page) = page < 2 ^ 32
+
+-- an unsound page is told with the place b
+abbrev pub verdictChecked : Verdict → ℕ → Checked
+verdictChecked Clean places = checked·Clean
+verdictChecked (Differs page place) places = checked·Differs page place
+verdictChecked (verdict·Unsound page) places = checked·Differs page places

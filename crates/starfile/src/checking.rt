@@ -1,0 +1,71 @@
+// The check of a file.
+ghost use mathlib.Core.Path.{_≡_};
+ghost use mathlib.Core.Bool.{true};
+ghost use Rattle.placement.specs.Hash.{lent};
+ghost use Rattle.starfile.specs.Answers.{Leaves, pooled, checked};
+ghost use Rattle.starfile.specs.Calls.{checkOf};
+ghost use Rattle.starfile.specs.Outcomes.{VerdictSmall, verdictChecked};
+use crate::answers::Checked;
+use crate::answers::Refusal;
+use crate::lending::all_fit;
+use crate::lending::state_valid;
+use comparing::Verdict;
+use hashing::Geometry;
+use hashing::Growth;
+use hashing::Parameters;
+
+// The file is only read. A refusal of the file itself tells the lowest unsound page, or the first page and place that differ from the rule.
+pub fn check(
+    parameters: Parameters,
+    growth: Growth,
+    separators: &[u8],
+    numbers: &[u32],
+    words: &[u64],
+    poolnumbers: &mut [u32],
+    poolwords: &mut [u64],
+) -> Checked
+    ensures { λ r. ⌜ Leaves (checkOf parameters growth (lent (now (separators .entry)) (now (numbers .entry)) (now (words .entry))) (pooled (now (poolnumbers .entry)) (now (poolwords .entry)))) (checked r) (lent (now (separators .entry)) (now (numbers .entry)) (now (words .entry))) (pooled (now (poolnumbers .exit)) (now (poolwords .exit))) ⌝ }
+{
+    if !state_valid(parameters, growth) {
+        return Checked::Refused(Refusal::BadParameters);
+    }
+    if !all_fit(
+        parameters,
+        separators.len(),
+        numbers.len(),
+        words.len(),
+        poolnumbers.len(),
+        poolwords.len(),
+    ) {
+        return Checked::Refused(Refusal::BadLength);
+    }
+    let table = hashing::multipliers();
+    let verdict = comparing::check_file(
+        &table,
+        Geometry { parameters, growth },
+        separators,
+        numbers,
+        words,
+        poolnumbers,
+        poolwords,
+    );
+    planning::clear(poolnumbers, poolwords);
+    verdict_checked(verdict, parameters.places)
+}
+
+fn verdict_checked(verdict: Verdict, places: u32) -> Checked
+    requires { ⌜ VerdictSmall verdict ⌝ }
+    ensures { λ r. ⌜ r ≡ verdictChecked verdict places ⌝ }
+{
+    match verdict {
+        Verdict::Clean => Checked::Clean,
+        Verdict::Differs { page, place } => Checked::Differs {
+            page: page as u32,
+            place: place as u32,
+        },
+        Verdict::Unsound(page) => Checked::Differs {
+            page: page as u32,
+            place: places,
+        },
+    }
+}

@@ -1,0 +1,65 @@
+// Making an empty file.
+ghost use mathlib.Core.Path.{_≡_};
+ghost use Prim.Native.Nat.{_≤_};
+ghost use lib.ListN.{length, replicate};
+ghost use Rattle.hashing.specs.Generator.{topOf};
+ghost use Rattle.starfile.specs.Answers.{Leaves, lent, unpooled, placed};
+ghost use Rattle.starfile.specs.Calls.{makeOf};
+use crate::answers::Grown;
+use crate::answers::Placed;
+use crate::answers::Refusal;
+use crate::lending::file_fits;
+use hashing::Growth;
+use hashing::Parameters;
+
+// The file is left as document 01's empty file. No growth state is read: a new file's is (0, 0).
+pub fn make(
+    parameters: Parameters,
+    separators: &mut [u8],
+    numbers: &mut [u32],
+    words: &mut [u64],
+) -> Grown
+    ensures { λ r. ⌜ Leaves (makeOf parameters (lent (now (separators .entry)) (now (numbers .entry)) (now (words .entry))) unpooled) (placed (r .answer)) (lent (now (separators .exit)) (now (numbers .exit)) (now (words .exit))) unpooled ⌝ }
+    ensures { λ r. ⌜ r .growth ≡ makeOf parameters (lent (now (separators .entry)) (now (numbers .entry)) (now (words .entry))) unpooled .growth ⌝ }
+{
+    let growth = Growth {
+        expansions: 0,
+        expanded: 0,
+    };
+    if !hashing::parameters_valid(parameters) {
+        return Grown {
+            answer: Placed::Refused(Refusal::BadParameters),
+            growth,
+        };
+    }
+    if !file_fits(parameters, separators.len(), numbers.len(), words.len()) {
+        return Grown {
+            answer: Placed::Refused(Refusal::BadLength),
+            growth,
+        };
+    }
+    fill(separators, top(parameters.bits));
+    planning::clear(numbers, words);
+    Grown {
+        answer: Placed::On(0),
+        growth,
+    }
+}
+
+fn fill(separators: &mut [u8], top: u8)
+    ensures { λ _. ⌜ now (separators .exit) ≡ replicate (length (now (separators .entry))) top ⌝ }
+{
+    let mut i = 0;
+    while i < separators.len() {
+        separators[i] = top;
+        i += 1;
+    }
+}
+
+// 2^k − 1, the greatest separator.
+fn top(bits: u32) -> u8
+    requires { ⌜ (1 ≤ bits) × (bits ≤ 8) ⌝ }
+    ensures { λ r. ⌜ r ≡ topOf bits ⌝ }
+{
+    ((1u32 << bits) - 1) as u8
+}

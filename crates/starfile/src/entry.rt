@@ -1,0 +1,122 @@
+// The entry of a star.
+ghost use mathlib.Core.Path.{_≡_};
+ghost use mathlib.Core.Bool.{true};
+ghost use Rattle.hashing.specs.Limits.{validParameters, validGrowth};
+ghost use Rattle.pages.specs.Position.{validNumber};
+ghost use Rattle.placement.specs.File.{Sized};
+ghost use Rattle.placement.specs.Hash.{lent};
+ghost use Rattle.starfile.specs.Answers.{Leaves, Stores, pooled, cleared, placed};
+ghost use Rattle.starfile.specs.Calls.{enterOf, enterOn, named, poolFits};
+ghost use Rattle.starfile.specs.Outcomes.{EntrySmall, entryPlaced};
+use crate::answers::Placed;
+use crate::answers::Refusal;
+use crate::lending::all_fit;
+use crate::lending::state_valid;
+use crate::naming::find;
+use entering::Entered;
+use hashing::Geometry;
+use hashing::Growth;
+use hashing::Parameters;
+use pages::position::Position;
+
+// The answer of an accepted entry is the page where the star now stands.
+pub fn enter(
+    parameters: Parameters,
+    growth: Growth,
+    separators: &mut [u8],
+    numbers: &mut [u32],
+    words: &mut [u64],
+    poolnumbers: &mut [u32],
+    poolwords: &mut [u64],
+    number: u32,
+    position: Position,
+) -> Placed
+    ensures { λ r. ⌜ Leaves (enterOf parameters growth (lent (now (separators .entry)) (now (numbers .entry)) (now (words .entry))) (pooled (now (poolnumbers .entry)) (now (poolwords .entry))) number position) (placed r) (lent (now (separators .exit)) (now (numbers .exit)) (now (words .exit))) (pooled (now (poolnumbers .exit)) (now (poolwords .exit))) ⌝ }
+{
+    if !state_valid(parameters, growth) {
+        return Placed::Refused(Refusal::BadParameters);
+    }
+    if !all_fit(
+        parameters,
+        separators.len(),
+        numbers.len(),
+        words.len(),
+        poolnumbers.len(),
+        poolwords.len(),
+    ) {
+        return Placed::Refused(Refusal::BadLength);
+    }
+    if !pages::position::number_valid(number) {
+        return Placed::Refused(Refusal::BadNumber);
+    }
+    if !pages::position::position_valid(position) {
+        return Placed::Refused(Refusal::BadPosition);
+    }
+    let word = pages::position::pack(position);
+    let answer = enter_star(
+        parameters,
+        growth,
+        separators,
+        numbers,
+        words,
+        poolnumbers,
+        poolwords,
+        number,
+        word,
+    );
+    planning::clear(poolnumbers, poolwords);
+    answer
+}
+
+// The named page first, then whether the star is held, then the reach.
+fn enter_star(
+    parameters: Parameters,
+    growth: Growth,
+    separators: &mut [u8],
+    numbers: &mut [u32],
+    words: &mut [u64],
+    poolnumbers: &mut [u32],
+    poolwords: &mut [u64],
+    number: u32,
+    word: u64,
+) -> Placed
+    requires { ⌜ validParameters parameters ≡ true ⌝ }
+    requires { ⌜ validGrowth parameters growth ≡ true ⌝ }
+    requires { ⌜ Sized (parameters .places) (parameters .pages) (lent (now separators) (now numbers) (now words)) ⌝ }
+    requires { ⌜ poolFits parameters (pooled (now poolnumbers) (now poolwords)) ≡ true ⌝ }
+    requires { ⌜ validNumber number ≡ true ⌝ }
+    ensures { λ r. ⌜ Stores (enterOn parameters growth (lent (now (separators .entry)) (now (numbers .entry)) (now (words .entry))) (cleared (pooled (now (poolnumbers .entry)) (now (poolwords .entry)))) (named parameters growth (lent (now (separators .entry)) (now (numbers .entry)) (now (words .entry))) number) (record { number = number; word = word })) (placed r) (lent (now (separators .exit)) (now (numbers .exit)) (now (words .exit))) ⌝ }
+{
+    let table = hashing::multipliers();
+    let geometry = Geometry { parameters, growth };
+    let named = find(&table, geometry, separators, numbers, words, number);
+    let page = named.page as u32;
+    if !named.readable {
+        return Placed::Refused(Refusal::Damaged(page));
+    }
+    if named.held {
+        return Placed::Refused(Refusal::Held);
+    }
+    entry_placed(entering::enter_stretch(
+        &table,
+        geometry,
+        separators,
+        numbers,
+        words,
+        poolnumbers,
+        poolwords,
+        number,
+        word,
+    ))
+}
+
+fn entry_placed(entered: Entered) -> Placed
+    requires { ⌜ EntrySmall entered ⌝ }
+    ensures { λ r. ⌜ r ≡ entryPlaced entered ⌝ }
+{
+    match entered {
+        Entered::On(page) => Placed::On(page as u32),
+        Entered::Unsound(page) => Placed::Refused(Refusal::Damaged(page as u32)),
+        Entered::Overflows => Placed::Refused(Refusal::Full),
+    }
+}

@@ -1,0 +1,117 @@
+// Growth by one page.
+ghost use mathlib.Core.Path.{_≡_};
+ghost use mathlib.Core.Bool.{true};
+ghost use Rattle.hashing.specs.Limits.{validParameters, validGrowth};
+ghost use Rattle.placement.specs.File.{Sized};
+ghost use Rattle.placement.specs.Hash.{lent};
+ghost use Rattle.starfile.specs.Answers.{Leaves, Stores, pooled, cleared, placed};
+ghost use Rattle.starfile.specs.Calls.{growOf, growOn, poolFits};
+ghost use Rattle.starfile.specs.Outcomes.{ReplacedSmall, replacedGrown, unmovedBy};
+use crate::answers::Grown;
+use crate::answers::Placed;
+use crate::answers::Refusal;
+use crate::lending::all_fit;
+use crate::lending::state_valid;
+use hashing::Geometry;
+use hashing::Growth;
+use hashing::Parameters;
+use replacing::Replaced;
+
+// The answer of an accepted growth is the new page, with the new growth state.
+pub fn grow(
+    parameters: Parameters,
+    growth: Growth,
+    separators: &mut [u8],
+    numbers: &mut [u32],
+    words: &mut [u64],
+    poolnumbers: &mut [u32],
+    poolwords: &mut [u64],
+) -> Grown
+    ensures { λ r. ⌜ Leaves (growOf parameters growth (lent (now (separators .entry)) (now (numbers .entry)) (now (words .entry))) (pooled (now (poolnumbers .entry)) (now (poolwords .entry)))) (placed (r .answer)) (lent (now (separators .exit)) (now (numbers .exit)) (now (words .exit))) (pooled (now (poolnumbers .exit)) (now (poolwords .exit))) ⌝ }
+    ensures { λ r. ⌜ r .growth ≡ growOf parameters growth (lent (now (separators .entry)) (now (numbers .entry)) (now (words .entry))) (pooled (now (poolnumbers .entry)) (now (poolwords .entry))) .growth ⌝ }
+{
+    if !state_valid(parameters, growth) {
+        return unmoved(growth, Refusal::BadParameters);
+    }
+    if !all_fit(
+        parameters,
+        separators.len(),
+        numbers.len(),
+        words.len(),
+        poolnumbers.len(),
+        poolwords.len(),
+    ) {
+        return unmoved(growth, Refusal::BadLength);
+    }
+    let answer = grow_file(
+        parameters,
+        growth,
+        separators,
+        numbers,
+        words,
+        poolnumbers,
+        poolwords,
+    );
+    planning::clear(poolnumbers, poolwords);
+    answer
+}
+
+// A file that has all its pages in use does not grow.
+fn grow_file(
+    parameters: Parameters,
+    growth: Growth,
+    separators: &mut [u8],
+    numbers: &mut [u32],
+    words: &mut [u64],
+    poolnumbers: &mut [u32],
+    poolwords: &mut [u64],
+) -> Grown
+    requires { ⌜ validParameters parameters ≡ true ⌝ }
+    requires { ⌜ validGrowth parameters growth ≡ true ⌝ }
+    requires { ⌜ Sized (parameters .places) (parameters .pages) (lent (now separators) (now numbers) (now words)) ⌝ }
+    requires { ⌜ poolFits parameters (pooled (now poolnumbers) (now poolwords)) ≡ true ⌝ }
+    ensures { λ r. ⌜ Stores (growOn parameters growth (lent (now (separators .entry)) (now (numbers .entry)) (now (words .entry))) (cleared (pooled (now (poolnumbers .entry)) (now (poolwords .entry))))) (placed (r .answer)) (lent (now (separators .exit)) (now (numbers .exit)) (now (words .exit))) ⌝ }
+    ensures { λ r. ⌜ r .growth ≡ growOn parameters growth (lent (now (separators .entry)) (now (numbers .entry)) (now (words .entry))) (cleared (pooled (now (poolnumbers .entry)) (now (poolwords .entry)))) .growth ⌝ }
+{
+    let geometry = Geometry { parameters, growth };
+    let page = geometry.highest_address() + 1;
+    if page == parameters.pages {
+        return unmoved(growth, Refusal::Full);
+    }
+    let table = hashing::multipliers();
+    let next = hashing::grown(geometry);
+    let replaced = replacing::regrow(
+        &table,
+        geometry,
+        separators,
+        numbers,
+        words,
+        poolnumbers,
+        poolwords,
+    );
+    grown_by(replaced, page, growth, next)
+}
+
+// The new state only if the stars were placed anew.
+fn grown_by(replaced: Replaced, page: u32, growth: Growth, next: Growth) -> Grown
+    requires { ⌜ ReplacedSmall replaced ⌝ }
+    ensures { λ r. ⌜ r ≡ replacedGrown replaced page growth next ⌝ }
+{
+    match replaced {
+        Replaced::Done => Grown {
+            answer: Placed::On(page),
+            growth: next,
+        },
+        Replaced::Unsound(bad) => unmoved(growth, Refusal::Damaged(bad as u32)),
+        Replaced::Overflows => unmoved(growth, Refusal::Full),
+    }
+}
+
+fn unmoved(growth: Growth, refusal: Refusal) -> Grown
+    ensures { λ r. ⌜ r ≡ unmovedBy growth refusal ⌝ }
+{
+    Grown {
+        answer: Placed::Refused(refusal),
+        growth,
+    }
+}

@@ -1,0 +1,77 @@
+// The page that the separators name for a number, and what it holds of it.
+ghost use mathlib.Core.Path.{_≡_};
+ghost use mathlib.Core.Bool.{true, false};
+ghost use Rattle.hashing.specs.Generator.{multipliers};
+ghost use Rattle.hashing.specs.Limits.{validParameters, validGrowth};
+ghost use Rattle.pages.specs.Position.{validNumber};
+ghost use Rattle.placement.specs.File.{Sized};
+ghost use Rattle.placement.specs.Hash.{lent};
+ghost use Rattle.starfile.specs.Named.{NamedAs};
+use hashing::Geometry;
+
+pub struct Named {
+    pub page: usize,
+    // the page is below M and sound
+    pub readable: bool,
+    pub held: bool,
+    // where the number stands, if it is held, and its word
+    pub item: usize,
+    pub word: u64,
+}
+
+// Reads the separators and one page, copied as a value before it is searched.
+pub fn find(
+    table: &[u32; 2049],
+    geometry: Geometry,
+    separators: &[u8],
+    numbers: &[u32],
+    words: &[u64],
+    number: u32,
+) -> Named
+    requires { ⌜ now table ≡ multipliers ⌝ }
+    requires { ⌜ validParameters (geometry .parameters) ≡ true ⌝ }
+    requires { ⌜ validGrowth (geometry .parameters) (geometry .growth) ≡ true ⌝ }
+    requires { ⌜ Sized (geometry .parameters .places) (geometry .parameters .pages) (lent (now separators) (now numbers) (now words)) ⌝ }
+    requires { ⌜ validNumber number ≡ true ⌝ }
+    ensures { λ r. ⌜ NamedAs (geometry .parameters) (geometry .growth) (lent (now (separators .entry)) (now (numbers .entry)) (now (words .entry))) number r ⌝ }
+{
+    let places = geometry.parameters.places as usize;
+    let page = placement::named_page(table, geometry, separators, number);
+    if page == geometry.parameters.pages as usize {
+        return unread(page);
+    }
+    let value = pages::page::load(numbers, words, places, page);
+    if !placement::page_sound(table, geometry, separators, value, page).sound {
+        return unread(page);
+    }
+    let place = pages::page::search(value, places, number);
+    let at = place.at;
+    if !place.held {
+        return Named {
+            page,
+            readable: true,
+            held: false,
+            item: 0,
+            word: 0,
+        };
+    }
+    Named {
+        page,
+        readable: true,
+        held: true,
+        item: page * places + at,
+        word: value.words[at],
+    }
+}
+
+fn unread(page: usize) -> Named
+    ensures { λ r. ⌜ r ≡ record { page = page; readable = false; held = false; item = 0; word = 0 } ⌝ }
+{
+    Named {
+        page,
+        readable: false,
+        held: false,
+        item: 0,
+        word: 0,
+    }
+}

@@ -1,0 +1,51 @@
+// The look-up.
+ghost use mathlib.Core.Path.{_≡_};
+ghost use Rattle.starfile.specs.Answers.{lent, unpooled, sought};
+ghost use Rattle.starfile.specs.Calls.{lookUpOf};
+use crate::answers::Found;
+use crate::answers::Refusal;
+use crate::lending::file_fits;
+use crate::lending::state_valid;
+use crate::naming::find;
+use hashing::Geometry;
+use hashing::Growth;
+use hashing::Parameters;
+
+// Reads the separators and the one page that they name.
+pub fn look_up(
+    parameters: Parameters,
+    growth: Growth,
+    separators: &[u8],
+    numbers: &[u32],
+    words: &[u64],
+    number: u32,
+) -> Found
+    ensures { λ r. ⌜ sought r ≡ lookUpOf parameters growth (lent (now (separators .entry)) (now (numbers .entry)) (now (words .entry))) unpooled number .answer ⌝ }
+{
+    if !state_valid(parameters, growth) {
+        return Found::Refused(Refusal::BadParameters);
+    }
+    if !file_fits(parameters, separators.len(), numbers.len(), words.len()) {
+        return Found::Refused(Refusal::BadLength);
+    }
+    if !pages::position::number_valid(number) {
+        return Found::Refused(Refusal::BadNumber);
+    }
+    let table = hashing::multipliers();
+    let named = find(
+        &table,
+        Geometry { parameters, growth },
+        separators,
+        numbers,
+        words,
+        number,
+    );
+    let page = named.page as u32;
+    if !named.readable {
+        return Found::Refused(Refusal::Damaged(page));
+    }
+    if !named.held {
+        return Found::Absent(page);
+    }
+    Found::At(page, pages::position::unpack(named.word))
+}

@@ -1,0 +1,118 @@
+// The removal of a star.
+ghost use mathlib.Core.Path.{_≡_};
+ghost use mathlib.Core.Bool.{true};
+ghost use Prim.Native.Nat.{_≤_};
+ghost use Rattle.hashing.specs.Limits.{validParameters, validGrowth};
+ghost use Rattle.pages.specs.Position.{validNumber};
+ghost use Rattle.placement.specs.File.{Sized};
+ghost use Rattle.placement.specs.Hash.{lent};
+ghost use Rattle.starfile.specs.Answers.{Leaves, Stores, pooled, cleared, placed};
+ghost use Rattle.starfile.specs.Calls.{removeOf, removeOn, named, poolFits};
+ghost use Rattle.starfile.specs.Outcomes.{ReplacedSmall, replacedPlaced};
+use crate::answers::Placed;
+use crate::answers::Refusal;
+use crate::lending::all_fit;
+use crate::lending::state_valid;
+use crate::naming::find;
+use hashing::Geometry;
+use hashing::Growth;
+use hashing::Parameters;
+use replacing::Replaced;
+
+// The answer of an accepted removal is the page where the star stood.
+pub fn remove(
+    parameters: Parameters,
+    growth: Growth,
+    separators: &mut [u8],
+    numbers: &mut [u32],
+    words: &mut [u64],
+    poolnumbers: &mut [u32],
+    poolwords: &mut [u64],
+    number: u32,
+) -> Placed
+    ensures { λ r. ⌜ Leaves (removeOf parameters growth (lent (now (separators .entry)) (now (numbers .entry)) (now (words .entry))) (pooled (now (poolnumbers .entry)) (now (poolwords .entry))) number) (placed r) (lent (now (separators .exit)) (now (numbers .exit)) (now (words .exit))) (pooled (now (poolnumbers .exit)) (now (poolwords .exit))) ⌝ }
+{
+    if !state_valid(parameters, growth) {
+        return Placed::Refused(Refusal::BadParameters);
+    }
+    if !all_fit(
+        parameters,
+        separators.len(),
+        numbers.len(),
+        words.len(),
+        poolnumbers.len(),
+        poolwords.len(),
+    ) {
+        return Placed::Refused(Refusal::BadLength);
+    }
+    if !pages::position::number_valid(number) {
+        return Placed::Refused(Refusal::BadNumber);
+    }
+    let answer = remove_held(
+        parameters,
+        growth,
+        separators,
+        numbers,
+        words,
+        poolnumbers,
+        poolwords,
+        number,
+    );
+    planning::clear(poolnumbers, poolwords);
+    answer
+}
+
+// The named page first, then whether the star is held, then the reach.
+fn remove_held(
+    parameters: Parameters,
+    growth: Growth,
+    separators: &mut [u8],
+    numbers: &mut [u32],
+    words: &mut [u64],
+    poolnumbers: &mut [u32],
+    poolwords: &mut [u64],
+    number: u32,
+) -> Placed
+    requires { ⌜ validParameters parameters ≡ true ⌝ }
+    requires { ⌜ validGrowth parameters growth ≡ true ⌝ }
+    requires { ⌜ Sized (parameters .places) (parameters .pages) (lent (now separators) (now numbers) (now words)) ⌝ }
+    requires { ⌜ poolFits parameters (pooled (now poolnumbers) (now poolwords)) ≡ true ⌝ }
+    requires { ⌜ validNumber number ≡ true ⌝ }
+    ensures { λ r. ⌜ Stores (removeOn parameters growth (lent (now (separators .entry)) (now (numbers .entry)) (now (words .entry))) (cleared (pooled (now (poolnumbers .entry)) (now (poolwords .entry)))) (named parameters growth (lent (now (separators .entry)) (now (numbers .entry)) (now (words .entry))) number) number) (placed r) (lent (now (separators .exit)) (now (numbers .exit)) (now (words .exit))) ⌝ }
+{
+    let table = hashing::multipliers();
+    let geometry = Geometry { parameters, growth };
+    let named = find(&table, geometry, separators, numbers, words, number);
+    let page = named.page as u32;
+    if !named.readable {
+        return Placed::Refused(Refusal::Damaged(page));
+    }
+    if !named.held {
+        return Placed::Refused(Refusal::NotHeld);
+    }
+    replaced_placed(
+        replacing::remove_star(
+            &table,
+            geometry,
+            separators,
+            numbers,
+            words,
+            poolnumbers,
+            poolwords,
+            number,
+        ),
+        page,
+    )
+}
+
+// What is answered if the stretch was placed anew: the page given.
+pub fn replaced_placed(replaced: Replaced, page: u32) -> Placed
+    requires { ⌜ ReplacedSmall replaced ⌝ }
+    ensures { λ r. ⌜ r ≡ replacedPlaced replaced page ⌝ }
+{
+    match replaced {
+        Replaced::Done => Placed::On(page),
+        Replaced::Unsound(bad) => Placed::Refused(Refusal::Damaged(bad as u32)),
+        Replaced::Overflows => Placed::Refused(Refusal::Full),
+    }
+}

@@ -1,0 +1,58 @@
+// The change of a position.
+ghost use mathlib.Core.Path.{_≡_};
+ghost use Rattle.starfile.specs.Answers.{Leaves, lent, unpooled, placed};
+ghost use Rattle.starfile.specs.Calls.{changeOf};
+use crate::answers::Placed;
+use crate::answers::Refusal;
+use crate::lending::file_fits;
+use crate::lending::state_valid;
+use crate::naming::find;
+use hashing::Geometry;
+use hashing::Growth;
+use hashing::Parameters;
+use pages::position::Position;
+
+// Writes one word.
+pub fn change(
+    parameters: Parameters,
+    growth: Growth,
+    separators: &[u8],
+    numbers: &[u32],
+    words: &mut [u64],
+    number: u32,
+    position: Position,
+) -> Placed
+    ensures { λ r. ⌜ Leaves (changeOf parameters growth (lent (now (separators .entry)) (now (numbers .entry)) (now (words .entry))) unpooled number position) (placed r) (lent (now (separators .entry)) (now (numbers .entry)) (now (words .exit))) unpooled ⌝ }
+{
+    if !state_valid(parameters, growth) {
+        return Placed::Refused(Refusal::BadParameters);
+    }
+    if !file_fits(parameters, separators.len(), numbers.len(), words.len()) {
+        return Placed::Refused(Refusal::BadLength);
+    }
+    if !pages::position::number_valid(number) {
+        return Placed::Refused(Refusal::BadNumber);
+    }
+    if !pages::position::position_valid(position) {
+        return Placed::Refused(Refusal::BadPosition);
+    }
+    let table = hashing::multipliers();
+    let named = find(
+        &table,
+        Geometry { parameters, growth },
+        separators,
+        numbers,
+        words,
+        number,
+    );
+    let page = named.page as u32;
+    if !named.readable {
+        return Placed::Refused(Refusal::Damaged(page));
+    }
+    if !named.held {
+        return Placed::Refused(Refusal::NotHeld);
+    }
+    let item = named.item;
+    words[item] = pages::position::pack(position);
+    Placed::On(page)
+}
