@@ -1,0 +1,10 @@
+-- The growth state that a caller keeps after growth.
+use Rattle.hashing.specs.declared.Growth.{Growth}
+use Rattle.starfile.specs.declared.answers.Grown.{Grown}
+use Rattle.starfile.specs.declared.answers.Placed.{Placed}
+use Rattle.starfile.specs.declared.answers.Placed.the-variants.{On, Refused}
+
+-- "File buffers and (e, x) keep their contents" after a refusal
+abbrev pub keptBy : Placed → Growth → Growth → Growth
+keptBy (On page) old new = new
+keptBy (Refused r) old new = old

@@ -1,0 +1,48 @@
+// Growth for a caller who lends the growth record.
+ghost use mathlib.Core.Path.{_≡_};
+ghost use Rattle.placement.specs.Hash.{lent};
+ghost use Rattle.starfile.specs.Answers.{Leaves, pooled, placed};
+ghost use Rattle.starfile.specs.Calls.{growOf};
+ghost use Rattle.growth_record.specs.Record.{keptBy};
+use hashing::Growth;
+use hashing::Parameters;
+use starfile::answers::Grown;
+use starfile::answers::Placed;
+
+// "The pair (e, x) is one record that growth updates for its caller": stored if growth was accepted.
+pub fn grow(
+    parameters: Parameters,
+    growth: &mut Growth,
+    separators: &mut [u8],
+    numbers: &mut [u32],
+    words: &mut [u64],
+    poolnumbers: &mut [u32],
+    poolwords: &mut [u64],
+) -> Placed
+    ensures { λ r. ⌜ Leaves (growOf parameters (now (growth .entry)) (lent (now (separators .entry)) (now (numbers .entry)) (now (words .entry))) (pooled (now (poolnumbers .entry)) (now (poolwords .entry)))) (placed r) (lent (now (separators .exit)) (now (numbers .exit)) (now (words .exit))) (pooled (now (poolnumbers .exit)) (now (poolwords .exit))) ⌝ }
+    ensures { λ _. ⌜ now (growth .exit) ≡ growOf parameters (now (growth .entry)) (lent (now (separators .entry)) (now (numbers .entry)) (now (words .entry))) (pooled (now (poolnumbers .entry)) (now (poolwords .entry))) .growth ⌝ }
+{
+    let old = *growth;
+    let grown = starfile::grow(
+        parameters,
+        old,
+        separators,
+        numbers,
+        words,
+        poolnumbers,
+        poolwords,
+    );
+    *growth = kept(old, grown);
+    grown.answer
+}
+
+// The growth state after growth: the new one if it was accepted, the old one if it was refused.
+fn kept(old: Growth, grown: Grown) -> Growth
+    ensures { λ r. ⌜ r ≡ keptBy (grown .answer) old (grown .growth) ⌝ }
+{
+    let answer = grown.answer;
+    match answer {
+        Placed::On(_) => grown.growth,
+        Placed::Refused(_) => old,
+    }
+}
