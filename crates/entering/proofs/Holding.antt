@@ -1,10 +1,10 @@
 -- The page that holds the new star is the page that the new separators name; and what the reach's answer says of the entry's.
 use mathlib.Core.Path.{_≡_, refl, sym, ap, _∙_}
-use mathlib.Core.Bool.{Bool, true, false, cond, _||_, true≢false, false≢true}
+use mathlib.Core.Bool.{Bool, true, false, cond, _||_, false≢true}
 use mathlib.Core.List.{List, [], _∷_, _++_, map, List·Memᴰ, List·Memᴰ·head, List·Memᴰ·tail, List·Memᴰ·cases-cons, List·Memᴰ·not-nil}
-use mathlib.Core.Logic.{_⊎_, inl, inr, ⊎-elim}
+use mathlib.Core.Logic.{⊎-elim}
 use Prim.Native.Nat.{ℕ, zero, suc, _+_, _-_, _*_, _≤_, _<_}
-use native.Mathlib.Nat.{add-zero, zero-add, add-suc, suc-add}
+use native.Mathlib.Nat.{add-zero, zero-add}
 use native.Mathlib.Omega.{arith}
 use lib.Dec.{eqb, ltb}
 use lib.ListN.{length, take, drop, getD, length-append}
@@ -13,20 +13,18 @@ use borrow.Author.Tests.{eqb-true, eq-eqb}
 use Rattle.hashing.specs.declared.Parameters.{Parameters}
 use Rattle.hashing.specs.declared.Growth.{Growth}
 use Rattle.hashing.specs.Generator.{multiplier}
-use Rattle.placement.specs.Rule.{Star, Hash, Contents, separators, pages, left, first, insert, blank}
+use Rattle.placement.specs.Rule.{Star, Hash, Contents, separators, pages, left, first, blank}
 use Rattle.placement.specs.File.{File, gathered, written, replaced}
-use Rattle.placement.specs.Hash.{hashOf, namedPage, lent}
+use Rattle.placement.specs.Hash.{namedPage, lent}
 use Rattle.placement.proofs.Composition.{length-pages}
 use Rattle.placement.proofs.Order.{inserted}
-use Rattle.placement.proofs.Standing.{length-separators, firstIn, looked-up, one-place, first-home-on, first-append}
+use Rattle.placement.proofs.Standing.{length-separators, looked-up, one-place, first-home-on, first-append}
 use Rattle.waiting.specs.Gather.{stretch}
 use Rattle.planning.specs.Sources.{named}
 use Rattle.planning.proofs.Applying.{applied}
-use Rattle.reach.specs.Reach.{isEmpty, pagesTo, entering, entersWithin, entryEnd, hasNumber, holding}
+use Rattle.reach.specs.Reach.{pagesTo, entering, entersWithin, entryEnd, hasNumber, holding}
 use Rattle.reach.proofs.Search.{such}
-use Rattle.entering.specs.declared.blocks.Reach.{Reach}
 use Rattle.entering.specs.declared.blocks.Reach.the-variants.{Ends, Unsound, Overflows}
-use Rattle.entering.specs.declared.stretch.Entered.{Entered}
 use Rattle.entering.specs.declared.stretch.Entered.the-variants.{On, Unsound as entered·Unsound, Overflows as entered·Overflows}
 use Rattle.entering.specs.Entry.{hash, newStar, startOf, endOf, countOf, unsoundOf, contentsOf, reachAnswer, entryAnswer, entryFile, Applies}
 use Rattle.entering.proofs.Reached.{ending, empty-is, unsound-ends, overflows-ends}

@@ -1,31 +1,30 @@
 -- The items of a stretch of sound pages, and the words of its stars.
 use mathlib.Core.Path.{_≡_, refl, sym, ap, _∙_}
 use mathlib.Core.Bool.{Bool, true, false, not, cond, _||_, true≢false}
-use mathlib.Core.List.{List, [], _∷_, _++_, map}
-use Prim.Native.Nat.{ℕ, zero, suc, _+_, _-_, _*_, _/_, _%_, _^_, _≤_, _<_}
-use native.Mathlib.Nat.{add-zero, add-suc, suc-add, add-mul, add-assoc, zero-add, mod-lt, div-add-mod', div-lt-iff-lt-mul, mul-le-mul, mul-le-mul-right}
+use mathlib.Core.List.{List, [], _∷_}
+use Prim.Native.Nat.{ℕ, suc, _+_, _-_, _*_, _/_, _%_, _^_, _≤_, _<_}
+use native.Mathlib.Nat.{add-zero, add-suc, suc-add, add-mul, zero-add, mod-lt, div-add-mod', div-lt-iff-lt-mul, mul-le-mul, mul-le-mul-right}
 use native.Mathlib.Omega.{arith}
 use lib.Dec.{leb, ltb, eqb}
-use lib.ListN.{length, take, drop, getD, length-map, List·getD-map}
-use lib.Seq.{getD-take, getD-drop, take-add, drop-drop}
+use lib.ListN.{length, drop, getD, length-map, List·getD-map}
+use lib.Seq.{getD-take, getD-drop}
 use borrow.Author.Tests.{le-leb, lt-ltb, ne-eqb, eqb-false}
 use Rattle.hashing.specs.declared.Parameters.{Parameters}
 use Rattle.hashing.specs.declared.Growth.{Growth}
 use Rattle.hashing.specs.Generator.{multiplier}
 use Rattle.hashing.specs.Home.{home}
 use Rattle.hashing.specs.Limits.{validParameters}
-use Rattle.hashing.proofs.Bounds.{Limits, limits}
+use Rattle.hashing.proofs.Bounds.{limits}
 use Rattle.pages.specs.Position.{validWord}
 use Rattle.pages.specs.Page.{part, heldAt}
 use Rattle.pages.proofs.Parts.{part-item, part-length, page-fits}
 use Rattle.pages.proofs.Places.{held-at}
-use Rattle.placement.specs.Rule.{Hash}
-use Rattle.placement.specs.File.{File, Sized, greatest}
+use Rattle.placement.specs.File.{File, Sized}
 use Rattle.placement.specs.Hash.{hashOf, soundAt, namedPage, homesOf, homeIn}
 use Rattle.placement.proofs.Standing.{past-top}
 use Rattle.placement.proofs.Search.{orderly-numbers}
 use Rattle.placement.proofs.Probing.{bounded-real}
-use Rattle.placement.proofs.Tested.{ItemOn, StarOn, item-on, real-facts}
+use Rattle.placement.proofs.Tested.{ItemOn, item-on, real-facts}
 use Rattle.waiting.specs.Lists.{all, allBelow}
 use Rattle.waiting.specs.Words.{pack, homeOf, numberOf}
 use Rattle.waiting.specs.Gather.{stretch, skipped, wordsFrom, groupOf, groupsBelow}
@@ -34,7 +33,7 @@ use Rattle.waiting.proofs.Packing.{home-pack, number-pack}
 use Rattle.planning.specs.Plans.{homed}
 use Rattle.planning.specs.Sources.{sourced}
 use Rattle.planning.proofs.Blocks.{from}
-use Rattle.planning.proofs.Sourcing.{fresh, length-stretch, named-stretch, words-homed, words-grouped, words-sourced}
+use Rattle.planning.proofs.Sourcing.{fresh, length-stretch, named-stretch, words-homed, words-sourced}
 use Rattle.entering.specs.Entry.{Unheld, hash, blockNumbers, blockWords}
 
 -- a test that every item passes, every word of the items

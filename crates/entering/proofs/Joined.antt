@@ -1,23 +1,22 @@
 -- The plan of the pages from home on, joined block by block, against the rule over their stars and the new one.
 use mathlib.Core.Path.{_≡_, refl, sym, ap, _∙_}
-use mathlib.Core.Bool.{Bool, true, false, not, cond}
+use mathlib.Core.Bool.{Bool, true, not}
 use mathlib.Core.List.{List, [], _∷_, _++_, map, map-append}
-use Prim.Native.Nat.{ℕ, zero, suc, _+_, _-_, _*_, _/_, _%_, _^_, _≤_, _<_}
-use native.Mathlib.Nat.{add-zero, zero-add, add-suc, suc-add, add-mul, mul-le-mul, mul-le-mul-right, zero-mul, suc-mul}
-use native.Mathlib.Decide.{decLt}
+use Prim.Native.Nat.{ℕ, zero, suc, _+_, _*_, _^_, _≤_, _<_}
+use native.Mathlib.Nat.{add-zero, zero-add, add-mul, mul-le-mul, mul-le-mul-right}
 use native.Mathlib.Omega.{arith}
-use lib.Dec.{leb, ltb, eqb}
+use lib.Dec.{leb, eqb}
 use lib.ListN.{length, take, drop, getD, length-map, length-append}
-use borrow.Author.Tests.{le-leb, lt-ltb, ne-eqb, eqb-false, eq-eqb, leb-true}
+use borrow.Author.Tests.{le-leb, ne-eqb, eq-eqb, leb-true}
 use Rattle.hashing.specs.declared.Parameters.{Parameters}
 use Rattle.hashing.specs.declared.Growth.{Growth}
 use Rattle.hashing.specs.Generator.{multiplier}
 use Rattle.hashing.specs.Home.{home}
 use Rattle.hashing.specs.Limits.{validParameters}
-use Rattle.hashing.proofs.Bounds.{Limits, limits, both}
+use Rattle.hashing.proofs.Bounds.{limits, both}
 use Rattle.pages.specs.Position.{validNumber, validWord}
 use Rattle.placement.specs.Rule.{Star, Hash, Contents, separators, pages, left, insert, without}
-use Rattle.placement.specs.File.{File, Sized, gathered, greatest}
+use Rattle.placement.specs.File.{File, Sized, gathered}
 use Rattle.placement.specs.Hash.{hashOf, soundAt, homesOf, homeIn}
 use Rattle.placement.proofs.Filters.{filter-all-on, length-filter}
 use Rattle.placement.proofs.Standing.{standsAt, left-first}
@@ -25,20 +24,19 @@ use Rattle.placement.proofs.Mapping.{mapped, pages-map, left-map}
 use Rattle.placement.proofs.Sound.{AllSound, gathered-proper}
 use Rattle.placement.proofs.Tested.{real-facts}
 use Rattle.reach.proofs.Pastes.{map-take, map-drop}
-use Rattle.waiting.specs.Lists.{all, allBelow}
+use Rattle.waiting.specs.Lists.{all}
 use Rattle.waiting.specs.Words.{pack, homeOf, numberOf, sourceOf}
-use Rattle.waiting.specs.Gather.{stretch, wordsFrom, starsIn, grouped}
+use Rattle.waiting.specs.Gather.{wordsFrom, starsIn}
 use Rattle.waiting.specs.Settle.{homesUpTo}
-use Rattle.waiting.proofs.Lists.{all-cons, all-append}
 use Rattle.waiting.proofs.Items.{words-count, words-length}
 use Rattle.waiting.proofs.Packing.{home-pack, number-pack, source-pack}
 use Rattle.planning.specs.Plans.{homed, plans, remains, waits}
 use Rattle.planning.specs.Sources.{named, renamed, sourced}
 use Rattle.planning.proofs.Pouring.{waits-grouped, length-waits}
 use Rattle.planning.proofs.Ties.{Probes, plans-are}
-use Rattle.planning.proofs.Blocks.{from, plans-blocks}
-use Rattle.planning.proofs.Applying.{Sourced, renamed-keeps, plans-sourced, sourced-append}
-use Rattle.planning.proofs.Sourcing.{fresh, words-append, true-stars, new-star, named-last, length-stretch}
+use Rattle.planning.proofs.Blocks.{plans-blocks}
+use Rattle.planning.proofs.Applying.{Sourced, renamed-keeps, plans-sourced}
+use Rattle.planning.proofs.Sourcing.{words-append, true-stars, new-star, named-last}
 use Rattle.planning.proofs.Placed.{stretch-add}
 use Rattle.entering.specs.Entry.{Unheld, hash, newStar, startOf, blockNumbers, blockWords}
 use Rattle.entering.proofs.Items.{numbers-count, numbers-below, block-homed, block-sourced, block-grouped, block-above, block-fresh}

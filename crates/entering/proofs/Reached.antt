@@ -2,21 +2,21 @@
 use mathlib.Core.Path.{_≡_, refl, sym, ap, _∙_, subst}
 use mathlib.Core.Bool.{Bool, true, false, not, cond, _&&_, true≢false, false≢true}
 use mathlib.Core.List.{List, [], _∷_, _++_, map}
-use Prim.Native.Nat.{ℕ, zero, suc, _+_, _-_, _*_, _≤_, _<_}
-use native.Mathlib.Nat.{add-zero, zero-add, add-suc, suc-add, add-mul, mul-le-mul, mul-le-mul-right, zero-mul, suc-mul}
+use Prim.Native.Nat.{ℕ, suc, _+_, _-_, _*_, _≤_, _<_}
+use native.Mathlib.Nat.{add-zero, zero-add, add-mul, mul-le-mul, mul-le-mul-right, zero-mul, suc-mul}
 use native.Mathlib.Decide.{decLt}
 use native.Mathlib.Omega.{arith}
-use lib.Dec.{leb, ltb, eqb}
+use lib.Dec.{eqb}
 use lib.Seq.{take-suc-set}
 use lib.ListN.{length, take, drop, getD, set, length-map, length-take}
-use borrow.Author.Tests.{le-ltb, lt-ltb, eqb-true, eqb-false, eq-eqb, ne-eqb}
+use borrow.Author.Tests.{le-ltb, lt-ltb, eqb-true, eq-eqb, ne-eqb}
 use Rattle.hashing.specs.declared.Parameters.{Parameters}
 use Rattle.hashing.specs.declared.Growth.{Growth}
 use Rattle.hashing.specs.Generator.{multiplier}
 use Rattle.hashing.specs.Limits.{validParameters, validGrowth}
 use Rattle.hashing.proofs.Bounds.{limits}
 use Rattle.pages.specs.Position.{validNumber}
-use Rattle.placement.specs.Rule.{Star, Hash, Contents, separators, pages, left, insert}
+use Rattle.placement.specs.Rule.{Star, Contents, separators, pages, left, insert}
 use Rattle.placement.specs.File.{File, Sized, gathered, column, replaced, written}
 use Rattle.placement.specs.Hash.{hashOf, soundAt}
 use Rattle.placement.proofs.Mapping.{mapped}
@@ -31,9 +31,8 @@ use Rattle.planning.specs.Sources.{renamed}
 use Rattle.planning.proofs.Pouring.{length-waits}
 use Rattle.planning.proofs.Stretch.{plans-roomy, length-plans, remains-near}
 use Rattle.planning.proofs.Applying.{applied, applied-is}
-use Rattle.reach.specs.Reach.{firstSuch, isEmpty, pagesTo, storedTop, removalEnd, entering, entersWithin, entryEnd, firstUnsound}
+use Rattle.reach.specs.Reach.{isEmpty, pagesTo, storedTop, removalEnd, entering, entersWithin, entryEnd, firstUnsound}
 use Rattle.reach.proofs.Search.{Such, such}
-use Rattle.entering.specs.declared.blocks.Reach.{Reach}
 use Rattle.entering.specs.declared.blocks.Reach.the-variants.{Ends, Unsound, Overflows}
 use Rattle.entering.specs.Entry.{Unheld, hash, newStar, startOf, endOf, countOf, unsoundOf, contentsOf, byReach, reachAnswer, entryFile, Applies, blockEnd, blockCount, blockNumbers, blockWords, BlockSound, PlannedBlock, UnsoundBlock, CrowdedBlock}
 use Rattle.entering.proofs.Firsts.{such-is}

@@ -1,32 +1,32 @@
 -- One block: its end, its survey, and its plan over the surveyed homes.
-use mathlib.Core.Path.{_≡_, refl, sym, ap, _∙_, subst}
-use mathlib.Core.Bool.{Bool, true, false, not}
-use mathlib.Core.List.{List, [], _∷_, _++_, map}
-use Prim.Native.Nat.{ℕ, zero, suc, _+_, _-_, _*_, _%_, _^_, _≤_, _<_}
-use native.Mathlib.Nat.{add-mul, mul-le-mul, mul-le-mul-right}
+use mathlib.Core.Path.{_≡_, sym, ap, _∙_, subst}
+use mathlib.Core.Bool.{true, not}
+use mathlib.Core.List.{List}
+use Prim.Native.Nat.{ℕ, _+_, _-_, _*_, _%_, _^_, _≤_, _<_}
+use native.Mathlib.Nat.{add-mul, mul-le-mul-right}
 use native.Mathlib.Omega.{arith}
-use lib.ListN.{length, take, drop, length-map, length-drop, length-append}
-use lib.Seq.{paste, slice, take-at, drop-at, take-add, drop-drop, take-append-le, drop-append-le, length-take-le}
+use lib.ListN.{length, drop, length-map, length-drop}
+use lib.Seq.{paste, slice}
 use Rattle.hashing.specs.declared.Parameters.{Parameters}
 use Rattle.hashing.specs.declared.Growth.{Growth}
-use Rattle.hashing.specs.Generator.{multiplier, topOf}
+use Rattle.hashing.specs.Generator.{multiplier}
 use Rattle.hashing.specs.Limits.{validParameters}
 use Rattle.hashing.proofs.Bounds.{limits}
 use Rattle.hashing.proofs.Laws.{top-shifted}
-use Rattle.placement.specs.Rule.{Star, Contents, separators}
+use Rattle.placement.specs.Rule.{Star, separators}
 use Rattle.placement.specs.File.{File, Sized, column, written}
 use Rattle.placement.specs.Hash.{hashOf, soundAt, homesOf, homeIn}
 use Rattle.placement.proofs.Writing.{length-column}
-use Rattle.waiting.specs.Lists.{all, allBelow}
+use Rattle.waiting.specs.Lists.{allBelow}
 use Rattle.waiting.specs.Gather.{stretch, starsIn, wordsFrom}
 use Rattle.waiting.proofs.Gathered.{stretch-slice}
-use Rattle.planning.specs.Plans.{plans, remains, Planned}
+use Rattle.planning.specs.Plans.{plans, Planned}
 use Rattle.planning.proofs.Stretch.{plans-roomy, length-plans}
-use Rattle.reach.specs.Reach.{firstSuch, pagesTo, storedTop, removalEnd, firstUnsound}
+use Rattle.reach.specs.Reach.{firstSuch, storedTop, removalEnd, firstUnsound}
 use Rattle.reach.proofs.Search.{such}
 use Rattle.reach.proofs.Pastes.{map-take}
-use Rattle.entering.specs.Entry.{hash, blockEnd, blockCount, blockNumbers, blockWords, BlockSound, PlannedBlock, UnsoundBlock, CrowdedBlock}
-use Rattle.entering.proofs.Items.{numbers-below, homes-below, numbers-count}
+use Rattle.entering.specs.Entry.{blockEnd, blockCount, blockWords, BlockSound, PlannedBlock, UnsoundBlock, CrowdedBlock}
+use Rattle.entering.proofs.Items.{numbers-below, homes-below}
 use Rattle.entering.proofs.Written.{written-paste, pasted-part}
 use Rattle.entering.proofs.Reached.{block-such, block-most, block-sound, block-sum}
 

@@ -26,7 +26,7 @@ pub enum Block {
     Crowded,
 }
 
-// The block from page lo on, with the `carried` words at the front of `waiting`.
+// The block from page lo on, with the `incoming` words at the front of `waiting`.
 fn plan_block(
     table: &[u32; 2049],
     geometry: Geometry,
@@ -37,7 +37,7 @@ fn plan_block(
     waiting: &mut [u64],
     planned: &mut [u8],
     lo: usize,
-    carried: usize,
+    incoming: usize,
 ) -> Block
     requires { ⌜ now table ≡ multipliers ⌝ }
     requires { ⌜ validParameters (geometry .parameters) ≡ true ⌝ }
@@ -45,8 +45,8 @@ fn plan_block(
     requires { ⌜ Sized (geometry .parameters .places) (geometry .parameters .pages) (lent (now separators) (now numbers) (now words)) ⌝ }
     requires { ⌜ (length (now pool) ≡ geometry .parameters .pages * geometry .parameters .places) × (length (now waiting) ≡ geometry .parameters .pages * geometry .parameters .places) ⌝ }
     requires { ⌜ (geometry .parameters .pages ≤ length (now planned)) × (lo < geometry .parameters .pages) ⌝ }
-    requires { ⌜ (carried ≤ length (now waiting)) × (homesUpTo lo (take carried (now waiting)) ≡ true) ⌝ }
-    ensures { λ r. ⌜ BlockPlanned (geometry .parameters) (geometry .growth) (lent (now (separators .entry)) (now (numbers .entry)) (now (words .entry))) lo (take carried (now (waiting .entry))) (now (pool .entry)) (now (pool .exit)) (now (planned .entry)) (now (planned .exit)) (now (waiting .exit)) r ⌝ }
+    requires { ⌜ (incoming ≤ length (now waiting)) × (homesUpTo lo (take incoming (now waiting)) ≡ true) ⌝ }
+    ensures { λ r. ⌜ BlockPlanned (geometry .parameters) (geometry .growth) (lent (now (separators .entry)) (now (numbers .entry)) (now (words .entry))) lo (take incoming (now (waiting .entry))) (now (pool .entry)) (now (pool .exit)) (now (planned .entry)) (now (planned .exit)) (now (waiting .exit)) r ⌝ }
 {
     let places = geometry.parameters.places as usize;
     let bits = geometry.parameters.bits;
@@ -56,7 +56,7 @@ fn plan_block(
     if unsound < stop {
         return Block::Unsound(unsound);
     }
-    if waiting.len() - carried < waiting::count_stars(numbers, lo * places, stop * places, 0) {
+    if waiting.len() - incoming < waiting::count_stars(numbers, lo * places, stop * places, 0) {
         return Block::Crowded;
     }
     let left = planning::plan(
@@ -70,7 +70,7 @@ fn plan_block(
         lo,
         stop - lo,
         0,
-        carried,
+        incoming,
     );
     Block::Planned(last, left)
 }

@@ -1,15 +1,11 @@
-use mathlib.Core.Path.{_≡_, refl, sym, ap, _∙_}
-use mathlib.Core.Bool.{true}
-use mathlib.Core.List.{List}
-use Prim.Native.Nat.{ℕ, _+_, _-_, _*_, _≤_, _<_}
-use native.Mathlib.Nat.{mul-le-mul, mul-le-mul-right, add-mul}
+use mathlib.Core.Path.{_≡_}
+use Prim.Native.Nat.{_+_, _-_, _*_, _≤_, _<_}
+use native.Mathlib.Nat.{mul-le-mul, mul-le-mul-right}
 use native.Mathlib.Omega.{arith}
-use lib.ListN.{length, take, drop}
+use lib.ListN.{take, drop}
 use lib.Seq.{paste, length-take-le}
 use denote.Ref.{now}
 use borrow.Author.Needs.{needs}
-use Rattle.hashing.specs.declared.Parameters.{Parameters}
-use Rattle.hashing.specs.declared.Growth.{Growth}
 use Rattle.hashing.specs.Generator.{multiplier}
 use Rattle.hashing.proofs.Bounds.{Limits, limits}
 use Rattle.hashing.proofs.Laws.{top-shifted, top-least}
@@ -19,14 +15,7 @@ use Rattle.entering.specs.Entry.{blockEnd, BlockSound}
 use Rattle.entering.proofs.Surveyed.{end-found, last-low, last-high, block-unsound, bad-none, block-clear, found-numbers, found-below, found-count, block-planned, block-crowded}
 use Rattle.entering.proofs.blocks.plan_block.Statement.{statement}
 use Rattle.entering.proofs.blocks.plan_block.Tie as tie
-use Rattle.entering.proofs.blocks.plan_block.Reads as reads
-use Rattle.entering.proofs.blocks.plan_block.Lts as lts
-use Rattle.planning.proofs.plan.Reads as plan-reads
-use Rattle.reach.proofs.stretch_end.Reads as stretch-end-reads
-use Rattle.reach.proofs.survey_pages.Reads as survey-pages-reads
-use Rattle.waiting.proofs.count_stars.Reads as count-stars-reads
 
--- src/blocks.rt:40:18
 cast-places : tie.Need-cast-places
 cast-places c = search needs
 
@@ -40,17 +29,14 @@ file s = lent (now (s .args .separators)) (now (s .args .numbers)) (now (s .args
 shl-stretch-end : tie.Need-shl-stretch-end
 shl-stretch-end c = omega (arith, bounds (c .before .before .before .before .before .before .before) .bits-most)
 
--- src/blocks.rt:42:47
 sub-stretch-end : tie.Need-sub-stretch-end
 sub-stretch-end c =
     let s = c .before .before .before .before .before .before .before in
     omega (arith, top-shifted (s .args .geometry .parameters .bits) (bounds s .bits-most), top-least (s .args .geometry .parameters .bits) (bounds s .bits-least))
 
--- src/blocks.rt:42:9
 stretch-end-requires : tie.Need-stretch-end-requires
 stretch-end-requires c κs = search needs
 
--- src/blocks.rt:43:16
 -- from the end of the block on
 abbrev entry : tie.After-stretch-end → tie.Start
 entry c = c .before .before .before .before .before .before .before .before
@@ -90,18 +76,15 @@ add-stop : tie.Need-add-stop
 add-stop c =
     omega (arith, high c, bounds (entry c) .pages-most)
 
--- src/blocks.rt:44:9
 survey-pages-requires : tie.Need-survey-pages-requires
 survey-pages-requires c κs =
     let e = c .before in
     let s = entry e in
     (s .pre .0, (s .pre .1 .0, (s .pre .1 .1 .0, (s .pre .1 .1 .1 .0, (s .pre .1 .1 .1 .1 .0 .0, (omega (arith, low e), omega (arith, high e)))))))
 
--- src/blocks.rt:46:9
 same-length : tie.Need-same-length
 same-length c = search needs
 
--- src/blocks.rt:46:9
 returns : tie.Need-returns
 returns c =
     let e = c .before .before .before .before .before in
@@ -109,33 +92,27 @@ returns c =
     block-unsound (s .args .geometry .parameters) (s .args .geometry .growth) (file s) (s .pre .1 .0) (s .pre .1 .1 .1 .0) (s .args .lo) (s .pre .1 .1 .1 .1 .1 .0 .1)
     (e .stretch-end .result) (block-end e) (c .before .before .before .survey-pages .result) (c .before .before .before .survey-pages .ensures .0) (c .if1 .taken)
 
--- src/blocks.rt:48:8
 sub-if2 : tie.Need-sub-if2
 sub-if2 c =
     omega (arith, from c .pre .1 .1 .1 .1 .1 .1 .0)
 
--- src/blocks.rt:48:64
 mul-count-stars : tie.Need-mul-count-stars
 mul-count-stars c =
     record { fits = omega (arith, few (from c), items (ended c), mul-le-mul-right {m = from c .args .lo} {n = ended c .stretch-end .result + 1} (from c .args .geometry .parameters .places) (omega (arith, low (ended c)))) }
 
--- src/blocks.rt:48:77
 mul-count-stars-2 : tie.Need-mul-count-stars-2
 mul-count-stars-2 c =
     record { fits = omega (arith, few (from c), items (ended c)) }
 
--- src/blocks.rt:48:34
 count-stars-requires : tie.Need-count-stars-requires
 count-stars-requires c κs = (
   mul-le-mul-right (from c .args .geometry .parameters .places) (omega (arith, low (ended c))),
   omega (arith, items (ended c), from c .pre .1 .1 .1 .0 .ofNumbers),
 )
 
--- src/blocks.rt:49:9
 same-length-2 : tie.Need-same-length-2
 same-length-2 c = search needs
 
--- src/blocks.rt:49:9
 clear : (c : tie.Else1) → BlockSound (from c .args .geometry .parameters) (from c .args .geometry .growth) (file (from c)) (from c .args .lo)
 clear c =
     let s = from c in
@@ -158,8 +135,8 @@ returns-2 c =
     let d = c .before .before in
     let s = from d in
     block-crowded (s .args .geometry .parameters) (s .args .geometry .growth) (file s) (s .pre .1 .0) (s .pre .1 .1 .1 .0) (s .args .lo) (s .pre .1 .1 .1 .1 .1 .0 .1)
-    (ended d .stretch-end .result) (block-end (ended d)) (clear d) (take (s .args .carried) (now (s .args .waiting))) (s .args .carried)
-    (length-take-le (s .args .carried) (now (s .args .waiting)) (s .pre .1 .1 .1 .1 .1 .1 .0))
+    (ended d .stretch-end .result) (block-end (ended d)) (clear d) (take (s .args .incoming) (now (s .args .waiting))) (s .args .incoming)
+    (length-take-le (s .args .incoming) (now (s .args .waiting)) (s .pre .1 .1 .1 .1 .1 .1 .0))
     (omega (
       arith,
       c .if2 .taken,
@@ -169,12 +146,10 @@ returns-2 c =
       found-count (s .args .geometry .parameters) (s .args .geometry .growth) (file s) (s .pre .1 .0) (s .pre .1 .1 .1 .0) (s .args .lo) (s .pre .1 .1 .1 .1 .1 .0 .1) (ended d .stretch-end .result) (block-end (ended d)) (clear d),
     ))
 
--- src/blocks.rt:51:89
 sub-plan : tie.Need-sub-plan
 sub-plan c =
     omega (arith, low (c .before .before .before .before .before .before .before .before .before .before))
 
--- src/blocks.rt:51:9
 plan-requires : tie.Need-plan-requires
 plan-requires c κs =
     let d = c .before .before .before .before .before in
@@ -208,19 +183,15 @@ plan-requires c κs =
       ),
     )
 
--- src/blocks.rt:30:1
 same-length-3 : tie.Need-same-length-3
 same-length-3 c = search needs
 
--- src/blocks.rt:30:1
 same-length-4 : tie.Need-same-length-4
 same-length-4 c = search needs
 
--- src/blocks.rt:30:1
 same-length-5 : tie.Need-same-length-5
 same-length-5 c = search needs
 
--- src/blocks.rt:30:1
 returns-3 : tie.Need-returns-3
 returns-3 c =
     let d = c .before .before .before .before .before .before .before .before .before .before .before .before in
@@ -228,7 +199,7 @@ returns-3 c =
     let y = c .before .before .before .before .before .before .before .before .before .before .before .before .before .before .before .survey-pages in
     block-planned (s .args .geometry .parameters) (s .args .geometry .growth) (file s) (s .pre .1 .0) (s .pre .1 .1 .1 .0) (s .args .lo) (s .pre .1 .1 .1 .1 .1 .0 .1)
     (ended d .stretch-end .result) (block-end (ended d)) (clear d) (now (s .args .pool)) (y .last .1 .1 .1 .1 .1 .0) (s .pre .1 .1 .1 .1 .0 .0) (homes d)
-    (take (s .args .carried) (now (s .args .waiting))) (now (s .args .planned)) (c .before .before .before .before .before .before .plan .last .1 .1 .1 .0) (c .before .before .before .before .before .before .plan .last .1 .1 .1 .1 .1 .0) (c .before .before .before .before .before .before .plan .last .1 .1 .1 .1 .0) (c .before .before .before .before .before .before .plan .result)
+    (take (s .args .incoming) (now (s .args .waiting))) (now (s .args .planned)) (c .before .before .before .before .before .before .plan .last .1 .1 .1 .0) (c .before .before .before .before .before .before .plan .last .1 .1 .1 .1 .1 .0) (c .before .before .before .before .before .before .plan .last .1 .1 .1 .1 .0) (c .before .before .before .before .before .before .plan .result)
     (c .before .before .before .before .before .before .plan .ensures)
 
 pub plan-block-spec : {M : Type 1} → statement M

@@ -1,11 +1,9 @@
-use mathlib.Core.Path.{_≡_, refl, sym, ap, _∙_, subst}
-use mathlib.Core.Bool.{true}
-use mathlib.Core.List.{List}
-use Prim.Native.Nat.{ℕ, suc, _+_, _-_, _*_, _≤_, _<_}
+use mathlib.Core.Path.{_≡_, refl, _∙_, subst}
+use Prim.Native.Nat.{ℕ, _-_, _*_, _≤_}
 use native.Mathlib.Nat.{mul-le-mul}
 use native.Mathlib.Numerals.{add-one}
 use native.Mathlib.Omega.{arith}
-use lib.ListN.{length, take, set, length-set}
+use lib.ListN.{length, take, length-set}
 use denote.Ref.{now}
 use borrow.Author.Needs.{needs}
 use Rattle.hashing.specs.declared.Parameters.{Parameters}
@@ -23,11 +21,6 @@ use Rattle.entering.proofs.Joined.{newWord, valid-most}
 use Rattle.entering.proofs.Reached.{unsound-ends, overflows-ends, block-such, block-most, some-items, Reached, reached-none, reached-unsound, reached-crowded, reached-ends, reached-applies, reached-overflows, reached-next, spanned-near, spanned-few}
 use Rattle.entering.proofs.blocks.plan_entry.Statement.{statement}
 use Rattle.entering.proofs.blocks.plan_entry.Tie as tie
-use Rattle.entering.proofs.blocks.plan_entry.Reads as reads
-use Rattle.entering.proofs.blocks.plan_entry.Lts as lts
-use Rattle.entering.proofs.blocks.plan_block.Reads as plan-block-reads
-use Rattle.hashing.proofs.home.Reads as home-reads
-use Rattle.waiting.proofs.pack.Reads as pack-reads
 
 abbrev Inv-loop : tie.InvT-loop
 Inv-loop table geometry separators numbers words pool₀ waiting₀ planned₀ number pages home lo₀ carried₀ pool waiting planned lo carried =
@@ -94,15 +87,12 @@ planned x last left e = known x (block·Planned last left) e
 cast-pages : tie.Need-cast-pages Inv-loop μ-loop
 cast-pages c = search needs
 
--- src/blocks.rt:70:9
 home-requires : tie.Need-home-requires Inv-loop μ-loop
 home-requires c κs = search needs
 
--- src/blocks.rt:71:46
 add-pack : tie.Need-add-pack Inv-loop μ-loop
 add-pack c = search needs
 
--- src/blocks.rt:71:18
 pack-requires : tie.Need-pack-requires Inv-loop μ-loop
 pack-requires c κs =
     let s = c .before .before .before .before .before .before .before .before in (
@@ -110,17 +100,14 @@ pack-requires c κs =
       (omega (arith, valid-most (s .args .number) (s .pre .1 .1 .1 .1 .1 .1 .0)), omega (arith, few s, s .pre .1 .1 .1 .0 .ofNumbers)),
     )
 
--- src/blocks.rt:71:5
 slice-write-waiting : tie.Need-slice-write-waiting Inv-loop μ-loop
 slice-write-waiting c =
     let s = c .before .before .before .before .before .before .before .before .before in
     omega (arith, s .pre .1 .1 .1 .1 .0 .1, some-items (s .args .geometry .parameters) (s .args .geometry .growth) (s .pre .1 .0) (s .pre .1 .1 .0) (s .args .number))
 
--- src/blocks.rt:72:18
 cast-lo : tie.Need-cast-lo Inv-loop μ-loop
 cast-lo c = search needs
 
--- src/blocks.rt:74:5
 unfolded : (p : Parameters) (g : Growth) (k : ℕ) → Home·home multiplier p g k ≡ startOf p g k
 unfolding hashOf
 unfolded p g k = refl
@@ -143,7 +130,6 @@ loop-holds c =
       ),
     )
 
--- src/blocks.rt:75:15
 plan-block-requires : tie.Need-plan-block-requires Inv-loop μ-loop
 plan-block-requires c κs =
     let s = c .before .before .before .before .before .before .before .before .before .before .before .before .before in
@@ -171,24 +157,19 @@ plan-block-requires c κs =
       ),
     )
 
--- src/blocks.rt:76:28
 enum-known-page : tie.Need-enum-known-page Inv-loop μ-loop
 enum-known-page c = search needs
 
--- src/blocks.rt:76:37
 same-length : tie.Need-same-length Inv-loop μ-loop
 same-length c = search needs
 
--- src/blocks.rt:76:37
 same-length-2 : tie.Need-same-length-2 Inv-loop μ-loop
 same-length-2 c =
     waiting-kept (c .before .before .before .before .before .before .before .before .before)
 
--- src/blocks.rt:76:37
 same-length-3 : tie.Need-same-length-3 Inv-loop μ-loop
 same-length-3 c = search needs
 
--- src/blocks.rt:76:37
 returns : tie.Need-returns Inv-loop μ-loop
 returns c =
     let x = c .before .before .before .before .before .before .before .before .before in
@@ -198,24 +179,19 @@ returns c =
       (λ word last e. absurd (unsound-ends page last e)),
     )
 
--- src/blocks.rt:77:31
 enum-told : tie.Need-enum-told Inv-loop μ-loop
 enum-told c = search needs
 
--- src/blocks.rt:77:31
 same-length-4 : tie.Need-same-length-4 Inv-loop μ-loop
 same-length-4 c = search needs
 
--- src/blocks.rt:77:31
 same-length-5 : tie.Need-same-length-5 Inv-loop μ-loop
 same-length-5 c =
     waiting-kept (c .before .before .before .before .before .before .before .before)
 
--- src/blocks.rt:77:31
 same-length-6 : tie.Need-same-length-6 Inv-loop μ-loop
 same-length-6 c = search needs
 
--- src/blocks.rt:77:31
 returns-2 : tie.Need-returns-2 Inv-loop μ-loop
 returns-2 c =
     let x = c .before .before .before .before .before .before .before .before in
@@ -224,24 +200,19 @@ returns-2 c =
       (λ word last e. absurd (overflows-ends last e)),
     )
 
--- src/blocks.rt:78:28
 enum-known-last : tie.Need-enum-known-last Inv-loop μ-loop
 enum-known-last c = search needs
 
--- src/blocks.rt:80:21
 same-length-7 : tie.Need-same-length-7 Inv-loop μ-loop
 same-length-7 c = search needs
 
--- src/blocks.rt:80:21
 same-length-8 : tie.Need-same-length-8 Inv-loop μ-loop
 same-length-8 c =
     waiting-kept (c .before .before .before .before .before .before .before .before .before .before)
 
--- src/blocks.rt:80:21
 same-length-9 : tie.Need-same-length-9 Inv-loop μ-loop
 same-length-9 c = search needs
 
--- src/blocks.rt:80:21
 returns-3 : tie.Need-returns-3 Inv-loop μ-loop
 returns-3 c =
     let x = c .before .before .before .before .before .before .before .before .before .before in
@@ -251,7 +222,6 @@ returns-3 c =
       reached-applies (s .args .geometry .parameters) (s .args .geometry .growth) (file s) (s .args .number) (s .pre .1 .0) (s .pre .1 .1 .1 .0) (s .pre .1 .1 .1 .1 .1 .1 .0) (s .pre .1 .1 .1 .1 .1 .1 .1) (head x .loop .pool) (head x .loop .planned) (head x .loop .waiting) (head x .loop .lo) (head x .loop .carried) (reached x) (x .plan-block .last .1 .1 .1 .1 .1 .0) (x .plan-block .last .1 .1 .1 .1 .1 .1 .1 .0) (x .plan-block .last .1 .1 .1 .1 .1 .1 .0) (v .0 .0) (v .0 .1 .0) (pool-long x) (planned-long x) (planned x (v .0 .0) (v .0 .1 .0) (v .1)) (c .if1 .taken),
     )
 
--- src/blocks.rt:82:22
 add-lo : tie.Need-add-lo Inv-loop μ-loop
 add-lo c =
     let x = c .before .before .before .before .before .before .before .before .before .before in
@@ -259,20 +229,16 @@ add-lo c =
     let v = c .before .before .last .given in
     omega (arith, planned x (v .0 .0) (v .0 .1 .0) (v .1) .is, block-most (s .args .geometry .parameters) (s .args .geometry .growth) (file s) (head x .loop .lo) (reached x .inside), bounds s .pages-most)
 
--- src/blocks.rt:85:21
 same-length-10 : tie.Need-same-length-10 Inv-loop μ-loop
 same-length-10 c = search needs
 
--- src/blocks.rt:85:21
 same-length-11 : tie.Need-same-length-11 Inv-loop μ-loop
 same-length-11 c =
     waiting-kept (c .before .before .before .before .before .before .before .before .before .before .before)
 
--- src/blocks.rt:85:21
 same-length-12 : tie.Need-same-length-12 Inv-loop μ-loop
 same-length-12 c = search needs
 
--- src/blocks.rt:85:21
 returns-4 : tie.Need-returns-4 Inv-loop μ-loop
 returns-4 c =
     let x = c .before .before .before .before .before .before .before .before .before .before .before in
@@ -282,7 +248,6 @@ returns-4 c =
       (λ word last e. absurd (overflows-ends last e)),
     )
 
--- src/blocks.rt:74:5
 loop-less : tie.Need-loop-less Inv-loop μ-loop
 loop-less c =
     let x = c .before .before .before .before .before .before .before .before .before .before .before in
@@ -290,7 +255,6 @@ loop-less c =
     let v = c .before .before .before .last .given in
     omega (arith, planned x (v .0 .0) (v .0 .1 .0) (v .1) .is, block-such (s .args .geometry .parameters) (s .args .geometry .growth) (file s) (head x .loop .lo) (reached x .inside) .low, reached x .inside)
 
--- src/blocks.rt:74:5
 loop-again : tie.Need-loop-again Inv-loop μ-loop
 loop-again c =
     let x = c .before .before .before .before .before .before .before .before .before .before .before in

@@ -1,9 +1,7 @@
-use mathlib.Core.Path.{_≡_, refl, sym, ap, _∙_, subst}
-use mathlib.Core.List.{List}
-use Prim.Native.Nat.{ℕ, suc, _+_, _-_, _*_, _≤_, _<_}
+use mathlib.Core.Path.{_≡_, refl, sym, ap, _∙_}
+use Prim.Native.Nat.{ℕ, _+_, _-_, _*_, _≤_, _<_}
 use native.Mathlib.Nat.{mul-le-mul-right}
 use native.Mathlib.Omega.{arith}
-use lib.ListN.{length}
 use denote.Ref.{now}
 use borrow.Author.Needs.{needs}
 use Rattle.hashing.specs.declared.Parameters.{Parameters}
@@ -13,18 +11,11 @@ use Rattle.hashing.specs.Home.{home as Home·home}
 use Rattle.hashing.proofs.Bounds.{Limits, limits}
 use Rattle.placement.specs.File.{File}
 use Rattle.placement.specs.Hash.{lent, hashOf, namedPage}
-use Rattle.entering.specs.declared.blocks.Reach.{Reach}
-use Rattle.entering.specs.declared.blocks.Reach.the-variants.{Ends, Unsound, Overflows}
-use Rattle.entering.specs.Entry.{startOf, reachAnswer, entryFile, Applies}
+use Rattle.entering.specs.declared.blocks.Reach.the-variants.{Ends}
+use Rattle.entering.specs.Entry.{startOf, reachAnswer, entryFile}
 use Rattle.entering.proofs.Holding.{unsound-answer, overflows-answer, last-least, named-holds, ends-answer, entry-file}
 use Rattle.entering.proofs.stretch.enter_stretch.Statement.{statement}
 use Rattle.entering.proofs.stretch.enter_stretch.Tie as tie
-use Rattle.entering.proofs.stretch.enter_stretch.Reads as reads
-use Rattle.entering.proofs.stretch.enter_stretch.Lts as lts
-use Rattle.entering.proofs.blocks.plan_entry.Reads as plan-entry-reads
-use Rattle.hashing.proofs.home.Reads as home-reads
-use Rattle.placement.proofs.named_page.Reads as named-page-reads
-use Rattle.planning.proofs.apply.Reads as apply-reads
 
 abbrev file : tie.Start → File
 file s = lent (now (s .args .separators)) (now (s .args .numbers)) (now (s .args .words))
@@ -66,55 +57,44 @@ module _ (x : Place) (last : ℕ) (v : x .plan-entry .result ≡ Ends last) wher
 cast-places : tie.Need-cast-places
 cast-places c = search needs
 
--- src/stretch.rt:36:16
 home-requires : tie.Need-home-requires
 home-requires c κs = search needs
 
--- src/stretch.rt:36:16
 cast-from : tie.Need-cast-from
 cast-from c = search needs
 
--- src/stretch.rt:38:82
 slice-aggregate-plan-entry : tie.Need-slice-aggregate-plan-entry
 slice-aggregate-plan-entry c = search needs
 
--- src/stretch.rt:38:11
 plan-entry-requires : tie.Need-plan-entry-requires
 plan-entry-requires c κs =
     let s = c .before .before .before .before .before .before .before .before .before .before .before .before .before in
     (s .pre .0, (s .pre .1 .0, (s .pre .1 .1 .0, (s .pre .1 .1 .1 .0, (s .pre .1 .1 .1 .1 .0, (bounds s .pages-most, (s .pre .1 .1 .1 .1 .1 .0, s .pre .1 .1 .1 .1 .1 .1)))))))
 
--- src/stretch.rt:39:24
 enum-known-page : tie.Need-enum-known-page
 enum-known-page c = search needs
 
--- src/stretch.rt:40:29
 enum-told : tie.Need-enum-told
 enum-told c = search needs
 
--- src/stretch.rt:41:21
 enum-known-last : tie.Need-enum-known-last
 enum-known-last c = search needs
 
--- src/stretch.rt:42:72
 slice-aggregate-apply : tie.Need-slice-aggregate-apply
 slice-aggregate-apply c = search needs
 
--- src/stretch.rt:42:96
 add-apply : tie.Need-add-apply
 add-apply c =
     let x = c .before .before .before .before .before .before .before .before .before .before .before .before .before .before in
     let v = c .before .before .before .before .before .before .before .last .given in
     omega (arith, high x (v .0 .0) (v .1), bounds (start x) .pages-most)
 
--- src/stretch.rt:42:96
 sub-apply : tie.Need-sub-apply
 sub-apply c =
     let x = c .before .before .before .before .before .before .before .before .before .before .before .before .before .before in
     let v = c .before .before .before .before .before .before .before .last .given in
     omega (arith, low x (v .0 .0) (v .1))
 
--- src/stretch.rt:42:13
 apply-requires : tie.Need-apply-requires
 apply-requires c κs =
     let x = c .before .before .before .before .before .before .before .before .before .before .before .before .before .before in
@@ -131,34 +111,27 @@ apply-requires c κs =
       ),
     )
 
--- src/stretch.rt:43:25
 named-page-requires : tie.Need-named-page-requires
 named-page-requires c κs =
     let x = c .before .before .before .before .before .before .before .before .before .before .before .before .before .before .before .before .before .before .before .before .before .before .before .before .before .before in
     let s = start x in
     (s .pre .0, (s .pre .1 .0, (s .pre .1 .1 .0, c .before .before .before .before .before .before .before .before .before .before .before .apply .kept .0 ∙ s .pre .1 .1 .1 .0 .ofSeparators)))
 
--- src/stretch.rt:24:1
 same-length : tie.Need-same-length
 same-length c = search needs
 
--- src/stretch.rt:24:1
 same-length-2 : tie.Need-same-length-2
 same-length-2 c = search needs
 
--- src/stretch.rt:24:1
 same-length-3 : tie.Need-same-length-3
 same-length-3 c = search needs
 
--- src/stretch.rt:24:1
 same-length-4 : tie.Need-same-length-4
 same-length-4 c = search needs
 
--- src/stretch.rt:24:1
 same-length-5 : tie.Need-same-length-5
 same-length-5 c = search needs
 
--- src/stretch.rt:24:1
 returns : tie.Need-returns
 returns c =
     let x = c .before .before .before .before .before .before .before .before in
@@ -166,54 +139,42 @@ returns c =
     let v = c .before .page .given in
     unsound-answer (s .args .geometry .parameters) (s .args .geometry .growth) (file s) (s .args .number) (s .args .word) (v .0 .0) (sym (v .1) ∙ x .plan-entry .ensures .0 (s .args .word))
 
--- src/stretch.rt:24:1
 same-length-6 : tie.Need-same-length-6
 same-length-6 c = search needs
 
--- src/stretch.rt:24:1
 same-length-7 : tie.Need-same-length-7
 same-length-7 c = search needs
 
--- src/stretch.rt:24:1
 same-length-8 : tie.Need-same-length-8
 same-length-8 c = search needs
 
--- src/stretch.rt:24:1
 same-length-9 : tie.Need-same-length-9
 same-length-9 c = search needs
 
--- src/stretch.rt:24:1
 same-length-10 : tie.Need-same-length-10
 same-length-10 c = search needs
 
--- src/stretch.rt:24:1
 returns-2 : tie.Need-returns-2
 returns-2 c =
     let x = c .before .before .before .before .before .before .before in
     let s = start x in
     overflows-answer (s .args .geometry .parameters) (s .args .geometry .growth) (file s) (s .args .number) (s .args .word) (sym (c .enum-told .given .1) ∙ x .plan-entry .ensures .0 (s .args .word))
 
--- src/stretch.rt:24:1
 same-length-11 : tie.Need-same-length-11
 same-length-11 c = search needs
 
--- src/stretch.rt:24:1
 same-length-12 : tie.Need-same-length-12
 same-length-12 c = search needs
 
--- src/stretch.rt:24:1
 same-length-13 : tie.Need-same-length-13
 same-length-13 c = search needs
 
--- src/stretch.rt:24:1
 same-length-14 : tie.Need-same-length-14
 same-length-14 c = search needs
 
--- src/stretch.rt:24:1
 same-length-15 : tie.Need-same-length-15
 same-length-15 c = search needs
 
--- src/stretch.rt:24:1
 returns-3 : tie.Need-returns-3
 returns-3 c =
     let x = c .before .before .before .before .before .before .before .before .before .before .before .before .before .before .before .before .before .before .before .before .before .before .before .before .before .before .before in
