@@ -1,0 +1,45 @@
+use borrow.Author.Needs.{needs}
+use Rattle.starfile_c.proofs.Replies.{told}
+use mir.Facts.{toZ-ofZ}
+use Rattle.starfile_c.proofs.heatherplane_enter.Statement.{statement}
+use Rattle.starfile_c.proofs.heatherplane_enter.Tie as tie
+
+enter-requires : tie.Need-enter-requires
+enter-requires c κs = search needs
+
+reply-placed-requires : tie.Need-reply-placed-requires
+reply-placed-requires c κs = search needs
+
+same-length : tie.Need-same-length
+same-length c = search needs
+
+same-length-2 : tie.Need-same-length-2
+same-length-2 c = search needs
+
+same-length-3 : tie.Need-same-length-3
+same-length-3 c = search needs
+
+same-length-4 : tie.Need-same-length-4
+same-length-4 c = search needs
+
+same-length-5 : tie.Need-same-length-5
+same-length-5 c = search needs
+
+returns : tie.Need-returns
+returns c =
+    let called = c .before .before .before .before .before .before .before .before .before .before .before in
+    let start = called .before .before .before .before .before .before .before .before .before .before .before in
+    told (c .reply-placed .ensures) (rw (toZ-ofZ (start .fits .dec)) at (called .enter .ensures))
+
+pub heatherplane-enter-spec : {M : Type 1} → statement M
+heatherplane-enter-spec =
+    tie.close
+    (tie.spec
+    enter-requires
+    reply-placed-requires
+    same-length
+    same-length-2
+    same-length-3
+    same-length-4
+    same-length-5
+    returns)

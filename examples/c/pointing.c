@@ -1,0 +1,98 @@
+/* A pointing unit in small: it lends memory to a star file, enters stars, looks them up, removes one, and prints what each call
+ * answers. */
+#include <inttypes.h>
+#include <stdio.h>
+
+#include "starfile.h"
+
+enum { PLACES = 2, PAGES = 8, BITS = 8 };
+
+static uint8_t separators[PAGES];
+static uint32_t numbers[PAGES * PLACES];
+static uint64_t words[PAGES * PLACES];
+static uint32_t pool_numbers[PAGES * PLACES];
+static uint64_t pool_words[PAGES * PLACES];
+
+/* An empty file: every separator 2^k - 1, all else 0, the growth state (0, 0). */
+static struct heatherplane_file empty_file(void)
+{
+    for (size_t page = 0; page < PAGES; page++)
+        separators[page] = (1u << BITS) - 1;
+    for (size_t item = 0; item < PAGES * PLACES; item++) {
+        numbers[item] = 0;
+        words[item] = 0;
+    }
+    return (struct heatherplane_file){
+        .parameters = {.places = PLACES, .groups = 2, .width = 2, .step = 1, .bits = BITS, .load = 80, .pages = PAGES},
+        .growth = {.expansions = 0, .expanded = 0},
+        .separators = separators,
+        .separators_length = PAGES,
+        .numbers = numbers,
+        .numbers_length = PAGES * PLACES,
+        .words = words,
+        .words_length = PAGES * PLACES,
+        .pool_numbers = pool_numbers,
+        .pool_numbers_length = PAGES * PLACES,
+        .pool_words = pool_words,
+        .pool_words_length = PAGES * PLACES,
+    };
+}
+
+static void enter(const struct heatherplane_file *file, uint32_t number, uint32_t ra, int32_t dec)
+{
+    struct heatherplane_reply reply = heatherplane_enter_in(file, number, ra, dec);
+    if (reply.refusal)
+        printf("enter %" PRIu32 ": refused with %" PRIu32 ", page %" PRIu32 "\n", number, reply.refusal, reply.page);
+    else
+        printf("enter %" PRIu32 ": on page %" PRIu32 "\n", number, reply.page);
+}
+
+static void look_up(const struct heatherplane_file *file, uint32_t number)
+{
+    struct heatherplane_reply reply = heatherplane_look_up_in(file, number);
+    if (reply.refusal)
+        printf("look up %" PRIu32 ": refused with %" PRIu32 ", page %" PRIu32 "\n", number, reply.refusal, reply.page);
+    else if (reply.found)
+        printf("look up %" PRIu32 ": on page %" PRIu32 " at %" PRIu32 " %" PRId32 "\n", number, reply.page, reply.ra, reply.dec);
+    else
+        printf("look up %" PRIu32 ": none, page %" PRIu32 "\n", number, reply.page);
+}
+
+static void remove_star(const struct heatherplane_file *file, uint32_t number)
+{
+    struct heatherplane_reply reply = heatherplane_remove_in(file, number);
+    if (reply.refusal)
+        printf("remove %" PRIu32 ": refused with %" PRIu32 ", page %" PRIu32 "\n", number, reply.refusal, reply.page);
+    else
+        printf("remove %" PRIu32 ": from page %" PRIu32 "\n", number, reply.page);
+}
+
+int main(void)
+{
+    struct heatherplane_file file = empty_file();
+
+    enter(&file, 1, 10, -5);
+    enter(&file, 2, 1295999999, 324000000);
+    enter(&file, 32349, 364923000, -60138000);
+    enter(&file, 91262, 1005289000, 139622000);
+    look_up(&file, 1);
+    look_up(&file, 2);
+    look_up(&file, 32349);
+    look_up(&file, 3);
+
+    /* refusals: the star is held, a declination out of range, no star of this number, a pool that is too short */
+    enter(&file, 1, 20, 5);
+    enter(&file, 3, 20, 324000001);
+    remove_star(&file, 3);
+    file.pool_words_length--;
+    remove_star(&file, 1);
+    file.pool_words_length++;
+
+    remove_star(&file, 1);
+    look_up(&file, 1);
+
+    /* damage is found on the page that a star leads to, and told by its page */
+    words[2 * PLACES] = UINT64_MAX;
+    look_up(&file, 2);
+    return 0;
+}

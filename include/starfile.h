@@ -1,0 +1,178 @@
+/* The look-up, the entry and the removal of a star file, for C and C++ programs.
+ *
+ * A star file maps star numbers to positions. The caller lends all of its memory and passes it, with the file's parameters and
+ * growth state, to each call. Nothing is kept between calls. The functions may be called from several threads at once, on files
+ * that share no buffer.
+ *
+ * A file of M pages with b places each has three buffers, and entry and removal need a pool besides:
+ *
+ *     separators      M bytes
+ *     numbers         M * b star numbers, 0 marking an empty place
+ *     words           M * b position words: ra * 2^32 + (dec + 324000000), 0 in an empty place
+ *     pool_numbers    M * b numbers, with any contents
+ *     pool_words      M * b words, with any contents
+ *
+ * Place i of page p is item p * b + i. An empty file has every separator 2^bits - 1, all numbers and words 0 and the growth
+ * state (0, 0).
+ *
+ * Each buffer is passed as a pointer to its first item and its length in items. The pointer is aligned for its type, that many
+ * items can be read there and, where it is no pointer to const, written. No two buffers of a call overlap. With length 0 the
+ * pointer may be null. All else that a caller can get wrong is refused: no contents, length or value leads to undefined behaviour,
+ * and every call returns. */
+#ifndef HEATHERPLANE_STARFILE_H
+#define HEATHERPLANE_STARFILE_H
+
+#include <stdbool.h>
+#include <stddef.h>
+#include <stdint.h>
+
+#ifdef __cplusplus
+extern "C" {
+#endif
+
+/* Why a call was refused. Of several reasons the first that the call's comment lists is told. */
+enum heatherplane_refusal {
+    HEATHERPLANE_ACCEPTED = 0,
+    HEATHERPLANE_BAD_PARAMETERS = 1, /* a parameter or the growth state */
+    HEATHERPLANE_BAD_LENGTH = 2,     /* the length of a buffer */
+    HEATHERPLANE_BAD_NUMBER = 3,     /* the star number: 1 to 2147483646 */
+    HEATHERPLANE_BAD_POSITION = 4,   /* ra: 0 to 1295999999, dec: -324000000 to 324000000, in milliarcseconds */
+    HEATHERPLANE_DAMAGED = 5,        /* the page that the reply names is not sound, or no page is named (page M) */
+    HEATHERPLANE_HELD = 6,           /* the star is in the file already */
+    HEATHERPLANE_NOT_HELD = 7,       /* the star is not in the file */
+    HEATHERPLANE_FULL = 8            /* a star would be carried past the last page */
+};
+
+/* What a call answers. A value that a call does not name is 0 or false. */
+struct heatherplane_reply {
+    uint32_t refusal; /* an enum heatherplane_refusal */
+    uint32_t page;    /* 0 where the call was refused, except with HEATHERPLANE_DAMAGED */
+    uint32_t ra;
+    int32_t dec;
+    bool found;
+};
+
+struct heatherplane_parameters {
+    uint32_t places; /* b, places of a page: 1 to 32 */
+    uint32_t groups; /* N, first groups: 1 to 256 */
+    uint32_t width;  /* n0, first pages of a group: 1 to 4 */
+    uint32_t step;   /* s, step of a sweep: 1 to groups */
+    uint32_t bits;   /* k, bits of a separator: 1 to 8 */
+    uint32_t load;   /* A, load in per cent: 1 to 99 */
+    uint32_t pages;  /* M: width * groups to 1024 */
+};
+
+/* With n = width + expansions % width and G = groups * 2^(expansions / width): expanded is below G, and n * G + expanded is at
+ * most pages. The calls below read this state and leave it as it is. */
+struct heatherplane_growth {
+    uint32_t expansions; /* e, partial expansions finished */
+    uint32_t expanded;   /* x, groups expanded in the present one */
+};
+
+/* Looks a star up.
+ *
+ * Buffers: the file's three, which are only read. Their lengths are pages, pages * places and pages * places.
+ * Refused: BAD_PARAMETERS, BAD_LENGTH, BAD_NUMBER, DAMAGED (the page that the separators name).
+ * Accepted: found tells whether the star is held, page is the page that the separators name for it, and ra and dec are its
+ * position if it is held.
+ * Afterwards: nothing was written. */
+struct heatherplane_reply heatherplane_look_up(
+    uint32_t places, uint32_t groups, uint32_t width, uint32_t step, uint32_t bits, uint32_t load, uint32_t pages,
+    uint32_t expansions, uint32_t expanded,
+    const uint8_t *separators, size_t separators_length,
+    const uint32_t *numbers, size_t numbers_length,
+    const uint64_t *words, size_t words_length,
+    uint32_t number);
+
+/* Enters a star that the file does not hold.
+ *
+ * Buffers: the file's three and the pool's two. Their lengths are pages for the separators and pages * places for the others.
+ * Refused: BAD_PARAMETERS, BAD_LENGTH, BAD_NUMBER, BAD_POSITION, DAMAGED (the page that the separators name), HELD, DAMAGED (the
+ * lowest unsound page of those that would be placed anew), FULL.
+ * Accepted: page is the page where the star now stands.
+ * Afterwards: accepted, the file holds the star, and the pages from its home to the end of its reach are placed anew; refused, the
+ * file is as it was. The pool is untouched with BAD_PARAMETERS, BAD_LENGTH, BAD_NUMBER and BAD_POSITION, and else holds zeros. */
+struct heatherplane_reply heatherplane_enter(
+    uint32_t places, uint32_t groups, uint32_t width, uint32_t step, uint32_t bits, uint32_t load, uint32_t pages,
+    uint32_t expansions, uint32_t expanded,
+    uint8_t *separators, size_t separators_length,
+    uint32_t *numbers, size_t numbers_length,
+    uint64_t *words, size_t words_length,
+    uint32_t *pool_numbers, size_t pool_numbers_length,
+    uint64_t *pool_words, size_t pool_words_length,
+    uint32_t number, uint32_t ra, int32_t dec);
+
+/* Removes a star that the file holds.
+ *
+ * Buffers: the file's three and the pool's two. Their lengths are pages for the separators and pages * places for the others.
+ * Refused: BAD_PARAMETERS, BAD_LENGTH, BAD_NUMBER, DAMAGED (the page that the separators name), NOT_HELD, DAMAGED (the lowest
+ * unsound page of those that would be placed anew).
+ * Accepted: page is the page where the star stood.
+ * Afterwards: accepted, the file no longer holds the star, and the pages from its home to the end of its reach are placed anew;
+ * refused, the file is as it was. The pool is untouched with BAD_PARAMETERS, BAD_LENGTH and BAD_NUMBER, and else holds zeros. */
+struct heatherplane_reply heatherplane_remove(
+    uint32_t places, uint32_t groups, uint32_t width, uint32_t step, uint32_t bits, uint32_t load, uint32_t pages,
+    uint32_t expansions, uint32_t expanded,
+    uint8_t *separators, size_t separators_length,
+    uint32_t *numbers, size_t numbers_length,
+    uint64_t *words, size_t words_length,
+    uint32_t *pool_numbers, size_t pool_numbers_length,
+    uint64_t *pool_words, size_t pool_words_length,
+    uint32_t number);
+
+/* A file as one value: its parameters, its growth state and the buffers lent to it. */
+struct heatherplane_file {
+    struct heatherplane_parameters parameters;
+    struct heatherplane_growth growth;
+    uint8_t *separators;
+    size_t separators_length;
+    uint32_t *numbers;
+    size_t numbers_length;
+    uint64_t *words;
+    size_t words_length;
+    uint32_t *pool_numbers;
+    size_t pool_numbers_length;
+    uint64_t *pool_words;
+    size_t pool_words_length;
+};
+
+/* The three calls on such a value. */
+
+static inline struct heatherplane_reply heatherplane_look_up_in(const struct heatherplane_file *file, uint32_t number)
+{
+    const struct heatherplane_parameters *p = &file->parameters;
+    return heatherplane_look_up(
+        p->places, p->groups, p->width, p->step, p->bits, p->load, p->pages,
+        file->growth.expansions, file->growth.expanded,
+        file->separators, file->separators_length, file->numbers, file->numbers_length, file->words, file->words_length,
+        number);
+}
+
+static inline struct heatherplane_reply heatherplane_enter_in(
+    const struct heatherplane_file *file, uint32_t number, uint32_t ra, int32_t dec)
+{
+    const struct heatherplane_parameters *p = &file->parameters;
+    return heatherplane_enter(
+        p->places, p->groups, p->width, p->step, p->bits, p->load, p->pages,
+        file->growth.expansions, file->growth.expanded,
+        file->separators, file->separators_length, file->numbers, file->numbers_length, file->words, file->words_length,
+        file->pool_numbers, file->pool_numbers_length, file->pool_words, file->pool_words_length,
+        number, ra, dec);
+}
+
+static inline struct heatherplane_reply heatherplane_remove_in(const struct heatherplane_file *file, uint32_t number)
+{
+    const struct heatherplane_parameters *p = &file->parameters;
+    return heatherplane_remove(
+        p->places, p->groups, p->width, p->step, p->bits, p->load, p->pages,
+        file->growth.expansions, file->growth.expanded,
+        file->separators, file->separators_length, file->numbers, file->numbers_length, file->words, file->words_length,
+        file->pool_numbers, file->pool_numbers_length, file->pool_words, file->pool_words_length,
+        number);
+}
+
+#ifdef __cplusplus
+}
+#endif
+
+#endif
