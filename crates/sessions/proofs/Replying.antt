@@ -1,0 +1,130 @@
+-- Laws of the replies to commands. Only growth steps the growth state.
+use Prim.Native.Nat.{ℕ, zero, suc}
+use mathlib.Core.Bool.{Bool, true, false, cond, _&&_}
+use mathlib.Core.Path.{_≡_, refl, ap, _∙_}
+use Rattle.hashing.specs.declared.Growth.{Growth}
+use Rattle.hashing.specs.declared.Parameters.{Parameters}
+use Rattle.lines.specs.declared.Command.{Command}
+use Rattle.lines.specs.declared.Command.the-variants.{LookUp}
+use Rattle.lines.specs.declared.Reply.{Reply}
+use Rattle.lines.specs.declared.Reply.the-variants.{Refused}
+use Rattle.pages.specs.Position.{validNumber, validPosition, packed}
+use Rattle.pages.specs.declared.position.Position.{Position}
+use Rattle.placement.specs.File.{File}
+use Rattle.placement.specs.Rule.{Star}
+use Rattle.starfile.specs.Answers.{Answer, After, Pool, cleared, Leaves, lent, unpooled, spotted, refusedBy, numberOf, pageOf}
+use Rattle.starfile.specs.Calls.{
+  fileFits,
+  poolFits,
+  unless,
+  orElse,
+  unlent,
+  guarded,
+  unchanged,
+  named,
+  lookedUp,
+  lookUpOf,
+  enterOf,
+  enterOn,
+  enterTo,
+  removeOf,
+  removeOn,
+  removeTo,
+}
+use Rattle.starfile.specs.declared.answers.Refusal.{Refusal}
+use Rattle.starfile.specs.declared.answers.Refusal.the-variants.{
+  BadParameters,
+  BadLength,
+  BadNumber,
+  BadPosition,
+  Damaged,
+  Held,
+  NotHeld,
+  Full,
+}
+use Rattle.sessions.specs.Commands.{starline, State, stateOf, called, unlessRefused, replyWith, replyOf, nextOf, Follows}
+use Rattle.sessions.specs.declared.commands.Replied.{Replied}
+
+-- a refusal is shown with its number and page, whatever an accepted call would show
+pub refused-shown :
+    (r : Refusal) (reply : Reply) → unlessRefused (refusedBy r) reply ≡ Refused (numberOf r) (pageOf r)
+unfolding unlessRefused refusedBy numberOf pageOf spotted
+refused-shown BadParameters reply = refl
+refused-shown BadLength reply = refl
+refused-shown BadNumber reply = refl
+refused-shown BadPosition reply = refl
+refused-shown (Damaged page) reply = refl
+refused-shown Held reply = refl
+refused-shown NotHeld reply = refl
+refused-shown Full reply = refl
+
+cond-growth : (t : Bool) (a b : After) → cond t a b .growth ≡ cond t (a .growth) (b .growth)
+cond-growth true a b = refl
+cond-growth false a b = refl
+
+cond-same : (t : Bool) (g : Growth) → cond t g g ≡ g
+cond-same true g = refl
+cond-same false g = refl
+
+guarded-keeps :
+    (g : Growth) (f : File) (pool : Pool) (n : ℕ) (after : After) → after .growth ≡ g →
+    guarded g f pool n after .growth ≡ g
+guarded-keeps g f pool zero after e = e
+guarded-keeps g f pool (suc n) after e = refl
+
+enter-on-keeps :
+    (p : Parameters) (g : Growth) (f : File) (pool : Pool) (page : ℕ) (s : Star) →
+    enterOn p g f pool page s .growth ≡ g
+unfolding enterOn enterTo
+enter-on-keeps p g f pool page s = simp (cond-growth, cond-same)
+
+pub enter-keeps :
+    (p : Parameters) (g : Growth) (f : File) (pool : Pool) (k : ℕ) (position : Position) →
+    enterOf p g f pool k position .growth ≡ g
+unfolding enterOf
+enter-keeps p g f pool k position =
+    guarded-keeps g f pool
+    (orElse (unlent p g (fileFits p f && poolFits p pool))
+    (orElse (unless (validNumber k) 3) (unless (validPosition position) 4)))
+    _
+    (enter-on-keeps p g f (cleared pool) (named p g f k) (record { number = k; word = packed position }))
+
+remove-on-keeps :
+    (p : Parameters) (g : Growth) (f : File) (pool : Pool) (page k : ℕ) → removeOn p g f pool page k .growth ≡ g
+unfolding removeOn removeTo
+remove-on-keeps p g f pool page k = simp (cond-growth, cond-same)
+
+pub remove-keeps :
+    (p : Parameters) (g : Growth) (f : File) (pool : Pool) (k : ℕ) → removeOf p g f pool k .growth ≡ g
+unfolding removeOf
+remove-keeps p g f pool k =
+    guarded-keeps g f pool
+    (orElse (unlent p g (fileFits p f && poolFits p pool)) (unless (validNumber k) 3))
+    _
+    (remove-on-keeps p g f (cleared pool) (named p g f k) k)
+
+-- the reply and the file of a command, from what the command's call left
+pub follows :
+    (s : State) (c : Command) (r : Replied) (a : Answer) (pool : Pool) →
+    Leaves (called s c) a (lent (r .file .separators) (r .file .numbers) (r .file .words)) pool →
+    r .file .growth ≡ called s c .growth → r .reply ≡ replyWith c a → Follows s c r
+unfolding stateOf replyOf nextOf
+follows s c r a pool l g e =
+    record {
+      replies = e ∙ ap (replyWith c) (l .answers);
+      leaves = λ i. record { growth = g i; file = l .files i };
+    }
+
+-- a look-up leaves all as it was
+pub looked-keeps : (s : State) (k : ℕ) → nextOf s (LookUp k) ≡ s
+unfolding nextOf called lookUpOf
+looked-keeps s k =
+    go (orElse (unlent starline (s .growth) (fileFits starline (s .file))) (unless (validNumber k) 3))
+    (lookedUp starline (s .growth) (s .file) (named starline (s .growth) (s .file) k) k)
+  where
+    left : ℕ → Answer → After
+    left n answer = guarded (s .growth) (s .file) unpooled n (unchanged (s .growth) (s .file) unpooled answer)
+
+    go : (n : ℕ) (answer : Answer) → _≡_ {A = State} (record { growth = left n answer .growth; file = left n answer .file }) s
+    go zero answer = refl
+    go (suc n) answer = refl

@@ -1,0 +1,27 @@
+use mathlib.Core.Path.{refl, sym, _∙_}
+use native.Mathlib.Omega.{arith}
+use Rattle.sessions.specs.Runs.{onward, lastAnswer, runOf}
+use borrow.Author.Needs.{needs}
+use Rattle.sessions.proofs.blocks.finish.Statement.{statement}
+use Rattle.sessions.proofs.blocks.finish.Tie as tie
+
+is-blank-requires : tie.Need-is-blank-requires
+is-blank-requires c κs = search needs
+
+returns : tie.Need-returns
+unfolding lastAnswer runOf
+returns c = rw (sym (c .before .is-blank .ensures) ∙ c .if1 .taken) (record { buffer = refl; end = refl }, omega arith)
+
+end-line-requires : tie.Need-end-line-requires
+end-line-requires c κs = search needs
+
+same-length : tie.Need-same-length
+same-length c = search needs
+
+returns-2 : tie.Need-returns-2
+unfolding lastAnswer onward runOf
+returns-2 c = rw (sym (c .before .before .before .before .before .is-blank .ensures) ∙ c .before .before .before .before .if1 .left) (c .before .before .end-line .ensures .0 .text, omega arith)
+
+pub finish-spec : {M : Type 1} → statement M
+finish-spec =
+    tie.close (tie.spec is-blank-requires returns end-line-requires same-length returns-2)

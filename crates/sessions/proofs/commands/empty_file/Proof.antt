@@ -1,0 +1,38 @@
+use Rattle.hashing.specs.Limits.{validParameters, within}
+use Rattle.starfile.specs.Calls.{makeOf, fileFits}
+use Rattle.sessions.specs.Commands.{starline, newFile, stateOf}
+use borrow.Author.Needs.{needs}
+use Rattle.sessions.proofs.commands.empty_file.Statement.{statement}
+use Rattle.sessions.proofs.commands.empty_file.Tie as tie
+
+parameters-requires : tie.Need-parameters-requires
+parameters-requires c κs = search needs
+
+slice-aggregate-make : tie.Need-slice-aggregate-make
+slice-aggregate-make c = search needs
+
+slice-aggregate-make-2 : tie.Need-slice-aggregate-make-2
+slice-aggregate-make-2 c = search needs
+
+slice-aggregate-make-3 : tie.Need-slice-aggregate-make-3
+slice-aggregate-make-3 c = search needs
+
+make-requires : tie.Need-make-requires
+make-requires c κs = search needs
+
+returns : tie.Need-returns
+unfolding stateOf newFile makeOf fileFits starline validParameters within
+returns c =
+    let made = rw (c .before .before .before .before .before .before .before .before .parameters .ensures) at (c .before .before .before .before .make .ensures) in
+    λ i. record { growth = made .1 i; file = made .0 .files i }
+
+pub empty-file-spec : {M : Type 1} → statement M
+empty-file-spec =
+    tie.close
+    (tie.spec
+    parameters-requires
+    slice-aggregate-make
+    slice-aggregate-make-2
+    slice-aggregate-make-3
+    make-requires
+    returns)

@@ -1,0 +1,53 @@
+use mathlib.Core.Path.{sym}
+use Rattle.starfile.specs.Answers.{placed}
+use Rattle.sessions.specs.Commands.{stateOf, pool, called, replyWith}
+use Rattle.sessions.proofs.Replying.{enter-keeps, follows}
+use borrow.Author.Needs.{needs}
+use Rattle.sessions.proofs.commands.enter.Statement.{statement}
+use Rattle.sessions.proofs.commands.enter.Tie as tie
+
+parameters-requires : tie.Need-parameters-requires
+parameters-requires c κs = search needs
+
+slice-aggregate-enter : tie.Need-slice-aggregate-enter
+slice-aggregate-enter c = search needs
+
+slice-aggregate-enter-2 : tie.Need-slice-aggregate-enter-2
+slice-aggregate-enter-2 c = search needs
+
+slice-aggregate-enter-3 : tie.Need-slice-aggregate-enter-3
+slice-aggregate-enter-3 c = search needs
+
+slice-aggregate-enter-4 : tie.Need-slice-aggregate-enter-4
+slice-aggregate-enter-4 c = search needs
+
+slice-aggregate-enter-5 : tie.Need-slice-aggregate-enter-5
+slice-aggregate-enter-5 c = search needs
+
+enter-requires : tie.Need-enter-requires
+enter-requires c κs = search needs
+
+placed-reply-requires : tie.Need-placed-reply-requires
+placed-reply-requires c κs = search needs
+
+returns : tie.Need-returns
+unfolding stateOf pool called replyWith
+returns c =
+    follows _ _ _ (placed (c .before .before .before .before .before .before .enter .result)) _
+    (rw (c .before .before .before .before .before .before .before .before .before .before .before .before .parameters .ensures) at (c .before .before .before .before .before .before .enter .ensures))
+    (sym (enter-keeps _ _ _ _ _ _))
+    (c .placed-reply .ensures)
+
+pub enter-spec : {M : Type 1} → statement M
+enter-spec =
+    tie.close
+    (tie.spec
+    parameters-requires
+    slice-aggregate-enter
+    slice-aggregate-enter-2
+    slice-aggregate-enter-3
+    slice-aggregate-enter-4
+    slice-aggregate-enter-5
+    enter-requires
+    placed-reply-requires
+    returns)

@@ -1,0 +1,50 @@
+use Rattle.starfile.specs.Answers.{placed}
+use Rattle.sessions.specs.Commands.{stateOf, pool, called, replyWith}
+use Rattle.sessions.proofs.Replying.{follows}
+use borrow.Author.Needs.{needs}
+use Rattle.sessions.proofs.commands.grow.Statement.{statement}
+use Rattle.sessions.proofs.commands.grow.Tie as tie
+
+parameters-requires : tie.Need-parameters-requires
+parameters-requires c κs = search needs
+
+slice-aggregate-grow : tie.Need-slice-aggregate-grow
+slice-aggregate-grow c = search needs
+
+slice-aggregate-grow-2 : tie.Need-slice-aggregate-grow-2
+slice-aggregate-grow-2 c = search needs
+
+slice-aggregate-grow-3 : tie.Need-slice-aggregate-grow-3
+slice-aggregate-grow-3 c = search needs
+
+slice-aggregate-grow-4 : tie.Need-slice-aggregate-grow-4
+slice-aggregate-grow-4 c = search needs
+
+slice-aggregate-grow-5 : tie.Need-slice-aggregate-grow-5
+slice-aggregate-grow-5 c = search needs
+
+grow-requires : tie.Need-grow-requires
+grow-requires c κs = search needs
+
+placed-reply-requires : tie.Need-placed-reply-requires
+placed-reply-requires c κs = search needs
+
+returns : tie.Need-returns
+unfolding stateOf pool called replyWith
+returns c =
+    let grown = rw (c .before .before .before .before .before .before .before .before .before .before .before .before .before .parameters .ensures) at (c .before .before .before .before .before .before .before .grow .ensures) in
+    follows _ _ _ (placed (c .before .before .before .before .before .before .before .grow .result .answer)) _ (grown .0) (grown .1) (c .placed-reply .ensures)
+
+pub grow-spec : {M : Type 1} → statement M
+grow-spec =
+    tie.close
+    (tie.spec
+    parameters-requires
+    slice-aggregate-grow
+    slice-aggregate-grow-2
+    slice-aggregate-grow-3
+    slice-aggregate-grow-4
+    slice-aggregate-grow-5
+    grow-requires
+    placed-reply-requires
+    returns)

@@ -1,0 +1,40 @@
+use mathlib.Core.Path.{ap, _∙_}
+use Rattle.sessions.specs.Commands.{stateOf, called, foundReply, replyWith, replyOf}
+use borrow.Author.Needs.{needs}
+use Rattle.sessions.proofs.commands.look_up.Statement.{statement}
+use Rattle.sessions.proofs.commands.look_up.Tie as tie
+
+parameters-requires : tie.Need-parameters-requires
+parameters-requires c κs = search needs
+
+slice-aggregate-look-up : tie.Need-slice-aggregate-look-up
+slice-aggregate-look-up c = search needs
+
+slice-aggregate-look-up-2 : tie.Need-slice-aggregate-look-up-2
+slice-aggregate-look-up-2 c = search needs
+
+slice-aggregate-look-up-3 : tie.Need-slice-aggregate-look-up-3
+slice-aggregate-look-up-3 c = search needs
+
+look-up-requires : tie.Need-look-up-requires
+look-up-requires c κs = search needs
+
+found-reply-requires : tie.Need-found-reply-requires
+found-reply-requires c κs = search needs
+
+returns : tie.Need-returns
+unfolding stateOf called replyWith replyOf
+returns c =
+    c .found-reply .ensures ∙ ap foundReply (rw (c .before .before .before .before .before .parameters .ensures) at (c .before .look-up .ensures))
+
+pub look-up-spec : {M : Type 1} → statement M
+look-up-spec =
+    tie.close
+    (tie.spec
+    parameters-requires
+    slice-aggregate-look-up
+    slice-aggregate-look-up-2
+    slice-aggregate-look-up-3
+    look-up-requires
+    found-reply-requires
+    returns)

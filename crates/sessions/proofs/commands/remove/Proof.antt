@@ -1,0 +1,53 @@
+use mathlib.Core.Path.{sym}
+use Rattle.starfile.specs.Answers.{placed}
+use Rattle.sessions.specs.Commands.{stateOf, pool, called, replyWith}
+use Rattle.sessions.proofs.Replying.{remove-keeps, follows}
+use borrow.Author.Needs.{needs}
+use Rattle.sessions.proofs.commands.remove.Statement.{statement}
+use Rattle.sessions.proofs.commands.remove.Tie as tie
+
+parameters-requires : tie.Need-parameters-requires
+parameters-requires c κs = search needs
+
+slice-aggregate-remove : tie.Need-slice-aggregate-remove
+slice-aggregate-remove c = search needs
+
+slice-aggregate-remove-2 : tie.Need-slice-aggregate-remove-2
+slice-aggregate-remove-2 c = search needs
+
+slice-aggregate-remove-3 : tie.Need-slice-aggregate-remove-3
+slice-aggregate-remove-3 c = search needs
+
+slice-aggregate-remove-4 : tie.Need-slice-aggregate-remove-4
+slice-aggregate-remove-4 c = search needs
+
+slice-aggregate-remove-5 : tie.Need-slice-aggregate-remove-5
+slice-aggregate-remove-5 c = search needs
+
+remove-requires : tie.Need-remove-requires
+remove-requires c κs = search needs
+
+placed-reply-requires : tie.Need-placed-reply-requires
+placed-reply-requires c κs = search needs
+
+returns : tie.Need-returns
+unfolding stateOf pool called replyWith
+returns c =
+    follows _ _ _ (placed (c .before .before .before .before .before .before .remove .result)) _
+    (rw (c .before .before .before .before .before .before .before .before .before .before .before .before .parameters .ensures) at (c .before .before .before .before .before .before .remove .ensures))
+    (sym (remove-keeps _ _ _ _ _))
+    (c .placed-reply .ensures)
+
+pub remove-spec : {M : Type 1} → statement M
+remove-spec =
+    tie.close
+    (tie.spec
+    parameters-requires
+    slice-aggregate-remove
+    slice-aggregate-remove-2
+    slice-aggregate-remove-3
+    slice-aggregate-remove-4
+    slice-aggregate-remove-5
+    remove-requires
+    placed-reply-requires
+    returns)

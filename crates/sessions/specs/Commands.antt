@@ -1,0 +1,76 @@
+-- What the program replies to a command, and what becomes of its star file: document 01, "Host and program".
+use mathlib.Core.Bool.{cond}
+use mathlib.Core.Path.{_≡_}
+use lib.Dec.{eqb}
+use lib.ListN.{replicate}
+use Rattle.hashing.specs.Geometry.{ungrown}
+use Rattle.hashing.specs.declared.Growth.{Growth}
+use Rattle.hashing.specs.declared.Parameters.{Parameters}
+use Rattle.lines.specs.declared.Command.{Command}
+use Rattle.lines.specs.declared.Command.the-variants.{Enter, LookUp, Remove, Grow, Bad}
+use Rattle.lines.specs.declared.Reply.{Reply}
+use Rattle.lines.specs.declared.Reply.the-variants.{Accepted, Found, Missing, Refused, Malformed}
+use Rattle.placement.specs.File.{File}
+use Rattle.starfile.specs.Answers.{Answer, After, Pool, lent, pooled, unpooled, accepted}
+use Rattle.starfile.specs.Calls.{unchanged, emptyFile, enterOf, lookUpOf, removeOf, growOf}
+use Rattle.sessions.specs.declared.commands.StarFile.{StarFile}
+use Rattle.sessions.specs.declared.commands.Replied.{Replied}
+
+-- "N=2, n0=2, s=1, b=2, k=8, A=80, M=8"
+unfoldable pub starline : Parameters
+starline = record { places = 2; groups = 2; width = 2; step = 1; bits = 8; load = 80; pages = 8 }
+
+-- the growth state and the file buffers
+pub record State : Type 0 where
+  pub growth : Growth
+  pub file : File
+
+unfoldable pub stateOf : StarFile → State
+stateOf f = record { growth = f .growth; file = lent (f .separators) (f .numbers) (f .words) }
+
+unfoldable pub newFile : State
+newFile = record { growth = ungrown; file = emptyFile starline }
+
+-- a pool of M·b numbers and M·b words, all 0
+unfoldable pub pool : Pool
+pool = pooled (replicate 16 0) (replicate 16 0)
+
+-- the call that a command makes; a line that is none makes no call
+unfoldable pub called : State → Command → After
+called s (Enter number ra dec) = enterOf starline (s .growth) (s .file) pool number (record { ra = ra; dec = dec })
+called s (LookUp number) = lookUpOf starline (s .growth) (s .file) unpooled number
+called s (Remove number) = removeOf starline (s .growth) (s .file) pool number
+called s Grow = growOf starline (s .growth) (s .file) pool
+called s Bad = unchanged (s .growth) (s .file) pool (accepted 0)
+
+-- "`no` the refusal and its page", or what an accepted call shows
+unfoldable pub unlessRefused : Answer → Reply → Reply
+unlessRefused a reply = cond (eqb (a .refusal) 0) reply (Refused (a .refusal) (a .page))
+
+-- "`ok` shows the page where the star now stands, stood, or the new page"
+unfoldable pub placedReply : Answer → Reply
+placedReply a = unlessRefused a (Accepted (a .page))
+
+-- "`at` the page, ra, dec; `none` the page"
+unfoldable pub foundReply : Answer → Reply
+foundReply a =
+    unlessRefused a (cond (a .found) (Found (a .page) (a .position .ra) (a .position .dec)) (Missing (a .page)))
+
+-- "Any other line .. prints `bad`"
+unfoldable pub replyWith : Command → Answer → Reply
+replyWith (Enter number ra dec) a = placedReply a
+replyWith (LookUp number) a = foundReply a
+replyWith (Remove number) a = placedReply a
+replyWith Grow a = placedReply a
+replyWith Bad a = Malformed
+
+unfoldable pub replyOf : State → Command → Reply
+replyOf s c = replyWith c (called s c .answer)
+
+unfoldable pub nextOf : State → Command → State
+nextOf s c = record { growth = called s c .growth; file = called s c .file }
+
+-- a reply and a file after a command
+pub record Follows (s : State) (c : Command) (r : Replied) : Type 0 where
+  pub replies : r .reply ≡ replyOf s c
+  pub leaves : stateOf (r .file) ≡ nextOf s c
