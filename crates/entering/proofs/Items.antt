@@ -6,7 +6,7 @@ use Prim.Native.Nat.{ℕ, suc, _+_, _-_, _*_, _/_, _%_, _^_, _≤_, _<_}
 use native.Mathlib.Nat.{add-zero, add-suc, suc-add, add-mul, zero-add, mod-lt, div-add-mod', div-lt-iff-lt-mul, mul-le-mul, mul-le-mul-right}
 use native.Mathlib.Omega.{arith}
 use lib.Dec.{leb, ltb, eqb}
-use lib.ListN.{length, drop, getD, length-map, List·getD-map}
+use lib.ListN.{length, take, drop, getD, length-map, List·getD-map}
 use lib.Seq.{getD-take, getD-drop}
 use borrow.Author.Tests.{le-leb, lt-ltb, ne-eqb, eqb-false}
 use Rattle.hashing.specs.declared.Parameters.{Parameters}
@@ -30,10 +30,12 @@ use Rattle.waiting.specs.Words.{pack, homeOf, numberOf}
 use Rattle.waiting.specs.Gather.{stretch, skipped, wordsFrom, groupOf, groupsBelow}
 use Rattle.waiting.proofs.Lists.{all-cons}
 use Rattle.waiting.proofs.Packing.{home-pack, number-pack}
+use Rattle.reach.proofs.Pastes.{map-take, map-drop}
 use Rattle.planning.specs.Plans.{homed}
 use Rattle.planning.specs.Sources.{sourced}
 use Rattle.planning.proofs.Blocks.{from}
 use Rattle.planning.proofs.Sourcing.{fresh, length-stretch, named-stretch, words-homed, words-sourced}
+use Rattle.planning.proofs.Placed.{homes-real}
 use Rattle.entering.specs.Entry.{Unheld, hash, blockNumbers, blockWords}
 
 -- a test that every item passes, every word of the items
@@ -87,18 +89,26 @@ module _ (p : Parameters) (g : Growth) (f : File) (valid : validParameters p ≡
       let l = limits p valid in
       omega (arith, numbers-count, add-mul lo n (p .places), numbers-long, sized .ofNumbers, mul-le-mul (l .pages-most) (l .places-most))
 
+  -- the homes of the stretch's items
+  pub stretch-homes : stretch (p .places) lo n (homesOf multiplier p g (f .numbers)) ≡ homesOf multiplier p g (blockNumbers p f lo n)
+  unfolding homesOf
+  stretch-homes =
+      ap (take (n * p .places)) (map-drop (homeIn multiplier p g) (lo * p .places) (f .numbers))
+      ∙ map-take (homeIn multiplier p g) (n * p .places) (drop (lo * p .places) (f .numbers))
+
   -- the words' sources name their numbers
   pub block-sourced : (k : ℕ) → allBelow (2 ^ 31) (blockNumbers p f lo n) ≡ true → sourced (f .numbers) k (blockWords p g f lo n) ≡ true
   unfolding blockWords
   block-sourced k v =
-      words-sourced (lo * p .places) 0 (blockNumbers p f lo n) (homesOf multiplier p g (blockNumbers p f lo n)) v items-few (f .numbers) k
+      words-sourced (lo * p .places) 0 (blockNumbers p f lo n) (stretch (p .places) lo n (homesOf multiplier p g (f .numbers))) v items-few (f .numbers) k
       (λ i a. named-stretch (p .places) lo n k (f .numbers) numbers-long i a)
 
   -- .. and carry the homes of their numbers
   pub block-homed : allBelow (2 ^ 31) (blockNumbers p f lo n) ≡ true → homed (hash p g) (blockWords p g f lo n) ≡ true
-  unfolding blockWords homesOf hashOf Rattle.planning.proofs.Sourcing.itemHome
+  unfolding blockWords
   block-homed v =
-      words-homed (lo * p .places) 0 (blockNumbers p f lo n) (homesOf multiplier p g (blockNumbers p f lo n)) v items-few (hash p g) refl
+      words-homed (lo * p .places) 0 (blockNumbers p f lo n) (stretch (p .places) lo n (homesOf multiplier p g (f .numbers))) v items-few (hash p g)
+      (stretch-homes ∙ homes-real p g (blockNumbers p f lo n))
 
   module _ (sound : (q : ℕ) → lo ≤ q → q < lo + n → soundAt multiplier p g f q ≡ true) where
     -- the page and the place of item i
@@ -185,7 +195,8 @@ module _ (p : Parameters) (g : Growth) (f : File) (valid : validParameters p ≡
     pub words-all : (t : ℕ → Bool) → ((w : ℕ) → WordOn p g f lo n w → t w ≡ true) → all t (blockWords p g f lo n) ≡ true
     unfolding blockWords pageOf
     words-all t each =
-        all-words t (lo * p .places) 0 (blockNumbers p f lo n) (homesOf multiplier p g (blockNumbers p f lo n))
+        rw stretch-homes
+        (all-words t (lo * p .places) 0 (blockNumbers p f lo n) (homesOf multiplier p g (blockNumbers p f lo n))
         (λ i a b s.
         let short : i < n * p .places = rw numbers-count at a in
         let k : ℕ = getD (blockNumbers p f lo n) i 0 in
@@ -204,7 +215,7 @@ module _ (p : Parameters) (g : Growth) (f : File) (valid : validParameters p ≡
           homed = omega (arith, there, item-there i short .star star .homed);
           above = λ e a b. omega (arith, there, item-above i short star e a b);
           other = λ k u e. item-other i short star k u (sym number ∙ e);
-        }))
+        })))
 
     pub block-grouped : groupsBelow lo n (blockWords p g f lo n) ≡ true
     unfolding groupOf

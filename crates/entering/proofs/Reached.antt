@@ -1,9 +1,9 @@
 -- The reach of an entry, block after block: what stands when the blocks up to page lo are planned, and what the answers say.
 use mathlib.Core.Path.{_≡_, refl, sym, ap, _∙_, subst}
 use mathlib.Core.Bool.{Bool, true, false, not, cond, _&&_, true≢false, false≢true}
-use mathlib.Core.List.{List, [], _∷_, _++_, map}
-use Prim.Native.Nat.{ℕ, suc, _+_, _-_, _*_, _≤_, _<_}
-use native.Mathlib.Nat.{add-zero, zero-add, add-mul, mul-le-mul, mul-le-mul-right, zero-mul, suc-mul}
+use mathlib.Core.List.{List, [], _∷_, map}
+use Prim.Native.Nat.{ℕ, zero, suc, _+_, _-_, _*_, _≤_, _<_}
+use native.Mathlib.Nat.{add-zero, zero-add, mul-le-mul, mul-le-mul-right, zero-mul, suc-mul}
 use native.Mathlib.Decide.{decLt}
 use native.Mathlib.Omega.{arith}
 use lib.Dec.{eqb}
@@ -16,28 +16,27 @@ use Rattle.hashing.specs.Generator.{multiplier}
 use Rattle.hashing.specs.Limits.{validParameters, validGrowth}
 use Rattle.hashing.proofs.Bounds.{limits}
 use Rattle.pages.specs.Position.{validNumber}
-use Rattle.placement.specs.Rule.{Star, Contents, separators, pages, left, insert}
-use Rattle.placement.specs.File.{File, Sized, gathered, column, replaced, written}
+use Rattle.placement.specs.Rule.{Star, separators, pages, left, insert}
+use Rattle.placement.specs.File.{File, Sized, gathered, column, replaced}
 use Rattle.placement.specs.Hash.{hashOf, soundAt}
 use Rattle.placement.proofs.Mapping.{mapped}
 use Rattle.placement.proofs.Probing.{homed-real}
 use Rattle.placement.proofs.Composition.{crowded}
-use Rattle.placement.proofs.Standing.{length-separators}
-use Rattle.placement.proofs.Writing.{column-append, length-column, separators-append}
-use Rattle.waiting.specs.Gather.{stretch, starsIn}
+use Rattle.waiting.specs.Gather.{starsIn}
 use Rattle.waiting.specs.Settle.{homesUpTo}
 use Rattle.planning.specs.Plans.{plans, remains, waits, Planned}
 use Rattle.planning.specs.Sources.{renamed}
 use Rattle.planning.proofs.Pouring.{length-waits}
-use Rattle.planning.proofs.Stretch.{plans-roomy, length-plans, remains-near}
-use Rattle.planning.proofs.Applying.{applied, applied-is}
+use Rattle.planning.proofs.Stretch.{remains-near}
+use Rattle.planning.proofs.Applying.{applied}
+use Rattle.planning.proofs.Placed.{Layout, layout, layout-next, applied-layout}
 use Rattle.reach.specs.Reach.{isEmpty, pagesTo, storedTop, removalEnd, entering, entersWithin, entryEnd, firstUnsound}
 use Rattle.reach.proofs.Search.{Such, such}
 use Rattle.entering.specs.declared.blocks.Reach.the-variants.{Ends, Unsound, Overflows}
 use Rattle.entering.specs.Entry.{Unheld, hash, newStar, startOf, endOf, countOf, unsoundOf, contentsOf, byReach, reachAnswer, entryFile, Applies, blockEnd, blockCount, blockNumbers, blockWords, BlockSound, PlannedBlock, UnsoundBlock, CrowdedBlock}
 use Rattle.entering.proofs.Firsts.{such-is}
-use Rattle.entering.proofs.Written.{written-next}
-use Rattle.entering.proofs.Joined.{newWord, plansTo, remainsTo, new-near, planned-pages, planned-left, planned-sourced, joined, crowds, few-stars}
+use Rattle.entering.proofs.Joined.{newWord, plansTo, remainsTo, words-add, new-here, new-named, planned-pages, planned-left, block-named, crowds, few-stars}
+use Rattle.entering.proofs.Items.{block-grouped, block-above}
 
 -- a file has items
 pub some-items : (p : Parameters) (g : Growth) → validParameters p ≡ true → validGrowth p g ≡ true → (k : ℕ) → 0 < p .pages * p .places
@@ -58,10 +57,7 @@ ending p g f k word q = storedTop (f .separators) (hash p g .top) q && entersWit
 pub record Spanned (p : Parameters) (g : Growth) (f : File) (k : ℕ) (pool planned W : List ℕ) (d carried : ℕ) : Type 0 where
   pub most : startOf p g k + d ≤ p .pages
   pub sound : (q : ℕ) → startOf p g k ≤ q → q < startOf p g k + d → soundAt multiplier p g f q ≡ true
-  pub sources : stretch (p .places) (startOf p g k) d pool ≡ column (p .places) (λ (s : Star). s .word) (plansTo p g f k d)
-  pub planned-are : take d (drop (startOf p g k) planned) ≡ separators (plansTo p g f k d)
-  pub waiting-are : take carried W ≡ remainsTo p g f k d
-  pub counted : carried ≡ length (remainsTo p g f k d)
+  pub laid-out : Layout (p .bits) (p .places) (startOf p g k) d (newWord p g f k ∷ []) (blockWords p g f (startOf p g k) d) pool planned W carried
 
 -- they are the pages below page lo, end at a page whose separator is top, and at none of them the reach ends
 pub record Reached (p : Parameters) (g : Growth) (f : File) (k : ℕ) (pool planned W : List ℕ) (lo carried : ℕ) : Type 0 where
@@ -136,7 +132,7 @@ empty-is [] e = refl
 empty-is (s ∷ l) e = absurd (false≢true e)
 
 module _ (p : Parameters) (g : Growth) (f : File) (k : ℕ) (valid : validParameters p ≡ true) (sized : Sized (p .places) (p .pages) f) (number : validNumber k ≡ true) (unheld : Unheld p g f k) where
-  pub reached-none : (pool planned W : List ℕ) → startOf p g k < p .pages → 0 < length W → Reached p g f k pool planned (set W 0 (newWord p g k)) (startOf p g k) 1
+  pub reached-none : (pool planned W : List ℕ) → startOf p g k < p .pages → 0 < length W → Reached p g f k pool planned (set W 0 (newWord p g f k)) (startOf p g k) 1
   reached-none pool planned W inside some =
       record {
         done = 0;
@@ -146,10 +142,13 @@ module _ (p : Parameters) (g : Growth) (f : File) (k : ℕ) (valid : validParame
             record {
               most = omega arith;
               sound = λ q a b. absurd (omega arith);
-              sources = unfold plans column in ap (λ (n : ℕ). take n (drop (startOf p g k * p .places) pool)) (zero-mul (p .places));
-              planned-are = unfold plans separators in refl;
-              waiting-are = unfold remains in take-suc-set W 0 (newWord p g k) some;
-              counted = unfold remains in refl;
+              laid-out =
+                  record {
+                    sources = unfold plans column in ap (λ (n : ℕ). take n (drop (startOf p g k * p .places) pool)) (zero-mul (p .places));
+                    separators-are = unfold plans separators in refl;
+                    passed = unfold remains in take-suc-set W 0 (newWord p g f k) some;
+                    counted = unfold remains in refl;
+                  };
             };
         ended = λ e a b. absurd (omega arith);
         passed = λ word q a b. absurd (omega arith);
@@ -158,12 +157,12 @@ module _ (p : Parameters) (g : Growth) (f : File) (k : ℕ) (valid : validParame
   module _ (pool planned W : List ℕ) (d carried : ℕ) (s : Spanned p g f k pool planned W d carried) where
     pub spanned-near : homesUpTo (startOf p g k + d) (take carried W) ≡ true
     spanned-near =
-        rw (s .waiting-are)
-        (rw (zero-add d) at (remains-near (p .bits) (p .places) (startOf p g k) (blockWords p g f (startOf p g k) d) 0 d (newWord p g k ∷ [])
-        (rw (add-zero (startOf p g k)) (new-near p g f k valid sized number unheld))))
+        rw (s .laid-out .passed)
+        (rw (zero-add d) at (remains-near (p .bits) (p .places) (startOf p g k) (blockWords p g f (startOf p g k) d) 0 d (newWord p g f k ∷ [])
+        (rw (add-zero (startOf p g k)) (new-here p g f k valid sized number unheld))))
 
     pub spanned-few : carried ≤ length W
-    spanned-few = omega (arith, s .counted, ap length (s .waiting-are), length-take carried W)
+    spanned-few = omega (arith, s .laid-out .counted, ap length (s .laid-out .passed), length-take carried W)
 
     -- nothing is carried on exactly if the star enters within these pages
     spanned-within : (word last : ℕ) → d ≡ pagesTo (startOf p g k) last → entersWithin (hash p g) f (newStar k word) last ≡ eqb carried 0
@@ -172,68 +171,27 @@ module _ (p : Parameters) (g : Growth) (f : File) (k : ℕ) (valid : validParame
         is-empty (left (hash p g) (startOf p g k) (pagesTo (startOf p g k) last) (insert (newStar k word) (gathered (p .places) f (startOf p g k) (pagesTo (startOf p g k) last))))
         ∙ ap (λ (n : ℕ). eqb (length (left (hash p g) (startOf p g k) n (insert (newStar k word) (gathered (p .places) f (startOf p g k) n)))) 0) (sym e)
         ∙ ap (λ (l : List Star). eqb (length l) 0) (planned-left p g f k valid sized number unheld d (s .most) (s .sound) word)
-        ∙ ap (λ (n : ℕ). eqb n 0) (length-map (waits (remainsTo p g f k d)) (renamed (f .words) word) ∙ length-waits (remainsTo p g f k d) ∙ sym (s .counted))
+        ∙ ap (λ (n : ℕ). eqb n 0) (length-map (waits (remainsTo p g f k d)) (renamed (f .words) word) ∙ length-waits (remainsTo p g f k d) ∙ sym (s .laid-out .counted))
 
-    spanned-next : (pool′ planned′ W′ : List ℕ) (m left : ℕ) → length pool ≡ p .pages * p .places → p .pages ≤ length planned
-        → startOf p g k + (d + m) ≤ p .pages → ((q : ℕ) → startOf p g k + d ≤ q → q < startOf p g k + (d + m) → soundAt multiplier p g f q ≡ true)
-        → ((e : ℕ) → startOf p g k ≤ e → suc e ≡ startOf p g k + d → getD (f .separators) e 0 ≡ hash p g .top)
-        → Planned (p .bits) (p .places) (startOf p g k + d) m (take carried W) (blockWords p g f (startOf p g k + d) m) pool pool′ planned planned′ W′ left
-        → Spanned p g f k pool′ planned′ W′ (d + m) left
-    spanned-next pool′ planned′ W′ m left lp ln inside sound ended plan =
-        record {
-          most = inside;
-          sound = all-sound;
-          sources =
-              ap (stretch (p .places) h (d + m)) (plan .sources)
-              ∙ ap (λ (n : ℕ). take n (drop (h * p .places) (written ((h + d) * p .places) sources pool))) (add-mul d m (p .places))
-              ∙ ap (λ (n : ℕ). take (d * p .places + m * p .places) (drop (h * p .places) (written n sources pool))) (add-mul h d (p .places))
-              ∙ written-next (h * p .places) (d * p .places) (m * p .places) sources pool long (omega (arith, lp, add-mul h d (p .places), mul-le-mul-right (p .places) (s .most)))
-              ∙ ap (λ (l : List ℕ). l ++ sources) (s .sources)
-              ∙ sym (column-append (p .places) (λ (x : Star). x .word) (plansTo p g f k d) block)
-              ∙ ap (column (p .places) (λ (x : Star). x .word)) whole;
-          planned-are =
-              ap (λ (l : List ℕ). take (d + m) (drop h l)) (plan .separators-are)
-              ∙ written-next h d m (separators block) planned (length-separators block ∙ size) (omega (arith, s .most, ln))
-              ∙ ap (λ (l : List ℕ). l ++ separators block) (s .planned-are)
-              ∙ sym (separators-append (plansTo p g f k d) block)
-              ∙ ap separators whole;
-          waiting-are = plan .passed ∙ same-left;
-          counted = plan .counted ∙ ap length same-left;
-        }
-      where
-        h : ℕ
-        h = startOf p g k
-
-        all-sound : (q : ℕ) → h ≤ q → q < h + (d + m) → soundAt multiplier p g f q ≡ true
-        all-sound q a b = go (decLt q (h + d))
-          where
-            go : Dec (q < h + d) → soundAt multiplier p g f q ≡ true
-            go (yes l) = s .sound q a l
-            go (no l) = sound q (omega arith) b
-
-        both : (plansTo p g f k (d + m) ≡ plansTo p g f k d ++ plans (p .bits) (p .places) (h + d) 0 m (remainsTo p g f k d) (blockWords p g f (h + d) m))
-            × (remainsTo p g f k (d + m) ≡ remains (p .bits) (p .places) (h + d) 0 m (remainsTo p g f k d) (blockWords p g f (h + d) m))
-        both = joined p g f k valid sized number unheld d m inside all-sound ended
-
-        block : List Contents
-        block = plans (p .bits) (p .places) (h + d) 0 m (take carried W) (blockWords p g f (h + d) m)
-
-        sources : List ℕ
-        sources = column (p .places) (λ (x : Star). x .word) block
-
-        size : length block ≡ m
-        size = length-plans (p .bits) (p .places) (h + d) 0 m (take carried W) (blockWords p g f (h + d) m)
-
-        long : length sources ≡ m * p .places
-        long = length-column (p .places) (λ (x : Star). x .word) block (plans-roomy (p .bits) (p .places) (h + d) 0 m (take carried W) (blockWords p g f (h + d) m)) ∙ ap (λ (n : ℕ). n * p .places) size
-
-        whole : plansTo p g f k d ++ block ≡ plansTo p g f k (d + m)
-        whole =
-            ap (λ (w : List ℕ). plansTo p g f k d ++ plans (p .bits) (p .places) (h + d) 0 m w (blockWords p g f (h + d) m)) (s .waiting-are)
-            ∙ sym (both .0)
-
-        same-left : remains (p .bits) (p .places) (h + d) 0 m (take carried W) (blockWords p g f (h + d) m) ≡ remainsTo p g f k (d + m)
-        same-left = ap (λ (w : List ℕ). remains (p .bits) (p .places) (h + d) 0 m w (blockWords p g f (h + d) m)) (s .waiting-are) ∙ sym (both .1)
+  spanned-next : (pool planned W : List ℕ) (d carried : ℕ) → Spanned p g f k pool planned W d carried → (pool′ planned′ W′ : List ℕ) (m left : ℕ)
+      → length pool ≡ p .pages * p .places → p .pages ≤ length planned → startOf p g k + (d + m) ≤ p .pages
+      → ((q : ℕ) → startOf p g k ≤ q → q < startOf p g k + (d + m) → soundAt multiplier p g f q ≡ true)
+      → ((e : ℕ) → startOf p g k ≤ e → suc e ≡ startOf p g k + d → getD (f .separators) e 0 ≡ hash p g .top)
+      → Planned (p .bits) (p .places) (startOf p g k + d) m (take carried W) (blockWords p g f (startOf p g k + d) m) pool pool′ planned planned′ W′ left
+      → Layout (p .bits) (p .places) (startOf p g k) (d + m) (newWord p g f k ∷ []) (blockWords p g f (startOf p g k) (d + m)) pool′ planned′ W′ left
+  spanned-next pool planned W zero carried s pool′ planned′ W′ m left lp ln inside sound ended plan =
+      let first : take carried W ≡ newWord p g f k ∷ [] = unfold remains in s .laid-out .passed in
+      rw (zero-add m)
+      (layout (p .bits) (p .places) (startOf p g k) m (newWord p g f k ∷ []) (blockWords p g f (startOf p g k) m) pool pool′ planned planned′ W′ left
+      (rw (add-zero (startOf p g k), first) at plan) (rw lp (mul-le-mul-right (p .places) (omega arith))) (omega arith))
+  spanned-next pool planned W (suc d) carried s pool′ planned′ W′ m left lp ln inside sound ended plan =
+      rw (words-add p g f sized (startOf p g k) (suc d) m (omega arith))
+      (layout-next (p .bits) (p .places) (startOf p g k) (suc d) m (newWord p g f k ∷ []) (blockWords p g f (startOf p g k) (suc d)) (blockWords p g f (startOf p g k + suc d) m)
+      pool pool′ planned planned′ W W′ carried left
+      (block-grouped p g f valid sized (startOf p g k) (suc d) (omega arith) (λ q a b. sound q a (omega arith)))
+      (block-above p g f valid sized (startOf p g k + suc d) m (omega arith) (λ q a b. sound q (omega arith) (omega arith)) (startOf p g k + d) (omega arith)
+      (ended (startOf p g k + d) (omega arith) (omega arith)))
+      (rw lp (mul-le-mul-right (p .places) (omega arith))) (omega arith) (s .laid-out) plan)
 
   module _ (pool planned W : List ℕ) (lo carried : ℕ) (r : Reached p g f k pool planned W lo carried) where
     last : ℕ
@@ -339,7 +297,7 @@ module _ (p : Parameters) (g : Growth) (f : File) (k : ℕ) (valid : validParame
           subst (λ (x : ℕ). length (remainsTo p g f k (r .done)) + starsIn 0 (blockNumbers p f lo (blockCount p g f lo)) ≤ length (insert (newStar k word) (gathered (p .places) f (startOf p g k) x))) same
           (subst (λ (x : ℕ). length (remainsTo p g f k (r .done)) + starsIn 0 (blockNumbers p f x (blockCount p g f lo)) ≤ length (insert (newStar k word) (gathered (p .places) f (startOf p g k) (r .done + blockCount p g f lo)))) (sym (r .at))
           (crowds p g f k valid sized number unheld (r .done) (blockCount p g f lo) (omega (arith, same, few-pages)) (λ q a b. pages-sound (c .sound) q a (omega (arith, same))) word)) in
-          omega (arith, more, c .many, ap length (r .spanned .waiting-are))
+          omega (arith, more, c .many, ap length (r .spanned .laid-out .passed))
 
       -- so the reach has all pages
       all-pages : suc last ≡ p .pages
@@ -384,12 +342,17 @@ module _ (p : Parameters) (g : Growth) (f : File) (k : ℕ) (valid : validParame
       spanned-block : Spanned p g f k pool′ planned′ W′ (pagesTo (startOf p g k) last) left
       unfolding pagesHere
       spanned-block =
-          subst (λ (x : ℕ). Spanned p g f k pool′ planned′ W′ x left) same
-          (spanned-next pool planned W (r .done) carried (r .spanned) pool′ planned′ W′ (blockCount p g f lo) left lp ln
-          (omega (arith, same, few-pages))
-          (λ q a h. pages-sound (b .sound) q (omega arith) (omega (arith, same)))
-          (λ e a h. r .ended e a (h ∙ sym (r .at)))
-          (subst (λ (x : ℕ). Planned (p .bits) (p .places) x (blockCount p g f lo) (take carried W) (blockWords p g f x (blockCount p g f lo)) pool pool′ planned planned′ W′ left) (r .at) (b .plan)))
+          record {
+            most = few-pages;
+            sound = pages-sound (b .sound);
+            laid-out =
+                subst (λ (x : ℕ). Layout (p .bits) (p .places) (startOf p g k) x (newWord p g f k ∷ []) (blockWords p g f (startOf p g k) x) pool′ planned′ W′ left) same
+                (spanned-next pool planned W (r .done) carried (r .spanned) pool′ planned′ W′ (blockCount p g f lo) left lp ln
+                (omega (arith, same, few-pages))
+                (λ q a h. pages-sound (b .sound) q a (omega (arith, same)))
+                (λ e a h. r .ended e a (h ∙ sym (r .at)))
+                (subst (λ (x : ℕ). Planned (p .bits) (p .places) x (blockCount p g f lo) (take carried W) (blockWords p g f x (blockCount p g f lo)) pool pool′ planned planned′ W′ left) (r .at) (b .plan)));
+          }
 
       within-block : (word : ℕ) → entersWithin (hash p g) f (newStar k word) last ≡ eqb left 0
       within-block word = spanned-within pool′ planned′ W′ (pagesTo (startOf p g k) last) left spanned-block word last refl
@@ -421,8 +384,9 @@ module _ (p : Parameters) (g : Growth) (f : File) (k : ℕ) (valid : validParame
             let el : l ≡ last = sym e ∙ stop-is in (
               omega (arith, el, below-last),
               ap (λ (q : ℕ). applied (p .places) (startOf p g k) (pagesTo (startOf p g k) q) k word pool′ planned′ f) el
-                  ∙ applied-is (p .places) (startOf p g k) (pagesTo (startOf p g k) last) k word pool′ planned′ f (plansTo p g f k (pagesTo (startOf p g k) last))
-                  (spanned-block .sources) (spanned-block .planned-are) (planned-sourced p g f k valid sized number unheld (pagesTo (startOf p g k) last) (spanned-block .most) (spanned-block .sound))
+                  ∙ applied-layout (p .bits) (p .places) (startOf p g k) (pagesTo (startOf p g k) last) k word f (newWord p g f k ∷ []) (blockWords p g f (startOf p g k) (pagesTo (startOf p g k) last))
+                  pool′ planned′ W′ left (spanned-block .laid-out) (new-named p g f k valid sized number unheld)
+                  (block-named p g f k valid sized number unheld (pagesTo (startOf p g k) last) (spanned-block .most) (spanned-block .sound))
                   ∙ ap (replaced (p .places) f (startOf p g k)) (contents word)
                   ∙ sym (by-reach p g f k last least (all-sound (b .sound)) word true f f (replaced (p .places) f (startOf p g k) (contentsOf p g f k word)) (end-here word) (enters word)),
             )

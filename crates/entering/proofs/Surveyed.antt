@@ -1,12 +1,12 @@
 -- One block: its end, its survey, and its plan over the surveyed homes.
 use mathlib.Core.Path.{_≡_, sym, ap, _∙_, subst}
 use mathlib.Core.Bool.{true, not}
-use mathlib.Core.List.{List}
+use mathlib.Core.List.{List, _++_}
 use Prim.Native.Nat.{ℕ, _+_, _-_, _*_, _%_, _^_, _≤_, _<_}
 use native.Mathlib.Nat.{add-mul, mul-le-mul-right}
 use native.Mathlib.Omega.{arith}
-use lib.ListN.{length, drop, length-map, length-drop}
-use lib.Seq.{paste, slice}
+use lib.ListN.{take, length-append, length, drop, length-map, length-drop}
+use lib.Seq.{take-at, take-append-le, length-take-le, drop-paste, paste, slice}
 use Rattle.hashing.specs.declared.Parameters.{Parameters}
 use Rattle.hashing.specs.declared.Growth.{Growth}
 use Rattle.hashing.specs.Generator.{multiplier}
@@ -24,11 +24,24 @@ use Rattle.planning.specs.Plans.{plans, Planned}
 use Rattle.planning.proofs.Stretch.{plans-roomy, length-plans}
 use Rattle.reach.specs.Reach.{firstSuch, storedTop, removalEnd, firstUnsound}
 use Rattle.reach.proofs.Search.{such}
-use Rattle.reach.proofs.Pastes.{map-take}
-use Rattle.entering.specs.Entry.{blockEnd, blockCount, blockWords, BlockSound, PlannedBlock, UnsoundBlock, CrowdedBlock}
-use Rattle.entering.proofs.Items.{numbers-below, homes-below}
-use Rattle.entering.proofs.Written.{written-paste, pasted-part}
+use Rattle.planning.proofs.Placed.{surveyed-homes, homes-real}
+use Rattle.entering.specs.Entry.{blockNumbers, blockEnd, blockCount, blockWords, BlockSound, PlannedBlock, UnsoundBlock, CrowdedBlock}
+use Rattle.entering.proofs.Items.{stretch-homes, numbers-below, homes-below}
 use Rattle.entering.proofs.Reached.{block-such, block-most, block-sound, block-sum}
+
+-- what is pasted first is written over
+pub written-paste : (d : List ℕ) (at : ℕ) (t : List ℕ) (n : ℕ) (s : List ℕ) → length s ≡ n → at + n ≤ length d → n ≤ length t
+    → written at s (paste d at t n) ≡ written at s d
+unfolding written
+written-paste d at t n s e h k =
+    ap (λ (l : List ℕ). l ++ (s ++ drop (at + length s) (paste d at t n)))
+    (take-append-le at (take at d ++ take n t) (drop (at + n) d) (omega (arith, length-append (take at d) (take n t), size))
+    ∙ take-at (take at d) (take n t) at size)
+    ∙ ap (λ (m : ℕ). take at d ++ (s ++ drop (at + m) (paste d at t n))) e
+    ∙ ap (λ (l : List ℕ). take at d ++ (s ++ l)) (drop-paste d at t n (omega arith) k ∙ ap (λ (m : ℕ). drop (at + m) d) (sym e))
+  where
+    size : length (take at d) ≡ at
+    size = length-take-le at d (omega arith)
 
 module _ (p : Parameters) (g : Growth) (f : File) (valid : validParameters p ≡ true) (sized : Sized (p .places) (p .pages) f) (lo : ℕ) (inside : lo < p .pages) where
   pub end-found : (last : ℕ) → last ≡ firstSuch (storedTop (f .separators) (1 * 2 ^ p .bits % 2 ^ 32 - 1)) lo (length (f .separators) - 1 - lo) → last ≡ blockEnd p g f lo
@@ -81,15 +94,15 @@ module _ (p : Parameters) (g : Growth) (f : File) (valid : validParameters p ≡
         unfolding homesOf
         homes-long = omega (arith, room, length-map (drop (lo * p .places) (f .numbers)) (homeIn multiplier p g), length-drop (lo * p .places) (f .numbers), sized .ofNumbers)
 
-        pub found-homes : stretch (p .places) lo (last + 1 - lo) homes ≡ homesOf multiplier p g (stretch (p .places) lo (last + 1 - lo) (f .numbers))
-        unfolding homesOf
+        pub found-homes : stretch (p .places) lo (last + 1 - lo) homes ≡ stretch (p .places) lo (last + 1 - lo) (homesOf multiplier p g (f .numbers))
         found-homes =
             ap (stretch (p .places) lo (last + 1 - lo)) kept
-            ∙ pasted-part pool (lo * p .places) (homesOf multiplier p g (drop (lo * p .places) (f .numbers))) ((last + 1 - lo) * p .places) (omega (arith, room, long)) homes-long
-            ∙ map-take (homeIn multiplier p g) ((last + 1 - lo) * p .places) (drop (lo * p .places) (f .numbers))
+            ∙ surveyed-homes p g (p .places) lo (last + 1 - lo) pool (f .numbers)
+            (omega (arith, room, long, add-mul lo (last + 1 - lo) (p .places))) (omega (arith, room, sized .ofNumbers, add-mul lo (last + 1 - lo) (p .places)))
+            ∙ sym (stretch-homes p g f valid sized lo (last + 1 - lo) few ∙ homes-real p g (blockNumbers p f lo (last + 1 - lo)))
 
         pub found-below : allBelow (lo + (last + 1 - lo)) (stretch (p .places) lo (last + 1 - lo) homes) ≡ true
-        found-below = rw found-homes (homes-below p g f valid sized lo (last + 1 - lo) few sound)
+        found-below = rw (found-homes, stretch-homes p g f valid sized lo (last + 1 - lo) few) (homes-below p g f valid sized lo (last + 1 - lo) few sound)
 
         -- the plan over the surveyed homes
         module _ (w planned sources planned′ W′ : List ℕ) (left : ℕ)

@@ -13,8 +13,8 @@ use Rattle.placement.specs.Rule.{Star, Hash, Contents, pages}
 use Rattle.placement.specs.File.{File, replaced}
 use Rattle.placement.specs.Hash.{hashOf, soundAt, namedPage, homesOf}
 use Rattle.reach.specs.Reach.{pagesTo, removalEnd, entering, entersWithin, entryEnd, firstUnsound, holding}
-use Rattle.waiting.specs.Gather.{stretch, starsIn, wordsFrom}
-use Rattle.planning.specs.Plans.{Planned}
+use Rattle.waiting.specs.Gather.{stretch, starsIn}
+use Rattle.planning.specs.Plans.{stretchWords, Planned}
 use Rattle.planning.proofs.Applying.{applied}
 use Rattle.entering.specs.declared.blocks.Reach.{Reach}
 use Rattle.entering.specs.declared.blocks.Reach.the-variants.{Ends, Unsound, Overflows}
@@ -93,8 +93,7 @@ abbrev pub blockNumbers : Parameters → File → ℕ → ℕ → List ℕ
 blockNumbers p f lo n = stretch (p .places) lo n (f .numbers)
 
 unfoldable pub blockWords : Parameters → Growth → File → ℕ → ℕ → List ℕ
-blockWords p g f lo n =
-    wordsFrom (lo * p .places) 0 (blockNumbers p f lo n) (homesOf multiplier p g (blockNumbers p f lo n))
+blockWords p g f lo n = stretchWords (p .places) lo n 0 (f .numbers) (homesOf multiplier p g (f .numbers))
 
 -- all pages of the block are sound
 abbrev pub BlockSound : Parameters → Growth → File → ℕ → Type 0

@@ -116,7 +116,7 @@ loop-holds : tie.Need-loop-holds Inv-loop μ-loop
 loop-holds c =
     let s = c .before .before .before .before .before .before .before .before .before in
     let from : c .before .home .result ≡ startOf (s .args .geometry .parameters) (s .args .geometry .growth) (s .args .number) = c .before .home .ensures ∙ unfolded (s .args .geometry .parameters) (s .args .geometry .growth) (s .args .number) in
-    let word : c .pack .result ≡ newWord (s .args .geometry .parameters) (s .args .geometry .growth) (s .args .number) = c .pack .ensures ∙ rw (from, s .pre .1 .1 .1 .0 .ofNumbers) in (
+    let word : c .pack .result ≡ newWord (s .args .geometry .parameters) (s .args .geometry .growth) (file s) (s .args .number) = c .pack .ensures ∙ rw from in (
       refl,
       (
         refl,
