@@ -10,7 +10,8 @@ use Rattle.sessions.proofs.blocks.answer_block.Statement.{statement}
 use Rattle.sessions.proofs.blocks.answer_block.Tie as tie
 
 abbrev Inv-loop : tie.InvT-loop
-Inv-loop block out₀ state₀ at₀ i₀ out state at i = (i ≤ length block) × (at ≤ 37 * i) × Stands (runs (runOf state₀) (take i block)) 0 out₀ out state at
+Inv-loop block out₀ state₀ at₀ i₀ out state at i =
+    (i ≤ length block) × (at ≤ 37 * i) × Stands (runs (runOf state₀) (take i block)) 0 out₀ out state at
 
 abbrev μ-loop : tie.MeasureT-loop
 μ-loop block out₀ state₀ at₀ i₀ out state at i = length block - i
@@ -25,7 +26,9 @@ shared-slice-read-take-byte : tie.Need-shared-slice-read-take-byte Inv-loop μ-l
 shared-slice-read-take-byte c = omega arith
 
 take-byte-requires : tie.Need-take-byte-requires Inv-loop μ-loop
-take-byte-requires c κs = omega (arith, same-size (c .before .before .before), c .before .before .loop-test .taken, c .before .before .before .before .before .before .pre)
+take-byte-requires c κs =
+    let turn = c .before .before in
+    omega (arith, same-size (turn .before), turn .loop-test .taken, turn .before .before .before .before .pre)
 
 add-i : tie.Need-add-i Inv-loop μ-loop
 add-i c = omega arith
@@ -35,11 +38,12 @@ loop-less c = omega arith
 
 loop-again : tie.Need-loop-again Inv-loop μ-loop
 loop-again c =
-    let i = c .before .before .before .before .before .before .before .loop .i in
-    rw (add-one i) (
+    let taken = c .before .before .before in
+    let turn = taken .before .before .before in
+    rw (add-one (turn .before .loop .i)) (
       omega arith,
-      omega (arith, c .before .before .before .take-byte .ensures .1),
-      block-more _ _ _ _ _ _ _ _ _ _ (c .before .before .before .before .before .before .loop-test .taken) (c .before .before .before .before .before .before .before .loop .inv .2) (c .before .before .before .take-byte .ensures .0),
+      omega (arith, taken .take-byte .ensures .1),
+      block-more _ _ _ _ _ _ _ _ _ _ (turn .loop-test .taken) (turn .before .loop .inv .2) (taken .take-byte .ensures .0),
     )
 
 same-length : tie.Need-same-length Inv-loop μ-loop
@@ -47,7 +51,8 @@ same-length c = same-size (c .before)
 
 returns : tie.Need-returns Inv-loop μ-loop
 returns c =
-    let all : take (c .before .loop .i) (c .before .before .before .before .args .block .now) ≡ c .before .before .before .before .args .block .now = take-all _ _ (c .loop-test .left) in
+    let block = c .before .before .before .before .args .block .now in
+    let all : take (c .before .loop .i) block ≡ block = take-all _ _ (c .loop-test .left) in
     (rw all at (c .before .loop .inv .2), omega arith)
 
 pub answer-block-spec : {M : Type 1} → statement M

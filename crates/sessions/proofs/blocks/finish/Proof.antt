@@ -20,7 +20,9 @@ same-length c = search needs
 
 returns-2 : tie.Need-returns-2
 unfolding lastAnswer onward runOf
-returns-2 c = rw (sym (c .before .before .before .before .before .is-blank .ensures) ∙ c .before .before .before .before .if1 .left) (c .before .before .end-line .ensures .0 .text, omega arith)
+returns-2 c =
+    let kept = c .before .before .before .before in
+    rw (sym (kept .before .is-blank .ensures) ∙ kept .if1 .left) (c .before .before .end-line .ensures .0 .text, omega arith)
 
 pub finish-spec : {M : Type 1} → statement M
 finish-spec =

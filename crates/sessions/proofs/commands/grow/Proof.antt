@@ -32,8 +32,10 @@ placed-reply-requires c κs = search needs
 returns : tie.Need-returns
 unfolding stateOf pool called replyWith
 returns c =
-    let grown = rw (c .before .before .before .before .before .before .before .before .before .before .before .before .before .parameters .ensures) at (c .before .before .before .before .before .before .before .grow .ensures) in
-    follows _ _ _ (placed (c .before .before .before .before .before .before .before .grow .result .answer)) _ (grown .0) (grown .1) (c .placed-reply .ensures)
+    let called = c .before .before .before .before .before .before .before in
+    let made = called .before .before .before .before .before .before in
+    let grown = rw (made .parameters .ensures) at (called .grow .ensures) in
+    follows _ _ _ (placed (called .grow .result .answer)) _ (grown .0) (grown .1) (c .placed-reply .ensures)
 
 pub grow-spec : {M : Type 1} → statement M
 grow-spec =

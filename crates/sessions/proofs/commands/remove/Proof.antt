@@ -33,8 +33,10 @@ placed-reply-requires c κs = search needs
 returns : tie.Need-returns
 unfolding stateOf pool called replyWith
 returns c =
-    follows _ _ _ (placed (c .before .before .before .before .before .before .remove .result)) _
-    (rw (c .before .before .before .before .before .before .before .before .before .before .before .before .parameters .ensures) at (c .before .before .before .before .before .before .remove .ensures))
+    let called = c .before .before .before .before .before .before in
+    let made = called .before .before .before .before .before .before in
+    follows _ _ _ (placed (called .remove .result)) _
+    (rw (made .parameters .ensures) at (called .remove .ensures))
     (sym (remove-keeps _ _ _ _ _))
     (c .placed-reply .ensures)
 
