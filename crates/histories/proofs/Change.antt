@@ -1,0 +1,96 @@
+-- Changes: one word is written, and the layout of the model with the new position is else the same.
+use mathlib.Core.Path.{_≡_, refl, sym, _∙_}
+use mathlib.Core.Bool.{Bool, true, false, cond}
+use mathlib.Core.Option.{Option, none, some}
+use Prim.Native.Nat.{ℕ}
+use native.Mathlib.Omega.{arith}
+use lib.ListN.{set}
+use Rattle.hashing.specs.declared.Parameters.{Parameters}
+use Rattle.pages.specs.declared.position.Position.{Position}
+use Rattle.pages.specs.Position.{validNumber, validPosition, validWord, packed}
+use Rattle.pages.specs.Page.{part, placeOf}
+use Rattle.pages.proofs.Places.{held-there}
+use Rattle.placement.specs.Rule.{reworded, changed}
+use Rattle.placement.specs.File.{File, laid}
+use Rattle.placement.specs.Hash.{hashOf, namedPage}
+use Rattle.placement.proofs.Mapping.{left-map}
+use Rattle.placement.proofs.Change.{reworded-keeps, changed-laid}
+use Rattle.starfile.specs.Answers.{Pool, spotted, accepted, refused}
+use Rattle.starfile.specs.Calls.{unless, orElse, guarded, unchanged, holds, itemOf, changeOn, changeOf}
+use Rattle.histories.specs.Model.{Model, change, updated, setPosition, positionOf, fileOf, pageFor}
+use Rattle.histories.proofs.Entries.{ValidEntry, ordered-set}
+use Rattle.histories.proofs.Stars.{stars-change}
+use Rattle.histories.proofs.Fitting.{Fitting, hashFor, starsFor, rising-from, proper, in-range, laid-stars, named-inside, named-readable}
+use Rattle.histories.proofs.Held.{held, place-inside, not-held}
+use Rattle.histories.proofs.Guards.{lent}
+use Rattle.histories.proofs.Conforms.{Conforms, refused-conforms, accepted-conforms}
+
+-- the file with the word of k set
+abbrev reworded-file : Parameters → Model → ℕ → Position → File
+reworded-file p m k q =
+    record {
+      separators = fileOf p m .separators;
+      numbers = fileOf p m .numbers;
+      words = set (fileOf p m .words) (itemOf p (fileOf p m) (pageFor p m k) k) (packed q);
+    }
+
+module _ (p : Parameters) (m : Model) (t : Fitting p m) (k : ℕ) (q r : Position) (e : positionOf k (m .entries) ≡ some r) (valid : ValidEntry (record { number = k; position = q })) where
+  abbrev anew : Model
+  anew = record { entries = setPosition k q (m .entries); growth = m .growth }
+
+  stars-anew : starsFor anew ≡ changed k (packed q) (starsFor m)
+  stars-anew = stars-change 1 k q r (m .entries) (t .ordered) e
+
+  fitting-anew : Fitting p anew
+  unfolding changed
+  fitting-anew =
+      record {
+        parameters = t .parameters;
+        growth = t .growth;
+        ordered = ordered-set 1 k q (m .entries) (in-range k (valid .number) .0) valid (t .ordered);
+        fits = rw (stars-anew, left-map (reworded k (packed q)) (reworded-keeps k (packed q)) (hashFor p m) 0 (p .pages) (starsFor m), t .fits);
+      }
+
+  laid-anew : laid (p .places) (hashFor p m) (p .pages) (changed k (packed q) (starsFor m)) ≡ reworded-file p m k q
+  unfolding fileOf hashOf itemOf holds
+  laid-anew =
+      let place = placeOf k (part (p .places) (pageFor p m k) (fileOf p m .numbers)) in
+      changed-laid validWord (hashFor p m) (p .pages) (pageFor p m k) place k (packed q) (starsFor m) (rising-from p m t) (proper p m t)
+      (in-range k (valid .number) .0) (named-inside p m t k) (place-inside p m t k r e) (held-there k (part (p .places) (pageFor p m k) (fileOf p m .numbers)) (held p m t k r e) .1)
+
+  changes : (pool : Pool) → Conforms p m (change k q) (record { answer = accepted (pageFor p m k); growth = m .growth; file = reworded-file p m k q; pool = pool })
+  unfolding updated spotted
+  changes pool =
+      accepted-conforms p m t (change k q) _ refl refl
+      (sym laid-anew ∙ laid-stars p anew (changed k (packed q) (starsFor m)) stars-anew)
+      fitting-anew
+      (λ j d. cc)
+
+module _ (p : Parameters) (m : Model) (t : Fitting p m) (k : ℕ) (q : Position) where
+  changes-on : ValidEntry (record { number = k; position = q }) → (pool : Pool) → Conforms p m (change k q) (changeOn p (m .growth) (fileOf p m) pool (pageFor p m k) k (packed q))
+  unfolding changeOn spotted
+  changes-on valid pool = rw (named-readable p m t k) (go (positionOf k (m .entries)) refl)
+    where
+      go : (o : Option Position) → positionOf k (m .entries) ≡ o
+          → Conforms p m (change k q)
+          (cond (holds p (fileOf p m) (pageFor p m k) k)
+          (record {
+            answer = accepted (pageFor p m k);
+            growth = m .growth;
+            file = reworded-file p m k q;
+            pool = pool;
+          })
+          (unchanged (m .growth) (fileOf p m) pool (refused 7 0)))
+      go none e = rw (not-held p m t k (in-range k (valid .number) .0) e) (refused-conforms p m t (change k q) pool (refused 7 0) (λ d. omega arith) (λ d. omega arith))
+      go (some r) e = rw (held p m t k r e) (changes p m t k q r e valid pool)
+
+  pub change-conforms : (pool : Pool) → Conforms p m (change k q) (changeOf p (m .growth) (fileOf p m) pool k q)
+  unfolding changeOf pageFor namedPage spotted
+  change-conforms pool = rw (lent p m t) (go (validNumber k) (validPosition q) refl refl)
+    where
+      go : (v w : Bool) → validNumber k ≡ v → validPosition q ≡ w
+          → Conforms p m (change k q)
+          (guarded (m .growth) (fileOf p m) pool (orElse (unless v 3) (unless w 4)) (changeOn p (m .growth) (fileOf p m) pool (pageFor p m k) k (packed q)))
+      go false w e f = refused-conforms p m t (change k q) pool (refused 3 0) (λ d. omega arith) (λ d. omega arith)
+      go true false e f = refused-conforms p m t (change k q) pool (refused 4 0) (λ d. omega arith) (λ d. omega arith)
+      go true true e f = changes-on (record { number = e; position = f }) pool

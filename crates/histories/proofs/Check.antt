@@ -1,0 +1,80 @@
+-- Checks: the model's own file is what the rule gives its stars.
+use mathlib.Core.Path.{_≡_, refl, sym, ap, _∙_}
+use mathlib.Core.Bool.{Bool, true, false}
+use mathlib.Core.List.{List, _++_, append-nil}
+use Prim.Native.Nat.{ℕ, suc, _+_, _*_}
+use native.Mathlib.Nat.{zero-add, le-refl}
+use native.Mathlib.Omega.{arith}
+use lib.ListN.{length, drop-of-length-le}
+use borrow.Author.Tests.{le-ltb}
+use Rattle.hashing.specs.declared.Parameters.{Parameters}
+use Rattle.hashing.specs.declared.Growth.{Growth}
+use Rattle.pages.specs.Position.{validWord}
+use Rattle.placement.specs.Rule.{Contents, pages}
+use Rattle.placement.specs.File.{written, laid, replaced, fileOf as fileWith}
+use Rattle.placement.specs.Hash.{hashOf}
+use Rattle.placement.proofs.Composition.{length-pages}
+use Rattle.placement.proofs.Writing.{Roomy}
+use Rattle.placement.proofs.Files.{gathered-laid, replaced-of, roomy-pages}
+use Rattle.starfile.specs.Answers.{Pool, spotted, refused, cleared, accepted}
+use Rattle.reach.specs.Reach.{firstUnsound}
+use Rattle.comparing.specs.Spots.{firstSpot, ruled}
+use Rattle.starfile.specs.Calls.{hash, poolFits, unless, guarded, unchanged, allStars, checkedAt, checkOf}
+use Rattle.histories.specs.Model.{Model, check, updated, fileOf}
+use Rattle.histories.proofs.Fitting.{Fitting, hashFor, starsFor, rising, proper}
+use Rattle.histories.proofs.Guards.{lent-pool}
+use Rattle.histories.proofs.Searching.{none-unsound, no-spot}
+use Rattle.histories.proofs.Conforms.{Conforms, refused-conforms, accepted-conforms}
+
+-- All pages replaced.
+replaced-all : (b : ℕ) (cs ds : List Contents) → Roomy b cs → Roomy b ds → length ds ≡ length cs → replaced b (fileWith b cs) 0 ds ≡ fileWith b ds
+unfolding written
+replaced-all b cs ds rc rd e = replaced-of b cs ds 0 rc rd (omega arith) ∙ ap (fileWith b) whole
+  where
+    whole : written 0 ds cs ≡ ds
+    whole = ap (λ (l : List Contents). ds ++ l) (drop-of-length-le cs {i = 0 + length ds} (omega arith)) ∙ append-nil ds
+
+module _ (p : Parameters) (m : Model) (t : Fitting p m) where
+  -- The file's stars are the model's.
+  pub all-stars : allStars p (fileOf p m) ≡ starsFor m
+  unfolding fileOf hashOf
+  all-stars = gathered-laid validWord (hashFor p m) (p .pages) (starsFor m) (proper p m t) 1 (rising p m t) (t .fits)
+
+  -- Placed anew under any growth state, they make that layout.
+  pub placed-anew : (g : Growth) → replaced (p .places) (fileOf p m) 0 (pages (hash p g) 0 (p .pages) (starsFor m)) ≡ laid (p .places) (hash p g) (p .pages) (starsFor m)
+  unfolding fileOf laid hashOf
+  placed-anew g =
+      replaced-all (p .places) (pages (hashFor p m) 0 (p .pages) (starsFor m)) (pages (hash p g) 0 (p .pages) (starsFor m))
+      (roomy-pages (hashFor p m) 0 (p .pages) (starsFor m))
+      (roomy-pages (hash p g) 0 (p .pages) (starsFor m))
+      (length-pages (hash p g) 0 (p .pages) (starsFor m) ∙ sym (length-pages (hashFor p m) 0 (p .pages) (starsFor m)))
+
+  as-ruled : ruled p (m .growth) (fileOf p m) ≡ fileOf p m
+  unfolding ruled fileOf
+  as-ruled = rw all-stars (placed-anew (m .growth))
+
+  pub finds-nothing : checkedAt p (firstUnsound p (m .growth) (fileOf p m) 0 (p .pages)) (firstSpot p (fileOf p m) (ruled p (m .growth) (fileOf p m))) ≡ accepted 0
+  unfolding checkedAt
+  finds-nothing =
+      rw (
+        none-unsound p m t 0 (p .pages) (omega (arith, zero-add (p .pages))),
+        zero-add (p .pages),
+        as-ruled,
+        no-spot p (fileOf p m),
+        le-ltb (p .pages) (p .pages) (le-refl (p .pages)),
+        le-ltb (p .pages * suc (p .places)) (p .pages * suc (p .places)) (le-refl (p .pages * suc (p .places))),
+      )
+
+  pub check-conforms : (pool : Pool) → Conforms p m check (checkOf p (m .growth) (fileOf p m) pool)
+  unfolding checkOf updated spotted
+  check-conforms pool = rw (lent-pool p m t (poolFits p pool)) (go (poolFits p pool))
+    where
+      go : (v : Bool)
+          → Conforms p m check
+          (guarded (m .growth) (fileOf p m) pool (unless v 2)
+          (unchanged (m .growth) (fileOf p m) (cleared pool)
+          (checkedAt p (firstUnsound p (m .growth) (fileOf p m) 0 (p .pages)) (firstSpot p (fileOf p m) (ruled p (m .growth) (fileOf p m))))))
+      go false = refused-conforms p m t check pool (refused 2 0) (λ e. omega arith) (λ e. omega arith)
+      go true =
+          rw finds-nothing
+          (accepted-conforms p m t check (unchanged (m .growth) (fileOf p m) (cleared pool) (accepted 0)) refl refl refl t (λ k e. cc))

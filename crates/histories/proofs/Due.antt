@@ -1,0 +1,21 @@
+-- Dues.
+use mathlib.Core.Path.{refl}
+use Rattle.hashing.specs.declared.Parameters.{Parameters}
+use Rattle.starfile.specs.Answers.{Pool, counted}
+use Rattle.starfile.specs.Calls.{unchanged, stars, isDue, dueOf}
+use Rattle.histories.specs.Model.{Model, due, updated, fileOf}
+use Rattle.histories.proofs.Fitting.{Fitting}
+use Rattle.histories.proofs.Guards.{lent}
+use Rattle.histories.proofs.Conforms.{Conforms, accepted-conforms}
+
+pub due-conforms : (p : Parameters) (m : Model) → Fitting p m → (pool : Pool) → Conforms p m due (dueOf p (m .growth) (fileOf p m) pool)
+unfolding dueOf updated counted
+due-conforms p m t pool =
+    rw (lent p m t)
+    (accepted-conforms p m t due
+    (unchanged (m .growth) (fileOf p m) pool (counted (isDue p (m .growth) (stars (fileOf p m .numbers))) (stars (fileOf p m .numbers))))
+    refl
+    refl
+    refl
+    t
+    (λ k e. cc))

@@ -1,0 +1,169 @@
+-- Entries, and when one is refused with 8.
+use mathlib.Core.Path.{_≡_, refl, sym, ap, _∙_}
+use mathlib.Core.Bool.{Bool, true, false, cond, _&&_, and-eq-true-iff, true≢false, false≢true}
+use mathlib.Core.List.{List, [], _∷_}
+use mathlib.Core.Logic.{_↔_}
+use mathlib.Core.Option.{Option, none, some}
+use Prim.Native.Nat.{ℕ, _+_, _-_, _<_}
+use native.Mathlib.Nat.{le-refl}
+use native.Mathlib.Decide.{decLt}
+use native.Mathlib.Omega.{arith}
+use borrow.Author.Tests.{le-ltb, eqb-true}
+use lib.ListN.{getD}
+use Rattle.hashing.specs.declared.Parameters.{Parameters}
+use Rattle.pages.specs.declared.position.Position.{Position}
+use Rattle.pages.specs.Position.{validNumber, validPosition, validWord}
+use Rattle.placement.specs.Rule.{Star, pages, left, insert}
+use Rattle.placement.specs.File.{gathered, replaced, laid}
+use Rattle.placement.specs.Hash.{hashOf, namedPage}
+use Rattle.placement.proofs.Entry.{entered, entry-refused}
+use Rattle.reach.specs.Reach.{isEmpty, entering, entersWithin, entryEnd, storedTop, pagesTo, holding}
+use Rattle.reach.proofs.Search.{Such, such}
+use Rattle.starfile.specs.Answers.{Pool, spotted, accepted, refused, cleared}
+use Rattle.starfile.specs.Calls.{poolFits, unless, orElse, guarded, unchanged, holds, enterTo, enterOn, enterOf}
+use Rattle.histories.specs.Model.{Model, enter, updated, setPosition, positionOf, starsOf, fileOf, pageFor}
+use Rattle.histories.proofs.Entries.{ValidEntry, ordered-set}
+use Rattle.histories.proofs.Stars.{starOf, stars-enter}
+use Rattle.histories.proofs.Fitting.{Fitting, hashFor, starsFor, bounded, homed, rising-from, proper, in-range, laid-stars, named-readable}
+use Rattle.histories.proofs.Held.{held, not-held}
+use Rattle.histories.proofs.Guards.{lent-pool}
+use Rattle.histories.proofs.Searching.{none-unsound}
+use Rattle.histories.proofs.Reaching.{Reach, reach}
+use Rattle.histories.proofs.Conforms.{Conforms, refused-conforms, accepted-conforms}
+
+is-empty : (l : List Star) → isEmpty l ≡ true → l ≡ []
+is-empty [] e = refl
+is-empty (s ∷ l) e = absurd (false≢true e)
+
+module _ (p : Parameters) (m : Model) (t : Fitting p m) (k : ℕ) (q : Position) where
+  abbrev new : Star
+  new = starOf k q
+
+  abbrev from : ℕ
+  from = hashFor p m .home k
+
+  abbrev to : ℕ
+  to = entryEnd (hashFor p m) (p .pages) (fileOf p m) new
+
+  stops : ℕ → Bool
+  stops page = storedTop (fileOf p m .separators) (hashFor p m .top) page && entersWithin (hashFor p m) (fileOf p m) new page
+
+  inside : from < p .pages
+  inside = homed p (m .growth) k (t .parameters) (t .growth)
+
+  entry : Reach (hashFor p m) (p .pages) (fileOf p m) from to
+  unfolding entryEnd stops
+  entry =
+      reach (hashFor p m) (p .pages) (fileOf p m) from stops
+      (λ page e. eqb-true (getD (fileOf p m .separators) page 0) (hashFor p m .top) (and-eq-true-iff (storedTop (fileOf p m .separators) (hashFor p m .top) page) (entersWithin (hashFor p m) (fileOf p m) new page) .0 e .0))
+      inside
+
+  placed : entersWithin (hashFor p m) (fileOf p m) new to ≡ true
+      → (replaced (p .places) (fileOf p m) from (pages (hashFor p m) from (pagesTo from to) (entering (hashFor p m) (fileOf p m) new to))
+      ≡ laid (p .places) (hashFor p m) (p .pages) (insert new (starsFor m)))
+      × (left (hashFor p m) 0 (p .pages) (insert new (starsFor m)) ≡ [])
+  unfolding fileOf hashOf entering entersWithin
+  placed e =
+      entered validWord (hashFor p m) (bounded p (m .growth) (t .parameters)) (p .pages) from (to - from) (starsFor m)
+      (rising-from p m t) (proper p m t) (t .fits) (entry .high) new refl (entry .ends) (is-empty _ e)
+
+  -- Where the reach's rule carries a star on, so does the rule over all pages.
+  carried : entersWithin (hashFor p m) (fileOf p m) new to ≡ false → left (hashFor p m) 0 (p .pages) (insert new (starsFor m)) ≡ [] → ⊥
+  unfolding fileOf hashOf entering entersWithin entryEnd stops
+  carried e fits = go (decLt to (from + (p .pages - 1 - from)))
+    where
+      found : Such stops from (p .pages - 1 - from) to
+      found = such stops from (p .pages - 1 - from)
+
+      go : Dec (to < from + (p .pages - 1 - from)) → ⊥
+      go (yes d) = true≢false (sym (and-eq-true-iff (storedTop (fileOf p m .separators) (hashFor p m .top) to) (entersWithin (hashFor p m) (fileOf p m) new to) .0 (found .passes d) .1) ∙ e)
+      go (no d) = true≢false (sym (ap isEmpty (sym last ∙ fits)) ∙ e)
+        where
+          last : left (hashFor p m) 0 (p .pages) (insert new (starsFor m)) ≡ left (hashFor p m) from (pagesTo from to) (insert new (gathered (p .places) (fileOf p m) from (pagesTo from to)))
+          last =
+              entry-refused validWord (hashFor p m) (bounded p (m .growth) (t .parameters)) (p .pages) from (to - from) (starsFor m)
+              (rising-from p m t) (proper p m t) (t .fits) (entry .high) new refl (omega (arith, found .low, found .high, inside))
+
+  module _ (valid : ValidEntry (record { number = k; position = q })) (absent : positionOf k (m .entries) ≡ none) where
+    enters : (pool : Pool) → Conforms p m (enter k q) (enterTo p (m .growth) (fileOf p m) pool new to)
+    unfolding enterTo updated spotted
+    enters pool =
+        rw (none-unsound p m t from (pagesTo from to) (entry .high), le-ltb (from + pagesTo from to) (from + pagesTo from to) (le-refl (from + pagesTo from to)))
+        (go (entersWithin (hashFor p m) (fileOf p m) new to) refl)
+      where
+        go : (b : Bool) → entersWithin (hashFor p m) (fileOf p m) new to ≡ b
+            → Conforms p m (enter k q)
+            (cond b
+            (record {
+              answer = accepted (holding k from (pages (hashFor p m) from (pagesTo from to) (entering (hashFor p m) (fileOf p m) new to)));
+              growth = m .growth;
+              file = replaced (p .places) (fileOf p m) from (pages (hashFor p m) from (pagesTo from to) (entering (hashFor p m) (fileOf p m) new to));
+              pool = pool;
+            })
+            (unchanged (m .growth) (fileOf p m) pool (refused 8 0)))
+        go true e =
+            accepted-conforms p m t (enter k q) _ refl refl
+            (placed e .0 ∙ laid-stars p (updated p (enter k q) m) (insert new (starsFor m)) (stars-enter k q (m .entries) absent))
+            (record {
+              parameters = t .parameters;
+              growth = t .growth;
+              ordered = ordered-set 1 k q (m .entries) (in-range k (valid .number) .0) valid (t .ordered);
+              fits = rw (stars-enter k q (m .entries) absent) (placed e .1);
+            })
+            (λ j d. cc)
+        go false e = refused-conforms p m t (enter k q) pool (refused 8 0) (λ d. omega arith) (λ d. omega arith)
+
+  enters-on : ValidEntry (record { number = k; position = q }) → (pool : Pool) → Conforms p m (enter k q) (enterOn p (m .growth) (fileOf p m) pool (pageFor p m k) new)
+  unfolding enterOn spotted
+  enters-on valid pool = rw (named-readable p m t k) (go (positionOf k (m .entries)) refl)
+    where
+      go : (o : Option Position) → positionOf k (m .entries) ≡ o
+          → Conforms p m (enter k q)
+          (cond (holds p (fileOf p m) (pageFor p m k) k)
+          (unchanged (m .growth) (fileOf p m) pool (refused 6 0))
+          (enterTo p (m .growth) (fileOf p m) pool new to))
+      go none e = rw (not-held p m t k (in-range k (valid .number) .0) e) (enters valid e pool)
+      go (some r) e = rw (held p m t k r e) (refused-conforms p m t (enter k q) pool (refused 6 0) (λ d. omega arith) (λ d. omega arith))
+
+  pub enter-conforms : (pool : Pool) → Conforms p m (enter k q) (enterOf p (m .growth) (fileOf p m) pool k q)
+  unfolding enterOf pageFor namedPage spotted
+  enter-conforms pool = rw (lent-pool p m t (poolFits p pool)) (go (poolFits p pool) (validNumber k) (validPosition q) refl refl)
+    where
+      go : (u v w : Bool) → validNumber k ≡ v → validPosition q ≡ w
+          → Conforms p m (enter k q)
+          (guarded (m .growth) (fileOf p m) pool (orElse (unless u 2) (orElse (unless v 3) (unless w 4))) (enterOn p (m .growth) (fileOf p m) (cleared pool) (pageFor p m k) new))
+      go false v w e f = refused-conforms p m t (enter k q) pool (refused 2 0) (λ d. omega arith) (λ d. omega arith)
+      go true false w e f = refused-conforms p m t (enter k q) pool (refused 3 0) (λ d. omega arith) (λ d. omega arith)
+      go true true false e f = refused-conforms p m t (enter k q) pool (refused 4 0) (λ d. omega arith) (λ d. omega arith)
+      go true true true e f = enters-on (record { number = e; position = f }) (cleared pool)
+
+  -- The entry of a star that the model does not hold.
+  module _ (pool : Pool) (lengths : poolFits p pool ≡ true) (valid : ValidEntry (record { number = k; position = q })) (absent : positionOf k (m .entries) ≡ none) where
+    reached : enterOf p (m .growth) (fileOf p m) pool k q ≡ enterTo p (m .growth) (fileOf p m) (cleared pool) new to
+    unfolding enterOf enterOn pageFor namedPage
+    reached = guards ∙ rw (named-readable p m t k, not-held p m t k (in-range k (valid .number) .0) absent)
+      where
+        guards : enterOf p (m .growth) (fileOf p m) pool k q ≡ enterOn p (m .growth) (fileOf p m) (cleared pool) (pageFor p m k) new
+        guards = rw (lent-pool p m t (poolFits p pool), lengths, valid .number, valid .position)
+
+    -- It is refused with 8 exactly if the model's stars with it do not fit.
+    pub full : (enterOf p (m .growth) (fileOf p m) pool k q .answer .refusal ≡ 8)
+        ↔ (left (hashFor p m) 0 (p .pages) (starsOf (setPosition k q (m .entries))) ≡ [] → ⊥)
+    unfolding enterTo spotted
+    full =
+        rw (reached, stars-enter k q (m .entries) absent, none-unsound p m t from (pagesTo from to) (entry .high), le-ltb (from + pagesTo from to) (from + pagesTo from to) (le-refl (from + pagesTo from to)))
+        (go (entersWithin (hashFor p m) (fileOf p m) new to) refl)
+      where
+        go : (b : Bool) → entersWithin (hashFor p m) (fileOf p m) new to ≡ b
+            → (cond b
+            (record {
+              answer = accepted (holding k from (pages (hashFor p m) from (pagesTo from to) (entering (hashFor p m) (fileOf p m) new to)));
+              growth = m .growth;
+              file = replaced (p .places) (fileOf p m) from (pages (hashFor p m) from (pagesTo from to) (entering (hashFor p m) (fileOf p m) new to));
+              pool = cleared pool;
+            })
+            (unchanged (m .growth) (fileOf p m) (cleared pool) (refused 8 0))
+            .answer .refusal ≡ 8)
+            ↔ (left (hashFor p m) 0 (p .pages) (insert new (starsFor m)) ≡ [] → ⊥)
+        go true e = ((λ h. absurd (omega arith)), λ h. absurd (h (placed e .1)))
+        go false e = ((λ h. carried e), λ h. refl)

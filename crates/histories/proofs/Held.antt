@@ -1,0 +1,43 @@
+-- In a fitting model's own file: the page named for a number holds it exactly if the model does, with its position's word.
+use mathlib.Core.Path.{_≡_, refl, sym, _∙_}
+use mathlib.Core.Bool.{true, false}
+use mathlib.Core.Option.{none, some}
+use Prim.Native.Nat.{ℕ, _≤_, _<_}
+use lib.ListN.{getD}
+use Rattle.hashing.specs.declared.Parameters.{Parameters}
+use Rattle.pages.specs.declared.position.Position.{Position}
+use Rattle.pages.specs.Position.{validWord, packed}
+use Rattle.pages.specs.Page.{part, placeOf, heldAt}
+use Rattle.pages.proofs.Parts.{part-item}
+use Rattle.placement.specs.Hash.{hashOf}
+use Rattle.placement.proofs.Search.{found, missing}
+use Rattle.starfile.specs.Calls.{holds, itemOf}
+use Rattle.histories.specs.Model.{Model, positionOf, fileOf, pageFor}
+use Rattle.histories.proofs.Stars.{starOf, held-star, no-star}
+use Rattle.histories.proofs.Alike.{place-below}
+use Rattle.histories.proofs.Fitting.{Fitting, hashFor, starsFor, rising-from, proper, named-inside}
+
+module _ (p : Parameters) (m : Model) (t : Fitting p m) (k : ℕ) where
+  module _ (q : Position) (e : positionOf k (m .entries) ≡ some q) where
+    there : (heldAt k (part (p .places) (pageFor p m k) (fileOf p m .numbers)) ≡ true)
+        × (getD (part (p .places) (pageFor p m k) (fileOf p m .words)) (placeOf k (part (p .places) (pageFor p m k) (fileOf p m .numbers))) 0 ≡ packed q)
+    unfolding pageFor fileOf hashOf
+    there =
+        let all = found validWord (hashFor p m) (p .pages) (starsFor m) (rising-from p m t) (proper p m t) (t .fits) (starOf k q) (pageFor p m k) (held-star k q (m .entries) e) refl in
+        (all .1, all .2)
+
+    pub held : holds p (fileOf p m) (pageFor p m k) k ≡ true
+    unfolding holds
+    held = there .0
+
+    pub place-inside : placeOf k (part (p .places) (pageFor p m k) (fileOf p m .numbers)) < p .places
+    place-inside = place-below (p .places) (pageFor p m k) k (fileOf p m .numbers) (there .0)
+
+    pub held-word : getD (fileOf p m .words) (itemOf p (fileOf p m) (pageFor p m k) k) 0 ≡ packed q
+    unfolding itemOf
+    held-word = sym (part-item (p .places) (pageFor p m k) (fileOf p m .words) _ place-inside) ∙ there .1
+
+  pub not-held : 1 ≤ k → positionOf k (m .entries) ≡ none → holds p (fileOf p m) (pageFor p m k) k ≡ false
+  unfolding holds fileOf hashOf
+  not-held h e =
+      missing validWord (hashFor p m) (p .pages) (starsFor m) (rising-from p m t) (proper p m t) (t .fits) k (pageFor p m k) h (no-star k (m .entries) e) (named-inside p m t k)

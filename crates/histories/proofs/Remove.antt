@@ -1,0 +1,93 @@
+-- Removals.
+use mathlib.Core.Path.{_≡_, refl, _∙_}
+use mathlib.Core.Bool.{Bool, true, false, cond}
+use mathlib.Core.List.{[]}
+use mathlib.Core.Option.{Option, none, some}
+use Prim.Native.Nat.{ℕ, _+_, _-_, _≤_}
+use native.Mathlib.Nat.{le-refl}
+use native.Mathlib.Omega.{arith}
+use borrow.Author.Tests.{le-ltb, eqb-true}
+use lib.ListN.{getD}
+use Rattle.hashing.specs.declared.Parameters.{Parameters}
+use Rattle.pages.specs.declared.position.Position.{Position}
+use Rattle.pages.specs.Position.{validNumber, validWord}
+use Rattle.placement.specs.Rule.{pages, left, without}
+use Rattle.placement.specs.File.{gathered, replaced, laid}
+use Rattle.placement.specs.Hash.{hashOf, namedPage}
+use Rattle.placement.proofs.Entry.{removed}
+use Rattle.reach.specs.Reach.{removalEnd, storedTop, pagesTo}
+use Rattle.starfile.specs.Answers.{Pool, spotted, refused, cleared}
+use Rattle.starfile.specs.Calls.{poolFits, unless, orElse, guarded, unchanged, holds, removeTo, removeOn, removeOf}
+use Rattle.histories.specs.Model.{Model, remove, updated, positionOf, fileOf, pageFor}
+use Rattle.histories.proofs.Entries.{ordered-strike}
+use Rattle.histories.proofs.Stars.{stars-strike}
+use Rattle.histories.proofs.Fitting.{Fitting, hashFor, starsFor, bounded, homed, rising-from, proper, in-range, laid-stars, named-readable}
+use Rattle.histories.proofs.Held.{held, not-held}
+use Rattle.histories.proofs.Guards.{lent-pool}
+use Rattle.histories.proofs.Searching.{none-unsound}
+use Rattle.histories.proofs.Reaching.{Reach, reach}
+use Rattle.histories.proofs.Conforms.{Conforms, refused-conforms, accepted-conforms}
+
+module _ (p : Parameters) (m : Model) (t : Fitting p m) (k : ℕ) where
+  abbrev from : ℕ
+  from = hashFor p m .home k
+
+  abbrev to : ℕ
+  to = removalEnd (hashFor p m) (p .pages) (fileOf p m) from
+
+  removal : Reach (hashFor p m) (p .pages) (fileOf p m) from to
+  unfolding removalEnd
+  removal =
+      reach (hashFor p m) (p .pages) (fileOf p m) from (storedTop (fileOf p m .separators) (hashFor p m .top))
+      (λ q e. eqb-true (getD (fileOf p m .separators) q 0) (hashFor p m .top) e)
+      (homed p (m .growth) k (t .parameters) (t .growth))
+
+  struck : (replaced (p .places) (fileOf p m) from (pages (hashFor p m) from (pagesTo from to) (without k (gathered (p .places) (fileOf p m) from (pagesTo from to))))
+      ≡ laid (p .places) (hashFor p m) (p .pages) (without k (starsFor m)))
+      × (left (hashFor p m) 0 (p .pages) (without k (starsFor m)) ≡ [])
+  unfolding fileOf hashOf
+  struck =
+      let all =
+      removed validWord (hashFor p m) (bounded p (m .growth) (t .parameters)) (p .pages) from (to - from) (starsFor m)
+      (rising-from p m t) (proper p m t) (t .fits) (removal .high) k refl (removal .ends) in
+      (all .1, all .2)
+
+  removes : (pool : Pool) (page : ℕ) → Conforms p m (remove k) (removeTo p (m .growth) (fileOf p m) pool page k to)
+  unfolding removeTo updated spotted
+  removes pool page =
+      rw (none-unsound p m t from (pagesTo from to) (removal .high), le-ltb (from + pagesTo from to) (from + pagesTo from to) (le-refl (from + pagesTo from to)))
+      (accepted-conforms p m t (remove k) _ refl refl same
+      (record {
+        parameters = t .parameters;
+        growth = t .growth;
+        ordered = ordered-strike 1 k (m .entries) (t .ordered);
+        fits = rw (stars-strike k (m .entries)) (struck .1);
+      })
+      (λ j d. cc))
+    where
+      same : replaced (p .places) (fileOf p m) from (pages (hashFor p m) from (pagesTo from to) (without k (gathered (p .places) (fileOf p m) from (pagesTo from to))))
+          ≡ fileOf p (updated p (remove k) m)
+      same = struck .0 ∙ laid-stars p (updated p (remove k) m) (without k (starsFor m)) (stars-strike k (m .entries))
+
+  removes-on : (pool : Pool) → 1 ≤ k → Conforms p m (remove k) (removeOn p (m .growth) (fileOf p m) pool (pageFor p m k) k)
+  unfolding removeOn spotted
+  removes-on pool h = rw (named-readable p m t k) (go (positionOf k (m .entries)) refl)
+    where
+      go : (o : Option Position) → positionOf k (m .entries) ≡ o
+          → Conforms p m (remove k)
+          (cond (holds p (fileOf p m) (pageFor p m k) k)
+          (removeTo p (m .growth) (fileOf p m) pool (pageFor p m k) k to)
+          (unchanged (m .growth) (fileOf p m) pool (refused 7 0)))
+      go none e = rw (not-held p m t k h e) (refused-conforms p m t (remove k) pool (refused 7 0) (λ d. omega arith) (λ d. omega arith))
+      go (some q) e = rw (held p m t k q e) (removes pool (pageFor p m k))
+
+  pub remove-conforms : (pool : Pool) → Conforms p m (remove k) (removeOf p (m .growth) (fileOf p m) pool k)
+  unfolding removeOf pageFor namedPage spotted
+  remove-conforms pool = rw (lent-pool p m t (poolFits p pool)) (go (poolFits p pool) (validNumber k) refl)
+    where
+      go : (v w : Bool) → validNumber k ≡ w
+          → Conforms p m (remove k)
+          (guarded (m .growth) (fileOf p m) pool (orElse (unless v 2) (unless w 3)) (removeOn p (m .growth) (fileOf p m) (cleared pool) (pageFor p m k) k))
+      go false w e = refused-conforms p m t (remove k) pool (refused 2 0) (λ d. omega arith) (λ d. omega arith)
+      go true false e = refused-conforms p m t (remove k) pool (refused 3 0) (λ d. omega arith) (λ d. omega arith)
+      go true true e = removes-on (cleared pool) (in-range k e .0)

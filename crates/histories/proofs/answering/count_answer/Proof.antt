@@ -1,0 +1,13 @@
+use mathlib.Core.Path.{refl}
+use Rattle.starfile.specs.Answers.{counted}
+use Rattle.histories.proofs.answering.count_answer.Statement.{statement}
+use Rattle.histories.proofs.answering.count_answer.Tie as tie
+use Rattle.histories.proofs.answering.count_answer.Reads as reads
+use Rattle.histories.proofs.answering.count_answer.Lts as lts
+
+returns : tie.Need-returns
+unfolding counted
+returns c = refl
+
+pub count-answer-spec : {M : Type 1} → statement M
+count-answer-spec = tie.close (tie.spec returns)

@@ -1,0 +1,53 @@
+use mathlib.Core.Path.{sym, ap, _∙_}
+use Rattle.starfile.specs.Answers.{dueSaid}
+use borrow.Author.Needs.{needs}
+use Rattle.histories.proofs.answering.due_answer.Statement.{statement}
+use Rattle.histories.proofs.answering.due_answer.Tie as tie
+use Rattle.histories.proofs.answering.due_answer.Reads as reads
+use Rattle.histories.proofs.answering.due_answer.Lts as lts
+use Rattle.histories.proofs.answering.count_answer.Reads as count-answer-reads
+use Rattle.histories.proofs.answering.refused_answer.Reads as refused-answer-reads
+
+enum-known-answer : tie.Need-enum-known-answer
+enum-known-answer c = search needs
+
+count-answer-requires : tie.Need-count-answer-requires
+count-answer-requires c κs = search needs
+
+enum-known-answer-2 : tie.Need-enum-known-answer-2
+enum-known-answer-2 c = search needs
+
+count-answer-requires-2 : tie.Need-count-answer-requires-2
+count-answer-requires-2 c κs = search needs
+
+enum-known-answer-3 : tie.Need-enum-known-answer-3
+enum-known-answer-3 c = search needs
+
+refused-answer-requires : tie.Need-refused-answer-requires
+refused-answer-requires c κs = search needs
+
+returns : tie.Need-returns
+unfolding dueSaid
+returns c = c .count-answer .ensures ∙ sym (ap dueSaid (c .before .before .answer .given .1))
+
+returns-2 : tie.Need-returns-2
+unfolding dueSaid
+returns-2 c = c .count-answer2 .ensures ∙ sym (ap dueSaid (c .before .before .answer2 .given .1))
+
+returns-3 : tie.Need-returns-3
+unfolding dueSaid
+returns-3 c = c .refused-answer .ensures ∙ sym (ap dueSaid (c .before .before .answer3 .given .1))
+
+pub due-answer-spec : {M : Type 1} → statement M
+due-answer-spec =
+    tie.close
+    (tie.spec
+    enum-known-answer
+    count-answer-requires
+    enum-known-answer-2
+    count-answer-requires-2
+    enum-known-answer-3
+    refused-answer-requires
+    returns
+    returns-2
+    returns-3)

@@ -1,0 +1,40 @@
+use mathlib.Core.Path.{sym, ap, _∙_}
+use Rattle.starfile.specs.Answers.{placed}
+use borrow.Author.Needs.{needs}
+use Rattle.histories.proofs.answering.placed_answer.Statement.{statement}
+use Rattle.histories.proofs.answering.placed_answer.Tie as tie
+use Rattle.histories.proofs.answering.placed_answer.Reads as reads
+use Rattle.histories.proofs.answering.placed_answer.Lts as lts
+use Rattle.histories.proofs.answering.at_spot.Reads as at-spot-reads
+use Rattle.histories.proofs.answering.refused_answer.Reads as refused-answer-reads
+
+enum-known-answer : tie.Need-enum-known-answer
+enum-known-answer c = search needs
+
+at-spot-requires : tie.Need-at-spot-requires
+at-spot-requires c κs = search needs
+
+enum-known-answer-2 : tie.Need-enum-known-answer-2
+enum-known-answer-2 c = search needs
+
+refused-answer-requires : tie.Need-refused-answer-requires
+refused-answer-requires c κs = search needs
+
+returns : tie.Need-returns
+unfolding placed
+returns c = c .at-spot .ensures ∙ sym (ap placed (c .before .before .answer .given .1))
+
+returns-2 : tie.Need-returns-2
+unfolding placed
+returns-2 c = c .refused-answer .ensures ∙ sym (ap placed (c .before .before .answer2 .given .1))
+
+pub placed-answer-spec : {M : Type 1} → statement M
+placed-answer-spec =
+    tie.close
+    (tie.spec
+    enum-known-answer
+    at-spot-requires
+    enum-known-answer-2
+    refused-answer-requires
+    returns
+    returns-2)

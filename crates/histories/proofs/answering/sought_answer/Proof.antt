@@ -1,0 +1,49 @@
+use mathlib.Core.Path.{sym, ap, _∙_}
+use Rattle.starfile.specs.Answers.{sought, foundAt}
+use borrow.Author.Needs.{needs}
+use Rattle.histories.proofs.answering.sought_answer.Statement.{statement}
+use Rattle.histories.proofs.answering.sought_answer.Tie as tie
+use Rattle.histories.proofs.answering.sought_answer.Reads as reads
+use Rattle.histories.proofs.answering.sought_answer.Lts as lts
+use Rattle.histories.proofs.answering.at_spot.Reads as at-spot-reads
+use Rattle.histories.proofs.answering.refused_answer.Reads as refused-answer-reads
+
+enum-known-answer : tie.Need-enum-known-answer
+enum-known-answer c = search needs
+
+enum-known-answer-2 : tie.Need-enum-known-answer-2
+enum-known-answer-2 c = search needs
+
+at-spot-requires : tie.Need-at-spot-requires
+at-spot-requires c κs = search needs
+
+enum-known-answer-3 : tie.Need-enum-known-answer-3
+enum-known-answer-3 c = search needs
+
+refused-answer-requires : tie.Need-refused-answer-requires
+refused-answer-requires c κs = search needs
+
+returns : tie.Need-returns
+unfolding sought foundAt
+returns c = sym (ap sought (c .before .answer .given .1))
+
+returns-2 : tie.Need-returns-2
+unfolding sought
+returns-2 c = c .at-spot .ensures ∙ sym (ap sought (c .before .before .answer2 .given .1))
+
+returns-3 : tie.Need-returns-3
+unfolding sought
+returns-3 c = c .refused-answer .ensures ∙ sym (ap sought (c .before .before .answer3 .given .1))
+
+pub sought-answer-spec : {M : Type 1} → statement M
+sought-answer-spec =
+    tie.close
+    (tie.spec
+    enum-known-answer
+    enum-known-answer-2
+    at-spot-requires
+    enum-known-answer-3
+    refused-answer-requires
+    returns
+    returns-2
+    returns-3)

@@ -1,0 +1,140 @@
+use denote.Ref.{now}
+use Rattle.hashing.proofs.Bounds.{passed, failed}
+use Rattle.placement.specs.File.{File}
+use Rattle.starfile.specs.Answers.{Pool, lent, pooled}
+use Rattle.histories.specs.Replay.{LentHistory, lentHistory}
+use Rattle.histories.proofs.Known.{even}
+use Rattle.histories.proofs.Replays.{uneven-history, uneven-pool, unknown-kind, make-done, make-refused}
+use borrow.Author.Needs.{needs}
+use Rattle.histories.proofs.replaying.replay.Statement.{statement}
+use Rattle.histories.proofs.replaying.replay.Tie as tie
+use Rattle.histories.proofs.replaying.replay.Reads as reads
+use Rattle.histories.proofs.replaying.replay.Lts as lts
+use Rattle.histories.proofs.replaying.kinds_known.Reads as kinds-known-reads
+use Rattle.histories.proofs.replaying.lengths_agree.Reads as lengths-agree-reads
+use Rattle.histories.proofs.replaying.pool_agrees.Reads as pool-agrees-reads
+use Rattle.histories.proofs.replaying.run.Reads as run-reads
+use Rattle.starfile.proofs.make.Reads as make-reads
+
+-- the lent file, pool and history at entry
+abbrev fileOf : tie.Start → File
+fileOf s = lent (now (s .args .separators)) (now (s .args .numbers)) (now (s .args .words))
+
+abbrev poolOf : tie.Start → Pool
+poolOf s = pooled (now (s .args .poolnumbers)) (now (s .args .poolwords))
+
+abbrev lentOf : tie.Start → LentHistory
+lentOf s = lentHistory (now (s .args .kinds)) (now (s .args .stars)) (now (s .args .ras)) (now (s .args .decs))
+
+lengths-agree-requires : tie.Need-lengths-agree-requires
+lengths-agree-requires c κs = tt
+
+returns : tie.Need-returns
+returns c =
+    let s = c .before .before .before .before .before .before .before .before .before .before .before in
+    uneven-history _ (fileOf s) (poolOf s) (lentOf s) (now (s .args .answers)) (failed _ _ (c .before .lengths-agree .ensures) (c .if1 .taken))
+
+pool-agrees-requires : tie.Need-pool-agrees-requires
+pool-agrees-requires c κs = tt
+
+returns-2 : tie.Need-returns-2
+returns-2 c =
+    let s = c .before .before .before .before .before .before .before .before .before .before .before .before .before in
+    uneven-pool _ (fileOf s) (poolOf s) (lentOf s) (now (s .args .answers))
+    (passed _ _ (c .before .before .before .lengths-agree .ensures) (c .before .before .if1 .left))
+    (failed _ _ (c .before .pool-agrees .ensures) (c .if2 .taken))
+
+kinds-known-requires : tie.Need-kinds-known-requires
+kinds-known-requires c κs = tt
+
+returns-3 : tie.Need-returns-3
+returns-3 c =
+    let s = c .before .before .before .before .before .before .before .before .before .before .before .before .before .before .before in
+    unknown-kind _ (fileOf s) (poolOf s) (lentOf s) (now (s .args .answers))
+    (passed _ _ (c .before .before .before .before .before .lengths-agree .ensures) (c .before .before .before .before .if1 .left))
+    (passed _ _ (c .before .before .before .pool-agrees .ensures) (c .before .before .if2 .left))
+    (failed _ _ (c .before .kinds-known .ensures) (c .if3 .taken))
+
+make-requires : tie.Need-make-requires
+make-requires c κs = tt
+
+enum-told : tie.Need-enum-told
+enum-told c = search needs
+
+run-requires : tie.Need-run-requires
+run-requires c κs = even _ _ (passed _ _ (c .before .before .before .before .before .before .before .before .before .before .before .before .before .before .before .before .before .before .before .before .before .before .before .lengths-agree .ensures) (c .before .before .before .before .before .before .before .before .before .before .before .before .before .before .before .before .before .before .before .before .before .before .if1 .left))
+
+enum-known-answer : tie.Need-enum-known-answer
+enum-known-answer c = search needs
+
+same-length : tie.Need-same-length
+same-length c = search needs
+
+same-length-2 : tie.Need-same-length-2
+same-length-2 c = search needs
+
+same-length-3 : tie.Need-same-length-3
+same-length-3 c = search needs
+
+same-length-4 : tie.Need-same-length-4
+same-length-4 c = search needs
+
+same-length-5 : tie.Need-same-length-5
+same-length-5 c = search needs
+
+same-length-6 : tie.Need-same-length-6
+same-length-6 c = search needs
+
+returns-4 : tie.Need-returns-4
+returns-4 c =
+    let s = c .before .before .before .before .before .before .before .before .before .before .before .before .before .before .before .before .before .before .before .before .before .before .before .before .before .before .before .before .before .before .before .before .before .before .before .before .before .before .before .before .before .before .before .before .before .before in
+    make-done _ (fileOf s) (poolOf s) (lentOf s) (now (s .args .answers))
+    (passed _ _ (c .before .before .before .before .before .before .before .before .before .before .before .before .before .before .before .before .before .before .before .before .before .before .before .before .before .before .before .before .before .before .before .before .before .before .before .before .lengths-agree .ensures) (c .before .before .before .before .before .before .before .before .before .before .before .before .before .before .before .before .before .before .before .before .before .before .before .before .before .before .before .before .before .before .before .before .before .before .before .if1 .left))
+    (passed _ _ (c .before .before .before .before .before .before .before .before .before .before .before .before .before .before .before .before .before .before .before .before .before .before .before .before .before .before .before .before .before .before .before .before .before .before .pool-agrees .ensures) (c .before .before .before .before .before .before .before .before .before .before .before .before .before .before .before .before .before .before .before .before .before .before .before .before .before .before .before .before .before .before .before .before .before .if2 .left))
+    (passed _ _ (c .before .before .before .before .before .before .before .before .before .before .before .before .before .before .before .before .before .before .before .before .before .before .before .before .before .before .before .before .before .before .before .before .kinds-known .ensures) (c .before .before .before .before .before .before .before .before .before .before .before .before .before .before .before .before .before .before .before .before .before .before .before .before .before .before .before .before .before .before .before .if3 .left))
+    _ _ (c .before .before .before .before .before .before .before .before .before .before .before .before .before .before .before .before .before .before .before .before .before .before .before .before .before .before .before .make .ensures .0) _ (c .before .before .before .before .before .before .before .before .before .before .before .before .before .before .before .before .before .before .before .enum-told .given .1) _ (c .before .before .before .before .before .before .before .before .before .before .before .before .before .before .before .before .before .before .before .before .before .before .before .before .before .before .before .make .ensures .1) _ _ _ _
+    (c .before .before .before .before .before .before .before .before .before .before .before .before .run .ensures)
+
+same-length-7 : tie.Need-same-length-7
+same-length-7 c = search needs
+
+same-length-8 : tie.Need-same-length-8
+same-length-8 c = search needs
+
+same-length-9 : tie.Need-same-length-9
+same-length-9 c = search needs
+
+returns-5 : tie.Need-returns-5
+returns-5 c =
+    let s = c .before .before .before .before .before .before .before .before .before .before .before .before .before .before .before .before .before .before .before .before .before .before .before .before .before .before .before .before in
+    make-refused _ (fileOf s) (poolOf s) (lentOf s) (now (s .args .answers))
+    (passed _ _ (c .before .before .before .before .before .before .before .before .before .before .before .before .before .before .before .before .before .before .lengths-agree .ensures) (c .before .before .before .before .before .before .before .before .before .before .before .before .before .before .before .before .before .if1 .left))
+    (passed _ _ (c .before .before .before .before .before .before .before .before .before .before .before .before .before .before .before .before .pool-agrees .ensures) (c .before .before .before .before .before .before .before .before .before .before .before .before .before .before .before .if2 .left))
+    (passed _ _ (c .before .before .before .before .before .before .before .before .before .before .before .before .before .before .kinds-known .ensures) (c .before .before .before .before .before .before .before .before .before .before .before .before .before .if3 .left))
+    _ _ (c .before .before .before .before .before .before .before .before .before .make .ensures .0) _ (c .before .answer .given .1)
+
+pub replay-spec : {M : Type 1} → statement M
+replay-spec =
+    tie.close
+    (tie.spec
+    lengths-agree-requires
+    returns
+    pool-agrees-requires
+    returns-2
+    kinds-known-requires
+    returns-3
+    make-requires
+    enum-told
+    run-requires
+    enum-known-answer
+    same-length
+    same-length-2
+    same-length-3
+    same-length-4
+    same-length-5
+    same-length-6
+    returns-4
+    same-length-7
+    same-length-8
+    same-length-9
+    returns-5)

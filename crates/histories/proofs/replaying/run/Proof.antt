@@ -1,0 +1,128 @@
+use mathlib.Core.Path.{_≡_, refl, _∙_}
+use Prim.Native.Nat.{_-_}
+use native.Mathlib.Omega.{arith}
+use lib.IntN.{pos}
+use lib.ListN.{length, getD}
+use mir.Syntax.{w32}
+use mir.Val.{toZ, ofZ}
+use mir.Facts.{toZ-ofZ}
+use denote.Ref.{now}
+use Rattle.starfile.specs.Answers.{lent, pooled}
+use Rattle.histories.specs.Replay.{lentHistory}
+use Rattle.histories.proofs.Running.{Ongoing, SameLengths, ongoing-none, ongoing-more, ongoing-all}
+use Rattle.histories.proofs.replaying.run.Statement.{statement}
+use Rattle.histories.proofs.replaying.run.Tie as tie
+use Rattle.histories.proofs.replaying.run.Reads as reads
+use Rattle.histories.proofs.replaying.run.Lts as lts
+use Rattle.histories.proofs.calling.replay_step.Reads as replay-step-reads
+
+abbrev Inv-loop : tie.InvT-loop
+Inv-loop parameters separators₀ numbers₀ words₀ poolnumbers₀ poolwords₀ kinds stars ras decs answers₀ state₀ i₀ separators numbers words poolnumbers poolwords answers state i =
+    Ongoing parameters (lentHistory kinds stars ras decs) state₀ (lent separators₀ numbers₀ words₀) (pooled poolnumbers₀ poolwords₀) answers₀ i state answers (lent separators numbers words) (pooled poolnumbers poolwords)
+    × SameLengths (lent separators₀ numbers₀ words₀) (pooled poolnumbers₀ poolwords₀) answers₀ (lent separators numbers words) (pooled poolnumbers poolwords) answers
+
+abbrev μ-loop : tie.MeasureT-loop
+μ-loop parameters separators₀ numbers₀ words₀ poolnumbers₀ poolwords₀ kinds stars ras decs answers₀ state₀ i₀ separators numbers words poolnumbers poolwords answers state i =
+    length kinds - i
+
+loop-holds : tie.Need-loop-holds Inv-loop μ-loop
+loop-holds c = (ongoing-none _ _ _ _ _ _, record { ofSeparators = refl; ofNumbers = refl; ofWords = refl; ofPoolnumbers = refl; ofPoolwords = refl; ofAnswers = refl })
+
+mul-replay-step : tie.Need-mul-replay-step Inv-loop μ-loop
+mul-replay-step c = omega (arith, c .before .before .before .before .before .before .before .before .before .before .before .pre, c .before .before .before .before .before .before .before .before .before .before .before .good)
+
+shared-slice-read-replay-step : tie.Need-shared-slice-read-replay-step Inv-loop μ-loop
+shared-slice-read-replay-step c = omega (arith, c .before .before .before .before .before .before .before .before .before .before .before .before .pre)
+
+mul-t20 : tie.Need-mul-t20 Inv-loop μ-loop
+mul-t20 c = omega (arith, c .before .before .before .before .before .before .before .before .before .before .before .before .pre, c .before .before .before .before .before .before .before .before .before .before .before .before .good)
+
+shared-slice-copy-out-t22 : tie.Need-shared-slice-copy-out-t22 Inv-loop μ-loop
+shared-slice-copy-out-t22 c = omega (arith, c .before .before .before .before .before .before .before .before .before .before .before .before .pre)
+
+shared-slice-read-replay-step-2 : tie.Need-shared-slice-read-replay-step-2 Inv-loop μ-loop
+shared-slice-read-replay-step-2 c = omega (arith, c .before .before .before .before .before .before .before .before .before .before .before .before .before .before .before .before .before .before .before .pre)
+
+mul-replay-step-2 : tie.Need-mul-replay-step-2 Inv-loop μ-loop
+mul-replay-step-2 c = omega (arith, c .before .before .before .before .before .before .before .before .before .before .before .before .before .before .before .before .before .before .before .pre, c .before .before .before .before .before .before .before .before .before .before .before .before .before .before .before .before .before .before .before .good)
+
+shared-slice-read-replay-step-3 : tie.Need-shared-slice-read-replay-step-3 Inv-loop μ-loop
+shared-slice-read-replay-step-3 c = omega (arith, c .before .before .before .before .before .before .before .before .before .before .before .before .before .before .before .before .before .before .before .before .pre)
+
+mul-replay-step-3 : tie.Need-mul-replay-step-3 Inv-loop μ-loop
+mul-replay-step-3 c = omega (arith, c .before .before .before .before .before .before .before .before .before .before .before .before .before .before .before .before .before .before .before .before .before .pre, c .before .before .before .before .before .before .before .before .before .before .before .before .before .before .before .before .before .before .before .before .before .good)
+
+replay-step-requires : tie.Need-replay-step-requires Inv-loop μ-loop
+replay-step-requires c κs = omega (arith, c .before .before .before .before .before .before .before .before .before .before .before .before .before .before .before .before .before .before .before .before .before .pre, c .before .before .before .before .before .before .before .before .before .before .before .loop .inv)
+
+add-i : tie.Need-add-i Inv-loop μ-loop
+add-i c = omega (arith, c .before .before .before .before .before .before .before .before .before .before .before .before .before .before .before .before .before .before .before .before .before .before .before .loop-test .taken, c .before .before .before .before .before .before .before .before .before .before .before .before .before .before .before .before .before .before .before .before .before .before .before .before .before .before .before .before .before .before .before .before .before .before .good)
+
+loop-less : tie.Need-loop-less Inv-loop μ-loop
+loop-less c = omega (arith, c .before .before .before .before .before .before .before .before .before .before .before .before .before .before .before .before .before .before .before .before .before .before .before .loop-test .taken)
+
+loop-again : tie.Need-loop-again Inv-loop μ-loop
+loop-again c =
+    let s = c .before .before .before .before .before .before .before .before .before .before .before .before .before .before .before .before .before .before .before .before .before .before .before .before .before .before .before .before .before .before .before .before .before .before .args in
+    let i = c .before .before .before .before .before .before .before .before .before .before .before .before .before .before .before .before .before .before .before .before .before .before .before .before .loop .i in
+    let t = c .before .before .before .before .before .before .before .before .before .before .before .before .before .before .before .before .before .before .before .before .before .before .before .before .loop .inv in
+    let k = c .before .before .before .before .before .before .before .before .before .before .before .before .replay-step .kept .1 .1 in
+    let back : toZ w32 (ofZ w32 (getD (now (s .decs)) i (pos 0))) ≡ getD (now (s .decs)) i (pos 0) = toZ-ofZ (record { sfits = c .before .before .before .before .before .before .before .before .before .before .before .before .before .before .before .before .before .before .before .before .before .t22 .given }) in (
+      ongoing-more _ _ _ _ _ _ _ _ _ _ _ (t .0) (c .before .before .before .before .before .before .before .before .before .before .before .before .before .before .before .before .before .before .before .before .before .before .before .loop-test .taken) _ _ _ _ (rw back at (c .before .before .before .before .before .before .before .before .before .before .before .before .replay-step .ensures)),
+      record {
+        ofSeparators = k .0 ∙ t .1 .ofSeparators;
+        ofNumbers = k .1 .0 ∙ t .1 .ofNumbers;
+        ofWords = k .1 .1 .0 ∙ t .1 .ofWords;
+        ofPoolnumbers = k .1 .1 .1 .0 ∙ t .1 .ofPoolnumbers;
+        ofPoolwords = k .1 .1 .1 .1 .0 ∙ t .1 .ofPoolwords;
+        ofAnswers = k .1 .1 .1 .1 .1 .1 .1 .1 .0 ∙ t .1 .ofAnswers;
+      },
+    )
+
+same-length : tie.Need-same-length Inv-loop μ-loop
+same-length c = c .before .loop .inv .1 .ofSeparators
+
+same-length-2 : tie.Need-same-length-2 Inv-loop μ-loop
+same-length-2 c = c .before .loop .inv .1 .ofNumbers
+
+same-length-3 : tie.Need-same-length-3 Inv-loop μ-loop
+same-length-3 c = c .before .loop .inv .1 .ofWords
+
+same-length-4 : tie.Need-same-length-4 Inv-loop μ-loop
+same-length-4 c = c .before .loop .inv .1 .ofPoolnumbers
+
+same-length-5 : tie.Need-same-length-5 Inv-loop μ-loop
+same-length-5 c = c .before .loop .inv .1 .ofPoolwords
+
+same-length-6 : tie.Need-same-length-6 Inv-loop μ-loop
+same-length-6 c = c .before .loop .inv .1 .ofAnswers
+
+returns : tie.Need-returns Inv-loop μ-loop
+returns c = ongoing-all _ _ _ _ _ _ _ _ _ _ _ (c .before .loop .inv .0) (c .loop-test .left) (c .before .before .before .before .before .before .before .before .before .before .before .pre)
+
+pub run-spec : {M : Type 1} → statement M
+run-spec =
+    tie.close
+    (tie.spec
+    Inv-loop
+    μ-loop
+    loop-holds
+    mul-replay-step
+    shared-slice-read-replay-step
+    mul-t20
+    shared-slice-copy-out-t22
+    shared-slice-read-replay-step-2
+    mul-replay-step-2
+    shared-slice-read-replay-step-3
+    mul-replay-step-3
+    replay-step-requires
+    add-i
+    loop-less
+    loop-again
+    same-length
+    same-length-2
+    same-length-3
+    same-length-4
+    same-length-5
+    same-length-6
+    returns)

@@ -1,0 +1,24 @@
+-- Look-ups that agree in the one page they read: demand 3's last sentence, for any two files, damaged ones included.
+use mathlib.Core.Path.{_≡_}
+use Prim.Native.Nat.{ℕ}
+use lib.ListN.{length}
+use Rattle.hashing.specs.declared.Parameters.{Parameters}
+use Rattle.hashing.specs.declared.Growth.{Growth}
+use Rattle.pages.specs.Page.{part}
+use Rattle.placement.specs.File.{File}
+use Rattle.starfile.specs.Answers.{Pool}
+use Rattle.starfile.specs.Calls.{named, lookUpOf}
+
+-- two files with the same separators, buffer lengths and items of the page that these separators name for k
+pub record Alike (p : Parameters) (g : Growth) (k : ℕ) (f h : File) : Type 0 where
+  pub separators : f .separators ≡ h .separators
+  pub numbersLength : length (f .numbers) ≡ length (h .numbers)
+  pub wordsLength : length (f .words) ≡ length (h .words)
+  pub numbers : part (p .places) (named p g f k) (f .numbers) ≡ part (p .places) (named p g f k) (h .numbers)
+  pub words : part (p .places) (named p g f k) (f .words) ≡ part (p .places) (named p g f k) (h .words)
+
+-- they get the same answer, refused or not, whatever else is stored
+abbrev pub LookUpsAlike : Type 0
+LookUpsAlike =
+    (p : Parameters) (g : Growth) (k : ℕ) (f h : File) (pool other : Pool) → Alike p g k f h
+    → lookUpOf p g f pool k .answer ≡ lookUpOf p g h other k .answer

@@ -1,0 +1,28 @@
+-- A call of a history, and what it does: document 01, "The plain book".
+use mathlib.Core.Bool.{Bool}
+use lib.Dec.{eqb}
+use Rattle.hashing.specs.declared.Parameters.{Parameters}
+use Rattle.hashing.specs.declared.Growth.{Growth}
+use Rattle.placement.specs.File.{File}
+use Rattle.starfile.specs.Answers.{Answer, Pool, After}
+use Rattle.starfile.specs.Calls.{lookUpOf, enterOf, changeOf, removeOf, growOf, dueOf, checkOf}
+use Rattle.histories.specs.Model.{Request, lookUp, enter, change, remove, grow, due, check}
+
+-- "any number, position and pool": look-ups, changes and Dues leave the pool alone
+pub record Call : Type 0 where
+  pub request : Request
+  pub pool : Pool
+
+-- "Each call has that file's parameters, .. and the file buffers and (e, x) as the call before left them": the calls of starfile
+unfoldable pub step : Parameters → Growth → File → Pool → Request → After
+step p g f pool (lookUp k) = lookUpOf p g f pool k
+step p g f pool (enter k q) = enterOf p g f pool k q
+step p g f pool (change k q) = changeOf p g f pool k q
+step p g f pool (remove k) = removeOf p g f pool k
+step p g f pool grow = growOf p g f pool
+step p g f pool due = dueOf p g f pool
+step p g f pool check = checkOf p g f pool
+
+-- whether a call was accepted
+unfoldable pub isAccepted : Answer → Bool
+isAccepted a = eqb (a .refusal) 0

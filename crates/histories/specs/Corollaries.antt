@@ -1,0 +1,65 @@
+-- What follows of every history: its file is clean, its calls are accepted as the model tells, and only the model's contents count.
+use mathlib.Core.Path.{_≡_}
+use mathlib.Core.Bool.{true}
+use mathlib.Core.List.{List, [], List·Memᴰ}
+use mathlib.Core.Logic.{_↔_}
+use mathlib.Core.Option.{none}
+use Prim.Native.Nat.{ℕ}
+use Rattle.hashing.specs.declared.Parameters.{Parameters}
+use Rattle.pages.specs.declared.position.Position.{Position}
+use Rattle.pages.specs.Position.{validNumber, validPosition, validWord}
+use Rattle.placement.specs.Rule.{left}
+use Rattle.placement.specs.File.{File, Clean}
+use Rattle.starfile.specs.Answers.{Pool}
+use Rattle.starfile.specs.Calls.{hash, poolFits, makeOf, lookUpOf, enterOf, checkOf}
+use Rattle.histories.specs.Model.{Model, setPosition, positionOf, starsOf, answered}
+use Rattle.histories.specs.Call.{Call}
+use Rattle.histories.specs.Run.{State, Event, initial, events, end}
+
+-- what holds of a state of a history
+pub record InHistory (p : Parameters) (now : State) : Type 0 where
+  -- the file is clean: all pages are sound, and it is what the rule gives its stars
+  pub clean : Clean validWord (hash p (now .growth)) (p .pages) (now .file)
+  -- so a check accepts it
+  pub checked : (pool : Pool) → poolFits p pool ≡ true → checkOf p (now .growth) (now .file) pool .answer .refusal ≡ 0
+  -- a look-up of a valid number is accepted, and answers as the model
+  pub sought :
+      (pool : Pool) (k : ℕ) → validNumber k ≡ true → lookUpOf p (now .growth) (now .file) pool k .answer ≡ answered p (now .model) k
+  -- the entry of a star not held is refused with 8 exactly if the model's stars with it do not fit
+  pub full :
+      (pool : Pool) (k : ℕ) (q : Position) → poolFits p pool ≡ true → validNumber k ≡ true → validPosition q ≡ true
+      → positionOf k (now .model .entries) ≡ none
+      → (enterOf p (now .growth) (now .file) pool k q .answer .refusal ≡ 8)
+      ↔ (left (hash p (now .model .growth)) 0 (p .pages) (starsOf (setPosition k q (now .model .entries))) ≡ [] → ⊥)
+
+-- so it is before each call of a history, and at its end
+pub record Throughout (p : Parameters) (start : State) (history : List Call) : Type 0 where
+  pub before : (t : Event) → List·Memᴰ t (events p start history) → InHistory p (t .before)
+  pub after : InHistory p (end p start history)
+
+abbrev pub EachState : Type 0
+EachState =
+    (p : Parameters) (f : File) (pool : Pool) → makeOf p f pool .answer .refusal ≡ 0
+    → (history : List Call) → Throughout p (initial p f pool) history
+
+-- the same stars, positions and growth state: the same position, if any, for each number
+pub record SameContents (a b : Model) : Type 0 where
+  pub positions : (k : ℕ) → positionOf k (a .entries) ≡ positionOf k (b .entries)
+  pub growth : a .growth ≡ b .growth
+
+-- two states with equal models and equal separators, pages and growth state
+pub record SameState (a b : State) : Type 0 where
+  pub model : a .model ≡ b .model
+  pub separators : a .file .separators ≡ b .file .separators
+  pub numbers : a .file .numbers ≡ b .file .numbers
+  pub words : a .file .words ≡ b .file .words
+  pub growth : a .growth ≡ b .growth
+
+-- two histories with the same parameters that end with the same contents end alike, however they came there
+abbrev pub HistoryIndependence : Type 0
+HistoryIndependence =
+    (p : Parameters) (f g : File) (pool other : Pool)
+    → makeOf p f pool .answer .refusal ≡ 0 → makeOf p g other .answer .refusal ≡ 0
+    → (history another : List Call)
+    → SameContents (end p (initial p f pool) history .model) (end p (initial p g other) another .model)
+    → SameState (end p (initial p f pool) history) (end p (initial p g other) another)

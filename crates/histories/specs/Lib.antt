@@ -1,0 +1,8 @@
+pub mod Model
+pub mod Call
+pub mod Run
+pub mod Theorem
+pub mod Corollaries
+pub mod Alike
+pub mod Replay
+pub mod Steps

@@ -1,0 +1,89 @@
+-- The model of a star file: document 01, "The plain book". It never sees the file.
+use mathlib.Core.Bool.{Bool, true, false, not, cond}
+use mathlib.Core.List.{List, [], _∷_, map}
+use mathlib.Core.Option.{Option, none, some}
+use Prim.Native.Nat.{ℕ}
+use lib.Dec.{eqb, ltb}
+use Rattle.hashing.specs.declared.Parameters.{Parameters}
+use Rattle.hashing.specs.declared.Growth.{Growth}
+use Rattle.hashing.specs.Geometry.{grown, ungrown}
+use Rattle.pages.specs.declared.position.Position.{Position}
+use Rattle.pages.specs.Position.{packed}
+use Rattle.placement.specs.Rule.{Star, first, filter}
+use Rattle.placement.specs.File.{File, laid}
+use Rattle.starfile.specs.Answers.{Answer, accepted, foundAt}
+use Rattle.starfile.specs.Calls.{hash}
+
+pub record Entry : Type 0 where
+  pub number : ℕ
+  pub position : Position
+
+-- "It holds star numbers, each once with a position, and an (e, x) of its own": entries stand in rising order of number.
+pub record Model : Type 0 where
+  pub entries : List Entry
+  pub growth : Growth
+
+-- "at first no star and (0, 0)"
+unfoldable pub emptyModel : Model
+emptyModel = record { entries = []; growth = ungrown }
+
+-- "sets the number's position": in place of the number's entry, or before the first higher one
+unfoldable pub setPosition : ℕ → Position → List Entry → List Entry
+setPosition k q [] = record { number = k; position = q } ∷ []
+setPosition k q (e ∷ es) =
+    cond (ltb (e .number) k)
+    (e ∷ setPosition k q es)
+    (record { number = k; position = q } ∷ cond (eqb (e .number) k) es (e ∷ es))
+
+-- "strikes the number out"
+unfoldable pub strike : ℕ → List Entry → List Entry
+strike k es = filter (λ (e : Entry). not (eqb (e .number) k)) es
+
+-- the position that the model holds for a number, if any
+unfoldable pub positionOf : ℕ → List Entry → Option Position
+positionOf k [] = none
+positionOf k (e ∷ es) = cond (eqb (e .number) k) (some (e .position)) (positionOf k es)
+
+-- A call's kind, number and position.
+pub data Request : Type 0 where
+  lookUp : ℕ → Request
+  enter : ℕ → Position → Request
+  change : ℕ → Position → Request
+  remove : ℕ → Request
+  grow due check : Request
+
+-- what an accepted call makes of the model; "Any other call leaves it as it is"
+unfoldable pub updated : Parameters → Request → Model → Model
+updated p (lookUp k) m = m
+updated p (enter k q) m = record { entries = setPosition k q (m .entries); growth = m .growth }
+updated p (change k q) m = record { entries = setPosition k q (m .entries); growth = m .growth }
+updated p (remove k) m = record { entries = strike k (m .entries); growth = m .growth }
+updated p grow m = record { entries = m .entries; growth = grown p (m .growth) }
+updated p due m = m
+updated p check m = m
+
+-- "fed each call's kind, number and position and whether it was accepted"; "and so does each refused one"
+unfoldable pub fed : Parameters → Request → Bool → Model → Model
+fed p r true m = updated p r m
+fed p r false m = m
+
+-- "its stars, .. positions packed into words"
+unfoldable pub starsOf : List Entry → List Star
+starsOf es = map (λ (e : Entry). record { number = e .number; word = packed (e .position) }) es
+
+-- "Its separators and pages are what the rule over pages 0 to M−1 gives its stars, homes being taken under its (e, x)"
+unfoldable pub fileOf : Parameters → Model → File
+fileOf p m = laid (p .places) (hash p (m .growth)) (p .pages) (starsOf (m .entries))
+
+-- "as page the first from home whose separator, of these, is above the number's signature there"
+unfoldable pub pageFor : Parameters → Model → ℕ → ℕ
+pageFor p m k = first (hash p (m .growth)) 0 (fileOf p m .separators) k
+
+-- "the position it holds, or "none", and as page .."
+unfoldable pub answerWith : Option Position → ℕ → Answer
+answerWith none page = accepted page
+answerWith (some q) page = foundAt page q
+
+-- "It answers a look-up"
+unfoldable pub answered : Parameters → Model → ℕ → Answer
+answered p m k = answerWith (positionOf k (m .entries)) (pageFor p m k)

@@ -1,0 +1,177 @@
+-- A replay: a lent history, run through the calls from a file made for it.
+use mathlib.Core.Path.{_≡_}
+use mathlib.Core.Bool.{Bool, true, false, cond, _&&_}
+use mathlib.Core.List.{List, [], _∷_, _++_}
+use Prim.Native.Nat.{ℕ, zero, suc, _*_}
+use lib.Dec.{eqb, ltb}
+use lib.IntN.{ℤ, pos, natAbs, _+ℤ_}
+use lib.ListN.{length, getD}
+use Rattle.hashing.specs.declared.Parameters.{Parameters}
+use Rattle.hashing.specs.declared.Growth.{Growth}
+use Rattle.hashing.specs.Geometry.{ungrown}
+use Rattle.pages.specs.declared.position.Position.{Position}
+use Rattle.placement.specs.File.{File}
+use Rattle.starfile.specs.Answers.{Answer, Pool, numberOf, unpooled}
+use Rattle.starfile.specs.Calls.{unless, orElse, makeOf}
+use Rattle.histories.specs.declared.replaying.Replayed.{Replayed}
+use Rattle.histories.specs.declared.replaying.Replayed.the-variants.{Done, BadKind, Refused}
+use Rattle.histories.specs.Model.{fileOf, Request, lookUp, enter, change, remove, grow, due, check}
+use Rattle.histories.specs.Call.{Call}
+use Rattle.histories.specs.Run.{State, Event, initial, outcome, next, events, end}
+use Rattle.histories.specs.Theorem.{AsModel}
+
+-- the lent slices of a history: the kind, number, right ascension and declination of each call
+pub record LentHistory : Type 0 where
+  pub kinds : List ℕ
+  pub stars : List ℕ
+  pub ras : List ℕ
+  pub decs : List ℤ
+
+abbrev pub lentHistory : List ℕ → List ℕ → List ℕ → List ℤ → LentHistory
+lentHistory kinds stars ras decs = record { kinds = kinds; stars = stars; ras = ras; decs = decs }
+
+unfoldable pub allKinds : List ℕ → Bool
+allKinds [] = true
+allKinds (kind ∷ kinds) = ltb kind 7 && allKinds kinds
+
+unfoldable pub requestOf : ℕ → ℕ → Position → Request
+requestOf kind k q =
+    cond (eqb kind 0)
+    (lookUp k)
+    (cond (eqb kind 1)
+    (enter k q)
+    (cond (eqb kind 2)
+    (change k q)
+    (cond (eqb kind 3) (remove k) (cond (eqb kind 4) grow (cond (eqb kind 5) due check)))))
+
+abbrev pub requestAt : LentHistory → ℕ → Request
+requestAt h i =
+    requestOf (getD (h .kinds) i 0) (getD (h .stars) i 0)
+    (record { ra = getD (h .ras) i 0; dec = getD (h .decs) i (pos 0) })
+
+-- the first n requests
+unfoldable pub requestsTo : LentHistory → ℕ → List Request
+requestsTo h zero = []
+requestsTo h (suc i) = requestsTo h i ++ requestAt h i ∷ []
+
+abbrev pub requestsOf : LentHistory → List Request
+requestsOf h = requestsTo h (length (h .kinds))
+
+-- The calls: each has the pool as the call before left it.
+
+abbrev pub callOf : Pool → Request → Call
+callOf pool r = record { request = r; pool = pool }
+
+unfoldable pub historyFrom : Parameters → State → Pool → List Request → List Call
+historyFrom p s pool [] = []
+historyFrom p s pool (r ∷ rs) = callOf pool r ∷ historyFrom p (next p s (callOf pool r)) (outcome p s (callOf pool r) .pool) rs
+
+-- the pool after the last call
+unfoldable pub poolAfter : Parameters → State → Pool → List Request → Pool
+poolAfter p s pool [] = pool
+poolAfter p s pool (r ∷ rs) = poolAfter p (next p s (callOf pool r)) (outcome p s (callOf pool r) .pool) rs
+
+-- Eight numbers for each answer.
+
+unfoldable pub bit : Bool → ℕ
+bit true = 1
+bit false = 0
+
+-- a signed number of 32 bits, raised by 2^31
+unfoldable pub shifted : ℤ → ℕ
+shifted dec = natAbs (dec +ℤ pos 2147483648)
+
+unfoldable pub encoded : Answer → List ℕ
+encoded a =
+    a .refusal
+    ∷ a .page
+    ∷ a .place
+    ∷ bit (a .found)
+    ∷ a .position .ra
+    ∷ shifted (a .position .dec)
+    ∷ bit (a .due)
+    ∷ a .stars
+    ∷ []
+
+unfoldable pub answersOf : List Event → List ℕ
+answersOf [] = []
+answersOf (t ∷ ts) = encoded (t .answer) ++ answersOf ts
+
+-- What a replay answers and leaves.
+
+pub record Replay : Type 0 where
+  -- 0 if it was run
+  pub refusal : ℕ
+  pub growth : Growth
+  pub answers : List ℕ
+  pub file : File
+  pub pool : Pool
+
+-- a star, a right ascension and a declination for each kind, and eight answers
+abbrev pub evenLengths : ℕ → ℕ → ℕ → ℕ → ℕ → Bool
+evenLengths kinds stars ras decs answers =
+    eqb stars kinds && (eqb ras kinds && (eqb decs kinds && eqb answers (kinds * 8)))
+
+-- a pool as long as the file's numbers and words
+abbrev pub evenPool : ℕ → ℕ → ℕ → ℕ → Bool
+evenPool numbers words poolnumbers poolwords = eqb poolnumbers numbers && eqb poolwords words
+
+unfoldable pub agreeing : File → Pool → LentHistory → List ℕ → Bool
+agreeing f pool h answers =
+    evenLengths (length (h .kinds)) (length (h .stars)) (length (h .ras)) (length (h .decs)) (length answers)
+    && evenPool (length (f .numbers)) (length (f .words)) (length (pool .numbers)) (length (pool .words))
+
+-- lengths that do not agree are 2, an unknown kind 9, else it is what make says of parameters and lengths
+unfoldable pub refusalOf : Parameters → File → Pool → LentHistory → List ℕ → ℕ
+refusalOf p f pool h answers =
+    orElse (unless (agreeing f pool h answers) 2)
+    (orElse (unless (allKinds (h .kinds)) 9) (makeOf p f unpooled .answer .refusal))
+
+-- the history of a replay, from the file that make left
+abbrev pub historyOf : Parameters → File → Pool → LentHistory → List Call
+historyOf p f pool h = historyFrom p (initial p f unpooled) pool (requestsOf h)
+
+-- refused, with everything as it was, or run
+unfoldable pub replayedWith : ℕ → Parameters → File → Pool → LentHistory → List ℕ → Replay
+replayedWith (suc n) p f pool h answers = record { refusal = suc n; growth = ungrown; answers = answers; file = f; pool = pool }
+replayedWith zero p f pool h answers =
+    record {
+      refusal = 0;
+      growth = end p (initial p f unpooled) (historyOf p f pool h) .growth;
+      answers = answersOf (events p (initial p f unpooled) (historyOf p f pool h));
+      file = end p (initial p f unpooled) (historyOf p f pool h) .file;
+      pool = poolAfter p (initial p f unpooled) pool (requestsOf h);
+    }
+
+unfoldable pub replayOf : Parameters → File → Pool → LentHistory → List ℕ → Replay
+replayOf p f pool h answers = replayedWith (refusalOf p f pool h answers) p f pool h answers
+
+-- the number of each case of the answer
+unfoldable pub refusalSaid : Replayed → ℕ
+refusalSaid (Done growth) = 0
+refusalSaid BadKind = 9
+refusalSaid (Refused r) = numberOf r
+
+unfoldable pub growthSaid : Replayed → Growth
+growthSaid (Done growth) = growth
+growthSaid BadKind = ungrown
+growthSaid (Refused r) = ungrown
+
+-- the answer and the lent slices at exit are those of the definition
+pub record Replays (replay : Replay) (r : Replayed) (answers : List ℕ) (file : File) (pool : Pool) : Type 0 where
+  pub refusals : refusalSaid r ≡ replay .refusal
+  pub growths : growthSaid r ≡ replay .growth
+  pub answersAre : answers ≡ replay .answers
+  pub files : file ≡ replay .file
+  pub pools : pool ≡ replay .pool
+
+-- An accepted replay leaves the model's file: every history, said of the one that the slices hold.
+pub record AsReplayed (p : Parameters) (f : File) (pool : Pool) (h : LentHistory) (answers : List ℕ) : Type 0 where
+  pub asModel : AsModel p (initial p f unpooled) (historyOf p f pool h)
+  pub fileIs : replayOf p f pool h answers .file ≡ fileOf p (end p (initial p f unpooled) (historyOf p f pool h) .model)
+  pub growthIs : replayOf p f pool h answers .growth ≡ end p (initial p f unpooled) (historyOf p f pool h) .model .growth
+
+abbrev pub EveryReplay : Type 0
+EveryReplay =
+    (p : Parameters) (f : File) (pool : Pool) (h : LentHistory) (answers : List ℕ)
+    → replayOf p f pool h answers .refusal ≡ 0 → AsReplayed p f pool h answers

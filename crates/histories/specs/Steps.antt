@@ -1,0 +1,54 @@
+-- What the parts of a replay leave: one call, one call with its answers written, and several calls.
+use mathlib.Core.Path.{_≡_}
+use mathlib.Core.List.{List, _++_}
+use Prim.Native.Nat.{ℕ, _*_}
+use lib.ListN.{length}
+use lib.Seq.{paste}
+use Rattle.hashing.specs.declared.Parameters.{Parameters}
+use Rattle.hashing.specs.declared.Growth.{Growth}
+use Rattle.placement.specs.File.{File}
+use Rattle.starfile.specs.Answers.{Answer, Pool, After}
+use Rattle.histories.specs.declared.answering.Answered.{Answered}
+use Rattle.histories.specs.declared.calling.Stepped.{Stepped}
+use Rattle.histories.specs.Model.{Request}
+use Rattle.histories.specs.Run.{State, events, end}
+use Rattle.histories.specs.Replay.{LentHistory, historyFrom, poolAfter, encoded, answersOf}
+
+-- an answer in the form of the code
+abbrev pub said : Answered → Answer
+said a =
+    record {
+      refusal = a .refusal;
+      page = a .page;
+      place = a .place;
+      found = a .found;
+      position = a .position;
+      due = a .due;
+      stars = a .stars;
+    }
+
+pub record Steps (after : After) (r : Stepped) (file : File) (pool : Pool) : Type 0 where
+  pub answers : said (r .answer) ≡ after .answer
+  pub growths : r .growth ≡ after .growth
+  pub files : file ≡ after .file
+  pub pools : pool ≡ after .pool
+
+pub record Written (after : After) (before : List ℕ) (at : ℕ) (growth : Growth) (answers : List ℕ) (file : File) (pool : Pool) : Type 0 where
+  pub answersAre : answers ≡ paste before at (encoded (after .answer)) 8
+  pub growths : growth ≡ after .growth
+  pub files : file ≡ after .file
+  pub pools : pool ≡ after .pool
+
+-- a star, a right ascension, a declination and eight answers for each kind
+pub record Even (h : LentHistory) (answers : List ℕ) : Type 0 where
+  pub stars : length (h .stars) ≡ length (h .kinds)
+  pub ras : length (h .ras) ≡ length (h .kinds)
+  pub decs : length (h .decs) ≡ length (h .kinds)
+  pub eight : length answers ≡ length (h .kinds) * 8
+
+-- the requests rs, run from a state, with the answers of later ones still to come
+pub record Runs (p : Parameters) (s : State) (before : Pool) (rs : List Request) (later : List ℕ) (growth : Growth) (answers : List ℕ) (file : File) (pool : Pool) : Type 0 where
+  pub answersAre : answers ≡ answersOf (events p s (historyFrom p s before rs)) ++ later
+  pub growths : growth ≡ end p s (historyFrom p s before rs) .growth
+  pub files : file ≡ end p s (historyFrom p s before rs) .file
+  pub pools : pool ≡ poolAfter p s before rs

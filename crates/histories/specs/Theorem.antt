@@ -1,0 +1,31 @@
+-- Demand 3: what holds of every history.
+use mathlib.Core.Path.{_≡_}
+use mathlib.Core.List.{List, List·Memᴰ}
+use Prim.Native.Nat.{ℕ}
+use Rattle.hashing.specs.declared.Parameters.{Parameters}
+use Rattle.placement.specs.File.{File}
+use Rattle.starfile.specs.Answers.{Pool}
+use Rattle.starfile.specs.Calls.{makeOf}
+use Rattle.histories.specs.Model.{lookUp, fileOf, answered}
+use Rattle.histories.specs.Call.{Call}
+use Rattle.histories.specs.Run.{State, Event, initial, events, end}
+
+-- what holds of a history from a state on
+pub record AsModel (p : Parameters) (start : State) (history : List Call) : Type 0 where
+  -- each accepted look-up answers position or none, and page, as the model after the calls before it
+  pub lookUps :
+      (t : Event) → List·Memᴰ t (events p start history) → (k : ℕ) → t .call .request ≡ lookUp k → t .answer .refusal ≡ 0
+      → t .answer ≡ answered p (t .before .model) k
+  -- "Refused for damage means 5": no call is
+  pub undamaged : (t : Event) → List·Memᴰ t (events p start history) → t .answer .refusal ≡ 5 → ⊥
+  -- at the end separators, pages and growth state are the model's
+  pub separators : end p start history .file .separators ≡ fileOf p (end p start history .model) .separators
+  pub numbers : end p start history .file .numbers ≡ fileOf p (end p start history .model) .numbers
+  pub words : end p start history .file .words ≡ fileOf p (end p start history .model) .words
+  pub growth : end p start history .growth ≡ end p start history .model .growth
+
+-- for all parameters and buffers that make accepts, and every history
+abbrev pub EveryHistory : Type 0
+EveryHistory =
+    (p : Parameters) (f : File) (pool : Pool) → makeOf p f pool .answer .refusal ≡ 0
+    → (history : List Call) → AsModel p (initial p f pool) history
