@@ -23,7 +23,7 @@ use Rattle.starfile.specs.declared.answers.Refusal.the-variants.{
 }
 use Rattle.starfile.specs.declared.answers.Placed.{Placed}
 use Rattle.starfile.specs.declared.answers.Placed.the-variants.{On, Refused as NotPlaced}
-use Rattle.starfile.specs.Answers.{Answer, Pool, Leaves, unpooled, numberOf, placed, refusedBy, spotted}
+use Rattle.starfile.specs.Answers.{Answer, Pool, After, Leaves, unpooled, numberOf, placed, refusedBy, spotted}
 use Rattle.starfile.specs.Calls.{fileFits, unless, orElse, guarded, emptyFile, makeOf}
 use Rattle.histories.specs.declared.replaying.Replayed.{Replayed}
 use Rattle.histories.specs.declared.replaying.Replayed.the-variants.{Done, BadKind, Refused}
@@ -70,9 +70,12 @@ make-refuses : (p : Parameters) (f : File) (pool : Pool) (n : ℕ) → makeOf p 
 unfolding makeOf spotted
 make-refuses p f pool n e = go (validParameters p) (fileFits p f) e
   where
+    empty : After
+    empty = record { answer = spotted 0 0 0; growth = ungrown; file = emptyFile p; pool = pool }
+
     go : (s t : Bool)
-        → guarded ungrown f pool (orElse (unless s 1) (unless t 2)) (record { answer = spotted 0 0 0; growth = ungrown; file = emptyFile p; pool = pool }) .answer .refusal ≡ suc n
-        → guarded ungrown f pool (orElse (unless s 1) (unless t 2)) (record { answer = spotted 0 0 0; growth = ungrown; file = emptyFile p; pool = pool }) .file ≡ f
+        → guarded ungrown f pool (orElse (unless s 1) (unless t 2)) empty .answer .refusal ≡ suc n
+        → guarded ungrown f pool (orElse (unless s 1) (unless t 2)) empty .file ≡ f
     go true true e = absurd (omega arith)
     go true false e = refl
     go false t e = refl
@@ -114,7 +117,8 @@ module _ (p : Parameters) (f : File) (pool : Pool) (h : LentHistory) (answers : 
         unfolding placed refusedBy spotted refusalSaid growthSaid
         make-refused r e =
             let n : placed a .refusal ≡ suc (numberOf r - 1) = rw e (refusal-number r) in
-            let same : file ≡ f = made .files ∙ make-refuses p f unpooled (numberOf r - 1) (sym (ap (λ (x : Answer). x .refusal) (made .answers)) ∙ n) in
+            let refusal = sym (ap (λ (x : Answer). x .refusal) (made .answers)) in
+            let same : file ≡ f = made .files ∙ make-refuses p f unpooled (numberOf r - 1) (refusal ∙ n) in
             rw same (refused-replays (numberOf r - 1) (as-made ∙ n) (Refused r) (refusal-number r) refl)
 
         pub make-done : (page : ℕ) → a ≡ On page → (growth : Growth) → growth ≡ makeOf p f unpooled .growth
@@ -149,7 +153,8 @@ pub every-replay : EveryReplay
 unfolding replayOf replayedWith refusalOf
 every-replay p f pool h answers e =
     let n : refusalOf p f pool h answers ≡ 0 = accepted-run (refusalOf p f pool h answers) p f pool h answers e in
-    let made : makeOf p f unpooled .answer .refusal ≡ 0 = either-none (unless (allKinds (h .kinds)) 9) _ (either-none (unless (agreeing f pool h answers) 2) _ n) in
+    let rest = either-none (unless (agreeing f pool h answers) 2) _ n in
+    let made : makeOf p f unpooled .answer .refusal ≡ 0 = either-none (unless (allKinds (h .kinds)) 9) _ rest in
     let agrees = end-agrees conforming p (initial p f unpooled) (initial-agrees p f unpooled made) (historyOf p f pool h) in
     record {
       asModel = every-history p f unpooled made (historyOf p f pool h);

@@ -63,7 +63,8 @@ eight-long a = refl
 abbrev pub from : Growth → File → State
 from growth file = record { growth = growth; file = file; model = emptyModel }
 
-pub record Ongoing (p : Parameters) (h : LentHistory) (growth₀ : Growth) (file₀ : File) (pool₀ : Pool) (answers₀ : List ℕ) (i : ℕ) (growth : Growth) (answers : List ℕ) (file : File) (pool : Pool) : Type 0 where
+pub record Ongoing (p : Parameters) (h : LentHistory) (growth₀ : Growth) (file₀ : File) (pool₀ : Pool) (answers₀ : List ℕ)
+    (i : ℕ) (growth : Growth) (answers : List ℕ) (file : File) (pool : Pool) : Type 0 where
   pub most : i ≤ length (h .kinds)
   pub counted : length (answersOf (events p (from growth₀ file₀) (historyFrom p (from growth₀ file₀) pool₀ (requestsTo h i)))) ≡ i * 8
   pub runs : Runs p (from growth₀ file₀) pool₀ (requestsTo h i) (drop (i * 8) answers₀) growth answers file pool
@@ -76,6 +77,17 @@ pub record SameLengths (file₀ : File) (pool₀ : Pool) (answers₀ : List ℕ)
   pub ofPoolnumbers : length (pool .numbers) ≡ length (pool₀ .numbers)
   pub ofPoolwords : length (pool .words) ≡ length (pool₀ .words)
   pub ofAnswers : length answers ≡ length answers₀
+
+pub same-lengths : (file : File) (pool : Pool) (answers : List ℕ) → SameLengths file pool answers file pool answers
+same-lengths file pool answers =
+    record {
+      ofSeparators = refl;
+      ofNumbers = refl;
+      ofWords = refl;
+      ofPoolnumbers = refl;
+      ofPoolwords = refl;
+      ofAnswers = refl;
+    }
 
 module _ (p : Parameters) (h : LentHistory) (growth₀ : Growth) (file₀ : File) (pool₀ : Pool) (answers₀ : List ℕ) where
   abbrev so-far : ℕ → List ℕ
@@ -91,10 +103,13 @@ module _ (p : Parameters) (h : LentHistory) (growth₀ : Growth) (file₀ : File
         runs = record { answersAre = refl; growths = refl; files = refl; pools = refl };
       })
 
-  module _ (i : ℕ) (growth : Growth) (answers : List ℕ) (file : File) (pool : Pool) (t : Ongoing p h growth₀ file₀ pool₀ answers₀ i growth answers file pool) where
+  module _ (i : ℕ) (growth : Growth) (answers : List ℕ) (file : File) (pool : Pool)
+      (t : Ongoing p h growth₀ file₀ pool₀ answers₀ i growth answers file pool) where
     -- what the call of one more answers and leaves
     abbrev this : After
-    this = outcome p (after p (from growth₀ file₀) pool₀ (requestsTo h i)) (callOf (poolAfter p (from growth₀ file₀) pool₀ (requestsTo h i)) (requestAt h i))
+    this =
+        outcome p (after p (from growth₀ file₀) pool₀ (requestsTo h i))
+        (callOf (poolAfter p (from growth₀ file₀) pool₀ (requestsTo h i)) (requestAt h i))
 
     same-step : step p growth file pool (requestAt h i) ≡ this
     unfolding outcome
@@ -127,8 +142,10 @@ module _ (p : Parameters) (h : LentHistory) (growth₀ : Growth) (file₀ : File
               };
         })
 
-    pub ongoing-all : length (h .kinds) ≤ i → Even h answers₀ → Runs p (from growth₀ file₀) pool₀ (requestsOf h) [] growth answers file pool
+    pub ongoing-all : length (h .kinds) ≤ i → Even h answers₀
+        → Runs p (from growth₀ file₀) pool₀ (requestsOf h) [] growth answers file pool
     ongoing-all l even =
         let e : i ≡ length (h .kinds) = omega (arith, t .most) in
-        let n : drop (length (h .kinds) * 8) answers₀ ≡ [] = drop-of-length-le answers₀ {i = length (h .kinds) * 8} (omega (arith, even .eight)) in
+        let n : drop (length (h .kinds) * 8) answers₀ ≡ [] =
+        drop-of-length-le answers₀ {i = length (h .kinds) * 8} (omega (arith, even .eight)) in
         rw (e, n) at (t .runs)

@@ -66,7 +66,8 @@ guarded-over g f pool (suc n) a b e = refl
 
 cases-over : (g : Growth) (f h : File) (pool : Pool) (t u : Bool) (x y z : Answer)
     → cond t (cond u (record { answer = x; growth = g; file = h; pool = pool }) (unchanged g f pool y)) (unchanged g f pool z)
-    ≡ over g pool (cond t (cond u (record { answer = x; growth = g; file = h; pool = unpooled }) (unchanged g f unpooled y)) (unchanged g f unpooled z))
+    ≡ over g pool
+    (cond t (cond u (record { answer = x; growth = g; file = h; pool = unpooled }) (unchanged g f unpooled y)) (unchanged g f unpooled z))
 cases-over g f h pool true true x y z = refl
 cases-over g f h pool true false x y z = refl
 cases-over g f h pool false u x y z = refl
@@ -153,12 +154,14 @@ module _ (p : Parameters) (g : Growth) (f : File) (pool : Pool) where
       unfolding step requestOf
       remove-steps file left e l = rw e (record { answers = h ∙ l .answers; growths = sym (remove-growth k); files = l .files; pools = l .pools })
 
-      pub grow-steps : (file : File) (left : Pool) → kind ≡ 4 → (next : Growth) → next ≡ growOf p g f pool .growth → Leaves (growOf p g f pool) said-so file left
+      pub grow-steps : (file : File) (left : Pool) → kind ≡ 4 → (next : Growth) → next ≡ growOf p g f pool .growth
+          → Leaves (growOf p g f pool) said-so file left
           → Steps (step p g f pool (requestOf kind k q)) (record { answer = a; growth = next }) file left
       unfolding step requestOf
       grow-steps file left e next n l = rw e (record { answers = h ∙ l .answers; growths = n; files = l .files; pools = l .pools })
 
-      pub check-steps : (left : Pool) → (kind ≡ 0 → ⊥) → (kind ≡ 1 → ⊥) → (kind ≡ 2 → ⊥) → (kind ≡ 3 → ⊥) → (kind ≡ 4 → ⊥) → (kind ≡ 5 → ⊥)
+      pub check-steps : (left : Pool) → (kind ≡ 0 → ⊥) → (kind ≡ 1 → ⊥) → (kind ≡ 2 → ⊥)
+          → (kind ≡ 3 → ⊥) → (kind ≡ 4 → ⊥) → (kind ≡ 5 → ⊥)
           → Leaves (checkOf p g f pool) said-so f left
           → Steps (step p g f pool (requestOf kind k q)) (record { answer = a; growth = g }) f left
       unfolding step requestOf

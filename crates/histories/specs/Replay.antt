@@ -30,10 +30,12 @@ pub record LentHistory : Type 0 where
 abbrev pub lentHistory : List ℕ → List ℕ → List ℕ → List ℤ → LentHistory
 lentHistory kinds stars ras decs = record { kinds = kinds; stars = stars; ras = ras; decs = decs }
 
+-- every kind is one of the seven
 unfoldable pub allKinds : List ℕ → Bool
 allKinds [] = true
 allKinds (kind ∷ kinds) = ltb kind 7 && allKinds kinds
 
+-- kinds: 0 look-up, 1 enter, 2 change, 3 remove, 4 grow, 5 due, 6 check
 unfoldable pub requestOf : ℕ → ℕ → Position → Request
 requestOf kind k q =
     cond (eqb kind 0)
@@ -81,6 +83,7 @@ bit false = 0
 unfoldable pub shifted : ℤ → ℕ
 shifted dec = natAbs (dec +ℤ pos 2147483648)
 
+-- refusal, page, place, found, right ascension, declination, due, stars
 unfoldable pub encoded : Answer → List ℕ
 encoded a =
     a .refusal

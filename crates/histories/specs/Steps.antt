@@ -47,7 +47,8 @@ pub record Even (h : LentHistory) (answers : List ℕ) : Type 0 where
   pub eight : length answers ≡ length (h .kinds) * 8
 
 -- the requests rs, run from a state, with the answers of later ones still to come
-pub record Runs (p : Parameters) (s : State) (before : Pool) (rs : List Request) (later : List ℕ) (growth : Growth) (answers : List ℕ) (file : File) (pool : Pool) : Type 0 where
+pub record Runs (p : Parameters) (s : State) (before : Pool) (rs : List Request) (later : List ℕ)
+    (growth : Growth) (answers : List ℕ) (file : File) (pool : Pool) : Type 0 where
   pub answersAre : answers ≡ answersOf (events p s (historyFrom p s before rs)) ++ later
   pub growths : growth ≡ end p s (historyFrom p s before rs) .growth
   pub files : file ≡ end p s (historyFrom p s before rs) .file

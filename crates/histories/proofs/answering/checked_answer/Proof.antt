@@ -1,12 +1,9 @@
+-- `histories::answering::checked_answer` meets its contract.
 use mathlib.Core.Path.{sym, ap, _∙_}
 use Rattle.starfile.specs.Answers.{checked}
 use borrow.Author.Needs.{needs}
 use Rattle.histories.proofs.answering.checked_answer.Statement.{statement}
 use Rattle.histories.proofs.answering.checked_answer.Tie as tie
-use Rattle.histories.proofs.answering.checked_answer.Reads as reads
-use Rattle.histories.proofs.answering.checked_answer.Lts as lts
-use Rattle.histories.proofs.answering.at_spot.Reads as at-spot-reads
-use Rattle.histories.proofs.answering.refused_answer.Reads as refused-answer-reads
 
 enum-told : tie.Need-enum-told
 enum-told c = search needs

@@ -1,9 +1,8 @@
+-- `histories::answering::count_answer` meets its contract.
 use mathlib.Core.Path.{refl}
 use Rattle.starfile.specs.Answers.{counted}
 use Rattle.histories.proofs.answering.count_answer.Statement.{statement}
 use Rattle.histories.proofs.answering.count_answer.Tie as tie
-use Rattle.histories.proofs.answering.count_answer.Reads as reads
-use Rattle.histories.proofs.answering.count_answer.Lts as lts
 
 returns : tie.Need-returns
 unfolding counted

@@ -1,12 +1,9 @@
+-- `histories::answering::due_answer` meets its contract.
 use mathlib.Core.Path.{sym, ap, _∙_}
 use Rattle.starfile.specs.Answers.{dueSaid}
 use borrow.Author.Needs.{needs}
 use Rattle.histories.proofs.answering.due_answer.Statement.{statement}
 use Rattle.histories.proofs.answering.due_answer.Tie as tie
-use Rattle.histories.proofs.answering.due_answer.Reads as reads
-use Rattle.histories.proofs.answering.due_answer.Lts as lts
-use Rattle.histories.proofs.answering.count_answer.Reads as count-answer-reads
-use Rattle.histories.proofs.answering.refused_answer.Reads as refused-answer-reads
 
 enum-known-answer : tie.Need-enum-known-answer
 enum-known-answer c = search needs

@@ -1,13 +1,10 @@
+-- `histories::answering::encode` meets its contract. The declination goes to `unsigned` as bits, and fits.
 use mir.Syntax.{w32}
 use mir.Facts.{toZ-ofZ}
 use Rattle.histories.specs.Replay.{encoded}
 use borrow.Author.Needs.{needs}
 use Rattle.histories.proofs.answering.encode.Statement.{statement}
 use Rattle.histories.proofs.answering.encode.Tie as tie
-use Rattle.histories.proofs.answering.encode.Reads as reads
-use Rattle.histories.proofs.answering.encode.Lts as lts
-use Rattle.histories.proofs.answering.number.Reads as number-reads
-use Rattle.histories.proofs.answering.unsigned.Reads as unsigned-reads
 
 number-requires : tie.Need-number-requires
 number-requires c κs = search needs
@@ -21,8 +18,9 @@ number-requires-2 c κs = search needs
 returns : tie.Need-returns
 unfolding encoded
 returns c =
-    let back = toZ-ofZ {w = w32} {z = c .before .before .before .before .before .args .answer .position .dec} (record { sfits = c .before .before .struct-told .given .1 .0 .1 }) in
-    rw (c .number2 .ensures, c .before .unsigned .ensures, back, c .before .before .before .before .number .ensures)
+    let told = c .before .before in
+    let back = toZ-ofZ {w = w32} {z = told .before .before .before .args .answer .position .dec} (record { sfits = told .struct-told .given .1 .0 .1 }) in
+    rw (c .number2 .ensures, c .before .unsigned .ensures, back, told .before .before .number .ensures)
 
 pub encode-spec : {M : Type 1} → statement M
 encode-spec = tie.close (tie.spec number-requires unsigned-requires number-requires-2 returns)

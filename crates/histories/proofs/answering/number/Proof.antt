@@ -1,8 +1,7 @@
+-- `histories::answering::number` meets its contract.
 use Rattle.histories.specs.Replay.{bit}
 use Rattle.histories.proofs.answering.number.Statement.{statement}
 use Rattle.histories.proofs.answering.number.Tie as tie
-use Rattle.histories.proofs.answering.number.Reads as reads
-use Rattle.histories.proofs.answering.number.Lts as lts
 
 returns : tie.Need-returns
 unfolding bit

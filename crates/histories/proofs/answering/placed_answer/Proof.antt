@@ -1,12 +1,9 @@
+-- `histories::answering::placed_answer` meets its contract.
 use mathlib.Core.Path.{sym, ap, _∙_}
 use Rattle.starfile.specs.Answers.{placed}
 use borrow.Author.Needs.{needs}
 use Rattle.histories.proofs.answering.placed_answer.Statement.{statement}
 use Rattle.histories.proofs.answering.placed_answer.Tie as tie
-use Rattle.histories.proofs.answering.placed_answer.Reads as reads
-use Rattle.histories.proofs.answering.placed_answer.Lts as lts
-use Rattle.histories.proofs.answering.at_spot.Reads as at-spot-reads
-use Rattle.histories.proofs.answering.refused_answer.Reads as refused-answer-reads
 
 enum-known-answer : tie.Need-enum-known-answer
 enum-known-answer c = search needs

@@ -1,11 +1,9 @@
+-- `histories::answering::refused_answer` meets its contract.
 use mathlib.Core.Path.{sym, ap, _∙_}
 use Rattle.starfile.specs.Answers.{refusedBy, numberOf, pageOf}
 use borrow.Author.Needs.{needs}
 use Rattle.histories.proofs.answering.refused_answer.Statement.{statement}
 use Rattle.histories.proofs.answering.refused_answer.Tie as tie
-use Rattle.histories.proofs.answering.refused_answer.Reads as reads
-use Rattle.histories.proofs.answering.refused_answer.Lts as lts
-use Rattle.histories.proofs.answering.at_spot.Reads as at-spot-reads
 
 enum-told : tie.Need-enum-told
 enum-told c = search needs

@@ -1,9 +1,8 @@
+-- `histories::answering::unsigned` meets its contract. The machine's sum is the number raised by 2^31.
 use mir.Facts.{toZ-ofZ, sfits-widen}
 use Rattle.histories.proofs.Signed.{lifts, widened, sum-fits, lifted-back}
 use Rattle.histories.proofs.answering.unsigned.Statement.{statement}
 use Rattle.histories.proofs.answering.unsigned.Tie as tie
-use Rattle.histories.proofs.answering.unsigned.Reads as reads
-use Rattle.histories.proofs.answering.unsigned.Lts as lts
 
 cast-result : tie.Need-cast-result
 cast-result c = rw (toZ-ofZ (c .fits .dec)) (sfits-widen tt (c .fits .dec))

@@ -1,3 +1,4 @@
+-- `histories::answering::write` meets its contract. The invariant: the first i numbers of the row are copied.
 use mathlib.Core.Path.{_≡_, refl, ap, _∙_}
 use Prim.Native.Nat.{_-_, _≤_}
 use native.Mathlib.Numerals.{add-one}
@@ -8,9 +9,6 @@ use denote.Ref.{now}
 use Rattle.histories.proofs.Running.{eight-long}
 use Rattle.histories.proofs.answering.write.Statement.{statement}
 use Rattle.histories.proofs.answering.write.Tie as tie
-use Rattle.histories.proofs.answering.write.Reads as reads
-use Rattle.histories.proofs.answering.write.Lts as lts
-use Rattle.histories.proofs.answering.encode.Reads as encode-reads
 
 abbrev Inv-loop : tie.InvT-loop
 Inv-loop answers₀ at row i₀ answers i =
@@ -23,7 +21,9 @@ encode-requires : tie.Need-encode-requires Inv-loop μ-loop
 encode-requires c κs = tt
 
 loop-holds : tie.Need-loop-holds Inv-loop μ-loop
-loop-holds c = (omega arith, (ap length (c .encode .ensures) ∙ eight-long _, (refl, paste-zero (now (c .before .before .args .answers)) (c .before .before .args .at) (c .encode .result))))
+loop-holds c =
+    let s = c .before .before .args in
+    (omega arith, (ap length (c .encode .ensures) ∙ eight-long _, (refl, paste-zero (now (s .answers)) (s .at) (c .encode .result))))
 
 mul-answers : tie.Need-mul-answers Inv-loop μ-loop
 mul-answers c = omega arith
@@ -48,14 +48,17 @@ loop-less c = omega arith
 
 loop-again : tie.Need-loop-again Inv-loop μ-loop
 loop-again c =
-    let t = c .before .loop .inv in
-    let s = c .before .before .before .before .args in (
+    let turn = c .before in
+    let t = turn .loop .inv in
+    let row = turn .before in
+    let s = row .before .before .args in (
       omega arith,
       (
         t .1 .0,
         (
           simp length-set (t .1 .1 .0),
-          rw (t .1 .1 .1, add-one) (paste-suc (now (s .answers)) (s .at) (c .before .before .encode .result) (c .before .loop .i) 0 (omega arith) (omega arith)),
+          rw (t .1 .1 .1, add-one)
+              (paste-suc (now (s .answers)) (s .at) (row .encode .result) (turn .loop .i) 0 (omega arith) (omega arith)),
         ),
       ),
     )

@@ -1,11 +1,8 @@
+-- `histories::calling::replay_step` meets its contract.
 use Rattle.histories.proofs.Stepping.{written}
 use borrow.Author.Needs.{needs}
 use Rattle.histories.proofs.calling.replay_step.Statement.{statement}
 use Rattle.histories.proofs.calling.replay_step.Tie as tie
-use Rattle.histories.proofs.calling.replay_step.Reads as reads
-use Rattle.histories.proofs.calling.replay_step.Lts as lts
-use Rattle.histories.proofs.answering.write.Reads as write-reads
-use Rattle.histories.proofs.calling.run_call.Reads as run-call-reads
 
 run-call-requires : tie.Need-run-call-requires
 run-call-requires c κs = search needs
@@ -32,7 +29,11 @@ same-length-6 : tie.Need-same-length-6
 same-length-6 c = search needs
 
 returns : tie.Need-returns
-returns c = written _ _ _ _ _ _ _ (c .before .before .before .before .before .before .before .before .before .before .before .before .before .before .before .before .run-call .ensures) (c .before .before .before .write .ensures)
+returns c =
+    let written-at = c .before .before .before in
+    written _ _ _ _ _ _ _
+    (written-at .before .before .before .before .before .before .before .before .before .before .before .before .before .run-call .ensures)
+    (written-at .write .ensures)
 
 pub replay-step-spec : {M : Type 1} → statement M
 replay-step-spec =

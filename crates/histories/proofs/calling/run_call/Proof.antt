@@ -1,22 +1,9 @@
+-- `histories::calling::run_call` meets its contract. Each kind's call, by the law of its step.
 use mathlib.Core.Path.{_∙_}
 use Rattle.histories.proofs.Stepping.{look-up-steps, enter-steps, change-steps, remove-steps, grow-steps, due-steps, check-steps}
 use borrow.Author.Needs.{needs}
 use Rattle.histories.proofs.calling.run_call.Statement.{statement}
 use Rattle.histories.proofs.calling.run_call.Tie as tie
-use Rattle.histories.proofs.calling.run_call.Reads as reads
-use Rattle.histories.proofs.calling.run_call.Lts as lts
-use Rattle.histories.proofs.answering.checked_answer.Reads as checked-answer-reads
-use Rattle.histories.proofs.answering.due_answer.Reads as due-answer-reads
-use Rattle.histories.proofs.answering.placed_answer.Reads as placed-answer-reads
-use Rattle.histories.proofs.answering.sought_answer.Reads as sought-answer-reads
-use Rattle.histories.proofs.calling.unmoved.Reads as unmoved-reads
-use Rattle.starfile.proofs.check.Reads as check-reads
-use Rattle.starfile.proofs.due.Reads as due-reads
-use Rattle.starfile.proofs.enter.Reads as enter-reads
-use Rattle.starfile.proofs.grow.Reads as grow-reads
-use Rattle.starfile.proofs.look_up.Reads as look-up-reads
-use Rattle.starfile.proofs.remove.Reads as remove-reads
-use Rattle.starfile.proofs.change.Reads as change-reads
 
 look-up-requires : tie.Need-look-up-requires
 look-up-requires c κs = search needs
@@ -37,7 +24,10 @@ same-length-3 : tie.Need-same-length-3
 same-length-3 c = search needs
 
 returns : tie.Need-returns
-returns c = rw (c .unmoved .ensures) (look-up-steps _ _ _ _ _ _ _ _ (c .before .before .before .before .before .before .if1 .taken) (c .before .sought-answer .ensures ∙ c .before .before .look-up .ensures))
+returns c =
+    let called = c .before .before in
+    rw (c .unmoved .ensures)
+    (look-up-steps _ _ _ _ _ _ _ _ (called .before .before .before .before .if1 .taken) (c .before .sought-answer .ensures ∙ called .look-up .ensures))
 
 enter-requires : tie.Need-enter-requires
 enter-requires c κs = search needs
@@ -64,7 +54,10 @@ same-length-8 : tie.Need-same-length-8
 same-length-8 c = search needs
 
 returns-2 : tie.Need-returns-2
-returns-2 c = rw (c .unmoved2 .ensures) (enter-steps _ _ _ _ _ _ _ _ _ (c .before .placed-answer .ensures) _ _ (c .before .before .before .before .before .before .before .before .before .before .before .before .before .before .before .before .before .before .if2 .taken) (c .before .before .before .before .before .before .before .before .before .before .before .before .enter .ensures))
+returns-2 c =
+    let called = c .before .before .before .before .before .before .before .before .before .before .before .before in
+    rw (c .unmoved2 .ensures)
+    (enter-steps _ _ _ _ _ _ _ _ _ (c .before .placed-answer .ensures) _ _ (called .before .before .before .before .before .before .if2 .taken) (called .enter .ensures))
 
 change-requires : tie.Need-change-requires
 change-requires c κs = search needs
@@ -85,7 +78,10 @@ same-length-11 : tie.Need-same-length-11
 same-length-11 c = search needs
 
 returns-3 : tie.Need-returns-3
-returns-3 c = rw (c .unmoved3 .ensures) (change-steps _ _ _ _ _ _ _ _ _ (c .before .placed-answer2 .ensures) _ (c .before .before .before .before .before .before .before .before .if3 .taken) (c .before .before .before .before .change .ensures))
+returns-3 c =
+    let called = c .before .before .before .before in
+    rw (c .unmoved3 .ensures)
+    (change-steps _ _ _ _ _ _ _ _ _ (c .before .placed-answer2 .ensures) _ (called .before .before .before .before .if3 .taken) (called .change .ensures))
 
 remove-requires : tie.Need-remove-requires
 remove-requires c κs = search needs
@@ -112,7 +108,10 @@ same-length-16 : tie.Need-same-length-16
 same-length-16 c = search needs
 
 returns-4 : tie.Need-returns-4
-returns-4 c = rw (c .unmoved4 .ensures) (remove-steps _ _ _ _ _ _ _ _ _ (c .before .placed-answer3 .ensures) _ _ (c .before .before .before .before .before .before .before .before .before .before .before .before .before .before .before .before .before .before .if4 .taken) (c .before .before .before .before .before .before .before .before .before .before .before .before .remove .ensures))
+returns-4 c =
+    let called = c .before .before .before .before .before .before .before .before .before .before .before .before in
+    rw (c .unmoved4 .ensures)
+    (remove-steps _ _ _ _ _ _ _ _ _ (c .before .placed-answer3 .ensures) _ _ (called .before .before .before .before .before .before .if4 .taken) (called .remove .ensures))
 
 grow-requires : tie.Need-grow-requires
 grow-requires c κs = search needs
@@ -139,7 +138,12 @@ same-length-21 : tie.Need-same-length-21
 same-length-21 c = search needs
 
 returns-5 : tie.Need-returns-5
-returns-5 c = rw (c .unmoved5 .ensures) (grow-steps _ _ _ _ _ _ _ _ _ (c .before .placed-answer4 .ensures) _ _ (c .before .before .before .before .before .before .before .before .before .before .before .before .before .before .before .before .before .before .if5 .taken) _ (c .before .before .before .before .before .before .before .before .before .before .before .before .grow .ensures .1) (c .before .before .before .before .before .before .before .before .before .before .before .before .grow .ensures .0))
+returns-5 c =
+    let called = c .before .before .before .before .before .before .before .before .before .before .before .before in
+    rw (c .unmoved5 .ensures)
+    (grow-steps _ _ _ _ _ _ _ _ _ (c .before .placed-answer4 .ensures) _ _ (called .before .before .before .before .before .before .if5 .taken) _
+    (called .grow .ensures .1)
+    (called .grow .ensures .0))
 
 due-requires : tie.Need-due-requires
 due-requires c κs = search needs
@@ -160,7 +164,10 @@ same-length-24 : tie.Need-same-length-24
 same-length-24 c = search needs
 
 returns-6 : tie.Need-returns-6
-returns-6 c = rw (c .unmoved6 .ensures) (due-steps _ _ _ _ _ _ _ _ (c .before .before .before .before .before .before .if6 .taken) (c .before .due-answer .ensures ∙ c .before .before .due .ensures))
+returns-6 c =
+    let called = c .before .before in
+    rw (c .unmoved6 .ensures)
+    (due-steps _ _ _ _ _ _ _ _ (called .before .before .before .before .if6 .taken) (c .before .due-answer .ensures ∙ called .due .ensures))
 
 check-requires : tie.Need-check-requires
 check-requires c κs = search needs
@@ -187,7 +194,19 @@ same-length-29 : tie.Need-same-length-29
 same-length-29 c = search needs
 
 returns-7 : tie.Need-returns-7
-returns-7 c = rw (c .unmoved7 .ensures) (check-steps _ _ _ _ _ _ _ _ _ (c .before .checked-answer .ensures) _ (c .before .before .before .before .before .before .before .before .before .before .before .before .before .before .before .before .before .if1 .left) (c .before .before .before .before .before .before .before .before .before .before .before .before .before .before .before .before .if2 .left) (c .before .before .before .before .before .before .before .before .before .before .before .before .before .before .before .if3 .left) (c .before .before .before .before .before .before .before .before .before .before .before .before .before .before .if4 .left) (c .before .before .before .before .before .before .before .before .before .before .before .before .before .if5 .left) (c .before .before .before .before .before .before .before .before .before .before .before .before .if6 .left) (c .before .before .before .before .before .before .check .ensures))
+returns-7 c =
+    let called = c .before .before .before .before .before .before in
+    let six = called .before .before .before .before .before .before in
+    let three = six .before .before .before in
+    rw (c .unmoved7 .ensures)
+    (check-steps _ _ _ _ _ _ _ _ _ (c .before .checked-answer .ensures) _
+    (three .before .before .if1 .left)
+    (three .before .if2 .left)
+    (three .if3 .left)
+    (six .before .before .if4 .left)
+    (six .before .if5 .left)
+    (six .if6 .left)
+    (called .check .ensures))
 
 pub run-call-spec : {M : Type 1} → statement M
 run-call-spec =

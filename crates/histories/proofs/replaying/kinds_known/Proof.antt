@@ -1,3 +1,4 @@
+-- `histories::replaying::kinds_known` meets its contract. The invariant: the kinds before i are known.
 use mathlib.Core.Path.{sym}
 use Prim.Native.Nat.{_-_}
 use native.Mathlib.Omega.{arith}
@@ -5,8 +6,6 @@ use lib.ListN.{length}
 use Rattle.histories.proofs.Known.{Known, known-none, known-more, known-not, known-all}
 use Rattle.histories.proofs.replaying.kinds_known.Statement.{statement}
 use Rattle.histories.proofs.replaying.kinds_known.Tie as tie
-use Rattle.histories.proofs.replaying.kinds_known.Reads as reads
-use Rattle.histories.proofs.replaying.kinds_known.Lts as lts
 
 abbrev Inv-loop : tie.InvT-loop
 Inv-loop kinds i₀ i = Known kinds i

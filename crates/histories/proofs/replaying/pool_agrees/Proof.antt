@@ -1,8 +1,7 @@
+-- `histories::replaying::pool_agrees` meets its contract.
 use borrow.Author.Tests.{eq-eqb, ne-eqb}
 use Rattle.histories.proofs.replaying.pool_agrees.Statement.{statement}
 use Rattle.histories.proofs.replaying.pool_agrees.Tie as tie
-use Rattle.histories.proofs.replaying.pool_agrees.Reads as reads
-use Rattle.histories.proofs.replaying.pool_agrees.Lts as lts
 
 returns : tie.Need-returns
 returns c = rw (ne-eqb _ _ (c .if1 .taken))

@@ -1,3 +1,4 @@
+-- `histories::replaying::replay` meets its contract. Each refusal is that of the definition, and a run starts from what make left.
 use denote.Ref.{now}
 use Rattle.hashing.proofs.Bounds.{passed, failed}
 use Rattle.placement.specs.File.{File}
@@ -8,13 +9,6 @@ use Rattle.histories.proofs.Replays.{uneven-history, uneven-pool, unkno
 use borrow.Author.Needs.{needs}
 use Rattle.histories.proofs.replaying.replay.Statement.{statement}
 use Rattle.histories.proofs.replaying.replay.Tie as tie
-use Rattle.histories.proofs.replaying.replay.Reads as reads
-use Rattle.histories.proofs.replaying.replay.Lts as lts
-use Rattle.histories.proofs.replaying.kinds_known.Reads as kinds-known-reads
-use Rattle.histories.proofs.replaying.lengths_agree.Reads as lengths-agree-reads
-use Rattle.histories.proofs.replaying.pool_agrees.Reads as pool-agrees-reads
-use Rattle.histories.proofs.replaying.run.Reads as run-reads
-use Rattle.starfile.proofs.make.Reads as make-reads
 
 -- the lent file, pool and history at entry
 abbrev fileOf : tie.Start → File
@@ -39,9 +33,10 @@ pool-agrees-requires c κs = tt
 
 returns-2 : tie.Need-returns-2
 returns-2 c =
-    let s = c .before .before .before .before .before .before .before .before .before .before .before .before .before in
+    let one = c .before .before in
+    let s = one .before .before .before .before .before .before .before .before .before .before .before in
     uneven-pool _ (fileOf s) (poolOf s) (lentOf s) (now (s .args .answers))
-    (passed _ _ (c .before .before .before .lengths-agree .ensures) (c .before .before .if1 .left))
+    (passed _ _ (one .before .lengths-agree .ensures) (one .if1 .left))
     (failed _ _ (c .before .pool-agrees .ensures) (c .if2 .taken))
 
 kinds-known-requires : tie.Need-kinds-known-requires
@@ -49,9 +44,10 @@ kinds-known-requires c κs = tt
 
 returns-3 : tie.Need-returns-3
 returns-3 c =
-    let s = c .before .before .before .before .before .before .before .before .before .before .before .before .before .before .before in
+    let one = c .before .before .before .before in
+    let s = one .before .before .before .before .before .before .before .before .before .before .before in
     unknown-kind _ (fileOf s) (poolOf s) (lentOf s) (now (s .args .answers))
-    (passed _ _ (c .before .before .before .before .before .lengths-agree .ensures) (c .before .before .before .before .if1 .left))
+    (passed _ _ (one .before .lengths-agree .ensures) (one .if1 .left))
     (passed _ _ (c .before .before .before .pool-agrees .ensures) (c .before .before .if2 .left))
     (failed _ _ (c .before .kinds-known .ensures) (c .if3 .taken))
 
@@ -62,7 +58,9 @@ enum-told : tie.Need-enum-told
 enum-told c = search needs
 
 run-requires : tie.Need-run-requires
-run-requires c κs = even _ _ (passed _ _ (c .before .before .before .before .before .before .before .before .before .before .before .before .before .before .before .before .before .before .before .before .before .before .before .lengths-agree .ensures) (c .before .before .before .before .before .before .before .before .before .before .before .before .before .before .before .before .before .before .before .before .before .before .if1 .left))
+run-requires c κs =
+    let one = c .before .before .before .before .before .before .before .before .before .before .before .before .before .before .before .before .before .before .before .before .before .before in
+    even _ _ (passed _ _ (one .before .lengths-agree .ensures) (one .if1 .left))
 
 enum-known-answer : tie.Need-enum-known-answer
 enum-known-answer c = search needs
@@ -87,12 +85,16 @@ same-length-6 c = search needs
 
 returns-4 : tie.Need-returns-4
 returns-4 c =
-    let s = c .before .before .before .before .before .before .before .before .before .before .before .before .before .before .before .before .before .before .before .before .before .before .before .before .before .before .before .before .before .before .before .before .before .before .before .before .before .before .before .before .before .before .before .before .before .before in
+    let told = c .before .before .before .before .before .before .before .before .before .before .before .before .before .before .before .before .before .before .before in
+    let made = told .before .before .before .before .before .before .before .before in
+    let three = made .before .before .before .before in
+    let one = three .before .before .before .before in
+    let s = one .before .before .before .before .before .before .before .before .before .before .before in
     make-done _ (fileOf s) (poolOf s) (lentOf s) (now (s .args .answers))
-    (passed _ _ (c .before .before .before .before .before .before .before .before .before .before .before .before .before .before .before .before .before .before .before .before .before .before .before .before .before .before .before .before .before .before .before .before .before .before .before .before .lengths-agree .ensures) (c .before .before .before .before .before .before .before .before .before .before .before .before .before .before .before .before .before .before .before .before .before .before .before .before .before .before .before .before .before .before .before .before .before .before .before .if1 .left))
-    (passed _ _ (c .before .before .before .before .before .before .before .before .before .before .before .before .before .before .before .before .before .before .before .before .before .before .before .before .before .before .before .before .before .before .before .before .before .before .pool-agrees .ensures) (c .before .before .before .before .before .before .before .before .before .before .before .before .before .before .before .before .before .before .before .before .before .before .before .before .before .before .before .before .before .before .before .before .before .if2 .left))
-    (passed _ _ (c .before .before .before .before .before .before .before .before .before .before .before .before .before .before .before .before .before .before .before .before .before .before .before .before .before .before .before .before .before .before .before .before .kinds-known .ensures) (c .before .before .before .before .before .before .before .before .before .before .before .before .before .before .before .before .before .before .before .before .before .before .before .before .before .before .before .before .before .before .before .if3 .left))
-    _ _ (c .before .before .before .before .before .before .before .before .before .before .before .before .before .before .before .before .before .before .before .before .before .before .before .before .before .before .before .make .ensures .0) _ (c .before .before .before .before .before .before .before .before .before .before .before .before .before .before .before .before .before .before .before .enum-told .given .1) _ (c .before .before .before .before .before .before .before .before .before .before .before .before .before .before .before .before .before .before .before .before .before .before .before .before .before .before .before .make .ensures .1) _ _ _ _
+    (passed _ _ (one .before .lengths-agree .ensures) (one .if1 .left))
+    (passed _ _ (three .before .before .before .pool-agrees .ensures) (three .before .before .if2 .left))
+    (passed _ _ (three .before .kinds-known .ensures) (three .if3 .left))
+    _ _ (made .make .ensures .0) _ (told .enum-told .given .1) _ (made .make .ensures .1) _ _ _ _
     (c .before .before .before .before .before .before .before .before .before .before .before .before .run .ensures)
 
 same-length-7 : tie.Need-same-length-7
@@ -106,12 +108,15 @@ same-length-9 c = search needs
 
 returns-5 : tie.Need-returns-5
 returns-5 c =
-    let s = c .before .before .before .before .before .before .before .before .before .before .before .before .before .before .before .before .before .before .before .before .before .before .before .before .before .before .before .before in
+    let made = c .before .before .before .before .before .before .before .before .before in
+    let three = made .before .before .before .before in
+    let one = three .before .before .before .before in
+    let s = one .before .before .before .before .before .before .before .before .before .before .before in
     make-refused _ (fileOf s) (poolOf s) (lentOf s) (now (s .args .answers))
-    (passed _ _ (c .before .before .before .before .before .before .before .before .before .before .before .before .before .before .before .before .before .before .lengths-agree .ensures) (c .before .before .before .before .before .before .before .before .before .before .before .before .before .before .before .before .before .if1 .left))
-    (passed _ _ (c .before .before .before .before .before .before .before .before .before .before .before .before .before .before .before .before .pool-agrees .ensures) (c .before .before .before .before .before .before .before .before .before .before .before .before .before .before .before .if2 .left))
-    (passed _ _ (c .before .before .before .before .before .before .before .before .before .before .before .before .before .before .kinds-known .ensures) (c .before .before .before .before .before .before .before .before .before .before .before .before .before .if3 .left))
-    _ _ (c .before .before .before .before .before .before .before .before .before .make .ensures .0) _ (c .before .answer .given .1)
+    (passed _ _ (one .before .lengths-agree .ensures) (one .if1 .left))
+    (passed _ _ (three .before .before .before .pool-agrees .ensures) (three .before .before .if2 .left))
+    (passed _ _ (three .before .kinds-known .ensures) (three .if3 .left))
+    _ _ (made .make .ensures .0) _ (c .before .answer .given .1)
 
 pub replay-spec : {M : Type 1} → statement M
 replay-spec =

@@ -1,3 +1,4 @@
+-- `histories::replaying::run` meets its contract. The invariant: the first i calls are run, and every slice has its length.
 use mathlib.Core.Path.{_≡_, refl, _∙_}
 use Prim.Native.Nat.{_-_}
 use native.Mathlib.Omega.{arith}
@@ -9,66 +10,88 @@ use mir.Facts.{toZ-ofZ}
 use denote.Ref.{now}
 use Rattle.starfile.specs.Answers.{lent, pooled}
 use Rattle.histories.specs.Replay.{lentHistory}
-use Rattle.histories.proofs.Running.{Ongoing, SameLengths, ongoing-none, ongoing-more, ongoing-all}
+use Rattle.histories.proofs.Running.{Ongoing, SameLengths, same-lengths, ongoing-none, ongoing-more, ongoing-all}
 use Rattle.histories.proofs.replaying.run.Statement.{statement}
 use Rattle.histories.proofs.replaying.run.Tie as tie
-use Rattle.histories.proofs.replaying.run.Reads as reads
-use Rattle.histories.proofs.replaying.run.Lts as lts
-use Rattle.histories.proofs.calling.replay_step.Reads as replay-step-reads
 
 abbrev Inv-loop : tie.InvT-loop
 Inv-loop parameters separators₀ numbers₀ words₀ poolnumbers₀ poolwords₀ kinds stars ras decs answers₀ state₀ i₀ separators numbers words poolnumbers poolwords answers state i =
-    Ongoing parameters (lentHistory kinds stars ras decs) state₀ (lent separators₀ numbers₀ words₀) (pooled poolnumbers₀ poolwords₀) answers₀ i state answers (lent separators numbers words) (pooled poolnumbers poolwords)
-    × SameLengths (lent separators₀ numbers₀ words₀) (pooled poolnumbers₀ poolwords₀) answers₀ (lent separators numbers words) (pooled poolnumbers poolwords) answers
+    Ongoing parameters (lentHistory kinds stars ras decs) state₀ (lent separators₀ numbers₀ words₀) (pooled poolnumbers₀ poolwords₀) answers₀
+    i state answers (lent separators numbers words) (pooled poolnumbers poolwords)
+    × SameLengths (lent separators₀ numbers₀ words₀) (pooled poolnumbers₀ poolwords₀) answers₀
+    (lent separators numbers words) (pooled poolnumbers poolwords) answers
 
 abbrev μ-loop : tie.MeasureT-loop
 μ-loop parameters separators₀ numbers₀ words₀ poolnumbers₀ poolwords₀ kinds stars ras decs answers₀ state₀ i₀ separators numbers words poolnumbers poolwords answers state i =
     length kinds - i
 
 loop-holds : tie.Need-loop-holds Inv-loop μ-loop
-loop-holds c = (ongoing-none _ _ _ _ _ _, record { ofSeparators = refl; ofNumbers = refl; ofWords = refl; ofPoolnumbers = refl; ofPoolwords = refl; ofAnswers = refl })
+loop-holds c = (ongoing-none _ _ _ _ _ _, same-lengths _ _ _)
 
 mul-replay-step : tie.Need-mul-replay-step Inv-loop μ-loop
-mul-replay-step c = omega (arith, c .before .before .before .before .before .before .before .before .before .before .before .pre, c .before .before .before .before .before .before .before .before .before .before .before .good)
+mul-replay-step c =
+    let s = c .before .before .before .before .before .before .before .before .before .before .before in
+    omega (arith, s .pre, s .good)
 
 shared-slice-read-replay-step : tie.Need-shared-slice-read-replay-step Inv-loop μ-loop
-shared-slice-read-replay-step c = omega (arith, c .before .before .before .before .before .before .before .before .before .before .before .before .pre)
+shared-slice-read-replay-step c =
+    let s = c .before .before .before .before .before .before .before .before .before .before .before .before in
+    omega (arith, s .pre)
 
 mul-t20 : tie.Need-mul-t20 Inv-loop μ-loop
-mul-t20 c = omega (arith, c .before .before .before .before .before .before .before .before .before .before .before .before .pre, c .before .before .before .before .before .before .before .before .before .before .before .before .good)
+mul-t20 c =
+    let s = c .before .before .before .before .before .before .before .before .before .before .before .before in
+    omega (arith, s .pre, s .good)
 
 shared-slice-copy-out-t22 : tie.Need-shared-slice-copy-out-t22 Inv-loop μ-loop
-shared-slice-copy-out-t22 c = omega (arith, c .before .before .before .before .before .before .before .before .before .before .before .before .pre)
+shared-slice-copy-out-t22 c =
+    let s = c .before .before .before .before .before .before .before .before .before .before .before .before in
+    omega (arith, s .pre)
 
 shared-slice-read-replay-step-2 : tie.Need-shared-slice-read-replay-step-2 Inv-loop μ-loop
-shared-slice-read-replay-step-2 c = omega (arith, c .before .before .before .before .before .before .before .before .before .before .before .before .before .before .before .before .before .before .before .pre)
+shared-slice-read-replay-step-2 c =
+    let s = c .before .before .before .before .before .before .before .before .before .before .before .before .before .before .before .before .before .before .before in
+    omega (arith, s .pre)
 
 mul-replay-step-2 : tie.Need-mul-replay-step-2 Inv-loop μ-loop
-mul-replay-step-2 c = omega (arith, c .before .before .before .before .before .before .before .before .before .before .before .before .before .before .before .before .before .before .before .pre, c .before .before .before .before .before .before .before .before .before .before .before .before .before .before .before .before .before .before .before .good)
+mul-replay-step-2 c =
+    let s = c .before .before .before .before .before .before .before .before .before .before .before .before .before .before .before .before .before .before .before in
+    omega (arith, s .pre, s .good)
 
 shared-slice-read-replay-step-3 : tie.Need-shared-slice-read-replay-step-3 Inv-loop μ-loop
-shared-slice-read-replay-step-3 c = omega (arith, c .before .before .before .before .before .before .before .before .before .before .before .before .before .before .before .before .before .before .before .before .pre)
+shared-slice-read-replay-step-3 c =
+    let s = c .before .before .before .before .before .before .before .before .before .before .before .before .before .before .before .before .before .before .before .before in
+    omega (arith, s .pre)
 
 mul-replay-step-3 : tie.Need-mul-replay-step-3 Inv-loop μ-loop
-mul-replay-step-3 c = omega (arith, c .before .before .before .before .before .before .before .before .before .before .before .before .before .before .before .before .before .before .before .before .before .pre, c .before .before .before .before .before .before .before .before .before .before .before .before .before .before .before .before .before .before .before .before .before .good)
+mul-replay-step-3 c =
+    let s = c .before .before .before .before .before .before .before .before .before .before .before .before .before .before .before .before .before .before .before .before .before in
+    omega (arith, s .pre, s .good)
 
 replay-step-requires : tie.Need-replay-step-requires Inv-loop μ-loop
-replay-step-requires c κs = omega (arith, c .before .before .before .before .before .before .before .before .before .before .before .before .before .before .before .before .before .before .before .before .before .pre, c .before .before .before .before .before .before .before .before .before .before .before .loop .inv)
+replay-step-requires c κs =
+    let turn = c .before .before .before .before .before .before .before .before .before .before .before in
+    omega (arith, turn .before .before .before .before .before .before .before .before .before .before .pre, turn .loop .inv)
 
 add-i : tie.Need-add-i Inv-loop μ-loop
-add-i c = omega (arith, c .before .before .before .before .before .before .before .before .before .before .before .before .before .before .before .before .before .before .before .before .before .before .before .loop-test .taken, c .before .before .before .before .before .before .before .before .before .before .before .before .before .before .before .before .before .before .before .before .before .before .before .before .before .before .before .before .before .before .before .before .before .before .good)
+add-i c =
+    let turn = c .before .before .before .before .before .before .before .before .before .before .before .before .before .before .before .before .before .before .before .before .before .before .before in
+    omega (arith, turn .loop-test .taken, turn .before .before .before .before .before .before .before .before .before .before .before .good)
 
 loop-less : tie.Need-loop-less Inv-loop μ-loop
 loop-less c = omega (arith, c .before .before .before .before .before .before .before .before .before .before .before .before .before .before .before .before .before .before .before .before .before .before .before .loop-test .taken)
 
 loop-again : tie.Need-loop-again Inv-loop μ-loop
 loop-again c =
-    let s = c .before .before .before .before .before .before .before .before .before .before .before .before .before .before .before .before .before .before .before .before .before .before .before .before .before .before .before .before .before .before .before .before .before .before .args in
-    let i = c .before .before .before .before .before .before .before .before .before .before .before .before .before .before .before .before .before .before .before .before .before .before .before .before .loop .i in
-    let t = c .before .before .before .before .before .before .before .before .before .before .before .before .before .before .before .before .before .before .before .before .before .before .before .before .loop .inv in
-    let k = c .before .before .before .before .before .before .before .before .before .before .before .before .replay-step .kept .1 .1 in
-    let back : toZ w32 (ofZ w32 (getD (now (s .decs)) i (pos 0))) ≡ getD (now (s .decs)) i (pos 0) = toZ-ofZ (record { sfits = c .before .before .before .before .before .before .before .before .before .before .before .before .before .before .before .before .before .before .before .before .before .t22 .given }) in (
-      ongoing-more _ _ _ _ _ _ _ _ _ _ _ (t .0) (c .before .before .before .before .before .before .before .before .before .before .before .before .before .before .before .before .before .before .before .before .before .before .before .loop-test .taken) _ _ _ _ (rw back at (c .before .before .before .before .before .before .before .before .before .before .before .before .replay-step .ensures)),
+    let called = c .before .before .before .before .before .before .before .before .before .before .before .before in
+    let copied = called .before .before .before .before .before .before .before .before .before in
+    let turn = copied .before .before .before in
+    let decs = now (turn .before .before .before .before .before .before .before .before .before .before .args .decs) in
+    let i = turn .loop .i in
+    let t = turn .loop .inv in
+    let k = called .replay-step .kept .1 .1 in
+    let back : toZ w32 (ofZ w32 (getD decs i (pos 0))) ≡ getD decs i (pos 0) = toZ-ofZ (record { sfits = copied .t22 .given }) in (
+      ongoing-more _ _ _ _ _ _ _ _ _ _ _ (t .0) (copied .before .before .loop-test .taken) _ _ _ _ (rw back at (called .replay-step .ensures)),
       record {
         ofSeparators = k .0 ∙ t .1 .ofSeparators;
         ofNumbers = k .1 .0 ∙ t .1 .ofNumbers;
