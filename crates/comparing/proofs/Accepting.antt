@@ -9,7 +9,6 @@ use native.Mathlib.Omega.{arith}
 use lib.ListN.{length}
 use Rattle.hashing.specs.declared.Parameters.{Parameters}
 use Rattle.hashing.specs.declared.Growth.{Growth}
-use Rattle.hashing.specs.Generator.{multiplier}
 use Rattle.pages.specs.Position.{validWord}
 use Rattle.placement.specs.Rule.{Star, Contents, pages, separators}
 use Rattle.placement.specs.File.{File, Sized, Clean, gathered, column, written, replaced, fileOf, laid}
@@ -41,32 +40,32 @@ module _ (b M : ℕ) (f : File) (cs : List Contents) (sized : Sized b M f) (room
 
 module _ (p : Parameters) (g : Growth) (f : File) (sized : Sized (p .places) (p .pages) f) where
   -- the file by the rule is the layout of its stars
-  pub ruled-laid : ruled p g f ≡ laid (p .places) (hashOf multiplier p g) (p .pages) (gathered (p .places) f 0 (p .pages))
+  pub ruled-laid : ruled p g f ≡ laid (p .places) (hashOf p g) (p .pages) (gathered (p .places) f 0 (p .pages))
   unfolding ruled laid hashOf
   ruled-laid =
       let w : List Star = gathered (p .places) f 0 (p .pages) in
-      replaced-all (p .places) (p .pages) f (pages (hashOf multiplier p g) 0 (p .pages) w) sized
-      (roomy-pages (hashOf multiplier p g) 0 (p .pages) w)
-      (length-pages (hashOf multiplier p g) 0 (p .pages) w)
+      replaced-all (p .places) (p .pages) f (pages (hashOf p g) 0 (p .pages) w) sized
+      (roomy-pages (hashOf p g) 0 (p .pages) w)
+      (length-pages (hashOf p g) 0 (p .pages) w)
 
   pub sized-ruled : Sized (p .places) (p .pages) (ruled p g f)
   unfolding ruled hashOf
   sized-ruled =
       let w : List Star = gathered (p .places) f 0 (p .pages) in
-      sized-replaced (p .places) (p .pages) f 0 (pages (hashOf multiplier p g) 0 (p .pages) w) sized
-      (roomy-pages (hashOf multiplier p g) 0 (p .pages) w)
-      (omega (arith, length-pages (hashOf multiplier p g) 0 (p .pages) w))
+      sized-replaced (p .places) (p .pages) f 0 (pages (hashOf p g) 0 (p .pages) w) sized
+      (roomy-pages (hashOf p g) 0 (p .pages) w)
+      (omega (arith, length-pages (hashOf p g) 0 (p .pages) w))
 
-  clean-accepted : Clean validWord (hashOf multiplier p g) (p .pages) f
+  clean-accepted : Clean validWord (hashOf p g) (p .pages) f
       → (firstUnsound p g f 0 (p .pages) ≡ p .pages) × (firstSpot p f (ruled p g f) ≡ p .pages * suc (p .places))
   unfolding firstUnsound soundAt firstSpot hashOf
   clean-accepted c = (
-    none-such (λ (q : ℕ). not (soundAt multiplier p g f q)) 0 (p .pages) (λ q h. ap not (c .allSound q (omega arith))) ∙ zero-add (p .pages),
+    none-such (λ (q : ℕ). not (soundAt p g f q)) 0 (p .pages) (λ q h. ap not (c .allSound q (omega arith))) ∙ zero-add (p .pages),
     ap (spotIn (p .pages) (p .places) f) (ruled-laid ∙ sym (c .byRule)) ∙ no-spot (p .pages) (p .places) f,
   )
 
   accepted-clean : firstUnsound p g f 0 (p .pages) ≡ p .pages → firstSpot p f (ruled p g f) ≡ p .pages * suc (p .places)
-      → Clean validWord (hashOf multiplier p g) (p .pages) f
+      → Clean validWord (hashOf p g) (p .pages) f
   unfolding soundAt firstSpot hashOf
   accepted-clean u e =
       record {
@@ -76,5 +75,5 @@ module _ (p : Parameters) (g : Growth) (f : File) (sized : Sized (p .places) (p 
 
   -- no page is unsound and no spot differs from the rule, exactly of the clean files
   pub accepts-clean : ((firstUnsound p g f 0 (p .pages) ≡ p .pages) × (firstSpot p f (ruled p g f) ≡ p .pages * suc (p .places)))
-      ↔ Clean validWord (hashOf multiplier p g) (p .pages) f
+      ↔ Clean validWord (hashOf p g) (p .pages) f
   accepts-clean = (λ e. accepted-clean (e .0) (e .1), clean-accepted)

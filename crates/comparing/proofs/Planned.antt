@@ -37,11 +37,11 @@ use Rattle.comparing.specs.Spots.{spotIn, firstSpot, ruled}
 use Rattle.comparing.proofs.Alike.{Alike, spot-alike}
 
 -- no page is unsound
-pub all-sound : (p : Parameters) (g : Growth) (f : File) → firstUnsound p g f 0 (p .pages) ≡ p .pages → (q : ℕ) → q < p .pages → soundAt multiplier p g f q ≡ true
+pub all-sound : (p : Parameters) (g : Growth) (f : File) → firstUnsound p g f 0 (p .pages) ≡ p .pages → (q : ℕ) → q < p .pages → soundAt p g f q ≡ true
 unfolding firstUnsound
 all-sound p g f e q h =
-    not-false (soundAt multiplier p g f q)
-    (such (λ (r : ℕ). not (soundAt multiplier p g f r)) 0 (p .pages) .before q (omega arith) (rw e h))
+    not-false (soundAt p g f q)
+    (such (λ (r : ℕ). not (soundAt p g f r)) 0 (p .pages) .before q (omega arith) (rw e h))
 
 -- a list of all pages' items is their stretch
 pub whole : (b n : ℕ) (l : List ℕ) → length l ≡ n * b → stretch b 0 n l ≡ l
@@ -61,12 +61,12 @@ pasted-whole d s n ed es =
 
 -- a surveyed file's homes
 pub homes-whole : (p : Parameters) (g : Growth) (d ns : List ℕ) (n : ℕ) → length d ≡ n * p .places → length ns ≡ n * p .places
-    → paste d (0 * p .places) (homesOf multiplier p g (drop (0 * p .places) ns)) ((n - 0) * p .places) ≡ homesOf multiplier p g ns
+    → paste d (0 * p .places) (homesOf p g (drop (0 * p .places) ns)) ((n - 0) * p .places) ≡ homesOf p g ns
 unfolding homesOf
 homes-whole p g d ns n ed en =
     let none : 0 * p .places ≡ 0 = zero-mul (p .places) in
     let same : n - 0 ≡ n = omega arith in
-    rw (none, same) (pasted-whole d (map (homeIn multiplier p g) ns) (n * p .places) ed (length-map ns (homeIn multiplier p g) ∙ en))
+    rw (none, same) (pasted-whole d (map (homeIn p g) ns) (n * p .places) ed (length-map ns (homeIn p g) ∙ en))
 
 all-items : (q : ℕ → Bool) (l : List ℕ) → ((i : ℕ) → i < length l → q (getD l i 0) ≡ true) → all q l ≡ true
 unfolding all
@@ -95,20 +95,20 @@ pub few-items : (p : Parameters) → validParameters p ≡ true → p .pages * p
 few-items p valid = let l = limits p valid in mul-le-mul (l .pages-most) (l .places-most)
 
 module _ (p : Parameters) (g : Growth) (f : File) (valid : validParameters p ≡ true) (grows : validGrowth p g ≡ true)
-    (sized : Sized (p .places) (p .pages) f) (sound : firstUnsound p g f 0 (p .pages) ≡ p .pages) (hs : List ℕ) (homes : hs ≡ homesOf multiplier p g (f .numbers)) where
+    (sized : Sized (p .places) (p .pages) f) (sound : firstUnsound p g f 0 (p .pages) ≡ p .pages) (hs : List ℕ) (homes : hs ≡ homesOf p g (f .numbers)) where
   item-most : (i : ℕ) → i < p .pages * p .places → getD (f .numbers) i 0 ≤ greatest
   item-most i h =
       let some : 0 < p .places = limits p valid .places-least in
       let inside : i / p .places < p .pages = div-lt-iff-lt-mul some .1 h in
       rw (div-add-mod' i (p .places)) at
-      (item-on multiplier p g f (i / p .places) sized inside (all-sound p g f sound (i / p .places) inside) (i % p .places) (mod-lt i some) .most)
+      (item-on p g f (i / p .places) sized inside (all-sound p g f sound (i / p .places) inside) (i % p .places) (mod-lt i some) .most)
 
   numbers-below : allBelow (2 ^ 31) (f .numbers) ≡ true
   numbers-below =
       all-items (λ x. ltb x (2 ^ 31)) (f .numbers)
       (λ i h. lt-ltb (getD (f .numbers) i 0) (2 ^ 31) (omega (arith, item-most i (rw (sized .ofNumbers) at h))))
 
-  home-inside : (n : ℕ) → homeIn multiplier p g n < p .pages
+  home-inside : (n : ℕ) → homeIn p g n < p .pages
   home-inside n = go (eqb n 0)
     where
       go : (t : Bool) → cond t 0 (Rattle.hashing.specs.Home.home multiplier p g n) < p .pages
@@ -119,17 +119,17 @@ module _ (p : Parameters) (g : Growth) (f : File) (valid : validParameters p ≡
   unfolding homesOf
   homes-below =
       rw homes
-      (all-map (λ x. ltb x (p .pages)) (homeIn multiplier p g) (f .numbers) (λ n. lt-ltb (homeIn multiplier p g n) (p .pages) (home-inside n)))
+      (all-map (λ x. ltb x (p .pages)) (homeIn p g) (f .numbers) (λ n. lt-ltb (homeIn p g n) (p .pages) (home-inside n)))
 
   pub homes-long : length hs ≡ p .pages * p .places
   unfolding homesOf
-  homes-long = ap length homes ∙ length-map (f .numbers) (homeIn multiplier p g) ∙ sized .ofNumbers
+  homes-long = ap length homes ∙ length-map (f .numbers) (homeIn p g) ∙ sized .ofNumbers
 
   pub stars-inside : starsIn 0 (stretch (p .places) 0 (p .pages) (f .numbers)) ≤ p .pages * p .places
   stars-inside = rw (whole (p .places) (p .pages) (f .numbers) (sized .ofNumbers)) (omega (arith, stars-fit 0 (f .numbers), sized .ofNumbers))
 
   -- the file can be planned as one stretch
-  pub ready : Ready (hashOf multiplier p g) (p .places) 0 (p .pages) f hs
+  pub ready : Ready (hashOf p g) (p .places) 0 (p .pages) f hs
   ready =
       let none : 0 + p .pages ≡ p .pages = zero-add (p .pages) in
       let numbers-all = whole (p .places) (p .pages) (f .numbers) (sized .ofNumbers) in
@@ -142,7 +142,7 @@ module _ (p : Parameters) (g : Growth) (f : File) (valid : validParameters p ≡
         homes = rw none (omega (arith, homes-long));
         valid = rw numbers-all numbers-below;
         within = rw (none, homes-all) homes-below;
-        true-homes = homes-all ∙ homes ∙ homes-real p g (f .numbers) ∙ ap (map (itemHome (hashOf multiplier p g))) (sym numbers-all);
+        true-homes = homes-all ∙ homes ∙ homes-real p g (f .numbers) ∙ ap (map (itemHome (hashOf p g))) (sym numbers-all);
       }
 
   no-empty-star : without 0 (gathered (p .places) f 0 (p .pages)) ≡ gathered (p .places) f 0 (p .pages)
@@ -150,7 +150,7 @@ module _ (p : Parameters) (g : Growth) (f : File) (valid : validParameters p ≡
   no-empty-star =
       filter-all-on (λ (s : Star). not (eqb (s .number) 0)) (gathered (p .places) f 0 (p .pages))
       (λ s m.
-      let some : (1 ≤ s .number) = gathered-proper validWord (hashOf multiplier p g) f 0 (p .pages) (λ q a b. real-facts multiplier p g f q (all-sound p g f sound q (omega arith))) s m .0 in
+      let some : (1 ≤ s .number) = gathered-proper validWord (hashOf p g) f 0 (p .pages) (λ q a b. real-facts p g f q (all-sound p g f sound q (omega arith))) s m .0 in
       ap not (ne-eqb (s .number) 0 (λ e. omega arith)))
 
   -- the plan, applied, is the rule over the whole file
@@ -164,10 +164,10 @@ module _ (p : Parameters) (g : Growth) (f : File) (valid : validParameters p ≡
       applied-layout (p .bits) (p .places) 0 (p .pages) 0 0 f [] words pool′ planned′ W′ r
       (layout (p .bits) (p .places) 0 (p .pages) [] words hs pool′ planned planned′ W′ r P (rw none (omega (arith, homes-long))) (rw none h))
       (unfold sourced all in refl)
-      (stretch-sourced (hashOf multiplier p g) (p .bits) (p .places) (probes-real p g) 0 (p .pages) f hs ready 0 0 0)
+      (stretch-sourced (hashOf p g) (p .bits) (p .places) (probes-real p g) 0 (p .pages) f hs ready 0 0 0)
       ∙ ap (replaced (p .places) f 0)
-      (placed (hashOf multiplier p g) (p .bits) (p .places) (probes-real p g) 0 (p .pages) f hs ready 0 0 .0
-      ∙ ap (pages (hashOf multiplier p g) 0 (p .pages)) no-empty-star)
+      (placed (hashOf p g) (p .bits) (p .places) (probes-real p g) 0 (p .pages) f hs ready 0 0 .0
+      ∙ ap (pages (hashOf p g) 0 (p .pages)) no-empty-star)
 
   -- .. so that comparing with what it fetches is comparing with the rule
   pub spot-ruled : (pool′ planned′ W′ pool″ W″ : List ℕ) → applied (p .places) 0 (p .pages) 0 0 pool′ planned′ f ≡ ruled p g f

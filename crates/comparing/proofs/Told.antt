@@ -7,7 +7,6 @@ use native.Mathlib.Omega.{arith}
 use borrow.Author.Tests.{lt-ltb, le-ltb}
 use Rattle.hashing.specs.declared.Parameters.{Parameters}
 use Rattle.hashing.specs.declared.Growth.{Growth}
-use Rattle.hashing.specs.Generator.{multiplier}
 use Rattle.placement.specs.File.{File}
 use Rattle.placement.specs.Hash.{soundAt}
 use Rattle.reach.specs.Reach.{firstUnsound}
@@ -25,7 +24,7 @@ surveyed p g f r e =
 pub surveyed-sound : (p : Parameters) (g : Growth) (f : File) (r : ℕ) → r ≡ firstUnsound p g f 0 (p .pages - 0) → p .pages ≤ r → r ≡ p .pages
 unfolding firstUnsound
 surveyed-sound p g f r e h =
-    omega (arith, surveyed p g f r e, such (λ (q : ℕ). not (soundAt multiplier p g f q)) 0 (p .pages) .high)
+    omega (arith, surveyed p g f r e, such (λ (q : ℕ). not (soundAt p g f q)) 0 (p .pages) .high)
 
 pub told-unsound : (p : Parameters) (bad spot r : ℕ) → bad ≡ r → r < p .pages → Unsound r ≡ verdictOf p bad spot
 unfolding verdictOf

@@ -5,7 +5,6 @@ use lib.Dec.{eqb, ltb}
 use lib.ListN.{getD}
 use Rattle.hashing.specs.declared.Parameters.{Parameters}
 use Rattle.hashing.specs.declared.Growth.{Growth}
-use Rattle.hashing.specs.Generator.{multiplier}
 use Rattle.placement.specs.Rule.{pages}
 use Rattle.placement.specs.File.{File, gathered, replaced}
 use Rattle.placement.specs.Hash.{hashOf}
@@ -33,4 +32,4 @@ firstSpot p f l = spotIn (p .pages) (p .places) f l
 -- the file that the rule over all pages gives its stars
 unfoldable pub ruled : Parameters → Growth → File → File
 ruled p g f =
-    replaced (p .places) f 0 (pages (hashOf multiplier p g) 0 (p .pages) (gathered (p .places) f 0 (p .pages)))
+    replaced (p .places) f 0 (pages (hashOf p g) 0 (p .pages) (gathered (p .places) f 0 (p .pages)))

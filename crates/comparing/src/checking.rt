@@ -3,7 +3,7 @@ ghost use mathlib.Core.Path.{_≡_};
 ghost use mathlib.Core.Bool.{true};
 ghost use Prim.Native.Nat.{suc, _+_, _*_, _≤_};
 ghost use lib.ListN.{length};
-ghost use Rattle.hashing.specs.Generator.{multiplier, multipliers};
+ghost use Rattle.hashing.specs.Generator.{multipliers};
 ghost use Rattle.hashing.specs.Limits.{validParameters, validGrowth};
 ghost use Rattle.placement.specs.File.{Sized};
 ghost use Rattle.placement.specs.Hash.{homesOf, lent};
@@ -35,7 +35,7 @@ fn compare_planned(
     requires { ⌜ (validParameters (geometry .parameters) ≡ true) × (validGrowth (geometry .parameters) (geometry .growth) ≡ true) ⌝ }
     requires { ⌜ Sized (geometry .parameters .places) (geometry .parameters .pages) (lent (now separators) (now numbers) (now words)) ⌝ }
     requires { ⌜ firstUnsound (geometry .parameters) (geometry .growth) (lent (now separators) (now numbers) (now words)) 0 (geometry .parameters .pages) ≡ geometry .parameters .pages ⌝ }
-    requires { ⌜ now pool ≡ homesOf multiplier (geometry .parameters) (geometry .growth) (now numbers) ⌝ }
+    requires { ⌜ now pool ≡ homesOf (geometry .parameters) (geometry .growth) (now numbers) ⌝ }
     requires { ⌜ length (now waiting) ≡ geometry .parameters .pages * geometry .parameters .places ⌝ }
     ensures { λ r. ⌜ r .page * suc (geometry .parameters .places) + r .place ≡ firstSpot (geometry .parameters) (lent (now (separators .entry)) (now (numbers .entry)) (now (words .entry))) (ruled (geometry .parameters) (geometry .growth) (lent (now (separators .entry)) (now (numbers .entry)) (now (words .entry)))) ⌝ }
     ensures { λ r. ⌜ r .place ≤ geometry .parameters .places ⌝ }

@@ -12,7 +12,6 @@ use lib.Seq.{drop-at, length-take-le}
 use borrow.Author.Tests.{eqb-true, eq-eqb}
 use Rattle.hashing.specs.declared.Parameters.{Parameters}
 use Rattle.hashing.specs.declared.Growth.{Growth}
-use Rattle.hashing.specs.Generator.{multiplier}
 use Rattle.placement.specs.Rule.{Star, Hash, Contents, separators, pages, left, first, blank}
 use Rattle.placement.specs.File.{File, gathered, written, replaced}
 use Rattle.placement.specs.Hash.{namedPage, lent}
@@ -162,7 +161,7 @@ module _ (p : Parameters) (g : Growth) (f : File) (k word : ℕ) where
     new-waits = inserted (newStar k word) (gathered (hash p g .room) f (startOf p g k) (countOf p g f k word))
 
     -- the page that the new separators name
-    pub named-holds : startOf p g k ≤ length (f .separators) → namedPage multiplier p g (entryFile p g f k word .separators) k ≡ holding k (startOf p g k) (contentsOf p g f k word)
+    pub named-holds : startOf p g k ≤ length (f .separators) → namedPage p g (entryFile p g f k word .separators) k ≡ holding k (startOf p g k) (contentsOf p g f k word)
     unfolding namedPage replaced
     named-holds h =
         let r = held-first (hash p g) (startOf p g k) (countOf p g f k word) (entering (hash p g) f (newStar k word) (endOf p g f k word)) (newStar k word) nothing-left new-waits in

@@ -90,27 +90,27 @@ module _ (p : Parameters) (g : Growth) (f : File) (valid : validParameters p ≡
       omega (arith, numbers-count, add-mul lo n (p .places), numbers-long, sized .ofNumbers, mul-le-mul (l .pages-most) (l .places-most))
 
   -- the homes of the stretch's items
-  pub stretch-homes : stretch (p .places) lo n (homesOf multiplier p g (f .numbers)) ≡ homesOf multiplier p g (blockNumbers p f lo n)
+  pub stretch-homes : stretch (p .places) lo n (homesOf p g (f .numbers)) ≡ homesOf p g (blockNumbers p f lo n)
   unfolding homesOf
   stretch-homes =
-      ap (take (n * p .places)) (map-drop (homeIn multiplier p g) (lo * p .places) (f .numbers))
-      ∙ map-take (homeIn multiplier p g) (n * p .places) (drop (lo * p .places) (f .numbers))
+      ap (take (n * p .places)) (map-drop (homeIn p g) (lo * p .places) (f .numbers))
+      ∙ map-take (homeIn p g) (n * p .places) (drop (lo * p .places) (f .numbers))
 
   -- the words' sources name their numbers
   pub block-sourced : (k : ℕ) → allBelow (2 ^ 31) (blockNumbers p f lo n) ≡ true → sourced (f .numbers) k (blockWords p g f lo n) ≡ true
   unfolding blockWords
   block-sourced k v =
-      words-sourced (lo * p .places) 0 (blockNumbers p f lo n) (stretch (p .places) lo n (homesOf multiplier p g (f .numbers))) v items-few (f .numbers) k
+      words-sourced (lo * p .places) 0 (blockNumbers p f lo n) (stretch (p .places) lo n (homesOf p g (f .numbers))) v items-few (f .numbers) k
       (λ i a. named-stretch (p .places) lo n k (f .numbers) numbers-long i a)
 
   -- .. and carry the homes of their numbers
   pub block-homed : allBelow (2 ^ 31) (blockNumbers p f lo n) ≡ true → homed (hash p g) (blockWords p g f lo n) ≡ true
   unfolding blockWords
   block-homed v =
-      words-homed (lo * p .places) 0 (blockNumbers p f lo n) (stretch (p .places) lo n (homesOf multiplier p g (f .numbers))) v items-few (hash p g)
+      words-homed (lo * p .places) 0 (blockNumbers p f lo n) (stretch (p .places) lo n (homesOf p g (f .numbers))) v items-few (hash p g)
       (stretch-homes ∙ homes-real p g (blockNumbers p f lo n))
 
-  module _ (sound : (q : ℕ) → lo ≤ q → q < lo + n → soundAt multiplier p g f q ≡ true) where
+  module _ (sound : (q : ℕ) → lo ≤ q → q < lo + n → soundAt p g f q ≡ true) where
     -- the page and the place of item i
     module _ (i : ℕ) (h : i < n * p .places) where
       pageOf : ℕ
@@ -126,7 +126,7 @@ module _ (p : Parameters) (g : Growth) (f : File) (valid : validParameters p ≡
       unfolding pageOf
       page-inside = omega (arith, low)
 
-      page-sound : soundAt multiplier p g f pageOf ≡ true
+      page-sound : soundAt p g f pageOf ≡ true
       unfolding pageOf
       page-sound = sound (lo + i / p .places) (omega arith) (omega (arith, low))
 
@@ -137,10 +137,10 @@ module _ (p : Parameters) (g : Growth) (f : File) (valid : validParameters p ≡
       item-is : (l : List ℕ) → getD (stretch (p .places) lo n l) i 0 ≡ getD l (pageOf * p .places + i % p .places) 0
       item-is l = getD-take (n * p .places) (drop (lo * p .places) l) i 0 h ∙ getD-drop (lo * p .places) l i 0 ∙ ap (λ (k : ℕ). getD l k 0) (sym placed)
 
-      item-there : ItemOn multiplier p g f pageOf (getD (blockNumbers p f lo n) i 0) (getD (f .words) (pageOf * p .places + i % p .places) 0)
+      item-there : ItemOn p g f pageOf (getD (blockNumbers p f lo n) i 0) (getD (f .words) (pageOf * p .places + i % p .places) 0)
       item-there =
           rw (item-is (f .numbers))
-          (item-on multiplier p g f pageOf sized page-inside page-sound (i % p .places) (mod-lt i some))
+          (item-on p g f pageOf sized page-inside page-sound (i % p .places) (mod-lt i some))
 
       -- a star is held by its page
       item-held : (getD (blockNumbers p f lo n) i 0 ≡ 0 → ⊥) → heldAt (getD (blockNumbers p f lo n) i 0) (part (p .places) pageOf (f .numbers)) ≡ true
@@ -149,7 +149,7 @@ module _ (p : Parameters) (g : Growth) (f : File) (valid : validParameters p ≡
           let ln : length (part (p .places) pageOf (f .numbers)) ≡ p .places = part-length (p .places) pageOf (f .numbers) (page-fits (p .places) (p .pages) pageOf page-inside (sized .ofNumbers)) in
           let lw : length (part (p .places) pageOf (f .words)) ≡ p .places = part-length (p .places) pageOf (f .words) (page-fits (p .places) (p .pages) pageOf page-inside (sized .ofWords)) in
           held-at 0 (getD (blockNumbers p f lo n) i 0) (part (p .places) pageOf (f .numbers)) (i % p .places)
-          (orderly-numbers validWord 0 (part (p .places) pageOf (f .numbers)) (part (p .places) pageOf (f .words)) (omega arith) (ln ∙ sym lw) (real-facts multiplier p g f pageOf page-sound .inOrder))
+          (orderly-numbers validWord 0 (part (p .places) pageOf (f .numbers)) (part (p .places) pageOf (f .words)) (omega arith) (ln ∙ sym lw) (real-facts p g f pageOf page-sound .inOrder))
           (omega (arith, star)) (omega (arith, mod-lt i some, ln))
           (part-item (p .places) pageOf (f .numbers) (i % p .places) (mod-lt i some) ∙ sym (item-is (f .numbers)))
 
@@ -160,13 +160,13 @@ module _ (p : Parameters) (g : Growth) (f : File) (valid : validParameters p ≡
             omega (
               arith,
               zero-add e,
-              past-top (hash p g) (bounded-real multiplier p g valid) 0 e (f .separators) (getD (blockNumbers p f lo n) i 0) (omega (arith, sized .ofSeparators, page-inside)) top
+              past-top (hash p g) (bounded-real p g valid) 0 e (f .separators) (getD (blockNumbers p f lo n) i 0) (omega (arith, sized .ofSeparators, page-inside)) top
                   (omega (arith, zero-add e, item-there .star star .named)),
             )
 
         item-other : (k : ℕ) → Unheld p g f k → getD (blockNumbers p f lo n) i 0 ≡ k → ⊥
         item-other k u e =
-            let here : namedPage multiplier p g (f .separators) k ≡ pageOf = ap (namedPage multiplier p g (f .separators)) (sym e) ∙ item-there .star star .named in
+            let here : namedPage p g (f .separators) k ≡ pageOf = ap (namedPage p g (f .separators)) (sym e) ∙ item-there .star star .named in
             true≢false
             (sym (item-held star)
             ∙ ap (λ (m : ℕ). heldAt m (part (p .places) pageOf (f .numbers))) e
@@ -178,29 +178,29 @@ module _ (p : Parameters) (g : Growth) (f : File) (valid : validParameters p ≡
         all-items (λ x. ltb x (2 ^ 31)) (blockNumbers p f lo n)
         (λ i h. lt-ltb (getD (blockNumbers p f lo n) i 0) (2 ^ 31) (omega (arith, item-there i (rw numbers-count at h) .most)))
 
-    home-there : (i : ℕ) → getD (homesOf multiplier p g (blockNumbers p f lo n)) i 0 ≡ homeIn multiplier p g (getD (blockNumbers p f lo n) i 0)
+    home-there : (i : ℕ) → getD (homesOf p g (blockNumbers p f lo n)) i 0 ≡ homeIn p g (getD (blockNumbers p f lo n) i 0)
     unfolding homesOf
-    home-there i = List·getD-map (homeIn multiplier p g) (blockNumbers p f lo n) i 0
+    home-there i = List·getD-map (homeIn p g) (blockNumbers p f lo n) i 0
 
-    pub homes-below : allBelow (lo + n) (homesOf multiplier p g (blockNumbers p f lo n)) ≡ true
+    pub homes-below : allBelow (lo + n) (homesOf p g (blockNumbers p f lo n)) ≡ true
     unfolding homesOf pageOf
     homes-below =
-        all-items (λ x. ltb x (lo + n)) (homesOf multiplier p g (blockNumbers p f lo n))
+        all-items (λ x. ltb x (lo + n)) (homesOf p g (blockNumbers p f lo n))
         (λ i h.
-        let short : i < n * p .places = rw (length-map (blockNumbers p f lo n) (homeIn multiplier p g), numbers-count) at h in
+        let short : i < n * p .places = rw (length-map (blockNumbers p f lo n) (homeIn p g), numbers-count) at h in
         rw (home-there i)
-        (lt-ltb (homeIn multiplier p g (getD (blockNumbers p f lo n) i 0)) (lo + n) (omega (arith, item-there i short .homed, low i short))))
+        (lt-ltb (homeIn p g (getD (blockNumbers p f lo n) i 0)) (lo + n) (omega (arith, item-there i short .homed, low i short))))
 
     -- what holds of each word of the stretch's stars holds of all
     pub words-all : (t : ℕ → Bool) → ((w : ℕ) → WordOn p g f lo n w → t w ≡ true) → all t (blockWords p g f lo n) ≡ true
     unfolding blockWords pageOf
     words-all t each =
         rw stretch-homes
-        (all-words t (lo * p .places) 0 (blockNumbers p f lo n) (homesOf multiplier p g (blockNumbers p f lo n))
+        (all-words t (lo * p .places) 0 (blockNumbers p f lo n) (homesOf p g (blockNumbers p f lo n))
         (λ i a b s.
         let short : i < n * p .places = rw numbers-count at a in
         let k : ℕ = getD (blockNumbers p f lo n) i 0 in
-        let h : ℕ = getD (homesOf multiplier p g (blockNumbers p f lo n)) i 0 in
+        let h : ℕ = getD (homesOf p g (blockNumbers p f lo n)) i 0 in
         let w : ℕ = pack h k (suc (lo * p .places + i)) in
         let small : k < 2 ^ 31 = omega (arith, item-there i short .most) in
         let few : suc (lo * p .places + i) < 2 ^ 16 = omega (arith, items-few) in

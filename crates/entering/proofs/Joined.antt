@@ -10,7 +10,6 @@ use lib.ListN.{length, length-map, length-append}
 use borrow.Author.Tests.{ne-eqb, leb-true}
 use Rattle.hashing.specs.declared.Parameters.{Parameters}
 use Rattle.hashing.specs.declared.Growth.{Growth}
-use Rattle.hashing.specs.Generator.{multiplier}
 use Rattle.hashing.specs.Limits.{validParameters}
 use Rattle.hashing.proofs.Bounds.{limits, both}
 use Rattle.pages.specs.Position.{validNumber, validWord}
@@ -56,7 +55,7 @@ pub words-add : (p : Parameters) (g : Growth) (f : File) → Sized (p .places) (
 unfolding blockWords homesOf
 words-add p g f sized lo n m h =
     let long : (lo + n) * p .places ≤ length (f .numbers) = rw (sized .ofNumbers) (mul-le-mul-right (p .places) h) in
-    stretch-words-add (p .places) lo n m 0 (f .numbers) (map (homeIn multiplier p g) (f .numbers)) long (rw (length-map (f .numbers) (homeIn multiplier p g)) long)
+    stretch-words-add (p .places) lo n m 0 (f .numbers) (map (homeIn p g) (f .numbers)) long (rw (length-map (f .numbers) (homeIn p g)) long)
 
 -- no more are left than waited
 length-left : (H : Hash) (p n : ℕ) (w : List Star) → length (left H p n w) ≤ length w
@@ -81,22 +80,22 @@ module _ (p : Parameters) (g : Growth) (f : File) (k : ℕ) (valid : validParame
       let same : length (f .numbers) + 1 ≡ suc (length (f .words)) = omega (arith, sized .ofNumbers, sized .ofWords) in
       ap (named (f .words) word) same ∙ named-last (f .words) word
 
-  module _ (n : ℕ) (inside : startOf p g k + n ≤ p .pages) (sound : (q : ℕ) → startOf p g k ≤ q → q < startOf p g k + n → soundAt multiplier p g f q ≡ true) where
+  module _ (n : ℕ) (inside : startOf p g k + n ≤ p .pages) (sound : (q : ℕ) → startOf p g k ≤ q → q < startOf p g k + n → soundAt p g f q ≡ true) where
     sums : (startOf p g k + n) * p .places ≤ p .pages * p .places
     sums = mul-le-mul-right (p .places) inside
 
     stars-there : (word : ℕ) → map (renamed (f .words) word) (waits (blockWords p g f (startOf p g k) n)) ≡ without 0 (gathered (p .places) f (startOf p g k) n)
     unfolding blockWords homesOf
     stars-there word =
-        true-stars (p .places) (startOf p g k) n 0 word f (map (homeIn multiplier p g) (f .numbers))
+        true-stars (p .places) (startOf p g k) n 0 word f (map (homeIn p g) (f .numbers))
         (numbers-below p g f valid sized (startOf p g k) n inside sound)
         (omega (arith, few, sums))
         (omega (arith, sums, sized .ofNumbers))
         (omega (arith, sums, sized .ofWords))
-        (omega (arith, sums, sized .ofNumbers, length-map (f .numbers) (homeIn multiplier p g)))
+        (omega (arith, sums, sized .ofNumbers, length-map (f .numbers) (homeIn p g)))
 
     all-sound : AllSound validWord (hash p g) f (startOf p g k) n
-    all-sound q a b = real-facts multiplier p g f q (sound q a b)
+    all-sound q a b = real-facts p g f q (sound q a b)
 
     -- no number is 0
     all-numbered : without 0 (gathered (p .places) f (startOf p g k) n) ≡ gathered (p .places) f (startOf p g k) n
@@ -144,11 +143,11 @@ module _ (p : Parameters) (g : Growth) (f : File) (k : ℕ) (valid : validParame
   unfolding blockWords homesOf
   block-count lo n inside =
       rw (stretch-homes p g f valid sized lo n inside)
-      (words-count (lo * p .places) 0 (blockNumbers p f lo n) (map (homeIn multiplier p g) (blockNumbers p f lo n))
-      (omega (arith, length-map (blockNumbers p f lo n) (homeIn multiplier p g))))
+      (words-count (lo * p .places) 0 (blockNumbers p f lo n) (map (homeIn p g) (blockNumbers p f lo n))
+      (omega (arith, length-map (blockNumbers p f lo n) (homeIn p g))))
 
   -- the waiting stars are no more than the list holds, or the pages are too few
-  pub crowds : (d m : ℕ) → startOf p g k + (d + m) ≤ p .pages → ((q : ℕ) → startOf p g k ≤ q → q < startOf p g k + (d + m) → soundAt multiplier p g f q ≡ true)
+  pub crowds : (d m : ℕ) → startOf p g k + (d + m) ≤ p .pages → ((q : ℕ) → startOf p g k ≤ q → q < startOf p g k + (d + m) → soundAt p g f q ≡ true)
       → (word : ℕ) → length (remainsTo p g f k d) + starsIn 0 (blockNumbers p f (startOf p g k + d) m) ≤ length (insert (newStar k word) (gathered (p .places) f (startOf p g k) (d + m)))
   crowds d m inside sound word =
       omega (
@@ -165,16 +164,16 @@ module _ (p : Parameters) (g : Growth) (f : File) (k : ℕ) (valid : validParame
       stars : ℕ → List Star
       stars n = insert (newStar k word) (gathered (p .places) f (startOf p g k) n)
 
-      first-sound : (q : ℕ) → startOf p g k ≤ q → q < startOf p g k + d → soundAt multiplier p g f q ≡ true
+      first-sound : (q : ℕ) → startOf p g k ≤ q → q < startOf p g k + d → soundAt p g f q ≡ true
       first-sound q a b = sound q a (omega arith)
 
-  pub few-stars : (n : ℕ) → startOf p g k + n ≤ p .pages → ((q : ℕ) → startOf p g k ≤ q → q < startOf p g k + n → soundAt multiplier p g f q ≡ true)
+  pub few-stars : (n : ℕ) → startOf p g k + n ≤ p .pages → ((q : ℕ) → startOf p g k ≤ q → q < startOf p g k + n → soundAt p g f q ≡ true)
       → (word : ℕ) → length (insert (newStar k word) (gathered (p .places) f (startOf p g k) n)) ≤ suc (n * p .places)
   unfolding blockWords
   few-stars n inside sound word =
       omega (
         arith,
         waited n inside sound word,
-        words-length (startOf p g k * p .places) 0 (blockNumbers p f (startOf p g k) n) (stretch (p .places) (startOf p g k) n (homesOf multiplier p g (f .numbers))),
+        words-length (startOf p g k * p .places) 0 (blockNumbers p f (startOf p g k) n) (stretch (p .places) (startOf p g k) n (homesOf p g (f .numbers))),
         numbers-count p g f valid sized (startOf p g k) n inside,
       )

@@ -12,7 +12,6 @@ use lib.ListN.{length, take, drop, getD, set, length-map, length-take}
 use borrow.Author.Tests.{le-ltb, lt-ltb, eqb-true, eq-eqb, ne-eqb}
 use Rattle.hashing.specs.declared.Parameters.{Parameters}
 use Rattle.hashing.specs.declared.Growth.{Growth}
-use Rattle.hashing.specs.Generator.{multiplier}
 use Rattle.hashing.specs.Limits.{validParameters, validGrowth}
 use Rattle.hashing.proofs.Bounds.{limits}
 use Rattle.pages.specs.Position.{validNumber}
@@ -40,7 +39,7 @@ use Rattle.entering.proofs.Items.{block-grouped, block-above}
 
 -- a file has items
 pub some-items : (p : Parameters) (g : Growth) → validParameters p ≡ true → validGrowth p g ≡ true → (k : ℕ) → 0 < p .pages * p .places
-some-items p g v w k = let few : 0 < p .pages = omega (arith, homed-real multiplier p g v w k) in omega (arith, mul-le-mul few (limits p v .places-least))
+some-items p g v w k = let few : 0 < p .pages = omega (arith, homed-real p g v w k) in omega (arith, mul-le-mul few (limits p v .places-least))
 
 -- the answers differ
 pub unsound-ends : (page last : ℕ) → Unsound page ≡ Ends last → ⊥
@@ -56,7 +55,7 @@ ending p g f k word q = storedTop (f .separators) (hash p g .top) q && entersWit
 -- d pages from home on are sound and planned
 pub record Spanned (p : Parameters) (g : Growth) (f : File) (k : ℕ) (pool planned W : List ℕ) (d carried : ℕ) : Type 0 where
   pub most : startOf p g k + d ≤ p .pages
-  pub sound : (q : ℕ) → startOf p g k ≤ q → q < startOf p g k + d → soundAt multiplier p g f q ≡ true
+  pub sound : (q : ℕ) → startOf p g k ≤ q → q < startOf p g k + d → soundAt p g f q ≡ true
   pub laid-out : Layout (p .bits) (p .places) (startOf p g k) d (newWord p g f k ∷ []) (blockWords p g f (startOf p g k) d) pool planned W carried
 
 -- they are the pages below page lo, end at a page whose separator is top, and at none of them the reach ends
@@ -90,9 +89,9 @@ module _ (p : Parameters) (g : Growth) (f : File) (lo : ℕ) (inside : lo < p .p
   block-sum = omega (arith, block-such .low)
 
   -- its pages are sound up to the first unsound one
-  pub block-sound : (q : ℕ) → lo ≤ q → q < firstUnsound p g f lo (blockCount p g f lo) → soundAt multiplier p g f q ≡ true
+  pub block-sound : (q : ℕ) → lo ≤ q → q < firstUnsound p g f lo (blockCount p g f lo) → soundAt p g f q ≡ true
   unfolding firstUnsound
-  block-sound q a b = untrue (soundAt multiplier p g f q) (such (λ (r : ℕ). not (soundAt multiplier p g f r)) lo (blockCount p g f lo) .before q a b)
+  block-sound q a b = untrue (soundAt p g f q) (such (λ (r : ℕ). not (soundAt p g f r)) lo (blockCount p g f lo) .before q a b)
     where
       untrue : (t : Bool) → not t ≡ false → t ≡ true
       untrue true e = refl
@@ -101,13 +100,13 @@ module _ (p : Parameters) (g : Growth) (f : File) (lo : ℕ) (inside : lo < p .p
 -- ---- the answers
 
 module _ (p : Parameters) (g : Growth) (f : File) (k last : ℕ) (least : startOf p g k ≤ last)
-    (sound : (q : ℕ) → startOf p g k ≤ q → q ≤ last → soundAt multiplier p g f q ≡ true) where
+    (sound : (q : ℕ) → startOf p g k ≤ q → q ≤ last → soundAt p g f q ≡ true) where
   -- the reach to `last` is sound
   pub sound-to : firstUnsound p g f (startOf p g k) (pagesTo (startOf p g k) last) ≡ startOf p g k + pagesTo (startOf p g k) last
   unfolding firstUnsound
   sound-to =
       sym
-      (such-is (λ (r : ℕ). not (soundAt multiplier p g f r)) (startOf p g k) (pagesTo (startOf p g k) last) (startOf p g k + pagesTo (startOf p g k) last)
+      (such-is (λ (r : ℕ). not (soundAt p g f r)) (startOf p g k) (pagesTo (startOf p g k) last) (startOf p g k + pagesTo (startOf p g k) last)
       (record {
         low = omega arith;
         high = omega arith;
@@ -175,7 +174,7 @@ module _ (p : Parameters) (g : Growth) (f : File) (k : ℕ) (valid : validParame
 
   spanned-next : (pool planned W : List ℕ) (d carried : ℕ) → Spanned p g f k pool planned W d carried → (pool′ planned′ W′ : List ℕ) (m left : ℕ)
       → length pool ≡ p .pages * p .places → p .pages ≤ length planned → startOf p g k + (d + m) ≤ p .pages
-      → ((q : ℕ) → startOf p g k ≤ q → q < startOf p g k + (d + m) → soundAt multiplier p g f q ≡ true)
+      → ((q : ℕ) → startOf p g k ≤ q → q < startOf p g k + (d + m) → soundAt p g f q ≡ true)
       → ((e : ℕ) → startOf p g k ≤ e → suc e ≡ startOf p g k + d → getD (f .separators) e 0 ≡ hash p g .top)
       → Planned (p .bits) (p .places) (startOf p g k + d) m (take carried W) (blockWords p g f (startOf p g k + d) m) pool pool′ planned planned′ W′ left
       → Layout (p .bits) (p .places) (startOf p g k) (d + m) (newWord p g f k ∷ []) (blockWords p g f (startOf p g k) (d + m)) pool′ planned′ W′ left
@@ -244,20 +243,20 @@ module _ (p : Parameters) (g : Growth) (f : File) (k : ℕ) (valid : validParame
         }))
 
     -- the pages up to a sound one of the block
-    sound-below : (q : ℕ) → startOf p g k ≤ q → q < firstUnsound p g f lo (blockCount p g f lo) → soundAt multiplier p g f q ≡ true
+    sound-below : (q : ℕ) → startOf p g k ≤ q → q < firstUnsound p g f lo (blockCount p g f lo) → soundAt p g f q ≡ true
     sound-below q a b = go (decLt q lo)
       where
-        go : Dec (q < lo) → soundAt multiplier p g f q ≡ true
+        go : Dec (q < lo) → soundAt p g f q ≡ true
         go (yes l) = r .spanned .sound q a (omega (arith, r .at))
         go (no l) = block-sound p g f lo (r .inside) q (omega arith) b
 
     pub reached-unsound : (page : ℕ) → UnsoundBlock p g f lo page → (word : ℕ) → Unsound page ≡ reachAnswer p g f k word
     unfolding reachAnswer firstUnsound last
     reached-unsound page u word =
-        let found = such (λ (q : ℕ). not (soundAt multiplier p g f q)) lo (blockCount p g f lo) in
+        let found = such (λ (q : ℕ). not (soundAt p g f q)) lo (blockCount p g f lo) in
         let inside : page < startOf p g k + countOf p g f k word = omega (arith, u .inside, end-past word, such-block .low, least) in
         let is : page ≡ unsoundOf p g f k word =
-        such-is (λ (q : ℕ). not (soundAt multiplier p g f q)) (startOf p g k) (countOf p g f k word) page
+        such-is (λ (q : ℕ). not (soundAt p g f q)) (startOf p g k) (countOf p g f k word) page
         (record {
           low = omega (arith, r .at, u .is, found .low);
           high = omega arith;
@@ -277,11 +276,11 @@ module _ (p : Parameters) (g : Growth) (f : File) (k : ℕ) (valid : validParame
     unfolding pagesHere
     few-pages = omega (arith, below-last, least)
 
-    all-sound : BlockSound p g f lo → (q : ℕ) → startOf p g k ≤ q → q ≤ last → soundAt multiplier p g f q ≡ true
+    all-sound : BlockSound p g f lo → (q : ℕ) → startOf p g k ≤ q → q ≤ last → soundAt p g f q ≡ true
     unfolding last
     all-sound e q a h = sound-below q a (omega (arith, e, such-block .low))
 
-    pages-sound : BlockSound p g f lo → (q : ℕ) → startOf p g k ≤ q → q < startOf p g k + pagesHere → soundAt multiplier p g f q ≡ true
+    pages-sound : BlockSound p g f lo → (q : ℕ) → startOf p g k ≤ q → q < startOf p g k + pagesHere → soundAt p g f q ≡ true
     unfolding pagesHere
     pages-sound e q a h = all-sound e q a (omega (arith, least))
 

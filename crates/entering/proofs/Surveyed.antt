@@ -9,7 +9,6 @@ use lib.ListN.{take, length-append, length, drop, length-map, length-drop}
 use lib.Seq.{take-at, take-append-le, length-take-le, drop-paste, paste, slice}
 use Rattle.hashing.specs.declared.Parameters.{Parameters}
 use Rattle.hashing.specs.declared.Growth.{Growth}
-use Rattle.hashing.specs.Generator.{multiplier}
 use Rattle.hashing.specs.Limits.{validParameters}
 use Rattle.hashing.proofs.Bounds.{limits}
 use Rattle.hashing.proofs.Laws.{top-shifted}
@@ -70,13 +69,13 @@ module _ (p : Parameters) (g : Growth) (f : File) (valid : validParameters p ≡
 
       pub bad-none : last + 1 ≤ bad → bad ≡ last + 1
       unfolding firstUnsound
-      bad-none h = omega (arith, stop-is, bad-is, such (λ (q : ℕ). not (soundAt multiplier p g f q)) lo (blockCount p g f lo) .high)
+      bad-none h = omega (arith, stop-is, bad-is, such (λ (q : ℕ). not (soundAt p g f q)) lo (blockCount p g f lo) .high)
 
       pub block-clear : last + 1 ≤ bad → BlockSound p g f lo
       block-clear h = sym bad-is ∙ bad-none h ∙ stop-is
 
     module _ (clear : BlockSound p g f lo) where
-      sound : (q : ℕ) → lo ≤ q → q < lo + (last + 1 - lo) → soundAt multiplier p g f q ≡ true
+      sound : (q : ℕ) → lo ≤ q → q < lo + (last + 1 - lo) → soundAt p g f q ≡ true
       sound q a b = block-sound p g f lo inside q a (omega (arith, clear, stop-is))
 
       few : lo + (last + 1 - lo) ≤ p .pages
@@ -86,15 +85,15 @@ module _ (p : Parameters) (g : Growth) (f : File) (valid : validParameters p ≡
       found-numbers = numbers-below p g f valid sized lo (last + 1 - lo) few sound
 
       module _ (pool homes : List ℕ) (long : length pool ≡ p .pages * p .places)
-          (kept : homes ≡ paste pool (lo * p .places) (homesOf multiplier p g (drop (lo * p .places) (f .numbers))) ((last + 1 - lo) * p .places)) where
+          (kept : homes ≡ paste pool (lo * p .places) (homesOf p g (drop (lo * p .places) (f .numbers))) ((last + 1 - lo) * p .places)) where
         room : lo * p .places + (last + 1 - lo) * p .places ≤ p .pages * p .places
         room = omega (arith, add-mul lo (last + 1 - lo) (p .places), mul-le-mul-right {m = lo + (last + 1 - lo)} {n = p .pages} (p .places) few)
 
-        homes-long : (last + 1 - lo) * p .places ≤ length (homesOf multiplier p g (drop (lo * p .places) (f .numbers)))
+        homes-long : (last + 1 - lo) * p .places ≤ length (homesOf p g (drop (lo * p .places) (f .numbers)))
         unfolding homesOf
-        homes-long = omega (arith, room, length-map (drop (lo * p .places) (f .numbers)) (homeIn multiplier p g), length-drop (lo * p .places) (f .numbers), sized .ofNumbers)
+        homes-long = omega (arith, room, length-map (drop (lo * p .places) (f .numbers)) (homeIn p g), length-drop (lo * p .places) (f .numbers), sized .ofNumbers)
 
-        pub found-homes : stretch (p .places) lo (last + 1 - lo) homes ≡ stretch (p .places) lo (last + 1 - lo) (homesOf multiplier p g (f .numbers))
+        pub found-homes : stretch (p .places) lo (last + 1 - lo) homes ≡ stretch (p .places) lo (last + 1 - lo) (homesOf p g (f .numbers))
         found-homes =
             ap (stretch (p .places) lo (last + 1 - lo)) kept
             ∙ surveyed-homes p g (p .places) lo (last + 1 - lo) pool (f .numbers)
@@ -133,7 +132,7 @@ module _ (p : Parameters) (g : Growth) (f : File) (valid : validParameters p ≡
                       sources =
                           renewed .sources
                           ∙ ap (written (lo * p .places) items) kept
-                          ∙ written-paste pool (lo * p .places) (homesOf multiplier p g (drop (lo * p .places) (f .numbers))) ((last + 1 - lo) * p .places) items items-long (omega (arith, room, long)) homes-long;
+                          ∙ written-paste pool (lo * p .places) (homesOf p g (drop (lo * p .places) (f .numbers))) ((last + 1 - lo) * p .places) items items-long (omega (arith, room, long)) homes-long;
                       separators-are = renewed .separators-are;
                       passed = renewed .passed;
                       counted = renewed .counted;

@@ -7,7 +7,6 @@ use lib.Dec.{ltb}
 use lib.ListN.{length}
 use Rattle.hashing.specs.declared.Parameters.{Parameters}
 use Rattle.hashing.specs.declared.Growth.{Growth}
-use Rattle.hashing.specs.Generator.{multiplier}
 use Rattle.pages.specs.Page.{part, heldAt}
 use Rattle.placement.specs.Rule.{Star, Hash, Contents, pages}
 use Rattle.placement.specs.File.{File, replaced}
@@ -25,12 +24,12 @@ use Rattle.entering.specs.declared.stretch.Entered.the-variants.{On, Uns
 
 -- the page that the separators name for k is sound and does not hold it
 pub record Unheld (p : Parameters) (g : Growth) (f : File) (k : ℕ) : Type 0 where
-  pub named : namedPage multiplier p g (f .separators) k < p .pages
-  pub sound : soundAt multiplier p g f (namedPage multiplier p g (f .separators) k) ≡ true
-  pub absent : heldAt k (part (p .places) (namedPage multiplier p g (f .separators) k) (f .numbers)) ≡ false
+  pub named : namedPage p g (f .separators) k < p .pages
+  pub sound : soundAt p g f (namedPage p g (f .separators) k) ≡ true
+  pub absent : heldAt k (part (p .places) (namedPage p g (f .separators) k) (f .numbers)) ≡ false
 
 abbrev pub hash : Parameters → Growth → Hash
-hash p g = hashOf multiplier p g
+hash p g = hashOf p g
 
 abbrev pub newStar : ℕ → ℕ → Star
 newStar k word = record { number = k; word = word }
@@ -93,7 +92,7 @@ abbrev pub blockNumbers : Parameters → File → ℕ → ℕ → List ℕ
 blockNumbers p f lo n = stretch (p .places) lo n (f .numbers)
 
 unfoldable pub blockWords : Parameters → Growth → File → ℕ → ℕ → List ℕ
-blockWords p g f lo n = stretchWords (p .places) lo n 0 (f .numbers) (homesOf multiplier p g (f .numbers))
+blockWords p g f lo n = stretchWords (p .places) lo n 0 (f .numbers) (homesOf p g (f .numbers))
 
 -- all pages of the block are sound
 abbrev pub BlockSound : Parameters → Growth → File → ℕ → Type 0

@@ -1,6 +1,7 @@
 -- The number generator and the signature: document 01, "Home and signature". The multiplier is a parameter of every definition.
 use mathlib.Core.List.{List, [], _∷_}
 use Prim.Native.Nat.{ℕ, zero, suc, _+_, _-_, _*_, _%_, _^_}
+use Rattle.hashing.specs.declared.Parameters.{Parameters}
 
 -- m = 2,147,483,647
 abbrev pub modulus : ℕ
@@ -9,6 +10,10 @@ modulus = 2147483647
 -- 16,807, the multiplier of the file's own table
 abbrev pub multiplier : ℕ
 multiplier = 16807
+
+-- the multiplier that a file's parameters name
+abbrev pub multiplierOf : Parameters → ℕ
+multiplierOf p = multiplier
 
 -- the j-th multiplier of the table: a^j mod m
 unfoldable pub power : ℕ → ℕ → ℕ

@@ -7,7 +7,6 @@ use native.Mathlib.Omega.{arith}
 use lib.ListN.{drop, getD, length-take}
 use Rattle.hashing.specs.declared.Parameters.{Parameters}
 use Rattle.hashing.specs.declared.Growth.{Growth}
-use Rattle.hashing.specs.Generator.{multiplier}
 use Rattle.pages.specs.Page.{part, placeOf, heldAt}
 use Rattle.pages.specs.Position.{validNumber, unpacked}
 use Rattle.pages.proofs.Parts.{part-item}
@@ -62,7 +61,7 @@ named-alike : (p : Parameters) (g : Growth) (k : ℕ) (f h : File) → Alike p g
     → lookedUp p g f (named p g f k) k ≡ lookedUp p g h (named p g h k) k
 named-alike p g k f h a =
     looked-up-alike p g f h (named p g f k) (a .separators) (a .numbers) (a .words) k
-    ∙ ap (λ (vs : List ℕ). lookedUp p g h (namedPage multiplier p g vs k) k) (a .separators)
+    ∙ ap (λ (vs : List ℕ). lookedUp p g h (namedPage p g vs k) k) (a .separators)
 
 pub look-ups-alike : LookUpsAlike
 unfolding lookUpOf

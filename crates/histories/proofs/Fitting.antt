@@ -81,7 +81,7 @@ module _ (p : Parameters) (m : Model) (t : Fitting p m) where
   unfolding fileFits
   lengths = rw (eq-eqb _ _ (sized .ofSeparators), eq-eqb _ _ (sized .ofNumbers), eq-eqb _ _ (sized .ofWords))
 
-  pub all-sound : (page : ℕ) → page < p .pages → soundAt multiplier p (m .growth) (fileOf p m) page ≡ true
+  pub all-sound : (page : ℕ) → page < p .pages → soundAt p (m .growth) (fileOf p m) page ≡ true
   unfolding soundAt fileOf hashOf
   all-sound page h =
       facts-sound validWord (hashFor p m) (fileOf p m) page

@@ -9,7 +9,6 @@ use lib.Dec.{eqb, ltb}
 use lib.ListN.{getD}
 use borrow.Author.Tests.{eq-eqb}
 use Rattle.hashing.specs.declared.Parameters.{Parameters}
-use Rattle.hashing.specs.Generator.{multiplier}
 use Rattle.placement.specs.File.{File}
 use Rattle.placement.specs.Hash.{soundAt}
 use Rattle.reach.specs.Reach.{firstSuch, firstUnsound}
@@ -31,7 +30,7 @@ none-such test from n h = go (decLt (firstSuch test from n) (from + n))
 pub none-unsound : (p : Parameters) (m : Model) → Fitting p m → (from n : ℕ) → from + n ≤ p .pages → firstUnsound p (m .growth) (fileOf p m) from n ≡ from + n
 unfolding firstUnsound
 none-unsound p m t from n h =
-    none-such (λ (q : ℕ). not (soundAt multiplier p (m .growth) (fileOf p m) q)) from n
+    none-such (λ (q : ℕ). not (soundAt p (m .growth) (fileOf p m) q)) from n
     (λ q g. ap not (all-sound p m t q (omega arith)))
 
 same-spot : (places : ℕ) (f : File) (page place : ℕ) → differ places f f page place ≡ false

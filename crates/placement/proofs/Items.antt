@@ -23,14 +23,14 @@ use Rattle.placement.specs.File.{File, starsOf, starsAt, greatest, order
 use Rattle.placement.specs.Hash.{hashOf, soundAt, namedPage, homeIn, homesOf}
 use Rattle.placement.specs.Survey.{admits, soundIn, admitsItem, lastAfter}
 
-module _ (a : ℕ) (p : Parameters) (g : Growth) (seps : List ℕ) (page : ℕ) where
+module _ (p : Parameters) (g : Growth) (seps : List ℕ) (page : ℕ) where
   -- one item, then the others
-  pub admits-cons : (last n w : ℕ) (ns ws : List ℕ) → admits a p g seps page last (n ∷ ns) (w ∷ ws) ≡ admitsItem a p g seps page last n w && admits a p g seps page (lastAfter n) ns ws
+  pub admits-cons : (last n w : ℕ) (ns ws : List ℕ) → admits p g seps page last (n ∷ ns) (w ∷ ws) ≡ admitsItem p g seps page last n w && admits p g seps page (lastAfter n) ns ws
   unfolding admits admitsItem orderly starsOf every
   admits-cons last n w ns ws = go (eqb n 0)
     where
       here : Star → Bool
-      here s = eqb (namedPage a p g seps (s .number)) page
+      here s = eqb (namedPage p g seps (s .number)) page
 
       shuffled : (b c d e o s : Bool) → (b && (c && (d && o))) && (e && s) ≡ (b && (c && (d && e))) && (o && s)
       shuffled true true true true true s = refl
@@ -48,21 +48,21 @@ module _ (a : ℕ) (p : Parameters) (g : Growth) (seps : List ℕ) (page : ℕ) 
       go : (t : Bool) →
           cond t (eqb w 0 && orderly validWord greatest ns ws) (ltb last n && (leb n greatest && (validWord w && orderly validWord n ns ws)))
           && every here (keep (not t) (record { number = n; word = w }) (starsOf ns ws))
-          ≡ cond t (eqb w 0) (ltb last n && (leb n greatest && (validWord w && eqb (namedPage a p g seps n) page)))
+          ≡ cond t (eqb w 0) (ltb last n && (leb n greatest && (validWord w && eqb (namedPage p g seps n) page)))
           && (orderly validWord (cond t greatest n) ns ws && every here (starsOf ns ws))
       go true = grouped (eqb w 0) (orderly validWord greatest ns ws) (every here (starsOf ns ws))
       go false =
-          shuffled (ltb last n) (leb n greatest) (validWord w) (eqb (namedPage a p g seps n) page) (orderly validWord n ns ws) (every here (starsOf ns ws))
+          shuffled (ltb last n) (leb n greatest) (validWord w) (eqb (namedPage p g seps n) page) (orderly validWord n ns ws) (every here (starsOf ns ws))
 
   -- one item: an empty place, a star out of order, a star in order
   module _ (last n w : ℕ) where
-    pub empty-item : n ≡ 0 → admitsItem a p g seps page last n w ≡ eqb w 0
+    pub empty-item : n ≡ 0 → admitsItem p g seps page last n w ≡ eqb w 0
     unfolding admitsItem
     empty-item h = rw (eq-eqb n 0 h)
 
-    pub refused-item : (n ≡ 0 → ⊥) → ltb last n && (leb n greatest && validWord w) ≡ false → admitsItem a p g seps page last n w ≡ false
+    pub refused-item : (n ≡ 0 → ⊥) → ltb last n && (leb n greatest && validWord w) ≡ false → admitsItem p g seps page last n w ≡ false
     unfolding admitsItem
-    refused-item h e = rw (ne-eqb n 0 h) (go (ltb last n) (leb n greatest) (validWord w) (eqb (namedPage a p g seps n) page) e)
+    refused-item h e = rw (ne-eqb n 0 h) (go (ltb last n) (leb n greatest) (validWord w) (eqb (namedPage p g seps n) page) e)
       where
         go : (b c d t : Bool) → b && (c && d) ≡ false → b && (c && (d && t)) ≡ false
         go true true true t e = absurd (true≢false e)
@@ -70,9 +70,9 @@ module _ (a : ℕ) (p : Parameters) (g : Growth) (seps : List ℕ) (page : ℕ) 
         go true false d t e = refl
         go false c d t e = refl
 
-    pub passed-item : (n ≡ 0 → ⊥) → ltb last n && (leb n greatest && validWord w) ≡ true → admitsItem a p g seps page last n w ≡ eqb (namedPage a p g seps n) page
+    pub passed-item : (n ≡ 0 → ⊥) → ltb last n && (leb n greatest && validWord w) ≡ true → admitsItem p g seps page last n w ≡ eqb (namedPage p g seps n) page
     unfolding admitsItem
-    passed-item h e = rw (ne-eqb n 0 h) (go (ltb last n) (leb n greatest) (validWord w) (eqb (namedPage a p g seps n) page) e)
+    passed-item h e = rw (ne-eqb n 0 h) (go (ltb last n) (leb n greatest) (validWord w) (eqb (namedPage p g seps n) page) e)
       where
         go : (b c d t : Bool) → b && (c && d) ≡ true → b && (c && (d && t)) ≡ t
         go true true true t e = refl
@@ -85,8 +85,8 @@ module _ (a : ℕ) (p : Parameters) (g : Growth) (seps : List ℕ) (page : ℕ) 
     pub numbered : places ≤ length ns
     pub worded : places ≤ length ws
     pub long : length homes ≡ 32
-    pub is : admits a p g seps page 0 (take places ns) (take places ws) ≡ admits a p g seps page last (drop i (take places ns)) (drop i (take places ws))
-    pub homed : take i homes ≡ homesOf a p g (take i ns)
+    pub is : admits p g seps page 0 (take places ns) (take places ws) ≡ admits p g seps page last (drop i (take places ns)) (drop i (take places ws))
+    pub homed : take i homes ≡ homesOf p g (take i ns)
 
   pub surveyed-none : (ns ws : List ℕ) (places : ℕ) → places ≤ length ns → places ≤ length ws → Surveyed ns ws places 0 0 (replicate 32 0)
   unfolding homesOf
@@ -94,7 +94,7 @@ module _ (a : ℕ) (p : Parameters) (g : Growth) (seps : List ℕ) (page : ℕ) 
 
   module _ {ns ws : List ℕ} {places i last : ℕ} {homes : List ℕ} (done : Surveyed ns ws places i last homes) where
     -- the next item decides, or is admitted too
-    onward : i < places → admits a p g seps page 0 (take places ns) (take places ws) ≡ admitsItem a p g seps page last (getD ns i 0) (getD ws i 0) && admits a p g seps page (lastAfter (getD ns i 0)) (drop (suc i) (take places ns)) (drop (suc i) (take places ws))
+    onward : i < places → admits p g seps page 0 (take places ns) (take places ws) ≡ admitsItem p g seps page last (getD ns i 0) (getD ws i 0) && admits p g seps page (lastAfter (getD ns i 0)) (drop (suc i) (take places ns)) (drop (suc i) (take places ws))
     onward h =
         done .is
         ∙ rw (
@@ -105,10 +105,10 @@ module _ (a : ℕ) (p : Parameters) (g : Growth) (seps : List ℕ) (page : ℕ) 
         )
         (admits-cons last (getD ns i 0) (getD ws i 0) (drop (suc i) (take places ns)) (drop (suc i) (take places ws)))
 
-    pub surveyed-refused : i < places → admitsItem a p g seps page last (getD ns i 0) (getD ws i 0) ≡ false → admits a p g seps page 0 (take places ns) (take places ws) ≡ false
+    pub surveyed-refused : i < places → admitsItem p g seps page last (getD ns i 0) (getD ws i 0) ≡ false → admits p g seps page 0 (take places ns) (take places ws) ≡ false
     surveyed-refused h e = onward h ∙ rw e
 
-    pub surveyed-more : {home next : ℕ} → i < places → i < 32 → admitsItem a p g seps page last (getD ns i 0) (getD ws i 0) ≡ true → home ≡ homeIn a p g (getD ns i 0) → next ≡ lastAfter (getD ns i 0) → Surveyed ns ws places (i + 1) next (set homes i home)
+    pub surveyed-more : {home next : ℕ} → i < places → i < 32 → admitsItem p g seps page last (getD ns i 0) (getD ws i 0) ≡ true → home ≡ homeIn p g (getD ns i 0) → next ≡ lastAfter (getD ns i 0) → Surveyed ns ws places (i + 1) next (set homes i home)
     unfolding homesOf
     surveyed-more {home} {next} h k e t l =
         record {
@@ -121,13 +121,13 @@ module _ (a : ℕ) (p : Parameters) (g : Growth) (seps : List ℕ) (page : ℕ) 
                 add-one i,
                 take-suc-set homes i home (omega (arith, done .long)),
                 take-suc ns i 0 (omega (arith, done .numbered)),
-                map-append (homeIn a p g) (take i ns) (getD ns i 0 ∷ []),
+                map-append (homeIn p g) (take i ns) (getD ns i 0 ∷ []),
                 done .homed,
                 t,
               );
         }
 
-    pub surveyed-all : i ≡ places → admits a p g seps page 0 (take places ns) (take places ws) ≡ true
+    pub surveyed-all : i ≡ places → admits p g seps page 0 (take places ns) (take places ws) ≡ true
     unfolding admits orderly starsOf every
     surveyed-all e =
         let none : drop i (take places ns) ≡ [] = drop-of-length-le (take places ns) {i = i} (omega (arith, length-take-le places ns (done .numbered))) in
@@ -135,9 +135,9 @@ module _ (a : ℕ) (p : Parameters) (g : Growth) (seps : List ℕ) (page : ℕ) 
 
 -- ---- the page as loaded
 
-module _ (a : ℕ) (p : Parameters) (g : Growth) (f : File) (page : ℕ) where
+module _ (p : Parameters) (g : Growth) (f : File) (page : ℕ) where
   -- by the page's items
-  pub sound-items : soundIn a p g (f .separators) page (part (p .places) page (f .numbers)) (part (p .places) page (f .words)) ≡ soundAt a p g f page
+  pub sound-items : soundIn p g (f .separators) page (part (p .places) page (f .numbers)) (part (p .places) page (f .words)) ≡ soundAt p g f page
   unfolding soundIn admits soundAt sound starsAt namedPage hashOf
   sound-items =
       swapped (leb (getD (f .separators) page 0) (topOf (p .bits)))
@@ -151,12 +151,12 @@ module _ (a : ℕ) (p : Parameters) (g : Growth) (f : File) (page : ℕ) where
 
   -- by the value that `load` makes of them
   pub sound-loaded : (v : Page) → page * p .places + p .places ≤ length (f .numbers) → page * p .places + p .places ≤ length (f .words) → v ≡ pageAt (p .places) page (f .numbers) (f .words) →
-      soundIn a p g (f .separators) page (take (p .places) (v .numbers)) (take (p .places) (v .words)) ≡ soundAt a p g f page
+      soundIn p g (f .separators) page (take (p .places) (v .numbers)) (take (p .places) (v .words)) ≡ soundAt p g f page
   sound-loaded v hn hw e =
       rw (e, take-filled (p .places) page (f .numbers) hn, take-filled (p .places) page (f .words) hw) sound-items
 
-pub homes-loaded : (a : ℕ) (p : Parameters) (g : Growth) (page : ℕ) (ns ws : List ℕ) (v : Page) → page * p .places + p .places ≤ length ns → v ≡ pageAt (p .places) page ns ws → homesOf a p g (take (p .places) (v .numbers)) ≡ homesOf a p g (part (p .places) page ns)
-homes-loaded a p g page ns ws v h e = rw (e, take-filled (p .places) page ns h)
+pub homes-loaded : (p : Parameters) (g : Growth) (page : ℕ) (ns ws : List ℕ) (v : Page) → page * p .places + p .places ≤ length ns → v ≡ pageAt (p .places) page ns ws → homesOf p g (take (p .places) (v .numbers)) ≡ homesOf p g (part (p .places) page ns)
+homes-loaded p g page ns ws v h e = rw (e, take-filled (p .places) page ns h)
 
 -- a paste takes the front of what it pastes
 pub paste-front : (d s t : List ℕ) (at n : ℕ) → take n s ≡ t → paste d at s n ≡ paste d at t n

@@ -13,7 +13,7 @@ use lib.Seq.{drop-cons, drop-length, take-length, length-take-le, getD-take}
 use borrow.Author.Tests.{ne-eqb, le-leb}
 use Rattle.hashing.specs.declared.Parameters.{Parameters}
 use Rattle.hashing.specs.declared.Growth.{Growth}
-use Rattle.hashing.specs.Generator.{signature}
+use Rattle.hashing.specs.Generator.{multiplierOf, signature}
 use Rattle.hashing.specs.Home.{home}
 use Rattle.hashing.specs.Limits.{validParameters, validGrowth}
 use Rattle.hashing.proofs.Bounds.{limits}
@@ -67,42 +67,42 @@ module _ (H : Hash) (vs : List ℕ) (k p : ℕ) where
               ∙ not-here)
 
 -- From home on, a page keeps those with a signature below its separator.
-pub below-from : (a bits h k page v : ℕ) → h ≤ page → below (hashFrom a bits h) page v k ≡ ltb (signature a bits k (page - h + 1)) v
+pub below-from : (p : Parameters) (h k page v : ℕ) → h ≤ page → below (hashFrom p h) page v k ≡ ltb (signature (multiplierOf p) (p .bits) k (page - h + 1)) v
 unfolding below hashFrom
-below-from a bits h k page v g = rw (le-leb h page g)
+below-from p h k page v g = rw (le-leb h page g)
 
-pub first-from : (a : ℕ) (p : Parameters) (g : Growth) (page : ℕ) (vs : List ℕ) (k : ℕ) → first (hashFrom a (p .bits) (home a p g k)) page vs k ≡ first (hashOf a p g) page vs k
+pub first-from : (p : Parameters) (g : Growth) (page : ℕ) (vs : List ℕ) (k : ℕ) → first (hashFrom p (home (multiplierOf p) p g k)) page vs k ≡ first (hashOf p g) page vs k
 unfolding first below hashFrom hashOf
-first-from a p g page [] k = refl
-first-from a p g page (v ∷ vs) k = rw (first-from a p g (suc page) vs k)
+first-from p g page [] k = refl
+first-from p g page (v ∷ vs) k = rw (first-from p g (suc page) vs k)
 
 -- What a probe of a number from its home finds: of all pages the named one, of those up to a page whether that is named.
-module _ (a : ℕ) (p : Parameters) (g : Growth) (seps : List ℕ) (k h : ℕ) (at-home : h ≡ home a p g k) where
-  pub named-is : first (hashFrom a (p .bits) h) 0 (take (length seps) seps) k ≡ namedPage a p g seps k
+module _ (p : Parameters) (g : Growth) (seps : List ℕ) (k h : ℕ) (at-home : h ≡ home (multiplierOf p) p g k) where
+  pub named-is : first (hashFrom p h) 0 (take (length seps) seps) k ≡ namedPage p g seps k
   unfolding namedPage
-  named-is = rw (at-home, take-length seps) (first-from a p g 0 seps k)
+  named-is = rw (at-home, take-length seps) (first-from p g 0 seps k)
 
-  pub named-here : (page : ℕ) → page < length seps → eqb (first (hashFrom a (p .bits) h) 0 (take (page + 1) seps) k) page ≡ eqb (namedPage a p g seps k) page
+  pub named-here : (page : ℕ) → page < length seps → eqb (first (hashFrom p h) 0 (take (page + 1) seps) k) page ≡ eqb (namedPage p g seps k) page
   unfolding namedPage
   named-here page i =
-      rw (at-home, add-one page, first-from a p g 0 (take (suc page) seps) k) (first-taken (hashOf a p g) seps k page i)
+      rw (at-home, add-one page, first-from p g 0 (take (suc page) seps) k) (first-taken (hashOf p g) seps k page i)
 
-  pub named-above : (page : ℕ) → page < length seps → page < h → eqb (namedPage a p g seps k) page ≡ false
+  pub named-above : (page : ℕ) → page < length seps → page < h → eqb (namedPage p g seps k) page ≡ false
   unfolding namedPage hashOf
   named-above page i low =
-      ne-eqb (first (hashOf a p g) 0 seps k) page
-      (λ e. omega (arith, e, first-home (hashOf a p g) 0 seps k (omega (arith, e))))
+      ne-eqb (first (hashOf p g) 0 seps k) page
+      (λ e. omega (arith, e, first-home (hashOf p g) 0 seps k (omega (arith, e))))
 
 -- What the rule's laws ask of the hash, and a home is one of the pages.
-pub bounded-real : (a : ℕ) (p : Parameters) (g : Growth) → validParameters p ≡ true → Bounded (hashOf a p g)
+pub bounded-real : (p : Parameters) (g : Growth) → validParameters p ≡ true → Bounded (hashOf p g)
 unfolding hashOf
-bounded-real a p g v k page = signature-below a (p .bits) k (page - home a p g k + 1) (limits p v .bits-least)
+bounded-real p g v k page = signature-below (multiplierOf p) (p .bits) k (page - home (multiplierOf p) p g k + 1) (limits p v .bits-least)
 
-pub homed-real : (a : ℕ) (p : Parameters) (g : Growth) → validParameters p ≡ true → validGrowth p g ≡ true → (k : ℕ) → hashOf a p g .home k < p .pages
+pub homed-real : (p : Parameters) (g : Growth) → validParameters p ≡ true → validGrowth p g ≡ true → (k : ℕ) → hashOf p g .home k < p .pages
 unfolding hashOf
-homed-real a p g v w k = home-pages a p g k v w
+homed-real p g v w k = home-pages (multiplierOf p) p g k v w
 
 -- M where no page is named
-pub named-most : (a : ℕ) (p : Parameters) (g : Growth) (seps : List ℕ) (k : ℕ) → namedPage a p g seps k ≤ length seps
+pub named-most : (p : Parameters) (g : Growth) (seps : List ℕ) (k : ℕ) → namedPage p g seps k ≤ length seps
 unfolding namedPage
-named-most a p g seps k = omega (arith, first-le (hashOf a p g) 0 seps k)
+named-most p g seps k = omega (arith, first-le (hashOf p g) 0 seps k)

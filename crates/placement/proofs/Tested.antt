@@ -10,7 +10,7 @@ use lib.ListN.{length, getD, List·getD-map}
 use borrow.Author.Tests.{leb-true, ltb-true, eqb-true, eqb-false, le-leb, ne-eqb}
 use Rattle.hashing.specs.declared.Parameters.{Parameters}
 use Rattle.hashing.specs.declared.Growth.{Growth}
-use Rattle.hashing.specs.Generator.{signature}
+use Rattle.hashing.specs.Generator.{multiplierOf, signature}
 use Rattle.hashing.specs.Home.{home}
 use Rattle.pages.specs.Position.{validNumber, validWord}
 use Rattle.pages.specs.Page.{part}
@@ -117,51 +117,51 @@ item-star (n ∷ ns) (w ∷ ws) (suc i) h s = go (not (eqb n 0)) (item-star ns w
 -- ---- sound pages under the file's hash
 
 -- What holds of a star that stands on a sound page.
-pub record StarOn (a : ℕ) (p : Parameters) (g : Growth) (f : File) (page n w : ℕ) : Type 0 where
+pub record StarOn (p : Parameters) (g : Growth) (f : File) (page n w : ℕ) : Type 0 where
   pub number : validNumber n ≡ true
   pub word : validWord w ≡ true
-  pub named : namedPage a p g (f .separators) n ≡ page
-  pub homed : home a p g n ≤ page
-  pub below : signature a (p .bits) n (page - home a p g n + 1) < getD (f .separators) page 0
+  pub named : namedPage p g (f .separators) n ≡ page
+  pub homed : home (multiplierOf p) p g n ≤ page
+  pub below : signature (multiplierOf p) (p .bits) n (page - home (multiplierOf p) p g n + 1) < getD (f .separators) page 0
 
 -- What holds of an item of a sound page.
-pub record ItemOn (a : ℕ) (p : Parameters) (g : Growth) (f : File) (page n w : ℕ) : Type 0 where
-  pub star : (n ≡ 0 → ⊥) → StarOn a p g f page n w
+pub record ItemOn (p : Parameters) (g : Growth) (f : File) (page n w : ℕ) : Type 0 where
+  pub star : (n ≡ 0 → ⊥) → StarOn p g f page n w
   pub empty : n ≡ 0 → w ≡ 0
   pub most : n ≤ greatest
-  pub homed : homeIn a p g n ≤ page
+  pub homed : homeIn p g n ≤ page
 
-module _ (a : ℕ) (p : Parameters) (g : Growth) (f : File) (page : ℕ) where
+module _ (p : Parameters) (g : Growth) (f : File) (page : ℕ) where
   -- the named facts, both ways
-  pub real-facts : soundAt a p g f page ≡ true → Sound validWord (hashOf a p g) f page
+  pub real-facts : soundAt p g f page ≡ true → Sound validWord (hashOf p g) f page
   unfolding soundAt
-  real-facts e = sound-facts validWord (hashOf a p g) f page e
+  real-facts e = sound-facts validWord (hashOf p g) f page e
 
-  pub facts-real : Sound validWord (hashOf a p g) f page → soundAt a p g f page ≡ true
+  pub facts-real : Sound validWord (hashOf p g) f page → soundAt p g f page ≡ true
   unfolding soundAt
-  facts-real c = facts-sound validWord (hashOf a p g) f page c
+  facts-real c = facts-sound validWord (hashOf p g) f page c
 
-  module _ (sized : Sized (p .places) (p .pages) f) (inside : page < p .pages) (e : soundAt a p g f page ≡ true) where
-    pub star-on : (s : Star) → List·Memᴰ s (starsAt (p .places) f page) → StarOn a p g f page (s .number) (s .word)
+  module _ (sized : Sized (p .places) (p .pages) f) (inside : page < p .pages) (e : soundAt p g f page ≡ true) where
+    pub star-on : (s : Star) → List·Memᴰ s (starsAt (p .places) f page) → StarOn p g f page (s .number) (s .word)
     unfolding validNumber namedPage hashOf
     star-on s m =
         let c = real-facts e in
-        let proper = sound-proper validWord (hashOf a p g) f page c s m in
+        let proper = sound-proper validWord (hashOf p g) f page c s m in
         let stands = c .here s m in
         let stays =
         rw (zero-add page) at
-        (first-below (hashOf a p g) 0 page (f .separators) (s .number) (omega (arith, sized .ofSeparators)) (stands ∙ sym (zero-add page))) in
+        (first-below (hashOf p g) 0 page (f .separators) (s .number) (omega (arith, sized .ofSeparators)) (stands ∙ sym (zero-add page))) in
         record {
           number = rw (le-leb 1 (s .number) (proper .0), le-leb (s .number) greatest (proper .1));
           word = proper .2;
           named = stands;
-          homed = below-home (hashOf a p g) page (getD (f .separators) page 0) (s .number) stays;
-          below = below-signature (hashOf a p g) page (getD (f .separators) page 0) (s .number) stays;
+          homed = below-home (hashOf p g) page (getD (f .separators) page 0) (s .number) stays;
+          below = below-signature (hashOf p g) page (getD (f .separators) page 0) (s .number) stays;
         }
 
     -- place i
     module _ (i : ℕ) (h : i < p .places) where
-      pub item-on : ItemOn a p g f page (getD (f .numbers) (page * p .places + i) 0) (getD (f .words) (page * p .places + i) 0)
+      pub item-on : ItemOn p g f page (getD (f .numbers) (page * p .places + i) 0) (getD (f .words) (page * p .places + i) 0)
       unfolding starsAt hashOf
       item-on =
           rw (← part-item (p .places) page (f .numbers) i h, ← part-item (p .places) page (f .words) i h)
@@ -181,12 +181,12 @@ module _ (a : ℕ) (p : Parameters) (g : Growth) (f : File) (page : ℕ) where
           inOrder : orderly validWord 0 ns ws ≡ true
           inOrder = real-facts e .inOrder
 
-          star : (getD ns i 0 ≡ 0 → ⊥) → StarOn a p g f page (getD ns i 0) (getD ws i 0)
+          star : (getD ns i 0 ≡ 0 → ⊥) → StarOn p g f page (getD ns i 0) (getD ws i 0)
           star s =
               star-on (record { number = getD ns i 0; word = getD ws i 0 })
               (item-star ns ws i (omega (arith, part-length (p .places) page (f .words) (page-fits (p .places) (p .pages) page inside (sized .ofWords)))) s)
 
-          go : (t : Bool) → eqb (getD ns i 0) 0 ≡ t → cond t 0 (home a p g (getD ns i 0)) ≤ page
+          go : (t : Bool) → eqb (getD ns i 0) 0 ≡ t → cond t 0 (home (multiplierOf p) p g (getD ns i 0)) ≤ page
           go true z = omega arith
           go false z = star (eqb-false (getD ns i 0) 0 z) .homed
 
@@ -199,8 +199,8 @@ module _ (a : ℕ) (p : Parameters) (g : Growth) (f : File) (page : ℕ) where
         (items-rise validWord 0 (part (p .places) page (f .numbers)) (part (p .places) page (f .words)) (real-facts e .inOrder) i j h)
 
     -- the homes that a survey keeps
-    pub homes-on : (i : ℕ) → i < p .places → getD (homesOf a p g (part (p .places) page (f .numbers))) i 0 ≤ page
+    pub homes-on : (i : ℕ) → i < p .places → getD (homesOf p g (part (p .places) page (f .numbers))) i 0 ≤ page
     unfolding homesOf
     homes-on i h =
-        rw (List·getD-map (homeIn a p g) (part (p .places) page (f .numbers)) i 0, part-item (p .places) page (f .numbers) i h)
+        rw (List·getD-map (homeIn p g) (part (p .places) page (f .numbers)) i 0, part-item (p .places) page (f .numbers) i h)
         (item-on i h .homed)

@@ -5,41 +5,46 @@ use Prim.Native.Nat.{ℕ, _+_, _-_}
 use lib.Dec.{eqb}
 use Rattle.hashing.specs.declared.Parameters.{Parameters}
 use Rattle.hashing.specs.declared.Growth.{Growth}
-use Rattle.hashing.specs.Generator.{signature, topOf}
+use Rattle.hashing.specs.Generator.{multiplierOf, signature, topOf}
 use Rattle.hashing.specs.Home.{home}
 use Rattle.pages.specs.Position.{validWord}
 use Rattle.placement.specs.Rule.{Hash, first}
 use Rattle.placement.specs.File.{File, sound}
 
 -- "used on the t-th page probed, t = 1 at home": page − home + 1, wherever a stretch begins.
-unfoldable pub hashOf : ℕ → Parameters → Growth → Hash
-hashOf a p g =
+unfoldable pub hashOf : Parameters → Growth → Hash
+hashOf p g =
     record {
-      home = home a p g;
-      signature = λ k page. signature a (p .bits) k (page - home a p g k + 1);
+      home = home (multiplierOf p) p g;
+      signature = λ k page. signature (multiplierOf p) (p .bits) k (page - home (multiplierOf p) p g k + 1);
       top = topOf (p .bits);
       room = p .places;
     }
 
 -- The same for a number whose home is known.
-unfoldable pub hashFrom : ℕ → ℕ → ℕ → Hash
-hashFrom a bits from =
-    record { home = λ k. from; signature = λ k page. signature a bits k (page - from + 1); top = topOf bits; room = 0 }
+unfoldable pub hashFrom : Parameters → ℕ → Hash
+hashFrom p from =
+    record {
+      home = λ k. from;
+      signature = λ k page. signature (multiplierOf p) (p .bits) k (page - from + 1);
+      top = topOf (p .bits);
+      room = p .places;
+    }
 
 -- "A page is sound if".
-unfoldable pub soundAt : ℕ → Parameters → Growth → File → ℕ → Bool
-soundAt a p g f page = sound validWord (hashOf a p g) f page
+unfoldable pub soundAt : Parameters → Growth → File → ℕ → Bool
+soundAt p g f page = sound validWord (hashOf p g) f page
 
 -- "The page the separators name", M if none is named.
-unfoldable pub namedPage : ℕ → Parameters → Growth → List ℕ → ℕ → ℕ
-namedPage a p g seps k = first (hashOf a p g) 0 seps k
+unfoldable pub namedPage : Parameters → Growth → List ℕ → ℕ → ℕ
+namedPage p g seps k = first (hashOf p g) 0 seps k
 
 -- The homes of a page's numbers, 0 for an empty place.
-abbrev pub homeIn : ℕ → Parameters → Growth → ℕ → ℕ
-homeIn a p g n = cond (eqb n 0) 0 (home a p g n)
+abbrev pub homeIn : Parameters → Growth → ℕ → ℕ
+homeIn p g n = cond (eqb n 0) 0 (home (multiplierOf p) p g n)
 
-unfoldable pub homesOf : ℕ → Parameters → Growth → List ℕ → List ℕ
-homesOf a p g ns = map (homeIn a p g) ns
+unfoldable pub homesOf : Parameters → Growth → List ℕ → List ℕ
+homesOf p g ns = map (homeIn p g) ns
 
 -- The lent file buffers by their contents.
 abbrev pub lent : List ℕ → List ℕ → List ℕ → File

@@ -15,27 +15,27 @@ use Rattle.placement.specs.Hash.{namedPage, homeIn}
 use Rattle.placement.specs.declared.soundness.Item.{Item}
 
 -- The items after the number `last` are in order, and each star stands on this page.
-unfoldable pub admits : ℕ → Parameters → Growth → List ℕ → ℕ → ℕ → List ℕ → List ℕ → Bool
-admits a p g seps page last ns ws =
-    orderly validWord last ns ws && every (λ (s : Star). eqb (namedPage a p g seps (s .number)) page) (starsOf ns ws)
+unfoldable pub admits : Parameters → Growth → List ℕ → ℕ → ℕ → List ℕ → List ℕ → Bool
+admits p g seps page last ns ws =
+    orderly validWord last ns ws && every (λ (s : Star). eqb (namedPage p g seps (s .number)) page) (starsOf ns ws)
 
 -- A page is sound, by its numbers and words.
-unfoldable pub soundIn : ℕ → Parameters → Growth → List ℕ → ℕ → List ℕ → List ℕ → Bool
-soundIn a p g seps page ns ws = leb (getD seps page 0) (topOf (p .bits)) && admits a p g seps page 0 ns ws
+unfoldable pub soundIn : Parameters → Growth → List ℕ → ℕ → List ℕ → List ℕ → Bool
+soundIn p g seps page ns ws = leb (getD seps page 0) (topOf (p .bits)) && admits p g seps page 0 ns ws
 
 -- The same of one item: an empty place has the word 0; a star's number is above `last` and in range, its word is valid.
-unfoldable pub admitsItem : ℕ → Parameters → Growth → List ℕ → ℕ → ℕ → ℕ → ℕ → Bool
-admitsItem a p g seps page last n w =
+unfoldable pub admitsItem : Parameters → Growth → List ℕ → ℕ → ℕ → ℕ → ℕ → Bool
+admitsItem p g seps page last n w =
     cond (eqb n 0)
     (eqb w 0)
-    (ltb last n && (leb n greatest && (validWord w && eqb (namedPage a p g seps n) page)))
+    (ltb last n && (leb n greatest && (validWord w && eqb (namedPage p g seps n) page)))
 
 -- What the next number must exceed: after an empty place no number is taken.
 abbrev pub lastAfter : ℕ → ℕ
 lastAfter n = cond (eqb n 0) greatest n
 
 -- What is told of an item.
-pub record Admitted (a : ℕ) (p : Parameters) (g : Growth) (seps : List ℕ) (page low n w : ℕ) (r : Item) : Type 0 where
-  pub sound : r .sound ≡ admitsItem a p g seps page low n w
-  pub home : r .sound ≡ true → r .home ≡ homeIn a p g n
+pub record Admitted (p : Parameters) (g : Growth) (seps : List ℕ) (page low n w : ℕ) (r : Item) : Type 0 where
+  pub sound : r .sound ≡ admitsItem p g seps page low n w
+  pub home : r .sound ≡ true → r .home ≡ homeIn p g n
   pub last : r .sound ≡ true → r .last ≡ lastAfter n

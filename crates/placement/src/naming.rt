@@ -4,12 +4,13 @@ ghost use mathlib.Core.Bool.{true};
 ghost use Prim.Native.Nat.{_≤_, _<_};
 ghost use lib.Dec.{eqb};
 ghost use lib.ListN.{length, take};
-ghost use Rattle.hashing.specs.Generator.{multiplier, multipliers};
+ghost use Rattle.hashing.specs.Generator.{multiplierOf, multipliers};
 ghost use Rattle.hashing.specs.Home.{home as Home·home};
 ghost use Rattle.hashing.specs.Limits.{validParameters, validGrowth};
 ghost use Rattle.placement.specs.Rule.{first};
 ghost use Rattle.placement.specs.Hash.{hashFrom, namedPage};
 use hashing::Geometry;
+use hashing::Parameters;
 
 // A number's home, and whether the page asked about is the one that the separators name.
 pub struct Standing {
@@ -22,12 +23,12 @@ pub fn named_page(table: &[u32; 2049], geometry: Geometry, separators: &[u8], nu
     requires { ⌜ validParameters (geometry .parameters) ≡ true ⌝ }
     requires { ⌜ validGrowth (geometry .parameters) (geometry .growth) ≡ true ⌝ }
     requires { ⌜ length (now separators) ≡ geometry .parameters .pages ⌝ }
-    ensures { λ r. ⌜ r ≡ namedPage multiplier (geometry .parameters) (geometry .growth) (now (separators .entry)) number ⌝ }
+    ensures { λ r. ⌜ r ≡ namedPage (geometry .parameters) (geometry .growth) (now (separators .entry)) number ⌝ }
 {
     let home = hashing::home(table, geometry, number) as usize;
     probe(
         table,
-        geometry.parameters.bits,
+        geometry.parameters,
         separators,
         number,
         home,
@@ -38,21 +39,23 @@ pub fn named_page(table: &[u32; 2049], geometry: Geometry, separators: &[u8], nu
 // Probes the pages from home upward to the one before `stop`: one signature for each.
 fn probe(
     table: &[u32; 2049],
-    bits: u32,
+    parameters: Parameters,
     separators: &[u8],
     number: u32,
     home: usize,
     stop: usize,
 ) -> usize
     requires { ⌜ now table ≡ multipliers ⌝ }
-    requires { ⌜ (1 ≤ bits) × (bits ≤ 8) ⌝ }
+    requires { ⌜ validParameters parameters ≡ true ⌝ }
     requires { ⌜ (home ≤ stop) × (stop ≤ 1024) ⌝ }
     requires { ⌜ stop ≤ length (now separators) ⌝ }
-    ensures { λ r. ⌜ r ≡ first (hashFrom multiplier bits home) 0 (take stop (now (separators .entry))) number ⌝ }
+    ensures { λ r. ⌜ r ≡ first (hashFrom parameters home) 0 (take stop (now (separators .entry))) number ⌝ }
 {
     let mut page = home;
     while page < stop {
-        if hashing::signature(table, bits, number, page - home + 1) < separators[page] as u32 {
+        if hashing::signature(table, parameters.bits, number, page - home + 1)
+            < separators[page] as u32
+        {
             return page;
         }
         page += 1;
@@ -73,8 +76,8 @@ pub fn stands_on(
     requires { ⌜ validGrowth (geometry .parameters) (geometry .growth) ≡ true ⌝ }
     requires { ⌜ length (now separators) ≡ geometry .parameters .pages ⌝ }
     requires { ⌜ page < geometry .parameters .pages ⌝ }
-    ensures { λ r. ⌜ r .here ≡ eqb (namedPage multiplier (geometry .parameters) (geometry .growth) (now (separators .entry)) number) page ⌝ }
-    ensures { λ r. ⌜ r .home ≡ Home·home multiplier (geometry .parameters) (geometry .growth) number ⌝ }
+    ensures { λ r. ⌜ r .here ≡ eqb (namedPage (geometry .parameters) (geometry .growth) (now (separators .entry)) number) page ⌝ }
+    ensures { λ r. ⌜ r .home ≡ Home·home (multiplierOf (geometry .parameters)) (geometry .parameters) (geometry .growth) number ⌝ }
 {
     let home = hashing::home(table, geometry, number);
     let lowest = home as usize;
@@ -83,7 +86,7 @@ pub fn stands_on(
     }
     let found = probe(
         table,
-        geometry.parameters.bits,
+        geometry.parameters,
         separators,
         number,
         lowest,

@@ -5,7 +5,7 @@ ghost use Prim.Native.Nat.{_+_, _*_, _≤_, _<_};
 ghost use lib.Dec.{leb, ltb};
 ghost use lib.ListN.{length, getD, take};
 ghost use lib.Seq.{paste};
-ghost use Rattle.hashing.specs.Generator.{multiplier, multipliers, topOf};
+ghost use Rattle.hashing.specs.Generator.{multipliers, topOf};
 ghost use Rattle.hashing.specs.Limits.{validParameters, validGrowth};
 ghost use Rattle.pages.specs.Position.{validWord};
 ghost use Rattle.pages.specs.Page.{part};
@@ -44,8 +44,8 @@ pub fn page_sound(
     requires { ⌜ validGrowth (geometry .parameters) (geometry .growth) ≡ true ⌝ }
     requires { ⌜ length (now separators) ≡ geometry .parameters .pages ⌝ }
     requires { ⌜ page < geometry .parameters .pages ⌝ }
-    ensures { λ r. ⌜ r .sound ≡ soundIn multiplier (geometry .parameters) (geometry .growth) (now (separators .entry)) page (take (geometry .parameters .places) (value .numbers)) (take (geometry .parameters .places) (value .words)) ⌝ }
-    ensures { λ r. ⌜ (r .sound ≡ true → take (geometry .parameters .places) (r .homes) ≡ homesOf multiplier (geometry .parameters) (geometry .growth) (take (geometry .parameters .places) (value .numbers))) ⌝ }
+    ensures { λ r. ⌜ r .sound ≡ soundIn (geometry .parameters) (geometry .growth) (now (separators .entry)) page (take (geometry .parameters .places) (value .numbers)) (take (geometry .parameters .places) (value .words)) ⌝ }
+    ensures { λ r. ⌜ (r .sound ≡ true → take (geometry .parameters .places) (r .homes) ≡ homesOf (geometry .parameters) (geometry .growth) (take (geometry .parameters .places) (value .numbers))) ⌝ }
 {
     let places = geometry.parameters.places as usize;
     let mut homes = [0u32; 32];
@@ -102,7 +102,7 @@ fn admitted(
     requires { ⌜ validGrowth (geometry .parameters) (geometry .growth) ≡ true ⌝ }
     requires { ⌜ length (now separators) ≡ geometry .parameters .pages ⌝ }
     requires { ⌜ page < geometry .parameters .pages ⌝ }
-    ensures { λ r. ⌜ Admitted multiplier (geometry .parameters) (geometry .growth) (now (separators .entry)) page last number word r ⌝ }
+    ensures { λ r. ⌜ Admitted (geometry .parameters) (geometry .growth) (now (separators .entry)) page last number word r ⌝ }
 {
     if number == 0 {
         return Item {
@@ -156,8 +156,8 @@ pub fn survey(
     requires { ⌜ page * geometry .parameters .places + geometry .parameters .places ≤ length (now numbers) ⌝ }
     requires { ⌜ page * geometry .parameters .places + geometry .parameters .places ≤ length (now words) ⌝ }
     requires { ⌜ page * geometry .parameters .places + geometry .parameters .places ≤ length (now homes) ⌝ }
-    ensures { λ r. ⌜ r ≡ soundAt multiplier (geometry .parameters) (geometry .growth) (lent (now (separators .entry)) (now (numbers .entry)) (now (words .entry))) page ⌝ }
-    ensures { λ r. ⌜ (r ≡ true → now (homes .exit) ≡ paste (now (homes .entry)) (page * geometry .parameters .places) (homesOf multiplier (geometry .parameters) (geometry .growth) (part (geometry .parameters .places) page (now (numbers .entry)))) (geometry .parameters .places)) ⌝ }
+    ensures { λ r. ⌜ r ≡ soundAt (geometry .parameters) (geometry .growth) (lent (now (separators .entry)) (now (numbers .entry)) (now (words .entry))) page ⌝ }
+    ensures { λ r. ⌜ (r ≡ true → now (homes .exit) ≡ paste (now (homes .entry)) (page * geometry .parameters .places) (homesOf (geometry .parameters) (geometry .growth) (part (geometry .parameters .places) page (now (numbers .entry)))) (geometry .parameters .places)) ⌝ }
 {
     let places = geometry.parameters.places as usize;
     let value = pages::page::load(numbers, words, places, page);

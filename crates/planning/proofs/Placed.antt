@@ -11,7 +11,6 @@ use lib.Seq.{paste, take-at, drop-at, length-take-le, drop-append-le, take-appen
 use borrow.Author.Tests.{eq-eqb, le-leb}
 use Rattle.hashing.specs.declared.Parameters.{Parameters}
 use Rattle.hashing.specs.declared.Growth.{Growth}
-use Rattle.hashing.specs.Generator.{multiplier}
 use Rattle.hashing.specs.Home.{home}
 use Rattle.placement.specs.Rule.{Star, Hash, Contents, pages, left, insert, without, separators}
 use Rattle.placement.specs.File.{File, gathered, column, written, replaced}
@@ -35,11 +34,11 @@ use Rattle.planning.proofs.Stretch.{plans-roomy, length-plans}
 use Rattle.planning.proofs.Blocks.{from, plans-blocks}
 
 -- document 01's hash probes as the words do
-pub probes-real : (p : Parameters) (g : Growth) → Probes (hashOf multiplier p g) (p .bits) (p .places)
+pub probes-real : (p : Parameters) (g : Growth) → Probes (hashOf p g) (p .bits) (p .places)
 unfolding hashOf
 probes-real p g = record { signatures = λ k page. refl; top = refl; room-is = refl }
 
-pub homes-real : (p : Parameters) (g : Growth) (ns : List ℕ) → homesOf multiplier p g ns ≡ map (itemHome (hashOf multiplier p g)) ns
+pub homes-real : (p : Parameters) (g : Growth) (ns : List ℕ) → homesOf p g ns ≡ map (itemHome (hashOf p g)) ns
 unfolding hashOf homesOf itemHome
 homes-real p g ns = refl
 
@@ -249,14 +248,14 @@ applied-layout bits places lo n newnumber newword f w l pool planned W r A sw sl
 
 -- the homes that a survey leaves in the pool
 pub surveyed-homes : (p : Parameters) (g : Growth) (places lo n : ℕ) (hs ns : List ℕ) → (lo + n) * places ≤ length hs → (lo + n) * places ≤ length ns
-    → stretch places lo n (paste hs (lo * places) (homesOf multiplier p g (drop (lo * places) ns)) (n * places)) ≡ map (itemHome (hashOf multiplier p g)) (stretch places lo n ns)
+    → stretch places lo n (paste hs (lo * places) (homesOf p g (drop (lo * places) ns)) (n * places)) ≡ map (itemHome (hashOf p g)) (stretch places lo n ns)
 surveyed-homes p g places lo n hs ns hh hn =
-    let items : List ℕ = map (itemHome (hashOf multiplier p g)) (drop (lo * places) ns) in
-    let long : n * places ≤ length items = rw (length-map (drop (lo * places) ns) (itemHome (hashOf multiplier p g)), length-drop (lo * places) ns) (omega (arith, add-mul lo n places)) in
+    let items : List ℕ = map (itemHome (hashOf p g)) (drop (lo * places) ns) in
+    let long : n * places ≤ length items = rw (length-map (drop (lo * places) ns) (itemHome (hashOf p g)), length-drop (lo * places) ns) (omega (arith, add-mul lo n places)) in
     ap (λ (l : List ℕ). stretch places lo n (paste hs (lo * places) l (n * places))) (homes-real p g (drop (lo * places) ns))
     ∙ ap (stretch places lo n) (paste-written hs (lo * places) items (n * places) long)
     ∙ stretch-written places lo n (take (n * places) items) hs (length-take-le (n * places) items long) (omega (arith, add-mul lo n places))
-    ∙ map-take (itemHome (hashOf multiplier p g)) (n * places) (drop (lo * places) ns)
+    ∙ map-take (itemHome (hashOf p g)) (n * places) (drop (lo * places) ns)
 
 -- the words of two stretches, one after the other
 pub stretch-words-add : (places lo n m k : ℕ) (ns hs : List ℕ) → (lo + n) * places ≤ length ns → (lo + n) * places ≤ length hs

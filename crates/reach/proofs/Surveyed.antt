@@ -10,7 +10,6 @@ use lib.ListN.{length, take, drop, length-drop, length-map}
 use lib.Seq.{paste, paste-zero, length-paste, take-take, drop-drop}
 use Rattle.hashing.specs.declared.Parameters.{Parameters}
 use Rattle.hashing.specs.declared.Growth.{Growth}
-use Rattle.hashing.specs.Generator.{multiplier}
 use Rattle.pages.specs.Page.{part}
 use Rattle.placement.specs.File.{File, Sized}
 use Rattle.placement.specs.Hash.{soundAt, homesOf, homeIn}
@@ -20,11 +19,11 @@ use Rattle.reach.proofs.Pastes.{paste-more, map-take, map-drop}
 
 -- the page is unsound
 abbrev pub unsound : Parameters → Growth → File → ℕ → Bool
-unsound p g f q = not (soundAt multiplier p g f q)
+unsound p g f q = not (soundAt p g f q)
 
 -- the homes of the items from a page on
 abbrev pub homesFrom : Parameters → Growth → File → ℕ → List ℕ
-homesFrom p g f from = homesOf multiplier p g (drop (from * p .places) (f .numbers))
+homesFrom p g f from = homesOf p g (drop (from * p .places) (f .numbers))
 
 -- the pages from `from` up to the one before `page` are sound, and their homes are kept
 pub record Surveyed (p : Parameters) (g : Growth) (f : File) (before : List ℕ) (from n : ℕ) (homes : List ℕ) (page : ℕ) : Type 0 where
@@ -58,24 +57,24 @@ module _ (p : Parameters) (g : Growth) (f : File) (before : List ℕ) (from n : 
   within : page * p .places + p .places ≤ p .pages * p .places
   within = omega (arith, suc-mul page (p .places), mul-le-mul-right {m = suc page} {n = p .pages} (p .places) (omega arith))
 
-  page-homes : take (p .places) (homesOf multiplier p g (part (p .places) page (f .numbers)))
+  page-homes : take (p .places) (homesOf p g (part (p .places) page (f .numbers)))
       ≡ take (p .places) (drop ((page - from) * p .places) (homesFrom p g f from))
   unfolding homesOf part
   page-homes =
-      rw (map-take (homeIn multiplier p g) (p .places) (take (p .places) (drop (page * p .places) (f .numbers))))
+      rw (map-take (homeIn p g) (p .places) (take (p .places) (drop (page * p .places) (f .numbers))))
       (rw (take-take (p .places) (p .places) (drop (page * p .places) (f .numbers)) (omega arith))
-      (rw (map-drop (homeIn multiplier p g) ((page - from) * p .places) (drop (from * p .places) (f .numbers)))
+      (rw (map-drop (homeIn p g) ((page - from) * p .places) (drop (from * p .places) (f .numbers)))
       (rw (drop-drop ((page - from) * p .places) (from * p .places) (f .numbers), ahead)
-      (sym (map-take (homeIn multiplier p g) (p .places) (drop (page * p .places) (f .numbers)))))))
+      (sym (map-take (homeIn p g) (p .places) (drop (page * p .places) (f .numbers)))))))
 
   long-enough : (page - from) * p .places ≤ length (homesFrom p g f from)
   unfolding homesOf
   long-enough =
-      rw (length-map (drop (from * p .places) (f .numbers)) (homeIn multiplier p g), length-drop (from * p .places) (f .numbers))
+      rw (length-map (drop (from * p .places) (f .numbers)) (homeIn p g), length-drop (from * p .places) (f .numbers))
       (omega (arith, ahead, within, sized .ofNumbers))
 
-  pub surveyed-next : (after : List ℕ) → soundAt multiplier p g f page ≡ true
-      → after ≡ paste homes (page * p .places) (homesOf multiplier p g (part (p .places) page (f .numbers))) (p .places)
+  pub surveyed-next : (after : List ℕ) → soundAt p g f page ≡ true
+      → after ≡ paste homes (page * p .places) (homesOf p g (part (p .places) page (f .numbers))) (p .places)
       → length after ≡ length homes
       → Surveyed p g f before from n after (page + 1)
   unfolding homesOf
@@ -86,12 +85,12 @@ module _ (p : Parameters) (g : Growth) (f : File) (before : List ℕ) (from n : 
         kept =
             h
             ∙ (rw (s .kept, ← ahead)
-            (paste-more before (from * p .places) (homesFrom p g f from) ((page - from) * p .places) (homesOf multiplier p g (part (p .places) page (f .numbers))) (p .places) (omega (arith, ahead, within)) long-enough page-homes
+            (paste-more before (from * p .places) (homesFrom p g f from) ((page - from) * p .places) (homesOf p g (part (p .places) page (f .numbers))) (p .places) (omega (arith, ahead, within)) long-enough page-homes
             ∙ rw more));
       }
 
 pub surveyed-fails : (p : Parameters) (g : Growth) (f : File) (before : List ℕ) (from n : ℕ) (homes : List ℕ) (page : ℕ) → Surveyed p g f before from n homes page
-    → page < from + n → soundAt multiplier p g f page ≡ false → page ≡ firstUnsound p g f from n
+    → page < from + n → soundAt p g f page ≡ false → page ≡ firstUnsound p g f from n
 unfolding firstUnsound
 surveyed-fails p g f before from n homes page s h e = sought-found (unsound p g f) from n page (s .sought) h (ap not e)
 

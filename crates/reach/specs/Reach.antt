@@ -9,7 +9,6 @@ use Rattle.hashing.specs.declared.Growth.{Growth}
 use Rattle.placement.specs.Rule.{Star, Hash, Contents, left, insert}
 use Rattle.placement.specs.File.{File, gathered}
 use Rattle.placement.specs.Hash.{soundAt}
-use Rattle.hashing.specs.Generator.{multiplier}
 
 -- the first number that passes the test, of the n from `from` on; the one past them if there is none
 unfoldable pub firstSuch : (ℕ → Bool) → ℕ → ℕ → ℕ
@@ -51,7 +50,7 @@ entryEnd H m f s =
 
 -- "pages of the reach, or all pages, upward, each as it is reached": the first unsound one of n, the page past them if there is none
 unfoldable pub firstUnsound : Parameters → Growth → File → ℕ → ℕ → ℕ
-firstUnsound p g f from n = firstSuch (λ (q : ℕ). not (soundAt multiplier p g f q)) from n
+firstUnsound p g f from n = firstSuch (λ (q : ℕ). not (soundAt p g f q)) from n
 
 unfoldable pub hasNumber : ℕ → List Star → Bool
 hasNumber k [] = false

@@ -4,7 +4,7 @@ ghost use mathlib.Core.Bool.{true};
 ghost use Prim.Native.Nat.{_+_, _-_, _*_, _≤_, _<_};
 ghost use lib.ListN.{length, drop};
 ghost use lib.Seq.{paste};
-ghost use Rattle.hashing.specs.Generator.{multiplier, multipliers};
+ghost use Rattle.hashing.specs.Generator.{multipliers};
 ghost use Rattle.hashing.specs.Limits.{validParameters, validGrowth};
 ghost use Rattle.placement.specs.File.{Sized};
 ghost use Rattle.placement.specs.Hash.{homesOf, lent};
@@ -30,7 +30,7 @@ pub fn survey_pages(
     requires { ⌜ from ≤ stop ⌝ }
     requires { ⌜ stop ≤ geometry .parameters .pages ⌝ }
     ensures { λ r. ⌜ r ≡ firstUnsound (geometry .parameters) (geometry .growth) (lent (now (separators .entry)) (now (numbers .entry)) (now (words .entry))) from (stop - from) ⌝ }
-    ensures { λ r. ⌜ (r ≡ stop → now (homes .exit) ≡ paste (now (homes .entry)) (from * geometry .parameters .places) (homesOf multiplier (geometry .parameters) (geometry .growth) (drop (from * geometry .parameters .places) (now (numbers .entry)))) ((stop - from) * geometry .parameters .places)) ⌝ }
+    ensures { λ r. ⌜ (r ≡ stop → now (homes .exit) ≡ paste (now (homes .entry)) (from * geometry .parameters .places) (homesOf (geometry .parameters) (geometry .growth) (drop (from * geometry .parameters .places) (now (numbers .entry)))) ((stop - from) * geometry .parameters .places)) ⌝ }
 {
     let mut page = from;
     while page < stop {

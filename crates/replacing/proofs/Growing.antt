@@ -11,7 +11,6 @@ use lib.Seq.{paste, take-all, drop-length}
 use borrow.Author.Tests.{lt-ltb, le-ltb, ne-eqb}
 use Rattle.hashing.specs.declared.Parameters.{Parameters}
 use Rattle.hashing.specs.declared.Growth.{Growth}
-use Rattle.hashing.specs.Generator.{multiplier}
 use Rattle.hashing.specs.Geometry.{pageCount, grown}
 use Rattle.hashing.specs.Limits.{validParameters, validGrowth}
 use Rattle.hashing.proofs.Laws.{grown-valid}
@@ -47,35 +46,35 @@ whole d s n ed es =
 
 -- the first i items have their homes under the growth state `next`
 abbrev pub Rehomed : Parameters → Growth → Growth → List ℕ → List ℕ → ℕ → Type 0
-Rehomed p g next ns homes i = Copied (homesOf multiplier p g ns) 0 (homesOf multiplier p next ns) homes i
+Rehomed p g next ns homes i = Copied (homesOf p g ns) 0 (homesOf p next ns) homes i
 
 module _ (p : Parameters) (g next : Growth) (ns homes : List ℕ) (i : ℕ) (R : Rehomed p g next ns homes i) where
   pub homes-long : length homes ≡ length ns
   unfolding homesOf
-  homes-long = R .kept ∙ length-map ns (homeIn multiplier p g)
+  homes-long = R .kept ∙ length-map ns (homeIn p g)
 
-  pub home-there : i < length ns → getD homes i 0 ≡ homeIn multiplier p g (getD ns i 0)
+  pub home-there : i < length ns → getD homes i 0 ≡ homeIn p g (getD ns i 0)
   unfolding homesOf
   home-there h =
       rw (zero-add i) at
-      (unread (homesOf multiplier p g ns) 0 (homesOf multiplier p next ns) homes i
-      (omega (arith, length-map ns (homeIn multiplier p g))) (omega (arith, length-map ns (homeIn multiplier p next))) R)
-      ∙ List·getD-map (homeIn multiplier p g) ns i 0
+      (unread (homesOf p g ns) 0 (homesOf p next ns) homes i
+      (omega (arith, length-map ns (homeIn p g))) (omega (arith, length-map ns (homeIn p next))) R)
+      ∙ List·getD-map (homeIn p g) ns i 0
 
-  pub rehomed-next : (x : ℕ) → i < length ns → x ≡ homeIn multiplier p next (getD ns i 0) → Rehomed p g next ns (set homes i x) (i + 1)
+  pub rehomed-next : (x : ℕ) → i < length ns → x ≡ homeIn p next (getD ns i 0) → Rehomed p g next ns (set homes i x) (i + 1)
   unfolding homesOf
   rehomed-next x h e =
       rw (zero-add i) at
-      (turn (homesOf multiplier p g ns) 0 (homesOf multiplier p next ns) homes i x
-      (omega (arith, length-map ns (homeIn multiplier p g))) (omega (arith, length-map ns (homeIn multiplier p next)))
-      (e ∙ sym (List·getD-map (homeIn multiplier p next) ns i 0)) R)
+      (turn (homesOf p g ns) 0 (homesOf p next ns) homes i x
+      (omega (arith, length-map ns (homeIn p g))) (omega (arith, length-map ns (homeIn p next)))
+      (e ∙ sym (List·getD-map (homeIn p next) ns i 0)) R)
 
-  pub rehomed-all : i ≡ length ns → homes ≡ homesOf multiplier p next ns
+  pub rehomed-all : i ≡ length ns → homes ≡ homesOf p next ns
   unfolding homesOf
   rehomed-all e =
       R .is
-      ∙ whole (homesOf multiplier p g ns) (homesOf multiplier p next ns) i
-      (length-map ns (homeIn multiplier p g) ∙ sym e) (length-map ns (homeIn multiplier p next) ∙ sym e)
+      ∙ whole (homesOf p g ns) (homesOf p next ns) i
+      (length-map ns (homeIn p g) ∙ sym e) (length-map ns (homeIn p next) ∙ sym e)
 
 -- ---- the file
 
@@ -92,23 +91,23 @@ module _ (p : Parameters) (g : Growth) (f : File) (valid : validParameters p ≡
   module _ (bad : ℕ) (survey : bad ≡ firstUnsound p g f 0 (p .pages - 0)) (past : p .pages ≤ bad) where
     -- .. and left their homes in the pool
     pub surveyed-all : (pool pool′ : List ℕ) → length pool ≡ p .pages * p .places
-        → (bad ≡ p .pages → pool′ ≡ paste pool (0 * p .places) (homesOf multiplier p g (drop (0 * p .places) (f .numbers))) ((p .pages - 0) * p .places))
-        → pool′ ≡ homesOf multiplier p g (f .numbers)
+        → (bad ≡ p .pages → pool′ ≡ paste pool (0 * p .places) (homesOf p g (drop (0 * p .places) (f .numbers))) ((p .pages - 0) * p .places))
+        → pool′ ≡ homesOf p g (f .numbers)
     unfolding homesOf firstUnsound
     surveyed-all pool pool′ size homes =
         homes (omega (arith, such (unsound p g f) 0 (p .pages - 0) .high))
         ∙ rw (sub-zero (p .pages), zero-mul (p .places))
-        (whole pool (homesOf multiplier p g (f .numbers)) (p .pages * p .places) size (length-map (f .numbers) (homeIn multiplier p g) ∙ sized .ofNumbers))
+        (whole pool (homesOf p g (f .numbers)) (p .pages * p .places) size (length-map (f .numbers) (homeIn p g) ∙ sized .ofNumbers))
 
     sound-pages : 0 + p .pages ≤ firstUnsound p g f 0 (p .pages)
     sound-pages =
         let is : bad ≡ firstUnsound p g f 0 (p .pages) = rw (sub-zero (p .pages)) at survey in
         omega arith
 
-    module _ (grows : validGrowth p g ≡ true) (more : pageCount p g < p .pages) (pool : List ℕ) (e : pool ≡ homesOf multiplier p (grown p g) (f .numbers)) where
+    module _ (grows : validGrowth p g ≡ true) (more : pageCount p g < p .pages) (pool : List ℕ) (e : pool ≡ homesOf p (grown p g) (f .numbers)) where
       size : length pool ≡ p .pages * p .places
       unfolding homesOf
-      size = ap length e ∙ length-map (f .numbers) (homeIn multiplier p (grown p g)) ∙ sized .ofNumbers
+      size = ap length e ∙ length-map (f .numbers) (homeIn p (grown p g)) ∙ sized .ofNumbers
 
       below : allBelow (2 ^ 31) (stretch (p .places) 0 (p .pages) (f .numbers)) ≡ true
       below = numbers-below p f valid sized 0 (p .pages) (omega arith) g (all-sound p g f 0 (p .pages) sound-pages)
@@ -126,7 +125,7 @@ module _ (p : Parameters) (g : Growth) (f : File) (valid : validParameters p ≡
         where
           go : (t : Bool) → cond t 0 (hash p (grown p g) .home x) < 0 + p .pages
           go true = omega arith
-          go false = omega (arith, homed-real multiplier p (grown p g) valid (grown-valid p g valid grows more) x)
+          go false = omega (arith, homed-real p (grown p g) valid (grown-valid p g valid grows more) x)
 
       within : allBelow (0 + p .pages) (stretch (p .places) 0 (p .pages) pool) ≡ true
       unfolding itemHome

@@ -11,7 +11,6 @@ use lib.Seq.{paste, getD-take, getD-drop}
 use borrow.Author.Tests.{lt-ltb, not-false}
 use Rattle.hashing.specs.declared.Parameters.{Parameters}
 use Rattle.hashing.specs.declared.Growth.{Growth}
-use Rattle.hashing.specs.Generator.{multiplier}
 use Rattle.hashing.specs.Limits.{validParameters}
 use Rattle.hashing.proofs.Bounds.{limits}
 use Rattle.pages.specs.Position.{validWord}
@@ -37,13 +36,13 @@ all-below b [] t = refl
 all-below b (x ∷ l) t = all-cons (λ y. ltb y b) x l (lt-ltb x b (t 0 (omega arith))) (all-below b l (λ i h. t (suc i) (omega arith)))
 
 -- the stretch is sound where the first unsound page is past it
-pub all-sound : (p : Parameters) (g : Growth) (f : File) (lo n : ℕ) → lo + n ≤ firstUnsound p g f lo n → (q : ℕ) → lo ≤ q → q < lo + n → soundAt multiplier p g f q ≡ true
+pub all-sound : (p : Parameters) (g : Growth) (f : File) (lo n : ℕ) → lo + n ≤ firstUnsound p g f lo n → (q : ℕ) → lo ≤ q → q < lo + n → soundAt p g f q ≡ true
 unfolding firstUnsound
-all-sound p g f lo n h q a b = not-false (soundAt multiplier p g f q) (such (unsound p g f) lo n .before q a (omega arith))
+all-sound p g f lo n h q a b = not-false (soundAt p g f q) (such (unsound p g f) lo n .before q a (omega arith))
 
-pub real-sound : (p : Parameters) (g : Growth) (f : File) (lo n : ℕ) → ((q : ℕ) → lo ≤ q → q < lo + n → soundAt multiplier p g f q ≡ true)
-    → AllSound validWord (hashOf multiplier p g) f lo n
-real-sound p g f lo n sound q a b = real-facts multiplier p g f q (sound q a b)
+pub real-sound : (p : Parameters) (g : Growth) (f : File) (lo n : ℕ) → ((q : ℕ) → lo ≤ q → q < lo + n → soundAt p g f q ≡ true)
+    → AllSound validWord (hashOf p g) f lo n
+real-sound p g f lo n sound q a b = real-facts p g f q (sound q a b)
 
 module _ (p : Parameters) (f : File) (valid : validParameters p ≡ true) (sized : Sized (p .places) (p .pages) f) (lo n : ℕ) (inside : lo + n ≤ p .pages) where
   long : (lo + n) * p .places ≤ p .pages * p .places
@@ -52,10 +51,10 @@ module _ (p : Parameters) (f : File) (valid : validParameters p ≡ true) (sized
   count : length (stretch (p .places) lo n (f .numbers)) ≡ n * p .places
   count = length-stretch (p .places) lo n (f .numbers) (omega (arith, long, sized .ofNumbers))
 
-  module _ (g : Growth) (sound : (q : ℕ) → lo ≤ q → q < lo + n → soundAt multiplier p g f q ≡ true) where
+  module _ (g : Growth) (sound : (q : ℕ) → lo ≤ q → q < lo + n → soundAt p g f q ≡ true) where
     -- item i stands on page lo + i div b
     item : (i : ℕ) → i < n * p .places
-        → (getD (stretch (p .places) lo n (f .numbers)) i 0 ≤ greatest) × (homeIn multiplier p g (getD (stretch (p .places) lo n (f .numbers)) i 0) < lo + n)
+        → (getD (stretch (p .places) lo n (f .numbers)) i 0 ≤ greatest) × (homeIn p g (getD (stretch (p .places) lo n (f .numbers)) i 0) < lo + n)
     item i h =
         let places = p .places in
         let some : 0 < p .places = limits p valid .places-least in
@@ -64,19 +63,19 @@ module _ (p : Parameters) (f : File) (valid : validParameters p ≡ true) (sized
         let at : lo * p .places + i ≡ q * p .places + i % p .places = omega (arith, add-mul lo (i / p .places) (p .places), div-add-mod' i (p .places)) in
         let same : getD (stretch (p .places) lo n (f .numbers)) i 0 ≡ getD (f .numbers) (q * p .places + i % p .places) 0 =
         getD-take (n * p .places) (drop (lo * p .places) (f .numbers)) i 0 h ∙ getD-drop (lo * p .places) (f .numbers) i 0 ∙ ap (λ (j : ℕ). getD (f .numbers) j 0) at in
-        let there = item-on multiplier p g f q sized (omega arith) (sound q (omega arith) (omega arith)) (i % p .places) (mod-lt i some) in
+        let there = item-on p g f q sized (omega arith) (sound q (omega arith) (omega arith)) (i % p .places) (mod-lt i some) in
         rw same (there .most, omega (arith, there .homed))
 
     pub numbers-below : allBelow (2 ^ 31) (stretch (p .places) lo n (f .numbers)) ≡ true
     numbers-below = all-below (2 ^ 31) (stretch (p .places) lo n (f .numbers)) (λ i h. omega (arith, item i (rw count at h) .0))
 
-    pub homes-below : allBelow (lo + n) (map (itemHome (hashOf multiplier p g)) (stretch (p .places) lo n (f .numbers))) ≡ true
+    pub homes-below : allBelow (lo + n) (map (itemHome (hashOf p g)) (stretch (p .places) lo n (f .numbers))) ≡ true
     unfolding hashOf itemHome
     homes-below =
-        all-below (lo + n) (map (itemHome (hashOf multiplier p g)) (stretch (p .places) lo n (f .numbers)))
+        all-below (lo + n) (map (itemHome (hashOf p g)) (stretch (p .places) lo n (f .numbers)))
         (λ i h.
-        rw (List·getD-map (itemHome (hashOf multiplier p g)) (stretch (p .places) lo n (f .numbers)) i 0)
-        (item i (rw (length-map (stretch (p .places) lo n (f .numbers)) (itemHome (hashOf multiplier p g)), count) at h) .1))
+        rw (List·getD-map (itemHome (hashOf p g)) (stretch (p .places) lo n (f .numbers)) i 0)
+        (item i (rw (length-map (stretch (p .places) lo n (f .numbers)) (itemHome (hashOf p g)), count) at h) .1))
 
   module _ (some : 0 < n) (hs : List ℕ) (homes : length hs ≡ p .pages * p .places)
       (below : allBelow (2 ^ 31) (stretch (p .places) lo n (f .numbers)) ≡ true) (within : allBelow (lo + n) (stretch (p .places) lo n hs) ≡ true) where
@@ -118,8 +117,8 @@ module _ (p : Parameters) (f : File) (valid : validParameters p ≡ true) (sized
 -- a surveyed stretch, whose homes the pool holds
 module _ (p : Parameters) (g : Growth) (f : File) (valid : validParameters p ≡ true) (sized : Sized (p .places) (p .pages) f) (lo n : ℕ) (some : 0 < n) (inside : lo + n ≤ p .pages)
     (sound : lo + n ≤ firstUnsound p g f lo n) (pool pool′ : List ℕ) (size : length pool ≡ p .pages * p .places)
-    (e : pool′ ≡ paste pool (lo * p .places) (homesOf multiplier p g (drop (lo * p .places) (f .numbers))) (n * p .places)) where
-  surveyed : stretch (p .places) lo n pool′ ≡ map (itemHome (hashOf multiplier p g)) (stretch (p .places) lo n (f .numbers))
+    (e : pool′ ≡ paste pool (lo * p .places) (homesOf p g (drop (lo * p .places) (f .numbers))) (n * p .places)) where
+  surveyed : stretch (p .places) lo n pool′ ≡ map (itemHome (hashOf p g)) (stretch (p .places) lo n (f .numbers))
   surveyed =
       ap (stretch (p .places) lo n) e
       ∙ surveyed-homes p g (p .places) lo n pool (f .numbers)
@@ -134,5 +133,5 @@ module _ (p : Parameters) (g : Growth) (f : File) (valid : validParameters p ≡
   pub plannable-surveyed : (waiting : List ℕ) → length pool′ ≡ p .pages * p .places → length waiting ≡ p .pages * p .places → Plannable (p .bits) (p .places) lo n f pool′ waiting
   plannable-surveyed waiting ep ew = plannable-stretch p f valid sized lo n inside some pool′ ep below within waiting ew
 
-  pub ready-surveyed : length pool′ ≡ p .pages * p .places → Ready (hashOf multiplier p g) (p .places) lo n f pool′
-  ready-surveyed ep = ready-stretch p f valid sized lo n inside some pool′ ep below within (hashOf multiplier p g) surveyed
+  pub ready-surveyed : length pool′ ≡ p .pages * p .places → Ready (hashOf p g) (p .places) lo n f pool′
+  ready-surveyed ep = ready-stretch p f valid sized lo n inside some pool′ ep below within (hashOf p g) surveyed

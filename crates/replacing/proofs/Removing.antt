@@ -10,7 +10,7 @@ use lib.Seq.{paste}
 use borrow.Author.Tests.{lt-ltb, le-ltb}
 use Rattle.hashing.specs.declared.Parameters.{Parameters}
 use Rattle.hashing.specs.declared.Growth.{Growth}
-use Rattle.hashing.specs.Generator.{multiplier, topOf}
+use Rattle.hashing.specs.Generator.{topOf}
 use Rattle.hashing.specs.Limits.{validParameters, validGrowth}
 use Rattle.pages.specs.Position.{validWord}
 use Rattle.placement.specs.Rule.{Star, pages, left, without}
@@ -40,7 +40,7 @@ module _ (p : Parameters) (g : Growth) (f : File) (k : ℕ) where
       → last ≡ firstSuch (storedTop (f .separators) top) from (length (f .separators) - 1 - from) → Reached p g f k from last
   unfolding removalEnd hashOf
   reached valid grows sized from last top es et el =
-      let low : from < p .pages = rw es (homed-real multiplier p g valid grows k) in
+      let low : from < p .pages = rw es (homed-real p g valid grows k) in
       let found = such (storedTop (f .separators) top) from (length (f .separators) - 1 - from) in
       record {
         start = es;
@@ -72,7 +72,7 @@ module _ (p : Parameters) (g : Growth) (f : File) (k : ℕ) where
     module _ (valid : validParameters p ≡ true) (sized : Sized (p .places) (p .pages) f) (bad : ℕ) (survey : bad ≡ firstUnsound p g f from (last + 1 - from)) (past : last + 1 ≤ bad)
         (pool pool′ : List ℕ) (size : length pool ≡ p .pages * p .places) (size′ : length pool′ ≡ p .pages * p .places)
         (homes : bad ≡ last + 1
-        → pool′ ≡ paste pool (from * p .places) (homesOf multiplier p g (drop (from * p .places) (f .numbers))) ((last + 1 - from) * p .places)) where
+        → pool′ ≡ paste pool (from * p .places) (homesOf p g (drop (from * p .places) (f .numbers))) ((last + 1 - from) * p .places)) where
       n : ℕ
       n = last + 1 - from
 
@@ -84,7 +84,7 @@ module _ (p : Parameters) (g : Growth) (f : File) (k : ℕ) where
       unfolding n
       sound-stretch = omega (arith, ends)
 
-      kept : pool′ ≡ paste pool (from * p .places) (homesOf multiplier p g (drop (from * p .places) (f .numbers))) (n * p .places)
+      kept : pool′ ≡ paste pool (from * p .places) (homesOf p g (drop (from * p .places) (f .numbers))) (n * p .places)
       unfolding n firstUnsound
       kept = homes (omega (arith, such (unsound p g f) from (last + 1 - from) .high, R .order))
 

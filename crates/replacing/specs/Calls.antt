@@ -5,7 +5,6 @@ use Prim.Native.Nat.{ℕ, _+_}
 use lib.Dec.{ltb}
 use Rattle.hashing.specs.declared.Parameters.{Parameters}
 use Rattle.hashing.specs.declared.Growth.{Growth}
-use Rattle.hashing.specs.Generator.{multiplier}
 use Rattle.placement.specs.Rule.{Star, Hash, pages, left, without}
 use Rattle.placement.specs.File.{File, gathered, replaced}
 use Rattle.placement.specs.Hash.{hashOf}
@@ -14,7 +13,7 @@ use Rattle.replacing.specs.declared.Replaced.{Replaced}
 use Rattle.replacing.specs.declared.Replaced.the-variants.{Done, Unsound, Overflows}
 
 abbrev pub hash : Parameters → Growth → Hash
-hash p g = hashOf multiplier p g
+hash p g = hashOf p g
 
 -- "The reach of a removal": its first page, how many pages it has, and the first unsound one of them
 abbrev pub startOf : Parameters → Growth → ℕ → ℕ

@@ -3,7 +3,7 @@ ghost use mathlib.Core.Path.{_≡_};
 ghost use mathlib.Core.Bool.{true};
 ghost use Prim.Native.Nat.{_*_, _<_};
 ghost use lib.ListN.{length};
-ghost use Rattle.hashing.specs.Generator.{multiplier, multipliers};
+ghost use Rattle.hashing.specs.Generator.{multipliers};
 ghost use Rattle.hashing.specs.Geometry.{pageCount, grown};
 ghost use Rattle.hashing.specs.Limits.{validParameters, validGrowth};
 ghost use Rattle.placement.specs.File.{Sized};
@@ -18,8 +18,8 @@ fn next_home(table: &[u32; 2049], geometry: Geometry, number: u32, old: u32) -> 
     requires { ⌜ now table ≡ multipliers ⌝ }
     requires { ⌜ validParameters (geometry .parameters) ≡ true ⌝ }
     requires { ⌜ validGrowth (geometry .parameters) (geometry .growth) ≡ true ⌝ }
-    requires { ⌜ old ≡ homeIn multiplier (geometry .parameters) (geometry .growth) number ⌝ }
-    ensures { λ r. ⌜ r ≡ homeIn multiplier (geometry .parameters) (grown (geometry .parameters) (geometry .growth)) number ⌝ }
+    requires { ⌜ old ≡ homeIn (geometry .parameters) (geometry .growth) number ⌝ }
+    ensures { λ r. ⌜ r ≡ homeIn (geometry .parameters) (grown (geometry .parameters) (geometry .growth)) number ⌝ }
 {
     if number == 0 {
         return 0;
@@ -31,8 +31,8 @@ fn rehome(table: &[u32; 2049], geometry: Geometry, numbers: &[u32], homes: &mut 
     requires { ⌜ now table ≡ multipliers ⌝ }
     requires { ⌜ validParameters (geometry .parameters) ≡ true ⌝ }
     requires { ⌜ validGrowth (geometry .parameters) (geometry .growth) ≡ true ⌝ }
-    requires { ⌜ now homes ≡ homesOf multiplier (geometry .parameters) (geometry .growth) (now numbers) ⌝ }
-    ensures { λ _. ⌜ now (homes .exit) ≡ homesOf multiplier (geometry .parameters) (grown (geometry .parameters) (geometry .growth)) (now (numbers .entry)) ⌝ }
+    requires { ⌜ now homes ≡ homesOf (geometry .parameters) (geometry .growth) (now numbers) ⌝ }
+    ensures { λ _. ⌜ now (homes .exit) ≡ homesOf (geometry .parameters) (grown (geometry .parameters) (geometry .growth)) (now (numbers .entry)) ⌝ }
 {
     let mut i = 0;
     while i < numbers.len() {

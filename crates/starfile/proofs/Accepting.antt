@@ -9,7 +9,6 @@ use lib.Dec.{ltb}
 use borrow.Author.Tests.{ltb-false, le-ltb}
 use Rattle.hashing.specs.declared.Parameters.{Parameters}
 use Rattle.hashing.specs.declared.Growth.{Growth}
-use Rattle.hashing.specs.Generator.{multiplier}
 use Rattle.hashing.specs.Limits.{validParameters, validGrowth}
 use Rattle.pages.specs.Position.{validWord}
 use Rattle.placement.specs.File.{File, Clean}
@@ -51,13 +50,13 @@ module _ (p : Parameters) (g : Growth) (f : File) (pool : Pool)
 
   bad-most : bad ≤ p .pages
   unfolding bad firstUnsound
-  bad-most = omega (arith, such (λ (q : ℕ). not (soundAt multiplier p g f q)) 0 (p .pages) .high, zero-add (p .pages))
+  bad-most = omega (arith, such (λ (q : ℕ). not (soundAt p g f q)) 0 (p .pages) .high, zero-add (p .pages))
 
   spot-most : spot ≤ p .pages * suc (p .places)
   unfolding spot firstSpot
   spot-most = omega (arith, such (differAt (p .places) f (ruled p g f)) 0 (p .pages * suc (p .places)) .high, zero-add (p .pages * suc (p .places)))
 
-  cleans : (checkOf p g f pool .answer .refusal ≡ 0) → Clean validWord (hashOf multiplier p g) (p .pages) f
+  cleans : (checkOf p g f pool .answer .refusal ≡ 0) → Clean validWord (hashOf p g) (p .pages) f
   unfolding bad spot
   cleans e =
       let t = none-told p bad spot (ap (λ (a : Answer). a .refusal) (sym told) ∙ e) in
@@ -65,11 +64,11 @@ module _ (p : Parameters) (g : Growth) (f : File) (pool : Pool)
       let none : spot ≡ p .pages * suc (p .places) = omega (arith, spot-most, t .1) in
       accepts-clean p g f (sized p f file) .0 (all, none)
 
-  accepts : Clean validWord (hashOf multiplier p g) (p .pages) f → checkOf p g f pool .answer .refusal ≡ 0
+  accepts : Clean validWord (hashOf p g) (p .pages) f → checkOf p g f pool .answer .refusal ≡ 0
   unfolding bad spot checkedAt spotted
   accepts c =
       let t = accepts-clean p g f (sized p f file) .1 c in
       rw (told, le-ltb bad (p .pages) (omega (arith, t .0)), le-ltb spot (p .pages * suc (p .places)) (omega (arith, t .1)))
 
-  pub check-clean : (checkOf p g f pool .answer .refusal ≡ 0) ↔ Clean validWord (hashOf multiplier p g) (p .pages) f
+  pub check-clean : (checkOf p g f pool .answer .refusal ≡ 0) ↔ Clean validWord (hashOf p g) (p .pages) f
   check-clean = (cleans, accepts)

@@ -11,7 +11,6 @@ use borrow.Author.Tests.{lt-ltb, le-ltb, leb-true}
 use Rattle.hashing.proofs.Bounds.{both}
 use Rattle.hashing.specs.declared.Parameters.{Parameters}
 use Rattle.hashing.specs.declared.Growth.{Growth}
-use Rattle.hashing.specs.Generator.{multiplier}
 use Rattle.pages.specs.Page.{part, filled, placeOf, heldAt, placeIn, pageAt}
 use Rattle.pages.specs.Position.{validWord, validNumber}
 use Rattle.pages.specs.declared.page.Page.{Page}
@@ -29,7 +28,7 @@ use Rattle.starfile.specs.Named.{NamedAs}
 pub named-most : (p : Parameters) (g : Growth) (f : File) (k : ℕ) → Sized (p .places) (p .pages) f → named p g f k ≤ p .pages
 unfolding namedPage
 named-most p g f k sized =
-    omega (arith, first-le (hashOf multiplier p g) 0 (f .separators) k, zero-add (length (f .separators)), sized .ofSeparators)
+    omega (arith, first-le (hashOf p g) 0 (f .separators) k, zero-add (length (f .separators)), sized .ofSeparators)
 
 pub one-least : (k : ℕ) → validNumber k ≡ true → 1 ≤ k
 unfolding validNumber
@@ -39,7 +38,7 @@ pub past-file : (p : Parameters) (g : Growth) (f : File) (page : ℕ) → page �
 unfolding readable
 past-file p g f page e = rw (le-ltb page (p .pages) (omega arith))
 
-pub in-file : (p : Parameters) (g : Growth) (f : File) (page : ℕ) (t : Bool) → page < p .pages → soundAt multiplier p g f page ≡ t → readable p g f page ≡ t
+pub in-file : (p : Parameters) (g : Growth) (f : File) (page : ℕ) (t : Bool) → page < p .pages → soundAt p g f page ≡ t → readable p g f page ≡ t
 unfolding readable
 in-file p g f page t h e = rw (lt-ltb page (p .pages) h, e)
 
@@ -114,7 +113,7 @@ module _ (p : Parameters) (f : File) (k page : ℕ) (v : Page) (place : Place) (
   item-below h e = omega (arith, at-below h)
 
 -- a star that a sound page holds has a valid word
-pub word-valid : (p : Parameters) (g : Growth) (f : File) (page k : ℕ) → Sized (p .places) (p .pages) f → page < p .pages → 1 ≤ k → soundAt multiplier p g f page ≡ true
+pub word-valid : (p : Parameters) (g : Growth) (f : File) (page k : ℕ) → Sized (p .places) (p .pages) f → page < p .pages → 1 ≤ k → soundAt p g f page ≡ true
     → holds p f page k ≡ true → validWord (getD (f .words) (itemOf p f page k) 0) ≡ true
 unfolding soundAt holds itemOf starsAt hashOf
 word-valid p g f page k sized inside some sound held =
@@ -124,5 +123,5 @@ word-valid p g f page k sized inside some sound held =
     let fw = page-fits (p .places) (p .pages) page inside (sized .ofWords) in
     let same : length ns ≡ length ws = part-length (p .places) page (f .numbers) fn ∙ sym (part-length (p .places) page (f .words) fw) in
     let there = held-there k ns held .0 in
-    let proper = sound-proper validWord (hashOf multiplier p g) f page (sound-facts validWord (hashOf multiplier p g) f page sound) (record { number = k; word = getD ws (placeOf k ns) 0 }) (held-star ns ws k same some held) .2 in
+    let proper = sound-proper validWord (hashOf p g) f page (sound-facts validWord (hashOf p g) f page sound) (record { number = k; word = getD ws (placeOf k ns) 0 }) (held-star ns ws k same some held) .2 in
     ap validWord (sym (part-item (p .places) page (f .words) (placeOf k ns) (rw (part-length (p .places) page (f .numbers) fn) at there))) ∙ proper

@@ -50,7 +50,7 @@ stretch-most test from m h =
 
 unsound-most : (p : Parameters) (g : Growth) (f : File) (from n : ℕ) → firstUnsound p g f from n ≤ from + n
 unfolding firstUnsound
-unsound-most p g f from n = such (λ (q : ℕ). not (soundAt multiplier p g f q)) from n .high
+unsound-most p g f from n = such (λ (q : ℕ). not (soundAt p g f q)) from n .high
 
 removal-most : (p : Parameters) (g : Growth) (f : File) (from : ℕ) → from < p .pages → from + pagesTo from (removalEnd (hash p g) (p .pages) f from) ≤ p .pages
 unfolding removalEnd

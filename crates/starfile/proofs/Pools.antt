@@ -8,7 +8,6 @@ use lib.ListN.{length, replicate}
 use borrow.Author.Tests.{eqb-true, ltb-true}
 use Rattle.hashing.specs.declared.Parameters.{Parameters}
 use Rattle.hashing.specs.declared.Growth.{Growth}
-use Rattle.hashing.specs.Generator.{multiplier}
 use Rattle.hashing.specs.Geometry.{highest, grown}
 use Rattle.hashing.proofs.Bounds.{both}
 use Rattle.placement.specs.Rule.{Star, left}
@@ -25,7 +24,7 @@ pool-sized p pool e =
     let t = both _ _ e in
     (eqb-true _ _ (t .0), eqb-true _ _ (t .1))
 
-pub readable-facts : (p : Parameters) (g : Growth) (f : File) (page : ℕ) → readable p g f page ≡ true → (page < p .pages) × (soundAt multiplier p g f page ≡ true)
+pub readable-facts : (p : Parameters) (g : Growth) (f : File) (page : ℕ) → readable p g f page ≡ true → (page < p .pages) × (soundAt p g f page ≡ true)
 unfolding readable
 readable-facts p g f page e =
     let t = both _ _ e in

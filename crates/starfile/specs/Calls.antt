@@ -6,7 +6,7 @@ use lib.Dec.{eqb, ltb}
 use lib.ListN.{length, getD, set, replicate}
 use Rattle.hashing.specs.declared.Parameters.{Parameters}
 use Rattle.hashing.specs.declared.Growth.{Growth}
-use Rattle.hashing.specs.Generator.{multiplier, topOf}
+use Rattle.hashing.specs.Generator.{topOf}
 use Rattle.hashing.specs.Limits.{validParameters, validGrowth}
 use Rattle.hashing.specs.Geometry.{pageCount, highest, grown, ungrown}
 use Rattle.pages.specs.declared.position.Position.{Position}
@@ -40,7 +40,7 @@ use Rattle.starfile.specs.Reach.{
 }
 
 abbrev pub hash : Parameters → Growth → Hash
-hash p g = hashOf multiplier p g
+hash p g = hashOf p g
 
 -- Refusals 1 to 4, of which the first is met
 
@@ -84,10 +84,10 @@ guarded g f pool (suc n) after = untouched g f pool (suc n)
 
 -- "the page the separators name is unsound, or none is named (page given as M)"
 unfoldable pub readable : Parameters → Growth → File → ℕ → Bool
-readable p g f page = ltb page (p .pages) && soundAt multiplier p g f page
+readable p g f page = ltb page (p .pages) && soundAt p g f page
 
 abbrev pub named : Parameters → Growth → File → ℕ → ℕ
-named p g f k = namedPage multiplier p g (f .separators) k
+named p g f k = namedPage p g (f .separators) k
 
 unfoldable pub holds : Parameters → File → ℕ → ℕ → Bool
 holds p f page k = heldAt k (part (p .places) page (f .numbers))

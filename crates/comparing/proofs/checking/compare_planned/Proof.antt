@@ -6,7 +6,6 @@ use denote.Ref.{now}
 use Rattle.hashing.proofs.Bounds.{limits}
 use Rattle.placement.specs.File.{File}
 use Rattle.placement.specs.Hash.{hashOf, lent}
-use Rattle.hashing.specs.Generator.{multiplier}
 use Rattle.waiting.specs.Lists.{all}
 use Rattle.planning.proofs.Placed.{Ready}
 use Rattle.comparing.proofs.Planned.{few-items, homes-long, stars-inside, ready, planned-ruled, spot-ruled}
@@ -20,7 +19,7 @@ file s = lent (now (s .args .separators)) (now (s .args .numbers)) (now (s .args
 pool-long : (s : tie.Start) → length (now (s .args .pool)) ≡ s .args .geometry .parameters .pages * s .args .geometry .parameters .places
 pool-long s = homes-long _ _ (file s) (s .pre .1 .0 .0) (s .pre .1 .0 .1) (s .pre .1 .1 .0) (s .pre .1 .1 .1 .0) _ (s .pre .1 .1 .1 .1 .0)
 
-prepared : (s : tie.Start) → Ready (hashOf multiplier (s .args .geometry .parameters) (s .args .geometry .growth)) (s .args .geometry .parameters .places) 0 (s .args .geometry .parameters .pages) (file s) (now (s .args .pool))
+prepared : (s : tie.Start) → Ready (hashOf (s .args .geometry .parameters) (s .args .geometry .growth)) (s .args .geometry .parameters .places) 0 (s .args .geometry .parameters .pages) (file s) (now (s .args .pool))
 prepared s = ready _ _ (file s) (s .pre .1 .0 .0) (s .pre .1 .0 .1) (s .pre .1 .1 .0) (s .pre .1 .1 .1 .0) _ (s .pre .1 .1 .1 .1 .0)
 
 cast-places : tie.Need-cast-places

@@ -6,7 +6,6 @@ use lib.ListN.{take, drop}
 use lib.Seq.{paste, length-take-le}
 use denote.Ref.{now}
 use borrow.Author.Needs.{needs}
-use Rattle.hashing.specs.Generator.{multiplier}
 use Rattle.hashing.proofs.Bounds.{Limits, limits}
 use Rattle.hashing.proofs.Laws.{top-shifted, top-least}
 use Rattle.placement.specs.File.{File}
@@ -122,7 +121,7 @@ clear c =
 -- the pool holds the block's homes
 homes : (c : tie.Else1) → c .before .before .before .survey-pages .last .1 .1 .1 .1 .1 .0
     ≡ paste (now (from c .args .pool)) (from c .args .lo * from c .args .geometry .parameters .places)
-    (homesOf multiplier (from c .args .geometry .parameters) (from c .args .geometry .growth) (drop (from c .args .lo * from c .args .geometry .parameters .places) (now (from c .args .numbers))))
+    (homesOf (from c .args .geometry .parameters) (from c .args .geometry .growth) (drop (from c .args .lo * from c .args .geometry .parameters .places) (now (from c .args .numbers))))
     ((ended c .stretch-end .result + 1 - from c .args .lo) * from c .args .geometry .parameters .places)
 homes c =
     let s = from c in

@@ -188,7 +188,7 @@ returns-3 c =
     (rw (home-is x) at (y .ensures .0)) (rw (home-is x) at (y .ensures .1 .0)) (rw (home-is x) at (y .ensures .1 .1)) in (
       ends-answer (s .args .geometry .parameters) (s .args .geometry .growth) (file s) (s .args .number) (s .args .word) last (answer x last (v .1)) (c .named-page .result)
           (c .named-page .ensures
-          ∙ ap (λ (f : File). namedPage multiplier (s .args .geometry .parameters) (s .args .geometry .growth) (f .separators) (s .args .number)) whole
+          ∙ ap (λ (f : File). namedPage (s .args .geometry .parameters) (s .args .geometry .growth) (f .separators) (s .args .number)) whole
           ∙ named-holds (s .args .geometry .parameters) (s .args .geometry .growth) (file s) (s .args .number) (s .args .word) last (answer x last (v .1)) (omega (arith, home-is x, low x last (v .1), high x last (v .1), s .pre .1 .1 .1 .0 .ofSeparators))),
       whole,
     )

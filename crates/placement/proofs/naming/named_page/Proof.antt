@@ -3,7 +3,7 @@
 use mathlib.Core.Path.{_∙_}
 use native.Mathlib.Omega.{arith}
 use borrow.Author.Needs.{needs}
-use Rattle.hashing.specs.Generator.{multiplier}
+use Rattle.hashing.specs.Generator.{multiplierOf}
 use Rattle.hashing.proofs.Bounds.{limits}
 use Rattle.hashing.proofs.Laws.{home-pages}
 use Rattle.placement.proofs.Probing.{named-is}
@@ -21,11 +21,11 @@ probe-requires c κs =
     let s = c .before .before in
     let g = s .args .geometry in
     let l = limits (g .parameters) (s .pre .1 .0) in
-    let low = home-pages multiplier (g .parameters) (g .growth) (s .args .number) (s .pre .1 .0) (s .pre .1 .1 .0) in
-    (s .pre .0, ((l .bits-least, l .bits-most), (omega (arith, c .home .ensures, low, l .pages-most), omega arith)))
+    let low = home-pages (multiplierOf (g .parameters)) (g .parameters) (g .growth) (s .args .number) (s .pre .1 .0) (s .pre .1 .1 .0) in
+    (s .pre .0, (s .pre .1 .0, (omega (arith, c .home .ensures, low, l .pages-most), omega arith)))
 
 returns : tie.Need-returns
-returns c = c .probe .ensures ∙ named-is _ _ _ _ _ _ (c .before .home .ensures)
+returns c = c .probe .ensures ∙ named-is _ _ _ _ _ (c .before .home .ensures)
 
 pub named-page-spec : {M : Type 1} → statement M
 named-page-spec = tie.close (tie.spec home-requires cast-home probe-requires returns)

@@ -8,7 +8,7 @@ use borrow.Author.Needs.{needs}
 use borrow.Author.Tests.{lt-ltb, le-ltb}
 use lib.ListN.{length, getD, take}
 use lib.Seq.{length-take-le, getD-take}
-use Rattle.hashing.specs.Generator.{multiplier}
+use Rattle.hashing.proofs.Bounds.{limits}
 use Rattle.placement.specs.Rule.{below}
 use Rattle.placement.specs.Hash.{hashFrom}
 use Rattle.placement.proofs.Probing.{Probed, probed-none, probed-more, probed-found, probed-all, below-from}
@@ -16,11 +16,11 @@ use Rattle.placement.proofs.naming.probe.Statement.{statement}
 use Rattle.placement.proofs.naming.probe.Tie as tie
 
 abbrev Inv-loop : tie.InvT-loop
-Inv-loop table bits separators number home stop page₀ page =
-    (home ≤ page) × (page ≤ stop) × Probed (hashFrom multiplier bits home) (take stop separators) number page
+Inv-loop table parameters separators number home stop page₀ page =
+    (home ≤ page) × (page ≤ stop) × Probed (hashFrom parameters home) (take stop separators) number page
 
 abbrev μ-loop : tie.MeasureT-loop
-μ-loop table bits separators number home stop page₀ page = stop - page
+μ-loop table parameters separators number home stop page₀ page = stop - page
 
 loop-holds : tie.Need-loop-holds Inv-loop μ-loop
 unfolding hashFrom
@@ -36,7 +36,10 @@ add-signature : tie.Need-add-signature Inv-loop μ-loop
 add-signature c = search needs
 
 signature-requires : tie.Need-signature-requires Inv-loop μ-loop
-signature-requires c κs = search needs
+signature-requires c κs =
+    let s = c .before .before .before in
+    let l = limits (s .args .parameters) (s .pre .1 .0) in
+    (s .pre .0, ((l .bits-least, l .bits-most), (omega arith, omega arith)))
 
 shared-slice-read-if1 : tie.Need-shared-slice-read-if1 Inv-loop μ-loop
 shared-slice-read-if1 c = search needs
@@ -48,13 +51,13 @@ cast-if1 c = omega (arith, c .shared-slice-known2 .given (c .before .before .bef
 tested : (c : tie.After-shared-slice-known2 Inv-loop μ-loop) →
     let a = c .before .before .before .before .before .args in
     let page = c .before .before .before .loop .page in
-    below (hashFrom multiplier (a .bits) (a .home)) page (getD (take (a .stop) (a .separators .now)) page 0) (a .number)
+    below (hashFrom (a .parameters) (a .home)) page (getD (take (a .stop) (a .separators .now)) page 0) (a .number)
     ≡ ltb (c .before .signature .result) (getD (a .separators .now) page 0)
 tested c =
     let a = c .before .before .before .before .before .args in
     let page = c .before .before .before .loop .page in
     let inside : page < a .stop = omega arith in
-    rw (below-from multiplier (a .bits) (a .home) (a .number) page (getD (take (a .stop) (a .separators .now)) page 0) (omega arith), getD-take (a .stop) (a .separators .now) page 0 inside, ← c .before .signature .ensures)
+    rw (below-from (a .parameters) (a .home) (a .number) page (getD (take (a .stop) (a .separators .now)) page 0) (omega arith), getD-take (a .stop) (a .separators .now) page 0 inside, ← c .before .signature .ensures)
 
 -- a page below `stop` is one of those taken
 inside : (c : tie.After-shared-slice-known2 Inv-loop μ-loop) →

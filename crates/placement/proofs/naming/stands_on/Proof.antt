@@ -17,7 +17,7 @@ cast-lowest c = search needs
 returns : tie.Need-returns
 returns c =
     let home = c .before .home .ensures in
-    (sym (named-above _ _ _ _ _ _ home (c .before .before .before .args .page) (omega arith) (c .if1 .taken)), home)
+    (sym (named-above _ _ _ _ _ home (c .before .before .before .args .page) (omega arith) (c .if1 .taken)), home)
 
 add-probe : tie.Need-add-probe
 add-probe c = search needs
@@ -26,13 +26,13 @@ probe-requires : tie.Need-probe-requires
 probe-requires c κs =
     let s = c .before .before .before in
     let l = limits (s .args .geometry .parameters) (s .pre .1 .0) in
-    (s .pre .0, ((l .bits-least, l .bits-most), (omega (arith, l .pages-most), omega arith)))
+    (s .pre .0, (s .pre .1 .0, (omega (arith, l .pages-most), omega arith)))
 
 returns-2 : tie.Need-returns-2
 returns-2 c =
     let home = c .before .before .home .ensures in
     let page = c .before .before .before .before .args .page in
-    (rw (c .probe .ensures) (named-here _ _ _ _ _ _ home page (omega arith)), home)
+    (rw (c .probe .ensures) (named-here _ _ _ _ _ home page (omega arith)), home)
 
 pub stands-on-spec : {M : Type 1} → statement M
 stands-on-spec =

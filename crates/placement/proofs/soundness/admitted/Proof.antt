@@ -13,7 +13,7 @@ returns : tie.Need-returns
 returns c =
     let none = c .if1 .taken in
     record {
-      sound = sym (empty-item _ _ _ _ _ _ _ _ none);
+      sound = sym (empty-item _ _ _ _ _ _ _ none);
       home = λ e. rw (eq-eqb _ _ none);
       last = λ e. rw (eq-eqb _ _ none);
     }
@@ -24,7 +24,7 @@ ordered-requires c κs = search needs
 returns-2 : tie.Need-returns-2
 returns-2 c =
     record {
-      sound = sym (refused-item _ _ _ _ _ _ _ _ (c .before .before .if1 .left) (failed _ _ (c .before .ordered .ensures) (c .if2 .taken)));
+      sound = sym (refused-item _ _ _ _ _ _ _ (c .before .before .if1 .left) (failed _ _ (c .before .ordered .ensures) (c .if2 .taken)));
       home = λ e. absurd (false≢true e);
       last = λ e. absurd (false≢true e);
     }
@@ -36,7 +36,7 @@ returns-3 : tie.Need-returns-3
 returns-3 c =
     let star = c .before .before .before .if1 .left in
     record {
-      sound = c .stands-on .ensures .0 ∙ sym (passed-item _ _ _ _ _ _ _ _ star (passed _ _ (c .before .before .ordered .ensures) (c .before .if2 .left)));
+      sound = c .stands-on .ensures .0 ∙ sym (passed-item _ _ _ _ _ _ _ star (passed _ _ (c .before .before .ordered .ensures) (c .before .if2 .left)));
       home = λ e. c .stands-on .ensures .1 ∙ rw (ne-eqb _ _ star);
       last = λ e. rw (ne-eqb _ _ star);
     }

@@ -7,7 +7,6 @@ use native.Mathlib.Omega.{arith}
 use borrow.Author.Needs.{needs}
 use borrow.Author.Tests.{not-false}
 use lib.ListN.{length}
-use Rattle.hashing.specs.Generator.{multiplier}
 use Rattle.hashing.proofs.Bounds.{limits, failed, passed}
 use Rattle.placement.specs.Survey.{soundIn}
 use Rattle.placement.proofs.Items.{Surveyed, surveyed-none, surveyed-refused, surveyed-more, surveyed-all}
@@ -16,7 +15,7 @@ use Rattle.placement.proofs.soundness.page_sound.Tie as tie
 
 abbrev Inv-loop : tie.InvT-loop
 Inv-loop table geometry separators page value places homes₀ last₀ i₀ homes last i =
-    (i ≤ places) × (places ≤ 32) × Surveyed multiplier (geometry .parameters) (geometry .growth) separators page (value .numbers) (value .words) places i last homes
+    (i ≤ places) × (places ≤ 32) × Surveyed (geometry .parameters) (geometry .growth) separators page (value .numbers) (value .words) places i last homes
 
 abbrev μ-loop : tie.MeasureT-loop
 μ-loop table geometry separators page value places homes₀ last₀ i₀ homes last i = places - i
@@ -43,7 +42,7 @@ loop-holds c =
     let l = limits (s .args .geometry .parameters) (s .pre .1 .0) in
     let ns : length (s .args .t4 .numbers) ≡ 32 = search needs in
     let ws : length (s .args .t4 .words) ≡ 32 = search needs in
-    (search needs, l .places-most, surveyed-none _ _ _ _ _ _ _ _ (omega (arith, l .places-most)) (omega (arith, l .places-most)))
+    (search needs, l .places-most, surveyed-none _ _ _ _ _ _ _ (omega (arith, l .places-most)) (omega (arith, l .places-most)))
 
 mul-admitted : tie.Need-mul-admitted Inv-loop μ-loop
 mul-admitted c = search needs
@@ -65,7 +64,7 @@ unfolding soundIn
 returns-2 c =
     let item = c .before .before .admitted .ensures in
     let inside = c .before .before .before .before .before .loop-test .taken in
-    let refused = surveyed-refused _ _ _ _ _ (c .before .before .before .before .before .before .loop .inv .2) inside (failed _ _ (item .sound) (c .if2 .taken)) in
+    let refused = surveyed-refused _ _ _ _ (c .before .before .before .before .before .before .loop .inv .2) inside (failed _ _ (item .sound) (c .if2 .taken)) in
     (simp (refused, and-false), λ e. absurd (false≢true e))
 
 mul-homes : tie.Need-mul-homes Inv-loop μ-loop
@@ -86,7 +85,7 @@ loop-again c =
     let taken = not-false _ (c .if2 .left) in (
       search needs,
       search needs,
-      surveyed-more _ _ _ _ _ (c .before .before .before .before .before .before .loop .inv .2) (search needs) (search needs) (sym (item .ensures .sound) ∙ taken) (item .ensures .home taken) (item .ensures .last taken),
+      surveyed-more _ _ _ _ (c .before .before .before .before .before .before .loop .inv .2) (search needs) (search needs) (sym (item .ensures .sound) ∙ taken) (item .ensures .home taken) (item .ensures .last taken),
     )
 
 returns-3 : tie.Need-returns-3 Inv-loop μ-loop
@@ -95,7 +94,7 @@ returns-3 c =
     let done = c .before .loop .inv .2 in
     let places = c .before .before .before .before .before .before .before .args .geometry .parameters .places in
     let e : c .before .loop .i ≡ places = omega arith in
-    (rw (passed _ _ (c .before .before .before .in-range .ensures) (c .before .before .if1 .left)) (sym (surveyed-all _ _ _ _ _ done e)), λ t. rw e at (done .homed))
+    (rw (passed _ _ (c .before .before .before .in-range .ensures) (c .before .before .if1 .left)) (sym (surveyed-all _ _ _ _ done e)), λ t. rw e at (done .homed))
 
 pub page-sound-spec : {M : Type 1} → statement M
 page-sound-spec =

@@ -6,7 +6,6 @@ use Prim.Native.Nat.{_*_, _≤_}
 use native.Mathlib.Omega.{arith}
 use borrow.Author.Needs.{needs}
 use borrow.Author.Tests.{not-true, not-false}
-use Rattle.hashing.specs.Generator.{multiplier}
 use Rattle.hashing.proofs.Bounds.{limits}
 use Rattle.placement.specs.Hash.{soundAt, lent}
 use Rattle.placement.proofs.Items.{sound-loaded, homes-loaded, paste-front}
@@ -33,11 +32,11 @@ page-sound-requires c κs =
 -- the value tested is the page's
 told : (c : tie.After-page-sound) →
     let s = c .before .before .before .before .before .before .before .args in
-    c .page-sound .result .sound ≡ soundAt multiplier (s .geometry .parameters) (s .geometry .growth) (lent (s .separators .now) (s .numbers .now) (s .words .now)) (s .page)
+    c .page-sound .result .sound ≡ soundAt (s .geometry .parameters) (s .geometry .growth) (lent (s .separators .now) (s .numbers .now) (s .words .now)) (s .page)
 told c =
     let s = c .before .before .before .before .before .before .before in
     c .page-sound .ensures .0
-    ∙ sound-loaded _ _ _ (lent (s .args .separators .now) (s .args .numbers .now) (s .args .words .now)) _ _
+    ∙ sound-loaded _ _ (lent (s .args .separators .now) (s .args .numbers .now) (s .args .words .now)) _ _
     (s .pre .1 .1 .1 .1 .1 .0)
     (s .pre .1 .1 .1 .1 .1 .1 .0)
     (c .before .load .ensures)
@@ -65,7 +64,7 @@ returns-2 c =
       λ e.
           c .before .before .keep .ensures
           ∙ paste-front (s .args .homes .now) (tested .page-sound .result .homes) _ (s .args .page * s .args .geometry .parameters .places) (s .args .geometry .parameters .places)
-          (tested .page-sound .ensures .1 yes ∙ homes-loaded _ _ _ _ _ _ _ (s .pre .1 .1 .1 .1 .1 .0) (tested .before .load .ensures)),
+          (tested .page-sound .ensures .1 yes ∙ homes-loaded _ _ _ _ _ _ (s .pre .1 .1 .1 .1 .1 .0) (tested .before .load .ensures)),
     )
 
 pub survey-spec : {M : Type 1} → statement M

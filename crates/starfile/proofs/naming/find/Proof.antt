@@ -6,7 +6,6 @@ use native.Mathlib.Omega.{arith}
 use lib.ListN.{length}
 use borrow.Author.Tests.{not-true, not-false}
 use denote.Ref.{now}
-use Rattle.hashing.specs.Generator.{multiplier}
 use Rattle.hashing.proofs.Bounds.{limits}
 use Rattle.pages.proofs.Parts.{page-fits}
 use Rattle.placement.specs.File.{File}
@@ -79,8 +78,8 @@ page-sound-requires c κs =
 
 -- src/naming.rt:38:9
 -- the value tested is the page's
-told : (c : tie.After-page-sound) → c .page-sound .result .sound ≡ soundAt multiplier (begun (c .before .before) .args .geometry .parameters) (begun (c .before .before) .args .geometry .growth) (fileOf (begun (c .before .before))) (c .before .before .before .before .named-page .result)
-told c = c .page-sound .ensures .0 ∙ sound-loaded _ _ _ (fileOf (begun (c .before .before))) _ _ (fits (c .before .before)) (fits-words (c .before .before)) (c .before .load .ensures)
+told : (c : tie.After-page-sound) → c .page-sound .result .sound ≡ soundAt (begun (c .before .before) .args .geometry .parameters) (begun (c .before .before) .args .geometry .growth) (fileOf (begun (c .before .before))) (c .before .before .before .before .named-page .result)
+told c = c .page-sound .ensures .0 ∙ sound-loaded _ _ (fileOf (begun (c .before .before))) _ _ (fits (c .before .before)) (fits-words (c .before .before)) (c .before .load .ensures)
 
 unread-requires-2 : tie.Need-unread-requires-2
 unread-requires-2 c κs = search needs
@@ -102,7 +101,7 @@ search-requires c κs = limits _ (c .before .before .before .before .before .bef
 abbrev tested : tie.After-search → tie.After-page-sound
 tested c = c .before .before .before
 
-sound : (c : tie.After-search) → soundAt multiplier (begun (tested c .before .before) .args .geometry .parameters) (begun (tested c .before .before) .args .geometry .growth) (fileOf (begun (tested c .before .before))) (tested c .before .before .before .before .named-page .result) ≡ true
+sound : (c : tie.After-search) → soundAt (begun (tested c .before .before) .args .geometry .parameters) (begun (tested c .before .before) .args .geometry .growth) (fileOf (begun (tested c .before .before))) (tested c .before .before .before .before .named-page .result) ≡ true
 sound c = sym (told (tested c)) ∙ not-false _ (c .before .if2 .left)
 
 returns-3 : tie.Need-returns-3
