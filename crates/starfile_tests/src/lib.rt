@@ -1,4 +1,4 @@
-// The eight calls as exported functions, for the Rust tests alone. C programs have the three of starfile_c.
+// The eight calls as exported functions, and two of hashing's, for the Rust tests alone. C programs have the three of starfile_c.
 use pages::position::Position;
 use starfile::answers::Checked;
 use starfile::answers::Due;
@@ -328,4 +328,23 @@ pub extern "C" fn sft_check(
         ),
         growth,
     )
+}
+
+// Xj of a number; 0 if the table has no j-th multiplier.
+#[no_mangle]
+pub extern "C" fn sft_scrambled(j: usize, number: u32) -> u32 {
+    if j < 1 || j > 2049 {
+        return 0;
+    }
+    let table = hashing::multipliers();
+    hashing::scrambled(&table, j, number)
+}
+
+// The rank of a group among count groups; 0 if there is no such group or step.
+#[no_mangle]
+pub extern "C" fn sft_rank(step: u32, count: u32, group: u32) -> u32 {
+    if step < 1 || step > count || group >= count {
+        return 0;
+    }
+    hashing::rank(step, count, group)
 }

@@ -33,11 +33,11 @@ impl Tester {
         self.refusals[call.kind as usize][outcome.refusal as usize] += 1;
         let Growth { expansions, expanded } = call.growth_after(&outcome);
         (outcome.expansions, outcome.expanded) = (expansions, expanded);
-        let vector = Vector { line: 1, call: *call, before: before.clone(), outcome, after };
+        let vector = Vector { call: *call, before: before.clone(), outcome, after };
         let differences = vector.differences(interface::run);
         if !differences.is_empty() {
             let kept = self.keep(&vector).map_or(String::new(), |path| format!(" ({})", path.display()));
-            self.fail(format!("{}{kept}: {}", call.kind.name(), differences.join("; ")));
+            self.fail(format!("{}{kept}", differences.join("; ")));
         }
         (outcome, vector.after)
     }

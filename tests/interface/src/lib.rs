@@ -2,6 +2,9 @@
 
 use model::{Buffers, Call, Growth, Kind, Outcome, Parameters};
 
+/// The requests of document 02 that have landed in the library.
+pub const LANDED: &[u32] = &[];
+
 // Each slice is a pointer and a length in items.
 #[rustfmt::skip]
 extern "C" {
@@ -65,6 +68,20 @@ extern "C" {
         pool_numbers: *mut u32, pool_numbers_length: usize,
         pool_words: *mut u64, pool_words_length: usize,
     ) -> Outcome;
+    fn sft_scrambled(j: usize, number: u32) -> u32;
+    fn sft_rank(step: u32, count: u32, group: u32) -> u32;
+}
+
+/// Xj(K), 0 unless j is from 1 to 2,049.
+pub fn x(j: u64, number: u64) -> u64 {
+    // SAFETY: the library takes any numbers.
+    unsafe { sft_scrambled(j as usize, number as u32) }.into()
+}
+
+/// The rank of a group among `groups` groups, 0 unless both are possible.
+pub fn rank(step: u64, groups: u64, group: u64) -> u64 {
+    // SAFETY: the library takes any numbers.
+    unsafe { sft_rank(step as u32, groups as u32, group as u32) }.into()
 }
 
 /// Runs one call of the library.

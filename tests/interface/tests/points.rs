@@ -1,3 +1,13 @@
-//! Document 01's points about the calls, against the library.
+//! Document 01's points, against the library.
 
 model::point_tests!(interface::run);
+
+#[test]
+fn generator() {
+    model::points::generator(interface::x);
+}
+
+#[test]
+fn ranks() {
+    model::points::ranks(interface::rank);
+}

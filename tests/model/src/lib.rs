@@ -12,6 +12,9 @@ pub mod vectors;
 
 pub use calls::run;
 
+/// The requests of document 02 that the model follows.
+pub const LANDED: &[u32] = &[];
+
 /// The document's b, N, n0, s, k, A and M.
 #[repr(C)]
 #[derive(Clone, Copy, Debug, PartialEq, Eq)]

@@ -1,5 +1,6 @@
 //! Points of document 01 that the model and every other implementation must meet. Each panics where one fails.
 
+use crate::hashing::{MODULUS, MULTIPLIER};
 use crate::placement::{lay_out, pack, Star};
 use crate::session::Session;
 use crate::{Buffers, Growth, Kind, Outcome, Parameters, Run};
@@ -9,6 +10,29 @@ const TWO_PAGES: [u32; 7] = [1, 1, 1, 1, 8, 50, 2];
 
 fn answers(outcome: Outcome) -> (u32, u32) {
     (outcome.refusal, outcome.page)
+}
+
+/// The published values of the generator; the 2,049 multipliers, each from the one before.
+pub fn generator(x: fn(u64, u64) -> u64) {
+    assert_eq!((x(2, 1), x(3, 1), x(1, 2_147_483_646)), (282_475_249, 1_622_650_073, 2_147_466_840));
+    assert_eq!((0..10_000).fold(1, |value, _| x(1, value)), 1_043_618_065);
+    assert_eq!(x(1, 1), MULTIPLIER);
+    for j in 2..=2_049 {
+        assert_eq!(x(j, 1), x(j - 1, 1) * MULTIPLIER % MODULUS);
+        assert_eq!(x(j, 2_147_483_646), MODULUS - x(j, 1));
+    }
+}
+
+/// The document's ranks; all ranks among some groups are different.
+pub fn ranks(rank: fn(u64, u64, u64) -> u64) {
+    assert_eq!([9, 8, 7, 1].map(|group| rank(3, 10, group)), [0, 4, 7, 9]);
+    for groups in 1..=64 {
+        for step in 1..=groups {
+            let mut ranks: Vec<u64> = (0..groups).map(|group| rank(step, groups, group)).collect();
+            ranks.sort();
+            assert!(ranks.into_iter().eq(0..groups));
+        }
+    }
 }
 
 /// The homes of stars 1 and 2, seen by look-ups that find none.

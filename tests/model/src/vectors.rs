@@ -1,86 +1,157 @@
-//! Files of single calls on explicit buffers with everything expected afterwards.
+//! Files of single calls on explicit buffers with everything expected afterwards, in two forms: document 01's, and
+//! document 02's, whose vectors begin with the requests that have landed.
 
-use crate::{Buffers, Call, Growth, Kind, Outcome, Parameters, Run};
+use crate::{Buffers, Call, Growth, Kind, Outcome, Parameters, Run, LANDED};
 use std::fmt::{Display, Write};
+use std::fs;
 use std::str::FromStr;
 
 pub struct Vector {
-    /// The line, from 1, at which it starts.
-    pub line: usize,
     pub call: Call,
     pub before: Buffers,
     pub outcome: Outcome,
     pub after: Buffers,
 }
 
-/// Reads lines `label value value ..` one by one.
+/// Reads one vector's lines `label value value ..`.
 struct Reader<'a> {
-    lines: std::iter::Enumerate<std::str::Lines<'a>>,
-    line: usize,
+    lines: std::slice::Iter<'a, (usize, &'a str)>,
+    /// Whether the form is document 02's.
+    later: bool,
 }
 
-impl Reader<'_> {
+fn value<T: FromStr>(field: &str) -> Result<T, String> {
+    field.parse().map_err(|_| format!("bad value '{field}'"))
+}
+
+/// Fields of a request that has not landed have one value.
+fn unused(fields: &[&str], only: &str) -> Result<(), String> {
+    fields.iter().find(|&&field| field != only).map_or(Ok(()), |field| Err(format!("unknown value '{field}'")))
+}
+
+impl<'a> Reader<'a> {
     /// The values of the next line, which must have the label.
-    fn values<T: FromStr>(&mut self, label: &str) -> Result<Vec<T>, String> {
-        let Some((index, text)) = self.lines.next() else {
-            return Err(format!("the file ends where '{label}' was expected"));
-        };
-        self.line = index + 1;
-        let mut fields = text.split_ascii_whitespace();
-        if fields.next() != Some(label) {
-            return Err(format!("line {}: '{label}' was expected", self.line));
+    fn fields(&mut self, label: &str) -> Result<Vec<&'a str>, String> {
+        let mut fields = self.lines.next().map_or("", |line| line.1).split_ascii_whitespace();
+        match fields.next() == Some(label) {
+            true => Ok(fields.collect()),
+            false => Err(format!("'{label}' was expected")),
         }
-        fields.map(|field| field.parse().map_err(|_| format!("line {}: bad value '{field}'", self.line))).collect()
     }
 
-    fn exactly<T: FromStr, const N: usize>(&mut self, label: &str) -> Result<[T; N], String> {
-        let values = self.values(label)?;
-        values.try_into().map_err(|_| format!("line {}: {N} values were expected", self.line))
+    /// The same where document 01's form has `first` values and document 02's has `later`.
+    fn counted(&mut self, label: &str, first: usize, later: usize) -> Result<Vec<&'a str>, String> {
+        let fields = self.fields(label)?;
+        let count = if self.later { later } else { first };
+        match fields.len() == count {
+            true => Ok(fields),
+            false => Err(format!("{label}: {count} values were expected")),
+        }
     }
 
-    fn fit<T: TryFrom<i64>>(&self, value: i64) -> Result<T, String> {
-        value.try_into().map_err(|_| format!("line {}: {value} is beyond 32 bits", self.line))
+    fn values<T: FromStr>(&mut self, label: &str) -> Result<Vec<T>, String> {
+        self.fields(label)?.into_iter().map(value).collect()
     }
 
-    fn buffers(&mut self) -> Result<Buffers, String> {
-        Ok(Buffers {
-            separators: self.values("seps")?,
-            numbers: self.values("nums")?,
-            words: self.values("words")?,
-            pool_numbers: self.values("pnums")?,
-            pool_words: self.values("pwords")?,
-        })
+    fn parameters(&mut self) -> Result<Parameters, String> {
+        let fields = self.counted("params", 7, 8)?;
+        unused(&fields[7..], "16807")?;
+        let list: Vec<u32> = fields[..7].iter().map(|field| value(field)).collect::<Result<_, _>>()?;
+        Ok(Parameters::new(list.try_into().unwrap()))
     }
 
-    fn vector(&mut self) -> Result<Vector, String> {
-        let [name] = self.exactly::<String, 1>("call")?;
-        let line = self.line;
+    fn growth(&mut self) -> Result<Growth, String> {
+        let fields = self.counted(if self.later { "record" } else { "state" }, 2, 4)?;
+        unused(&fields[2..], "0")?;
+        Ok(Growth { expansions: value(fields[0])?, expanded: value(fields[1])? })
+    }
+
+    /// Owners mean nothing yet. Document 02's form has a pool only where the call takes one.
+    fn buffers(&mut self, kind: Kind) -> Result<Buffers, String> {
+        let (separators, numbers, words) = (self.values("seps")?, self.values("nums")?, self.values("words")?);
+        let mut lent = Buffers { separators, numbers, words, ..Buffers::default() };
+        if self.later {
+            self.fields("owners")?;
+        }
+        if !self.later || kind.takes_pool() {
+            (lent.pool_numbers, lent.pool_words) = (self.values("pnums")?, self.values("pwords")?);
+        }
+        if self.later && kind.takes_pool() {
+            self.fields("powners")?;
+        }
+        Ok(lent)
+    }
+
+    fn vector(&mut self, landed: &[u32]) -> Result<Vector, String> {
+        if self.later {
+            let needed: Vec<u32> = self.values("landed")?;
+            if let Some(request) = needed.iter().find(|request| !landed.contains(request)) {
+                return Err(format!("request {request} has not landed"));
+            }
+        }
+        let name = self.fields("call")?.concat();
         let kind = Kind::ALL.into_iter().find(|kind| kind.name() == name);
-        let kind = kind.ok_or_else(|| format!("line {line}: no call '{name}'"))?;
-        let parameters = Parameters::new(self.exactly("params")?);
-        let [expansions, expanded] = self.exactly("state")?;
-        let growth = Growth { expansions, expanded };
-        let before = self.buffers()?;
-        let [number, ra, dec] = self.exactly::<i64, 3>("args")?;
-        let call = Call { kind, parameters, growth, number: self.fit(number)?, ra: self.fit(ra)?, dec: self.fit(dec)? };
-        let answer = self.exactly::<i64, 8>("answer")?;
-        let [refusal, page, place, found, ra, _, due, stars] = answer.map(|value| value as u32);
-        let dec = self.fit(answer[5])?;
-        let [expansions, expanded] = self.exactly("state")?;
-        let outcome = Outcome { refusal, page, place, found, ra, dec, due, stars, expansions, expanded };
-        let after = self.buffers()?;
-        self.exactly::<u8, 0>("end")?;
-        Ok(Vector { line, call, before, outcome, after })
+        let kind = kind.ok_or_else(|| format!("no call '{name}'"))?;
+        let (parameters, growth, before) = (self.parameters()?, self.growth()?, self.buffers(kind)?);
+        let args = self.counted("args", 3, 6)?;
+        let (number, ra, dec) = (value(args[0])?, value(args[1])?, value(args[2])?);
+        let call = Call { kind, parameters, growth, number, ra, dec };
+        let answer = self.counted("answer", 8, 13)?;
+        unused(&answer[8..], "0")?;
+        if self.later && self.parameters()? != parameters {
+            return Err("no call changes the parameters".to_string());
+        }
+        let Growth { expansions, expanded } = self.growth()?;
+        let outcome = Outcome {
+            refusal: value(answer[0])?,
+            page: value(answer[1])?,
+            place: value(answer[2])?,
+            found: value(answer[3])?,
+            ra: value(answer[4])?,
+            dec: value(answer[5])?,
+            due: value(answer[6])?,
+            stars: value(answer[7])?,
+            expansions,
+            expanded,
+        };
+        let after = self.buffers(kind)?;
+        self.counted("end", 0, 0)?;
+        Ok(Vector { call, before, outcome, after })
     }
 }
 
-pub fn parse(text: &str) -> Result<Vec<Vector>, String> {
-    let mut reader = Reader { lines: text.lines().enumerate(), line: 0 };
-    let mut vectors = Vec::new();
-    while reader.lines.clone().any(|(_, line)| !line.trim().is_empty()) {
-        vectors.push(reader.vector()?);
+/// Each vector of a text with the line at which it starts, or what hinders an implementation with these requests from
+/// running it.
+pub fn parse(text: &str, landed: &[u32]) -> Vec<(usize, Result<Vector, String>)> {
+    let lines: Vec<(usize, &str)> = (1..).zip(text.lines()).filter(|(_, line)| !line.trim().is_empty()).collect();
+    let vector = |lines: &[(usize, &str)]| {
+        let later = lines[0].1.starts_with("landed");
+        (lines[0].0, Reader { lines: lines.iter(), later }.vector(landed))
+    };
+    lines.split_inclusive(|(_, line)| line.trim() == "end").map(vector).collect()
+}
+
+/// Runs files of vectors, tells of those that fail and closes with 'N passed, M failed'; whether all passed.
+pub fn run_files(files: impl Iterator<Item = String>, run: Run, landed: &[u32]) -> bool {
+    let (mut passed, mut failed) = (0, 0);
+    for file in files {
+        let vectors = match fs::read_to_string(&file) {
+            Ok(text) => parse(&text, landed),
+            Err(error) => vec![(0, Err(error.to_string()))],
+        };
+        for (line, vector) in vectors {
+            let differences = match vector {
+                Ok(vector) => vector.differences(run),
+                Err(error) => vec![error],
+            };
+            for difference in &differences {
+                println!("{file}, line {line}: {difference}");
+            }
+            *if differences.is_empty() { &mut passed } else { &mut failed } += 1;
+        }
     }
-    Ok(vectors)
+    println!("{passed} passed, {failed} failed");
+    failed == 0
 }
 
 impl Vector {
@@ -90,21 +161,29 @@ impl Vector {
         let mut outcome = run(&self.call, &mut lent);
         let Growth { expansions, expanded } = self.call.growth_after(&outcome);
         (outcome.expansions, outcome.expanded) = (expansions, expanded);
-        differences((&self.outcome, &self.after), (&outcome, &lent))
+        let mut list = Vec::new();
+        if self.outcome != outcome {
+            list.push(format!("{}: expected {:?}, got {outcome:?}", self.call.kind.name(), self.outcome));
+        }
+        compare(&mut list, "separator", &self.after.separators, &lent.separators);
+        compare(&mut list, "number", &self.after.numbers, &lent.numbers);
+        compare(&mut list, "word", &self.after.words, &lent.words);
+        compare(&mut list, "pool number", &self.after.pool_numbers, &lent.pool_numbers);
+        compare(&mut list, "pool word", &self.after.pool_words, &lent.pool_words);
+        list
     }
 
-    /// The vector in the form that `parse` reads.
+    /// The vector in document 02's form.
     pub fn text(&self) -> String {
         let Call { kind, parameters, growth, number, ra, dec } = self.call;
-        let mut text = format!("call {}\n", kind.name());
-        put(&mut text, "params", &parameters.list());
-        put(&mut text, "state", &[growth.expansions, growth.expanded]);
-        put_buffers(&mut text, &self.before);
-        writeln!(text, "args {number} {ra} {dec}").unwrap();
-        let Outcome { refusal, page, place, found, ra, dec, due, stars, expansions, expanded } = self.outcome;
-        writeln!(text, "answer {refusal} {page} {place} {found} {ra} {dec} {due} {stars}").unwrap();
-        put(&mut text, "state", &[expansions, expanded]);
-        put_buffers(&mut text, &self.after);
+        let mut text = String::new();
+        put(&mut text, "landed", LANDED);
+        put(&mut text, "call", &[kind.name()]);
+        put_file(&mut text, kind, &parameters, growth, &self.before);
+        writeln!(text, "args {number} {ra} {dec} 0 0 0").unwrap();
+        let Outcome { refusal, page, place, found, ra, dec, due, stars, .. } = self.outcome;
+        writeln!(text, "answer {refusal} {page} {place} {found} {ra} {dec} {due} {stars} 0 0 0 0 0").unwrap();
+        put_file(&mut text, kind, &parameters, self.outcome.growth(), &self.after);
         text + "end\n"
     }
 }
@@ -117,28 +196,21 @@ fn put<T: Display>(text: &mut String, label: &str, values: &[T]) {
     text.push('\n');
 }
 
-fn put_buffers(text: &mut String, buffers: &Buffers) {
-    put(text, "seps", &buffers.separators);
-    put(text, "nums", &buffers.numbers);
-    put(text, "words", &buffers.words);
-    put(text, "pnums", &buffers.pool_numbers);
-    put(text, "pwords", &buffers.pool_words);
-}
-
-/// Compares two outcomes and all buffers; names each field and each buffer that differs.
-pub fn differences(expected: (&Outcome, &Buffers), got: (&Outcome, &Buffers)) -> Vec<String> {
-    let mut list = Vec::new();
-    if expected.0 != got.0 {
-        list.push(format!("expected {:?}, got {:?}", expected.0, got.0));
+fn put_file(text: &mut String, kind: Kind, parameters: &Parameters, growth: Growth, lent: &Buffers) {
+    put(text, "params", &[&parameters.list()[..], &[16_807]].concat());
+    put(text, "record", &[growth.expansions, growth.expanded, 0, 0]);
+    put(text, "seps", &lent.separators);
+    put(text, "nums", &lent.numbers);
+    put(text, "words", &lent.words);
+    put(text, "owners", &vec![0; lent.numbers.len()]);
+    if kind.takes_pool() {
+        put(text, "pnums", &lent.pool_numbers);
+        put(text, "pwords", &lent.pool_words);
+        put(text, "powners", &vec![0; lent.pool_numbers.len()]);
     }
-    compare(&mut list, "separator", &expected.1.separators, &got.1.separators);
-    compare(&mut list, "number", &expected.1.numbers, &got.1.numbers);
-    compare(&mut list, "word", &expected.1.words, &got.1.words);
-    compare(&mut list, "pool number", &expected.1.pool_numbers, &got.1.pool_numbers);
-    compare(&mut list, "pool word", &expected.1.pool_words, &got.1.pool_words);
-    list
 }
 
+/// Names the buffer and the first item that differs.
 fn compare<T: PartialEq + Display>(list: &mut Vec<String>, name: &str, expected: &[T], got: &[T]) {
     if expected.len() != got.len() {
         list.push(format!("{name}s: expected {} of them, got {}", expected.len(), got.len()));

@@ -1,18 +1,15 @@
 //! Document 01's points about the definitions, and the given vectors, against the model.
 
-use model::hashing::{home, rank, signature, x, MODULUS, MULTIPLIER};
+use model::hashing::{home, rank, signature, x};
 use model::placement::{pack, separator, unpack, word_valid};
-use model::{starline::starline, vectors, Growth, Parameters};
+use model::{points, starline::starline, vectors, Growth, Parameters, LANDED};
 use std::fs;
 
 const FOLDER: &str = concat!(env!("CARGO_MANIFEST_DIR"), "/../vectors");
 
 #[test]
 fn generator() {
-    assert_eq!(x(2, 1), 282_475_249);
-    assert_eq!(x(3, 1), 1_622_650_073);
-    assert_eq!(x(1, 2_147_483_646), 2_147_466_840);
-    assert_eq!((0..10_000).fold(1, |value, _| value * MULTIPLIER % MODULUS), 1_043_618_065);
+    points::generator(x);
 }
 
 #[test]
@@ -29,14 +26,7 @@ fn signatures() {
 
 #[test]
 fn ranks() {
-    assert_eq!([9, 8, 7, 1].map(|group| rank(3, 10, group)), [0, 4, 7, 9]);
-    for groups in 1..=64 {
-        for step in 1..=groups {
-            let mut ranks: Vec<u64> = (0..groups).map(|group| rank(step, groups, group)).collect();
-            ranks.sort();
-            assert!(ranks.into_iter().eq(0..groups));
-        }
-    }
+    points::ranks(rank);
 }
 
 #[test]
@@ -74,12 +64,14 @@ fn position_words() {
 fn call_vectors() {
     for name in ["calls-1.txt", "calls-2.txt"] {
         let text = fs::read_to_string(format!("{FOLDER}/{name}")).unwrap();
-        let vectors = vectors::parse(&text).unwrap();
+        let vectors = vectors::parse(&text, LANDED);
         assert_eq!(vectors.len(), 1_500);
-        for vector in &vectors {
-            assert_eq!(vector.differences(model::run), Vec::<String>::new(), "{name}, line {}", vector.line);
+        for (line, vector) in vectors {
+            let vector = vector.unwrap();
+            assert_eq!(vector.differences(model::run), Vec::<String>::new(), "{name}, line {line}");
+            let text = vector.text();
+            assert_eq!(vectors::parse(&text, LANDED)[0].1.as_ref().unwrap().text(), text);
         }
-        assert_eq!(vectors.iter().map(|vector| vector.text()).collect::<String>(), text);
     }
 }
 
