@@ -11,20 +11,11 @@ use Rattle.hashing.specs.Geometry.{pageCount, highest, grown}
 use Rattle.placement.specs.Rule.{Star, pages, left}
 use Rattle.placement.specs.File.{File, replaced}
 use Rattle.reach.specs.Reach.{firstUnsound, isEmpty}
-use Rattle.starfile.specs.declared.answers.Refusal.{Refusal}
-use Rattle.starfile.specs.declared.answers.Refusal.the-variants.{
-  BadParameters,
-  BadLength,
-  BadNumber,
-  BadPosition,
-  Damaged,
-  Held,
-  NotHeld,
-  Full,
-}
 use Rattle.starfile.specs.declared.answers.Placed.{Placed}
 use Rattle.starfile.specs.declared.answers.Placed.the-variants.{On, Refused}
-use Rattle.starfile.specs.Answers.{Answer, After, Pool, accepted, refused, spotted, placed, refusedBy, numberOf, cleared}
+use Rattle.starfile.proofs.Numbers.{numbered}
+use Rattle.starfile.specs.declared.answers.Answer.{Answer}
+use Rattle.starfile.specs.Answers.{After, Pool, accepted, refused, spotted, placed, refusedBy, numberOf, cleared}
 use Rattle.starfile.specs.Calls.{hash, fileFits, poolFits, unlent, guarded, unchanged, allStars, growTo, growOn, growOf}
 use Rattle.growth_record.specs.Record.{keptBy}
 
@@ -66,17 +57,6 @@ refused-keeps p g f pool =
     (grown-keeps g (eqb (highest p g) (p .pages - 1)) f (cleared pool) (refused 8 0) (growTo p g f (cleared pool) next)
     (replaced-keeps g next (ltb bad (p .pages)) (isEmpty (left (hash p next) 0 (p .pages) stars)) (refused 5 bad) (refused 8 0) (pageCount p g)
     f (replaced (p .places) f 0 (pages (hash p next) 0 (p .pages) stars)) (cleared pool)))
-
-numbered : (r : Refusal) → 1 ≤ numberOf r
-unfolding numberOf
-numbered BadParameters = omega arith
-numbered BadLength = omega arith
-numbered BadNumber = omega arith
-numbered BadPosition = omega arith
-numbered (Damaged page) = omega arith
-numbered Held = omega arith
-numbered NotHeld = omega arith
-numbered Full = omega arith
 
 -- what is kept of an answer and a state that are growth's is growth's state
 pub keeps :

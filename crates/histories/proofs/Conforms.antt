@@ -4,7 +4,8 @@ use Prim.Native.Nat.{ℕ}
 use native.Mathlib.Omega.{arith}
 use borrow.Author.Tests.{eq-eqb, ne-eqb}
 use Rattle.hashing.specs.declared.Parameters.{Parameters}
-use Rattle.starfile.specs.Answers.{Answer, Pool, After}
+use Rattle.starfile.specs.declared.answers.Answer.{Answer}
+use Rattle.starfile.specs.Answers.{Pool, After}
 use Rattle.starfile.specs.Calls.{unchanged}
 use Rattle.histories.specs.Model.{Model, Request, lookUp, updated, fed, fileOf, answered}
 use Rattle.histories.specs.Call.{isAccepted}

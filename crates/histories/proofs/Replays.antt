@@ -11,19 +11,12 @@ use Rattle.hashing.specs.Geometry.{ungrown}
 use Rattle.hashing.specs.Limits.{validParameters}
 use Rattle.placement.specs.File.{File}
 use Rattle.starfile.specs.declared.answers.Refusal.{Refusal}
-use Rattle.starfile.specs.declared.answers.Refusal.the-variants.{
-  BadParameters,
-  BadLength,
-  BadNumber,
-  BadPosition,
-  Damaged,
-  Held,
-  NotHeld,
-  Full,
-}
+use Rattle.starfile.specs.declared.answers.Refusal.the-variants.{BadLength}
 use Rattle.starfile.specs.declared.answers.Placed.{Placed}
 use Rattle.starfile.specs.declared.answers.Placed.the-variants.{On, Refused as NotPlaced}
-use Rattle.starfile.specs.Answers.{Answer, Pool, After, Leaves, unpooled, numberOf, placed, refusedBy, spotted}
+use Rattle.starfile.proofs.Numbers.{numbered}
+use Rattle.starfile.specs.declared.answers.Answer.{Answer}
+use Rattle.starfile.specs.Answers.{Pool, After, Leaves, unpooled, numberOf, placed, refusedBy, spotted}
 use Rattle.starfile.specs.Calls.{fileFits, unless, orElse, guarded, emptyFile, makeOf}
 use Rattle.histories.specs.declared.replaying.Replayed.{Replayed}
 use Rattle.histories.specs.declared.replaying.Replayed.the-variants.{Done, BadKind, Refused}
@@ -37,6 +30,7 @@ use Rattle.histories.specs.Replay.{
   evenLengths,
   evenPool,
   agreeing,
+  unknownKind,
   refusalOf,
   historyOf,
   Replay,
@@ -55,15 +49,7 @@ use Rattle.histories.proofs.Make.{initial-agrees}
 use Rattle.histories.proofs.Every.{conforming, every-history}
 
 refusal-number : (r : Refusal) → numberOf r ≡ suc (numberOf r - 1)
-unfolding numberOf
-refusal-number BadParameters = refl
-refusal-number BadLength = refl
-refusal-number BadNumber = refl
-refusal-number BadPosition = refl
-refusal-number (Damaged page) = refl
-refusal-number Held = refl
-refusal-number NotHeld = refl
-refusal-number Full = refl
+refusal-number r = omega (arith, numbered r)
 
 -- A refused make leaves the file as it was.
 make-refuses : (p : Parameters) (f : File) (pool : Pool) (n : ℕ) → makeOf p f pool .answer .refusal ≡ suc n → makeOf p f pool .file ≡ f
@@ -94,18 +80,18 @@ module _ (p : Parameters) (f : File) (pool : Pool) (h : LentHistory) (answers : 
   pools = evenPool (length (f .numbers)) (length (f .words)) (length (pool .numbers)) (length (pool .words))
 
   pub uneven-history : lengths ≡ false → Replays (replayOf p f pool h answers) (Refused BadLength) answers f pool
-  unfolding refusalOf agreeing refusalSaid growthSaid numberOf
+  unfolding refusalOf agreeing refusalSaid growthSaid
   uneven-history e = refused-replays 1 (rw e) (Refused BadLength) refl refl
 
   module _ (even : lengths ≡ true) where
     pub uneven-pool : pools ≡ false → Replays (replayOf p f pool h answers) (Refused BadLength) answers f pool
-    unfolding refusalOf agreeing refusalSaid growthSaid numberOf
+    unfolding refusalOf agreeing refusalSaid growthSaid
     uneven-pool e = refused-replays 1 (rw (even, e)) (Refused BadLength) refl refl
 
     module _ (lent : pools ≡ true) where
       pub unknown-kind : allKinds (h .kinds) ≡ false → Replays (replayOf p f pool h answers) BadKind answers f pool
       unfolding refusalOf agreeing refusalSaid growthSaid
-      unknown-kind e = refused-replays 8 (rw (even, lent, e)) BadKind refl refl
+      unknown-kind e = refused-replays 255 (rw (even, lent, e)) BadKind refl refl
 
       module _ (known : allKinds (h .kinds) ≡ true) (a : Placed) (file : File) (made : Leaves (makeOf p f unpooled) (placed a) file unpooled) where
         -- the rest is what make says
@@ -154,7 +140,7 @@ unfolding replayOf replayedWith refusalOf
 every-replay p f pool h answers e =
     let n : refusalOf p f pool h answers ≡ 0 = accepted-run (refusalOf p f pool h answers) p f pool h answers e in
     let rest = either-none (unless (agreeing f pool h answers) 2) _ n in
-    let made : makeOf p f unpooled .answer .refusal ≡ 0 = either-none (unless (allKinds (h .kinds)) 9) _ rest in
+    let made : makeOf p f unpooled .answer .refusal ≡ 0 = either-none (unless (allKinds (h .kinds)) unknownKind) _ rest in
     let agrees = end-agrees conforming p (initial p f unpooled) (initial-agrees p f unpooled made) (historyOf p f pool h) in
     record {
       asModel = every-history p f unpooled made (historyOf p f pool h);

@@ -10,7 +10,8 @@ use lib.Seq.{paste, take-at, drop-at, drop-drop}
 use Rattle.hashing.specs.declared.Parameters.{Parameters}
 use Rattle.hashing.specs.declared.Growth.{Growth}
 use Rattle.placement.specs.File.{File}
-use Rattle.starfile.specs.Answers.{Answer, Pool, After}
+use Rattle.starfile.specs.declared.answers.Answer.{Answer}
+use Rattle.starfile.specs.Answers.{Pool, After}
 use Rattle.histories.specs.Model.{Request, emptyModel}
 use Rattle.histories.specs.Call.{step}
 use Rattle.histories.specs.Run.{State, outcome, next, events, end}

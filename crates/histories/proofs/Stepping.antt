@@ -13,7 +13,8 @@ use Rattle.pages.specs.Position.{validNumber, validPosition, packed}
 use Rattle.placement.specs.Rule.{Star}
 use Rattle.placement.specs.File.{File}
 use Rattle.reach.specs.Reach.{pagesTo, entryEnd, removalEnd, entersWithin, firstUnsound}
-use Rattle.starfile.specs.Answers.{Answer, Pool, After, Leaves, unpooled}
+use Rattle.starfile.specs.declared.answers.Answer.{Answer}
+use Rattle.starfile.specs.Answers.{Pool, After, Leaves, unpooled}
 use Rattle.starfile.specs.Calls.{
   hash,
   fileFits,
@@ -42,11 +43,10 @@ use Rattle.starfile.specs.Calls.{
   dueOf,
   checkOf,
 }
-use Rattle.histories.specs.declared.answering.Answered.{Answered}
 use Rattle.histories.specs.declared.calling.Stepped.{Stepped}
 use Rattle.histories.specs.Call.{step}
 use Rattle.histories.specs.Replay.{requestOf, encoded}
-use Rattle.histories.specs.Steps.{said, Steps, Written}
+use Rattle.histories.specs.Steps.{Steps, Written}
 
 -- A call that only answers leaves every pool as it was.
 only-answers : (g : Growth) (f : File) (pool : Pool) (n : ℕ) (a : Answer)
@@ -127,18 +127,18 @@ module _ (p : Parameters) (g : Growth) (f : File) (pool : Pool) where
   check-growth = guarded-growth g f pool (unlent p g (fileFits p f && poolFits p pool)) _ refl
 
   -- The step of each kind, from what its call ensures.
-  module _ (kind k : ℕ) (q : Position) (a : Answered) where
-    pub look-up-steps : kind ≡ 0 → said a ≡ lookUpOf p g f unpooled k .answer
+  module _ (kind k : ℕ) (q : Position) (a : Answer) where
+    pub look-up-steps : kind ≡ 0 → a ≡ lookUpOf p g f unpooled k .answer
         → Steps (step p g f pool (requestOf kind k q)) (record { answer = a; growth = g }) f pool
     unfolding step requestOf
     look-up-steps e h = rw (e, look-up-over k) (record { answers = h; growths = refl; files = refl; pools = refl })
 
-    pub due-steps : kind ≡ 5 → said a ≡ dueOf p g f unpooled .answer
+    pub due-steps : kind ≡ 5 → a ≡ dueOf p g f unpooled .answer
         → Steps (step p g f pool (requestOf kind k q)) (record { answer = a; growth = g }) f pool
     unfolding step requestOf
     due-steps e h = rw (e, due-over) (record { answers = h; growths = refl; files = refl; pools = refl })
 
-    module _ (said-so : Answer) (h : said a ≡ said-so) where
+    module _ (said-so : Answer) (h : a ≡ said-so) where
       pub change-steps : (file : File) → kind ≡ 2 → Leaves (changeOf p g f unpooled k q) said-so file unpooled
           → Steps (step p g f pool (requestOf kind k q)) (record { answer = a; growth = g }) file pool
       unfolding step requestOf
@@ -171,7 +171,7 @@ module _ (p : Parameters) (g : Growth) (f : File) (pool : Pool) where
 
 -- the answers of a step, written
 pub written : (after : After) (r : Stepped) (file : File) (pool : Pool) (before answers : List ℕ) (at : ℕ)
-    → Steps after r file pool → answers ≡ paste before at (encoded (said (r .answer))) 8
+    → Steps after r file pool → answers ≡ paste before at (encoded (r .answer)) 8
     → Written after before at (r .growth) answers file pool
 written after r file pool before answers at s w =
     record {

@@ -4,7 +4,8 @@ use lib.Dec.{eqb}
 use Rattle.hashing.specs.declared.Parameters.{Parameters}
 use Rattle.hashing.specs.declared.Growth.{Growth}
 use Rattle.placement.specs.File.{File}
-use Rattle.starfile.specs.Answers.{Answer, Pool, After}
+use Rattle.starfile.specs.declared.answers.Answer.{Answer}
+use Rattle.starfile.specs.Answers.{Pool, After}
 use Rattle.starfile.specs.Calls.{lookUpOf, enterOf, changeOf, removeOf, growOf, dueOf, checkOf}
 use Rattle.histories.specs.Model.{Request, lookUp, enter, change, remove, grow, due, check}
 

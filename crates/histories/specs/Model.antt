@@ -11,7 +11,8 @@ use Rattle.pages.specs.declared.position.Position.{Position}
 use Rattle.pages.specs.Position.{packed}
 use Rattle.placement.specs.Rule.{Star, first, filter}
 use Rattle.placement.specs.File.{File, laid}
-use Rattle.starfile.specs.Answers.{Answer, accepted, foundAt}
+use Rattle.starfile.specs.declared.answers.Answer.{Answer}
+use Rattle.starfile.specs.Answers.{accepted, foundAt}
 use Rattle.starfile.specs.Calls.{hash}
 
 pub record Entry : Type 0 where

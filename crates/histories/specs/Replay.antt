@@ -11,7 +11,8 @@ use Rattle.hashing.specs.declared.Growth.{Growth}
 use Rattle.hashing.specs.Geometry.{ungrown}
 use Rattle.pages.specs.declared.position.Position.{Position}
 use Rattle.placement.specs.File.{File}
-use Rattle.starfile.specs.Answers.{Answer, Pool, numberOf, unpooled}
+use Rattle.starfile.specs.declared.answers.Answer.{Answer}
+use Rattle.starfile.specs.Answers.{Pool, numberOf, unpooled}
 use Rattle.starfile.specs.Calls.{unless, orElse, makeOf}
 use Rattle.histories.specs.declared.replaying.Replayed.{Replayed}
 use Rattle.histories.specs.declared.replaying.Replayed.the-variants.{Done, BadKind, Refused}
@@ -124,11 +125,15 @@ agreeing f pool h answers =
     evenLengths (length (h .kinds)) (length (h .stars)) (length (h .ras)) (length (h .decs)) (length answers)
     && evenPool (length (f .numbers)) (length (f .words)) (length (pool .numbers)) (length (pool .words))
 
--- lengths that do not agree are 2, an unknown kind 9, else it is what make says of parameters and lengths
+-- an unknown kind: a number that no paper uses
+abbrev pub unknownKind : ℕ
+unknownKind = 256
+
+-- lengths that do not agree are 2, then an unknown kind, else it is what make says of parameters and lengths
 unfoldable pub refusalOf : Parameters → File → Pool → LentHistory → List ℕ → ℕ
 refusalOf p f pool h answers =
     orElse (unless (agreeing f pool h answers) 2)
-    (orElse (unless (allKinds (h .kinds)) 9) (makeOf p f unpooled .answer .refusal))
+    (orElse (unless (allKinds (h .kinds)) unknownKind) (makeOf p f unpooled .answer .refusal))
 
 -- the history of a replay, from the file that make left
 abbrev pub historyOf : Parameters → File → Pool → LentHistory → List Call
@@ -152,7 +157,7 @@ replayOf p f pool h answers = replayedWith (refusalOf p f pool h answers) p f po
 -- the number of each case of the answer
 unfoldable pub refusalSaid : Replayed → ℕ
 refusalSaid (Done growth) = 0
-refusalSaid BadKind = 9
+refusalSaid BadKind = unknownKind
 refusalSaid (Refused r) = numberOf r
 
 unfoldable pub growthSaid : Replayed → Growth

@@ -7,28 +7,14 @@ use lib.Seq.{paste}
 use Rattle.hashing.specs.declared.Parameters.{Parameters}
 use Rattle.hashing.specs.declared.Growth.{Growth}
 use Rattle.placement.specs.File.{File}
-use Rattle.starfile.specs.Answers.{Answer, Pool, After}
-use Rattle.histories.specs.declared.answering.Answered.{Answered}
+use Rattle.starfile.specs.Answers.{Pool, After}
 use Rattle.histories.specs.declared.calling.Stepped.{Stepped}
 use Rattle.histories.specs.Model.{Request}
 use Rattle.histories.specs.Run.{State, events, end}
 use Rattle.histories.specs.Replay.{LentHistory, historyFrom, poolAfter, encoded, answersOf}
 
--- an answer in the form of the code
-abbrev pub said : Answered → Answer
-said a =
-    record {
-      refusal = a .refusal;
-      page = a .page;
-      place = a .place;
-      found = a .found;
-      position = a .position;
-      due = a .due;
-      stars = a .stars;
-    }
-
 pub record Steps (after : After) (r : Stepped) (file : File) (pool : Pool) : Type 0 where
-  pub answers : said (r .answer) ≡ after .answer
+  pub answers : r .answer ≡ after .answer
   pub growths : r .growth ≡ after .growth
   pub files : file ≡ after .file
   pub pools : pool ≡ after .pool

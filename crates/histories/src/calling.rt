@@ -6,18 +6,18 @@ ghost use Rattle.starfile.specs.Answers.{lent, pooled};
 ghost use Rattle.histories.specs.Call.{step};
 ghost use Rattle.histories.specs.Replay.{requestOf};
 ghost use Rattle.histories.specs.Steps.{Steps, Written};
-use crate::answering::Answered;
-use crate::answering::checked_answer;
-use crate::answering::due_answer;
-use crate::answering::placed_answer;
-use crate::answering::sought_answer;
 use hashing::Growth;
 use hashing::Parameters;
 use pages::position::Position;
+use starfile::answers::Answer;
+use starfile::answers::checked_answer;
+use starfile::answers::due_answer;
+use starfile::answers::placed_answer;
+use starfile::answers::sought_answer;
 
 // What a call answered, and the growth state after it.
 pub struct Stepped {
-    pub answer: Answered,
+    pub answer: Answer,
     pub growth: Growth,
 }
 
@@ -108,7 +108,7 @@ fn run_call(
     unmoved(checked_answer(checked), growth)
 }
 
-fn unmoved(answer: Answered, growth: Growth) -> Stepped
+fn unmoved(answer: Answer, growth: Growth) -> Stepped
     ensures { λ r. ⌜ r ≡ record { answer = answer; growth = growth } ⌝ }
 {
     Stepped { answer, growth }

@@ -1,18 +1,19 @@
 -- Laws of the replies to commands. Only growth steps the growth state.
 use Prim.Native.Nat.{ℕ, zero, suc}
 use mathlib.Core.Bool.{Bool, true, false, cond, _&&_}
-use mathlib.Core.Path.{_≡_, refl, ap, _∙_}
+use mathlib.Core.Path.{_≡_, refl, sym, ap, _∙_}
 use Rattle.hashing.specs.declared.Growth.{Growth}
 use Rattle.hashing.specs.declared.Parameters.{Parameters}
 use Rattle.lines.specs.declared.Command.{Command}
 use Rattle.lines.specs.declared.Command.the-variants.{LookUp}
 use Rattle.lines.specs.declared.Reply.{Reply}
-use Rattle.lines.specs.declared.Reply.the-variants.{Refused}
+use Rattle.lines.specs.declared.Reply.the-variants.{Found, Missing}
 use Rattle.pages.specs.Position.{validNumber, validPosition, packed}
 use Rattle.pages.specs.declared.position.Position.{Position}
 use Rattle.placement.specs.File.{File}
 use Rattle.placement.specs.Rule.{Star}
-use Rattle.starfile.specs.Answers.{Answer, After, Pool, cleared, Leaves, lent, unpooled, spotted, refusedBy, numberOf, pageOf}
+use Rattle.starfile.specs.declared.answers.Answer.{Answer}
+use Rattle.starfile.specs.Answers.{After, Pool, cleared, Leaves, lent, unpooled}
 use Rattle.starfile.specs.Calls.{
   fileFits,
   poolFits,
@@ -31,32 +32,17 @@ use Rattle.starfile.specs.Calls.{
   removeOn,
   removeTo,
 }
-use Rattle.starfile.specs.declared.answers.Refusal.{Refusal}
-use Rattle.starfile.specs.declared.answers.Refusal.the-variants.{
-  BadParameters,
-  BadLength,
-  BadNumber,
-  BadPosition,
-  Damaged,
-  Held,
-  NotHeld,
-  Full,
-}
-use Rattle.sessions.specs.Commands.{starline, State, stateOf, called, unlessRefused, replyWith, replyOf, nextOf, Follows}
+use Rattle.sessions.specs.Commands.{starline, State, stateOf, called, unlessRefused, foundReply, replyWith, replyOf, nextOf, Follows}
 use Rattle.sessions.specs.declared.commands.Replied.{Replied}
 
--- a refusal is shown with its number and page, whatever an accepted call would show
-pub refused-shown :
-    (r : Refusal) (reply : Reply) → unlessRefused (refusedBy r) reply ≡ Refused (numberOf r) (pageOf r)
-unfolding unlessRefused refusedBy numberOf pageOf spotted
-refused-shown BadParameters reply = refl
-refused-shown BadLength reply = refl
-refused-shown BadNumber reply = refl
-refused-shown BadPosition reply = refl
-refused-shown (Damaged page) reply = refl
-refused-shown Held reply = refl
-refused-shown NotHeld reply = refl
-refused-shown Full reply = refl
+-- what a look-up shows, by whether the star was found
+pub shown :
+    (a : Answer) (found : Bool) (r : Reply) → a .found ≡ found →
+    r ≡ unlessRefused a (cond found (Found (a .page) (a .position .ra) (a .position .dec)) (Missing (a .page))) →
+    r ≡ foundReply a
+unfolding foundReply
+shown a found r e h =
+    h ∙ ap (λ (t : Bool). unlessRefused a (cond t (Found (a .page) (a .position .ra) (a .position .dec)) (Missing (a .page)))) (sym e)
 
 cond-growth : (t : Bool) (a b : After) → cond t a b .growth ≡ cond t (a .growth) (b .growth)
 cond-growth true a b = refl

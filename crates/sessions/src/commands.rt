@@ -1,17 +1,15 @@
 // The star file of the program, and its reply to each command.
 ghost use mathlib.Core.Path.{_≡_};
 ghost use Rattle.lines.specs.declared.Command.the-variants.{Enter, LookUp, Remove, Grow};
-ghost use Rattle.lines.specs.declared.Reply.the-variants.{Refused};
-ghost use Rattle.starfile.specs.Answers.{placed, sought, numberOf, pageOf};
-ghost use Rattle.sessions.specs.Commands.{starline, newFile, stateOf, placedReply, foundReply, replyOf, Follows};
+ghost use Rattle.sessions.specs.Commands.{starline, newFile, stateOf, unlessRefused, placedReply, foundReply, replyOf, Follows};
 use hashing::Growth;
 use hashing::Parameters;
 use lines::Command;
 use lines::Reply;
 use pages::position::Position;
-use starfile::answers::Found;
-use starfile::answers::Placed;
-use starfile::answers::Refusal;
+use starfile::answers::Answer;
+use starfile::answers::placed_answer;
+use starfile::answers::sought_answer;
 
 // M = 8 pages of b = 2 places. The pool of a call is made for that call.
 pub struct StarFile {
@@ -95,7 +93,7 @@ fn enter(file: StarFile, number: u32, position: Position) -> Replied
         position,
     );
     Replied {
-        reply: placed_reply(answer),
+        reply: placed_reply(placed_answer(answer)),
         file: StarFile {
             growth,
             separators,
@@ -112,7 +110,8 @@ fn look_up(file: StarFile, number: u32) -> Reply
     let separators = file.separators;
     let numbers = file.numbers;
     let words = file.words;
-    found_reply(starfile::look_up(parameters(), growth, &separators, &numbers, &words, number))
+    let found = starfile::look_up(parameters(), growth, &separators, &numbers, &words, number);
+    found_reply(sought_answer(found))
 }
 
 fn remove(file: StarFile, number: u32) -> Replied
@@ -135,7 +134,7 @@ fn remove(file: StarFile, number: u32) -> Replied
         number,
     );
     Replied {
-        reply: placed_reply(answer),
+        reply: placed_reply(placed_answer(answer)),
         file: StarFile {
             growth,
             separators,
@@ -166,7 +165,7 @@ fn grow(file: StarFile) -> Replied
     let answer = grown.answer;
     let next = grown.growth;
     Replied {
-        reply: placed_reply(answer),
+        reply: placed_reply(placed_answer(answer)),
         file: StarFile {
             growth: next,
             separators,
@@ -176,46 +175,36 @@ fn grow(file: StarFile) -> Replied
     }
 }
 
-fn placed_reply(answer: Placed) -> Reply
-    ensures { λ r. ⌜ r ≡ placedReply (placed answer) ⌝ }
+fn placed_reply(answer: Answer) -> Reply
+    ensures { λ r. ⌜ r ≡ placedReply answer ⌝ }
 {
-    match answer {
-        Placed::On(page) => Reply::Accepted(page),
-        Placed::Refused(refusal) => refused_reply(refusal),
-    }
+    unless_refused(answer, Reply::Accepted(answer.page))
 }
 
-fn found_reply(answer: Found) -> Reply
-    ensures { λ r. ⌜ r ≡ foundReply (sought answer) ⌝ }
+fn found_reply(answer: Answer) -> Reply
+    ensures { λ r. ⌜ r ≡ foundReply answer ⌝ }
 {
-    match answer {
-        Found::At(page, position) => Reply::Found {
-            page,
-            ra: position.ra,
-            dec: position.dec,
-        },
-        Found::Absent(page) => Reply::Missing(page),
-        Found::Refused(refusal) => refused_reply(refusal),
+    let page = answer.page;
+    if !answer.found {
+        return unless_refused(answer, Reply::Missing(page));
     }
+    let position = answer.position;
+    let reply = Reply::Found {
+        page,
+        ra: position.ra,
+        dec: position.dec,
+    };
+    unless_refused(answer, reply)
 }
 
-fn refused_reply(refusal: Refusal) -> Reply
-    ensures { λ r. ⌜ r ≡ Refused (numberOf refusal) (pageOf refusal) ⌝ }
+fn unless_refused(answer: Answer, reply: Reply) -> Reply
+    ensures { λ r. ⌜ r ≡ unlessRefused answer reply ⌝ }
 {
-    match refusal {
-        Refusal::BadParameters => refusal_without_page(1),
-        Refusal::BadLength => refusal_without_page(2),
-        Refusal::BadNumber => refusal_without_page(3),
-        Refusal::BadPosition => refusal_without_page(4),
-        Refusal::Damaged(page) => Reply::Refused { refusal: 5, page },
-        Refusal::Held => refusal_without_page(6),
-        Refusal::NotHeld => refusal_without_page(7),
-        Refusal::Full => refusal_without_page(8),
+    if answer.refusal == 0 {
+        return reply;
     }
-}
-
-fn refusal_without_page(refusal: u32) -> Reply
-    ensures { λ r. ⌜ r ≡ Refused refusal 0 ⌝ }
-{
-    Reply::Refused { refusal, page: 0 }
+    Reply::Refused {
+        refusal: answer.refusal,
+        page: answer.page,
+    }
 }

@@ -1,6 +1,7 @@
 pub mod Accepting
 pub mod Finding
 pub mod Making
+pub mod Numbers
 pub mod Outcomes
 pub mod Points
 pub mod Pools

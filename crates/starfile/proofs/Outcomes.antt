@@ -29,7 +29,7 @@ use Rattle.replacing.specs.Calls.{removalAnswer, removalFile, growthAnswer, gro
 use Rattle.replacing.specs.Calls as removal
 use Rattle.comparing.specs.declared.checking.Verdict.the-variants.{Clean, Differs, Unsound as verdict·Unsound}
 use Rattle.comparing.specs.Verdicts.{verdictOf}
-use Rattle.starfile.specs.Answers.{Answer, After, Pool, placed, checked, refusedBy, numberOf, pageOf, accepted, refused, spotted}
+use Rattle.starfile.specs.Answers.{Answer, After, Pool, placed, checked, refusedBy, accepted, refused, spotted}
 use Rattle.starfile.specs.Calls.{hash, unchanged, enterTo, removeTo, growTo, checkedAt, allStars}
 use Rattle.starfile.specs.Outcomes.{EntrySmall, entryPlaced, ReplacedSmall, replacedPlaced, replacedGrown, VerdictSmall, verdictChecked}
 
@@ -113,7 +113,7 @@ module _ (p : Parameters) (g : Growth) (f : File) (pool : Pool) where
         ≡ cond t (unchanged g f pool (refused 5 bad)) (cond u (record { answer = accepted page; growth = g; file = next; pool = pool }) (unchanged g f pool (refused 8 0))) .answer)
         × (cond t f (cond u next f)
         ≡ cond t (unchanged g f pool (refused 5 bad)) (cond u (record { answer = accepted page; growth = g; file = next; pool = pool }) (unchanged g f pool (refused 8 0))) .file)
-    unfolding placed refusedBy numberOf pageOf
+    unfolding placed refusedBy
     entered-cases true u bad page next = (refl, refl)
     entered-cases false true bad page next = (refl, refl)
     entered-cases false false bad page next = (refl, refl)
@@ -132,7 +132,7 @@ module _ (p : Parameters) (g : Growth) (f : File) (pool : Pool) where
   removed-cases : (t : Bool) (bad page : ℕ) (next : File)
       → (placed (replacedPlaced (cond t (replaced·Unsound bad) Done) page) ≡ cond t (unchanged g f pool (refused 5 bad)) (record { answer = accepted page; growth = g; file = next; pool = pool }) .answer)
       × (cond t f next ≡ cond t (unchanged g f pool (refused 5 bad)) (record { answer = accepted page; growth = g; file = next; pool = pool }) .file)
-  unfolding placed refusedBy numberOf pageOf
+  unfolding placed refusedBy
   removed-cases true bad page next = (refl, refl)
   removed-cases false bad page next = (refl, refl)
 
@@ -155,7 +155,7 @@ module _ (p : Parameters) (g : Growth) (f : File) (pool : Pool) where
       ≡ cond t (unchanged g f pool (refused 5 bad)) (cond u (record { answer = accepted page; growth = next; file = to; pool = pool }) (unchanged g f pool (refused 8 0))) .file)
       × (replacedGrown (cond t (replaced·Unsound bad) (cond u Done replaced·Overflows)) page g next .growth
       ≡ cond t (unchanged g f pool (refused 5 bad)) (cond u (record { answer = accepted page; growth = next; file = to; pool = pool }) (unchanged g f pool (refused 8 0))) .growth)
-  unfolding placed refusedBy numberOf pageOf
+  unfolding placed refusedBy
   grown-cases true u bad page next to = (refl, refl, refl)
   grown-cases false true bad page next to = (refl, refl, refl)
   grown-cases false false bad page next to = (refl, refl, refl)
@@ -178,7 +178,7 @@ module _ (p : Parameters) (g : Growth) (f : File) (pool : Pool) where
 
 module _ (p : Parameters) (v : validParameters p ≡ true) (bad spot : ℕ) where
   pub verdict-is : checked (verdictChecked (verdictOf p bad spot) (p .places)) ≡ checkedAt p bad spot
-  unfolding verdictOf checkedAt checked
+  unfolding verdictOf checkedAt checked refusedBy
   verdict-is = go (ltb bad (p .pages)) (ltb spot (p .pages * suc (p .places)))
     where
       go : (t u : Bool)

@@ -9,6 +9,7 @@ use Rattle.hashing.specs.declared.Growth.{Growth}
 use Rattle.pages.specs.declared.position.Position.{Position}
 use Rattle.placement.specs.File.{File}
 pub use Rattle.placement.specs.Hash.{lent}
+pub use Rattle.starfile.specs.declared.answers.Answer.{Answer}
 use Rattle.starfile.specs.declared.answers.Refusal.{Refusal}
 use Rattle.starfile.specs.declared.answers.Refusal.the-variants.{
   BadParameters,
@@ -27,17 +28,7 @@ use Rattle.starfile.specs.declared.answers.Found.the-variants.{At, Absen
 use Rattle.starfile.specs.declared.answers.Due.{Due}
 use Rattle.starfile.specs.declared.answers.Due.the-variants.{Yes, No, Refused as NotCounted}
 use Rattle.starfile.specs.declared.answers.Checked.{Checked}
-use Rattle.starfile.specs.declared.answers.Checked.the-variants.{Clean, Differs, Refused as NotChecked}
-
--- Document 01's number (0 if accepted) and values; a value that a call does not name is 0, no or (0, 0).
-pub record Answer : Type 0 where
-  pub refusal : ℕ
-  pub page : ℕ
-  pub place : ℕ
-  pub found : Bool
-  pub position : Position
-  pub due : Bool
-  pub stars : ℕ
+use Rattle.starfile.specs.declared.answers.Checked.the-variants.{Clean, Refused as NotChecked}
 
 abbrev pub origin : Position
 origin = record { ra = 0; dec = pos 0 }
@@ -71,8 +62,8 @@ unfoldable pub counted : Bool → ℕ → Answer
 counted due stars =
     record { refusal = 0; page = 0; place = 0; found = false; position = origin; due = due; stars = stars }
 
--- the paper's number of each refusal
-unfoldable pub numberOf : Refusal → ℕ
+-- the papers' number of each refusal
+abbrev pub numberOf : Refusal → ℕ
 numberOf BadParameters = 1
 numberOf BadLength = 2
 numberOf BadNumber = 3
@@ -83,7 +74,7 @@ numberOf NotHeld = 7
 numberOf Full = 8
 
 -- the page that goes with it
-unfoldable pub pageOf : Refusal → ℕ
+abbrev pub pageOf : Refusal → ℕ
 pageOf BadParameters = 0
 pageOf BadLength = 0
 pageOf BadNumber = 0
@@ -93,28 +84,28 @@ pageOf Held = 0
 pageOf NotHeld = 0
 pageOf Full = 0
 
-unfoldable pub refusedBy : Refusal → Answer
-refusedBy r = refused (numberOf r) (pageOf r)
+-- refused, with a place
+unfoldable pub refusedBy : Refusal → ℕ → Answer
+refusedBy r place = spotted (numberOf r) (pageOf r) place
 
--- the paper's number and values for each case of an answer
+-- the papers' number and values for each case of an answer
 unfoldable pub placed : Placed → Answer
 placed (On page) = accepted page
-placed (NotPlaced r) = refusedBy r
+placed (NotPlaced r) = refusedBy r 0
 
 unfoldable pub sought : Found → Answer
 sought (At page position) = foundAt page position
 sought (Absent page) = accepted page
-sought (NotSought r) = refusedBy r
+sought (NotSought r) = refusedBy r 0
 
 unfoldable pub dueSaid : Due → Answer
 dueSaid (Yes stars) = counted true stars
 dueSaid (No stars) = counted false stars
-dueSaid (NotCounted r) = refusedBy r
+dueSaid (NotCounted r) = refusedBy r 0
 
 unfoldable pub checked : Checked → Answer
 checked Clean = accepted 0
-checked (Differs page place) = spotted 5 page place
-checked (NotChecked r) = refusedBy r
+checked (NotChecked r place) = refusedBy r place
 
 -- the lent pool
 pub record Pool : Type 0 where

@@ -13,7 +13,7 @@ use Rattle.starfile.specs.declared.answers.Placed.{Placed}
 use Rattle.starfile.specs.declared.answers.Placed.the-variants.{On as placed·On, Refused}
 use Rattle.starfile.specs.declared.answers.Grown.{Grown}
 use Rattle.starfile.specs.declared.answers.Checked.{Checked}
-use Rattle.starfile.specs.declared.answers.Checked.the-variants.{Clean as checked·Clean, Differs as checked·Differs}
+use Rattle.starfile.specs.declared.answers.Checked.the-variants.{Clean as checked·Clean, Refused as checked·Refused}
 
 abbrev pub EntrySmall : Entered → Type 0
 EntrySmall (On page) = page < 2 ^ 32
@@ -52,5 +52,5 @@ VerdictSmall (verdict·Unsound page) = page < 2 ^ 32
 -- an unsound page is told with the place b
 abbrev pub verdictChecked : Verdict → ℕ → Checked
 verdictChecked Clean places = checked·Clean
-verdictChecked (Differs page place) places = checked·Differs page place
-verdictChecked (verdict·Unsound page) places = checked·Differs page places
+verdictChecked (Differs page place) places = checked·Refused (Damaged page) place
+verdictChecked (verdict·Unsound page) places = checked·Refused (Damaged page) places

@@ -27,7 +27,7 @@ pub fn check(
     ensures { λ r. ⌜ Leaves (checkOf parameters growth (lent (now (separators .entry)) (now (numbers .entry)) (now (words .entry))) (pooled (now (poolnumbers .entry)) (now (poolwords .entry)))) (checked r) (lent (now (separators .entry)) (now (numbers .entry)) (now (words .entry))) (pooled (now (poolnumbers .exit)) (now (poolwords .exit))) ⌝ }
 {
     if !state_valid(parameters, growth) {
-        return Checked::Refused(Refusal::BadParameters);
+        return Checked::Refused(Refusal::BadParameters, 0);
     }
     if !all_fit(
         parameters,
@@ -37,7 +37,7 @@ pub fn check(
         poolnumbers.len(),
         poolwords.len(),
     ) {
-        return Checked::Refused(Refusal::BadLength);
+        return Checked::Refused(Refusal::BadLength, 0);
     }
     let table = hashing::multipliers();
     let verdict = comparing::check_file(
@@ -59,13 +59,9 @@ fn verdict_checked(verdict: Verdict, places: u32) -> Checked
 {
     match verdict {
         Verdict::Clean => Checked::Clean,
-        Verdict::Differs { page, place } => Checked::Differs {
-            page: page as u32,
-            place: place as u32,
-        },
-        Verdict::Unsound(page) => Checked::Differs {
-            page: page as u32,
-            place: places,
-        },
+        Verdict::Differs { page, place } => {
+            Checked::Refused(Refusal::Damaged(page as u32), place as u32)
+        }
+        Verdict::Unsound(page) => Checked::Refused(Refusal::Damaged(page as u32), places),
     }
 }

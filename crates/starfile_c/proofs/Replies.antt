@@ -1,8 +1,11 @@
--- What a call leaves, read from the reply instead of the answer.
-use mathlib.Core.Path.{_≡_, _∙_}
+-- What a call leaves, told by its reply.
+use mathlib.Core.Path.{_≡_, ap, _∙_}
 use Rattle.placement.specs.File.{File}
-use Rattle.starfile.specs.Answers.{Answer, Pool, After, Leaves}
+use Rattle.starfile.specs.declared.answers.Answer.{Answer}
+use Rattle.starfile.specs.Answers.{Pool, After, Leaves}
+use Rattle.starfile_c.specs.declared.Reply.{Reply}
+use Rattle.starfile_c.specs.Reply.{Replies, replyOf}
 
-pub told : {after : After} {answer reply : Answer} {file : File} {pool : Pool} →
-    reply ≡ answer → Leaves after answer file pool → Leaves after reply file pool
-told e l = record { answers = e ∙ l .answers; files = l .files; pools = l .pools }
+pub told : {after : After} {said answer : Answer} {reply : Reply} {file : File} {pool : Pool} →
+    reply ≡ replyOf said → said ≡ answer → Leaves after answer file pool → Replies after reply file pool
+told r e l = record { replies = r ∙ ap replyOf (e ∙ l .answers); files = l .files; pools = l .pools }

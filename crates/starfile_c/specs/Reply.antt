@@ -1,11 +1,13 @@
 -- What the numbers that C programs pass and get stand for.
-use mathlib.Core.Bool.{false}
+use mathlib.Core.Path.{_≡_}
 use Prim.Native.Nat.{ℕ}
 use lib.IntN.{ℤ}
 use Rattle.hashing.specs.declared.Parameters.{Parameters}
 use Rattle.hashing.specs.declared.Growth.{Growth}
 use Rattle.pages.specs.declared.position.Position.{Position}
-use Rattle.starfile.specs.Answers.{Answer}
+use Rattle.placement.specs.File.{File}
+use Rattle.starfile.specs.declared.answers.Answer.{Answer}
+use Rattle.starfile.specs.Answers.{Pool, After}
 use Rattle.starfile_c.specs.declared.Reply.{Reply}
 
 -- b, N, n0, s, k, A, M
@@ -28,15 +30,19 @@ growthOf expansions expanded = record { expansions = expansions; expanded = expa
 abbrev pub positionOf : ℕ → ℤ → Position
 positionOf ra dec = record { ra = ra; dec = dec }
 
--- a reply's number and values; these three calls name no place, Due or count
-unfoldable pub replied : Reply → Answer
-replied r =
+-- of an answer's number and values those that the three calls name
+abbrev pub replyOf : Answer → Reply
+replyOf a =
     record {
-      refusal = r .refusal;
-      page = r .page;
-      place = 0;
-      found = r .found;
-      position = positionOf (r .ra) (r .dec);
-      due = false;
-      stars = 0;
+      refusal = a .refusal;
+      page = a .page;
+      ra = a .position .ra;
+      dec = a .position .dec;
+      found = a .found;
     }
+
+-- the reply and the buffers at exit are those of the definition
+pub record Replies (after : After) (reply : Reply) (file : File) (pool : Pool) : Type 0 where
+  pub replies : reply ≡ replyOf (after .answer)
+  pub files : file ≡ after .file
+  pub pools : pool ≡ after .pool

@@ -1,15 +1,15 @@
 // The look-up, the entry and the removal for C programs, on numbers and slices. include/starfile.h declares them.
 // Each refuses every bad length and value itself. A contract gives the reply and every lent item at exit by starfile's definitions.
 ghost use mathlib.Core.Path.{_≡_};
-ghost use Rattle.starfile.specs.Answers.{Leaves, lent, pooled, unpooled, sought, placed, refused, refusedBy};
+ghost use Rattle.starfile.specs.Answers.{lent, pooled, unpooled};
 ghost use Rattle.starfile.specs.Calls.{lookUpOf, enterOf, removeOf};
-ghost use Rattle.starfile_c.specs.Reply.{replied, parametersOf, growthOf, positionOf};
+ghost use Rattle.starfile_c.specs.Reply.{Replies, replyOf, parametersOf, growthOf, positionOf};
 use hashing::Growth;
 use hashing::Parameters;
 use pages::position::Position;
-use starfile::answers::Found;
-use starfile::answers::Placed;
-use starfile::answers::Refusal;
+use starfile::answers::Answer;
+use starfile::answers::placed_answer;
+use starfile::answers::sought_answer;
 
 // Document 01's refusal number, 0 if accepted, and its values; a value that a call does not name is 0 or false.
 #[repr(C)]
@@ -37,7 +37,7 @@ pub extern "C" fn heatherplane_look_up(
     words: &[u64],
     number: u32,
 ) -> Reply
-    ensures { λ r. ⌜ replied r ≡ lookUpOf (parametersOf places groups width step bits load pages) (growthOf expansions expanded) (lent (now (separators .entry)) (now (numbers .entry)) (now (words .entry))) unpooled number .answer ⌝ }
+    ensures { λ r. ⌜ r ≡ replyOf (lookUpOf (parametersOf places groups width step bits load pages) (growthOf expansions expanded) (lent (now (separators .entry)) (now (numbers .entry)) (now (words .entry))) unpooled number .answer) ⌝ }
 {
     let parameters = Parameters {
         places,
@@ -52,7 +52,8 @@ pub extern "C" fn heatherplane_look_up(
         expansions,
         expanded,
     };
-    reply_found(starfile::look_up(parameters, growth, separators, numbers, words, number))
+    let found = starfile::look_up(parameters, growth, separators, numbers, words, number);
+    reply_of(sought_answer(found))
 }
 
 #[no_mangle]
@@ -75,7 +76,7 @@ pub extern "C" fn heatherplane_enter(
     ra: u32,
     dec: i32,
 ) -> Reply
-    ensures { λ r. ⌜ Leaves (enterOf (parametersOf places groups width step bits load pages) (growthOf expansions expanded) (lent (now (separators .entry)) (now (numbers .entry)) (now (words .entry))) (pooled (now (poolnumbers .entry)) (now (poolwords .entry))) number (positionOf ra dec)) (replied r) (lent (now (separators .exit)) (now (numbers .exit)) (now (words .exit))) (pooled (now (poolnumbers .exit)) (now (poolwords .exit))) ⌝ }
+    ensures { λ r. ⌜ Replies (enterOf (parametersOf places groups width step bits load pages) (growthOf expansions expanded) (lent (now (separators .entry)) (now (numbers .entry)) (now (words .entry))) (pooled (now (poolnumbers .entry)) (now (poolwords .entry))) number (positionOf ra dec)) r (lent (now (separators .exit)) (now (numbers .exit)) (now (words .exit))) (pooled (now (poolnumbers .exit)) (now (poolwords .exit))) ⌝ }
 {
     let parameters = Parameters {
         places,
@@ -90,7 +91,7 @@ pub extern "C" fn heatherplane_enter(
         expansions,
         expanded,
     };
-    reply_placed(starfile::enter(
+    let answer = starfile::enter(
         parameters,
         growth,
         separators,
@@ -100,7 +101,8 @@ pub extern "C" fn heatherplane_enter(
         poolwords,
         number,
         Position { ra, dec },
-    ))
+    );
+    reply_of(placed_answer(answer))
 }
 
 #[no_mangle]
@@ -121,7 +123,7 @@ pub extern "C" fn heatherplane_remove(
     poolwords: &mut [u64],
     number: u32,
 ) -> Reply
-    ensures { λ r. ⌜ Leaves (removeOf (parametersOf places groups width step bits load pages) (growthOf expansions expanded) (lent (now (separators .entry)) (now (numbers .entry)) (now (words .entry))) (pooled (now (poolnumbers .entry)) (now (poolwords .entry))) number) (replied r) (lent (now (separators .exit)) (now (numbers .exit)) (now (words .exit))) (pooled (now (poolnumbers .exit)) (now (poolwords .exit))) ⌝ }
+    ensures { λ r. ⌜ Replies (removeOf (parametersOf places groups width step bits load pages) (growthOf expansions expanded) (lent (now (separators .entry)) (now (numbers .entry)) (now (words .entry))) (pooled (now (poolnumbers .entry)) (now (poolwords .entry))) number) r (lent (now (separators .exit)) (now (numbers .exit)) (now (words .exit))) (pooled (now (poolnumbers .exit)) (now (poolwords .exit))) ⌝ }
 {
     let parameters = Parameters {
         places,
@@ -136,7 +138,7 @@ pub extern "C" fn heatherplane_remove(
         expansions,
         expanded,
     };
-    reply_placed(starfile::remove(
+    let answer = starfile::remove(
         parameters,
         growth,
         separators,
@@ -145,57 +147,19 @@ pub extern "C" fn heatherplane_remove(
         poolnumbers,
         poolwords,
         number,
-    ))
+    );
+    reply_of(placed_answer(answer))
 }
 
-fn reply_found(found: Found) -> Reply
-    ensures { λ r. ⌜ replied r ≡ sought found ⌝ }
+fn reply_of(answer: Answer) -> Reply
+    ensures { λ r. ⌜ r ≡ replyOf answer ⌝ }
 {
-    match found {
-        Found::At(page, position) => Reply {
-            refusal: 0,
-            page,
-            ra: position.ra,
-            dec: position.dec,
-            found: true,
-        },
-        Found::Absent(page) => without_position(0, page),
-        Found::Refused(refusal) => reply_refused(refusal),
-    }
-}
-
-fn reply_placed(answer: Placed) -> Reply
-    ensures { λ r. ⌜ replied r ≡ placed answer ⌝ }
-{
-    match answer {
-        Placed::On(page) => without_position(0, page),
-        Placed::Refused(refusal) => reply_refused(refusal),
-    }
-}
-
-fn reply_refused(refusal: Refusal) -> Reply
-    ensures { λ r. ⌜ replied r ≡ refusedBy refusal ⌝ }
-{
-    match refusal {
-        Refusal::BadParameters => without_position(1, 0),
-        Refusal::BadLength => without_position(2, 0),
-        Refusal::BadNumber => without_position(3, 0),
-        Refusal::BadPosition => without_position(4, 0),
-        Refusal::Damaged(page) => without_position(5, page),
-        Refusal::Held => without_position(6, 0),
-        Refusal::NotHeld => without_position(7, 0),
-        Refusal::Full => without_position(8, 0),
-    }
-}
-
-fn without_position(refusal: u32, page: u32) -> Reply
-    ensures { λ r. ⌜ replied r ≡ refused refusal page ⌝ }
-{
+    let position = answer.position;
     Reply {
-        refusal,
-        page,
-        ra: 0,
-        dec: 0,
-        found: false,
+        refusal: answer.refusal,
+        page: answer.page,
+        ra: position.ra,
+        dec: position.dec,
+        found: answer.found,
     }
 }

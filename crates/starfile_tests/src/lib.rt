@@ -1,11 +1,11 @@
 // The eight calls as exported functions, and two of hashing's, for the Rust tests alone. C programs have the three of starfile_c.
 use pages::position::Position;
-use starfile::answers::Checked;
-use starfile::answers::Due;
-use starfile::answers::Found;
+use starfile::answers::Answer;
 use starfile::answers::Grown;
-use starfile::answers::Placed;
-use starfile::answers::Refusal;
+use starfile::answers::checked_answer;
+use starfile::answers::due_answer;
+use starfile::answers::placed_answer;
+use starfile::answers::sought_answer;
 
 #[repr(C)]
 pub struct Parameters {
@@ -58,99 +58,29 @@ fn growth_from(given: Growth) -> hashing::Growth {
     }
 }
 
-fn spotted(refusal: u32, page: u32, place: u32, growth: Growth) -> Outcome {
+fn bit(flag: bool) -> u32 {
+    if flag { 1 } else { 0 }
+}
+
+fn outcome_of(answer: Answer, growth: hashing::Growth) -> Outcome {
+    let position = answer.position;
     Outcome {
-        refusal,
-        page,
-        place,
-        found: 0,
-        ra: 0,
-        dec: 0,
-        due: 0,
-        stars: 0,
+        refusal: answer.refusal,
+        page: answer.page,
+        place: answer.place,
+        found: bit(answer.found),
+        ra: position.ra,
+        dec: position.dec,
+        due: bit(answer.due),
+        stars: answer.stars,
         expansions: growth.expansions,
         expanded: growth.expanded,
-    }
-}
-
-fn refused(refusal: Refusal, growth: Growth) -> Outcome {
-    match refusal {
-        Refusal::BadParameters => spotted(1, 0, 0, growth),
-        Refusal::BadLength => spotted(2, 0, 0, growth),
-        Refusal::BadNumber => spotted(3, 0, 0, growth),
-        Refusal::BadPosition => spotted(4, 0, 0, growth),
-        Refusal::Damaged(page) => spotted(5, page, 0, growth),
-        Refusal::Held => spotted(6, 0, 0, growth),
-        Refusal::NotHeld => spotted(7, 0, 0, growth),
-        Refusal::Full => spotted(8, 0, 0, growth),
-    }
-}
-
-fn placed(answer: Placed, growth: Growth) -> Outcome {
-    match answer {
-        Placed::On(page) => spotted(0, page, 0, growth),
-        Placed::Refused(refusal) => refused(refusal, growth),
     }
 }
 
 fn grown(answer: Grown) -> Outcome {
-    let after = answer.growth;
-    let growth = Growth {
-        expansions: after.expansions,
-        expanded: after.expanded,
-    };
     let said = answer.answer;
-    placed(said, growth)
-}
-
-fn sought(answer: Found, growth: Growth) -> Outcome {
-    match answer {
-        Found::At(page, position) => Outcome {
-            refusal: 0,
-            page,
-            place: 0,
-            found: 1,
-            ra: position.ra,
-            dec: position.dec,
-            due: 0,
-            stars: 0,
-            expansions: growth.expansions,
-            expanded: growth.expanded,
-        },
-        Found::Absent(page) => spotted(0, page, 0, growth),
-        Found::Refused(refusal) => refused(refusal, growth),
-    }
-}
-
-fn counted(due: u32, stars: u32, growth: Growth) -> Outcome {
-    Outcome {
-        refusal: 0,
-        page: 0,
-        place: 0,
-        found: 0,
-        ra: 0,
-        dec: 0,
-        due,
-        stars,
-        expansions: growth.expansions,
-        expanded: growth.expanded,
-    }
-}
-
-fn due_said(answer: Due, growth: Growth) -> Outcome {
-    match answer {
-        Due::Yes(stars) => counted(1, stars, growth),
-        Due::No(stars) => counted(0, stars, growth),
-        Due::Refused(refusal) => refused(refusal, growth),
-    }
-}
-
-fn checked(answer: Checked, growth: Growth) -> Outcome {
-    match answer {
-        Checked::Clean => spotted(0, 0, 0, growth),
-        Checked::Differs { page, place } => spotted(5, page, place, growth),
-        Checked::Refused(refusal) => refused(refusal, growth),
-    }
+    outcome_of(placed_answer(said), answer.growth)
 }
 
 #[no_mangle]
@@ -172,17 +102,16 @@ pub extern "C" fn sft_look_up(
     words: &[u64],
     number: u32,
 ) -> Outcome {
-    sought(
-        starfile::look_up(
-            parameters_from(parameters),
-            growth_from(growth),
-            separators,
-            numbers,
-            words,
-            number,
-        ),
-        growth,
-    )
+    let state = growth_from(growth);
+    let answer = starfile::look_up(
+        parameters_from(parameters),
+        state,
+        separators,
+        numbers,
+        words,
+        number,
+    );
+    outcome_of(sought_answer(answer), state)
 }
 
 #[no_mangle]
@@ -198,20 +127,19 @@ pub extern "C" fn sft_enter(
     ra: u32,
     dec: i32,
 ) -> Outcome {
-    placed(
-        starfile::enter(
-            parameters_from(parameters),
-            growth_from(growth),
-            separators,
-            numbers,
-            words,
-            poolnumbers,
-            poolwords,
-            number,
-            Position { ra, dec },
-        ),
-        growth,
-    )
+    let state = growth_from(growth);
+    let answer = starfile::enter(
+        parameters_from(parameters),
+        state,
+        separators,
+        numbers,
+        words,
+        poolnumbers,
+        poolwords,
+        number,
+        Position { ra, dec },
+    );
+    outcome_of(placed_answer(answer), state)
 }
 
 #[no_mangle]
@@ -225,18 +153,17 @@ pub extern "C" fn sft_change(
     ra: u32,
     dec: i32,
 ) -> Outcome {
-    placed(
-        starfile::change(
-            parameters_from(parameters),
-            growth_from(growth),
-            separators,
-            numbers,
-            words,
-            number,
-            Position { ra, dec },
-        ),
-        growth,
-    )
+    let state = growth_from(growth);
+    let answer = starfile::change(
+        parameters_from(parameters),
+        state,
+        separators,
+        numbers,
+        words,
+        number,
+        Position { ra, dec },
+    );
+    outcome_of(placed_answer(answer), state)
 }
 
 #[no_mangle]
@@ -250,19 +177,18 @@ pub extern "C" fn sft_remove(
     poolwords: &mut [u64],
     number: u32,
 ) -> Outcome {
-    placed(
-        starfile::remove(
-            parameters_from(parameters),
-            growth_from(growth),
-            separators,
-            numbers,
-            words,
-            poolnumbers,
-            poolwords,
-            number,
-        ),
-        growth,
-    )
+    let state = growth_from(growth);
+    let answer = starfile::remove(
+        parameters_from(parameters),
+        state,
+        separators,
+        numbers,
+        words,
+        poolnumbers,
+        poolwords,
+        number,
+    );
+    outcome_of(placed_answer(answer), state)
 }
 
 #[no_mangle]
@@ -294,16 +220,15 @@ pub extern "C" fn sft_due(
     numbers: &[u32],
     words: &[u64],
 ) -> Outcome {
-    due_said(
-        starfile::due(
-            parameters_from(parameters),
-            growth_from(growth),
-            separators,
-            numbers,
-            words,
-        ),
-        growth,
-    )
+    let state = growth_from(growth);
+    let answer = starfile::due(
+        parameters_from(parameters),
+        state,
+        separators,
+        numbers,
+        words,
+    );
+    outcome_of(due_answer(answer), state)
 }
 
 #[no_mangle]
@@ -316,18 +241,17 @@ pub extern "C" fn sft_check(
     poolnumbers: &mut [u32],
     poolwords: &mut [u64],
 ) -> Outcome {
-    checked(
-        starfile::check(
-            parameters_from(parameters),
-            growth_from(growth),
-            separators,
-            numbers,
-            words,
-            poolnumbers,
-            poolwords,
-        ),
-        growth,
-    )
+    let state = growth_from(growth);
+    let answer = starfile::check(
+        parameters_from(parameters),
+        state,
+        separators,
+        numbers,
+        words,
+        poolnumbers,
+        poolwords,
+    );
+    outcome_of(checked_answer(answer), state)
 }
 
 // Xj of a number; 0 if the table has no j-th multiplier.

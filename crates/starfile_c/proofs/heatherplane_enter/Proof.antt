@@ -7,8 +7,11 @@ use Rattle.starfile_c.proofs.heatherplane_enter.Tie as tie
 enter-requires : tie.Need-enter-requires
 enter-requires c κs = search needs
 
-reply-placed-requires : tie.Need-reply-placed-requires
-reply-placed-requires c κs = search needs
+placed-answer-requires : tie.Need-placed-answer-requires
+placed-answer-requires c κs = search needs
+
+reply-of-requires : tie.Need-reply-of-requires
+reply-of-requires c κs = search needs
 
 same-length : tie.Need-same-length
 same-length c = search needs
@@ -27,16 +30,17 @@ same-length-5 c = search needs
 
 returns : tie.Need-returns
 returns c =
-    let called = c .before .before .before .before .before .before .before .before .before .before .before in
+    let called = c .before .before .before .before .before .before .before .before .before .before .before .before in
     let start = called .before .before .before .before .before .before .before .before .before .before .before in
-    told (c .reply-placed .ensures) (rw (toZ-ofZ (start .fits .dec)) at (called .enter .ensures))
+    told (c .reply-of .ensures) (c .before .placed-answer .ensures) (rw (toZ-ofZ (start .fits .dec)) at (called .enter .ensures))
 
 pub heatherplane-enter-spec : {M : Type 1} → statement M
 heatherplane-enter-spec =
     tie.close
     (tie.spec
     enter-requires
-    reply-placed-requires
+    placed-answer-requires
+    reply-of-requires
     same-length
     same-length-2
     same-length-3

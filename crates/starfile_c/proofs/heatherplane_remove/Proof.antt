@@ -6,8 +6,11 @@ use Rattle.starfile_c.proofs.heatherplane_remove.Tie as tie
 remove-requires : tie.Need-remove-requires
 remove-requires c κs = search needs
 
-reply-placed-requires : tie.Need-reply-placed-requires
-reply-placed-requires c κs = search needs
+placed-answer-requires : tie.Need-placed-answer-requires
+placed-answer-requires c κs = search needs
+
+reply-of-requires : tie.Need-reply-of-requires
+reply-of-requires c κs = search needs
 
 same-length : tie.Need-same-length
 same-length c = search needs
@@ -25,14 +28,17 @@ same-length-5 : tie.Need-same-length-5
 same-length-5 c = search needs
 
 returns : tie.Need-returns
-returns c = let called = c .before .before .before .before .before .before .before .before .before .before .before in told (c .reply-placed .ensures) (called .remove .ensures)
+returns c =
+    let called = c .before .before .before .before .before .before .before .before .before .before .before .before in
+    told (c .reply-of .ensures) (c .before .placed-answer .ensures) (called .remove .ensures)
 
 pub heatherplane-remove-spec : {M : Type 1} → statement M
 heatherplane-remove-spec =
     tie.close
     (tie.spec
     remove-requires
-    reply-placed-requires
+    placed-answer-requires
+    reply-of-requires
     same-length
     same-length-2
     same-length-3

@@ -1,6 +1,6 @@
-use mathlib.Core.Path.{sym}
+use mathlib.Core.Path.{sym, ap, _∙_}
 use Rattle.starfile.specs.Answers.{placed}
-use Rattle.sessions.specs.Commands.{stateOf, pool, called, replyWith}
+use Rattle.sessions.specs.Commands.{stateOf, pool, called, placedReply, replyWith}
 use Rattle.sessions.proofs.Replying.{enter-keeps, follows}
 use borrow.Author.Needs.{needs}
 use Rattle.sessions.proofs.commands.enter.Statement.{statement}
@@ -27,18 +27,21 @@ slice-aggregate-enter-5 c = search needs
 enter-requires : tie.Need-enter-requires
 enter-requires c κs = search needs
 
+placed-answer-requires : tie.Need-placed-answer-requires
+placed-answer-requires c κs = search needs
+
 placed-reply-requires : tie.Need-placed-reply-requires
 placed-reply-requires c κs = search needs
 
 returns : tie.Need-returns
 unfolding stateOf pool called replyWith
 returns c =
-    let called = c .before .before .before .before .before .before in
+    let called = c .before .before .before .before .before .before .before in
     let made = called .before .before .before .before .before .before in
     follows _ _ _ (placed (called .enter .result)) _
     (rw (made .parameters .ensures) at (called .enter .ensures))
     (sym (enter-keeps _ _ _ _ _ _))
-    (c .placed-reply .ensures)
+    (c .placed-reply .ensures ∙ ap placedReply (c .before .placed-answer .ensures))
 
 pub enter-spec : {M : Type 1} → statement M
 enter-spec =
@@ -51,5 +54,6 @@ enter-spec =
     slice-aggregate-enter-4
     slice-aggregate-enter-5
     enter-requires
+    placed-answer-requires
     placed-reply-requires
     returns)

@@ -1,5 +1,6 @@
+use mathlib.Core.Path.{ap, _∙_}
 use Rattle.starfile.specs.Answers.{placed}
-use Rattle.sessions.specs.Commands.{stateOf, pool, called, replyWith}
+use Rattle.sessions.specs.Commands.{stateOf, pool, called, placedReply, replyWith}
 use Rattle.sessions.proofs.Replying.{follows}
 use borrow.Author.Needs.{needs}
 use Rattle.sessions.proofs.commands.grow.Statement.{statement}
@@ -26,16 +27,20 @@ slice-aggregate-grow-5 c = search needs
 grow-requires : tie.Need-grow-requires
 grow-requires c κs = search needs
 
+placed-answer-requires : tie.Need-placed-answer-requires
+placed-answer-requires c κs = search needs
+
 placed-reply-requires : tie.Need-placed-reply-requires
 placed-reply-requires c κs = search needs
 
 returns : tie.Need-returns
 unfolding stateOf pool called replyWith
 returns c =
-    let called = c .before .before .before .before .before .before .before in
+    let called = c .before .before .before .before .before .before .before .before in
     let made = called .before .before .before .before .before .before in
     let grown = rw (made .parameters .ensures) at (called .grow .ensures) in
-    follows _ _ _ (placed (called .grow .result .answer)) _ (grown .0) (grown .1) (c .placed-reply .ensures)
+    follows _ _ _ (placed (called .grow .result .answer)) _ (grown .0) (grown .1)
+    (c .placed-reply .ensures ∙ ap placedReply (c .before .placed-answer .ensures))
 
 pub grow-spec : {M : Type 1} → statement M
 grow-spec =
@@ -48,5 +53,6 @@ grow-spec =
     slice-aggregate-grow-4
     slice-aggregate-grow-5
     grow-requires
+    placed-answer-requires
     placed-reply-requires
     returns)

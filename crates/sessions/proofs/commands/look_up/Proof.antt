@@ -19,13 +19,18 @@ slice-aggregate-look-up-3 c = search needs
 look-up-requires : tie.Need-look-up-requires
 look-up-requires c κs = search needs
 
+sought-answer-requires : tie.Need-sought-answer-requires
+sought-answer-requires c κs = search needs
+
 found-reply-requires : tie.Need-found-reply-requires
 found-reply-requires c κs = search needs
 
 returns : tie.Need-returns
 unfolding stateOf called replyWith replyOf
 returns c =
-    c .found-reply .ensures ∙ ap foundReply (rw (c .before .before .before .before .before .parameters .ensures) at (c .before .look-up .ensures))
+    let called = c .before .before in
+    let looked = rw (called .before .before .before .before .parameters .ensures) at (called .look-up .ensures) in
+    c .found-reply .ensures ∙ ap foundReply (c .before .sought-answer .ensures ∙ looked)
 
 pub look-up-spec : {M : Type 1} → statement M
 look-up-spec =
@@ -36,5 +41,6 @@ look-up-spec =
     slice-aggregate-look-up-2
     slice-aggregate-look-up-3
     look-up-requires
+    sought-answer-requires
     found-reply-requires
     returns)

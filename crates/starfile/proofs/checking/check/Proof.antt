@@ -11,7 +11,7 @@ use Rattle.hashing.proofs.Bounds.{limits, both, passed, failed, growth-within, 
 use Rattle.pages.specs.Position.{validNumber, validPosition}
 use Rattle.placement.specs.File.{File}
 use Rattle.placement.specs.Hash.{lent}
-use Rattle.starfile.specs.Answers.{Pool, placed, checked, refusedBy, numberOf, pageOf, pooled, cleared}
+use Rattle.starfile.specs.Answers.{Pool, checked, refusedBy, pooled, cleared}
 use Rattle.starfile.specs.Calls.{checkOf, fileFits, poolFits}
 use Rattle.starfile.specs.Outcomes.{verdictChecked}
 use Rattle.starfile.proofs.Outcomes.{verdict-is, verdict-small}
@@ -39,14 +39,14 @@ state-valid-requires : tie.Need-state-valid-requires
 state-valid-requires c κs = search needs
 
 returns : tie.Need-returns
-unfolding checkOf checked refusedBy numberOf pageOf
+unfolding checkOf checked refusedBy
 returns c = leaves _ _ (c .before .before .before .before .before .before .before .args .growth) _ _ (rw (bad-state _ _ _ (failed _ _ (c .before .state-valid .ensures) (c .if1 .taken))))
 
 all-fit-requires : tie.Need-all-fit-requires
 all-fit-requires c κs = both _ _ (passed _ _ (c .before .state-valid .ensures) (c .if1 .left)) .0
 
 returns-2 : tie.Need-returns-2
-unfolding checkOf checked refusedBy numberOf pageOf fileFits poolFits
+unfolding checkOf checked refusedBy fileFits poolFits
 returns-2 c =
     leaves _ _ (c .before .before .before .before .before .before .before .before .before .args .growth) _ _
     (rw (bad-lengths _ _ _ (passed _ _ (c .before .before .before .state-valid .ensures) (c .before .before .if1 .left)) (failed _ _ (c .before .all-fit .ensures) (c .if2 .taken))))

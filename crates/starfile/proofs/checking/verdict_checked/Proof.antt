@@ -3,8 +3,6 @@ use native.Mathlib.Omega.{arith}
 use borrow.Author.Needs.{needs}
 use Rattle.starfile.proofs.checking.verdict_checked.Statement.{statement}
 use Rattle.starfile.proofs.checking.verdict_checked.Tie as tie
-use Rattle.starfile.proofs.checking.verdict_checked.Reads as reads
-use Rattle.starfile.proofs.checking.verdict_checked.Lts as lts
 
 enum-told : tie.Need-enum-told
 enum-told c = search needs
@@ -17,16 +15,16 @@ cast-t7 c =
     let h = rw (c .before .verdict .given .1) at (c .before .before .before .pre) in
     omega (arith, h .0)
 
-cast-t8 : tie.Need-cast-t8
-cast-t8 c =
+cast-t9 : tie.Need-cast-t9
+cast-t9 c =
     let h = rw (c .before .verdict .given .1) at (c .before .before .before .pre) in
     omega (arith, h .1)
 
 enum-known-verdict-2 : tie.Need-enum-known-verdict-2
 enum-known-verdict-2 c = search needs
 
-cast-t9 : tie.Need-cast-t9
-cast-t9 c = omega (arith, rw (c .before .verdict2 .given .1) at (c .before .before .before .pre))
+cast-t10 : tie.Need-cast-t10
+cast-t10 c = omega (arith, rw (c .before .verdict2 .given .1) at (c .before .before .before .pre))
 
 returns : tie.Need-returns
 returns c = search needs
@@ -44,9 +42,9 @@ verdict-checked-spec =
     enum-told
     enum-known-verdict
     cast-t7
-    cast-t8
-    enum-known-verdict-2
     cast-t9
+    enum-known-verdict-2
+    cast-t10
     returns
     returns-2
     returns-3)

@@ -1,9 +1,8 @@
--- `histories::answering::sought_answer` meets its contract.
-use mathlib.Core.Path.{sym, ap, _∙_}
+-- `starfile::answers::sought_answer` meets its contract.
 use Rattle.starfile.specs.Answers.{sought, foundAt}
 use borrow.Author.Needs.{needs}
-use Rattle.histories.proofs.answering.sought_answer.Statement.{statement}
-use Rattle.histories.proofs.answering.sought_answer.Tie as tie
+use Rattle.starfile.proofs.answers.sought_answer.Statement.{statement}
+use Rattle.starfile.proofs.answers.sought_answer.Tie as tie
 
 enum-known-answer : tie.Need-enum-known-answer
 enum-known-answer c = search needs
@@ -22,15 +21,15 @@ refused-answer-requires c κs = search needs
 
 returns : tie.Need-returns
 unfolding sought foundAt
-returns c = sym (ap sought (c .before .answer .given .1))
+returns c = rw (c .before .answer .given .1)
 
 returns-2 : tie.Need-returns-2
 unfolding sought
-returns-2 c = c .at-spot .ensures ∙ sym (ap sought (c .before .before .answer2 .given .1))
+returns-2 c = rw (c .before .before .answer2 .given .1) (c .at-spot .ensures)
 
 returns-3 : tie.Need-returns-3
 unfolding sought
-returns-3 c = c .refused-answer .ensures ∙ sym (ap sought (c .before .before .answer3 .given .1))
+returns-3 c = rw (c .before .before .answer3 .given .1) (c .refused-answer .ensures)
 
 pub sought-answer-spec : {M : Type 1} → statement M
 sought-answer-spec =

@@ -1,9 +1,8 @@
--- `histories::answering::placed_answer` meets its contract.
-use mathlib.Core.Path.{sym, ap, _∙_}
+-- `starfile::answers::placed_answer` meets its contract.
 use Rattle.starfile.specs.Answers.{placed}
 use borrow.Author.Needs.{needs}
-use Rattle.histories.proofs.answering.placed_answer.Statement.{statement}
-use Rattle.histories.proofs.answering.placed_answer.Tie as tie
+use Rattle.starfile.proofs.answers.placed_answer.Statement.{statement}
+use Rattle.starfile.proofs.answers.placed_answer.Tie as tie
 
 enum-known-answer : tie.Need-enum-known-answer
 enum-known-answer c = search needs
@@ -19,11 +18,11 @@ refused-answer-requires c κs = search needs
 
 returns : tie.Need-returns
 unfolding placed
-returns c = c .at-spot .ensures ∙ sym (ap placed (c .before .before .answer .given .1))
+returns c = rw (c .before .before .answer .given .1) (c .at-spot .ensures)
 
 returns-2 : tie.Need-returns-2
 unfolding placed
-returns-2 c = c .refused-answer .ensures ∙ sym (ap placed (c .before .before .answer2 .given .1))
+returns-2 c = rw (c .before .before .answer2 .given .1) (c .refused-answer .ensures)
 
 pub placed-answer-spec : {M : Type 1} → statement M
 placed-answer-spec =

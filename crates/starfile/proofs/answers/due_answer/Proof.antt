@@ -1,9 +1,8 @@
--- `histories::answering::due_answer` meets its contract.
-use mathlib.Core.Path.{sym, ap, _∙_}
+-- `starfile::answers::due_answer` meets its contract.
 use Rattle.starfile.specs.Answers.{dueSaid}
 use borrow.Author.Needs.{needs}
-use Rattle.histories.proofs.answering.due_answer.Statement.{statement}
-use Rattle.histories.proofs.answering.due_answer.Tie as tie
+use Rattle.starfile.proofs.answers.due_answer.Statement.{statement}
+use Rattle.starfile.proofs.answers.due_answer.Tie as tie
 
 enum-known-answer : tie.Need-enum-known-answer
 enum-known-answer c = search needs
@@ -25,15 +24,15 @@ refused-answer-requires c κs = search needs
 
 returns : tie.Need-returns
 unfolding dueSaid
-returns c = c .count-answer .ensures ∙ sym (ap dueSaid (c .before .before .answer .given .1))
+returns c = rw (c .before .before .answer .given .1) (c .count-answer .ensures)
 
 returns-2 : tie.Need-returns-2
 unfolding dueSaid
-returns-2 c = c .count-answer2 .ensures ∙ sym (ap dueSaid (c .before .before .answer2 .given .1))
+returns-2 c = rw (c .before .before .answer2 .given .1) (c .count-answer2 .ensures)
 
 returns-3 : tie.Need-returns-3
 unfolding dueSaid
-returns-3 c = c .refused-answer .ensures ∙ sym (ap dueSaid (c .before .before .answer3 .given .1))
+returns-3 c = rw (c .before .before .answer3 .given .1) (c .refused-answer .ensures)
 
 pub due-answer-spec : {M : Type 1} → statement M
 due-answer-spec =
