@@ -1,13 +1,16 @@
-.PHONY: test run bench soak
+.PHONY: test run try bench soak
 
 # Every test; ends with 'N passed, 0 failed'.
 test:
 	@tools/test-all
 
-# Builds starline and runs it on the example of its crate.
+# Proves and builds starline, and runs it on the example of its crate.
 run:
-	@rt check starline >/dev/null
-	@target/bin/starline < crates/starline/stdin
+	@tools/run
+
+# The same example in seconds, without a proof.
+try:
+	@tools/try
 
 bench:
 	@bench/run
