@@ -12,8 +12,9 @@ run:
 try:
 	@tools/try
 
+# Times of the calls; with OLD=path/to/libstarfile_tests.a those of an older library beside them (bench/archive makes one).
 bench:
-	@bench/run
+	@bench/run $(if $(OLD),--old $(OLD))
 
 soak:
 	@tests/soak

@@ -1,7 +1,9 @@
 //! What no implementation can do without, measured beside the calls.
 
-use model::hashing::{shape, x, MODULUS, MULTIPLIER};
-use model::{Growth, Parameters};
+use crate::files::File;
+
+const MODULUS: u64 = 2_147_483_647;
+const MULTIPLIER: u64 = 16_807;
 
 /// One expansion: the power of the generator, the greatest value that moves a star, G, G div s and G mod s,
 /// the ranks that are open, and the address of rank 0.
@@ -23,17 +25,20 @@ pub struct Homes {
 }
 
 impl Homes {
-    pub fn new(parameters: &Parameters, growth: &Growth) -> Homes {
+    pub fn new(file: &File) -> Homes {
+        let [_, groups, width, step, ..] = file.parameters;
+        let [expansions, expanded] = file.growth;
+        let square = MULTIPLIER * MULTIPLIER % MODULUS;
+        let mut power = 1;
         let level = |i: u32| {
-            let (n, groups) = shape(parameters, i - 1);
-            let open = if i <= growth.expansions { groups as u32 } else { growth.expanded };
-            let (power, limit, address) = (x(2 * u64::from(i), 1), MODULUS / (n + 1), (n * groups) as u32);
-            let groups = groups as u32;
-            let (quotient, remainder) = (groups / parameters.step, groups % parameters.step);
+            let (n, groups) = (width + i % width, groups << (i / width));
+            power = power * square % MODULUS;
+            let (limit, open) = (MODULUS / u64::from(n + 1), if i < expansions { groups } else { expanded });
+            let (quotient, remainder, address) = (groups / step, groups % step, n * groups);
             Level { power, limit, groups, quotient, remainder, open, address }
         };
-        let levels = (1..=growth.expansions + 1).map(level).collect();
-        Homes { first: parameters.width * parameters.groups, step: parameters.step, levels }
+        let levels = (0..=expansions).map(level).collect();
+        Homes { first: width * groups, step, levels }
     }
 
     /// First which expansions choose the star, without a branch, then the few moves.

@@ -1,201 +1,155 @@
-//! Times the library's calls at three sizes and prints a Markdown table, with floors measured in the same run.
+//! Times the library's calls and prints a Markdown table, with floors measured in the same run; an older library's beside
+//! them, run in turn with today's, if there is one.
 
-mod floors;
-
-use floors::Homes;
-use model::files::{full_file, growth_after};
-use model::hashing::highest_address;
+use bench::files::{self, File, SIZES};
+use bench::floors::Homes;
+use bench::timing::{alone, in_turn, many, nanoseconds, restored, Report, Runs, Table, FEW_RUNS, RUNS};
+use bench::{libraries, Answer, Library};
 use model::random::Random;
-use model::session::Session;
-use model::{Buffers, Kind, Parameters};
 use std::hint::black_box;
-use std::time::Instant;
 
-const SIZES: [[u32; 7]; 3] = [[8, 8, 2, 5, 8, 80, 64], [16, 8, 2, 5, 8, 80, 256], [32, 8, 2, 5, 8, 80, 1_024]];
-const RUNS: usize = 15;
-
-/// Nanoseconds of one call: the least and the median of several runs.
-#[derive(Clone, Copy)]
-struct Time {
-    min: f64,
-    median: f64,
-}
-
-fn summary(mut runs: Vec<f64>) -> Time {
-    runs.sort_by(f64::total_cmp);
-    Time { min: runs[0], median: runs[runs.len() / 2] }
-}
-
-fn nanoseconds(work: impl FnOnce()) -> f64 {
-    let start = Instant::now();
-    work();
-    start.elapsed().as_nanos() as f64
-}
-
-/// Runs of `calls` calls each.
-fn time(calls: usize, mut call: impl FnMut(usize)) -> Time {
-    let run = |_| nanoseconds(|| (0..calls).for_each(&mut call)) / calls as f64;
-    summary((0..RUNS).map(run).collect())
-}
-
-/// One call a run, on a file that is restored outside the timed part.
-fn time_restored(session: &Session, call: impl Fn(&mut Session) -> u32) -> Time {
-    let run = |_| {
-        let mut copy = session.clone();
-        let mut refusal = 0;
-        let time = nanoseconds(|| refusal = call(&mut copy));
-        assert_eq!(refusal, 0, "a timed call is accepted");
-        time
-    };
-    summary((0..RUNS).map(run).collect())
-}
-
-struct Table {
-    size: String,
-    /// The time to clear the pool, the least of the runs.
-    clearing: f64,
-}
-
-impl Table {
-    fn row(&self, name: &str, time: Time) {
-        let ratio = time.min / self.clearing;
-        println!("| {name} | {} | {:.0} | {:.0} | {ratio:.2} |", self.size, time.min, time.median);
-    }
-}
-
-/// A file filled by entries, which grows when growth is due, until all but a few pages are addressed.
-fn filled(random: &mut Random, list: [u32; 7]) -> Session {
-    let mut session = Session::new(interface::run, list);
-    let spare = u64::from(list[6]) / 32;
-    while highest_address(&session.parameters, &session.growth) + 1 + spare < list[6].into() {
-        let (ra, dec) = random.position();
-        session.call(Kind::Enter, random.star_number(), ra, dec);
-        if session.call(Kind::Due, 0, 0, 0).due == 1 {
-            session.grow();
-        }
-    }
-    session
-}
+type Libraries = Vec<Box<dyn Library>>;
 
 /// Clearing the pool, every star's home, and the homes of one page of stars.
-fn floors(session: &Session) -> [Time; 3] {
-    let mut pool = (session.lent.pool_numbers.clone(), session.lent.pool_words.clone());
-    let clearing = time(20, |_| {
+fn floors(file: &File) -> [Runs; 3] {
+    let mut pool = (file.numbers.clone(), file.words.clone());
+    let clearing = alone(20, |_| {
         black_box(&mut pool.0).fill(0);
         black_box(&mut pool.1).fill(0);
     });
-    let homes = Homes::new(&session.parameters, &session.growth);
-    let stars: Vec<u32> = session.stars().iter().map(|star| star.number).collect();
-    assert!(stars.iter().all(|&star| u64::from(homes.home(star)) == session.home(star)));
+    let homes = Homes::new(file);
+    let stars = file.stars();
     let sum = |stars: &[u32]| black_box(stars.iter().map(|&star| homes.home(star)).sum::<u32>());
-    let page = session.parameters.places as usize;
-    let every = time(1, |_| _ = sum(black_box(&stars)));
-    let one = time(1_000, |i| _ = sum(black_box(&stars[i % (stars.len() / page) * page..][..page])));
+    let page = file.places();
+    let every = alone(1, |_| _ = sum(black_box(&stars)));
+    let one = alone(1_000, |i| _ = sum(black_box(&stars[i % (stars.len() / page) * page..][..page])));
     [clearing, every, one]
 }
 
-/// Entries and removals in turn, each timed by itself.
-fn entries_and_removals(session: &mut Session, numbers: &[u32]) -> (Time, Time) {
-    let (mut entries, mut removals) = (Vec::new(), Vec::new());
-    for _ in 0..RUNS {
-        let (mut entering, mut removing, mut count) = (0.0, 0.0, 0.0);
-        for &number in numbers {
-            let mut refusal = 0;
-            let time = nanoseconds(|| refusal = session.enter(number).refusal);
-            // Where there is no room for a star, another one is timed.
-            if refusal != 0 {
-                continue;
-            }
-            entering += time;
-            removing += nanoseconds(|| _ = session.remove(number));
-            count += 1.0;
-        }
-        entries.push(entering / count);
-        removals.push(removing / count);
-    }
-    (summary(entries), summary(removals))
-}
-
-fn calls(random: &mut Random, list: [u32; 7]) {
-    let mut session = filled(random, list);
-    let [clearing, every, one] = floors(&session);
-    let table = Table { size: format!("M={} b={}", list[6], list[0]), clearing: clearing.min };
-    let mut held: Vec<u32> = session.stars().iter().map(|star| star.number).collect();
-    let pages = highest_address(&session.parameters, &session.growth) + 1;
-    eprintln!(
-        "{}: {} stars in {pages} addressed pages, {} % of their places",
-        table.size,
-        held.len(),
-        100 * held.len() as u64 / (pages * u64::from(list[0]))
-    );
-    random.shuffle(&mut held);
-    held.truncate(1_000);
-    let absent: Vec<u32> = (0..held.len()).map(|_| random.star_number()).collect();
-    table.row("floor: pool cleared", clearing);
-    table.row("floor: every star's home", every);
-    table.row("floor: homes of one page's stars", one);
-    table.row("look-up, held", time(held.len(), |i| _ = black_box(session.look_up(held[i]))));
-    table.row("look-up, not held", time(held.len(), |i| _ = black_box(session.look_up(absent[i]))));
-    table.row("change", time(held.len(), |i| _ = black_box(session.call(Kind::Change, held[i], i as u32, 0))));
-    let (entry, removal) = entries_and_removals(&mut session, &absent[..100]);
-    table.row("enter", entry);
-    table.row("remove", removal);
-    table.row("grow", time_restored(&session, |session| session.grow().refusal));
-    table.row("check", time(1, |_| assert_eq!(session.check().refusal, 0)));
-    table.row("due", time(10, |_| _ = black_box(session.call(Kind::Due, 0, 0, 0))));
-}
-
-/// The largest file, its first pages exactly full of stars at home and the others empty, and stars of home 0.
-fn full_pages(random: &mut Random, pages: usize) -> (Session, [u32; 2]) {
-    let parameters = Parameters::new(SIZES[2]);
-    let growth = growth_after(&parameters, u64::from(parameters.pages - parameters.width * parameters.groups));
-    let lent = full_file(random, &parameters, &growth, parameters.pages as usize - pages);
-    let session = Session { run: interface::run, parameters, growth, lent };
-    let mut newcomer = || loop {
-        let number = random.star_number();
-        if session.home(number) == 0 && !session.lent.numbers.contains(&number) {
-            return number;
-        }
+/// The answers of one call on copies of the file; all libraries must give the same, and leave the same file.
+fn agreed(libraries: &Libraries, call: impl Fn(&mut dyn Library) -> Answer) -> (Answer, File) {
+    let outcome = |library: &Box<dyn Library>| {
+        let mut copy = library.copy();
+        let answer = call(copy.as_mut());
+        // Request (iii) changes Due's yes or no.
+        (Answer { due: false, ..answer }, copy.file())
     };
-    let newcomers = [newcomer(), newcomer()];
-    (session, newcomers)
+    let outcomes: Vec<_> = libraries.iter().map(outcome).collect();
+    assert!(outcomes.iter().all(|other| other == &outcomes[0]), "the libraries answer alike: {:?}", outcomes[0].0);
+    outcomes.into_iter().next().unwrap()
 }
 
-/// How many pages two files differ in, and how many of the later one overflow.
-fn touched(before: &Buffers, after: &Buffers) -> (usize, usize) {
-    let places = before.numbers.len() / before.separators.len();
-    let pages = before.numbers.chunks(places).zip(after.numbers.chunks(places));
-    (pages.filter(|(a, b)| a != b).count(), after.separators.iter().filter(|&&separator| separator < 255).count())
+/// Entries of a few stars and their removals in turn.
+fn entries_and_removals(libraries: &mut Libraries, numbers: &[u32]) -> [Runs; 2] {
+    const TIMES: usize = 10;
+    in_turn(RUNS, libraries, |library| {
+        let mut times = [0.0; 2];
+        for _ in 0..TIMES {
+            times[0] += nanoseconds(|| numbers.iter().for_each(|&number| _ = black_box(library.enter(number))));
+            times[1] += nanoseconds(|| numbers.iter().for_each(|&number| _ = black_box(library.remove(number))));
+        }
+        times.map(|time| time / (TIMES * numbers.len()) as f64)
+    })
 }
 
-fn long_entries(random: &mut Random) {
-    let (cascade, [newcomer, _]) = full_pages(random, 1_000);
+/// Some of the stars that can be entered one after the other.
+fn entered(libraries: &Libraries, stars: &[u32], count: usize) -> Vec<u32> {
+    let mut library = libraries[0].copy();
+    stars.iter().copied().filter(|&number| library.enter(number).refusal == 0).take(count).collect()
+}
+
+fn calls(report: &mut Report, random: &mut Random, parameters: [u32; 7]) {
+    let file = files::filled(random, parameters);
+    let mut libraries = libraries(&file);
+    let [clearing, every, one] = floors(&file);
+    let table = Table::new(file.size(), &clearing);
+    let mut held = file.stars();
+    let load = 100 * held.len() / (file.addressed() * file.places());
+    let (size, addressed) = (file.size(), file.addressed());
+    report.note(format!("{size}: {} stars in {addressed} addressed pages, {load} % of their places", held.len()));
+    random.shuffle(&mut held);
+    held.truncate(300);
+    let absent: Vec<u32> = (0..held.len()).map(|_| random.star_number()).collect();
+    for &number in held.iter().chain(&absent) {
+        agreed(&libraries, |library| library.look_up(number));
+    }
+    for (&number, &other) in held.iter().zip(&absent).take(100) {
+        agreed(&libraries, |library| library.change(number, 7));
+        agreed(&libraries, |library| library.remove(number));
+        agreed(&libraries, |library| library.enter(other));
+    }
+    agreed(&libraries, |library| library.grow());
+    agreed(&libraries, |library| library.check());
+    agreed(&libraries, |library| library.due());
+
+    table.row("floor: pool cleared", &clearing);
+    table.row("floor: every star's home", &every);
+    table.row("floor: homes of one page's stars", &one);
+    let look_up = |list: &[u32], libraries: &mut Libraries| {
+        many(libraries, list.len(), |library, i| _ = black_box(library.look_up(list[i])))
+    };
+    table.row("look-up, held", &look_up(&held, &mut libraries));
+    table.row("look-up, not held", &look_up(&absent, &mut libraries));
+    let change = |library: &mut dyn Library, i| _ = black_box(library.change(held[i], i as u32));
+    table.row("change", &many(&mut libraries, held.len(), change));
+    let entered = entered(&libraries, &absent, file.pages() / 8);
+    let [entries, removals] = entries_and_removals(&mut libraries, &entered);
+    table.row("enter", &entries);
+    table.row("remove", &removals);
+    table.row("grow", &restored(RUNS, &mut libraries, |library| library.grow().refusal));
+    table.row("check", &many(&mut libraries, 1, |library, _| _ = black_box(library.check())));
+    table.row("due", &many(&mut libraries, 100, |library, _| _ = black_box(library.due())));
+}
+
+/// Times a call that is accepted, after a look whether the libraries agree on it; gives the file that it leaves.
+fn one_row(table: &Table, runs: usize, name: &str, file: &File, call: impl Fn(&mut dyn Library) -> Answer) -> File {
+    let mut libraries = libraries(file);
+    let after = agreed(&libraries, &call).1;
+    table.row(name, &restored(runs, &mut libraries, |library| call(library).refusal));
+    after
+}
+
+fn long_calls(report: &mut Report, random: &mut Random) {
+    let (cascade, [newcomer, _]) = files::full_pages(random, 1_000);
     let [clearing, ..] = floors(&cascade);
-    let table = Table { size: "M=1024 b=32".to_string(), clearing: clearing.min };
-    let mut after = cascade.clone();
-    assert_eq!(after.enter(newcomer).refusal, 0);
-    eprintln!("the cascade changes {} pages", touched(&cascade.lent, &after.lent).0);
-    table.row(
-        "enter, cascade through 1,000 full pages",
-        time_restored(&cascade, |session| session.enter(newcomer).refusal),
-    );
+    let table = Table::new(cascade.size(), &clearing);
+    let name = "enter, cascade through 1,000 full pages";
+    let after = one_row(&table, RUNS, name, &cascade, |library| library.enter(newcomer));
+    report.note(format!("the cascade changes {} pages", after.differing(&cascade)));
 
-    let (mut island, [first, second]) = full_pages(random, 300);
-    let before = island.lent.clone();
-    assert_eq!(island.enter(first).refusal, 0);
-    eprintln!("the island has {} overflowed pages", touched(&before, &island.lent).1);
-    table.row(
-        "enter, bottom of an island of 300 pages",
-        time_restored(&island, |session| session.enter(second).refusal),
-    );
+    let (run, newcomer) = files::overflowed_run(random, 300);
+    report.note(format!("the run of overflowed pages has {} of them", run.overflowed()));
+    let name = "enter, bottom of a run of 300 overflowed pages";
+    let after = one_row(&table, RUNS, name, &run, |library| library.enter(newcomer));
+    let name = "remove, bottom of a run of 300 overflowed pages";
+    one_row(&table, RUNS, name, &after, |library| library.remove(newcomer));
+}
+
+/// The slowest calls that anyone can meet: a file that was never grown, with all its stars of one home.
+fn one_home(report: &mut Report, random: &mut Random) {
+    let (file, newcomer) = files::one_home(random);
+    let [clearing, ..] = floors(&file);
+    let table = Table::new(file.size(), &clearing);
+    let stars = file.stars();
+    report.note(format!("all stars of one home: {} of them, on pages 0 to {}", stars.len(), file.overflowed()));
+    let farthest = *stars.last().unwrap();
+    let row = |name: &str, file: &File, call: &dyn Fn(&mut dyn Library) -> Answer| {
+        one_row(&table, FEW_RUNS, &format!("{name}, all stars of one home"), file, call)
+    };
+    row("look-up of the farthest", &file, &|library| library.look_up(farthest));
+    let after = row("enter", &file, &|library| library.enter(newcomer));
+    row("remove", &after, &|library| library.remove(newcomer));
+    row("grow", &file, &|library| library.grow());
+    row("check", &file, &|library| library.check());
 }
 
 fn main() {
     let mut random = Random(1);
-    println!("| call | size | min ns | median ns | min / pool cleared |");
-    println!("|---|---|---:|---:|---:|");
-    for list in SIZES {
-        calls(&mut random, list);
+    let mut report = Report::begin();
+    for parameters in SIZES {
+        calls(&mut report, &mut random, parameters);
     }
-    long_entries(&mut random);
+    long_calls(&mut report, &mut random);
+    one_home(&mut report, &mut random);
+    report.end();
 }

@@ -1,0 +1,129 @@
+//! Files in a form that no version of the library owns, and the files that the programs measure.
+
+use crate::floors::Homes;
+use crate::present;
+use model::random::Random;
+
+/// M=64 b=8, M=256 b=16 and M=1024 b=32: b, N, n0, s, k, A, M.
+pub const SIZES: [[u32; 7]; 3] = [[8, 8, 2, 5, 8, 80, 64], [16, 8, 2, 5, 8, 80, 256], [32, 8, 2, 5, 8, 80, 1_024]];
+
+/// The same largest file, in which growth has one group and one page to begin with.
+pub const ONE_HOME: [u32; 7] = [32, 1, 1, 1, 8, 80, 1_024];
+
+#[derive(Clone, Debug, PartialEq, Eq)]
+pub struct File {
+    pub parameters: [u32; 7],
+    pub growth: [u32; 2],
+    pub separators: Vec<u8>,
+    pub numbers: Vec<u32>,
+    pub words: Vec<u64>,
+}
+
+impl File {
+    pub fn empty(parameters: [u32; 7]) -> File {
+        let [places, .., bits, _, pages] = parameters;
+        let items = (pages * places) as usize;
+        let separators = vec![((1_u32 << bits) - 1) as u8; pages as usize];
+        File { parameters, growth: [0, 0], separators, numbers: vec![0; items], words: vec![0; items] }
+    }
+
+    pub fn places(&self) -> usize {
+        self.parameters[0] as usize
+    }
+
+    pub fn pages(&self) -> usize {
+        self.parameters[6] as usize
+    }
+
+    /// The highest address and one.
+    pub fn addressed(&self) -> usize {
+        let [_, groups, width, ..] = self.parameters;
+        let [expansions, expanded] = self.growth;
+        ((width + expansions % width) * (groups << (expansions / width)) + expanded) as usize
+    }
+
+    pub fn stars(&self) -> Vec<u32> {
+        self.numbers.iter().copied().filter(|&number| number != 0).collect()
+    }
+
+    pub fn size(&self) -> String {
+        format!("M={} b={}", self.pages(), self.places())
+    }
+
+    /// How many pages have passed a star on.
+    pub fn overflowed(&self) -> usize {
+        let top = (1_u32 << self.parameters[4]) - 1;
+        self.separators.iter().filter(|&&separator| u32::from(separator) < top).count()
+    }
+
+    /// How many pages hold other numbers than in the other file.
+    pub fn differing(&self, other: &File) -> usize {
+        let places = self.places();
+        self.numbers.chunks(places).zip(other.numbers.chunks(places)).filter(|(a, b)| a != b).count()
+    }
+}
+
+/// A file filled by entries, which grows when growth is due, until all but one in 32 pages are addressed.
+pub fn filled(random: &mut Random, parameters: [u32; 7]) -> File {
+    let mut file = File::empty(parameters);
+    let mut library = present::library(&file);
+    let last = file.pages() - file.pages() / 32;
+    while file.addressed() < last {
+        let (ra, dec) = random.position();
+        library.call(model::Kind::Enter, random.star_number(), ra, dec);
+        if library.due().due {
+            library.grow();
+            file.growth = library.growth();
+        }
+    }
+    library.file()
+}
+
+/// The largest file, all pages addressed, its first pages exactly full of stars at home and the others empty; and two stars
+/// of home 0 that it does not hold.
+pub fn full_pages(random: &mut Random, pages: usize) -> (File, [u32; 2]) {
+    let mut library = present::library(&File::empty(SIZES[2]));
+    while library.grow().refusal == 0 {}
+    let file = library.file();
+    let homes = Homes::new(&file);
+    let mut room = vec![file.places(); pages];
+    let mut missing = pages * file.places();
+    while missing > 0 {
+        let number = random.star_number();
+        let home = homes.home(number) as usize;
+        if home < pages && room[home] > 0 && library.enter(number).refusal == 0 {
+            room[home] -= 1;
+            missing -= 1;
+        }
+    }
+    let mut newcomer = || loop {
+        let number = random.star_number();
+        if homes.home(number) == 0 && !library.look_up(number).found {
+            return number;
+        }
+    };
+    let newcomers = [newcomer(), newcomer()];
+    (library.file(), newcomers)
+}
+
+/// A run of overflowed pages from page 0 on, and a star of home 0 that it does not hold.
+pub fn overflowed_run(random: &mut Random, pages: usize) -> (File, u32) {
+    let (file, [first, second]) = full_pages(random, pages);
+    let mut library = present::library(&file);
+    assert_eq!(library.enter(first).refusal, 0);
+    (library.file(), second)
+}
+
+/// The largest file without a growth, so that all stars have one home, nearly as full as it goes; and a star that still fits.
+pub fn one_home(random: &mut Random) -> (File, u32) {
+    let mut stars: Vec<u32> = (0..12_000).map(|_| random.star_number()).collect();
+    stars.sort();
+    stars.dedup();
+    random.shuffle(&mut stars);
+    while present::laid_out(ONE_HOME, &stars).is_none() {
+        stars.truncate(stars.len() * 49 / 50);
+    }
+    // What fits with the last star fits without it.
+    let last = stars.pop().unwrap();
+    (present::laid_out(ONE_HOME, &stars).unwrap(), last)
+}

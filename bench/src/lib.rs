@@ -1,0 +1,68 @@
+//! What the programs of this folder share: the libraries that they call, the files that they call them on, and timing.
+
+#[cfg(feature = "base")]
+mod base;
+pub mod files;
+pub mod floors;
+mod present;
+pub mod timing;
+
+use files::File;
+use model::Kind;
+
+/// What all versions of the library answer.
+#[derive(Clone, Copy, Debug, PartialEq, Eq)]
+pub struct Answer {
+    pub refusal: u32,
+    pub page: u32,
+    pub found: bool,
+    pub ra: u32,
+    pub dec: i32,
+    pub due: bool,
+    pub stars: u32,
+}
+
+/// One version of the library with a file of its own.
+pub trait Library {
+    fn call(&mut self, kind: Kind, number: u32, ra: u32, dec: i32) -> Answer;
+    fn growth(&self) -> [u32; 2];
+    fn file(&self) -> File;
+    fn copy(&self) -> Box<dyn Library>;
+
+    fn look_up(&mut self, number: u32) -> Answer {
+        self.call(Kind::LookUp, number, 0, 0)
+    }
+
+    fn enter(&mut self, number: u32) -> Answer {
+        self.call(Kind::Enter, number, 1, 0)
+    }
+
+    fn change(&mut self, number: u32, ra: u32) -> Answer {
+        self.call(Kind::Change, number, ra, 0)
+    }
+
+    fn remove(&mut self, number: u32) -> Answer {
+        self.call(Kind::Remove, number, 0, 0)
+    }
+
+    fn grow(&mut self) -> Answer {
+        self.call(Kind::Grow, 0, 0, 0)
+    }
+
+    fn due(&mut self) -> Answer {
+        self.call(Kind::Due, 0, 0, 0)
+    }
+
+    fn check(&mut self) -> Answer {
+        self.call(Kind::Check, 0, 0, 0)
+    }
+}
+
+/// Today's library first, then the older one if there is one, each with its own copy of the file.
+pub fn libraries(file: &File) -> Vec<Box<dyn Library>> {
+    vec![
+        present::library(file),
+        #[cfg(feature = "base")]
+        base::library(file),
+    ]
+}

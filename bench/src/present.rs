@@ -1,0 +1,69 @@
+//! The library as it is today: the only file here that follows its interface.
+
+use crate::files::File;
+use crate::{Answer, Library};
+use model::placement::{lay_out, pack, Star};
+use model::{Buffers, Call, Growth, Kind, Parameters};
+
+#[derive(Clone)]
+struct Present {
+    /// The last call; the next one has its parameters and growth state.
+    call: Call,
+    lent: Buffers,
+}
+
+pub fn library(file: &File) -> Box<dyn Library> {
+    let parameters = Parameters::new(file.parameters);
+    let [expansions, expanded] = file.growth;
+    let growth = Growth { expansions, expanded };
+    let call = Call { kind: Kind::Due, parameters, growth, number: 0, ra: 0, dec: 0 };
+    let lent = Buffers {
+        separators: file.separators.clone(),
+        numbers: file.numbers.clone(),
+        words: file.words.clone(),
+        ..Buffers::zeros(&parameters)
+    };
+    Box::new(Present { call, lent })
+}
+
+/// The file that the model's rule gives these stars without a growth; none if a star is carried past the end.
+pub fn laid_out(parameters: [u32; 7], stars: &[u32]) -> Option<File> {
+    let stars = stars.iter().map(|&number| Star { number, word: pack(1, 0) }).collect();
+    let Buffers { separators, numbers, words, .. } = lay_out(&Parameters::new(parameters), &Growth::default(), stars)?;
+    Some(File { parameters, growth: [0, 0], separators, numbers, words })
+}
+
+impl Library for Present {
+    fn call(&mut self, kind: Kind, number: u32, ra: u32, dec: i32) -> Answer {
+        self.call = Call { kind, number, ra, dec, ..self.call };
+        let outcome = interface::run(&self.call, &mut self.lent);
+        self.call.growth = outcome.growth();
+        Answer {
+            refusal: outcome.refusal,
+            page: outcome.page,
+            found: outcome.found != 0,
+            ra: outcome.ra,
+            dec: outcome.dec,
+            due: outcome.due != 0,
+            stars: outcome.stars,
+        }
+    }
+
+    fn growth(&self) -> [u32; 2] {
+        [self.call.growth.expansions, self.call.growth.expanded]
+    }
+
+    fn file(&self) -> File {
+        File {
+            parameters: self.call.parameters.list(),
+            growth: self.growth(),
+            separators: self.lent.separators.clone(),
+            numbers: self.lent.numbers.clone(),
+            words: self.lent.words.clone(),
+        }
+    }
+
+    fn copy(&self) -> Box<dyn Library> {
+        Box::new(self.clone())
+    }
+}
