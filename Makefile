@@ -1,4 +1,4 @@
-.PHONY: test run try bench soak
+.PHONY: test run try bench damage spread soak
 
 # Every test; ends with 'N passed, 0 failed'.
 test:
@@ -15,6 +15,14 @@ try:
 # Times of the calls; with OLD=path/to/libstarfile_tests.a those of an older library beside them (bench/archive makes one).
 bench:
 	@bench/run $(if $(OLD),--old $(OLD))
+
+# Which single wrong bits are noticed, and by what.
+damage:
+	@bench/damage
+
+# Which star numbers spread well, and how full a file gets.
+spread:
+	@bench/spread
 
 soak:
 	@tests/soak
