@@ -92,7 +92,7 @@ struct Counts {
 }
 
 /// A look-up reads the named page and no separator above it, so other look-ups answer as before.
-fn concerned<'a>(pages: &'a [Named], buffer: Buffer, page: usize) -> impl Iterator<Item = &'a Asked> {
+fn concerned(pages: &[Named], buffer: Buffer, page: usize) -> impl Iterator<Item = &Asked> {
     let last = if let Buffer::Separators = buffer { pages.len() - 1 } else { page };
     pages[page..=last].iter().filter(move |named| named.lowest <= page).flat_map(|named| &named.asked)
 }

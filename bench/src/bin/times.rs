@@ -28,13 +28,13 @@ fn floors(file: &File) -> [Runs; 3] {
 
 /// The answers of one call on copies of the file; all libraries must give the same, and leave the same file.
 fn agreed(libraries: &Libraries, call: impl Fn(&mut dyn Library) -> Answer) -> (Answer, File) {
-    let outcome = |library: &Box<dyn Library>| {
+    let outcomes = libraries.iter().map(|library| {
         let mut copy = library.copy();
         let answer = call(copy.as_mut());
         // Request (iii) changes Due's yes or no.
         (Answer { due: false, ..answer }, copy.file())
-    };
-    let outcomes: Vec<_> = libraries.iter().map(outcome).collect();
+    });
+    let outcomes: Vec<_> = outcomes.collect();
     assert!(outcomes.iter().all(|other| other == &outcomes[0]), "the libraries answer alike: {:?}", outcomes[0].0);
     outcomes.into_iter().next().unwrap()
 }
