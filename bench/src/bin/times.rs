@@ -13,7 +13,7 @@ type Libraries = Vec<Box<dyn Library>>;
 /// Clearing the pool, every star's home, and the homes of one page of stars.
 fn floors(file: &File) -> [Runs; 3] {
     let mut pool = (file.numbers.clone(), file.words.clone());
-    let clearing = alone(20, |_| {
+    let clearing = alone(500, |_| {
         black_box(&mut pool.0).fill(0);
         black_box(&mut pool.1).fill(0);
     });
@@ -21,7 +21,7 @@ fn floors(file: &File) -> [Runs; 3] {
     let stars = file.stars();
     let sum = |stars: &[u32]| black_box(stars.iter().map(|&star| homes.home(star)).sum::<u32>());
     let page = file.places();
-    let every = alone(1, |_| _ = sum(black_box(&stars)));
+    let every = alone(10, |_| _ = sum(black_box(&stars)));
     let one = alone(1_000, |i| _ = sum(black_box(&stars[i % (stars.len() / page) * page..][..page])));
     [clearing, every, one]
 }
@@ -92,7 +92,7 @@ fn calls(report: &mut Report, random: &mut Random, parameters: [u32; 7]) {
     table.row("look-up, not held", &look_up(&absent, &mut libraries));
     let change = |library: &mut dyn Library, i| _ = black_box(library.change(held[i], i as u32));
     table.row("change", &many(&mut libraries, held.len(), change));
-    let entered = entered(&libraries, &absent, file.pages() / 8);
+    let entered = entered(&libraries, &absent, file.pages() / 4);
     let [entries, removals] = entries_and_removals(&mut libraries, &entered);
     table.row("enter", &entries);
     table.row("remove", &removals);
@@ -125,18 +125,20 @@ fn long_calls(report: &mut Report, random: &mut Random) {
     one_row(&table, RUNS, name, &after, |library| library.remove(newcomer));
 }
 
-/// The slowest calls that anyone can meet: a file that was never grown, with all its stars of one home.
+/// The slowest calls known: a file that was never grown, with all its stars of one home.
 fn one_home(report: &mut Report, random: &mut Random) {
     let (file, newcomer) = files::one_home(random);
     let [clearing, ..] = floors(&file);
     let table = Table::new(file.size(), &clearing);
     let stars = file.stars();
     report.note(format!("all stars of one home: {} of them, on pages 0 to {}", stars.len(), file.overflowed()));
-    let farthest = *stars.last().unwrap();
+    // On the highest full page the most stars have the most separators below them.
+    let farthest =
+        *file.numbers.chunks(file.places()).filter(|page| !page.contains(&0)).next_back().unwrap().first().unwrap();
     let row = |name: &str, file: &File, call: &dyn Fn(&mut dyn Library) -> Answer| {
         one_row(&table, FEW_RUNS, &format!("{name}, all stars of one home"), file, call)
     };
-    row("look-up of the farthest", &file, &|library| library.look_up(farthest));
+    row("look-up on the highest full page", &file, &|library| library.look_up(farthest));
     let after = row("enter", &file, &|library| library.enter(newcomer));
     row("remove", &after, &|library| library.remove(newcomer));
     row("grow", &file, &|library| library.grow());
