@@ -7,6 +7,7 @@ use model::{Buffers, Call, Growth, Kind, Parameters};
 
 #[derive(Clone)]
 struct Present {
+    parameters: [u32; 7],
     /// The last call; the next one has its parameters and growth state.
     call: Call,
     lent: Buffers,
@@ -23,7 +24,7 @@ pub fn library(file: &File) -> Box<dyn Library> {
         words: file.words.clone(),
         ..Buffers::zeros(&parameters)
     };
-    Box::new(Present { call, lent })
+    Box::new(Present { parameters: file.parameters, call, lent })
 }
 
 /// The file that the model's rule gives these stars without a growth; none if a star is carried past the end.
@@ -55,7 +56,7 @@ impl Library for Present {
 
     fn file(&self) -> File {
         File {
-            parameters: self.call.parameters.list(),
+            parameters: self.parameters,
             growth: self.growth(),
             separators: self.lent.separators.clone(),
             numbers: self.lent.numbers.clone(),
