@@ -133,12 +133,11 @@ fn one_home(report: &mut Report, random: &mut Random) {
     let stars = file.stars();
     report.note(format!("all stars of one home: {} of them, on pages 0 to {}", stars.len(), file.overflowed()));
     // On the highest full page the most stars have the most separators below them.
-    let farthest =
-        *file.numbers.chunks(file.places()).filter(|page| !page.contains(&0)).next_back().unwrap().first().unwrap();
+    let full = file.numbers.chunks(file.places()).rfind(|page| !page.contains(&0)).unwrap();
     let row = |name: &str, file: &File, call: &dyn Fn(&mut dyn Library) -> Answer| {
         one_row(&table, FEW_RUNS, &format!("{name}, all stars of one home"), file, call)
     };
-    row("look-up on the highest full page", &file, &|library| library.look_up(farthest));
+    row("look-up on the highest full page", &file, &|library| library.look_up(full[0]));
     let after = row("enter", &file, &|library| library.enter(newcomer));
     row("remove", &after, &|library| library.remove(newcomer));
     row("grow", &file, &|library| library.grow());
