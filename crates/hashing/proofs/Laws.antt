@@ -34,6 +34,11 @@ pub top-shifted : (bits : ℕ) → bits ≤ 8 → 1 * 2 ^ bits % 2 ^ 32 - 1 ≡ 
 unfolding topOf
 top-shifted bits h = rw (shifted bits 32 (omega arith))
 
+-- a remainder by the greatest separator of k bits
+pub top-at : (n bits k : ℕ) → bits ≡ k → n % (2 ^ k - 1) ≡ n % topOf bits
+unfolding topOf
+top-at n bits k e = rw e
+
 pub signature-below : (a bits k t : ℕ) → 1 ≤ bits → signature a bits k t < topOf bits
 unfolding signature
 signature-below a bits k t h = mod-lt (scrambled a (2 * t + 1) k) (top-least bits h)
