@@ -16,6 +16,7 @@ pub use generator::signature;
 pub use groups::grown;
 pub use limits::growth_valid;
 pub use limits::parameters_valid;
+pub use ranks::rank;
 pub use table::MULTIPLIERS;
 
 // A file's parameters, with document 01's letters.

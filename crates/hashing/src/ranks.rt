@@ -1,8 +1,18 @@
 // The rank of a group, by backward sweeps. No rank, group or group count passes 1,024.
 ghost use mathlib.Core.Path.{_≡_};
 ghost use Prim.Native.Nat.{_+_, _*_, _/_, _^_, _<_, _≤_, min};
-ghost use Rattle.hashing.specs.Geometry.{swept as Geometry·swept};
+ghost use Rattle.hashing.specs.Geometry.{rank as Geometry·rank, swept as Geometry·swept};
 ghost use Rattle.hashing.specs.Moves.{inverseOf};
+
+// The rank of a group among count groups, for a caller that asks once.
+pub fn rank(step: u16, count: u16, group: u16) -> u16
+    requires { ⌜ (1 ≤ step) × (step ≤ 256) ⌝ }
+    requires { ⌜ (group < count) × (count ≤ 1024) ⌝ }
+    ensures { λ r. ⌜ r ≡ Geometry·rank step count group ⌝ }
+{
+    let inverse = 524288 / step as u32 + 1;
+    swept(step, inverse, count, count - 1 - group)
+}
 
 // w·(G div s) + the smaller of w and G mod s + t div s, with products by the inverse of s in place of divisions.
 pub fn swept(step: u16, inverse: u32, count: u16, t: u16) -> u16
