@@ -1,7 +1,7 @@
 -- What valid parameters and a valid growth state say, as bounds, both ways.
 use mathlib.Core.Path.{_≡_, _∙_, refl, sym}
 use mathlib.Core.Bool.{Bool, true, false, not, _&&_, false≢true}
-use Prim.Native.Nat.{ℕ, _*_, _/_, _^_, _≤_, _<_}
+use Prim.Native.Nat.{ℕ, _+_, _*_, _/_, _%_, _^_, _≤_, _<_}
 use native.Mathlib.Nat.{mod-lt, mul-le-mul, mul-le-mul-left, mul-le-mul-right, mul-one, one-mul, div-add-mod}
 use native.Mathlib.Decide.{decLe}
 use native.Mathlib.Omega.{arith}
@@ -120,7 +120,7 @@ pub count-least : (p : Parameters) (e : ℕ) → p .groups ≤ countAt p e
 unfolding countAt
 count-least p e = omega (arith, mul-le-mul-left (p .groups) (pow-pos (e / p .width)), mul-one (p .groups))
 
-pub doubled-most : (groups d : ℕ) → groups ≤ 256 → d ≤ 10 → groups * 2 ^ d ≤ 262144
+doubled-most : (groups d : ℕ) → groups ≤ 256 → d ≤ 10 → groups * 2 ^ d ≤ 262144
 doubled-most groups d h l = mul-le-mul {n₂ = 256} {m₂ = 2 ^ 10} h (pow-mono l)
 
 pub count-most : (p : Parameters) (e : ℕ) → Limits p → e / p .width ≤ 10 → countAt p e ≤ 262144
@@ -130,7 +130,7 @@ count-most p e l h = doubled-most (p .groups) (e / p .width) (l .groups-most) h
 -- what the code needs of a valid growth state
 pub record Spread (p : Parameters) (g : Growth) : Type 0 where
   pub doublings : g .expansions / p .width ≤ 10
-  pub expansions-most : g .expansions ≤ 43
+  pub expansions-most : g .expansions ≤ 32
   pub size-low : 1 ≤ groupSize p g
   pub size-high : groupSize p g ≤ 7
   pub count-low : p .groups ≤ groupCount p g
@@ -144,7 +144,7 @@ pages-count p g l =
     let one : 1 ≤ sizeAt p (g .expansions) = omega (arith, l .width-least) in
     omega (arith, mul-le-mul-right (groupCount p g) one, one-mul (groupCount p g))
 
-few-doublings : (groups d : ℕ) → 1 ≤ groups → groups * 2 ^ d ≤ 1024 → d ≤ 10
+pub few-doublings : (groups d : ℕ) → 1 ≤ groups → groups * 2 ^ d ≤ 1024 → d ≤ 10
 few-doublings groups d h l = go (decLe d 10)
   where
     go : Dec (d ≤ 10) → d ≤ 10
@@ -154,6 +154,31 @@ few-doublings groups d h l = go (decLe d 10)
         let more : 1 * 2 ^ d ≤ groups * 2 ^ d = mul-le-mul-right (2 ^ d) h in
         omega (arith, one-mul (2 ^ d))
 
+-- e = n0·d + r, with (n0 + r)·2^d pages at least
+few-steps : (w d r : ℕ) → w ≤ 4 → r < w → (w + r) * 2 ^ d ≤ 1024 → w * d + r ≤ 32
+few-steps w d r hw hr h = go (decLe d 7) (decLe d 8)
+  where
+    go : Dec (d ≤ 7) → Dec (d ≤ 8) → w * d + r ≤ 32
+    go (yes p) q = omega (arith, mul-le-mul {n₂ = 4} {m₂ = 7} hw p)
+    go (no f) (yes q) =
+        let eight : d ≡ 8 = omega arith in
+        let small : (w + r) * 2 ^ 8 ≤ 1024 = rw eight at h in
+        rw eight (omega arith)
+    go (no f) (no q) =
+        let more : (w + r) * 2 ^ 9 ≤ (w + r) * 2 ^ d = mul-le-mul-left (w + r) (pow-mono {i = 9} {j = d} (omega arith)) in
+        let two : w ≤ 2 = omega arith in
+        omega (arith, mul-le-mul {n₂ = 2} {m₂ = 10} two (few-doublings (w + r) d (omega arith) h))
+
+few-expansions : (p : Parameters) (g : Growth) → Limits p → Within p g → g .expansions ≤ 32
+unfolding sizeAt countAt pageCount
+few-expansions p g l w =
+    let d = g .expansions / p .width in
+    let r = g .expansions % p .width in
+    let once : 1 * 2 ^ d ≤ p .groups * 2 ^ d = mul-le-mul-right (2 ^ d) (l .groups-least) in
+    let span : (p .width + r) * (1 * 2 ^ d) ≤ (p .width + r) * (p .groups * 2 ^ d) = mul-le-mul-left (p .width + r) once in
+    let fits : (p .width + r) * 2 ^ d ≤ 1024 = omega (arith, rw (one-mul (2 ^ d)) at span, l .pages-most, w .pages-fit) in
+    omega (arith, div-add-mod (g .expansions) (p .width), few-steps (p .width) d r (l .width-most) (mod-lt (g .expansions) {m = p .width} (l .width-least)) fits)
+
 pub spread : (p : Parameters) (g : Growth) → Limits p → Within p g → Spread p g
 unfolding countAt
 spread p g l w =
@@ -162,10 +187,9 @@ spread p g l w =
     let high : groupCount p g ≤ 1024 = omega (arith, l .pages-most, w .pages-fit) in
     let low : p .groups ≤ groupCount p g = count-least p (g .expansions) in
     let few : g .expansions / p .width ≤ 10 = few-doublings (p .groups) (g .expansions / p .width) (l .groups-least) high in
-    let back : p .width * (g .expansions / p .width) ≤ 4 * 10 = mul-le-mul (l .width-most) few in
     record {
       doublings = few;
-      expansions-most = omega (arith, div-add-mod (g .expansions) (p .width), mod-lt (g .expansions) {m = p .width} (l .width-least), l .width-most);
+      expansions-most = few-expansions p g l w;
       size-low = omega (arith, l .width-least);
       size-high = size-most p (g .expansions) l;
       count-low = low;

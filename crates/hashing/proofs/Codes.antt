@@ -13,13 +13,14 @@ use lib.Pow.{pow-add, pow-pos}
 use lib.Arith.{digits-div, digits-mod, mod-mul}
 use Rattle.hashing.specs.declared.Parameters.{Parameters}
 use Rattle.hashing.specs.declared.Growth.{Growth}
+use Rattle.hashing.specs.declared.moves.Landing.{Landing}
 use Rattle.hashing.specs.Generator.{modulus, scrambled}
 use Rattle.hashing.specs.Geometry.{sizeAt, countAt, rank}
 use Rattle.hashing.specs.Home.{rankAt, chosen, movedIf, stepFrom, afterSteps, home}
-use Rattle.hashing.specs.Moves.{codeAt, moves, countOf, pageOf, movedTo, followed, Rising}
+use Rattle.hashing.specs.Moves.{codeAt, moves, countOf, pageOf, movedTo, followed, landing, Narrow, Landed, Rising}
 use Rattle.hashing.proofs.Numbers.{next, Next, mul-mod-right, div-mono}
-use Rattle.hashing.proofs.Bounds.{Limits, size-most, doubled-most}
-use Rattle.hashing.proofs.Laws.{step-over, steps-one, rank-below}
+use Rattle.hashing.proofs.Bounds.{Limits, Within, size-most}
+use Rattle.hashing.proofs.Laws.{step-over, steps-one, rank-below, span-most, count-fits}
 
 -- only the remainder of a number mod m counts
 
@@ -71,9 +72,14 @@ code-next p i l = rw (code-size p i l) (go (next (p .width) i (l .width-least)))
     go (inl (t, m, d)) = inl (omega arith, rw (m, d) (omega arith))
     go (inr (t, m, d)) = inr (omega arith, rw (m, d) (omega arith))
 
-pub code-most : (p : Parameters) (i : ℕ) → Limits p → i ≤ 44 → codeAt p i ≤ 359
+pub code-most : (p : Parameters) (i : ℕ) → Limits p → i ≤ 33 → codeAt p i ≤ 271
 unfolding codeAt
 code-most p i l h = omega (arith, size-most p i l, div-le-self i (p .width))
+
+pub code-narrow : (p : Parameters) (g : Growth) (i : ℕ) → Limits p → Within p g → i ≤ g .expansions → Narrow p (codeAt p i)
+code-narrow p g i l w h =
+    rw (code-count p i l, code-size p i l)
+    (omega (arith, count-fits p g i l w h, l .pages-most), omega (arith, span-most p g i l w h, l .pages-most))
 
 moved-code : (p : Parameters) (i page : ℕ) → Limits p → movedTo p page (codeAt p i) ≡ movedIf p i page true
 unfolding movedTo pageOf rankAt
@@ -117,29 +123,29 @@ moves-followed a p g k (suc i) l h =
     go true = moved-code p i (afterSteps a p g k i) l
     go false = refl
 
-pub rising-end : (low high : ℕ) (cs : List ℕ) → Rising low cs high → low ≤ high
-rising-end low high [] h = h
-rising-end low high (c ∷ cs) h = le-trans (h .0) (rising-end (c / 8) high cs (h .1))
+rising-more : (p : Parameters) (low high higher : ℕ) (cs : List ℕ) → Rising p low cs high → high ≤ higher → Rising p low cs higher
+rising-more p low high higher [] h l = le-trans h l
+rising-more p low high higher (c ∷ cs) h l = (h .0, rising-more p (c / 8) high higher cs (h .1) l)
 
-rising-more : (low high higher : ℕ) (cs : List ℕ) → Rising low cs high → high ≤ higher → Rising low cs higher
-rising-more low high higher [] h l = le-trans h l
-rising-more low high higher (c ∷ cs) h l = (h .0, rising-more (c / 8) high higher cs (h .1) l)
+rising-one : (p : Parameters) (low high c : ℕ) (cs : List ℕ) → Rising p low cs high → high ≤ c / 8 → Narrow p c → Rising p low (cs ++ (c ∷ [])) (c / 8)
+rising-one p low high c [] h l n = ((le-trans h l, n), le-refl (c / 8))
+rising-one p low high c (d ∷ cs) h l n = (h .0, rising-one p (d / 8) high c cs (h .1) l n)
 
-rising-one : (low high c : ℕ) (cs : List ℕ) → Rising low cs high → high ≤ c / 8 → Rising low (cs ++ (c ∷ [])) (c / 8)
-rising-one low high c [] h l = (le-trans h l, le-refl (c / 8))
-rising-one low high c (d ∷ cs) h l = (h .0, rising-one (d / 8) high c cs (h .1) l)
-
-pub moves-rising : (a : ℕ) (p : Parameters) (k i : ℕ) → Limits p → Rising 0 (moves a p k i) (i / p .width)
+pub moves-rising :
+    (a : ℕ) (p : Parameters) (g : Growth) (k i : ℕ) → Limits p → Within p g → i ≤ g .expansions → Rising p 0 (moves a p k i) (i / p .width)
 unfolding moves
-moves-rising a p k zero l = omega arith
-moves-rising a p k (suc i) l = go (chosen a p k i) (moves-rising a p k i l)
+moves-rising a p g k zero l w h = omega arith
+moves-rising a p g k (suc i) l w h = go (chosen a p k i) (moves-rising a p g k i l w (omega arith))
   where
     up : i / p .width ≤ suc i / p .width
     up = div-mono (p .width) (omega arith)
 
-    go : (t : Bool) → Rising 0 (moves a p k i) (i / p .width) → Rising 0 (moves a p k i ++ cond t (codeAt p i ∷ []) []) (suc i / p .width)
-    go true h = rising-more 0 (codeAt p i / 8) (suc i / p .width) (moves a p k i ++ (codeAt p i ∷ [])) (rising-one 0 (i / p .width) (codeAt p i) (moves a p k i) h (rw (code-level p i l) (le-refl (i / p .width)))) (rw (code-level p i l) up)
-    go false h = rw (append-nil (moves a p k i)) (rising-more 0 (i / p .width) (suc i / p .width) (moves a p k i) h up)
+    go : (t : Bool) → Rising p 0 (moves a p k i) (i / p .width) → Rising p 0 (moves a p k i ++ cond t (codeAt p i ∷ []) []) (suc i / p .width)
+    go true r =
+        rising-more p 0 (codeAt p i / 8) (suc i / p .width) (moves a p k i ++ (codeAt p i ∷ []))
+        (rising-one p 0 (i / p .width) (codeAt p i) (moves a p k i) r (rw (code-level p i l) (le-refl (i / p .width))) (code-narrow p g i l w (omega arith)))
+        (rw (code-level p i l) up)
+    go false r = rw (append-nil (moves a p k i)) (rising-more p 0 (i / p .width) (suc i / p .width) (moves a p k i) r up)
 
 -- a page's group after more doublings keeps its order and the low bits of the group size
 pub regroup :
@@ -171,25 +177,43 @@ pub count-of-step : (p : Parameters) (code : ℕ) → Limits p → p .step ≤ c
 unfolding countOf
 count-of-step p code l = omega (arith, mul-le-mul-left (p .groups) (pow-pos (code / 8)), mul-one (p .groups), l .step-most)
 
-pub count-of-most : (p : Parameters) (code : ℕ) → Limits p → code / 8 ≤ 10 → countOf p code ≤ 262144
-unfolding countOf
-count-of-most p code l h = doubled-most (p .groups) (code / 8) (l .groups-most) h
+pub order-below : (p : Parameters) (code page : ℕ) → Limits p → rank (p .step) (countOf p code) (page % countOf p code) < countOf p code
+order-below p code page l =
+    rank-below (p .step) (countOf p code) (page % countOf p code)
+    (mod-lt page {m = countOf p code} (count-of-least p code l))
+    (l .step-least)
+    (count-of-step p code l)
 
--- the page with that code and order is reached after j steps: following the others from it gives the same page
-pub record Reached (p : Parameters) (start : ℕ) (codes : List ℕ) (code order j : ℕ) : Type 0 where
-  pub near : order < countOf p code
-  pub rising : Rising (code / 8) (drop j codes) 10
-  pub same : followed p (pageOf p code order) (drop j codes) ≡ followed p start codes
+-- landings
 
-pub reached-start :
-    (p : Parameters) (start : ℕ) (codes : List ℕ) → Limits p → start < p .width * p .groups → Rising 0 codes 10 →
-    Reached p start codes (start / p .groups) (start % p .groups) 0
+pub landing-page :
+    (p : Parameters) (code order : ℕ) (codes : List ℕ) →
+    pageOf p (landing p code order codes .code) (landing p code order codes .order) ≡ followed p (pageOf p code order) codes
+unfolding landing followed movedTo
+landing-page p code order [] = refl
+landing-page p code order (c ∷ cs) = landing-page p c (rank (p .step) (countOf p c) (pageOf p code order % countOf p c)) cs
+
+pub landing-landed :
+    (p : Parameters) (code order high : ℕ) (codes : List ℕ) → Limits p → Landed p code order → Rising p (code / 8) codes high →
+    Landed p (landing p code order codes .code) (landing p code order codes .order) × (landing p code order codes .code / 8 ≤ high)
+unfolding landing
+landing-landed p code order high [] l h r = (h, r)
+landing-landed p code order high (c ∷ cs) l h r =
+    landing-landed p c (rank (p .step) (countOf p c) (pageOf p code order % countOf p c)) high cs l (order-below p c (pageOf p code order) l, r .0 .1) (r .1)
+
+-- a page of the new file, by its group and the groups before it
+pub record Started (p : Parameters) (start : ℕ) : Type 0 where
+  pub level : start / p .groups / 8 ≡ 0
+  pub landed : Landed p (start / p .groups) (start % p .groups)
+  pub same : pageOf p (start / p .groups) (start % p .groups) ≡ start
+
+pub started : (p : Parameters) (start : ℕ) → Limits p → start < p .width * p .groups → Started p start
 unfolding pageOf countOf
-reached-start p start codes l h r =
+started p start l h =
     record {
-      near = rw (level, mul-one (p .groups)) (mod-lt start {m = p .groups} (l .groups-least));
-      rising = rw level r;
-      same = rw (level, size, mul-one (p .groups), div-add-mod' start (p .groups));
+      level = level;
+      landed = rw (level, size, mul-one (p .groups)) (mod-lt start {m = p .groups} (l .groups-least), (omega (arith, l .groups-most), omega (arith, whole, l .pages-least, l .pages-most)));
+      same = rw (level, size, mul-one (p .groups), whole);
     }
   where
     small : start / p .groups < p .width
@@ -201,50 +225,92 @@ reached-start p start codes l h r =
     size : start / p .groups % 8 ≡ start / p .groups
     size = omega (arith, small, l .width-most)
 
+    whole : start / p .groups * p .groups + start % p .groups ≡ start
+    whole = div-add-mod' start (p .groups)
+
+-- the page with that code and order is reached after j steps: the others lead from it to the same end
+pub record Reached (p : Parameters) (ending : Landing) (codes : List ℕ) (code order j : ℕ) : Type 0 where
+  pub landed : Landed p code order
+  pub rising : Rising p (code / 8) (drop j codes) 10
+  pub same : landing p code order (drop j codes) ≡ ending
+
+pub reached-start :
+    (p : Parameters) (start : ℕ) (codes : List ℕ) → Limits p → start < p .width * p .groups → Rising p 0 codes 10 →
+    Reached p (landing p (start / p .groups) (start % p .groups) codes) codes (start / p .groups) (start % p .groups) 0
+reached-start p start codes l h r =
+    let s = started p start l h in
+    record { landed = s .landed; rising = rw (s .level) r; same = refl }
+
 pub reached-next :
-    (p : Parameters) (start : ℕ) (codes : List ℕ) (code order j : ℕ) → Limits p → j < length codes →
-    Reached p start codes code order j →
-    Reached p start codes (getD codes j 0) (rank (p .step) (countOf p (getD codes j 0)) (pageOf p code order % countOf p (getD codes j 0))) (suc j)
-unfolding followed movedTo
-reached-next p start codes code order j l h w =
+    (p : Parameters) (ending : Landing) (codes : List ℕ) (code order j : ℕ) → Limits p → j < length codes → Reached p ending codes code order j →
+    Reached p ending codes (getD codes j 0) (rank (p .step) (countOf p (getD codes j 0)) (pageOf p code order % countOf p (getD codes j 0))) (suc j)
+unfolding landing
+reached-next p ending codes code order j l h w =
+    let opened : Rising p (code / 8) (getD codes j 0 ∷ drop (suc j) codes) 10 = rw (drop-cons codes j 0 h) at (w .rising) in
     record {
-      near = rank-below (p .step) (countOf p next) (pageOf p code order % countOf p next) (mod-lt (pageOf p code order) {m = countOf p next} (count-of-least p next l)) (l .step-least) (count-of-step p next l);
+      landed = (order-below p (getD codes j 0) (pageOf p code order) l, opened .0 .1);
       rising = opened .1;
       same = rw (drop-cons codes j 0 h) at (w .same);
     }
-  where
-    next : ℕ
-    next = getD codes j 0
 
-    opened : Rising (code / 8) (next ∷ drop (suc j) codes) 10
-    opened = rw (drop-cons codes j 0 h) at (w .rising)
-
-pub reached-low : {p : Parameters} {start : ℕ} {codes : List ℕ} {code order j : ℕ} → Reached p start codes code order j → code / 8 ≤ 10
-reached-low {p} {start} {codes} {code} {order} {j} w = rising-end (code / 8) 10 (drop j codes) (w .rising)
-
--- the next step's doublings
+-- the next step is narrow, and its groups have doubled no less often
 pub reached-level :
-    (p : Parameters) (start : ℕ) (codes : List ℕ) (code order j : ℕ) → j < length codes → Reached p start codes code order j →
-    (code / 8 ≤ getD codes j 0 / 8) × (getD codes j 0 / 8 ≤ 10)
-reached-level p start codes code order j h w =
-    let opened : Rising (code / 8) (getD codes j 0 ∷ drop (suc j) codes) 10 = rw (drop-cons codes j 0 h) at (w .rising) in
-    (opened .0, rising-end (getD codes j 0 / 8) 10 (drop (suc j) codes) (opened .1))
+    (p : Parameters) (ending : Landing) (codes : List ℕ) (code order j : ℕ) → j < length codes → Reached p ending codes code order j →
+    (code / 8 ≤ getD codes j 0 / 8) × (countOf p (getD codes j 0) ≤ 1024)
+reached-level p ending codes code order j h w =
+    let opened : Rising p (code / 8) (getD codes j 0 ∷ drop (suc j) codes) 10 = rw (drop-cons codes j 0 h) at (w .rising) in
+    (opened .0 .0, opened .0 .1 .0)
 
 pub reached-end :
-    (p : Parameters) (start : ℕ) (codes : List ℕ) (code order j : ℕ) → j ≡ length codes → Reached p start codes code order j →
-    followed p start codes ≡ pageOf p code order
-unfolding followed
-reached-end p start codes code order j e w = sym (rw (e, drop-length codes) at (w .same))
+    (p : Parameters) (ending : Landing) (codes : List ℕ) (code order j : ℕ) → j ≡ length codes → Reached p ending codes code order j →
+    record { code = code; order = order } ≡ ending
+unfolding landing
+reached-end p ending codes code order j e w = rw (e, drop-length codes) at (w .same)
 
 -- the two passes together
 
-pub chosen-rising : (a : ℕ) (p : Parameters) (k i : ℕ) (codes : List ℕ) → Limits p → i / p .width ≤ 10 → codes ≡ moves a p k i → Rising 0 codes 10
-chosen-rising a p k i codes l h e =
-    subst⁻¹ (λ (cs : List ℕ). Rising 0 cs 10) e (rising-more 0 (i / p .width) 10 (moves a p k i) (moves-rising a p k i l) h)
+-- what the two passes hand to the last step
+pub record Passed (a : ℕ) (p : Parameters) (g : Growth) (k : ℕ) (ending : Landing) : Type 0 where
+  pub landed : Landed p (ending .code) (ending .order)
+  pub level : ending .code / 8 ≤ codeAt p (g .expansions) / 8
+  pub same : home a p g k ≡ stepFrom a p g k (g .expansions) (pageOf p (ending .code) (ending .order))
 
-pub home-found :
-    (a : ℕ) (p : Parameters) (g : Growth) (k start page : ℕ) (codes : List ℕ) → Limits p → start ≡ afterSteps a p g k 0 →
-    codes ≡ moves a p k (g .expansions) → page ≡ followed p start codes → home a p g k ≡ stepFrom a p g k (g .expansions) page
+pub chosen-rising :
+    (a : ℕ) (p : Parameters) (g : Growth) (k high : ℕ) (codes : List ℕ) → Limits p → Within p g → g .expansions / p .width ≤ high →
+    codes ≡ moves a p k (g .expansions) → Rising p 0 codes high
+chosen-rising a p g k high codes l w h e =
+    subst⁻¹ (λ (cs : List ℕ). Rising p 0 cs high) e
+    (rising-more p 0 (g .expansions / p .width) high (moves a p k (g .expansions)) (moves-rising a p g k (g .expansions) l w (le-refl (g .expansions))) h)
+
+pub passed :
+    (a : ℕ) (p : Parameters) (g : Growth) (k start : ℕ) (codes : List ℕ) (ending : Landing) → Limits p → Within p g → start < p .width * p .groups →
+    start ≡ afterSteps a p g k 0 → codes ≡ moves a p k (g .expansions) → ending ≡ landing p (start / p .groups) (start % p .groups) codes →
+    Passed a p g k ending
 unfolding home
-home-found a p g k start page codes l s m f =
-    rw (steps-one a p g k (g .expansions), f, m, s, moves-followed a p g k (g .expansions) l (le-refl (g .expansions)))
+passed a p g k start codes ending l w h s m e = subst⁻¹ (λ (r : Landing). Passed a p g k r) e found
+  where
+    first : Started p start
+    first = started p start l h
+
+    rising : Rising p (start / p .groups / 8) codes (g .expansions / p .width)
+    rising = rw (first .level) (chosen-rising a p g k (g .expansions / p .width) codes l w (le-refl (g .expansions / p .width)) m)
+
+    near :
+        Landed p (landing p (start / p .groups) (start % p .groups) codes .code) (landing p (start / p .groups) (start % p .groups) codes .order) × (landing p (start / p .groups) (start % p .groups) codes .code / 8 ≤ g .expansions / p .width)
+    near = landing-landed p (start / p .groups) (start % p .groups) (g .expansions / p .width) codes l (first .landed) rising
+
+    found : Passed a p g k (landing p (start / p .groups) (start % p .groups) codes)
+    found =
+        record {
+          landed = near .0;
+          level = rw (code-level p (g .expansions) l) (near .1);
+          same =
+              rw (
+                landing-page p (start / p .groups) (start % p .groups) codes,
+                first .same,
+                m,
+                s,
+                moves-followed a p g k (g .expansions) l (le-refl (g .expansions)),
+                steps-one a p g k (g .expansions),
+              );
+        }

@@ -3,7 +3,7 @@ use mathlib.Core.Path.{_≡_, _∙_, refl}
 use mathlib.Core.Bool.{Bool, true, false, _&&_, cond, and-false, and-true}
 use mathlib.Core.Logic.{_⊎_, inl, inr}
 use Prim.Native.Nat.{ℕ, zero, suc, _+_, _-_, _*_, _/_, _%_, _^_, _≤_, _<_}
-use native.Mathlib.Nat.{mod-lt, add-mul, mul-add, one-mul, mul-one, two-pow-succ, div-add-mod, zero-mod, zero-div, pow-zero, add-zero, mul-le-mul}
+use native.Mathlib.Nat.{mod-lt, add-mul, mul-add, one-mul, mul-one, two-pow-succ, div-add-mod, zero-mod, zero-div, pow-zero, add-zero, zero-add, suc-add, le-refl, mul-le-mul, mul-le-mul-right}
 use native.Mathlib.Decide.{decLe, decLt}
 use native.Mathlib.Numerals.{add-one}
 use native.Mathlib.Omega.{arith}
@@ -17,7 +17,7 @@ use Rattle.hashing.specs.Geometry.{sizeAt, countAt, groupSize, groupCoun
 use Rattle.hashing.specs.Limits.{validParameters, validGrowth}
 use Rattle.hashing.specs.Home.{rankAt, chosen, expandedAt, movedIf, stepFrom, afterSteps, home}
 use Rattle.hashing.proofs.Numbers.{next, Next, sweep-below, shifted}
-use Rattle.hashing.proofs.Bounds.{Limits, limits, growth-within, within-valid, count-least, both}
+use Rattle.hashing.proofs.Bounds.{Limits, Within, limits, growth-within, within-valid, size-least, count-least, both}
 
 -- signatures
 
@@ -32,7 +32,12 @@ top-most bits h = omega (arith, pow-mono {i = bits} {j = 8} h)
 -- the same as a shift of 32 bits computes it
 pub top-shifted : (bits : ℕ) → bits ≤ 8 → 1 * 2 ^ bits % 2 ^ 32 - 1 ≡ topOf bits
 unfolding topOf
-top-shifted bits h = rw (shifted bits (omega arith))
+top-shifted bits h = rw (shifted bits 32 (omega arith))
+
+-- a remainder by the greatest separator of k bits
+pub top-at : (n bits k : ℕ) → bits ≡ k → n % (2 ^ k - 1) ≡ n % topOf bits
+unfolding topOf
+top-at n bits k e = rw e
 
 pub signature-below : (a bits k t : ℕ) → 1 ≤ bits → signature a bits k t < topOf bits
 unfolding signature
@@ -75,6 +80,26 @@ span-next p i h = go (next (p .width) i h)
         let e : p .width + i % p .width + 1 ≡ p .width + p .width = omega arith in
         let c = p .groups * 2 ^ (i / p .width) in
         rw (m, d, e, two-pow-succ (i / p .width), mul-add (p .groups) (2 ^ (i / p .width)) (2 ^ (i / p .width)), add-zero (p .width), mul-add (p .width) c c, add-mul (p .width) (p .width) c)
+
+span-up : (p : Parameters) → 1 ≤ p .width → (i d : ℕ) → sizeAt p i * countAt p i ≤ sizeAt p (d + i) * countAt p (d + i)
+span-up p h i zero = rw (zero-add i) (le-refl (sizeAt p i * countAt p i))
+span-up p h i (suc d) =
+    rw (suc-add d i, span-next p (d + i) h, add-mul (sizeAt p (d + i)) 1 (countAt p (d + i)), one-mul (countAt p (d + i)))
+    (omega (arith, span-up p h i d))
+
+-- neither n·G nor G passes M in a step up to the present one
+
+pub span-most : (p : Parameters) (g : Growth) (i : ℕ) → Limits p → Within p g → i ≤ g .expansions → sizeAt p i * countAt p i ≤ p .pages
+unfolding pageCount
+span-most p g i l w h =
+    let parts : g .expansions ≡ g .expansions - i + i = omega arith in
+    let up : sizeAt p i * countAt p i ≤ groupSize p g * groupCount p g = rw parts (span-up p (l .width-least) i (g .expansions - i)) in
+    omega (arith, w .pages-fit)
+
+pub count-fits : (p : Parameters) (g : Growth) (i : ℕ) → Limits p → Within p g → i ≤ g .expansions → countAt p i ≤ p .pages
+count-fits p g i l w h =
+    let one : 1 ≤ sizeAt p i = omega (arith, size-least p i, l .width-least) in
+    omega (arith, span-most p g i l w h, mul-le-mul-right (countAt p i) one, one-mul (countAt p i))
 
 cond-below : (t : Bool) (x y n : ℕ) → x < n → y < n → cond t x y < n
 cond-below true x y n hx hy = hx

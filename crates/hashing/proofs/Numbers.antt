@@ -2,10 +2,10 @@
 use mathlib.Core.Path.{_≡_, _∙_, sym, ap}
 use mathlib.Core.Logic.{_⊎_, inl, inr}
 use Prim.Native.Nat.{ℕ, zero, suc, _+_, _-_, _*_, _/_, _%_, _^_, _≤_, _<_, min}
-use native.Mathlib.Nat.{mod-add-div, div-add-mod', add-mul, mul-assoc, mul-add, add-mul-mod-self-left, mod-lt, mul-le-mul-left, mul-le-mul-right, suc-mul, mul-suc, le-trans, le-div-iff-mul-le, div-mul-le-self, div-zero, le-refl, le-of-lt, mul-comm, mul-one, one-mul, mul-div-le, mul-add-mod-self-left, lt-mul-div-succ, div-eq-of-lt-le, mod-eq-of-lt, mod-eq-sub-div-mul}
+use native.Mathlib.Nat.{mod-add-div, div-add-mod', add-mul, mul-assoc, mul-add, add-mul-mod-self-left, mod-lt, mul-le-mul-left, mul-le-mul-right, suc-mul, mul-suc, le-trans, le-div-iff-mul-le, div-mul-le-self, div-zero, le-refl, le-of-lt, mul-comm, mul-one, one-mul, mul-div-le, mul-add-mod-self-left, lt-mul-div-succ, div-eq-of-lt-le, mod-eq-of-lt, mod-eq-sub-div-mul, two-pow-succ}
 use native.Mathlib.Decide.{decLe, decLt}
 use native.Mathlib.Omega.{arith}
-use lib.Pow.{pow-mono}
+use lib.Pow.{pow-mono, pow-pos}
 use lib.Arith.{digits-div, digits-mod}
 
 pub mul-mod : (a n b : ℕ) → (a % n) * b % n ≡ a * b % n
@@ -67,11 +67,11 @@ pub div-mono : (w : ℕ) {a b : ℕ} → a ≤ b → a / w ≤ b / w
 div-mono zero {a} {b} h = rw (div-zero a, div-zero b) (le-refl zero)
 div-mono (suc w) {a} {b} h = le-div-iff-mul-le {k = suc w} {x = a / suc w} {y = b} (omega arith) .1 (le-trans (div-mul-le-self a (suc w)) h)
 
--- a shift of 1 as code computes it
-pub shifted : (k : ℕ) → k ≤ 31 → 1 * 2 ^ k % 4294967296 ≡ 2 ^ k
-shifted k h =
-    let least : 2 ^ k ≤ 2 ^ 31 = pow-mono h in
-    rw (one-mul (2 ^ k)) (mod-eq-of-lt (omega arith))
+-- a shift of 1 in w bits
+pub shifted : (k w : ℕ) → k < w → 1 * 2 ^ k % 2 ^ w ≡ 2 ^ k
+shifted k w h =
+    let more : 2 ^ suc k ≤ 2 ^ w = pow-mono h in
+    rw (one-mul (2 ^ k)) (mod-eq-of-lt (omega (arith, two-pow-succ k, pow-pos k)))
 
 -- a remainder from a quotient
 pub rest : (n m q : ℕ) → q ≡ n / m → n - q * m ≡ n % m

@@ -2,8 +2,9 @@
 -- kept as a code: how often the groups have doubled, times 8, and the group size.
 use mathlib.Core.Bool.{cond}
 use mathlib.Core.List.{List, [], _∷_, _++_}
-use Prim.Native.Nat.{ℕ, zero, suc, _+_, _*_, _/_, _%_, _^_, _≤_}
+use Prim.Native.Nat.{ℕ, zero, suc, _+_, _*_, _/_, _%_, _^_, _≤_, _<_}
 use Rattle.hashing.specs.declared.Parameters.{Parameters}
+use Rattle.hashing.specs.declared.moves.Landing.{Landing}
 use Rattle.hashing.specs.Geometry.{sizeAt, rank}
 use Rattle.hashing.specs.Home.{chosen}
 
@@ -32,7 +33,24 @@ unfoldable pub followed : Parameters → ℕ → List ℕ → ℕ
 followed p page [] = page
 followed p page (code ∷ codes) = followed p (movedTo p page code) codes
 
--- the doublings of the codes do not fall, from low to high
-abbrev pub Rising : ℕ → List ℕ → ℕ → Type 0
-Rising low [] high = low ≤ high
-Rising low (code ∷ codes) high = (low ≤ code / 8) × Rising (code / 8) codes high
+-- the same from the page with a code and an order, with the code and order of the page that is reached
+unfoldable pub landing : Parameters → ℕ → ℕ → List ℕ → Landing
+landing p code order [] = record { code = code; order = order }
+landing p code order (next ∷ codes) = landing p next (rank (p .step) (countOf p next) (pageOf p code order % countOf p next)) codes
+
+-- neither G nor n·G passes 1,024 in a step
+abbrev pub Narrow : Parameters → ℕ → Type 0
+Narrow p code = (countOf p code ≤ 1024) × (code % 8 * countOf p code ≤ 1024)
+
+-- the page with a code and an order, below 2,048
+abbrev pub Landed : Parameters → ℕ → ℕ → Type 0
+Landed p code order = (order < countOf p code) × Narrow p code
+
+-- the doublings of narrow steps do not fall, from low to high
+abbrev pub Rising : Parameters → ℕ → List ℕ → ℕ → Type 0
+Rising p low [] high = low ≤ high
+Rising p low (code ∷ codes) high = ((low ≤ code / 8) × Narrow p code) × Rising p (code / 8) codes high
+
+-- t div s is t times this div 524,288 where t·s is below that
+unfoldable pub inverseOf : ℕ → ℕ
+inverseOf step = 524288 / step + 1

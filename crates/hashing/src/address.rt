@@ -1,17 +1,23 @@
-// The home page of a star.
+// The home page of a star. Group numbers, ranks, page numbers, G and n·G are of 16 bits here.
 ghost use mathlib.Core.Path.{_≡_};
 ghost use mathlib.Core.Bool.{true};
-ghost use Prim.Native.Nat.{_*_, _<_};
-ghost use Rattle.hashing.specs.Generator.{modulus, multiplier, multipliers};
-ghost use Rattle.hashing.specs.Geometry.{groupSize, groupCount, grown};
+ghost use Prim.Native.Nat.{_*_, _/_, _%_, _<_, _≤_};
+ghost use Rattle.hashing.specs.Generator.{modulus, multiplier, multipliers, scrambled};
+ghost use Rattle.hashing.specs.Geometry.{grown};
 ghost use Rattle.hashing.specs.Limits.{validParameters, validGrowth};
 ghost use Rattle.hashing.specs.Home.{rankAt, stepFrom, chosen as Home·chosen, home as Home·home};
+ghost use Rattle.hashing.specs.Moves.{codeAt, pageOf, inverseOf, Landed};
 use crate::Geometry;
+use crate::Parameters;
 use crate::generator::residue;
-use crate::groups::rank;
+use crate::moves::Landing;
 use crate::moves::choose;
 use crate::moves::chosen;
+use crate::moves::count_of;
 use crate::moves::follow;
+use crate::moves::moved;
+use crate::moves::page_of;
+use crate::moves::ranked;
 
 pub fn home(table: &[u32; 2049], geometry: Geometry, number: u32) -> u32
     requires { ⌜ now table ≡ multipliers ⌝ }
@@ -21,72 +27,102 @@ pub fn home(table: &[u32; 2049], geometry: Geometry, number: u32) -> u32
 {
     let parameters = geometry.parameters;
     let key = number % 2147483647;
-    let mut steps = [0u32; 44];
-    let count = choose(
+    let mut steps = [0u16; 32];
+    let choice = choose(
         table,
         parameters,
         geometry.growth.expansions,
         key,
         &mut steps,
     );
-    let start = residue(table, 1, key) % (parameters.width * parameters.groups);
-    let page = follow(parameters, &steps, count, start);
-    last_step(table, geometry, key, page)
+    let inverse = inverse_of(parameters);
+    let start = first_page(table, parameters, key);
+    let landing = follow(parameters, inverse, &steps, choice.count, start);
+    last_step(table, geometry, inverse, key, choice.last, landing) as u32
 }
 
-// Whether the last step chooses the number.
-fn chosen_last(table: &[u32; 2049], geometry: Geometry, key: u32) -> bool
+fn inverse_of(parameters: Parameters) -> u32
+    requires { ⌜ validParameters parameters ≡ true ⌝ }
+    ensures { λ r. ⌜ r ≡ inverseOf (parameters .step) ⌝ }
+{
+    524288 / parameters.step + 1
+}
+
+// The home in a new file.
+fn first_page(table: &[u32; 2049], parameters: Parameters, key: u32) -> u16
+    requires { ⌜ now table ≡ multipliers ⌝ }
+    requires { ⌜ validParameters parameters ≡ true ⌝ }
+    requires { ⌜ key < modulus ⌝ }
+    ensures { λ r. ⌜ r ≡ scrambled multiplier 1 key % (parameters .width * parameters .groups) ⌝ }
+{
+    (residue(table, 1, key) % (parameters.width * parameters.groups)) as u16
+}
+
+// Whether the last step, of that code, chooses the number.
+fn chosen_last(table: &[u32; 2049], geometry: Geometry, key: u32, last: u16) -> bool
     requires { ⌜ now table ≡ multipliers ⌝ }
     requires { ⌜ validParameters (geometry .parameters) ≡ true ⌝ }
     requires { ⌜ validGrowth (geometry .parameters) (geometry .growth) ≡ true ⌝ }
     requires { ⌜ key < modulus ⌝ }
+    requires { ⌜ last ≡ codeAt (geometry .parameters) (geometry .growth .expansions) ⌝ }
     ensures { λ r. ⌜ r ≡ Home·chosen multiplier (geometry .parameters) key (geometry .growth .expansions) ⌝ }
 {
-    chosen(
-        table,
-        key,
-        geometry.growth.expansions,
-        geometry.group_size(),
-    )
-}
-
-// The rank of a page's group in the last step.
-fn last_rank(geometry: Geometry, page: u32) -> u32
-    requires { ⌜ validParameters (geometry .parameters) ≡ true ⌝ }
-    requires { ⌜ validGrowth (geometry .parameters) (geometry .growth) ≡ true ⌝ }
-    ensures { λ r. ⌜ r ≡ rankAt (geometry .parameters) (geometry .growth .expansions) page ⌝ }
-{
-    let count = geometry.group_count();
-    let group = page % count;
-    let order = rank(geometry.parameters.step, count, group);
-    order
-}
-
-// n·G, the first page that the present partial expansion adds.
-fn first_added(geometry: Geometry) -> u32
-    requires { ⌜ validParameters (geometry .parameters) ≡ true ⌝ }
-    requires { ⌜ validGrowth (geometry .parameters) (geometry .growth) ≡ true ⌝ }
-    ensures { λ r. ⌜ r ≡ groupSize (geometry .parameters) (geometry .growth) * groupCount (geometry .parameters) (geometry .growth) ⌝ }
-{
-    geometry.group_size() * geometry.group_count()
+    chosen(table, key, geometry.growth.expansions, last % 8)
 }
 
 // The last step, in the present partial expansion, which has reached the groups of a rank below x.
-fn last_step(table: &[u32; 2049], geometry: Geometry, key: u32, page: u32) -> u32
+fn last_step(
+    table: &[u32; 2049],
+    geometry: Geometry,
+    inverse: u32,
+    key: u32,
+    last: u16,
+    landing: Landing,
+) -> u16
     requires { ⌜ now table ≡ multipliers ⌝ }
     requires { ⌜ validParameters (geometry .parameters) ≡ true ⌝ }
     requires { ⌜ validGrowth (geometry .parameters) (geometry .growth) ≡ true ⌝ }
+    requires { ⌜ inverse ≡ inverseOf (geometry .parameters .step) ⌝ }
     requires { ⌜ key < modulus ⌝ }
-    ensures { λ r. ⌜ r ≡ stepFrom multiplier (geometry .parameters) (geometry .growth) key (geometry .growth .expansions) page ⌝ }
+    requires { ⌜ last ≡ codeAt (geometry .parameters) (geometry .growth .expansions) ⌝ }
+    requires { ⌜ Landed (geometry .parameters) (landing .code) (landing .order) ⌝ }
+    requires { ⌜ landing .code / 8 ≤ last / 8 ⌝ }
+    ensures { λ r. ⌜ r ≡ stepFrom multiplier (geometry .parameters) (geometry .growth) key (geometry .growth .expansions) (pageOf (geometry .parameters) (landing .code) (landing .order)) ⌝ }
 {
-    if !chosen_last(table, geometry, key) {
+    let parameters = geometry.parameters;
+    let page = page_of(parameters, landing.code, landing.order);
+    if !chosen_last(table, geometry, key, last) {
         return page;
     }
-    let order = last_rank(geometry, page);
-    if geometry.growth.expanded <= order {
+    let order = moved(parameters, inverse, landing.code, landing.order, last);
+    if geometry.growth.expanded <= order as u32 {
         return page;
     }
-    first_added(geometry) + order
+    page_of(parameters, last, order)
+}
+
+// The code of the last step.
+fn last_code(geometry: Geometry) -> u16
+    requires { ⌜ validParameters (geometry .parameters) ≡ true ⌝ }
+    requires { ⌜ validGrowth (geometry .parameters) (geometry .growth) ≡ true ⌝ }
+    ensures { λ r. ⌜ r ≡ codeAt (geometry .parameters) (geometry .growth .expansions) ⌝ }
+{
+    let expansions = geometry.growth.expansions;
+    let width = geometry.parameters.width;
+    (expansions / width * 8 + (width + expansions % width)) as u16
+}
+
+// The rank of a page's group in the last step.
+fn last_rank(geometry: Geometry, last: u16, page: u16) -> u16
+    requires { ⌜ validParameters (geometry .parameters) ≡ true ⌝ }
+    requires { ⌜ validGrowth (geometry .parameters) (geometry .growth) ≡ true ⌝ }
+    requires { ⌜ last ≡ codeAt (geometry .parameters) (geometry .growth .expansions) ⌝ }
+    ensures { λ r. ⌜ r ≡ rankAt (geometry .parameters) (geometry .growth .expansions) page ⌝ }
+{
+    let parameters = geometry.parameters;
+    let group = page % count_of(parameters, last);
+    let order = ranked(parameters, inverse_of(parameters), last, group);
+    order
 }
 
 // The home under the next growth state, from the home under this one.
@@ -97,15 +133,18 @@ pub fn home_grown(table: &[u32; 2049], geometry: Geometry, number: u32, old: u32
     requires { ⌜ old ≡ Home·home multiplier (geometry .parameters) (geometry .growth) number ⌝ }
     ensures { λ r. ⌜ r ≡ Home·home multiplier (geometry .parameters) (grown (geometry .parameters) (geometry .growth)) number ⌝ }
 {
-    let added = first_added(geometry);
-    if added <= old {
+    let last = last_code(geometry);
+    let page = old as u16;
+    let expanded = geometry.growth.expanded as u16;
+    let first = page_of(geometry.parameters, last, 0);
+    if first <= page {
         return old;
     }
-    if !chosen_last(table, geometry, number % 2147483647) {
+    if !chosen_last(table, geometry, number % 2147483647, last) {
         return old;
     }
-    if last_rank(geometry, old) == geometry.growth.expanded {
-        return added + geometry.growth.expanded;
+    if last_rank(geometry, last, page) == expanded {
+        return (first + expanded) as u32;
     }
     old
 }

@@ -1,7 +1,7 @@
 // Scrambled star numbers and signatures, over the table of multipliers.
 ghost use mathlib.Core.Path.{_≡_};
-ghost use Prim.Native.Nat.{_≤_, _<_};
-ghost use Rattle.hashing.specs.Generator.{modulus, multiplier};
+ghost use Prim.Native.Nat.{_%_, _≤_, _<_};
+ghost use Rattle.hashing.specs.Generator.{modulus, multiplier, topOf};
 ghost use Rattle.hashing.specs.Generator.{multipliers as Generator·multipliers, scrambled as Generator·scrambled, signature as Generator·signature};
 use crate::MULTIPLIERS;
 
@@ -36,6 +36,35 @@ pub fn scrambled(table: &[u32; 2049], j: usize, number: u32) -> u32
     residue(table, j, number % 2147483647)
 }
 
+// A remainder by 2^bits − 1: a divisor that is known when the code is compiled costs a product, and no division.
+fn below_top(number: u32, bits: u32) -> u32
+    requires { ⌜ (1 ≤ bits) × (bits ≤ 8) ⌝ }
+    ensures { λ r. ⌜ r ≡ number % topOf bits ⌝ }
+{
+    if 8 <= bits {
+        return number % 255;
+    }
+    if 7 <= bits {
+        return number % 127;
+    }
+    if 6 <= bits {
+        return number % 63;
+    }
+    if 5 <= bits {
+        return number % 31;
+    }
+    if 4 <= bits {
+        return number % 15;
+    }
+    if 3 <= bits {
+        return number % 7;
+    }
+    if 2 <= bits {
+        return number % 3;
+    }
+    0
+}
+
 // The signature of a number on the probe-th page probed.
 pub fn signature(table: &[u32; 2049], bits: u32, number: u32, probe: usize) -> u32
     requires { ⌜ now table ≡ Generator·multipliers ⌝ }
@@ -43,5 +72,6 @@ pub fn signature(table: &[u32; 2049], bits: u32, number: u32, probe: usize) -> u
     requires { ⌜ (1 ≤ probe) × (probe ≤ 1024) ⌝ }
     ensures { λ r. ⌜ r ≡ Generator·signature multiplier bits number probe ⌝ }
 {
-    scrambled(table, 2 * probe + 1, number) % ((1 << bits) - 1)
+    let x = scrambled(table, 2 * probe + 1, number);
+    below_top(x, bits)
 }

@@ -1,9 +1,9 @@
-// Group size, group count, highest address, the rank of a group, and the growth step.
+// Group size, group count, highest address, and the growth step.
 ghost use mathlib.Core.Path.{_≡_};
 ghost use mathlib.Core.Bool.{true};
-ghost use Prim.Native.Nat.{_+_, _*_, _/_, _^_, _<_, _≤_, min};
+ghost use Prim.Native.Nat.{_/_, _<_, _≤_};
 ghost use Rattle.hashing.specs.Geometry.{sizeAt, countAt, groupSize, groupCount, pageCount, highest};
-ghost use Rattle.hashing.specs.Geometry.{rank as Geometry·rank, grown as Geometry·grown};
+ghost use Rattle.hashing.specs.Geometry.{grown as Geometry·grown};
 ghost use Rattle.hashing.specs.Limits.{validParameters, validGrowth};
 use crate::Geometry;
 use crate::Growth;
@@ -50,27 +50,6 @@ pub fn count_at(parameters: Parameters, expansions: u32) -> u32
     ensures { λ r. ⌜ r ≡ countAt parameters expansions ⌝ }
 {
     parameters.groups << (expansions / parameters.width)
-}
-
-// The rank of a group among count groups.
-pub fn rank(step: u32, count: u32, group: u32) -> u32
-    requires { ⌜ group < count ⌝ }
-    requires { ⌜ (1 ≤ step) × (step ≤ count) ⌝ }
-    ensures { λ r. ⌜ r ≡ Geometry·rank step count group ⌝ }
-{
-    let t = count - 1 - group;
-    in_sweep(t % step, count / step, count % step, t / step)
-}
-
-// w sweeps of part groups, of which the first most have one more, and then some groups.
-pub fn in_sweep(w: u32, part: u32, most: u32, rest: u32) -> u32
-    requires { ⌜ w * part + min w most + rest < 2 ^ 32 ⌝ }
-    ensures { λ r. ⌜ r ≡ w * part + min w most + rest ⌝ }
-{
-    if w < most {
-        return w * part + w + rest;
-    }
-    w * part + most + rest
 }
 
 // The growth state after one more page.

@@ -5,6 +5,7 @@ mod generator;
 mod groups;
 mod limits;
 mod moves;
+mod ranks;
 mod table;
 
 pub use address::home;
@@ -13,9 +14,9 @@ pub use generator::multipliers;
 pub use generator::scrambled;
 pub use generator::signature;
 pub use groups::grown;
-pub use groups::rank;
 pub use limits::growth_valid;
 pub use limits::parameters_valid;
+pub use ranks::rank;
 pub use table::MULTIPLIERS;
 
 // A file's parameters, with document 01's letters.

@@ -5,18 +5,30 @@ ghost use Prim.Native.Nat.{_+_, _*_, _/_, _%_, _≤_, _<_};
 ghost use lib.ListN.{length, take};
 ghost use lib.Dec.{leb};
 ghost use Rattle.hashing.specs.Generator.{modulus, multiplier, multipliers, scrambled};
-ghost use Rattle.hashing.specs.Geometry.{rank, swept as Geometry·swept};
+ghost use Rattle.hashing.specs.Geometry.{rank};
 ghost use Rattle.hashing.specs.Limits.{validParameters};
-ghost use Rattle.hashing.specs.Moves.{codeAt, moves, countOf, pageOf, followed, Rising};
+ghost use Rattle.hashing.specs.Moves.{codeAt, moves, countOf, pageOf, inverseOf, landing, Landed, Rising};
 use crate::Parameters;
 use crate::generator::residue;
-use crate::groups::in_sweep;
+use crate::ranks::swept;
+
+// The steps that choose a number: how many there are, and the code of the step after all those tested.
+pub struct Choice {
+    pub count: usize,
+    pub last: u16,
+}
+
+// The page n·G + order of the step with that code.
+pub struct Landing {
+    pub code: u16,
+    pub order: u16,
+}
 
 // Whether step i + 1 chooses the number, with groups of that size.
-pub fn chosen(table: &[u32; 2049], key: u32, i: u32, size: u32) -> bool
+pub fn chosen(table: &[u32; 2049], key: u32, i: u32, size: u16) -> bool
     requires { ⌜ now table ≡ multipliers ⌝ }
     requires { ⌜ key < modulus ⌝ }
-    requires { ⌜ i ≤ 43 ⌝ }
+    requires { ⌜ i ≤ 32 ⌝ }
     requires { ⌜ size ≤ 7 ⌝ }
     ensures { λ r. ⌜ r ≡ leb (scrambled multiplier (2 * (i + 1)) key * (size + 1)) modulus ⌝ }
 {
@@ -24,13 +36,13 @@ pub fn chosen(table: &[u32; 2049], key: u32, i: u32, size: u32) -> bool
 }
 
 // The code of the step after the one with that code.
-fn next_code(parameters: Parameters, i: u32, code: u32) -> u32
+fn next_code(parameters: Parameters, i: u32, code: u16) -> u16
     requires { ⌜ validParameters parameters ≡ true ⌝ }
-    requires { ⌜ i ≤ 43 ⌝ }
+    requires { ⌜ i ≤ 32 ⌝ }
     requires { ⌜ code ≡ codeAt parameters i ⌝ }
     ensures { λ r. ⌜ r ≡ codeAt parameters (i + 1) ⌝ }
 {
-    let width = parameters.width;
+    let width = parameters.width as u16;
     let size = code % 8 + 1;
     if size == 2 * width {
         return code + 9 - width;
@@ -38,25 +50,26 @@ fn next_code(parameters: Parameters, i: u32, code: u32) -> u32
     code + 1
 }
 
-// Puts the codes of the steps that choose the number at the start of steps, and answers how many there are.
+// Puts the codes of the steps that choose the number at the start of steps.
 pub fn choose(
     table: &[u32; 2049],
     parameters: Parameters,
     expansions: u32,
     key: u32,
-    steps: &mut [u32; 44],
-) -> usize
+    steps: &mut [u16; 32],
+) -> Choice
     requires { ⌜ now table ≡ multipliers ⌝ }
     requires { ⌜ validParameters parameters ≡ true ⌝ }
-    requires { ⌜ expansions ≤ 43 ⌝ }
+    requires { ⌜ expansions ≤ 32 ⌝ }
     requires { ⌜ key < modulus ⌝ }
-    requires { ⌜ length (now steps) ≡ 44 ⌝ }
-    ensures { λ r. ⌜ r ≤ expansions ⌝ }
-    ensures { λ r. ⌜ length (now (steps .exit)) ≡ 44 ⌝ }
-    ensures { λ r. ⌜ take r (now (steps .exit)) ≡ moves multiplier parameters key expansions ⌝ }
+    requires { ⌜ length (now steps) ≡ 32 ⌝ }
+    ensures { λ r. ⌜ r .count ≤ expansions ⌝ }
+    ensures { λ r. ⌜ length (now (steps .exit)) ≡ 32 ⌝ }
+    ensures { λ r. ⌜ take (r .count) (now (steps .exit)) ≡ moves multiplier parameters key expansions ⌝ }
+    ensures { λ r. ⌜ r .last ≡ codeAt parameters expansions ⌝ }
 {
     let mut count: usize = 0;
-    let mut code = parameters.width;
+    let mut code = parameters.width as u16;
     let mut i: u32 = 0;
     while i < expansions {
         steps[count] = code;
@@ -67,81 +80,80 @@ pub fn choose(
             count += 1;
         }
     }
-    count
+    Choice { count, last: code }
 }
 
 // G in the step with that code.
-fn count_of(parameters: Parameters, code: u32) -> u32
+pub fn count_of(parameters: Parameters, code: u16) -> u16
     requires { ⌜ validParameters parameters ≡ true ⌝ }
-    requires { ⌜ code / 8 ≤ 10 ⌝ }
+    requires { ⌜ countOf parameters code ≤ 1024 ⌝ }
     ensures { λ r. ⌜ r ≡ countOf parameters code ⌝ }
 {
-    parameters.groups << (code / 8)
+    (parameters.groups as u16) << (code / 8)
+}
+
+// The page n·G + order of the step with that code.
+pub fn page_of(parameters: Parameters, code: u16, order: u16) -> u16
+    requires { ⌜ validParameters parameters ≡ true ⌝ }
+    requires { ⌜ Landed parameters code order ⌝ }
+    ensures { λ r. ⌜ r ≡ pageOf parameters code order ⌝ }
+{
+    code % 8 * count_of(parameters, code) + order
 }
 
 // The group, in a later step, of the page with that code and order.
-fn regrouped(parameters: Parameters, code: u32, order: u32, next: u32) -> u32
+fn regrouped(parameters: Parameters, code: u16, order: u16, next: u16) -> u16
     requires { ⌜ validParameters parameters ≡ true ⌝ }
-    requires { ⌜ order < countOf parameters code ⌝ }
-    requires { ⌜ (code / 8 ≤ next / 8) × (next / 8 ≤ 10) ⌝ }
+    requires { ⌜ Landed parameters code order ⌝ }
+    requires { ⌜ (code / 8 ≤ next / 8) × (countOf parameters next ≤ 1024) ⌝ }
     ensures { λ r. ⌜ r ≡ pageOf parameters code order % countOf parameters next ⌝ }
 {
     let rest = code % 8 % (1 << (next / 8 - code / 8));
     rest * count_of(parameters, code) + order
 }
 
-// w·(G div s) + the smaller of w and G mod s + t div s, with products by the inverse of s in place of divisions.
-fn swept(step: u32, inverse: u32, count: u32, t: u32) -> u32
-    requires { ⌜ (1 ≤ step) × (step ≤ 256) ⌝ }
-    requires { ⌜ inverse ≡ 2147483648 / step + 1 ⌝ }
-    requires { ⌜ (t < count) × (count ≤ 262144) ⌝ }
-    ensures { λ r. ⌜ r ≡ Geometry·swept step count t ⌝ }
-{
-    if step == 1 {
-        return t;
-    }
-    let part = divided(count, step, inverse);
-    let most = count - part * step;
-    let sweep = divided(t, step, inverse);
-    let w = t - sweep * step;
-    in_sweep(w, part, most, sweep)
-}
-
-// A quotient, as a product by the inverse of the divisor.
-fn divided(number: u32, divisor: u32, inverse: u32) -> u32
-    requires { ⌜ (1 ≤ divisor) × (divisor ≤ 256) ⌝ }
-    requires { ⌜ inverse ≡ 2147483648 / divisor + 1 ⌝ }
-    requires { ⌜ number ≤ 262144 ⌝ }
-    ensures { λ r. ⌜ r ≡ number / divisor ⌝ }
-{
-    (number as u64 * inverse as u64 / 2147483648) as u32
-}
-
-// The rank of that group.
-fn moved(parameters: Parameters, inverse: u32, code: u32, order: u32, next: u32) -> u32
+// The rank of a group in the step with that code.
+pub fn ranked(parameters: Parameters, inverse: u32, code: u16, group: u16) -> u16
     requires { ⌜ validParameters parameters ≡ true ⌝ }
-    requires { ⌜ inverse ≡ 2147483648 / parameters .step + 1 ⌝ }
-    requires { ⌜ order < countOf parameters code ⌝ }
-    requires { ⌜ (code / 8 ≤ next / 8) × (next / 8 ≤ 10) ⌝ }
+    requires { ⌜ inverse ≡ inverseOf (parameters .step) ⌝ }
+    requires { ⌜ (group < countOf parameters code) × (countOf parameters code ≤ 1024) ⌝ }
+    ensures { λ r. ⌜ r ≡ rank (parameters .step) (countOf parameters code) group ⌝ }
+{
+    let count = count_of(parameters, code);
+    swept(parameters.step as u16, inverse, count, count - 1 - group)
+}
+
+// The rank, in a later step, of the group of the page with that code and order.
+pub fn moved(parameters: Parameters, inverse: u32, code: u16, order: u16, next: u16) -> u16
+    requires { ⌜ validParameters parameters ≡ true ⌝ }
+    requires { ⌜ inverse ≡ inverseOf (parameters .step) ⌝ }
+    requires { ⌜ Landed parameters code order ⌝ }
+    requires { ⌜ (code / 8 ≤ next / 8) × (countOf parameters next ≤ 1024) ⌝ }
     ensures { λ r. ⌜ r ≡ rank (parameters .step) (countOf parameters next) (pageOf parameters code order % countOf parameters next) ⌝ }
 {
-    let count = count_of(parameters, next);
     let group = regrouped(parameters, code, order, next);
-    swept(parameters.step, inverse, count, count - 1 - group)
+    ranked(parameters, inverse, next, group)
 }
 
-// The page that the first count codes of steps give from a starting page.
-pub fn follow(parameters: Parameters, steps: &[u32; 44], count: usize, start: u32) -> u32
+// Where the first count codes of steps lead from a starting page.
+pub fn follow(
+    parameters: Parameters,
+    inverse: u32,
+    steps: &[u16; 32],
+    count: usize,
+    start: u16,
+) -> Landing
     requires { ⌜ validParameters parameters ≡ true ⌝ }
-    requires { ⌜ length (now steps) ≡ 44 ⌝ }
-    requires { ⌜ count ≤ 44 ⌝ }
-    requires { ⌜ Rising 0 (take count (now steps)) 10 ⌝ }
+    requires { ⌜ inverse ≡ inverseOf (parameters .step) ⌝ }
+    requires { ⌜ length (now steps) ≡ 32 ⌝ }
+    requires { ⌜ count ≤ 32 ⌝ }
+    requires { ⌜ Rising parameters 0 (take count (now steps)) 10 ⌝ }
     requires { ⌜ start < parameters .width * parameters .groups ⌝ }
-    ensures { λ r. ⌜ r ≡ followed parameters start (take count (now (steps .entry))) ⌝ }
+    ensures { λ r. ⌜ r ≡ landing parameters (start / parameters .groups) (start % parameters .groups) (take count (now (steps .entry))) ⌝ }
 {
-    let inverse = 2147483648 / parameters.step + 1;
-    let mut code = start / parameters.groups;
-    let mut order = start % parameters.groups;
+    let groups = parameters.groups as u16;
+    let mut code = start / groups;
+    let mut order = start % groups;
     let mut j = 0;
     while j < count {
         let next = steps[j];
@@ -149,5 +161,5 @@ pub fn follow(parameters: Parameters, steps: &[u32; 44], count: usize, start: u3
         code = next;
         j += 1;
     }
-    code % 8 * count_of(parameters, code) + order
+    Landing { code, order }
 }

@@ -267,8 +267,8 @@ pub extern "C" fn sft_scrambled(j: usize, number: u32) -> u32 {
 // The rank of a group among count groups; 0 if there is no such group or step.
 #[no_mangle]
 pub extern "C" fn sft_rank(step: u32, count: u32, group: u32) -> u32 {
-    if step < 1 || step > count || group >= count {
+    if step < 1 || step > 256 || count > 1024 || group > 1023 || group >= count {
         return 0;
     }
-    hashing::rank(step, count, group)
+    hashing::rank(step as u16, count as u16, group as u16) as u32
 }

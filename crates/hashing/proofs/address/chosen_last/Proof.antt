@@ -1,23 +1,23 @@
 -- `hashing::chosen_last` meets its contract.
 use native.Mathlib.Numerals.{add-one}
-use borrow.Author.Needs.{needs}
+use native.Mathlib.Omega.{arith}
 use Rattle.hashing.specs.Home.{chosen}
 use Rattle.hashing.proofs.Bounds.{limits, growth-within, spread}
+use Rattle.hashing.proofs.Codes.{code-size}
 use Rattle.hashing.proofs.address.chosen_last.Statement.{statement}
 use Rattle.hashing.proofs.address.chosen_last.Tie as tie
 
-group-size-requires : tie.Need-group-size-requires
-group-size-requires c κs = search needs
-
 chosen-requires : tie.Need-chosen-requires
 chosen-requires c κs =
-    let start = c .before in
-    let s = spread _ _ (limits _ (start .pre .1 .0)) (growth-within _ _ (start .pre .1 .1 .0)) in
-    (start .pre .0, (start .pre .1 .1 .1, (s .expansions-most, rw (c .group-size .ensures) (s .size-high))))
+    let s = spread _ _ (limits _ (c .pre .1 .0)) (growth-within _ _ (c .pre .1 .1 .0)) in
+    (c .pre .0, (c .pre .1 .1 .1 .0, (s .expansions-most, omega arith)))
 
 returns : tie.Need-returns
 unfolding chosen
-returns c = rw (c .chosen .ensures, c .before .group-size .ensures, add-one (c .before .before .args .geometry .growth .expansions))
+returns c =
+    let start = c .before in
+    let e = start .args .geometry .growth .expansions in
+    rw (c .chosen .ensures, start .pre .1 .1 .1 .1, code-size (start .args .geometry .parameters) e (limits _ (start .pre .1 .0)), add-one e)
 
 pub chosen-last-spec : {M : Type 1} → statement M
-chosen-last-spec = tie.close (tie.spec group-size-requires chosen-requires returns)
+chosen-last-spec = tie.close (tie.spec chosen-requires returns)

@@ -1,49 +1,69 @@
 -- `hashing::home` meets its contract: the steps that choose the number give the page before the last step.
-use mathlib.Core.Path.{_∙_, refl, sym, ap}
-use Prim.Native.Nat.{ℕ, _*_, _%_}
+use mathlib.Core.Path.{_∙_, refl, sym}
+use Prim.Native.Nat.{_*_, _%_, _<_}
 use native.Mathlib.Nat.{mul-le-mul, mod-lt}
 use native.Mathlib.Omega.{arith}
-use Rattle.hashing.specs.Generator.{multiplier, modulus}
+use borrow.Author.Needs.{needs}
+use Rattle.hashing.specs.Generator.{multiplier, modulus, scrambled}
 use Rattle.hashing.specs.Home.{afterSteps}
-use Rattle.hashing.proofs.Bounds.{Limits, Spread, limits, growth-within, spread}
-use Rattle.hashing.proofs.Codes.{chosen-rising, home-found, home-key}
+use Rattle.hashing.proofs.Bounds.{Limits, Within, Spread, limits, growth-within, spread}
+use Rattle.hashing.proofs.Codes.{Passed, passed, chosen-rising, home-key}
 use Rattle.hashing.proofs.address.home.Statement.{statement}
 use Rattle.hashing.proofs.address.home.Tie as tie
 
 bounds : (c : tie.Start) → Limits (c .args .geometry .parameters)
 bounds c = limits _ (c .pre .1 .0)
 
+within : (c : tie.Start) → Within (c .args .geometry .parameters) (c .args .geometry .growth)
+within c = growth-within _ _ (c .pre .1 .1)
+
 state : (c : tie.Start) → Spread (c .args .geometry .parameters) (c .args .geometry .growth)
-state c = spread _ _ (bounds c) (growth-within _ _ (c .pre .1 .1))
+state c = spread _ _ (bounds c) (within c)
+
+abbrev first : tie.After-first-page → tie.Start
+first c = c .before .before .before .before .before
+
+low : (c : tie.After-first-page) → c .first-page .result < first c .args .geometry .parameters .width * first c .args .geometry .parameters .groups
+low c =
+    let l = bounds (first c) in
+    let p = first c .args .geometry .parameters in
+    let x = scrambled multiplier 1 (first c .args .number % modulus) in
+    let below : x % (p .width * p .groups) < p .width * p .groups = mod-lt x (mul-le-mul {n₁ = 1} {m₁ = 1} (l .width-least) (l .groups-least)) in
+    omega (arith, c .first-page .ensures)
+
+ends :
+    (c : tie.After-follow) →
+    Passed multiplier (first (c .before .before) .args .geometry .parameters) (first (c .before .before) .args .geometry .growth) (first (c .before .before) .args .number % modulus) (c .follow .result)
+unfolding afterSteps
+ends c =
+    let start = first (c .before .before) in
+    passed multiplier _ _ (start .args .number % modulus) _ _ _ (bounds start) (within start) (low (c .before .before)) (c .before .before .first-page .ensures) (c .before .before .before .before .choose .ensures .1 .1 .0) (c .follow .ensures)
 
 choose-requires : tie.Need-choose-requires
 choose-requires c κs =
     let start = c .before .before in
     (start .pre .0, (start .pre .1 .0, (state start .expansions-most, (omega arith, refl))))
 
-residue-requires : tie.Need-residue-requires
-residue-requires c κs = (c .before .before .before .pre .0, omega arith)
+inverse-of-requires : tie.Need-inverse-of-requires
+inverse-of-requires c κs = search needs
 
-mul-start : tie.Need-mul-start
-mul-start c = let l = bounds (c .before .before .before .before .before) in omega (arith, mul-le-mul (l .width-most) (l .groups-most))
-
-rem-start : tie.Need-rem-start
-rem-start c = let l = bounds (c .before .before .before .before .before) in omega (arith, mul-le-mul (l .width-least) (l .groups-least))
+first-page-requires : tie.Need-first-page-requires
+first-page-requires c κs =
+    let start = c .before .before .before .before in
+    (start .pre .0, (start .pre .1 .0, omega arith))
 
 follow-requires : tie.Need-follow-requires
 follow-requires c κs =
-    let start = c .before .before .before .before .before .before in
-    let p = start .args .geometry .parameters in
-    let l = bounds start in
+    let start = first (c .before) in
     let chose = c .before .before .before .choose .ensures in (
       start .pre .1 .0,
       (
-        chose .1 .0,
+        c .before .before .inverse-of .ensures,
         (
-          omega (arith, chose .0, state start .expansions-most),
+          chose .1 .0,
           (
-            chosen-rising multiplier p (start .args .number % modulus) (start .args .geometry .growth .expansions) _ l (state start .doublings) (chose .1 .1),
-            mod-lt (c .before .before .residue .result) {m = p .width * p .groups} (omega (arith, mul-le-mul (l .width-least) (l .groups-least))),
+            omega (arith, chose .0, state start .expansions-most),
+            (chosen-rising multiplier _ _ (start .args .number % modulus) 10 _ (bounds start) (within start) (state start .doublings) (chose .1 .1 .0), low (c .before)),
           ),
         ),
       ),
@@ -51,27 +71,28 @@ follow-requires c κs =
 
 last-step-requires : tie.Need-last-step-requires
 last-step-requires c κs =
-    let start = c .before .before .before .before .before .before .before in
-    (start .pre .0, (start .pre .1 .0, (start .pre .1 .1, omega arith)))
+    let start = first (c .before .before) in
+    let chose = c .before .before .before .before .choose .ensures in
+    (start .pre .0, (start .pre .1 .0, (start .pre .1 .1, (c .before .before .before .inverse-of .ensures, (omega arith, (chose .1 .1 .1, (ends c .landed, rw (chose .1 .1 .1) (ends c .level))))))))
+
+cast-result : tie.Need-cast-result
+cast-result c = search needs
 
 returns : tie.Need-returns
-unfolding afterSteps
 returns c =
-    let start = c .before .before .before .before .before .before .before .before in
-    let p = start .args .geometry .parameters in
-    let g = start .args .geometry .growth in
+    let start = first (c .before .before .before) in
     c .last-step .ensures
-    ∙ sym (home-found multiplier p g (start .args .number % modulus) _ _ _ (bounds start) (ap (λ (x : ℕ). x % (p .width * p .groups)) (c .before .before .before .before .residue .ensures)) (c .before .before .before .before .before .choose .ensures .1 .1) (c .before .follow .ensures))
-    ∙ home-key multiplier p g (start .args .number)
+    ∙ sym (ends (c .before) .same)
+    ∙ home-key multiplier (start .args .geometry .parameters) (start .args .geometry .growth) (start .args .number)
 
 pub home-spec : {M : Type 1} → statement M
 home-spec =
     tie.close
     (tie.spec
     choose-requires
-    residue-requires
-    mul-start
-    rem-start
+    inverse-of-requires
+    first-page-requires
     follow-requires
     last-step-requires
+    cast-result
     returns)

@@ -1,32 +1,42 @@
 -- `hashing::last_rank` meets its contract.
 use mathlib.Core.Path.{_∙_}
 use Prim.Native.Nat.{_≤_}
-use native.Mathlib.Nat.{mod-lt}
-use native.Mathlib.Omega.{arith}
+use native.Mathlib.Nat.{mod-lt, le-refl}
 use borrow.Author.Needs.{needs}
 use Rattle.hashing.specs.Home.{rankAt}
-use Rattle.hashing.proofs.Bounds.{limits, count-least}
+use Rattle.hashing.specs.Moves.{Narrow}
+use Rattle.hashing.proofs.Bounds.{limits, growth-within}
+use Rattle.hashing.proofs.Codes.{code-count, code-narrow, count-of-least}
 use Rattle.hashing.proofs.address.last_rank.Statement.{statement}
 use Rattle.hashing.proofs.address.last_rank.Tie as tie
 
-counted : (c : tie.After-group-count) → c .before .args .geometry .parameters .groups ≤ c .group-count .result
-counted c = rw (c .group-count .ensures) (count-least (c .before .args .geometry .parameters) (c .before .args .geometry .growth .expansions))
+narrow : (c : tie.Start) → Narrow (c .args .geometry .parameters) (c .args .last)
+narrow c = rw (c .pre .1 .1) (code-narrow _ _ _ (limits _ (c .pre .0)) (growth-within _ _ (c .pre .1 .0)) (le-refl (c .args .geometry .growth .expansions)))
 
-group-count-requires : tie.Need-group-count-requires
-group-count-requires c κs = search needs
+some : (c : tie.After-count-of) → 1 ≤ c .count-of .result
+some c = let start = c .before .before in rw (c .count-of .ensures) (count-of-least (start .args .geometry .parameters) (start .args .last) (limits _ (start .pre .0)))
+
+count-of-requires : tie.Need-count-of-requires
+count-of-requires c κs = (c .before .pre .0, narrow (c .before) .0)
 
 rem-group : tie.Need-rem-group
-rem-group c = omega (arith, counted c, limits _ (c .before .pre .0) .groups-least)
+rem-group c = some c
 
-rank-requires : tie.Need-rank-requires
-rank-requires c κs =
-    let l = limits _ (c .before .pre .0) in
-    let low = counted c in
-    (mod-lt (c .before .args .page) {m = c .group-count .result} (omega (arith, l .groups-least)), (l .step-least, omega (arith, l .step-most)))
+inverse-of-requires : tie.Need-inverse-of-requires
+inverse-of-requires c κs = search needs
+
+ranked-requires : tie.Need-ranked-requires
+ranked-requires c κs =
+    let start = c .before .before .before in
+    (start .pre .0, (c .inverse-of .ensures, (rw (← c .before .count-of .ensures) (mod-lt (start .args .page) {m = c .before .count-of .result} (some (c .before))), narrow start .0)))
 
 returns : tie.Need-returns
 unfolding rankAt
-returns c = c .rank .ensures ∙ rw (c .before .group-count .ensures)
+returns c =
+    let start = c .before .before .before .before in
+    c .ranked .ensures
+    ∙ rw (c .before .before .count-of .ensures, start .pre .1 .1, code-count (start .args .geometry .parameters) (start .args .geometry .growth .expansions) (limits _ (start .pre .0)))
 
 pub last-rank-spec : {M : Type 1} → statement M
-last-rank-spec = tie.close (tie.spec group-count-requires rem-group rank-requires returns)
+last-rank-spec =
+    tie.close (tie.spec count-of-requires rem-group inverse-of-requires ranked-requires returns)

@@ -15,7 +15,7 @@ use Rattle.hashing.proofs.moves.choose.Tie as tie
 abbrev Inv-loop : tie.InvT-loop
 Inv-loop table parameters expansions key steps₀ count₀ code₀ i₀ steps count code i =
     (i ≤ expansions)
-    × ((count ≤ i) × ((length steps ≡ 44) × ((code ≡ codeAt parameters i) × (take count steps ≡ moves multiplier parameters key i))))
+    × ((count ≤ i) × ((length steps ≡ 32) × ((code ≡ codeAt parameters i) × (take count steps ≡ moves multiplier parameters key i))))
 
 abbrev μ-loop : tie.MeasureT-loop
 μ-loop table parameters expansions key steps₀ count₀ code₀ i₀ steps count code i = expansions - i
@@ -23,49 +23,52 @@ abbrev μ-loop : tie.MeasureT-loop
 -- the code's test is that of the step
 test :
     (c : tie.After-chosen Inv-loop μ-loop) →
-    chosen multiplier (c .before .before .before .args .parameters) (c .before .before .before .args .key) (c .before .before .loop .i) ≡ c .chosen .result
+    chosen multiplier (c .before .before .before .before .args .parameters) (c .before .before .before .before .args .key) (c .before .before .loop .i) ≡ c .chosen .result
 unfolding chosen
 test c =
-    let start = c .before .before .before in
+    let start = c .before .before .before .before in
     rw (c .chosen .ensures, c .before .before .loop .inv .1 .1 .1 .0, code-size (start .args .parameters) (c .before .before .loop .i) (limits _ (start .pre .1 .0)), add-one (c .before .before .loop .i))
 
 -- what the next turn starts with, whatever its count
 again :
     (c : tie.After-next-code Inv-loop μ-loop) (n : ℕ) → n ≤ c .before .before .before .loop .i + 1 →
-    take n (set (c .before .before .before .loop .steps) (c .before .before .before .loop .count) (codeAt (c .before .before .before .before .args .parameters) (c .before .before .before .loop .i))) ≡ moves multiplier (c .before .before .before .before .args .parameters) (c .before .before .before .before .args .key) (c .before .before .before .loop .i + 1) →
-    Inv-loop (c .before .before .before .before .args .table .now) (c .before .before .before .before .args .parameters) (c .before .before .before .before .args .expansions) (c .before .before .before .before .args .key) (c .before .before .before .before .args .steps .now) 0 (c .before .before .before .before .args .parameters .width) 0 (set (c .before .before .before .loop .steps) (c .before .before .before .loop .count) (c .before .before .before .loop .code)) n (c .next-code .result) (c .before .before .before .loop .i + 1)
+    take n (set (c .before .before .before .loop .steps) (c .before .before .before .loop .count) (codeAt (c .before .before .before .before .before .args .parameters) (c .before .before .before .loop .i))) ≡ moves multiplier (c .before .before .before .before .before .args .parameters) (c .before .before .before .before .before .args .key) (c .before .before .before .loop .i + 1) →
+    Inv-loop (c .before .before .before .before .before .args .table .now) (c .before .before .before .before .before .args .parameters) (c .before .before .before .before .before .args .expansions) (c .before .before .before .before .before .args .key) (c .before .before .before .before .before .args .steps .now) 0 (c .before .before .before .before .before .args .parameters .width) 0 (set (c .before .before .before .loop .steps) (c .before .before .before .loop .count) (c .before .before .before .loop .code)) n (c .next-code .result) (c .before .before .before .loop .i + 1)
 again c n h e =
     let inv = c .before .before .before .loop .inv in
     (omega arith, (h, (simp length-set (inv .1 .1 .0), (c .next-code .ensures, rw (inv .1 .1 .1 .0) e))))
 
+cast-code : tie.Need-cast-code Inv-loop μ-loop
+cast-code c = omega (arith, limits _ (c .before .pre .1 .0) .width-most)
+
 loop-holds : tie.Need-loop-holds Inv-loop μ-loop
 unfolding moves
-loop-holds c = (omega arith, (omega arith, (c .pre .1 .1 .1 .1, (sym (code-start (c .args .parameters)), refl))))
+loop-holds c = (omega arith, (omega arith, (c .before .pre .1 .1 .1 .1, (sym (code-start (c .before .args .parameters)), refl))))
 
 mul-steps : tie.Need-mul-steps Inv-loop μ-loop
 mul-steps c = omega (arith, c .before .loop .inv .1 .0)
 
 element-write-steps : tie.Need-element-write-steps Inv-loop μ-loop
-element-write-steps c = omega (arith, c .before .before .pre .1 .1 .0, c .before .loop .inv .1 .0)
+element-write-steps c = omega (arith, c .before .before .before .pre .1 .1 .0, c .before .loop .inv .1 .0)
 
 chosen-requires : tie.Need-chosen-requires Inv-loop μ-loop
-chosen-requires c κs = let start = c .before .before in (start .pre .0, (start .pre .1 .1 .1 .0, omega (arith, start .pre .1 .1 .0)))
+chosen-requires c κs = let start = c .before .before .before in (start .pre .0, (start .pre .1 .1 .1 .0, omega (arith, start .pre .1 .1 .0)))
 
 next-code-requires : tie.Need-next-code-requires Inv-loop μ-loop
-next-code-requires c κs = let start = c .before .before .before in (start .pre .1 .0, (omega (arith, start .pre .1 .1 .0), c .before .before .loop .inv .1 .1 .1 .0))
+next-code-requires c κs = let start = c .before .before .before .before in (start .pre .1 .0, (omega (arith, start .pre .1 .1 .0), c .before .before .loop .inv .1 .1 .1 .0))
 
 add-i : tie.Need-add-i Inv-loop μ-loop
-add-i c = omega (arith, c .before .before .before .before .pre .1 .1 .0)
+add-i c = omega (arith, c .before .before .before .before .before .pre .1 .1 .0)
 
 add-count : tie.Need-add-count Inv-loop μ-loop
-add-count c = omega (arith, c .before .before .before .before .before .pre .1 .1 .0)
+add-count c = omega (arith, c .before .before .before .before .before .before .pre .1 .1 .0)
 
 loop-less : tie.Need-loop-less Inv-loop μ-loop
 loop-less c = omega arith
 
 loop-again : tie.Need-loop-again Inv-loop μ-loop
 loop-again c =
-    let start = c .before .before .before .before .before in
+    let start = c .before .before .before .before .before .before in
     let turn = c .before .before .before .before .loop in
     again (c .before) (turn .count + 1) (omega arith)
     (moves-taken multiplier (start .args .parameters) (start .args .key) (turn .i) (turn .count) (turn .steps) (test (c .before .before) ∙ c .if1 .taken) (omega (arith, turn .inv .1 .1 .0, start .pre .1 .1 .0)) (turn .inv .1 .1 .1 .1))
@@ -75,15 +78,15 @@ loop-less-2 c = omega arith
 
 loop-again-2 : tie.Need-loop-again-2 Inv-loop μ-loop
 loop-again-2 c =
-    let start = c .before .before .before .before .before in
+    let start = c .before .before .before .before .before .before in
     let turn = c .before .before .before .before .loop in
     again (c .before) (turn .count) (omega arith)
     (moves-passed multiplier (start .args .parameters) (start .args .key) (turn .i) (turn .count) (turn .steps) (test (c .before .before) ∙ c .if1 .left) (turn .inv .1 .1 .1 .1))
 
 returns : tie.Need-returns Inv-loop μ-loop
 returns c =
-    let done : c .before .loop .i ≡ c .before .before .args .expansions = omega arith in
-    (omega arith, (c .before .loop .inv .1 .1 .0, rw done at (c .before .loop .inv .1 .1 .1 .1)))
+    let done : c .before .loop .i ≡ c .before .before .before .args .expansions = omega arith in
+    (omega arith, (c .before .loop .inv .1 .1 .0, (rw done at (c .before .loop .inv .1 .1 .1 .1), rw done at (c .before .loop .inv .1 .1 .1 .0))))
 
 pub choose-spec : {M : Type 1} → statement M
 choose-spec =
@@ -91,6 +94,7 @@ choose-spec =
     (tie.spec
     Inv-loop
     μ-loop
+    cast-code
     loop-holds
     mul-steps
     element-write-steps

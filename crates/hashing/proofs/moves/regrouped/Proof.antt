@@ -1,33 +1,36 @@
 -- `hashing::regrouped` meets its contract, by the law of a group after more doublings.
 use mathlib.Core.Path.{_≡_}
 use Prim.Native.Nat.{_-_, _*_, _/_, _%_, _^_, _≤_}
-use native.Mathlib.Nat.{le-trans, mod-le, mul-le-mul}
+use native.Mathlib.Nat.{le-trans, mod-le, mul-le-mul-right}
 use native.Mathlib.Omega.{arith}
 use borrow.Author.Needs.{needs}
 use lib.Pow.{pow-pos}
 use Rattle.hashing.specs.Moves.{countOf}
 use Rattle.hashing.proofs.Numbers.{shifted}
-use Rattle.hashing.proofs.Bounds.{limits}
-use Rattle.hashing.proofs.Codes.{count-of-most, regroup}
+use Rattle.hashing.proofs.Bounds.{limits, few-doublings}
+use Rattle.hashing.proofs.Codes.{regroup}
 use Rattle.hashing.proofs.moves.regrouped.Statement.{statement}
 use Rattle.hashing.proofs.moves.regrouped.Tie as tie
 
-power : (c : tie.Start) → 1 * 2 ^ (c .args .next / 8 - c .args .code / 8) % 4294967296 ≡ 2 ^ (c .args .next / 8 - c .args .code / 8)
-power c = shifted (c .args .next / 8 - c .args .code / 8) (omega (arith, c .pre .1 .1 .1))
+few : (c : tie.Start) → c .args .next / 8 ≤ 10
+unfolding countOf
+few c = few-doublings (c .args .parameters .groups) (c .args .next / 8) (limits _ (c .pre .0) .groups-least) (c .pre .1 .1 .1)
+
+power : (c : tie.Start) → 1 * 2 ^ (c .args .next / 8 - c .args .code / 8) % 65536 ≡ 2 ^ (c .args .next / 8 - c .args .code / 8)
+power c = shifted (c .args .next / 8 - c .args .code / 8) 16 (omega (arith, few c))
 
 product :
     (c : tie.After-count-of) →
-    c .before .args .code % 8 % (1 * 2 ^ (c .before .args .next / 8 - c .before .args .code / 8) % 4294967296) * c .count-of .result ≤ 7 * 262144
+    c .before .args .code % 8 % (1 * 2 ^ (c .before .args .next / 8 - c .before .args .code / 8) % 65536) * c .count-of .result ≤ 1024
 product c =
     let start = c .before in
-    let most = count-of-most (start .args .parameters) (start .args .code) (limits _ (start .pre .0)) (omega (arith, start .pre .1 .1)) in
-    rw (c .count-of .ensures) (mul-le-mul {n₂ = 7} {m₂ = 262144} (le-trans (mod-le (start .args .code % 8) _) (omega arith)) most)
+    rw (c .count-of .ensures) (le-trans (mul-le-mul-right (countOf (start .args .parameters) (start .args .code)) (mod-le (start .args .code % 8) _)) (start .pre .1 .0 .1 .1))
 
 sub-rest : tie.Need-sub-rest
 sub-rest c = search needs
 
 shl-rest : tie.Need-shl-rest
-shl-rest c = search needs
+shl-rest c = let low = few c in search needs
 
 rem-rest : tie.Need-rem-rest
 rem-rest c = rw (power c) (pow-pos (c .args .next / 8 - c .args .code / 8))
@@ -39,16 +42,14 @@ mul-result : tie.Need-mul-result
 mul-result c = omega (arith, product c)
 
 add-result : tie.Need-add-result
-add-result c =
-    let start = c .before in
-    omega (arith, product c, start .pre .1 .0, count-of-most (start .args .parameters) (start .args .code) (limits _ (start .pre .0)) (omega arith))
+add-result c = omega (arith, product c, c .before .pre .1 .0)
 
 returns : tie.Need-returns
 unfolding countOf
 returns c =
     let start = c .before in
     rw (power start, c .count-of .ensures)
-    (regroup (start .args .parameters) (start .args .code) (start .args .order) (start .args .next / 8) (start .pre .1 .0) (start .pre .1 .1 .0))
+    (regroup (start .args .parameters) (start .args .code) (start .args .order) (start .args .next / 8) (start .pre .1 .0 .0) (start .pre .1 .1 .0))
 
 pub regrouped-spec : {M : Type 1} → statement M
 regrouped-spec =

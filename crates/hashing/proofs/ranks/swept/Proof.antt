@@ -6,8 +6,8 @@ use borrow.Author.Needs.{needs}
 use Rattle.hashing.specs.Geometry.{swept}
 use Rattle.hashing.proofs.Numbers.{rest}
 use Rattle.hashing.proofs.Laws.{swept-below}
-use Rattle.hashing.proofs.moves.swept.Statement.{statement}
-use Rattle.hashing.proofs.moves.swept.Tie as tie
+use Rattle.hashing.proofs.ranks.swept.Statement.{statement}
+use Rattle.hashing.proofs.ranks.swept.Tie as tie
 
 below : (c : tie.Start) → swept (c .args .step) (c .args .count) (c .args .t) < c .args .count
 below c = swept-below (c .args .step) (c .args .count) (c .args .t) (c .pre .0 .0) (c .pre .1 .1 .0)
