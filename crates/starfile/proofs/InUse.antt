@@ -1,4 +1,4 @@
--- The pages in use: from the last non-zero number, and beside document 01's highest address.
+-- The pages in use: from the last non-zero number; and when growth is due beside document 01's rule.
 use mathlib.Core.Path.{_≡_, refl, sym, ap, _∙_}
 use mathlib.Core.Bool.{Bool, true, false, cond}
 use mathlib.Core.List.{List}
@@ -7,19 +7,20 @@ use native.Mathlib.Nat.{mod-lt, div-add-mod', add-div-right, div-eq-of-lt, div-l
 use native.Mathlib.Decide.{decLe, decLt}
 use native.Mathlib.Omega.{arith}
 use lib.Dec.{eqb}
-use lib.ListN.{length, getD, take, drop}
+use lib.ListN.{length, getD, drop}
 use lib.Seq.{drop-drop}
-use borrow.Author.Tests.{eq-eqb, ne-eqb, eqb-true, ltb-true, lt-ltb}
+use borrow.Author.Tests.{eq-eqb, eqb-true, ltb-true, lt-ltb}
 use Rattle.hashing.specs.declared.Parameters.{Parameters}
 use Rattle.hashing.specs.declared.Growth.{Growth}
 use Rattle.hashing.specs.Geometry.{highest}
 use Rattle.pages.specs.Page.{part}
 use Rattle.pages.proofs.Parts.{part-item}
 use Rattle.starfile.specs.Due.{stars, pagesHolding, pagesInUse, exceeds, isDue, isDueAddressed}
-use Rattle.starfile.specs.Used.{Blank, Used}
+use Rattle.starfile.specs.Used.{Used}
 use Rattle.starfile.proofs.Tallies.{stars-split, stars-none}
 
 module _ (places : ℕ) (numbers : List ℕ) where
+  -- no further than the pages that hold none, and past each that holds one
   pub holding-most : (n top : ℕ) → ((page : ℕ) → top ≤ page → page < n → stars (part places page numbers) ≡ 0) → pagesHolding places numbers n ≤ top
   unfolding pagesHolding
   holding-most zero top none = omega arith
@@ -93,23 +94,21 @@ module _ (p : Parameters) (g : Growth) (numbers : List ℕ) where
   unfolding pagesInUse
   in-use-most h = max-le h (holding-most (p .places) numbers (p .pages) (p .pages) (λ page a b. omega arith))
 
--- Document 02, (iii), beside document 01
+  -- growth is due no earlier than by document 01
+  pub due-no-earlier : isDue p g numbers ≡ true → isDueAddressed p g numbers ≡ true
+  unfolding isDue isDueAddressed exceeds pagesInUse
+  due-no-earlier e =
+      let held = pagesHolding (p .places) numbers (p .pages) in
+      lt-ltb (p .load * p .places * (highest p g + 1)) (100 * stars numbers)
+      (omega (
+        arith,
+        ltb-true (p .load * p .places * max (highest p g + 1) held) (100 * stars numbers) e,
+        mul-le-mul-left (p .load * p .places) (le-max-left (highest p g + 1) held),
+      ))
 
--- growth is due no earlier than by document 01
-pub due-addressed : (p : Parameters) (g : Growth) (numbers : List ℕ) → isDue p g numbers ≡ true → isDueAddressed p g numbers ≡ true
-unfolding isDue isDueAddressed exceeds pagesInUse
-due-addressed p g numbers e =
-    lt-ltb (p .load * p .places * (highest p g + 1)) (100 * stars numbers)
-    (omega (
-      arith,
-      ltb-true (p .load * p .places * max (highest p g + 1) (pagesHolding (p .places) numbers (p .pages))) (100 * stars numbers) e,
-      mul-le-mul-left (p .load * p .places) (le-max-left (highest p g + 1) (pagesHolding (p .places) numbers (p .pages))),
-    ))
-
--- where every star stands at or below the highest address, growth is due as by document 01
-pub due-as-addressed : (p : Parameters) (g : Growth) (numbers : List ℕ)
-    → ((page : ℕ) → highest p g < page → page < p .pages → stars (part (p .places) page numbers) ≡ 0) → isDue p g numbers ≡ isDueAddressed p g numbers
-unfolding isDue isDueAddressed pagesInUse
-due-as-addressed p g numbers none =
-    ap (λ (n : ℕ). exceeds p n (stars numbers))
-    (max-eq-left (holding-most (p .places) numbers (p .pages) (highest p g + 1) (λ page a b. none page (omega arith) b)))
+  -- where every star stands at or below the highest address, growth is due as by document 01
+  pub due-as-addressed : ((page : ℕ) → highest p g < page → page < p .pages → stars (part (p .places) page numbers) ≡ 0) → isDue p g numbers ≡ isDueAddressed p g numbers
+  unfolding isDue isDueAddressed pagesInUse
+  due-as-addressed none =
+      ap (λ (n : ℕ). exceeds p n (stars numbers))
+      (max-eq-left (holding-most (p .places) numbers (p .pages) (highest p g + 1) (λ page a b. none page (omega arith) b)))

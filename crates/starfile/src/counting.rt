@@ -67,7 +67,7 @@ fn used(numbers: &[u32]) -> usize
     0
 }
 
-// The items without whole blocks of zeros at the end: a block is counted many numbers at a time, where the scan for the last one takes each by itself.
+// The items without the blocks of zeros at their end: `occupied` takes many numbers at a time, the scan in `used` one.
 fn trimmed(numbers: &[u32]) -> usize
     requires { ⌜ length (now numbers) ≤ 32768 ⌝ }
     ensures { λ r. ⌜ Blank (now (numbers .entry)) r ⌝ }

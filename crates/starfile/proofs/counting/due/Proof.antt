@@ -1,16 +1,16 @@
 -- `starfile::due` meets its contract.
-use mathlib.Core.Path.{_≡_, refl, sym, ap, _∙_}
-use mathlib.Core.Bool.{true, false, _&&_}
-use Prim.Native.Nat.{ℕ, _*_, _+_, _-_, _/_, _≤_, _<_, max}
+use mathlib.Core.Path.{_≡_, sym, ap, _∙_}
+use mathlib.Core.Bool.{true, _&&_}
+use Prim.Native.Nat.{ℕ, _*_, _+_, _-_, _/_, _≤_, max}
 use native.Mathlib.Omega.{arith}
-use lib.ListN.{length, take}
+use lib.ListN.{length}
 use lib.Seq.{length-take-le}
 use borrow.Author.Tests.{lt-ltb, le-ltb}
 use native.Mathlib.Nat.{mul-le-mul}
 use Rattle.hashing.specs.Geometry.{pageCount, highest}
 use Rattle.hashing.proofs.Bounds.{limits, both, passed, failed, growth-within, spread}
 use Rattle.hashing.specs.Limits.{validParameters, validGrowth}
-use Rattle.starfile.specs.Answers.{lent, dueSaid, refusedBy, numberOf, pageOf, counted}
+use Rattle.starfile.specs.Answers.{lent, dueSaid, refusedBy, numberOf, pageOf}
 use Rattle.starfile.specs.Calls.{dueOf, fileFits}
 use Rattle.starfile.specs.Due.{stars, pagesInUse, exceeds, isDue}
 use Rattle.starfile.proofs.Refusals.{bad-state, bad-lengths, well-lent, items-most, sized}
@@ -20,14 +20,6 @@ use denote.Ref.{now}
 use borrow.Author.Needs.{needs}
 use Rattle.starfile.proofs.counting.due.Statement.{statement}
 use Rattle.starfile.proofs.counting.due.Tie as tie
-use Rattle.starfile.proofs.counting.due.Reads as reads
-use Rattle.starfile.proofs.counting.due.Lts as lts
-use Rattle.hashing.proofs.Geometry.highest_address.Reads as highest-address-reads
-use Rattle.starfile.proofs.counting.in_use.Reads as in-use-reads
-use Rattle.starfile.proofs.counting.occupied.Reads as occupied-reads
-use Rattle.starfile.proofs.counting.used.Reads as used-reads
-use Rattle.starfile.proofs.lending.file_fits.Reads as file-fits-reads
-use Rattle.starfile.proofs.lending.state_valid.Reads as state-valid-reads
 
 state-valid-requires : tie.Need-state-valid-requires
 state-valid-requires c κs = search needs

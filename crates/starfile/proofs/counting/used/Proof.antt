@@ -1,15 +1,11 @@
 -- `starfile::used` meets its contract.
 use mathlib.Core.Path.{_≡_}
-use Prim.Native.Nat.{_≤_, _-_}
 use native.Mathlib.Omega.{arith}
 use borrow.Author.Needs.{needs}
-use Rattle.starfile.specs.Used.{Blank, Used}
+use Rattle.starfile.specs.Used.{Blank}
 use Rattle.starfile.proofs.Tallies.{blank-item}
 use Rattle.starfile.proofs.counting.used.Statement.{statement}
 use Rattle.starfile.proofs.counting.used.Tie as tie
-use Rattle.starfile.proofs.counting.used.Reads as reads
-use Rattle.starfile.proofs.counting.used.Lts as lts
-use Rattle.starfile.proofs.counting.trimmed.Reads as trimmed-reads
 
 abbrev Inv-loop : tie.InvT-loop
 Inv-loop numbers end₀ end = Blank numbers end
@@ -17,43 +13,33 @@ Inv-loop numbers end₀ end = Blank numbers end
 abbrev μ-loop : tie.MeasureT-loop
 μ-loop numbers end₀ end = end
 
--- src/counting.rt:60:9
 trimmed-requires : tie.Need-trimmed-requires Inv-loop μ-loop
 trimmed-requires c κs = search needs
 
--- src/counting.rt:61:5
 loop-holds : tie.Need-loop-holds Inv-loop μ-loop
 loop-holds c = c .trimmed .ensures
 
--- src/counting.rt:62:20
 sub-if1 : tie.Need-sub-if1 Inv-loop μ-loop
 sub-if1 c = omega arith
 
--- src/counting.rt:62:12
 mul-if1 : tie.Need-mul-if1 Inv-loop μ-loop
 mul-if1 c = omega arith
 
--- src/counting.rt:62:12
 shared-slice-read-if1 : tie.Need-shared-slice-read-if1 Inv-loop μ-loop
 shared-slice-read-if1 c = omega arith
 
--- src/counting.rt:63:13
 returns : tie.Need-returns Inv-loop μ-loop
 returns c = record { blank = c .before .before .before .loop .inv; last = λ h. c .if1 .taken }
 
--- src/counting.rt:65:9
 sub-end : tie.Need-sub-end Inv-loop μ-loop
 sub-end c = omega arith
 
--- src/counting.rt:61:5
 loop-less : tie.Need-loop-less Inv-loop μ-loop
 loop-less c = omega arith
 
--- src/counting.rt:61:5
 loop-again : tie.Need-loop-again Inv-loop μ-loop
 loop-again c = blank-item _ _ (c .before .before .before .loop .inv) (omega arith) (c .if1 .left)
 
--- src/counting.rt:56:1
 returns-2 : tie.Need-returns-2 Inv-loop μ-loop
 returns-2 c =
     let none : c .before .loop .end ≡ 0 = omega arith in
