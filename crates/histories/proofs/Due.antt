@@ -2,7 +2,8 @@
 use mathlib.Core.Path.{refl}
 use Rattle.hashing.specs.declared.Parameters.{Parameters}
 use Rattle.starfile.specs.Answers.{Pool, counted}
-use Rattle.starfile.specs.Calls.{unchanged, stars, isDue, dueOf}
+use Rattle.starfile.specs.Calls.{unchanged, dueOf}
+use Rattle.starfile.specs.Due.{stars, isDue}
 use Rattle.histories.specs.Model.{Model, due, updated, fileOf}
 use Rattle.histories.proofs.Fitting.{Fitting}
 use Rattle.histories.proofs.Guards.{lent}
@@ -13,7 +14,7 @@ unfolding dueOf updated counted
 due-conforms p m t pool =
     rw (lent p m t)
     (accepted-conforms p m t due
-    (unchanged (m .growth) (fileOf p m) pool (counted (isDue p (m .growth) (stars (fileOf p m .numbers))) (stars (fileOf p m .numbers))))
+    (unchanged (m .growth) (fileOf p m) pool (counted (isDue p (m .growth) (fileOf p m .numbers)) (stars (fileOf p m .numbers))))
     refl
     refl
     refl

@@ -27,8 +27,6 @@ use Rattle.starfile.specs.Calls.{
   readable,
   named,
   holds,
-  isDue,
-  stars,
   lookedUp,
   lookUpOf,
   enterTo,

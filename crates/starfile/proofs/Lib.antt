@@ -1,5 +1,6 @@
 pub mod Accepting
 pub mod Finding
+pub mod InUse
 pub mod Making
 pub mod Numbers
 pub mod Outcomes

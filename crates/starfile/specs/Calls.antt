@@ -1,6 +1,6 @@
 -- The eight calls, each as what it answers and leaves of the lent buffers: document 01, "The cut" and "Where each refusal is met".
 use mathlib.Core.Bool.{Bool, true, false, not, cond, _&&_, _||_}
-use mathlib.Core.List.{List, [], _∷_}
+use mathlib.Core.List.{List}
 use Prim.Native.Nat.{ℕ, zero, suc, _+_, _-_, _*_, _/_, _%_}
 use lib.Dec.{eqb, ltb}
 use lib.ListN.{length, getD, set, replicate}
@@ -27,6 +27,7 @@ use Rattle.starfile.specs.Answers.{
   cleared,
   After,
 }
+use Rattle.starfile.specs.Due.{stars, isDue}
 use Rattle.starfile.specs.Reach.{
   firstSuch,
   isEmpty,
@@ -254,20 +255,11 @@ growOf p g f pool =
 
 -- Due
 
--- the non-zero numbers of a list
-unfoldable pub stars : List ℕ → ℕ
-stars [] = 0
-stars (n ∷ ns) = cond (eqb n 0) (stars ns) (suc (stars ns))
-
--- "yes exactly if 100·stars exceeds A·b·(highest address + 1)"
-unfoldable pub isDue : Parameters → Growth → ℕ → Bool
-isDue p g n = ltb (p .load * p .places * (highest p g + 1)) (100 * n)
-
 unfoldable pub dueOf : Parameters → Growth → File → Pool → After
 dueOf p g f pool =
     guarded g f pool
     (unlent p g (fileFits p f))
-    (unchanged g f pool (counted (isDue p g (stars (f .numbers))) (stars (f .numbers))))
+    (unchanged g f pool (counted (isDue p g (f .numbers)) (stars (f .numbers))))
 
 -- Check
 

@@ -1,9 +1,11 @@
 // Whether growth is due.
 ghost use mathlib.Core.Path.{_≡_};
-ghost use Prim.Native.Nat.{_≤_};
+ghost use Prim.Native.Nat.{_+_, _-_, _/_, _≤_, _<_, max};
 ghost use lib.ListN.{length};
 ghost use Rattle.starfile.specs.Answers.{lent, unpooled, dueSaid};
-ghost use Rattle.starfile.specs.Calls.{dueOf, stars};
+ghost use Rattle.starfile.specs.Calls.{dueOf};
+ghost use Rattle.starfile.specs.Due.{stars};
+ghost use Rattle.starfile.specs.Used.{Blank, Used};
 use crate::answers::Due;
 use crate::answers::Refusal;
 use crate::lending::file_fits;
@@ -28,12 +30,57 @@ pub fn due(
         return Due::Refused(Refusal::BadLength);
     }
     let geometry = Geometry { parameters, growth };
-    let count = occupied(numbers);
-    let room = parameters.load * parameters.places * (geometry.highest_address() + 1);
+    let end = used(numbers);
+    let count = occupied(&numbers[..end]);
+    let pages = in_use(parameters.places, geometry.highest_address(), end);
+    let room = parameters.load * parameters.places * pages;
     if room < 100 * count {
         return Due::Yes(count);
     }
     Due::No(count)
+}
+
+// The pages in use, where the last number that is not 0 is the one before item `end`.
+fn in_use(places: u32, highest: u32, end: usize) -> u32
+    requires { ⌜ (1 ≤ places) × (places ≤ 32) × (highest < 1024) × (end ≤ 32768) ⌝ }
+    ensures { λ r. ⌜ r ≡ max (highest + 1) ((end + places - 1) / places) ⌝ }
+{
+    let holding = (end as u32 + places - 1) / places;
+    if highest < holding {
+        return holding;
+    }
+    highest + 1
+}
+
+// The items up to the last number that is not 0.
+fn used(numbers: &[u32]) -> usize
+    requires { ⌜ length (now numbers) ≤ 32768 ⌝ }
+    ensures { λ r. ⌜ Used (now (numbers .entry)) r ⌝ }
+{
+    let mut end = trimmed(numbers);
+    while 0 < end {
+        if numbers[end - 1] != 0 {
+            return end;
+        }
+        end -= 1;
+    }
+    0
+}
+
+// The items without the blocks of zeros at their end: `occupied` takes many numbers at a time, the scan in `used` one.
+fn trimmed(numbers: &[u32]) -> usize
+    requires { ⌜ length (now numbers) ≤ 32768 ⌝ }
+    ensures { λ r. ⌜ Blank (now (numbers .entry)) r ⌝ }
+{
+    let mut end = numbers.len();
+    while 128 <= end {
+        let start = end - 128;
+        if occupied(&numbers[start..end]) != 0 {
+            return end;
+        }
+        end = start;
+    }
+    end
 }
 
 // How many numbers are not 0.

@@ -2,7 +2,7 @@
 
 use crate::tester::Tester;
 use model::files::random_pool;
-use model::hashing::{grown, home, signature};
+use model::hashing::{grown, highest_address, home, signature};
 use model::placement::{lay_out, pack, unpack, Star};
 use model::{Buffers, Call, Growth, Kind, Outcome, Parameters};
 use std::collections::BTreeMap;
@@ -114,9 +114,20 @@ impl History {
             Kind::Change | Kind::Remove => {
                 tester.expect((outcome.refusal == 7) == held.is_none(), "a change or removal differs from the book")
             }
-            Kind::Due => tester.expect(outcome.stars as usize == self.book.len(), "due counts other stars"),
+            Kind::Due => {
+                tester.expect(outcome.stars as usize == self.book.len(), "due counts other stars");
+                tester.expect((outcome.due == 1) == self.due(), "due differs from the book");
+            }
             _ => {}
         }
+    }
+
+    /// Whether the book's stars are more than A per cent of the places on pages in use.
+    fn due(&self) -> bool {
+        let Parameters { places, load, .. } = self.parameters;
+        let last_star = self.lent.numbers.iter().rposition(|&number| number != 0).unwrap_or(0) as u64;
+        let last_page = highest_address(&self.parameters, &self.growth).max(last_star / u64::from(places));
+        100 * self.book.len() as u64 > u64::from(load * places) * (last_page + 1)
     }
 
     /// The first page from home whose separator is above the signature there.

@@ -272,8 +272,9 @@ impl File<'_> {
 
     fn due(&self, no: Outcome) -> Outcome {
         let stars = self.lent.numbers.iter().filter(|&&number| number != 0).count() as u64;
-        let pages = highest_address(&self.parameters, &self.growth) + 1;
-        let limit = u64::from(self.parameters.load * self.parameters.places) * pages;
+        let last = (0..=self.last_page()).rev().find(|&page| !self.stars(page..=page).is_empty());
+        let pages_in_use = highest_address(&self.parameters, &self.growth).max(last.unwrap_or(0) as u64) + 1;
+        let limit = u64::from(self.parameters.load * self.parameters.places) * pages_in_use;
         Outcome { due: (100 * stars > limit).into(), stars: stars as u32, ..no }
     }
 

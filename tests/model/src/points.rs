@@ -1,4 +1,4 @@
-//! Points of document 01 that the model and every other implementation must meet. Each panics where one fails.
+//! Points of the documents that the model and every other implementation must meet. Each panics where one fails.
 
 use crate::hashing::{MODULUS, MULTIPLIER};
 use crate::placement::{lay_out, pack, Star};
@@ -227,13 +227,25 @@ pub fn check_order(run: Run) {
 pub fn damaged_values(run: Run) {
     let mut session = Session::new(run, [1, 1, 1, 1, 4, 50, 2]);
     session.lent.numbers = vec![u32::MAX, 7];
-    let outcome = session.call(Kind::Due, 0, 0, 0);
+    let outcome = session.due();
     assert_eq!((outcome.refusal, outcome.due, outcome.stars), (0, 1, 2));
+    session.lent.numbers = vec![0, u32::MAX];
+    assert_eq!((session.due().due, session.due().stars), (0, 1));
     let mut session = Session::new(run, [1, 1, 1, 1, 4, 50, 2]);
     session.lent.separators = vec![0, 16];
     assert_eq!(answers(session.look_up(1)), (5, 1));
     session.lent.separators = vec![0, 0];
     assert_eq!(answers(session.look_up(1)), (5, 2));
+}
+
+/// A star on a page above the highest address makes that page one in use.
+pub fn pages_in_use(run: Run) {
+    let mut session = Session::new(run, [2, 1, 1, 1, 8, 99, 3]);
+    for (number, due) in [(1, 0), (2, 1), (3, 0)] {
+        assert_eq!(session.enter(number).refusal, 0);
+        assert_eq!((session.due().due, session.due().stars), (due, number));
+    }
+    assert!(session.lent.numbers[2] != 0 && session.lent.numbers[3..] == [0, 0, 0]);
 }
 
 /// A refusal 1 to 4 leaves the pool as it is; every other call that takes it leaves zeros.
@@ -260,7 +272,7 @@ macro_rules! point_tests {
     ($run:path) => {
         $crate::point_tests!($run: homes value_limits parameter_limits growth_limits second_star_of_a_home
             growth_without_room growth_repairs entry_below_named_page removal_raises_separator
-            entry_without_room_in_its_reach entry_into_full_file check_order damaged_values pool_contents);
+            entry_without_room_in_its_reach entry_into_full_file check_order damaged_values pages_in_use pool_contents);
     };
     ($run:path: $($name:ident)*) => {
         $(#[test] fn $name() { $crate::points::$name($run) })*

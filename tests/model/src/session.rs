@@ -44,6 +44,10 @@ impl Session {
         self.call(Kind::Grow, 0, 0, 0)
     }
 
+    pub fn due(&mut self) -> Outcome {
+        self.call(Kind::Due, 0, 0, 0)
+    }
+
     pub fn check(&mut self) -> Outcome {
         self.call(Kind::Check, 0, 0, 0)
     }

@@ -62,10 +62,10 @@ fn position_words() {
 
 #[test]
 fn call_vectors() {
-    for name in ["calls-1.txt", "calls-2.txt"] {
+    for (name, count) in [("calls-1.txt", 1_500), ("calls-2.txt", 1_499)] {
         let text = fs::read_to_string(format!("{FOLDER}/{name}")).unwrap();
         let vectors = vectors::parse(&text, LANDED);
-        assert_eq!(vectors.len(), 1_500);
+        assert_eq!(vectors.len(), count);
         for (line, vector) in vectors {
             let vector = vector.unwrap();
             assert_eq!(vector.differences(model::run), Vec::<String>::new(), "{name}, line {line}");
