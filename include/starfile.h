@@ -38,7 +38,7 @@ enum heatherplane_refusal {
     HEATHERPLANE_BAD_NUMBER = 3,     /* the star number: 1 to 2147483646 */
     HEATHERPLANE_BAD_POSITION = 4,   /* ra: 0 to 1295999999, dec: -324000000 to 324000000, in milliarcseconds */
     HEATHERPLANE_DAMAGED = 5,        /* the page that the reply names is not sound, or no page is named (page M) */
-    HEATHERPLANE_HELD = 6,           /* the star is in the file already */
+    HEATHERPLANE_HELD = 6,           /* the star is in the file already, with another position */
     HEATHERPLANE_NOT_HELD = 7,       /* the star is not in the file */
     HEATHERPLANE_FULL = 8            /* a star would be carried past the last page */
 };
@@ -84,14 +84,16 @@ struct heatherplane_reply heatherplane_look_up(
     const uint64_t *words, size_t words_length,
     uint32_t number);
 
-/* Enters a star that the file does not hold.
+/* Enters a star that the file does not hold. A script may resend an entry after a lost reply: a star that the file holds with
+ * exactly this position is accepted again, and the file stays as it was.
  *
  * Buffers: the file's three and the pool's two. Their lengths are pages for the separators and pages * places for the others.
- * Refused: BAD_PARAMETERS, BAD_LENGTH, BAD_NUMBER, BAD_POSITION, DAMAGED (the page that the separators name), HELD, DAMAGED (the
- * lowest unsound page of those that would be placed anew), FULL.
+ * Refused: BAD_PARAMETERS, BAD_LENGTH, BAD_NUMBER, BAD_POSITION, DAMAGED (the page that the separators name), HELD (with another
+ * position), DAMAGED (the lowest unsound page of those that would be placed anew), FULL.
  * Accepted: page is the page where the star now stands.
- * Afterwards: accepted, the file holds the star, and the pages from its home to the end of its reach are placed anew; refused, the
- * file is as it was. The pool is untouched with BAD_PARAMETERS, BAD_LENGTH, BAD_NUMBER and BAD_POSITION, and else holds zeros. */
+ * Afterwards: accepted, the file holds the star, and the pages from its home to the end of its reach are placed anew; refused or
+ * entered again, the file is as it was. The pool is untouched with BAD_PARAMETERS, BAD_LENGTH, BAD_NUMBER and BAD_POSITION, and
+ * else holds zeros. */
 struct heatherplane_reply heatherplane_enter(
     uint32_t places, uint32_t groups, uint32_t width, uint32_t step, uint32_t bits, uint32_t load, uint32_t pages,
     uint32_t expansions, uint32_t expanded,

@@ -80,7 +80,10 @@ int main(void)
     look_up(&file, 32349);
     look_up(&file, 3);
 
-    /* refusals: the star is held, a declination out of range, no star of this number, a pool that is too short */
+    /* a resent entry is accepted */
+    enter(&file, 1, 10, -5);
+
+    /* refusals: the star is held elsewhere, a declination out of range, no star of this number, a pool that is too short */
     enter(&file, 1, 20, 5);
     enter(&file, 3, 20, 324000001);
     remove_star(&file, 3);

@@ -1,4 +1,4 @@
--- Entries, and when one is refused with 8.
+-- Entries, those of a held star, and when one is refused with 8.
 use mathlib.Core.Path.{_≡_, refl, sym, ap, _∙_}
 use mathlib.Core.Bool.{Bool, true, false, cond, _&&_, and-eq-true-iff, true≢false, false≢true}
 use mathlib.Core.List.{List, [], _∷_}
@@ -9,10 +9,12 @@ use native.Mathlib.Nat.{le-refl}
 use native.Mathlib.Decide.{decLt}
 use native.Mathlib.Omega.{arith}
 use borrow.Author.Tests.{le-ltb, eqb-true}
+use lib.Dec.{eqb}
 use lib.ListN.{getD}
 use Rattle.hashing.specs.declared.Parameters.{Parameters}
 use Rattle.pages.specs.declared.position.Position.{Position}
-use Rattle.pages.specs.Position.{validNumber, validPosition, validWord}
+use Rattle.pages.specs.Position.{validNumber, validPosition, validWord, packed, unpacked}
+use Rattle.pages.proofs.Words.{unpack-pack}
 use Rattle.placement.specs.Rule.{Star, pages, left, insert}
 use Rattle.placement.specs.File.{gathered, replaced, laid}
 use Rattle.placement.specs.Hash.{hashOf, namedPage}
@@ -20,12 +22,13 @@ use Rattle.placement.proofs.Entry.{entered, entry-refused}
 use Rattle.reach.specs.Reach.{isEmpty, entering, entersWithin, entryEnd, storedTop, pagesTo, holding}
 use Rattle.reach.proofs.Search.{Such, such}
 use Rattle.starfile.specs.Answers.{Pool, spotted, accepted, refused, cleared}
-use Rattle.starfile.specs.Calls.{poolFits, unless, orElse, guarded, unchanged, holds, enterTo, enterOn, enterOf}
+use Rattle.starfile.specs.Calls.{poolFits, unless, orElse, guarded, unchanged, holds, itemOf, enterTo, enteredAgain, enterOn, enterOf}
+use Rattle.starfile.proofs.Resending.{HeldEntry, resend-leaves, other-refused}
 use Rattle.histories.specs.Model.{Model, enter, updated, setPosition, positionOf, starsOf, fileOf, pageFor}
-use Rattle.histories.proofs.Entries.{ValidEntry, ordered-set}
+use Rattle.histories.proofs.Entries.{ValidEntry, ordered-set, position-valid, set-same}
 use Rattle.histories.proofs.Stars.{starOf, stars-enter}
-use Rattle.histories.proofs.Fitting.{Fitting, hashFor, starsFor, bounded, homed, rising-from, proper, in-range, laid-stars, named-readable}
-use Rattle.histories.proofs.Held.{held, not-held}
+use Rattle.histories.proofs.Fitting.{Fitting, hashFor, starsFor, bounded, homed, rising-from, proper, lengths, in-range, laid-stars, named-readable}
+use Rattle.histories.proofs.Held.{held, held-word, not-held}
 use Rattle.histories.proofs.Guards.{lent-pool}
 use Rattle.histories.proofs.Searching.{none-unsound}
 use Rattle.histories.proofs.Reaching.{Reach, reach}
@@ -113,6 +116,37 @@ module _ (p : Parameters) (m : Model) (t : Fitting p m) (k : ℕ) (q : Position)
             (λ j d. cc)
         go false e = refused-conforms p m t (enter k q) pool (refused 8 0) (λ d. omega arith) (λ d. omega arith)
 
+  -- The model fed a number's own position again is the same model.
+  pub fed-own : positionOf k (m .entries) ≡ some q → updated p (enter k q) m ≡ m
+  unfolding updated
+  fed-own e =
+      let es = set-same 1 k q (m .entries) (in-range k (position-valid 1 k q (m .entries) (t .ordered) e .number) .0) (t .ordered) e in
+      λ i. record { entries = es i; growth = m .growth }
+
+  -- A held star: its own position again is no step.
+  module _ (r : Position) (e : positionOf k (m .entries) ≡ some r) where
+    stored : ℕ
+    stored = getD (fileOf p m .words) (itemOf p (fileOf p m) (pageFor p m k) k) 0
+
+    own : validPosition q ≡ true → stored ≡ packed q → r ≡ q
+    unfolding stored
+    own valid d =
+        sym (unpack-pack r (position-valid 1 k r (m .entries) (t .ordered) e .position))
+        ∙ ap unpacked (sym (held-word p m t k r e) ∙ d)
+        ∙ unpack-pack q valid
+
+    again : ValidEntry (record { number = k; position = q }) → (pool : Pool)
+        → Conforms p m (enter k q) (unchanged (m .growth) (fileOf p m) pool (enteredAgain p (fileOf p m) (pageFor p m k) new))
+    unfolding enteredAgain spotted stored
+    again valid pool = go (eqb stored (packed q)) refl
+      where
+        go : (b : Bool) → eqb stored (packed q) ≡ b
+            → Conforms p m (enter k q) (unchanged (m .growth) (fileOf p m) pool (cond b (accepted (pageFor p m k)) (refused 6 0)))
+        go true d =
+            let stays = fed-own (e ∙ ap some (own (valid .position) (eqb-true stored (packed q) d))) in
+            accepted-conforms p m t (enter k q) _ refl (ap (λ (n : Model). n .growth) (sym stays)) (ap (fileOf p) (sym stays)) (rw stays t) (λ j c. cc)
+        go false d = refused-conforms p m t (enter k q) pool (refused 6 0) (λ c. omega arith) (λ c. omega arith)
+
   enters-on : ValidEntry (record { number = k; position = q }) → (pool : Pool) → Conforms p m (enter k q) (enterOn p (m .growth) (fileOf p m) pool (pageFor p m k) new)
   unfolding enterOn spotted
   enters-on valid pool = rw (named-readable p m t k) (go (positionOf k (m .entries)) refl)
@@ -120,10 +154,10 @@ module _ (p : Parameters) (m : Model) (t : Fitting p m) (k : ℕ) (q : Position)
       go : (o : Option Position) → positionOf k (m .entries) ≡ o
           → Conforms p m (enter k q)
           (cond (holds p (fileOf p m) (pageFor p m k) k)
-          (unchanged (m .growth) (fileOf p m) pool (refused 6 0))
+          (unchanged (m .growth) (fileOf p m) pool (enteredAgain p (fileOf p m) (pageFor p m k) new))
           (enterTo p (m .growth) (fileOf p m) pool new to))
       go none e = rw (not-held p m t k (in-range k (valid .number) .0) e) (enters valid e pool)
-      go (some r) e = rw (held p m t k r e) (refused-conforms p m t (enter k q) pool (refused 6 0) (λ d. omega arith) (λ d. omega arith))
+      go (some r) e = rw (held p m t k r e) (again r e valid pool)
 
   pub enter-conforms : (pool : Pool) → Conforms p m (enter k q) (enterOf p (m .growth) (fileOf p m) pool k q)
   unfolding enterOf pageFor namedPage spotted
@@ -136,6 +170,28 @@ module _ (p : Parameters) (m : Model) (t : Fitting p m) (k : ℕ) (q : Position)
       go true false w e f = refused-conforms p m t (enter k q) pool (refused 3 0) (λ d. omega arith) (λ d. omega arith)
       go true true false e f = refused-conforms p m t (enter k q) pool (refused 4 0) (λ d. omega arith) (λ d. omega arith)
       go true true true e f = enters-on (record { number = e; position = f }) (cleared pool)
+
+  -- The entry of a star that the model holds, with its own position and with another.
+  module _ (pool : Pool) (fit : poolFits p pool ≡ true) (r : Position) (e : positionOf k (m .entries) ≡ some r) (valid : validPosition q ≡ true) where
+    there : HeldEntry p (m .growth) (fileOf p m) pool k q
+    unfolding pageFor namedPage
+    there =
+        record {
+          state = rw (t .parameters, t .growth);
+          lengths = rw (lengths p m t, fit);
+          number = position-valid 1 k r (m .entries) (t .ordered) e .number;
+          position = valid;
+          read = named-readable p m t k;
+          held = held p m t k r e;
+        }
+
+    pub resent : r ≡ q → enterOf p (m .growth) (fileOf p m) pool k q ≡ unchanged (m .growth) (fileOf p m) (cleared pool) (accepted (pageFor p m k))
+    unfolding pageFor namedPage
+    resent d = resend-leaves p (m .growth) (fileOf p m) pool k q there (held-word p m t k r e ∙ ap packed d)
+
+    pub other : (r ≡ q → ⊥) → enterOf p (m .growth) (fileOf p m) pool k q ≡ unchanged (m .growth) (fileOf p m) (cleared pool) (refused 6 0)
+    unfolding pageFor namedPage stored
+    other d = other-refused p (m .growth) (fileOf p m) pool k q there (λ w. d (own r e valid w))
 
   -- The entry of a star that the model does not hold.
   module _ (pool : Pool) (lengths : poolFits p pool ≡ true) (valid : ValidEntry (record { number = k; position = q })) (absent : positionOf k (m .entries) ≡ none) where

@@ -163,3 +163,13 @@ determined low (d ∷ ds) (e ∷ es) o r h = go (compared (d .number) (e .number
         ap (λ (c : Entry). c ∷ ds) (same-head d e ds es h g)
         ∙ ap (λ (cs : List Entry). e ∷ cs) (ih after (same-tail d e ds es h (suc (d .number)) (omega arith) g (o .2) after))
     go (higher g t u) ih = absurd (not-lower e d es ds (λ k. sym (h k)) (le-refl (d .number), o .1, o .2) g)
+
+-- Setting a number's own position changes nothing.
+pub set-same : (low k : ℕ) (q : Position) (es : List Entry) → low ≤ k → Ordered low es → positionOf k es ≡ some q → setPosition k q es ≡ es
+set-same low k q es h o e =
+    determined low (setPosition k q es) es (ordered-set low k q es h (position-valid low k q es o e) o) o (λ j. go j (compared j k))
+  where
+    go : (j : ℕ) → Compared j k → positionOf j (setPosition k q es) ≡ positionOf j es
+    go j (lower g t u) = position-set-other j k q es (λ d. omega arith)
+    go j (equal g t u) = rw g (position-set k q es ∙ sym e)
+    go j (higher g t u) = position-set-other j k q es (λ d. omega arith)

@@ -1,29 +1,33 @@
 -- Demand 3 and its corollaries.
-use mathlib.Core.Path.{_≡_, sym, ap, _∙_}
+use mathlib.Core.Path.{_≡_, refl, sym, ap, _∙_}
 use Prim.Native.Nat.{ℕ}
 use Rattle.hashing.specs.declared.Parameters.{Parameters}
 use mathlib.Core.Bool.{true}
-use Rattle.pages.specs.Position.{validNumber, validWord}
+use mathlib.Core.Option.{some}
+use Rattle.pages.specs.declared.position.Position.{Position}
+use Rattle.pages.specs.Position.{validNumber, validPosition, validWord}
 use Rattle.placement.specs.File.{File, Clean}
 use Rattle.placement.specs.Hash.{hashOf, namedPage}
 use Rattle.placement.proofs.Sound.{clean-laid}
-use Rattle.starfile.specs.Answers.{Pool, spotted}
-use Rattle.starfile.specs.Calls.{poolFits, lookUpOf, checkOf}
-use Rattle.histories.specs.Model.{Model, lookUp, enter, change, remove, grow, due, check, fileOf, pageFor, answered}
-use Rattle.histories.specs.Call.{step}
-use Rattle.histories.specs.Run.{State, Event, initial, end}
+use Rattle.starfile.specs.declared.answers.Answer.{Answer}
+use Rattle.starfile.specs.Answers.{Pool, After, spotted, accepted, refused, cleared}
+use Rattle.starfile.specs.Calls.{poolFits, unchanged, lookUpOf, enterOf, checkOf}
+use Rattle.histories.specs.Model.{Model, lookUp, enter, change, remove, grow, due, check, fed, positionOf, fileOf, pageFor, answered}
+use Rattle.histories.specs.Call.{Call, step, isAccepted}
+use Rattle.histories.specs.Run.{State, Event, initial, outcome, next, end}
 use Rattle.histories.specs.Theorem.{EveryHistory}
 use Rattle.histories.specs.Corollaries.{InHistory, EachState, SameContents, SameState, HistoryIndependence}
-use Rattle.histories.proofs.Entries.{determined}
+use Rattle.histories.proofs.Entries.{determined, position-valid}
 use Rattle.histories.proofs.Fitting.{Fitting, hashFor, starsFor, rising-from, proper, in-range}
 use Rattle.histories.proofs.Guards.{lent, lent-pool}
 use Rattle.histories.proofs.LookUp.{looks-up, look-up-conforms}
-use Rattle.histories.proofs.Enter.{enter-conforms, full}
+use Rattle.histories.proofs.Enter.{enter-conforms, fed-own, resent, other, full}
 use Rattle.histories.proofs.Change.{change-conforms}
 use Rattle.histories.proofs.Remove.{remove-conforms}
 use Rattle.histories.proofs.Grow.{grow-conforms}
 use Rattle.histories.proofs.Due.{due-conforms}
 use Rattle.histories.proofs.Check.{check-conforms, finds-nothing}
+use Rattle.histories.proofs.Conforms.{fedWith}
 use Rattle.histories.proofs.Histories.{Agrees, Conforming, each-event, end-agrees, as-model}
 use Rattle.histories.proofs.Make.{initial-agrees}
 
@@ -55,6 +59,31 @@ look-up-accepts : (p : Parameters) (m : Model) → Fitting p m → (pool : Pool)
 unfolding lookUpOf pageFor namedPage
 look-up-accepts p m t pool k e = rw (lent p m t, e) (looks-up p m t k (in-range k e .0))
 
+-- A call that is answered so and leaves the file, and leaves the model when fed, is no step.
+no-step : (p : Parameters) (s : State) (c : Call) (pool : Pool) (a : Answer) → outcome p s c ≡ unchanged (s .growth) (s .file) pool a
+    → fedWith p (c .request) a (s .model) ≡ s .model → next p s c ≡ s
+unfolding next
+no-step p s c pool a e d =
+    let m = ap (λ (x : After). fedWith p (c .request) (x .answer) (s .model)) e ∙ d in
+    λ i. record { growth = e i .growth; file = e i .file; model = m i }
+
+module _ (p : Parameters) (s : State) (agrees : Agrees p s) (pool : Pool) (fit : poolFits p pool ≡ true) (k : ℕ) where
+  module _ (q : Position) (e : positionOf k (s .model .entries) ≡ some q) where
+    leaves : enterOf p (s .growth) (s .file) pool k q ≡ unchanged (s .growth) (s .file) (cleared pool) (accepted (pageFor p (s .model) k))
+    leaves =
+        rw (agrees .growth, agrees .file)
+        (resent p (s .model) (agrees .fitting) k q pool fit q e (position-valid 1 k q (s .model .entries) (agrees .fitting .ordered) e .position) refl)
+
+    stays : next p s (record { request = enter k q; pool = pool }) ≡ s
+    unfolding outcome step fed isAccepted spotted
+    stays =
+        no-step p s (record { request = enter k q; pool = pool }) (cleared pool) (accepted (pageFor p (s .model) k)) leaves
+        (fed-own p (s .model) (agrees .fitting) k q e)
+
+  refuses : (q r : Position) → validPosition q ≡ true → positionOf k (s .model .entries) ≡ some r → (r ≡ q → ⊥)
+      → enterOf p (s .growth) (s .file) pool k q .answer ≡ refused 6 0
+  refuses q r v e d = rw (agrees .growth, agrees .file, other p (s .model) (agrees .fitting) k q pool fit r e v d)
+
 in-history : (p : Parameters) (s : State) → Agrees p s → InHistory p s
 in-history p s agrees =
     record {
@@ -62,6 +91,8 @@ in-history p s agrees =
       checked = λ pool e. rw (agrees .growth, agrees .file) (check-accepts p (s .model) (agrees .fitting) pool e);
       sought = λ pool k e. rw (agrees .growth, agrees .file) (look-up-accepts p (s .model) (agrees .fitting) pool k e);
       full = λ pool k q l v w e. rw (agrees .growth, agrees .file) (full p (s .model) (agrees .fitting) k q pool l (record { number = v; position = w }) e);
+      resent = λ pool k q l e. (ap (λ (x : After). x .answer) (leaves p s agrees pool l k q e), stays p s agrees pool l k q e);
+      held = λ pool k q r l v e d. refuses p s agrees pool l k q r v e d;
     }
 
 pub each-state : EachState

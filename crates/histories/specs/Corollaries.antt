@@ -3,18 +3,18 @@ use mathlib.Core.Path.{_≡_}
 use mathlib.Core.Bool.{true}
 use mathlib.Core.List.{List, [], List·Memᴰ}
 use mathlib.Core.Logic.{_↔_}
-use mathlib.Core.Option.{none}
+use mathlib.Core.Option.{none, some}
 use Prim.Native.Nat.{ℕ}
 use Rattle.hashing.specs.declared.Parameters.{Parameters}
 use Rattle.pages.specs.declared.position.Position.{Position}
 use Rattle.pages.specs.Position.{validNumber, validPosition, validWord}
 use Rattle.placement.specs.Rule.{left}
 use Rattle.placement.specs.File.{File, Clean}
-use Rattle.starfile.specs.Answers.{Pool}
+use Rattle.starfile.specs.Answers.{Pool, accepted, refused}
 use Rattle.starfile.specs.Calls.{hash, poolFits, makeOf, lookUpOf, enterOf, checkOf}
-use Rattle.histories.specs.Model.{Model, setPosition, positionOf, starsOf, answered}
+use Rattle.histories.specs.Model.{Model, enter, setPosition, positionOf, starsOf, pageFor, answered}
 use Rattle.histories.specs.Call.{Call}
-use Rattle.histories.specs.Run.{State, Event, initial, events, end}
+use Rattle.histories.specs.Run.{State, Event, initial, next, events, end}
 
 -- what holds of a state of a history
 pub record InHistory (p : Parameters) (now : State) : Type 0 where
@@ -31,6 +31,16 @@ pub record InHistory (p : Parameters) (now : State) : Type 0 where
       → positionOf k (now .model .entries) ≡ none
       → (enterOf p (now .growth) (now .file) pool k q .answer .refusal ≡ 8)
       ↔ (left (hash p (now .model .growth)) 0 (p .pages) (starsOf (setPosition k q (now .model .entries))) ≡ [] → ⊥)
+  -- an entry of a held star with its own position answers its page and is no step: file, growth state and model stay
+  pub resent :
+      (pool : Pool) (k : ℕ) (q : Position) → poolFits p pool ≡ true → positionOf k (now .model .entries) ≡ some q
+      → (enterOf p (now .growth) (now .file) pool k q .answer ≡ accepted (pageFor p (now .model) k))
+      × (next p now (record { request = enter k q; pool = pool }) ≡ now)
+  -- with any other position it is refused with 6
+  pub held :
+      (pool : Pool) (k : ℕ) (q r : Position) → poolFits p pool ≡ true → validPosition q ≡ true
+      → positionOf k (now .model .entries) ≡ some r → (r ≡ q → ⊥)
+      → enterOf p (now .growth) (now .file) pool k q .answer ≡ refused 6 0
 
 -- so it is before each call of a history, and at its end
 pub record Throughout (p : Parameters) (start : State) (history : List Call) : Type 0 where

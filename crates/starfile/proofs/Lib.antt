@@ -7,4 +7,5 @@ pub mod Outcomes
 pub mod Points
 pub mod Pools
 pub mod Refusals
+pub mod Resending
 pub mod Tallies

@@ -150,11 +150,15 @@ enterTo p g f pool s to =
     })
     (unchanged g f pool (refused 8 0)))
 
+-- "a held star with exactly its stored position is now accepted, answers its page", "Any other position is 6": document 02 (v)
+unfoldable pub enteredAgain : Parameters → File → ℕ → Star → Answer
+enteredAgain p f page s = cond (eqb (getD (f .words) (itemOf p f page (s .number)) 0) (s .word)) (accepted page) (refused 6 0)
+
 unfoldable pub enterOn : Parameters → Growth → File → Pool → ℕ → Star → After
 enterOn p g f pool page s =
     cond (readable p g f page)
     (cond (holds p f page (s .number))
-    (unchanged g f pool (refused 6 0))
+    (unchanged g f pool (enteredAgain p f page s))
     (enterTo p g f pool s (entryEnd (hash p g) (p .pages) f s)))
     (unchanged g f pool (refused 5 page))
 

@@ -19,7 +19,7 @@ use hashing::Growth;
 use hashing::Parameters;
 use pages::position::Position;
 
-// The answer of an accepted entry is the page where the star now stands.
+// The answer of an accepted entry is the page where the star now stands. Entering a held star with its own position changes nothing.
 pub fn enter(
     parameters: Parameters,
     growth: Growth,
@@ -68,7 +68,7 @@ pub fn enter(
     answer
 }
 
-// The named page first, then whether the star is held, then the reach.
+// The named page first, then whether the star is held, then the reach, which a held star's entry does not read.
 fn enter_star(
     parameters: Parameters,
     growth: Growth,
@@ -95,6 +95,9 @@ fn enter_star(
         return Placed::Refused(Refusal::Damaged(page));
     }
     if named.held {
+        if named.word == word {
+            return Placed::On(page);
+        }
         return Placed::Refused(Refusal::Held);
     }
     entry_placed(entering::enter_stretch(

@@ -64,9 +64,10 @@ impl History {
         Call { kind, parameters: self.parameters, growth: self.growth, number, ra, dec }
     }
 
-    /// Runs a call with a random position.
+    /// Runs a call with a random position, or with the one that the book has.
     pub fn call(&mut self, tester: &mut Tester, kind: Kind, number: u32) -> Outcome {
-        let (ra, dec) = tester.random.position();
+        let held = self.book.get(&number).filter(|_| tester.random.once_in(2));
+        let (ra, dec) = held.map_or_else(|| tester.random.position(), |&word| unpack(word));
         self.call_with(tester, kind, number, ra, dec)
     }
 
@@ -75,8 +76,9 @@ impl History {
         random_pool(&mut tester.random, &mut self.lent);
         let call = self.make_call(kind, number, ra, dec);
         let (outcome, after) = tester.compare(&call, &self.lent);
-        if kind == Kind::LookUp && outcome.refusal == 0 {
-            self.look_up_alike(tester, &call, &outcome);
+        let resend = kind == Kind::Enter && self.book.contains_key(&number);
+        if (kind == Kind::LookUp || resend) && outcome.refusal == 0 {
+            self.call_alike(tester, &call, &outcome);
         }
         (self.lent, self.growth) = (after, outcome.growth());
         self.check_answer(tester, &call, &outcome);
@@ -110,7 +112,13 @@ impl History {
                 tester.expect(outcome.refusal == 0 && answer == book, "a look-up differs from the book");
                 tester.expect(self.first_page(call.number) == outcome.page.into(), "a look-up names another page");
             }
-            Kind::Enter => tester.expect((outcome.refusal == 6) == held.is_some(), "an entry differs from the book"),
+            Kind::Enter => {
+                let as_held = match held {
+                    Some(&word) if word == pack(call.ra, call.dec) => outcome.refusal == 0,
+                    _ => (outcome.refusal == 6) == held.is_some(),
+                };
+                tester.expect(as_held, "an entry differs from the book");
+            }
             Kind::Change | Kind::Remove => {
                 tester.expect((outcome.refusal == 7) == held.is_none(), "a change or removal differs from the book")
             }
@@ -146,8 +154,8 @@ impl History {
         tester.expect(same && self.growth == self.book_growth, "the file is not the book's");
     }
 
-    /// The same look-up where every other page has other contents gets the same answer.
-    fn look_up_alike(&self, tester: &mut Tester, call: &Call, outcome: &Outcome) {
+    /// The same look-up or resend where every other page has other contents gets the same answer.
+    fn call_alike(&self, tester: &mut Tester, call: &Call, outcome: &Outcome) {
         let mut lent = self.lent.clone();
         let places = self.parameters.places as usize;
         for item in (0..lent.numbers.len()).filter(|item| item / places != outcome.page as usize) {
@@ -155,6 +163,6 @@ impl History {
             lent.words[item] = tester.random.draw();
         }
         let (other, _) = tester.compare(call, &lent);
-        tester.expect(other == *outcome, "a look-up depends on another page");
+        tester.expect(other == *outcome, "a look-up or resend depends on another page");
     }
 }

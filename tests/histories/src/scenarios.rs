@@ -1,7 +1,7 @@
 //! What is tested, each by random numbers of its own.
 
 use crate::history::History;
-use crate::tester::Tester;
+use crate::tester::{stored, Tester};
 use model::files::*;
 use model::hashing::{grown, home};
 use model::placement::unpack;
@@ -148,7 +148,8 @@ fn session(tester: &mut Tester, parameters: Parameters, mut growth: Growth, mut 
         let kind = tester.random.pick(&Kind::ALL[1..]);
         let numbers = some_numbers(tester, &lent, 1);
         let number = tester.random.pick(&numbers);
-        let (ra, dec) = tester.random.position();
+        let resent = stored(&lent, number).filter(|_| tester.random.once_in(2));
+        let (ra, dec) = resent.unwrap_or_else(|| tester.random.position());
         let call = Call { kind, parameters, growth, number, ra, dec };
         let (outcome, after) = tester.compare(&call, &lent);
         (lent, growth) = (after, outcome.growth());

@@ -1,5 +1,6 @@
 //! Runs a call on the library and on the model and compares everything afterwards.
 
+use model::placement::unpack;
 use model::random::Random;
 use model::vectors::Vector;
 use model::{Buffers, Call, Growth, Kind, Outcome, Parameters};
@@ -59,13 +60,17 @@ impl Tester {
         kept.then_some(path)
     }
 
-    /// Every call on copies of one file: those that take a number, for each of the numbers.
+    /// Every call on copies of one file: those that take a number, for each of the numbers, and resends.
     pub fn every_call(&mut self, parameters: Parameters, growth: Growth, lent: &Buffers, numbers: &[u32]) {
         for kind in Kind::ALL {
             let numbers = if kind.takes_number() { numbers } else { &[0] };
             for &number in numbers {
                 let (ra, dec) = self.random.position();
-                self.compare(&Call { kind, parameters, growth, number, ra, dec }, lent);
+                let call = Call { kind, parameters, growth, number, ra, dec };
+                self.compare(&call, lent);
+                if let (Kind::Enter, Some((ra, dec))) = (kind, stored(lent, number)) {
+                    self.compare(&Call { ra, dec, ..call }, lent);
+                }
             }
         }
     }
@@ -106,6 +111,12 @@ impl Tester {
             }
         }
     }
+}
+
+/// The position that the file holds for a number, if it holds one.
+pub fn stored(lent: &Buffers, number: u32) -> Option<(u32, i32)> {
+    let item = lent.numbers.iter().position(|&other| other == number)?;
+    lent.words.get(item).map(|&word| unpack(word))
 }
 
 fn resize<T: Clone + Default>(random: &mut Random, list: &mut Vec<T>) {

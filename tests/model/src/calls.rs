@@ -204,8 +204,9 @@ impl File<'_> {
 
     fn enter(&mut self, new: Star) -> Result<usize, Refusal> {
         let named = self.sound_named(new.number)?;
-        if self.held(named, new.number).is_some() {
-            return refuse(6);
+        if let Some(item) = self.held(named, new.number) {
+            // A resend of the stored position is accepted and reads no other page.
+            return if self.lent.words[item] == new.word { Ok(named) } else { refuse(6) };
         }
         let home = self.home(new.number);
         for last in home..=self.last_page() {

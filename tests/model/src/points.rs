@@ -238,6 +238,26 @@ pub fn damaged_values(run: Run) {
     assert_eq!(answers(session.look_up(1)), (5, 2));
 }
 
+/// A resend of the stored position is accepted, though the reach is damaged; any other position is 6.
+pub fn resends(run: Run) {
+    let mut session = Session::new(run, TWO_PAGES);
+    session.enter(170);
+    session.enter(32);
+    for damage in [pack(1, 0), u64::MAX] {
+        session.lent.words[0] = damage;
+        session.lent.pool_words.fill(7);
+        let mut expected = session.clone();
+        expected.lent.pool_words.fill(0);
+        let outcome = session.enter(32);
+        assert_eq!((outcome.refusal, outcome.page), (0, 1));
+        assert!(session.lent == expected.lent && session.growth == expected.growth);
+        assert_eq!(answers(session.call(Kind::Enter, 32, 1, 1)), (6, 0));
+        assert_eq!(answers(session.call(Kind::Enter, 32, 2, 0)), (6, 0));
+        assert!(session.lent == expected.lent);
+    }
+    assert_eq!(answers(session.enter(170)), (5, 0));
+}
+
 /// A star on a page above the highest address makes that page one in use.
 pub fn pages_in_use(run: Run) {
     let mut session = Session::new(run, [2, 1, 1, 1, 8, 99, 3]);
@@ -272,7 +292,7 @@ macro_rules! point_tests {
     ($run:path) => {
         $crate::point_tests!($run: homes value_limits parameter_limits growth_limits second_star_of_a_home
             growth_without_room growth_repairs entry_below_named_page removal_raises_separator
-            entry_without_room_in_its_reach entry_into_full_file check_order damaged_values pages_in_use pool_contents);
+            entry_without_room_in_its_reach entry_into_full_file check_order damaged_values resends pages_in_use pool_contents);
     };
     ($run:path: $($name:ident)*) => {
         $(#[test] fn $name() { $crate::points::$name($run) })*

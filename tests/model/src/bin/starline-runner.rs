@@ -42,7 +42,9 @@ fn line(random: &mut Random) -> Vec<u8> {
     let number = 1 + random.below(40);
     let (ra, dec) = random.position();
     let mut line = match random.below(20) {
-        0..=6 => format!("E {number} {ra} {dec}"),
+        0..=3 => format!("E {number} {ra} {dec}"),
+        // Often a resend.
+        4..=6 => format!("E {number} 1 -1"),
         7..=10 => format!("L {number}"),
         11..=14 => format!("R {number}"),
         15 => "G".to_string(),

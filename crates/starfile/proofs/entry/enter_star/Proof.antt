@@ -12,7 +12,7 @@ use Rattle.pages.specs.Position.{validNumber, validPosition}
 use Rattle.placement.specs.File.{File}
 use Rattle.placement.specs.Hash.{lent}
 use Rattle.starfile.specs.Answers.{Pool, placed, checked, refusedBy, numberOf, pageOf, pooled, cleared}
-use Rattle.starfile.specs.Calls.{enterOn, named, readable, holds}
+use Rattle.starfile.specs.Calls.{enterOn, enteredAgain, named, readable, holds}
 use Rattle.starfile.specs.Outcomes.{entryPlaced}
 use Rattle.starfile.proofs.Outcomes.{entry-small, entered-is}
 use Rattle.starfile.proofs.Pools.{pool-sized, unheld}
@@ -69,13 +69,35 @@ same-length-6 : tie.Need-same-length-6
 same-length-6 c = search needs
 
 returns-2 : tie.Need-returns-2
-unfolding enterOn placed refusedBy numberOf pageOf
+unfolding enterOn enteredAgain placed
 returns-2 c =
-    let found = c .before .before .before .before .find .ensures in
-    let opened = not-false _ (c .before .if1 .left) in
+    let found = c .before .before .before .before .before .before .find .ensures in
+    let opened = not-false _ (c .before .before .before .if1 .left) in
     let read = sym (found .readableIs) ∙ opened in
-    let held = sym (found .heldIs opened) ∙ c .if2 .taken in
-    record { answers = rw (read, held); files = rw (read, held) }
+    let there = c .before .before .if2 .taken in
+    let held = sym (found .heldIs opened) ∙ there in
+    let same = eq-eqb _ _ (sym (found .wordIs there) ∙ c .if3 .taken) in
+    record { answers = rw (read, held, same, found .pageIs); files = rw (read, held) }
+
+same-length-7 : tie.Need-same-length-7
+same-length-7 c = search needs
+
+same-length-8 : tie.Need-same-length-8
+same-length-8 c = search needs
+
+same-length-9 : tie.Need-same-length-9
+same-length-9 c = search needs
+
+returns-3 : tie.Need-returns-3
+unfolding enterOn enteredAgain placed refusedBy numberOf pageOf
+returns-3 c =
+    let found = c .before .before .before .before .before .before .find .ensures in
+    let opened = not-false _ (c .before .before .before .if1 .left) in
+    let read = sym (found .readableIs) ∙ opened in
+    let there = c .before .before .if2 .taken in
+    let held = sym (found .heldIs opened) ∙ there in
+    let other = ne-eqb _ _ (λ e. c .if3 .left (found .wordIs there ∙ e)) in
+    record { answers = rw (read, held, other); files = rw (read, held) }
 
 enter-stretch-requires : tie.Need-enter-stretch-requires
 enter-stretch-requires c κs =
@@ -107,24 +129,24 @@ entry-placed-requires c κs =
     rw (c .before .before .before .before .before .before .before .before .before .before .enter-stretch .ensures .0)
     (entry-small (s .args .parameters) (s .args .growth) (fileOf s) (s .pre .0) (s .pre .1 .0) (s .args .number) (s .args .word))
 
-same-length-7 : tie.Need-same-length-7
-same-length-7 c = search needs
-
-same-length-8 : tie.Need-same-length-8
-same-length-8 c = search needs
-
-same-length-9 : tie.Need-same-length-9
-same-length-9 c = search needs
-
 same-length-10 : tie.Need-same-length-10
 same-length-10 c = search needs
 
 same-length-11 : tie.Need-same-length-11
 same-length-11 c = search needs
 
-returns-3 : tie.Need-returns-3
+same-length-12 : tie.Need-same-length-12
+same-length-12 c = search needs
+
+same-length-13 : tie.Need-same-length-13
+same-length-13 c = search needs
+
+same-length-14 : tie.Need-same-length-14
+same-length-14 c = search needs
+
+returns-4 : tie.Need-returns-4
 unfolding enterOn
-returns-3 c =
+returns-4 c =
     let s = c .before .before .before .before .before .before .before .before .before .before .before .before .before .before .before .before .before .before .before .before .before .before .before .before .before .before .before .before .before .before .before .before .before in
     let found = c .before .before .before .before .before .before .before .before .before .before .before .before .before .before .before .before .before .before .before .before .before .before .find .ensures in
     let opened = not-false _ (c .before .before .before .before .before .before .before .before .before .before .before .before .before .before .before .before .before .before .before .if1 .left) in
@@ -152,11 +174,15 @@ enter-star-spec =
     same-length-5
     same-length-6
     returns-2
-    enter-stretch-requires
-    entry-placed-requires
     same-length-7
     same-length-8
     same-length-9
+    returns-3
+    enter-stretch-requires
+    entry-placed-requires
     same-length-10
     same-length-11
-    returns-3)
+    same-length-12
+    same-length-13
+    same-length-14
+    returns-4)
