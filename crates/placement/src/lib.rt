@@ -5,3 +5,4 @@ mod soundness;
 pub use naming::named_page;
 pub use soundness::page_sound;
 pub use soundness::survey;
+pub use soundness::top_of;

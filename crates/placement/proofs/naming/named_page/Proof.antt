@@ -11,7 +11,7 @@ use Rattle.placement.proofs.naming.named_page.Statement.{statement}
 use Rattle.placement.proofs.naming.named_page.Tie as tie
 
 home-requires : tie.Need-home-requires
-home-requires c κs = search needs
+home-requires c κs = let ready = c .before .pre .0 in (ready .signing .table, (ready .signing .valid, ready .growth))
 
 cast-home : tie.Need-cast-home
 cast-home c = search needs
@@ -20,9 +20,10 @@ probe-requires : tie.Need-probe-requires
 probe-requires c κs =
     let s = c .before .before in
     let g = s .args .geometry in
-    let l = limits (g .parameters) (s .pre .1 .0) in
-    let low = home-pages (multiplierOf (g .parameters)) (g .parameters) (g .growth) (s .args .number) (s .pre .1 .0) (s .pre .1 .1 .0) in
-    (s .pre .0, (s .pre .1 .0, (omega (arith, c .home .ensures, low, l .pages-most), omega arith)))
+    let ready = s .pre .0 in
+    let l = limits (g .parameters) (ready .signing .valid) in
+    let low = home-pages (multiplierOf (g .parameters)) (g .parameters) (g .growth) (s .args .number) (ready .signing .valid) (ready .growth) in
+    (ready .signing, (omega (arith, c .home .ensures, low, l .pages-most), omega arith))
 
 returns : tie.Need-returns
 returns c = c .probe .ensures ∙ named-is _ _ _ _ _ (c .before .home .ensures)
