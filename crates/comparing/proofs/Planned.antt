@@ -30,7 +30,7 @@ use Rattle.planning.specs.Plans.{Planned}
 use Rattle.planning.proofs.Copies.{paste-written}
 use Rattle.planning.proofs.Applying.{applied}
 use Rattle.planning.proofs.Sourcing.{itemHome}
-use Rattle.planning.proofs.Placed.{Ready, probes-real, homes-real, stretch-sourced, placed, layout, applied-layout}
+use Rattle.planning.proofs.Placed.{Gatherable, probes-real, homes-real, stretch-sourced, placed, layout, applied-layout}
 use Rattle.reach.specs.Reach.{firstUnsound}
 use Rattle.reach.proofs.Search.{such}
 use Rattle.comparing.specs.Spots.{spotIn, firstSpot, ruled}
@@ -129,7 +129,7 @@ module _ (p : Parameters) (g : Growth) (f : File) (valid : validParameters p ≡
   stars-inside = rw (whole (p .places) (p .pages) (f .numbers) (sized .ofNumbers)) (omega (arith, stars-fit 0 (f .numbers), sized .ofNumbers))
 
   -- the file can be planned as one stretch
-  pub ready : Ready (hashOf p g) (p .places) 0 (p .pages) f hs
+  pub ready : Gatherable (hashOf p g) (p .places) 0 (p .pages) f hs
   ready =
       let none : 0 + p .pages ≡ p .pages = zero-add (p .pages) in
       let numbers-all = whole (p .places) (p .pages) (f .numbers) (sized .ofNumbers) in

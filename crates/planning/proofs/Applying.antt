@@ -19,7 +19,7 @@ use Rattle.waiting.proofs.Lists.{all-head, all-tail, all-append, all-filter, al
 use Rattle.planning.specs.Sources.{named, renamed, sourced}
 use Rattle.planning.specs.Plans.{starOf, waits, settled, carriedOn, plans}
 use Rattle.planning.proofs.Pouring.{pour-cons}
-use Rattle.planning.proofs.Ties.{number-low}
+use Rattle.planning.proofs.RuleOverWords.{number-low}
 
 -- every star of these pages has the number that its source names
 abbrev pub Sourced : List ℕ → ℕ → List Contents → Type 0

@@ -14,7 +14,7 @@ use Rattle.waiting.specs.Words.{homeOf}
 use Rattle.waiting.specs.Gather.{group, groupOf, groupsBelow}
 use Rattle.waiting.proofs.Lists.{filter-append}
 use Rattle.planning.specs.Plans.{carriedOn, plans, remains}
-use Rattle.planning.proofs.Ties.{filter-agree, filter-none}
+use Rattle.planning.proofs.RuleOverWords.{filter-agree, filter-none}
 
 -- every word is homed at page p or higher
 unfoldable pub from : ℕ → List ℕ → Bool

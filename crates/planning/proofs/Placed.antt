@@ -27,7 +27,7 @@ use Rattle.planning.specs.Sources.{named, renamed, sourced}
 use Rattle.planning.specs.Plans.{waits, homed, carriedOn, plans, remains, Planned}
 use Rattle.planning.proofs.Copies.{paste-written, map-take}
 use Rattle.planning.proofs.Pouring.{waits-grouped, length-waits}
-use Rattle.planning.proofs.Ties.{Probes, plans-are, homed-onward, homed-probing}
+use Rattle.planning.proofs.RuleOverWords.{Probes, plans-are, homed-onward, homed-probing}
 use Rattle.planning.proofs.Applying.{renamed-keeps, plans-sourced, applied, applied-is}
 use Rattle.planning.proofs.Sourcing.{itemHome, words-append, words-homed, words-grouped, words-sourced, words-fresh, fresh, named-stretch, named-last, length-stretch, true-stars, new-star}
 use Rattle.planning.proofs.Stretch.{plans-roomy, length-plans}
@@ -67,7 +67,7 @@ new-sourced ns h k hk hs =
     rw (number-pack h k (length ns + 1) hk hs, source-pack h k (length ns + 1) hs, last, eq-eqb k k refl)
 
 -- what a stretch of n pages from lo must satisfy: its items' homes are hs
-pub record Ready (H : Hash) (places lo n : ℕ) (f : File) (hs : List ℕ) : Type 0 where
+pub record Gatherable (H : Hash) (places lo n : ℕ) (f : File) (hs : List ℕ) : Type 0 where
   pub some : 0 < n
   pub few : (lo + n) * places < 2 ^ 16
   pub numbers : (lo + n) * places ≤ length (f .numbers)
@@ -77,7 +77,7 @@ pub record Ready (H : Hash) (places lo n : ℕ) (f : File) (hs : List ℕ) : Typ
   pub within : allBelow (lo + n) (stretch places lo n hs) ≡ true
   pub true-homes : stretch places lo n hs ≡ map (itemHome H) (stretch places lo n (f .numbers))
 
-module _ (H : Hash) (q : Parameters) (real : Probes H q) (lo n : ℕ) (f : File) (hs : List ℕ) (R : Ready H (q .places) lo n f hs) (k newword : ℕ) where
+module _ (H : Hash) (q : Parameters) (real : Probes H q) (lo n : ℕ) (f : File) (hs : List ℕ) (R : Gatherable H (q .places) lo n f hs) (k newword : ℕ) where
   few-items : lo * q .places + length (stretch (q .places) lo n (f .numbers)) < 2 ^ 16
   few-items = omega (arith, length-stretch (q .places) lo n (f .numbers) (R .numbers), add-mul lo n (q .places), R .few)
 

@@ -23,9 +23,10 @@ use Rattle.waiting.specs.Gather.{group, grouped, Scattered}
 use Rattle.waiting.specs.declared.settling.Settled.{Settled}
 use Rattle.waiting.specs.Settle.{Settlement, homesUpTo, signatureOf, under, staying, separatorFrom, separatorOf, slotsOf}
 use Rattle.waiting.proofs.Grouping.{grouped-next, grouped-add}
+use Rattle.waiting.proofs.Cutting.{separator-fits, separator-most}
 use Rattle.planning.specs.Plans.{starOf, waits, settled, carriedOn, plans, remains, PagePlanned, Planned}
 use Rattle.planning.proofs.Pouring.{length-waits}
-use Rattle.planning.proofs.Ties.{near-probing, near-onward}
+use Rattle.planning.proofs.RuleOverWords.{near-probing, near-onward}
 use Rattle.planning.proofs.Slots.{drop-take}
 
 -- ---- the plan with one more page
@@ -55,28 +56,13 @@ module _ (q : Parameters) (lo : ℕ) (l : List ℕ) where
       (remains-near (suc v) n (carriedOn q (lo + v) (w ++ group lo v l))
       (near-onward q (lo + v) (lo + suc v) (w ++ group lo v l) (omega arith) (near-probing lo v w l h)))
 
--- at most `room` stay
-staying-zero : (q : Parameters) (p : ℕ) (l : List ℕ) → staying q p 0 l ≡ []
-unfolding staying filter under
-staying-zero q p [] = refl
-staying-zero q p (x ∷ l) = rw (le-ltb (signatureOf q p x) 0 zero-le) (staying-zero q p l)
-
-fits-from : (q : Parameters) (p n : ℕ) (l : List ℕ) → length (staying q p (separatorFrom q p l n) l) ≤ q .places
-unfolding separatorFrom
-fits-from q p zero l = rw (staying-zero q p l) zero-le
-fits-from q p (suc n) l = go (leb (length (staying q p (suc n) l)) (q .places)) refl (fits-from q p n l)
-  where
-    go : (t : Bool) → leb (length (staying q p (suc n) l)) (q .places) ≡ t → length (staying q p (separatorFrom q p l n) l) ≤ q .places
-        → length (staying q p (cond t (suc n) (separatorFrom q p l n)) l) ≤ q .places
-    go true e ih = leb-true (length (staying q p (suc n) l)) (q .places) e
-    go false e ih = ih
-
+-- at most b stay
 pub plans-roomy : (q : Parameters) (lo v n : ℕ) (w l : List ℕ) → Roomy (q .places) (plans q lo v n w l)
 unfolding plans settled separatorOf
 plans-roomy q lo v zero w l = tt
 plans-roomy q lo v (suc n) w l =
     let here : List ℕ = w ++ group lo v l in (
-      rw (length-waits (staying q (lo + v) (separatorOf q (lo + v) here) here)) (fits-from q (lo + v) (topOf (q .bits)) here),
+      rw (length-waits (staying q (lo + v) (separatorOf q (lo + v) here) here)) (separator-fits q (lo + v) here (topOf (q .bits))),
       plans-roomy q lo (suc v) n (carriedOn q (lo + v) here) l,
     )
 
@@ -85,21 +71,12 @@ unfolding plans
 length-plans q lo v zero w l = refl
 length-plans q lo v (suc n) w l = ap suc (length-plans q lo (suc v) n (carriedOn q (lo + v) (w ++ group lo v l)) l)
 
-separator-le : (q : Parameters) (p n : ℕ) (l : List ℕ) → separatorFrom q p l n ≤ n
-unfolding separatorFrom
-separator-le q p zero l = le-refl 0
-separator-le q p (suc n) l = go (leb (length (staying q p (suc n) l)) (q .places)) (separator-le q p n l)
-  where
-    go : (t : Bool) → separatorFrom q p l n ≤ n → cond t (suc n) (separatorFrom q p l n) ≤ suc n
-    go true ih = le-refl (suc n)
-    go false ih = omega arith
-
 -- a separator is a byte
 pub separator-byte : (q : Parameters) (p : ℕ) (l : List ℕ) → q .bits ≤ 8 → separatorOf q p l < 256
 unfolding separatorOf topOf
 separator-byte q p l h =
     let power : 2 ^ q .bits ≤ 2 ^ 8 = pow-mono h in
-    omega (arith, separator-le q p (topOf (q .bits)) l)
+    omega (arith, separator-most q p l (topOf (q .bits)))
 
 -- ---- parts of the waiting list
 

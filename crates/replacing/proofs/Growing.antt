@@ -29,7 +29,7 @@ use Rattle.reach.proofs.Surveyed.{unsound}
 use Rattle.reach.proofs.Pastes.{map-take, map-drop}
 use Rattle.planning.proofs.Copies.{Copied, turn, unread}
 use Rattle.planning.proofs.Sourcing.{itemHome}
-use Rattle.planning.proofs.Placed.{Ready, probes-real, homes-real}
+use Rattle.planning.proofs.Placed.{Gatherable, probes-real, homes-real}
 use Rattle.replacing.specs.declared.Replaced.the-variants.{Done, Unsound, Overflows}
 use Rattle.replacing.specs.Stretch.{Plannable, fitting, restretched}
 use Rattle.replacing.specs.Calls.{hash, growthAnswer, growthFile}
@@ -145,7 +145,7 @@ module _ (p : Parameters) (g : Growth) (f : File) (valid : validParameters p ≡
           (ne-eqb (s .number) 0
           (λ z. omega (arith, gathered-proper validWord (hash p g) f 0 (p .pages) (real-sound p g f 0 (p .pages) (all-sound p g f 0 (p .pages) sound-pages)) s m .0))))
 
-      ready : Ready (hash p (grown p g)) (p .places) 0 (p .pages) f pool
+      ready : Gatherable (hash p (grown p g)) (p .places) 0 (p .pages) f pool
       ready = ready-stretch p f valid sized 0 (p .pages) (omega arith) (omega arith) pool size below within (hash p (grown p g)) true-homes
 
       all-are-sound : ltb (firstUnsound p g f 0 (p .pages)) (p .pages) ≡ false

@@ -26,7 +26,7 @@ use Rattle.reach.specs.Reach.{firstUnsound}
 use Rattle.reach.proofs.Search.{such}
 use Rattle.reach.proofs.Surveyed.{unsound}
 use Rattle.planning.proofs.Sourcing.{itemHome, length-stretch}
-use Rattle.planning.proofs.Placed.{Ready, surveyed-homes}
+use Rattle.planning.proofs.Placed.{Gatherable, surveyed-homes}
 use Rattle.replacing.specs.Stretch.{Plannable}
 
 -- a bound that every item keeps
@@ -99,7 +99,7 @@ module _ (p : Parameters) (f : File) (valid : validParameters p ≡ true) (sized
           within = within;
         }
 
-    pub ready-stretch : (H : Hash) → stretch (p .places) lo n hs ≡ map (itemHome H) (stretch (p .places) lo n (f .numbers)) → Ready H (p .places) lo n f hs
+    pub ready-stretch : (H : Hash) → stretch (p .places) lo n hs ≡ map (itemHome H) (stretch (p .places) lo n (f .numbers)) → Gatherable H (p .places) lo n f hs
     ready-stretch H e =
         record {
           some = some;
@@ -131,5 +131,5 @@ module _ (p : Parameters) (g : Growth) (f : File) (valid : validParameters p ≡
   pub plannable-surveyed : (waiting : List ℕ) → length pool′ ≡ p .pages * p .places → length waiting ≡ p .pages * p .places → Plannable p lo n f pool′ waiting
   plannable-surveyed waiting ep ew = plannable-stretch p f valid sized lo n inside some pool′ ep below within waiting ew
 
-  pub ready-surveyed : length pool′ ≡ p .pages * p .places → Ready (hashOf p g) (p .places) lo n f pool′
+  pub ready-surveyed : length pool′ ≡ p .pages * p .places → Gatherable (hashOf p g) (p .places) lo n f pool′
   ready-surveyed ep = ready-stretch p f valid sized lo n inside some pool′ ep below within (hashOf p g) surveyed

@@ -16,10 +16,10 @@ use Rattle.waiting.specs.Gather.{stretch, skipped, starsIn, stretchWords}
 use Rattle.reach.specs.Reach.{isEmpty}
 use Rattle.planning.specs.Sources.{named, renamed, sourced}
 use Rattle.planning.specs.Plans.{remains, Planned}
-use Rattle.planning.proofs.Ties.{Probes}
+use Rattle.planning.proofs.RuleOverWords.{Probes}
 use Rattle.planning.proofs.Applying.{applied}
 use Rattle.planning.proofs.Sourcing.{words-sourced, named-stretch, length-stretch}
-use Rattle.planning.proofs.Placed.{Ready, placed, left-count, layout, applied-layout}
+use Rattle.planning.proofs.Placed.{Gatherable, placed, left-count, layout, applied-layout}
 use Rattle.replacing.specs.Stretch.{Plannable, newPages, fitting, restretched}
 
 -- the stars of some items are at most the items
@@ -94,7 +94,7 @@ none-left : (w : List Star) → eqb (length w) 0 ≡ isEmpty w
 none-left [] = refl
 none-left (s ∷ w) = ne-eqb (suc (length w)) 0 (λ e. omega arith)
 
-module _ (H : Hash) (q : Parameters) (real : Probes H q) (lo n : ℕ) (f : File) (hs : List ℕ) (R : Ready H (q .places) lo n f hs) (k : ℕ) where
+module _ (H : Hash) (q : Parameters) (real : Probes H q) (lo n : ℕ) (f : File) (hs : List ℕ) (R : Gatherable H (q .places) lo n f hs) (k : ℕ) where
   pub fitting-is : fitting q lo n k f hs ≡ isEmpty (left H lo n (without k (gathered (q .places) f lo n)))
   unfolding fitting
   fitting-is =

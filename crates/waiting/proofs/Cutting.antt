@@ -11,7 +11,7 @@ use borrow.Author.Tests.{leb-true, leb-false, ltb-true, ltb-false, eqb-true, eqb
 use Rattle.hashing.specs.declared.Parameters.{Parameters}
 use Rattle.hashing.specs.Generator.{multiplierOf, topOf}
 use Rattle.hashing.proofs.Laws.{signature-below}
-use Rattle.waiting.specs.Lists.{filter, all, alike, sumTo}
+use Rattle.waiting.specs.Lists.{filter, alike, sumTo}
 use Rattle.waiting.specs.Words.{homeOf, numberOf}
 use Rattle.waiting.specs.Settle.{signatureOf, under, staying, passing, separatorFrom, separatorOf}
 use Rattle.waiting.proofs.Lists.{filter-append, filter-length, filter-true, filter-false}

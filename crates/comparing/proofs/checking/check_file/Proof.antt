@@ -6,7 +6,7 @@ use Rattle.placement.specs.File.{File}
 use Rattle.placement.specs.Hash.{lent}
 use Rattle.reach.specs.Reach.{firstUnsound}
 use Rattle.comparing.proofs.Planned.{homes-whole}
-use Rattle.comparing.proofs.Told.{surveyed, surveyed-sound, told-unsound, told-differs, told-clean}
+use Rattle.comparing.proofs.Verdicts.{surveyed, surveyed-sound, told-unsound, told-differs, told-clean}
 use borrow.Author.Needs.{needs}
 use Rattle.comparing.proofs.checking.check_file.Statement.{statement}
 use Rattle.comparing.proofs.checking.check_file.Tie as tie

@@ -7,7 +7,7 @@ use Rattle.hashing.proofs.Bounds.{limits}
 use Rattle.placement.specs.File.{File}
 use Rattle.placement.specs.Hash.{hashOf, lent}
 use Rattle.waiting.specs.Lists.{all}
-use Rattle.planning.proofs.Placed.{Ready}
+use Rattle.planning.proofs.Placed.{Gatherable}
 use Rattle.comparing.proofs.Planned.{few-items, homes-long, stars-inside, ready, planned-ruled, spot-ruled}
 use borrow.Author.Needs.{needs}
 use Rattle.comparing.proofs.checking.compare_planned.Statement.{statement}
@@ -19,7 +19,7 @@ file s = lent (now (s .args .separators)) (now (s .args .numbers)) (now (s .args
 pool-long : (s : tie.Start) → length (now (s .args .pool)) ≡ s .args .geometry .parameters .pages * s .args .geometry .parameters .places
 pool-long s = homes-long _ _ (file s) (s .pre .0 .homing .signing .valid) (s .pre .0 .homing .growth) (s .pre .0 .sized) (s .pre .1 .0) _ (s .pre .1 .1 .0)
 
-prepared : (s : tie.Start) → Ready (hashOf (s .args .geometry .parameters) (s .args .geometry .growth)) (s .args .geometry .parameters .places) 0 (s .args .geometry .parameters .pages) (file s) (now (s .args .pool))
+prepared : (s : tie.Start) → Gatherable (hashOf (s .args .geometry .parameters) (s .args .geometry .growth)) (s .args .geometry .parameters .places) 0 (s .args .geometry .parameters .pages) (file s) (now (s .args .pool))
 prepared s = ready _ _ (file s) (s .pre .0 .homing .signing .valid) (s .pre .0 .homing .growth) (s .pre .0 .sized) (s .pre .1 .0) _ (s .pre .1 .1 .0)
 
 cast-places : tie.Need-cast-places

@@ -1,7 +1,6 @@
 -- `placement::soundness::top_of` meets its contract.
 -- Assumes nothing.
 use native.Mathlib.Omega.{arith}
-use borrow.Author.Needs.{needs}
 use Rattle.hashing.proofs.Bounds.{Limits, limits}
 use Rattle.hashing.proofs.Laws.{top-least, top-most, top-shifted}
 use Rattle.placement.proofs.soundness.top_of.Statement.{statement}
