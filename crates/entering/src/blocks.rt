@@ -4,6 +4,7 @@ ghost use mathlib.Core.Bool.{true};
 ghost use Prim.Native.Nat.{ℕ, _≤_, _<_};
 ghost use lib.ListN.{length, take};
 ghost use Rattle.pages.specs.Position.{validNumber};
+ghost use Rattle.placement.specs.Hash.{homeUnder};
 ghost use Rattle.placement.specs.Lent.{held, before};
 ghost use Rattle.placement.specs.Ready.{Ready, Pooled};
 ghost use Rattle.waiting.specs.Settle.{homesUpTo};
@@ -69,7 +70,7 @@ fn plan_block(
     Block::Planned(last, left)
 }
 
-// Plans the reach of the entry of a number that the file does not hold. The pool gets the sources of the reach's places and `planned` its separators;
+// Plans the reach, from its home on, of the entry of a number that the file does not hold. The pool gets the sources of the reach's places and `planned` its separators;
 // the new star's source is the one past the items.
 pub fn plan_entry(
     table: &[u32; 2049],
@@ -81,17 +82,18 @@ pub fn plan_entry(
     waiting: &mut [u64],
     planned: &mut [u8],
     number: u32,
+    home: u32,
 ) -> Reach
     requires { ⌜ Ready geometry (now table) (held separators numbers words) ⌝ }
     requires { ⌜ Pooled (geometry .parameters) (now pool) (now waiting) ⌝ }
     requires { ⌜ geometry .parameters .pages ≤ length (now planned) ⌝ }
     requires { ⌜ validNumber number ≡ true ⌝ }
     requires { ⌜ Unheld (geometry .parameters) (geometry .growth) (held separators numbers words) number ⌝ }
+    requires { ⌜ home ≡ homeUnder geometry number ⌝ }
     ensures { λ r. ⌜ ((word : ℕ) → r ≡ reachAnswer (geometry .parameters) (geometry .growth) (before separators numbers words) number word) ⌝ }
     ensures { λ r. ⌜ Applies (geometry .parameters) (geometry .growth) (before separators numbers words) number (now (pool .exit)) (now (planned .exit)) r ⌝ }
 {
     let pages = geometry.parameters.pages as usize;
-    let home = hashing::home(table, geometry, number);
     waiting[0] = waiting::pack(home, number, numbers.len() + 1);
     let mut lo = home as usize;
     let mut carried = 1;

@@ -36,7 +36,8 @@ pub fn enter_stretch(
     ensures { λ _. ⌜ after separators numbers words ≡ entryFile (geometry .parameters) (geometry .growth) (before separators numbers words) number word ⌝ }
 {
     let places = geometry.parameters.places as usize;
-    let from = hashing::home(table, geometry, number) as usize;
+    let home = hashing::home(table, geometry, number);
+    let from = home as usize;
     let mut planned = [0u8; 1024];
     match plan_entry(
         table,
@@ -48,6 +49,7 @@ pub fn enter_stretch(
         waiting,
         &mut planned,
         number,
+        home,
     ) {
         Reach::Unsound(page) => Entered::Unsound(page),
         Reach::Overflows => Entered::Overflows,
@@ -65,7 +67,8 @@ pub fn enter_stretch(
                 number,
                 word,
             );
-            Entered::On(placement::named_page(table, geometry, separators, number))
+            let page = placement::named_from(table, geometry, separators, number, home);
+            Entered::On(page)
         }
     }
 }

@@ -1,27 +1,24 @@
 -- Settling a stretch page by page: what has been planned, what waits, and what is still ahead.
 use mathlib.Core.Path.{_≡_, refl, sym, ap, _∙_}
-use mathlib.Core.Bool.{Bool, true, false, cond}
+use mathlib.Core.Bool.{true}
 use mathlib.Core.List.{List, [], _∷_, _++_, map, append-assoc, append-nil}
 use Prim.Native.Nat.{ℕ, zero, suc, _+_, _-_, _*_, _^_, _≤_, _<_, zero-le}
-use native.Mathlib.Nat.{le-refl, add-zero, zero-add, add-suc, suc-add, add-mul, suc-mul, mul-le-mul-right}
+use native.Mathlib.Nat.{add-zero, zero-add, add-suc, suc-add, add-mul, suc-mul, mul-le-mul-right}
 use native.Mathlib.Numerals.{add-one}
 use native.Mathlib.Omega.{arith}
-use lib.Dec.{leb}
 use lib.ListN.{length, getD, take, drop, set, length-append, take-append-drop}
 use lib.Seq.{slice, length-slice, length-take-le, take-take, take-at, drop-at, drop-drop, set-split, take-add}
 use lib.Pow.{pow-mono}
-use borrow.Author.Tests.{leb-true, le-ltb}
 use Rattle.hashing.specs.declared.Parameters.{Parameters}
 use Rattle.hashing.specs.Generator.{topOf}
 use Rattle.placement.specs.Rule.{Star, Contents, separators}
 use Rattle.placement.specs.File.{padded, column, written}
 use Rattle.placement.proofs.Standing.{length-separators}
 use Rattle.placement.proofs.Writing.{Roomy, column-append, length-column, separators-append, written-add}
-use Rattle.waiting.specs.Lists.{filter}
 use Rattle.waiting.specs.Words.{sourceOf}
 use Rattle.waiting.specs.Gather.{group, grouped, Scattered}
 use Rattle.waiting.specs.declared.settling.Settled.{Settled}
-use Rattle.waiting.specs.Settle.{Settlement, homesUpTo, signatureOf, under, staying, separatorFrom, separatorOf, slotsOf}
+use Rattle.waiting.specs.Settle.{Settlement, homesUpTo, staying, separatorOf, slotsOf}
 use Rattle.waiting.proofs.Grouping.{grouped-next, grouped-add}
 use Rattle.waiting.proofs.Cutting.{separator-fits, separator-most}
 use Rattle.planning.specs.Plans.{starOf, waits, settled, carriedOn, plans, remains, PagePlanned, Planned}

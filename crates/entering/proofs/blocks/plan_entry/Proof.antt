@@ -23,14 +23,14 @@ use Rattle.entering.proofs.blocks.plan_entry.Statement.{statement}
 use Rattle.entering.proofs.blocks.plan_entry.Tie as tie
 
 abbrev Inv-loop : tie.InvT-loop
-Inv-loop table geometry separators numbers words pool₀ waiting₀ planned₀ number pages home lo₀ carried₀ pool waiting planned lo carried =
+Inv-loop table geometry separators numbers words pool₀ waiting₀ planned₀ number home pages lo₀ carried₀ pool waiting planned lo carried =
     (length pool ≡ length pool₀)
     × ((length waiting ≡ length waiting₀)
     × ((length planned ≡ length planned₀)
     × Reached (geometry .parameters) (geometry .growth) (lent separators numbers words) number pool planned waiting lo carried))
 
 abbrev μ-loop : tie.MeasureT-loop
-μ-loop table geometry separators numbers words pool₀ waiting₀ planned₀ number pages home lo₀ carried₀ pool waiting planned lo carried =
+μ-loop table geometry separators numbers words pool₀ waiting₀ planned₀ number home pages lo₀ carried₀ pool waiting planned lo carried =
     geometry .parameters .pages - lo
 
 abbrev Start : Type 0
@@ -45,7 +45,7 @@ bounds s = limits (s .args .geometry .parameters) (s .pre .0 .homing .signing .v
 few : (s : Start) → s .args .geometry .parameters .pages * s .args .geometry .parameters .places ≤ 32768
 few s = mul-le-mul (bounds s .pages-most) (bounds s .places-most)
 
-waiting-long : (h : tie.At-loop Inv-loop μ-loop) → length (h .loop .waiting) ≡ length (now (h .before .before .before .before .before .before .before .before .before .before .args .waiting))
+waiting-long : (h : tie.At-loop Inv-loop μ-loop) → length (h .loop .waiting) ≡ length (now (h .before .before .before .before .before .before .before .before .before .args .waiting))
 waiting-long h = h .loop .inv .1 .0 ∙ simp length-set
 
 -- from the plan of a block on
@@ -53,7 +53,7 @@ abbrev Place : Type 0
 Place = tie.After-plan-block Inv-loop μ-loop
 
 abbrev start : Place → Start
-start x = x .before .before .before .before .before .before .before .before .before .before .before .before .before .before
+start x = x .before .before .before .before .before .before .before .before .before .before .before .before .before
 
 abbrev head : Place → tie.At-loop Inv-loop μ-loop
 head x = x .before .before .before .before
@@ -87,26 +87,20 @@ planned x last left e = known x (block·Planned last left) e
 cast-pages : tie.Need-cast-pages Inv-loop μ-loop
 cast-pages c = search needs
 
-home-requires : tie.Need-home-requires Inv-loop μ-loop
-home-requires c κs = let ready = c .before .before .before .before .before .before .before .pre .0 .homing in (ready .signing .table, (ready .signing .valid, ready .growth))
-
 add-pack : tie.Need-add-pack Inv-loop μ-loop
 add-pack c = search needs
 
 pack-requires : tie.Need-pack-requires Inv-loop μ-loop
 pack-requires c κs =
-    let s = c .before .before .before .before .before .before .before .before in (
-      omega (arith, c .home .ensures, home-pages (multiplierOf (s .args .geometry .parameters)) (s .args .geometry .parameters) (s .args .geometry .growth) (s .args .number) (s .pre .0 .homing .signing .valid) (s .pre .0 .homing .growth), bounds s .pages-most),
+    let s = c .before .before .before .before .before .before .before in (
+      omega (arith, s .pre .1 .1 .1 .1 .1, home-pages (multiplierOf (s .args .geometry .parameters)) (s .args .geometry .parameters) (s .args .geometry .growth) (s .args .number) (s .pre .0 .homing .signing .valid) (s .pre .0 .homing .growth), bounds s .pages-most),
       (omega (arith, valid-most (s .args .number) (s .pre .1 .1 .1 .0)), omega (arith, few s, s .pre .0 .sized .ofNumbers)),
     )
 
 slice-write-waiting : tie.Need-slice-write-waiting Inv-loop μ-loop
 slice-write-waiting c =
-    let s = c .before .before .before .before .before .before .before .before .before in
+    let s = c .before .before .before .before .before .before .before .before in
     omega (arith, s .pre .1 .0 .ofWords, some-items (s .args .geometry .parameters) (s .args .geometry .growth) (s .pre .0 .homing .signing .valid) (s .pre .0 .homing .growth) (s .args .number))
-
-cast-lo : tie.Need-cast-lo Inv-loop μ-loop
-cast-lo c = search needs
 
 unfolded : (p : Parameters) (g : Growth) (k : ℕ) → Home·home (multiplierOf p) p g k ≡ startOf p g k
 unfolding hashOf
@@ -114,8 +108,8 @@ unfolded p g k = refl
 
 loop-holds : tie.Need-loop-holds Inv-loop μ-loop
 loop-holds c =
-    let s = c .before .before .before .before .before .before .before .before .before in
-    let from : c .before .home .result ≡ startOf (s .args .geometry .parameters) (s .args .geometry .growth) (s .args .number) = c .before .home .ensures ∙ unfolded (s .args .geometry .parameters) (s .args .geometry .growth) (s .args .number) in
+    let s = c .before .before .before .before .before .before .before .before in
+    let from : s .args .home ≡ startOf (s .args .geometry .parameters) (s .args .geometry .growth) (s .args .number) = s .pre .1 .1 .1 .1 .1 ∙ unfolded (s .args .geometry .parameters) (s .args .geometry .growth) (s .args .number) in
     let word : c .pack .result ≡ newWord (s .args .geometry .parameters) (s .args .geometry .growth) (file s) (s .args .number) = c .pack .ensures ∙ rw from in (
       refl,
       (
@@ -123,7 +117,7 @@ loop-holds c =
         (
           refl,
           rw (word, from)
-              (reached-none (s .args .geometry .parameters) (s .args .geometry .growth) (file s) (s .args .number) (s .pre .0 .homing .signing .valid) (s .pre .0 .sized) (s .pre .1 .1 .1 .0) (s .pre .1 .1 .1 .1) (now (s .args .pool)) (now (s .args .planned)) (now (s .args .waiting))
+              (reached-none (s .args .geometry .parameters) (s .args .geometry .growth) (file s) (s .args .number) (s .pre .0 .homing .signing .valid) (s .pre .0 .sized) (s .pre .1 .1 .1 .0) (s .pre .1 .1 .1 .1 .0) (now (s .args .pool)) (now (s .args .planned)) (now (s .args .waiting))
               (omega (arith, unfolded (s .args .geometry .parameters) (s .args .geometry .growth) (s .args .number), home-pages (multiplierOf (s .args .geometry .parameters)) (s .args .geometry .parameters) (s .args .geometry .growth) (s .args .number) (s .pre .0 .homing .signing .valid) (s .pre .0 .homing .growth)))
               (omega (arith, s .pre .1 .0 .ofWords, some-items (s .args .geometry .parameters) (s .args .geometry .growth) (s .pre .0 .homing .signing .valid) (s .pre .0 .homing .growth) (s .args .number)))),
         ),
@@ -132,7 +126,7 @@ loop-holds c =
 
 plan-block-requires : tie.Need-plan-block-requires Inv-loop μ-loop
 plan-block-requires c κs =
-    let s = c .before .before .before .before .before .before .before .before .before .before .before .before .before in
+    let s = c .before .before .before .before .before .before .before .before .before .before .before .before in
     let l = c .before .before .before .loop in
     let r = l .inv .1 .1 .1 in (
       s .pre .0,
@@ -141,8 +135,8 @@ plan-block-requires c κs =
         (
           (omega (arith, l .inv .1 .1 .0, s .pre .1 .1 .0), r .inside),
           (
-            spanned-few (s .args .geometry .parameters) (s .args .geometry .growth) (file s) (s .args .number) (s .pre .0 .homing .signing .valid) (s .pre .0 .sized) (s .pre .1 .1 .1 .0) (s .pre .1 .1 .1 .1) (l .pool) (l .planned) (l .waiting) (r .done) (l .carried) (r .spanned),
-            rw (r .at) (spanned-near (s .args .geometry .parameters) (s .args .geometry .growth) (file s) (s .args .number) (s .pre .0 .homing .signing .valid) (s .pre .0 .sized) (s .pre .1 .1 .1 .0) (s .pre .1 .1 .1 .1) (l .pool) (l .planned) (l .waiting) (r .done) (l .carried) (r .spanned)),
+            spanned-few (s .args .geometry .parameters) (s .args .geometry .growth) (file s) (s .args .number) (s .pre .0 .homing .signing .valid) (s .pre .0 .sized) (s .pre .1 .1 .1 .0) (s .pre .1 .1 .1 .1 .0) (l .pool) (l .planned) (l .waiting) (r .done) (l .carried) (r .spanned),
+            rw (r .at) (spanned-near (s .args .geometry .parameters) (s .args .geometry .growth) (file s) (s .args .number) (s .pre .0 .homing .signing .valid) (s .pre .0 .sized) (s .pre .1 .1 .1 .0) (s .pre .1 .1 .1 .1 .0) (l .pool) (l .planned) (l .waiting) (r .done) (l .carried) (r .spanned)),
           ),
         ),
       ),
@@ -166,7 +160,7 @@ returns c =
     let x = c .before .before .before .before .before .before .before .before .before in
     let s = start x in
     let page = c .before .page .given .0 .0 in (
-      (λ word. reached-unsound (s .args .geometry .parameters) (s .args .geometry .growth) (file s) (s .args .number) (s .pre .0 .homing .signing .valid) (s .pre .0 .sized) (s .pre .1 .1 .1 .0) (s .pre .1 .1 .1 .1) (head x .loop .pool) (head x .loop .planned) (head x .loop .waiting) (head x .loop .lo) (head x .loop .carried) (reached x) page (known x (block·Unsound page) (c .before .page .given .1)) word),
+      (λ word. reached-unsound (s .args .geometry .parameters) (s .args .geometry .growth) (file s) (s .args .number) (s .pre .0 .homing .signing .valid) (s .pre .0 .sized) (s .pre .1 .1 .1 .0) (s .pre .1 .1 .1 .1 .0) (head x .loop .pool) (head x .loop .planned) (head x .loop .waiting) (head x .loop .lo) (head x .loop .carried) (reached x) page (known x (block·Unsound page) (c .before .page .given .1)) word),
       (λ word last e. absurd (unsound-ends page last e)),
     )
 
@@ -187,7 +181,7 @@ returns-2 : tie.Need-returns-2 Inv-loop μ-loop
 returns-2 c =
     let x = c .before .before .before .before .before .before .before .before in
     let s = start x in (
-      (λ word. reached-crowded (s .args .geometry .parameters) (s .args .geometry .growth) (file s) (s .args .number) (s .pre .0 .homing .signing .valid) (s .pre .0 .sized) (s .pre .1 .1 .1 .0) (s .pre .1 .1 .1 .1) (head x .loop .pool) (head x .loop .planned) (head x .loop .waiting) (head x .loop .lo) (head x .loop .carried) (reached x) (known x Crowded (c .enum-told .given .1)) word),
+      (λ word. reached-crowded (s .args .geometry .parameters) (s .args .geometry .growth) (file s) (s .args .number) (s .pre .0 .homing .signing .valid) (s .pre .0 .sized) (s .pre .1 .1 .1 .0) (s .pre .1 .1 .1 .1 .0) (head x .loop .pool) (head x .loop .planned) (head x .loop .waiting) (head x .loop .lo) (head x .loop .carried) (reached x) (known x Crowded (c .enum-told .given .1)) word),
       (λ word last e. absurd (overflows-ends last e)),
     )
 
@@ -209,8 +203,8 @@ returns-3 c =
     let x = c .before .before .before .before .before .before .before .before .before .before in
     let s = start x in
     let v = c .before .before .last .given in (
-      (λ word. reached-ends (s .args .geometry .parameters) (s .args .geometry .growth) (file s) (s .args .number) (s .pre .0 .homing .signing .valid) (s .pre .0 .sized) (s .pre .1 .1 .1 .0) (s .pre .1 .1 .1 .1) (head x .loop .pool) (head x .loop .planned) (head x .loop .waiting) (head x .loop .lo) (head x .loop .carried) (reached x) (x .plan-block .last .1 .1 .1 .1 .1 .0) (x .plan-block .last .1 .1 .1 .1 .1 .1 .1 .0) (x .plan-block .last .1 .1 .1 .1 .1 .1 .0) (v .0 .0) (v .0 .1 .0) (pool-long x) (planned-long x) (planned x (v .0 .0) (v .0 .1 .0) (v .1)) (c .if1 .taken) word),
-      reached-applies (s .args .geometry .parameters) (s .args .geometry .growth) (file s) (s .args .number) (s .pre .0 .homing .signing .valid) (s .pre .0 .sized) (s .pre .1 .1 .1 .0) (s .pre .1 .1 .1 .1) (head x .loop .pool) (head x .loop .planned) (head x .loop .waiting) (head x .loop .lo) (head x .loop .carried) (reached x) (x .plan-block .last .1 .1 .1 .1 .1 .0) (x .plan-block .last .1 .1 .1 .1 .1 .1 .1 .0) (x .plan-block .last .1 .1 .1 .1 .1 .1 .0) (v .0 .0) (v .0 .1 .0) (pool-long x) (planned-long x) (planned x (v .0 .0) (v .0 .1 .0) (v .1)) (c .if1 .taken),
+      (λ word. reached-ends (s .args .geometry .parameters) (s .args .geometry .growth) (file s) (s .args .number) (s .pre .0 .homing .signing .valid) (s .pre .0 .sized) (s .pre .1 .1 .1 .0) (s .pre .1 .1 .1 .1 .0) (head x .loop .pool) (head x .loop .planned) (head x .loop .waiting) (head x .loop .lo) (head x .loop .carried) (reached x) (x .plan-block .last .1 .1 .1 .1 .1 .0) (x .plan-block .last .1 .1 .1 .1 .1 .1 .1 .0) (x .plan-block .last .1 .1 .1 .1 .1 .1 .0) (v .0 .0) (v .0 .1 .0) (pool-long x) (planned-long x) (planned x (v .0 .0) (v .0 .1 .0) (v .1)) (c .if1 .taken) word),
+      reached-applies (s .args .geometry .parameters) (s .args .geometry .growth) (file s) (s .args .number) (s .pre .0 .homing .signing .valid) (s .pre .0 .sized) (s .pre .1 .1 .1 .0) (s .pre .1 .1 .1 .1 .0) (head x .loop .pool) (head x .loop .planned) (head x .loop .waiting) (head x .loop .lo) (head x .loop .carried) (reached x) (x .plan-block .last .1 .1 .1 .1 .1 .0) (x .plan-block .last .1 .1 .1 .1 .1 .1 .1 .0) (x .plan-block .last .1 .1 .1 .1 .1 .1 .0) (v .0 .0) (v .0 .1 .0) (pool-long x) (planned-long x) (planned x (v .0 .0) (v .0 .1 .0) (v .1)) (c .if1 .taken),
     )
 
 add-lo : tie.Need-add-lo Inv-loop μ-loop
@@ -235,7 +229,7 @@ returns-4 c =
     let x = c .before .before .before .before .before .before .before .before .before .before .before in
     let s = start x in
     let v = c .before .before .before .last .given in (
-      (λ word. reached-overflows (s .args .geometry .parameters) (s .args .geometry .growth) (file s) (s .args .number) (s .pre .0 .homing .signing .valid) (s .pre .0 .sized) (s .pre .1 .1 .1 .0) (s .pre .1 .1 .1 .1) (head x .loop .pool) (head x .loop .planned) (head x .loop .waiting) (head x .loop .lo) (head x .loop .carried) (reached x) (x .plan-block .last .1 .1 .1 .1 .1 .0) (x .plan-block .last .1 .1 .1 .1 .1 .1 .1 .0) (x .plan-block .last .1 .1 .1 .1 .1 .1 .0) (v .0 .0) (v .0 .1 .0) (pool-long x) (planned-long x) (planned x (v .0 .0) (v .0 .1 .0) (v .1)) (c .before .if1 .left) (omega (arith, c .if2 .taken)) word),
+      (λ word. reached-overflows (s .args .geometry .parameters) (s .args .geometry .growth) (file s) (s .args .number) (s .pre .0 .homing .signing .valid) (s .pre .0 .sized) (s .pre .1 .1 .1 .0) (s .pre .1 .1 .1 .1 .0) (head x .loop .pool) (head x .loop .planned) (head x .loop .waiting) (head x .loop .lo) (head x .loop .carried) (reached x) (x .plan-block .last .1 .1 .1 .1 .1 .0) (x .plan-block .last .1 .1 .1 .1 .1 .1 .1 .0) (x .plan-block .last .1 .1 .1 .1 .1 .1 .0) (v .0 .0) (v .0 .1 .0) (pool-long x) (planned-long x) (planned x (v .0 .0) (v .0 .1 .0) (v .1)) (c .before .if1 .left) (omega (arith, c .if2 .taken)) word),
       (λ word last e. absurd (overflows-ends last e)),
     )
 
@@ -257,7 +251,7 @@ loop-again c =
         (
           x .plan-block .kept .1 .1 .1 .1 .1 .1 .1 .0 ∙ head x .loop .inv .1 .1 .0,
           rw (add-one (v .0 .0))
-              (reached-next (s .args .geometry .parameters) (s .args .geometry .growth) (file s) (s .args .number) (s .pre .0 .homing .signing .valid) (s .pre .0 .sized) (s .pre .1 .1 .1 .0) (s .pre .1 .1 .1 .1) (head x .loop .pool) (head x .loop .planned) (head x .loop .waiting) (head x .loop .lo) (head x .loop .carried) (reached x) (x .plan-block .last .1 .1 .1 .1 .1 .0) (x .plan-block .last .1 .1 .1 .1 .1 .1 .1 .0) (x .plan-block .last .1 .1 .1 .1 .1 .1 .0) (v .0 .0) (v .0 .1 .0) (pool-long x) (planned-long x) (planned x (v .0 .0) (v .0 .1 .0) (v .1)) (c .before .if1 .left) (omega (arith, c .if2 .left, planned x (v .0 .0) (v .0 .1 .0) (v .1) .is, block-most (s .args .geometry .parameters) (s .args .geometry .growth) (file s) (head x .loop .lo) (reached x .inside)))),
+              (reached-next (s .args .geometry .parameters) (s .args .geometry .growth) (file s) (s .args .number) (s .pre .0 .homing .signing .valid) (s .pre .0 .sized) (s .pre .1 .1 .1 .0) (s .pre .1 .1 .1 .1 .0) (head x .loop .pool) (head x .loop .planned) (head x .loop .waiting) (head x .loop .lo) (head x .loop .carried) (reached x) (x .plan-block .last .1 .1 .1 .1 .1 .0) (x .plan-block .last .1 .1 .1 .1 .1 .1 .1 .0) (x .plan-block .last .1 .1 .1 .1 .1 .1 .0) (v .0 .0) (v .0 .1 .0) (pool-long x) (planned-long x) (planned x (v .0 .0) (v .0 .1 .0) (v .1)) (c .before .if1 .left) (omega (arith, c .if2 .left, planned x (v .0 .0) (v .0 .1 .0) (v .1) .is, block-most (s .args .geometry .parameters) (s .args .geometry .growth) (file s) (head x .loop .lo) (reached x .inside)))),
         ),
       ),
     )
@@ -269,11 +263,9 @@ plan-entry-spec =
     Inv-loop
     μ-loop
     cast-pages
-    home-requires
     add-pack
     pack-requires
     slice-write-waiting
-    cast-lo
     loop-holds
     plan-block-requires
     enum-known-page

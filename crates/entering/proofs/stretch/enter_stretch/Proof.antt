@@ -69,7 +69,7 @@ slice-aggregate-plan-entry c = search needs
 plan-entry-requires : tie.Need-plan-entry-requires
 plan-entry-requires c κs =
     let s = c .before .before .before .before .before .before .before .before .before .before .before .before .before in
-    (s .pre .0, (s .pre .1 .0, (bounds s .pages-most, (s .pre .1 .1 .0, s .pre .1 .1 .1))))
+    (s .pre .0, (s .pre .1 .0, (bounds s .pages-most, (s .pre .1 .1 .0, (s .pre .1 .1 .1, c .before .before .before .before .before .before .home .ensures)))))
 
 enum-known-page : tie.Need-enum-known-page
 enum-known-page c = search needs
@@ -111,11 +111,11 @@ apply-requires c κs =
       ),
     )
 
-named-page-requires : tie.Need-named-page-requires
-named-page-requires c κs =
+named-from-requires : tie.Need-named-from-requires
+named-from-requires c κs =
     let x = c .before .before .before .before .before .before .before .before .before .before .before .before .before .before .before .before .before .before .before .before .before .before .before .before .before .before in
     let s = start x in
-    (s .pre .0 .homing, c .before .before .before .before .before .before .before .before .before .before .before .apply .kept .0 ∙ s .pre .0 .sized .ofSeparators)
+    (s .pre .0 .homing, (c .before .before .before .before .before .before .before .before .before .before .before .apply .kept .0 ∙ s .pre .0 .sized .ofSeparators, x .before .before .before .before .before .before .before .home .ensures))
 
 same-length : tie.Need-same-length
 same-length c = search needs
@@ -186,8 +186,8 @@ returns-3 c =
     entry-file (s .args .geometry .parameters) (s .args .geometry .growth) (file s) (s .args .number) (s .args .word) (x .plan-entry .last .1 .1 .1 .1 .1 .0) (x .plan-entry .last .1 .1 .1 .1 .1 .1 .1 .0) last (answer x last (v .1))
     (λ word l e. x .plan-entry .ensures .1 word l (v .1 ∙ e)) (y .last .0) (y .last .1 .0) (y .last .1 .1 .0)
     (rw (home-is x) at (y .ensures .0)) (rw (home-is x) at (y .ensures .1 .0)) (rw (home-is x) at (y .ensures .1 .1)) in (
-      ends-answer (s .args .geometry .parameters) (s .args .geometry .growth) (file s) (s .args .number) (s .args .word) last (answer x last (v .1)) (c .named-page .result)
-          (c .named-page .ensures
+      ends-answer (s .args .geometry .parameters) (s .args .geometry .growth) (file s) (s .args .number) (s .args .word) last (answer x last (v .1)) (c .named-from .result)
+          (c .named-from .ensures
           ∙ ap (λ (f : File). namedPage (s .args .geometry .parameters) (s .args .geometry .growth) (f .separators) (s .args .number)) whole
           ∙ named-holds (s .args .geometry .parameters) (s .args .geometry .growth) (file s) (s .args .number) (s .args .word) last (answer x last (v .1)) (omega (arith, home-is x, low x last (v .1), high x last (v .1), s .pre .0 .sized .ofSeparators))),
       whole,
@@ -209,7 +209,7 @@ enter-stretch-spec =
     add-apply
     sub-apply
     apply-requires
-    named-page-requires
+    named-from-requires
     same-length
     same-length-2
     same-length-3
