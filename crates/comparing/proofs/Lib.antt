@@ -2,4 +2,4 @@ pub mod Differences
 pub mod Alike
 pub mod Planned
 pub mod Accepting
-pub mod Told
+pub mod Verdicts

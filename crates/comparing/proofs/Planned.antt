@@ -11,7 +11,7 @@ use lib.Seq.{paste, take-all, drop-length, length-take-le, getD-take}
 use borrow.Author.Tests.{lt-ltb, ne-eqb, not-false}
 use Rattle.hashing.specs.declared.Parameters.{Parameters}
 use Rattle.hashing.specs.declared.Growth.{Growth}
-use Rattle.hashing.specs.Generator.{multiplier}
+use Rattle.hashing.specs.Generator.{multiplierOf}
 use Rattle.hashing.specs.Limits.{validParameters, validGrowth}
 use Rattle.hashing.proofs.Bounds.{limits}
 use Rattle.hashing.proofs.Laws.{home-pages}
@@ -23,14 +23,14 @@ use Rattle.placement.proofs.Filters.{filter-all-on}
 use Rattle.placement.proofs.Sound.{gathered-proper}
 use Rattle.placement.proofs.Tested.{item-on, real-facts}
 use Rattle.waiting.specs.Lists.{all, allBelow}
-use Rattle.waiting.specs.Gather.{skipped, starsIn, stretch}
+use Rattle.waiting.specs.Gather.{skipped, starsIn, stretch, stretchWords}
 use Rattle.waiting.proofs.Lists.{all-cons}
 use Rattle.planning.specs.Sources.{named, sourced}
-use Rattle.planning.specs.Plans.{stretchWords, Planned}
+use Rattle.planning.specs.Plans.{Planned}
 use Rattle.planning.proofs.Copies.{paste-written}
 use Rattle.planning.proofs.Applying.{applied}
 use Rattle.planning.proofs.Sourcing.{itemHome}
-use Rattle.planning.proofs.Placed.{Ready, probes-real, homes-real, stretch-sourced, placed, layout, applied-layout}
+use Rattle.planning.proofs.Placed.{Gatherable, probes-real, homes-real, stretch-sourced, placed, layout, applied-layout}
 use Rattle.reach.specs.Reach.{firstUnsound}
 use Rattle.reach.proofs.Search.{such}
 use Rattle.comparing.specs.Spots.{spotIn, firstSpot, ruled}
@@ -89,7 +89,7 @@ stars-fit k (n ∷ l) = go (skipped k n) (stars-fit k l)
     go false h = omega arith
 
 pub some-pages : (p : Parameters) (g : Growth) → validParameters p ≡ true → validGrowth p g ≡ true → 0 < p .pages
-some-pages p g valid grows = omega (arith, home-pages multiplier p g 0 valid grows)
+some-pages p g valid grows = omega (arith, home-pages (multiplierOf p) p g 0 valid grows)
 
 pub few-items : (p : Parameters) → validParameters p ≡ true → p .pages * p .places ≤ 32768
 few-items p valid = let l = limits p valid in mul-le-mul (l .pages-most) (l .places-most)
@@ -111,9 +111,9 @@ module _ (p : Parameters) (g : Growth) (f : File) (valid : validParameters p ≡
   home-inside : (n : ℕ) → homeIn p g n < p .pages
   home-inside n = go (eqb n 0)
     where
-      go : (t : Bool) → cond t 0 (Rattle.hashing.specs.Home.home multiplier p g n) < p .pages
+      go : (t : Bool) → cond t 0 (Rattle.hashing.specs.Home.home (multiplierOf p) p g n) < p .pages
       go true = some-pages p g valid grows
-      go false = home-pages multiplier p g n valid grows
+      go false = home-pages (multiplierOf p) p g n valid grows
 
   homes-below : allBelow (p .pages) hs ≡ true
   unfolding homesOf
@@ -129,7 +129,7 @@ module _ (p : Parameters) (g : Growth) (f : File) (valid : validParameters p ≡
   stars-inside = rw (whole (p .places) (p .pages) (f .numbers) (sized .ofNumbers)) (omega (arith, stars-fit 0 (f .numbers), sized .ofNumbers))
 
   -- the file can be planned as one stretch
-  pub ready : Ready (hashOf p g) (p .places) 0 (p .pages) f hs
+  pub ready : Gatherable (hashOf p g) (p .places) 0 (p .pages) f hs
   ready =
       let none : 0 + p .pages ≡ p .pages = zero-add (p .pages) in
       let numbers-all = whole (p .places) (p .pages) (f .numbers) (sized .ofNumbers) in
@@ -155,18 +155,18 @@ module _ (p : Parameters) (g : Growth) (f : File) (valid : validParameters p ≡
 
   -- the plan, applied, is the rule over the whole file
   pub planned-ruled : (pool′ planned planned′ W′ : List ℕ) (r : ℕ) → p .pages ≤ length planned
-      → Planned (p .bits) (p .places) 0 (p .pages) [] (stretchWords (p .places) 0 (p .pages) 0 (f .numbers) hs) hs pool′ planned planned′ W′ r
+      → Planned p 0 (p .pages) [] (stretchWords (p .places) 0 (p .pages) 0 (f .numbers) hs) hs pool′ planned planned′ W′ r
       → applied (p .places) 0 (p .pages) 0 0 pool′ planned′ f ≡ ruled p g f
   unfolding ruled
   planned-ruled pool′ planned planned′ W′ r h P =
       let words : List ℕ = stretchWords (p .places) 0 (p .pages) 0 (f .numbers) hs in
       let none : 0 + p .pages ≡ p .pages = zero-add (p .pages) in
-      applied-layout (p .bits) (p .places) 0 (p .pages) 0 0 f [] words pool′ planned′ W′ r
-      (layout (p .bits) (p .places) 0 (p .pages) [] words hs pool′ planned planned′ W′ r P (rw none (omega (arith, homes-long))) (rw none h))
+      applied-layout p 0 (p .pages) 0 0 f [] words pool′ planned′ W′ r
+      (layout p 0 (p .pages) [] words hs pool′ planned planned′ W′ r P (rw none (omega (arith, homes-long))) (rw none h))
       (unfold sourced all in refl)
-      (stretch-sourced (hashOf p g) (p .bits) (p .places) (probes-real p g) 0 (p .pages) f hs ready 0 0 0)
+      (stretch-sourced (hashOf p g) p (probes-real p g) 0 (p .pages) f hs ready 0 0 0)
       ∙ ap (replaced (p .places) f 0)
-      (placed (hashOf p g) (p .bits) (p .places) (probes-real p g) 0 (p .pages) f hs ready 0 0 .0
+      (placed (hashOf p g) p (probes-real p g) 0 (p .pages) f hs ready 0 0 .0
       ∙ ap (pages (hashOf p g) 0 (p .pages)) no-empty-star)
 
   -- .. so that comparing with what it fetches is comparing with the rule

@@ -1,15 +1,13 @@
 // A whole file checked: its pages are surveyed, planned anew and compared with the plan.
 ghost use mathlib.Core.Path.{_≡_};
-ghost use mathlib.Core.Bool.{true};
 ghost use Prim.Native.Nat.{suc, _+_, _*_, _≤_};
 ghost use lib.ListN.{length};
-ghost use Rattle.hashing.specs.Generator.{multipliers};
-ghost use Rattle.hashing.specs.Limits.{validParameters, validGrowth};
-ghost use Rattle.placement.specs.File.{Sized};
-ghost use Rattle.placement.specs.Hash.{homesOf, lent};
+ghost use Rattle.placement.specs.Hash.{homesOf};
+ghost use Rattle.placement.specs.Lent.{held, before};
+ghost use Rattle.placement.specs.Ready.{Ready, Pooled};
 ghost use Rattle.reach.specs.Reach.{firstUnsound};
-ghost use Rattle.comparing.specs.Spots.{firstSpot, ruled};
-ghost use Rattle.comparing.specs.Verdicts.{verdictOf};
+ghost use Rattle.comparing.specs.Spots.{spotOf};
+ghost use Rattle.comparing.specs.Verdicts.{verdictFor};
 use crate::search::Spot;
 use crate::search::compare;
 use hashing::Geometry;
@@ -31,13 +29,11 @@ fn compare_planned(
     pool: &mut [u32],
     waiting: &mut [u64],
 ) -> Spot
-    requires { ⌜ now table ≡ multipliers ⌝ }
-    requires { ⌜ (validParameters (geometry .parameters) ≡ true) × (validGrowth (geometry .parameters) (geometry .growth) ≡ true) ⌝ }
-    requires { ⌜ Sized (geometry .parameters .places) (geometry .parameters .pages) (lent (now separators) (now numbers) (now words)) ⌝ }
-    requires { ⌜ firstUnsound (geometry .parameters) (geometry .growth) (lent (now separators) (now numbers) (now words)) 0 (geometry .parameters .pages) ≡ geometry .parameters .pages ⌝ }
+    requires { ⌜ Ready geometry (now table) (held separators numbers words) ⌝ }
+    requires { ⌜ firstUnsound (geometry .parameters) (geometry .growth) (held separators numbers words) 0 (geometry .parameters .pages) ≡ geometry .parameters .pages ⌝ }
     requires { ⌜ now pool ≡ homesOf (geometry .parameters) (geometry .growth) (now numbers) ⌝ }
     requires { ⌜ length (now waiting) ≡ geometry .parameters .pages * geometry .parameters .places ⌝ }
-    ensures { λ r. ⌜ r .page * suc (geometry .parameters .places) + r .place ≡ firstSpot (geometry .parameters) (lent (now (separators .entry)) (now (numbers .entry)) (now (words .entry))) (ruled (geometry .parameters) (geometry .growth) (lent (now (separators .entry)) (now (numbers .entry)) (now (words .entry)))) ⌝ }
+    ensures { λ r. ⌜ r .page * suc (geometry .parameters .places) + r .place ≡ spotOf (geometry .parameters) (geometry .growth) (before separators numbers words) ⌝ }
     ensures { λ r. ⌜ r .place ≤ geometry .parameters .places ⌝ }
 {
     let places = geometry.parameters.places as usize;
@@ -45,12 +41,11 @@ fn compare_planned(
     let mut planned = [0u8; 1024];
     planning::plan(
         table,
-        geometry.parameters.bits,
+        geometry.parameters,
         numbers,
         pool,
         waiting,
         &mut planned,
-        places,
         0,
         pages,
         0,
@@ -79,11 +74,9 @@ pub fn check_file(
     pool: &mut [u32],
     waiting: &mut [u64],
 ) -> Verdict
-    requires { ⌜ now table ≡ multipliers ⌝ }
-    requires { ⌜ (validParameters (geometry .parameters) ≡ true) × (validGrowth (geometry .parameters) (geometry .growth) ≡ true) ⌝ }
-    requires { ⌜ Sized (geometry .parameters .places) (geometry .parameters .pages) (lent (now separators) (now numbers) (now words)) ⌝ }
-    requires { ⌜ (length (now pool) ≡ geometry .parameters .pages * geometry .parameters .places) × (length (now waiting) ≡ geometry .parameters .pages * geometry .parameters .places) ⌝ }
-    ensures { λ r. ⌜ r ≡ verdictOf (geometry .parameters) (firstUnsound (geometry .parameters) (geometry .growth) (lent (now (separators .entry)) (now (numbers .entry)) (now (words .entry))) 0 (geometry .parameters .pages)) (firstSpot (geometry .parameters) (lent (now (separators .entry)) (now (numbers .entry)) (now (words .entry))) (ruled (geometry .parameters) (geometry .growth) (lent (now (separators .entry)) (now (numbers .entry)) (now (words .entry))))) ⌝ }
+    requires { ⌜ Ready geometry (now table) (held separators numbers words) ⌝ }
+    requires { ⌜ Pooled (geometry .parameters) (now pool) (now waiting) ⌝ }
+    ensures { λ r. ⌜ r ≡ verdictFor (geometry .parameters) (geometry .growth) (before separators numbers words) ⌝ }
 {
     let pages = geometry.parameters.pages as usize;
     let unsound = reach::survey_pages(table, geometry, separators, numbers, words, pool, 0, pages);

@@ -2,7 +2,7 @@
 ghost use mathlib.Core.Path.{_≡_};
 ghost use Prim.Native.Nat.{suc, _+_, _*_, _≤_};
 ghost use lib.ListN.{length};
-ghost use Rattle.placement.specs.Hash.{lent};
+ghost use Rattle.placement.specs.Lent.{before};
 ghost use Rattle.comparing.specs.Spots.{spotIn};
 
 // A place of a page; the place past the last one is the page's separator.
@@ -25,7 +25,7 @@ pub fn compare(
     requires { ⌜ (pages ≤ length (now separators)) × (pages ≤ length (now planned)) ⌝ }
     requires { ⌜ (pages * places ≤ length (now numbers)) × (pages * places ≤ length (now plannednumbers)) ⌝ }
     requires { ⌜ (pages * places ≤ length (now words)) × (pages * places ≤ length (now plannedwords)) ⌝ }
-    ensures { λ r. ⌜ r .page * suc places + r .place ≡ spotIn pages places (lent (now (separators .entry)) (now (numbers .entry)) (now (words .entry))) (lent (now (planned .entry)) (now (plannednumbers .entry)) (now (plannedwords .entry))) ⌝ }
+    ensures { λ r. ⌜ r .page * suc places + r .place ≡ spotIn pages places (before separators numbers words) (before planned plannednumbers plannedwords) ⌝ }
     ensures { λ r. ⌜ r .place ≤ places ⌝ }
 {
     let mut page = 0;

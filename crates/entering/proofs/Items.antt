@@ -11,7 +11,7 @@ use lib.Seq.{getD-take, getD-drop}
 use borrow.Author.Tests.{le-leb, lt-ltb, ne-eqb, eqb-false}
 use Rattle.hashing.specs.declared.Parameters.{Parameters}
 use Rattle.hashing.specs.declared.Growth.{Growth}
-use Rattle.hashing.specs.Generator.{multiplier}
+use Rattle.hashing.specs.Generator.{multiplierOf}
 use Rattle.hashing.specs.Home.{home}
 use Rattle.hashing.specs.Limits.{validParameters}
 use Rattle.hashing.proofs.Bounds.{limits}
@@ -154,7 +154,7 @@ module _ (p : Parameters) (g : Growth) (f : File) (valid : validParameters p ≡
           (part-item (p .places) pageOf (f .numbers) (i % p .places) (mod-lt i some) ∙ sym (item-is (f .numbers)))
 
       module _ (star : getD (blockNumbers p f lo n) i 0 ≡ 0 → ⊥) where
-        item-above : (e : ℕ) → e < pageOf → getD (f .separators) e 0 ≡ hash p g .top → e < home multiplier p g (getD (blockNumbers p f lo n) i 0)
+        item-above : (e : ℕ) → e < pageOf → getD (f .separators) e 0 ≡ hash p g .top → e < home (multiplierOf p) p g (getD (blockNumbers p f lo n) i 0)
         unfolding namedPage hashOf
         item-above e h top =
             omega (
@@ -206,7 +206,7 @@ module _ (p : Parameters) (g : Growth) (f : File) (valid : validParameters p ≡
         let few : suc (lo * p .places + i) < 2 ^ 16 = omega (arith, items-few) in
         let star : (k ≡ 0 → ⊥) = eqb-false k 0 (unskipped k s) in
         let number : numberOf w ≡ k = number-pack h k (suc (lo * p .places + i)) small few in
-        let there : homeOf w ≡ home multiplier p g k = home-pack h k (suc (lo * p .places + i)) small few ∙ home-there i ∙ rw (ne-eqb k 0 star) in
+        let there : homeOf w ≡ home (multiplierOf p) p g k = home-pack h k (suc (lo * p .places + i)) small few ∙ home-there i ∙ rw (ne-eqb k 0 star) in
         each w
         (record {
           page = lo + i / p .places;

@@ -40,10 +40,10 @@ newWord p g f k = pack (startOf p g k) k (length (f .numbers) + 1)
 
 -- what the n pages from home get, and what they leave, of their stars and the new one
 abbrev pub plansTo : Parameters → Growth → File → ℕ → ℕ → List Contents
-plansTo p g f k n = plans (p .bits) (p .places) (startOf p g k) 0 n (newWord p g f k ∷ []) (blockWords p g f (startOf p g k) n)
+plansTo p g f k n = plans p (startOf p g k) 0 n (newWord p g f k ∷ []) (blockWords p g f (startOf p g k) n)
 
 abbrev pub remainsTo : Parameters → Growth → File → ℕ → ℕ → List ℕ
-remainsTo p g f k n = remains (p .bits) (p .places) (startOf p g k) 0 n (newWord p g f k ∷ []) (blockWords p g f (startOf p g k) n)
+remainsTo p g f k n = remains p (startOf p g k) 0 n (newWord p g f k ∷ []) (blockWords p g f (startOf p g k) n)
 
 pub valid-most : (k : ℕ) → validNumber k ≡ true → (1 ≤ k) × (k ≤ 2147483646)
 unfolding validNumber
@@ -119,7 +119,7 @@ module _ (p : Parameters) (g : Growth) (f : File) (k : ℕ) (valid : validParame
     tied : (plansTo p g f k n ≡ pages (hash p g) (startOf p g k) n (waits (newWord p g f k ∷ blockWords p g f (startOf p g k) n)))
         × (waits (remainsTo p g f k n) ≡ left (hash p g) (startOf p g k) n (waits (newWord p g f k ∷ blockWords p g f (startOf p g k) n)))
     tied =
-        words-planned (hash p g) (p .bits) (p .places) (probes-real p g) (startOf p g k) n (newWord p g f k ∷ []) (blockWords p g f (startOf p g k) n)
+        words-planned (hash p g) p (probes-real p g) (startOf p g k) n (newWord p g f k ∷ []) (blockWords p g f (startOf p g k) n)
         (new-homed (hash p g) (startOf p g k) k (length (f .numbers) + 1) refl small few) new-here
         (block-homed p g f valid sized (startOf p g k) n inside (numbers-below p g f valid sized (startOf p g k) n inside sound))
         (block-grouped p g f valid sized (startOf p g k) n inside sound)

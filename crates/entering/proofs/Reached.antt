@@ -56,7 +56,7 @@ ending p g f k word q = storedTop (f .separators) (hash p g .top) q && entersWit
 pub record Spanned (p : Parameters) (g : Growth) (f : File) (k : ℕ) (pool planned W : List ℕ) (d carried : ℕ) : Type 0 where
   pub most : startOf p g k + d ≤ p .pages
   pub sound : (q : ℕ) → startOf p g k ≤ q → q < startOf p g k + d → soundAt p g f q ≡ true
-  pub laid-out : Layout (p .bits) (p .places) (startOf p g k) d (newWord p g f k ∷ []) (blockWords p g f (startOf p g k) d) pool planned W carried
+  pub laid-out : Layout p (startOf p g k) d (newWord p g f k ∷ []) (blockWords p g f (startOf p g k) d) pool planned W carried
 
 -- they are the pages below page lo, end at a page whose separator is top, and at none of them the reach ends
 pub record Reached (p : Parameters) (g : Growth) (f : File) (k : ℕ) (pool planned W : List ℕ) (lo carried : ℕ) : Type 0 where
@@ -157,7 +157,7 @@ module _ (p : Parameters) (g : Growth) (f : File) (k : ℕ) (valid : validParame
     pub spanned-near : homesUpTo (startOf p g k + d) (take carried W) ≡ true
     spanned-near =
         rw (s .laid-out .passed)
-        (rw (zero-add d) at (remains-near (p .bits) (p .places) (startOf p g k) (blockWords p g f (startOf p g k) d) 0 d (newWord p g f k ∷ [])
+        (rw (zero-add d) at (remains-near p (startOf p g k) (blockWords p g f (startOf p g k) d) 0 d (newWord p g f k ∷ [])
         (rw (add-zero (startOf p g k)) (new-here p g f k valid sized number unheld))))
 
     pub spanned-few : carried ≤ length W
@@ -176,16 +176,16 @@ module _ (p : Parameters) (g : Growth) (f : File) (k : ℕ) (valid : validParame
       → length pool ≡ p .pages * p .places → p .pages ≤ length planned → startOf p g k + (d + m) ≤ p .pages
       → ((q : ℕ) → startOf p g k ≤ q → q < startOf p g k + (d + m) → soundAt p g f q ≡ true)
       → ((e : ℕ) → startOf p g k ≤ e → suc e ≡ startOf p g k + d → getD (f .separators) e 0 ≡ hash p g .top)
-      → Planned (p .bits) (p .places) (startOf p g k + d) m (take carried W) (blockWords p g f (startOf p g k + d) m) pool pool′ planned planned′ W′ left
-      → Layout (p .bits) (p .places) (startOf p g k) (d + m) (newWord p g f k ∷ []) (blockWords p g f (startOf p g k) (d + m)) pool′ planned′ W′ left
+      → Planned p (startOf p g k + d) m (take carried W) (blockWords p g f (startOf p g k + d) m) pool pool′ planned planned′ W′ left
+      → Layout p (startOf p g k) (d + m) (newWord p g f k ∷ []) (blockWords p g f (startOf p g k) (d + m)) pool′ planned′ W′ left
   spanned-next pool planned W zero carried s pool′ planned′ W′ m left lp ln inside sound ended plan =
       let first : take carried W ≡ newWord p g f k ∷ [] = unfold remains in s .laid-out .passed in
       rw (zero-add m)
-      (layout (p .bits) (p .places) (startOf p g k) m (newWord p g f k ∷ []) (blockWords p g f (startOf p g k) m) pool pool′ planned planned′ W′ left
+      (layout p (startOf p g k) m (newWord p g f k ∷ []) (blockWords p g f (startOf p g k) m) pool pool′ planned planned′ W′ left
       (rw (add-zero (startOf p g k), first) at plan) (rw lp (mul-le-mul-right (p .places) (omega arith))) (omega arith))
   spanned-next pool planned W (suc d) carried s pool′ planned′ W′ m left lp ln inside sound ended plan =
       rw (words-add p g f sized (startOf p g k) (suc d) m (omega arith))
-      (layout-next (p .bits) (p .places) (startOf p g k) (suc d) m (newWord p g f k ∷ []) (blockWords p g f (startOf p g k) (suc d)) (blockWords p g f (startOf p g k + suc d) m)
+      (layout-next p (startOf p g k) (suc d) m (newWord p g f k ∷ []) (blockWords p g f (startOf p g k) (suc d)) (blockWords p g f (startOf p g k + suc d) m)
       pool pool′ planned planned′ W W′ carried left
       (block-grouped p g f valid sized (startOf p g k) (suc d) (omega arith) (λ q a b. sound q a (omega arith)))
       (block-above p g f valid sized (startOf p g k + suc d) m (omega arith) (λ q a b. sound q (omega arith) (omega arith)) (startOf p g k + d) (omega arith)
@@ -345,12 +345,12 @@ module _ (p : Parameters) (g : Growth) (f : File) (k : ℕ) (valid : validParame
             most = few-pages;
             sound = pages-sound (b .sound);
             laid-out =
-                subst (λ (x : ℕ). Layout (p .bits) (p .places) (startOf p g k) x (newWord p g f k ∷ []) (blockWords p g f (startOf p g k) x) pool′ planned′ W′ left) same
+                subst (λ (x : ℕ). Layout p (startOf p g k) x (newWord p g f k ∷ []) (blockWords p g f (startOf p g k) x) pool′ planned′ W′ left) same
                 (spanned-next pool planned W (r .done) carried (r .spanned) pool′ planned′ W′ (blockCount p g f lo) left lp ln
                 (omega (arith, same, few-pages))
                 (λ q a h. pages-sound (b .sound) q a (omega (arith, same)))
                 (λ e a h. r .ended e a (h ∙ sym (r .at)))
-                (subst (λ (x : ℕ). Planned (p .bits) (p .places) x (blockCount p g f lo) (take carried W) (blockWords p g f x (blockCount p g f lo)) pool pool′ planned planned′ W′ left) (r .at) (b .plan)));
+                (subst (λ (x : ℕ). Planned p x (blockCount p g f lo) (take carried W) (blockWords p g f x (blockCount p g f lo)) pool pool′ planned planned′ W′ left) (r .at) (b .plan)));
           }
 
       within-block : (word : ℕ) → entersWithin (hash p g) f (newStar k word) last ≡ eqb left 0
@@ -383,7 +383,7 @@ module _ (p : Parameters) (g : Growth) (f : File) (k : ℕ) (valid : validParame
             let el : l ≡ last = sym e ∙ stop-is in (
               omega (arith, el, below-last),
               ap (λ (q : ℕ). applied (p .places) (startOf p g k) (pagesTo (startOf p g k) q) k word pool′ planned′ f) el
-                  ∙ applied-layout (p .bits) (p .places) (startOf p g k) (pagesTo (startOf p g k) last) k word f (newWord p g f k ∷ []) (blockWords p g f (startOf p g k) (pagesTo (startOf p g k) last))
+                  ∙ applied-layout p (startOf p g k) (pagesTo (startOf p g k) last) k word f (newWord p g f k ∷ []) (blockWords p g f (startOf p g k) (pagesTo (startOf p g k) last))
                   pool′ planned′ W′ left (spanned-block .laid-out) (new-named p g f k valid sized number unheld)
                   (block-named p g f k valid sized number unheld (pagesTo (startOf p g k) last) (spanned-block .most) (spanned-block .sound))
                   ∙ ap (replaced (p .places) f (startOf p g k)) (contents word)

@@ -2,22 +2,21 @@
 use mathlib.Core.Path.{_≡_, sym, ap, _∙_, subst}
 use mathlib.Core.Bool.{true, not}
 use mathlib.Core.List.{List, _++_}
-use Prim.Native.Nat.{ℕ, _+_, _-_, _*_, _%_, _^_, _≤_, _<_}
+use Prim.Native.Nat.{ℕ, _+_, _-_, _*_, _^_, _≤_, _<_}
 use native.Mathlib.Nat.{add-mul, mul-le-mul-right}
 use native.Mathlib.Omega.{arith}
 use lib.ListN.{take, length-append, length, drop, length-map, length-drop}
 use lib.Seq.{take-at, take-append-le, length-take-le, drop-paste, paste, slice}
 use Rattle.hashing.specs.declared.Parameters.{Parameters}
 use Rattle.hashing.specs.declared.Growth.{Growth}
+use Rattle.hashing.specs.Generator.{topOf}
 use Rattle.hashing.specs.Limits.{validParameters}
-use Rattle.hashing.proofs.Bounds.{limits}
-use Rattle.hashing.proofs.Laws.{top-shifted}
 use Rattle.placement.specs.Rule.{Star, separators}
 use Rattle.placement.specs.File.{File, Sized, column, written}
 use Rattle.placement.specs.Hash.{hashOf, soundAt, homesOf, homeIn}
 use Rattle.placement.proofs.Writing.{length-column}
 use Rattle.waiting.specs.Lists.{allBelow}
-use Rattle.waiting.specs.Gather.{stretch, starsIn, wordsFrom}
+use Rattle.waiting.specs.Gather.{stretch, starsIn, stretchWords}
 use Rattle.waiting.proofs.Gathered.{stretch-slice}
 use Rattle.planning.specs.Plans.{plans, Planned}
 use Rattle.planning.proofs.Stretch.{plans-roomy, length-plans}
@@ -43,9 +42,9 @@ written-paste d at t n s e h k =
     size = length-take-le at d (omega arith)
 
 module _ (p : Parameters) (g : Growth) (f : File) (valid : validParameters p ≡ true) (sized : Sized (p .places) (p .pages) f) (lo : ℕ) (inside : lo < p .pages) where
-  pub end-found : (last : ℕ) → last ≡ firstSuch (storedTop (f .separators) (1 * 2 ^ p .bits % 2 ^ 32 - 1)) lo (length (f .separators) - 1 - lo) → last ≡ blockEnd p g f lo
+  pub end-found : (top last : ℕ) → top ≡ topOf (p .bits) → last ≡ firstSuch (storedTop (f .separators) top) lo (length (f .separators) - 1 - lo) → last ≡ blockEnd p g f lo
   unfolding removalEnd hashOf
-  end-found last e = e ∙ rw (sized .ofSeparators, top-shifted (p .bits) (limits p valid .bits-most))
+  end-found top last et e = e ∙ rw (sized .ofSeparators, et)
 
   module _ (last : ℕ) (e : last ≡ blockEnd p g f lo) where
     pub count-is : last + 1 - lo ≡ blockCount p g f lo
@@ -105,20 +104,20 @@ module _ (p : Parameters) (g : Growth) (f : File) (valid : validParameters p ≡
 
         -- the plan over the surveyed homes
         module _ (w planned sources planned′ W′ : List ℕ) (left : ℕ)
-            (plan : Planned (p .bits) (p .places) lo (last + 1 - lo) w (wordsFrom (lo * p .places) 0 (stretch (p .places) lo (last + 1 - lo) (f .numbers)) (stretch (p .places) lo (last + 1 - lo) homes)) homes sources planned planned′ W′ left) where
-          renewed : Planned (p .bits) (p .places) lo (last + 1 - lo) w (blockWords p g f lo (last + 1 - lo)) homes sources planned planned′ W′ left
+            (plan : Planned p lo (last + 1 - lo) w (stretchWords (p .places) lo (last + 1 - lo) 0 (f .numbers) homes) homes sources planned planned′ W′ left) where
+          renewed : Planned p lo (last + 1 - lo) w (blockWords p g f lo (last + 1 - lo)) homes sources planned planned′ W′ left
           unfolding blockWords
           renewed = rw found-homes at plan
 
           items : List ℕ
-          items = column (p .places) (λ (s : Star). s .word) (plans (p .bits) (p .places) lo 0 (last + 1 - lo) w (blockWords p g f lo (last + 1 - lo)))
+          items = column (p .places) (λ (s : Star). s .word) (plans p lo 0 (last + 1 - lo) w (blockWords p g f lo (last + 1 - lo)))
 
           items-long : length items ≡ (last + 1 - lo) * p .places
           unfolding items
           items-long =
-              length-column (p .places) (λ (s : Star). s .word) (plans (p .bits) (p .places) lo 0 (last + 1 - lo) w (blockWords p g f lo (last + 1 - lo)))
-              (plans-roomy (p .bits) (p .places) lo 0 (last + 1 - lo) w (blockWords p g f lo (last + 1 - lo)))
-              ∙ ap (λ (n : ℕ). n * p .places) (length-plans (p .bits) (p .places) lo 0 (last + 1 - lo) w (blockWords p g f lo (last + 1 - lo)))
+              length-column (p .places) (λ (s : Star). s .word) (plans p lo 0 (last + 1 - lo) w (blockWords p g f lo (last + 1 - lo)))
+              (plans-roomy p lo 0 (last + 1 - lo) w (blockWords p g f lo (last + 1 - lo)))
+              ∙ ap (λ (n : ℕ). n * p .places) (length-plans p lo 0 (last + 1 - lo) w (blockWords p g f lo (last + 1 - lo)))
 
           pub block-planned : PlannedBlock p g f lo w pool sources planned planned′ W′ last left
           unfolding items
@@ -127,7 +126,7 @@ module _ (p : Parameters) (g : Growth) (f : File) (valid : validParameters p ≡
                 is = e;
                 sound = clear;
                 plan =
-                    subst (λ (n : ℕ). Planned (p .bits) (p .places) lo n w (blockWords p g f lo n) pool sources planned planned′ W′ left) count-is
+                    subst (λ (n : ℕ). Planned p lo n w (blockWords p g f lo n) pool sources planned planned′ W′ left) count-is
                     (record {
                       sources =
                           renewed .sources

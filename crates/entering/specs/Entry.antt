@@ -4,16 +4,19 @@ use mathlib.Core.Bool.{true, false, cond}
 use mathlib.Core.List.{List}
 use Prim.Native.Nat.{ℕ, _+_, _*_, _<_}
 use lib.Dec.{ltb}
-use lib.ListN.{length}
+use lib.ListN.{length, take}
+use denote.Ref.{now}
 use Rattle.hashing.specs.declared.Parameters.{Parameters}
 use Rattle.hashing.specs.declared.Growth.{Growth}
+use Rattle.hashing.specs.declared.Geometry.{Geometry}
 use Rattle.pages.specs.Page.{part, heldAt}
 use Rattle.placement.specs.Rule.{Star, Hash, Contents, pages}
 use Rattle.placement.specs.File.{File, replaced}
 use Rattle.placement.specs.Hash.{hashOf, soundAt, namedPage, homesOf}
+use Rattle.placement.specs.Lent.{Lent}
 use Rattle.reach.specs.Reach.{pagesTo, removalEnd, entering, entersWithin, entryEnd, firstUnsound, holding}
-use Rattle.waiting.specs.Gather.{stretch, starsIn}
-use Rattle.planning.specs.Plans.{stretchWords, Planned}
+use Rattle.waiting.specs.Gather.{stretch, starsIn, stretchWords}
+use Rattle.planning.specs.Plans.{Planned}
 use Rattle.planning.proofs.Applying.{applied}
 use Rattle.entering.specs.declared.blocks.Reach.{Reach}
 use Rattle.entering.specs.declared.blocks.Reach.the-variants.{Ends, Unsound, Overflows}
@@ -101,7 +104,7 @@ BlockSound p g f lo = firstUnsound p g f lo (blockCount p g f lo) ≡ lo + block
 pub record PlannedBlock (p : Parameters) (g : Growth) (f : File) (lo : ℕ) (w pool pool′ planned planned′ W′ : List ℕ) (last left : ℕ) : Type 0 where
   pub is : last ≡ blockEnd p g f lo
   pub sound : BlockSound p g f lo
-  pub plan : Planned (p .bits) (p .places) lo (blockCount p g f lo) w (blockWords p g f lo (blockCount p g f lo)) pool pool′ planned planned′ W′ left
+  pub plan : Planned p lo (blockCount p g f lo) w (blockWords p g f lo (blockCount p g f lo)) pool pool′ planned planned′ W′ left
 
 pub record UnsoundBlock (p : Parameters) (g : Growth) (f : File) (lo page : ℕ) : Type 0 where
   pub is : page ≡ firstUnsound p g f lo (blockCount p g f lo)
@@ -117,3 +120,8 @@ BlockPlanned p g f lo w pool pool′ planned planned′ W′ (block·Planned las
     PlannedBlock p g f lo w pool pool′ planned planned′ W′ last left
 BlockPlanned p g f lo w pool pool′ planned planned′ W′ (block·Unsound page) = UnsoundBlock p g f lo page
 BlockPlanned p g f lo w pool pool′ planned planned′ W′ Crowded = CrowdedBlock p g f lo w
+
+abbrev pub PlansBlock : Geometry → File → ℕ → ℕ → Lent → Lent → Lent → Block → Type 0
+PlansBlock g f lo incoming pool waiting planned r =
+    BlockPlanned (g .parameters) (g .growth) f lo (take incoming (now (waiting .entry))) (now (pool .entry)) (now (pool .exit))
+    (now (planned .entry)) (now (planned .exit)) (now (waiting .exit)) r

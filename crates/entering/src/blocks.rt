@@ -1,15 +1,14 @@
 // The reach of an entry, planned block after block: a block ends at the first page whose stored separator is 2^k − 1, or at the last page.
 ghost use mathlib.Core.Path.{_≡_};
 ghost use mathlib.Core.Bool.{true};
-ghost use Prim.Native.Nat.{ℕ, _*_, _≤_, _<_};
+ghost use Prim.Native.Nat.{ℕ, _≤_, _<_};
 ghost use lib.ListN.{length, take};
-ghost use Rattle.hashing.specs.Generator.{multipliers};
-ghost use Rattle.hashing.specs.Limits.{validParameters, validGrowth};
 ghost use Rattle.pages.specs.Position.{validNumber};
-ghost use Rattle.placement.specs.File.{Sized};
-ghost use Rattle.placement.specs.Hash.{lent};
+ghost use Rattle.placement.specs.Hash.{homeUnder};
+ghost use Rattle.placement.specs.Lent.{held, before};
+ghost use Rattle.placement.specs.Ready.{Ready, Pooled};
 ghost use Rattle.waiting.specs.Settle.{homesUpTo};
-ghost use Rattle.entering.specs.Entry.{Unheld, reachAnswer, Applies, BlockPlanned};
+ghost use Rattle.entering.specs.Entry.{Unheld, reachAnswer, Applies, PlansBlock};
 use hashing::Geometry;
 
 // The last page; the first unsound page; or a star is carried past the last page of all.
@@ -39,18 +38,15 @@ fn plan_block(
     lo: usize,
     incoming: usize,
 ) -> Block
-    requires { ⌜ now table ≡ multipliers ⌝ }
-    requires { ⌜ validParameters (geometry .parameters) ≡ true ⌝ }
-    requires { ⌜ validGrowth (geometry .parameters) (geometry .growth) ≡ true ⌝ }
-    requires { ⌜ Sized (geometry .parameters .places) (geometry .parameters .pages) (lent (now separators) (now numbers) (now words)) ⌝ }
-    requires { ⌜ (length (now pool) ≡ geometry .parameters .pages * geometry .parameters .places) × (length (now waiting) ≡ geometry .parameters .pages * geometry .parameters .places) ⌝ }
+    requires { ⌜ Ready geometry (now table) (held separators numbers words) ⌝ }
+    requires { ⌜ Pooled (geometry .parameters) (now pool) (now waiting) ⌝ }
     requires { ⌜ (geometry .parameters .pages ≤ length (now planned)) × (lo < geometry .parameters .pages) ⌝ }
     requires { ⌜ (incoming ≤ length (now waiting)) × (homesUpTo lo (take incoming (now waiting)) ≡ true) ⌝ }
-    ensures { λ r. ⌜ BlockPlanned (geometry .parameters) (geometry .growth) (lent (now (separators .entry)) (now (numbers .entry)) (now (words .entry))) lo (take incoming (now (waiting .entry))) (now (pool .entry)) (now (pool .exit)) (now (planned .entry)) (now (planned .exit)) (now (waiting .exit)) r ⌝ }
+    ensures { λ r. ⌜ PlansBlock geometry (before separators numbers words) lo incoming pool waiting planned r ⌝ }
 {
-    let places = geometry.parameters.places as usize;
-    let bits = geometry.parameters.bits;
-    let last = reach::stretch_end(separators, (1 << bits) - 1, lo);
+    let parameters = geometry.parameters;
+    let places = parameters.places as usize;
+    let last = reach::stretch_end(separators, placement::top_of(parameters), lo);
     let stop = last + 1;
     let unsound = reach::survey_pages(table, geometry, separators, numbers, words, pool, lo, stop);
     if unsound < stop {
@@ -61,12 +57,11 @@ fn plan_block(
     }
     let left = planning::plan(
         table,
-        bits,
+        parameters,
         numbers,
         pool,
         waiting,
         planned,
-        places,
         lo,
         stop - lo,
         0,
@@ -75,7 +70,7 @@ fn plan_block(
     Block::Planned(last, left)
 }
 
-// Plans the reach of the entry of a number that the file does not hold. The pool gets the sources of the reach's places and `planned` its separators;
+// Plans the reach, from its home on, of the entry of a number that the file does not hold. The pool gets the sources of the reach's places and `planned` its separators;
 // the new star's source is the one past the items.
 pub fn plan_entry(
     table: &[u32; 2049],
@@ -87,20 +82,18 @@ pub fn plan_entry(
     waiting: &mut [u64],
     planned: &mut [u8],
     number: u32,
+    home: u32,
 ) -> Reach
-    requires { ⌜ now table ≡ multipliers ⌝ }
-    requires { ⌜ validParameters (geometry .parameters) ≡ true ⌝ }
-    requires { ⌜ validGrowth (geometry .parameters) (geometry .growth) ≡ true ⌝ }
-    requires { ⌜ Sized (geometry .parameters .places) (geometry .parameters .pages) (lent (now separators) (now numbers) (now words)) ⌝ }
-    requires { ⌜ (length (now pool) ≡ geometry .parameters .pages * geometry .parameters .places) × (length (now waiting) ≡ geometry .parameters .pages * geometry .parameters .places) ⌝ }
+    requires { ⌜ Ready geometry (now table) (held separators numbers words) ⌝ }
+    requires { ⌜ Pooled (geometry .parameters) (now pool) (now waiting) ⌝ }
     requires { ⌜ geometry .parameters .pages ≤ length (now planned) ⌝ }
     requires { ⌜ validNumber number ≡ true ⌝ }
-    requires { ⌜ Unheld (geometry .parameters) (geometry .growth) (lent (now separators) (now numbers) (now words)) number ⌝ }
-    ensures { λ r. ⌜ ((word : ℕ) → r ≡ reachAnswer (geometry .parameters) (geometry .growth) (lent (now (separators .entry)) (now (numbers .entry)) (now (words .entry))) number word) ⌝ }
-    ensures { λ r. ⌜ Applies (geometry .parameters) (geometry .growth) (lent (now (separators .entry)) (now (numbers .entry)) (now (words .entry))) number (now (pool .exit)) (now (planned .exit)) r ⌝ }
+    requires { ⌜ Unheld (geometry .parameters) (geometry .growth) (held separators numbers words) number ⌝ }
+    requires { ⌜ home ≡ homeUnder geometry number ⌝ }
+    ensures { λ r. ⌜ ((word : ℕ) → r ≡ reachAnswer (geometry .parameters) (geometry .growth) (before separators numbers words) number word) ⌝ }
+    ensures { λ r. ⌜ Applies (geometry .parameters) (geometry .growth) (before separators numbers words) number (now (pool .exit)) (now (planned .exit)) r ⌝ }
 {
     let pages = geometry.parameters.pages as usize;
-    let home = hashing::home(table, geometry, number);
     waiting[0] = waiting::pack(home, number, numbers.len() + 1);
     let mut lo = home as usize;
     let mut carried = 1;

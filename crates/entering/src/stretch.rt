@@ -1,13 +1,9 @@
 // An entry over its reach.
 ghost use mathlib.Core.Path.{_≡_};
 ghost use mathlib.Core.Bool.{true};
-ghost use Prim.Native.Nat.{_*_};
-ghost use lib.ListN.{length};
-ghost use Rattle.hashing.specs.Generator.{multipliers};
-ghost use Rattle.hashing.specs.Limits.{validParameters, validGrowth};
 ghost use Rattle.pages.specs.Position.{validNumber};
-ghost use Rattle.placement.specs.File.{Sized};
-ghost use Rattle.placement.specs.Hash.{lent};
+ghost use Rattle.placement.specs.Lent.{held, before, after};
+ghost use Rattle.placement.specs.Ready.{Ready, Pooled};
 ghost use Rattle.entering.specs.Entry.{Unheld, entryAnswer, entryFile};
 use crate::blocks::Reach;
 use crate::blocks::plan_entry;
@@ -32,18 +28,16 @@ pub fn enter_stretch(
     number: u32,
     word: u64,
 ) -> Entered
-    requires { ⌜ now table ≡ multipliers ⌝ }
-    requires { ⌜ validParameters (geometry .parameters) ≡ true ⌝ }
-    requires { ⌜ validGrowth (geometry .parameters) (geometry .growth) ≡ true ⌝ }
-    requires { ⌜ Sized (geometry .parameters .places) (geometry .parameters .pages) (lent (now separators) (now numbers) (now words)) ⌝ }
-    requires { ⌜ (length (now pool) ≡ geometry .parameters .pages * geometry .parameters .places) × (length (now waiting) ≡ geometry .parameters .pages * geometry .parameters .places) ⌝ }
+    requires { ⌜ Ready geometry (now table) (held separators numbers words) ⌝ }
+    requires { ⌜ Pooled (geometry .parameters) (now pool) (now waiting) ⌝ }
     requires { ⌜ validNumber number ≡ true ⌝ }
-    requires { ⌜ Unheld (geometry .parameters) (geometry .growth) (lent (now separators) (now numbers) (now words)) number ⌝ }
-    ensures { λ r. ⌜ r ≡ entryAnswer (geometry .parameters) (geometry .growth) (lent (now (separators .entry)) (now (numbers .entry)) (now (words .entry))) number word ⌝ }
-    ensures { λ _. ⌜ lent (now (separators .exit)) (now (numbers .exit)) (now (words .exit)) ≡ entryFile (geometry .parameters) (geometry .growth) (lent (now (separators .entry)) (now (numbers .entry)) (now (words .entry))) number word ⌝ }
+    requires { ⌜ Unheld (geometry .parameters) (geometry .growth) (held separators numbers words) number ⌝ }
+    ensures { λ r. ⌜ r ≡ entryAnswer (geometry .parameters) (geometry .growth) (before separators numbers words) number word ⌝ }
+    ensures { λ _. ⌜ after separators numbers words ≡ entryFile (geometry .parameters) (geometry .growth) (before separators numbers words) number word ⌝ }
 {
     let places = geometry.parameters.places as usize;
-    let from = hashing::home(table, geometry, number) as usize;
+    let home = hashing::home(table, geometry, number);
+    let from = home as usize;
     let mut planned = [0u8; 1024];
     match plan_entry(
         table,
@@ -55,6 +49,7 @@ pub fn enter_stretch(
         waiting,
         &mut planned,
         number,
+        home,
     ) {
         Reach::Unsound(page) => Entered::Unsound(page),
         Reach::Overflows => Entered::Overflows,
@@ -72,7 +67,8 @@ pub fn enter_stretch(
                 number,
                 word,
             );
-            Entered::On(placement::named_page(table, geometry, separators, number))
+            let page = placement::named_from(table, geometry, separators, number, home);
+            Entered::On(page)
         }
     }
 }

@@ -18,3 +18,4 @@ pub mod Change
 pub mod Probing
 pub mod Items
 pub mod Tested
+pub mod Prepared

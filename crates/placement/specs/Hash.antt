@@ -5,6 +5,7 @@ use Prim.Native.Nat.{ℕ, _+_, _-_}
 use lib.Dec.{eqb}
 use Rattle.hashing.specs.declared.Parameters.{Parameters}
 use Rattle.hashing.specs.declared.Growth.{Growth}
+use Rattle.hashing.specs.declared.Geometry.{Geometry}
 use Rattle.hashing.specs.Generator.{multiplierOf, signature, topOf}
 use Rattle.hashing.specs.Home.{home}
 use Rattle.pages.specs.Position.{validWord}
@@ -38,6 +39,10 @@ soundAt p g f page = sound validWord (hashOf p g) f page
 -- "The page the separators name", M if none is named.
 unfoldable pub namedPage : Parameters → Growth → List ℕ → ℕ → ℕ
 namedPage p g seps k = first (hashOf p g) 0 seps k
+
+-- A number's home under a geometry.
+abbrev pub homeUnder : Geometry → ℕ → ℕ
+homeUnder g k = home (multiplierOf (g .parameters)) (g .parameters) (g .growth) k
 
 -- The homes of a page's numbers, 0 for an empty place.
 abbrev pub homeIn : Parameters → Growth → ℕ → ℕ

@@ -2,17 +2,22 @@
 use mathlib.Core.Path.{_≡_}
 use mathlib.Core.Bool.{Bool, true, cond, _&&_}
 use mathlib.Core.List.{List}
-use Prim.Native.Nat.{ℕ}
+use Prim.Native.Nat.{ℕ, _*_}
 use lib.Dec.{leb, ltb, eqb}
-use lib.ListN.{getD}
+use lib.ListN.{getD, take}
+use lib.Seq.{paste}
 use Rattle.hashing.specs.declared.Parameters.{Parameters}
 use Rattle.hashing.specs.declared.Growth.{Growth}
+use Rattle.hashing.specs.declared.Geometry.{Geometry}
 use Rattle.hashing.specs.Generator.{topOf}
+use Rattle.pages.specs.declared.page.Page.{Page}
+use Rattle.pages.specs.Page.{part}
 use Rattle.pages.specs.Position.{validWord}
 use Rattle.placement.specs.Rule.{Star}
 use Rattle.placement.specs.File.{starsOf, greatest, orderly, every}
-use Rattle.placement.specs.Hash.{namedPage, homeIn}
+use Rattle.placement.specs.Hash.{namedPage, homeIn, homesOf}
 use Rattle.placement.specs.declared.soundness.Item.{Item}
+use Rattle.placement.specs.declared.soundness.Soundness.{Soundness}
 
 -- The items after the number `last` are in order, and each star stands on this page.
 unfoldable pub admits : Parameters → Growth → List ℕ → ℕ → ℕ → List ℕ → List ℕ → Bool
@@ -39,3 +44,15 @@ pub record Admitted (p : Parameters) (g : Growth) (seps : List ℕ) (page low n 
   pub sound : r .sound ≡ admitsItem p g seps page low n w
   pub home : r .sound ≡ true → r .home ≡ homeIn p g n
   pub last : r .sound ≡ true → r .last ≡ lastAfter n
+
+-- What is told of a page, by the value of its places.
+pub record Tested (g : Geometry) (seps : List ℕ) (page : ℕ) (value : Page) (r : Soundness) : Type 0 where
+  pub sound : r .sound ≡ soundIn (g .parameters) (g .growth) seps page (take (g .parameters .places) (value .numbers)) (take (g .parameters .places) (value .words))
+  pub homes :
+      r .sound ≡ true
+      → take (g .parameters .places) (r .homes) ≡ homesOf (g .parameters) (g .growth) (take (g .parameters .places) (value .numbers))
+
+-- The list hs with the homes of a page's numbers at its items.
+abbrev pub surveyed : Geometry → ℕ → List ℕ → List ℕ → List ℕ
+surveyed g page ns hs =
+    paste hs (page * g .parameters .places) (homesOf (g .parameters) (g .growth) (part (g .parameters .places) page ns)) (g .parameters .places)

@@ -1,14 +1,11 @@
 // The page that the separators name for a number.
 ghost use mathlib.Core.Path.{_≡_};
-ghost use mathlib.Core.Bool.{true};
 ghost use Prim.Native.Nat.{_≤_, _<_};
 ghost use lib.Dec.{eqb};
 ghost use lib.ListN.{length, take};
-ghost use Rattle.hashing.specs.Generator.{multiplierOf, multipliers};
-ghost use Rattle.hashing.specs.Home.{home as Home·home};
-ghost use Rattle.hashing.specs.Limits.{validParameters, validGrowth};
 ghost use Rattle.placement.specs.Rule.{first};
-ghost use Rattle.placement.specs.Hash.{hashFrom, namedPage};
+ghost use Rattle.placement.specs.Hash.{hashFrom, namedPage, homeUnder};
+ghost use Rattle.placement.specs.Ready.{Signing, Homing};
 use hashing::Geometry;
 use hashing::Parameters;
 
@@ -19,19 +16,33 @@ pub struct Standing {
 }
 
 pub fn named_page(table: &[u32; 2049], geometry: Geometry, separators: &[u8], number: u32) -> usize
-    requires { ⌜ now table ≡ multipliers ⌝ }
-    requires { ⌜ validParameters (geometry .parameters) ≡ true ⌝ }
-    requires { ⌜ validGrowth (geometry .parameters) (geometry .growth) ≡ true ⌝ }
+    requires { ⌜ Homing geometry (now table) ⌝ }
     requires { ⌜ length (now separators) ≡ geometry .parameters .pages ⌝ }
     ensures { λ r. ⌜ r ≡ namedPage (geometry .parameters) (geometry .growth) (now (separators .entry)) number ⌝ }
 {
-    let home = hashing::home(table, geometry, number) as usize;
+    let home = hashing::home(table, geometry, number);
+    named_from(table, geometry, separators, number, home)
+}
+
+// The same, for a number whose home is known.
+pub fn named_from(
+    table: &[u32; 2049],
+    geometry: Geometry,
+    separators: &[u8],
+    number: u32,
+    home: u32,
+) -> usize
+    requires { ⌜ Homing geometry (now table) ⌝ }
+    requires { ⌜ length (now separators) ≡ geometry .parameters .pages ⌝ }
+    requires { ⌜ home ≡ homeUnder geometry number ⌝ }
+    ensures { λ r. ⌜ r ≡ namedPage (geometry .parameters) (geometry .growth) (now (separators .entry)) number ⌝ }
+{
     probe(
         table,
         geometry.parameters,
         separators,
         number,
-        home,
+        home as usize,
         separators.len(),
     )
 }
@@ -45,8 +56,7 @@ fn probe(
     home: usize,
     stop: usize,
 ) -> usize
-    requires { ⌜ now table ≡ multipliers ⌝ }
-    requires { ⌜ validParameters parameters ≡ true ⌝ }
+    requires { ⌜ Signing parameters (now table) ⌝ }
     requires { ⌜ (home ≤ stop) × (stop ≤ 1024) ⌝ }
     requires { ⌜ stop ≤ length (now separators) ⌝ }
     ensures { λ r. ⌜ r ≡ first (hashFrom parameters home) 0 (take stop (now (separators .entry))) number ⌝ }
@@ -71,13 +81,11 @@ pub fn stands_on(
     number: u32,
     page: usize,
 ) -> Standing
-    requires { ⌜ now table ≡ multipliers ⌝ }
-    requires { ⌜ validParameters (geometry .parameters) ≡ true ⌝ }
-    requires { ⌜ validGrowth (geometry .parameters) (geometry .growth) ≡ true ⌝ }
+    requires { ⌜ Homing geometry (now table) ⌝ }
     requires { ⌜ length (now separators) ≡ geometry .parameters .pages ⌝ }
     requires { ⌜ page < geometry .parameters .pages ⌝ }
     ensures { λ r. ⌜ r .here ≡ eqb (namedPage (geometry .parameters) (geometry .growth) (now (separators .entry)) number) page ⌝ }
-    ensures { λ r. ⌜ r .home ≡ Home·home (multiplierOf (geometry .parameters)) (geometry .parameters) (geometry .growth) number ⌝ }
+    ensures { λ r. ⌜ r .home ≡ homeUnder geometry number ⌝ }
 {
     let home = hashing::home(table, geometry, number);
     let lowest = home as usize;

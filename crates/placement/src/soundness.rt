@@ -3,17 +3,19 @@ ghost use mathlib.Core.Path.{_≡_};
 ghost use mathlib.Core.Bool.{true, _&&_};
 ghost use Prim.Native.Nat.{_+_, _*_, _≤_, _<_};
 ghost use lib.Dec.{leb, ltb};
-ghost use lib.ListN.{length, getD, take};
+ghost use lib.ListN.{length};
 ghost use lib.Seq.{paste};
-ghost use Rattle.hashing.specs.Generator.{multipliers, topOf};
-ghost use Rattle.hashing.specs.Limits.{validParameters, validGrowth};
+ghost use Rattle.hashing.specs.Generator.{topOf};
+ghost use Rattle.hashing.specs.Limits.{validParameters};
 ghost use Rattle.pages.specs.Position.{validWord};
-ghost use Rattle.pages.specs.Page.{part};
 ghost use Rattle.placement.specs.File.{greatest};
-ghost use Rattle.placement.specs.Hash.{soundAt, homesOf, lent};
-ghost use Rattle.placement.specs.Survey.{soundIn, Admitted};
+ghost use Rattle.placement.specs.Hash.{soundAt};
+ghost use Rattle.placement.specs.Lent.{held, before};
+ghost use Rattle.placement.specs.Ready.{Homing, Ready};
+ghost use Rattle.placement.specs.Survey.{Admitted, Tested, surveyed};
 use crate::naming::stands_on;
 use hashing::Geometry;
+use hashing::Parameters;
 use pages::page::Page;
 
 const LAST_NUMBER: u32 = 2147483646;
@@ -39,17 +41,14 @@ pub fn page_sound(
     value: Page,
     page: usize,
 ) -> Soundness
-    requires { ⌜ now table ≡ multipliers ⌝ }
-    requires { ⌜ validParameters (geometry .parameters) ≡ true ⌝ }
-    requires { ⌜ validGrowth (geometry .parameters) (geometry .growth) ≡ true ⌝ }
+    requires { ⌜ Homing geometry (now table) ⌝ }
     requires { ⌜ length (now separators) ≡ geometry .parameters .pages ⌝ }
     requires { ⌜ page < geometry .parameters .pages ⌝ }
-    ensures { λ r. ⌜ r .sound ≡ soundIn (geometry .parameters) (geometry .growth) (now (separators .entry)) page (take (geometry .parameters .places) (value .numbers)) (take (geometry .parameters .places) (value .words)) ⌝ }
-    ensures { λ r. ⌜ (r .sound ≡ true → take (geometry .parameters .places) (r .homes) ≡ homesOf (geometry .parameters) (geometry .growth) (take (geometry .parameters .places) (value .numbers))) ⌝ }
+    ensures { λ r. ⌜ Tested geometry (now (separators .entry)) page value r ⌝ }
 {
     let places = geometry.parameters.places as usize;
     let mut homes = [0u32; 32];
-    if !in_range(separators[page], geometry.parameters.bits) {
+    if top_of(geometry.parameters) < separators[page] {
         return Soundness {
             sound: false,
             homes,
@@ -80,12 +79,12 @@ pub fn page_sound(
     Soundness { sound: true, homes }
 }
 
-// A separator is at most 2^k − 1.
-fn in_range(separator: u8, bits: u32) -> bool
-    requires { ⌜ (1 ≤ bits) × (bits ≤ 8) ⌝ }
-    ensures { λ r. ⌜ r ≡ leb separator (topOf bits) ⌝ }
+// 2^k − 1, the greatest separator.
+pub fn top_of(parameters: Parameters) -> u8
+    requires { ⌜ validParameters parameters ≡ true ⌝ }
+    ensures { λ r. ⌜ r ≡ topOf (parameters .bits) ⌝ }
 {
-    separator as u32 <= (1 << bits) - 1
+    ((1u32 << parameters.bits) - 1) as u8
 }
 
 fn admitted(
@@ -97,9 +96,7 @@ fn admitted(
     number: u32,
     word: u64,
 ) -> Item
-    requires { ⌜ now table ≡ multipliers ⌝ }
-    requires { ⌜ validParameters (geometry .parameters) ≡ true ⌝ }
-    requires { ⌜ validGrowth (geometry .parameters) (geometry .growth) ≡ true ⌝ }
+    requires { ⌜ Homing geometry (now table) ⌝ }
     requires { ⌜ length (now separators) ≡ geometry .parameters .pages ⌝ }
     requires { ⌜ page < geometry .parameters .pages ⌝ }
     ensures { λ r. ⌜ Admitted (geometry .parameters) (geometry .growth) (now (separators .entry)) page last number word r ⌝ }
@@ -148,16 +145,11 @@ pub fn survey(
     homes: &mut [u32],
     page: usize,
 ) -> bool
-    requires { ⌜ now table ≡ multipliers ⌝ }
-    requires { ⌜ validParameters (geometry .parameters) ≡ true ⌝ }
-    requires { ⌜ validGrowth (geometry .parameters) (geometry .growth) ≡ true ⌝ }
-    requires { ⌜ length (now separators) ≡ geometry .parameters .pages ⌝ }
+    requires { ⌜ Ready geometry (now table) (held separators numbers words) ⌝ }
+    requires { ⌜ length (now homes) ≡ geometry .parameters .pages * geometry .parameters .places ⌝ }
     requires { ⌜ page < geometry .parameters .pages ⌝ }
-    requires { ⌜ page * geometry .parameters .places + geometry .parameters .places ≤ length (now numbers) ⌝ }
-    requires { ⌜ page * geometry .parameters .places + geometry .parameters .places ≤ length (now words) ⌝ }
-    requires { ⌜ page * geometry .parameters .places + geometry .parameters .places ≤ length (now homes) ⌝ }
-    ensures { λ r. ⌜ r ≡ soundAt (geometry .parameters) (geometry .growth) (lent (now (separators .entry)) (now (numbers .entry)) (now (words .entry))) page ⌝ }
-    ensures { λ r. ⌜ (r ≡ true → now (homes .exit) ≡ paste (now (homes .entry)) (page * geometry .parameters .places) (homesOf (geometry .parameters) (geometry .growth) (part (geometry .parameters .places) page (now (numbers .entry)))) (geometry .parameters .places)) ⌝ }
+    ensures { λ r. ⌜ r ≡ soundAt (geometry .parameters) (geometry .growth) (before separators numbers words) page ⌝ }
+    ensures { λ r. ⌜ (r ≡ true → now (homes .exit) ≡ surveyed geometry page (now (numbers .entry)) (now (homes .entry))) ⌝ }
 {
     let places = geometry.parameters.places as usize;
     let value = pages::page::load(numbers, words, places, page);

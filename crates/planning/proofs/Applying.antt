@@ -7,6 +7,7 @@ use native.Mathlib.Omega.{arith}
 use lib.Dec.{leb, eqb}
 use lib.ListN.{length, take, drop, replicate, length-map}
 use borrow.Author.Tests.{eqb-true}
+use Rattle.hashing.specs.declared.Parameters.{Parameters}
 use Rattle.placement.specs.Rule.{Star, Contents, separators}
 use Rattle.placement.specs.File.{File, every, padded, column, written, replaced}
 use Rattle.placement.proofs.Mapping.{Keeps, mapped}
@@ -18,7 +19,7 @@ use Rattle.waiting.proofs.Lists.{all-head, all-tail, all-append, all-filter, al
 use Rattle.planning.specs.Sources.{named, renamed, sourced}
 use Rattle.planning.specs.Plans.{starOf, waits, settled, carriedOn, plans}
 use Rattle.planning.proofs.Pouring.{pour-cons}
-use Rattle.planning.proofs.Ties.{number-low}
+use Rattle.planning.proofs.RuleOverWords.{number-low}
 
 -- every star of these pages has the number that its source names
 abbrev pub Sourced : List ℕ → ℕ → List Contents → Type 0
@@ -165,16 +166,16 @@ pub sourced-append : (ns : List ℕ) (new : ℕ) (a b : List ℕ) → sourced ns
 unfolding sourced
 sourced-append ns new a b = all-append (λ w. eqb (named ns new (sourceOf w)) (numberOf w)) a b
 
-pub plans-sourced : (ns : List ℕ) (new bits room lo v n : ℕ) (w l : List ℕ) → sourced ns new w ≡ true → sourced ns new l ≡ true
-    → Sourced ns new (plans bits room lo v n w l)
+pub plans-sourced : (ns : List ℕ) (new : ℕ) (q : Parameters) (lo v n : ℕ) (w l : List ℕ) → sourced ns new w ≡ true → sourced ns new l ≡ true
+    → Sourced ns new (plans q lo v n w l)
 unfolding plans settled staying carriedOn passing
-plans-sourced ns new bits room lo v zero w l hw hl = tt
-plans-sourced ns new bits room lo v (suc n) w l hw hl =
+plans-sourced ns new q lo v zero w l hw hl = tt
+plans-sourced ns new q lo v (suc n) w l hw hl =
     let p : ℕ = lo + v in
     let here : List ℕ = w ++ group lo v l in
     let hh : sourced ns new here ≡ true = sourced-append ns new w (group lo v l) hw (sourced-filter ns new (λ x. eqb (groupOf lo x) v) l hl) in
-    let s : ℕ = separatorOf bits room p here in (
-      sourced-waits ns new (staying bits p s here) (sourced-filter ns new (under bits p s) here hh),
-      plans-sourced ns new bits room lo (suc v) n (carriedOn bits room p here) l
-          (sourced-filter ns new (λ x. not (under bits p s x)) here hh) hl,
+    let s : ℕ = separatorOf q p here in (
+      sourced-waits ns new (staying q p s here) (sourced-filter ns new (under q p s) here hh),
+      plans-sourced ns new q lo (suc v) n (carriedOn q p here) l
+          (sourced-filter ns new (λ x. not (under q p s x)) here hh) hl,
     )

@@ -7,37 +7,38 @@ use native.Mathlib.Nat.{add-suc, suc-add, add-zero, zero-add}
 use native.Mathlib.Omega.{arith}
 use lib.Dec.{leb, ltb, eqb}
 use borrow.Author.Tests.{leb-true, ltb-true, ne-eqb, eq-eqb, eqb-true, eqb-false}
+use Rattle.hashing.specs.declared.Parameters.{Parameters}
 use Rattle.placement.specs.Rule.{Contents}
 use Rattle.waiting.specs.Lists.{all}
 use Rattle.waiting.specs.Words.{homeOf}
 use Rattle.waiting.specs.Gather.{group, groupOf, groupsBelow}
 use Rattle.waiting.proofs.Lists.{filter-append}
 use Rattle.planning.specs.Plans.{carriedOn, plans, remains}
-use Rattle.planning.proofs.Ties.{filter-agree, filter-none}
+use Rattle.planning.proofs.RuleOverWords.{filter-agree, filter-none}
 
 -- every word is homed at page p or higher
 unfoldable pub from : ℕ → List ℕ → Bool
 from p l = all (λ w. leb p (homeOf w)) l
 
 -- the plan goes by the groups alone
-module _ (bits room : ℕ) where
+module _ (q : Parameters) where
   groups-alone : (lo v lo′ v′ n : ℕ) (w l l′ : List ℕ) → lo + v ≡ lo′ + v′ → ((i : ℕ) → i < n → group lo (v + i) l ≡ group lo′ (v′ + i) l′)
-      → (plans bits room lo v n w l ≡ plans bits room lo′ v′ n w l′) × (remains bits room lo v n w l ≡ remains bits room lo′ v′ n w l′)
+      → (plans q lo v n w l ≡ plans q lo′ v′ n w l′) × (remains q lo v n w l ≡ remains q lo′ v′ n w l′)
   unfolding plans remains
   groups-alone lo v lo′ v′ zero w l l′ e g = (refl, refl)
   groups-alone lo v lo′ v′ (suc n) w l l′ e g =
       let first : group lo v l ≡ group lo′ v′ l′ = rw (add-zero v, add-zero v′) at (g 0 (omega arith)) in
-      let ih = groups-alone lo (suc v) lo′ (suc v′) n (carriedOn bits room (lo + v) (w ++ group lo v l)) l l′ (rw (add-suc lo v, add-suc lo′ v′) (ap suc e))
+      let ih = groups-alone lo (suc v) lo′ (suc v′) n (carriedOn q (lo + v) (w ++ group lo v l)) l l′ (rw (add-suc lo v, add-suc lo′ v′) (ap suc e))
       (λ i h. rw (suc-add v i, suc-add v′ i, ← add-suc v i, ← add-suc v′ i) (g (suc i) (omega arith))) in
       rw (ih .0, ih .1, first, e) (refl, refl)
 
   plans-add : (lo v n m : ℕ) (w l : List ℕ)
-      → (plans bits room lo v (n + m) w l ≡ plans bits room lo v n w l ++ plans bits room lo (v + n) m (remains bits room lo v n w l) l)
-      × (remains bits room lo v (n + m) w l ≡ remains bits room lo (v + n) m (remains bits room lo v n w l) l)
+      → (plans q lo v (n + m) w l ≡ plans q lo v n w l ++ plans q lo (v + n) m (remains q lo v n w l) l)
+      × (remains q lo v (n + m) w l ≡ remains q lo (v + n) m (remains q lo v n w l) l)
   unfolding plans remains
   plans-add lo v zero m w l = rw (zero-add m, add-zero v) (refl, refl)
   plans-add lo v (suc n) m w l =
-      let ih = plans-add lo (suc v) n m (carriedOn bits room (lo + v) (w ++ group lo v l)) l in
+      let ih = plans-add lo (suc v) n m (carriedOn q (lo + v) (w ++ group lo v l)) l in
       rw (suc-add n m, add-suc v n, ← suc-add v n) (rw (ih .0, ih .1) (refl, refl))
 
 -- the earlier groups of two parts are the first part's
@@ -72,16 +73,16 @@ group-second lo n v a b ea eb =
     (λ p. unfold groupOf in omega (arith, leb-true (lo + n) (homeOf w) t))
     (λ p. unfold groupOf in omega (arith, leb-true (lo + n) (homeOf w) t)))
 
-pub plans-blocks : (bits room lo n m : ℕ) (w a b : List ℕ) → groupsBelow lo n a ≡ true → from (lo + n) b ≡ true
-    → (plans bits room lo 0 (n + m) w (a ++ b) ≡ plans bits room lo 0 n w a ++ plans bits room (lo + n) 0 m (remains bits room lo 0 n w a) b)
-    × (remains bits room lo 0 (n + m) w (a ++ b) ≡ remains bits room (lo + n) 0 m (remains bits room lo 0 n w a) b)
-plans-blocks bits room lo n m w a b ea eb =
-    let both = plans-add bits room lo 0 n m w (a ++ b) in
-    let first = groups-alone bits room lo 0 lo 0 n w (a ++ b) a refl (λ i h. group-first lo n (0 + i) a b (omega arith) eb) in
-    let second = groups-alone bits room lo (0 + n) (lo + n) 0 m (remains bits room lo 0 n w a) (a ++ b) b (omega arith)
+pub plans-blocks : (q : Parameters) (lo n m : ℕ) (w a b : List ℕ) → groupsBelow lo n a ≡ true → from (lo + n) b ≡ true
+    → (plans q lo 0 (n + m) w (a ++ b) ≡ plans q lo 0 n w a ++ plans q (lo + n) 0 m (remains q lo 0 n w a) b)
+    × (remains q lo 0 (n + m) w (a ++ b) ≡ remains q (lo + n) 0 m (remains q lo 0 n w a) b)
+plans-blocks q lo n m w a b ea eb =
+    let both = plans-add q lo 0 n m w (a ++ b) in
+    let first = groups-alone q lo 0 lo 0 n w (a ++ b) a refl (λ i h. group-first lo n (0 + i) a b (omega arith) eb) in
+    let second = groups-alone q lo (0 + n) (lo + n) 0 m (remains q lo 0 n w a) (a ++ b) b (omega arith)
     (λ i h. rw (zero-add n, zero-add i) (group-second lo n i a b ea eb)) in (
-      both .0 ∙ ap (λ (cs : List Contents). cs ++ plans bits room lo (0 + n) m (remains bits room lo 0 n w (a ++ b)) (a ++ b)) (first .0)
-          ∙ ap (λ (r : List ℕ). plans bits room lo 0 n w a ++ plans bits room lo (0 + n) m r (a ++ b)) (first .1)
-          ∙ ap (λ (cs : List Contents). plans bits room lo 0 n w a ++ cs) (second .0),
-      both .1 ∙ ap (λ (r : List ℕ). remains bits room lo (0 + n) m r (a ++ b)) (first .1) ∙ second .1,
+      both .0 ∙ ap (λ (cs : List Contents). cs ++ plans q lo (0 + n) m (remains q lo 0 n w (a ++ b)) (a ++ b)) (first .0)
+          ∙ ap (λ (r : List ℕ). plans q lo 0 n w a ++ plans q lo (0 + n) m r (a ++ b)) (first .1)
+          ∙ ap (λ (cs : List Contents). plans q lo 0 n w a ++ cs) (second .0),
+      both .1 ∙ ap (λ (r : List ℕ). remains q lo (0 + n) m r (a ++ b)) (first .1) ∙ second .1,
     )

@@ -1,6 +1,6 @@
 pub mod Copies
 pub mod Pouring
-pub mod Ties
+pub mod RuleOverWords
 pub mod Applying
 pub mod Sourcing
 pub mod Blocks

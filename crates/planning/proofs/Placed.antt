@@ -20,21 +20,21 @@ use Rattle.placement.proofs.Standing.{length-separators}
 use Rattle.placement.proofs.Writing.{length-column, column-append, separators-append}
 use Rattle.waiting.specs.Lists.{all, allBelow}
 use Rattle.waiting.specs.Words.{pack}
-use Rattle.waiting.specs.Gather.{stretch, wordsFrom, group, grouped, groupsBelow}
+use Rattle.waiting.specs.Gather.{stretch, wordsFrom, group, grouped, groupsBelow, stretchWords}
 use Rattle.waiting.specs.Settle.{homesUpTo}
 use Rattle.waiting.proofs.Packing.{home-pack, number-pack, source-pack}
 use Rattle.planning.specs.Sources.{named, renamed, sourced}
-use Rattle.planning.specs.Plans.{stretchWords, waits, homed, carriedOn, plans, remains, Planned}
+use Rattle.planning.specs.Plans.{waits, homed, carriedOn, plans, remains, Planned}
 use Rattle.planning.proofs.Copies.{paste-written, map-take}
 use Rattle.planning.proofs.Pouring.{waits-grouped, length-waits}
-use Rattle.planning.proofs.Ties.{Probes, plans-are, homed-onward, homed-probing}
+use Rattle.planning.proofs.RuleOverWords.{Probes, plans-are, homed-onward, homed-probing}
 use Rattle.planning.proofs.Applying.{renamed-keeps, plans-sourced, applied, applied-is}
 use Rattle.planning.proofs.Sourcing.{itemHome, words-append, words-homed, words-grouped, words-sourced, words-fresh, fresh, named-stretch, named-last, length-stretch, true-stars, new-star}
 use Rattle.planning.proofs.Stretch.{plans-roomy, length-plans}
 use Rattle.planning.proofs.Blocks.{from, plans-blocks}
 
 -- document 01's hash probes as the words do
-pub probes-real : (p : Parameters) (g : Growth) → Probes (hashOf p g) (p .bits) (p .places)
+pub probes-real : (p : Parameters) (g : Growth) → Probes (hashOf p g) p
 unfolding hashOf
 probes-real p g = record { signatures = λ k page. refl; top = refl; room-is = refl }
 
@@ -43,11 +43,11 @@ unfolding hashOf homesOf itemHome
 homes-real p g ns = refl
 
 -- the planned pages are the rule's over the waiting list of all words
-pub planned-pages : (H : Hash) (bits room : ℕ) → Probes H bits room → (lo n : ℕ) (w l : List ℕ)
+pub planned-pages : (H : Hash) (q : Parameters) → Probes H q → (lo n : ℕ) (w l : List ℕ)
     → homed H w ≡ true → homesUpTo lo w ≡ true → homed H l ≡ true → groupsBelow lo n l ≡ true
-    → (plans bits room lo 0 n w l ≡ pages H lo n (waits (w ++ l))) × (waits (remains bits room lo 0 n w l) ≡ left H lo n (waits (w ++ l)))
-planned-pages H bits room real lo n w l hw nw hl gl =
-    let t = rw (add-zero lo) at (plans-are H bits room real lo 0 n w l hw (rw (add-zero lo) nw) hl) in
+    → (plans q lo 0 n w l ≡ pages H lo n (waits (w ++ l))) × (waits (remains q lo 0 n w l) ≡ left H lo n (waits (w ++ l)))
+planned-pages H q real lo n w l hw nw hl gl =
+    let t = rw (add-zero lo) at (plans-are H q real lo 0 n w l hw (rw (add-zero lo) nw) hl) in
     let same : waits (w ++ grouped lo 0 n l) ≡ waits (w ++ l) = waits-grouped lo n w l gl in
     (sym (t .0) ∙ ap (pages H lo n) same, sym (t .1) ∙ ap (left H lo n) same)
 
@@ -67,7 +67,7 @@ new-sourced ns h k hk hs =
     rw (number-pack h k (length ns + 1) hk hs, source-pack h k (length ns + 1) hs, last, eq-eqb k k refl)
 
 -- what a stretch of n pages from lo must satisfy: its items' homes are hs
-pub record Ready (H : Hash) (places lo n : ℕ) (f : File) (hs : List ℕ) : Type 0 where
+pub record Gatherable (H : Hash) (places lo n : ℕ) (f : File) (hs : List ℕ) : Type 0 where
   pub some : 0 < n
   pub few : (lo + n) * places < 2 ^ 16
   pub numbers : (lo + n) * places ≤ length (f .numbers)
@@ -77,57 +77,57 @@ pub record Ready (H : Hash) (places lo n : ℕ) (f : File) (hs : List ℕ) : Typ
   pub within : allBelow (lo + n) (stretch places lo n hs) ≡ true
   pub true-homes : stretch places lo n hs ≡ map (itemHome H) (stretch places lo n (f .numbers))
 
-module _ (H : Hash) (bits places : ℕ) (real : Probes H bits places) (lo n : ℕ) (f : File) (hs : List ℕ) (R : Ready H places lo n f hs) (k newword : ℕ) where
-  few-items : lo * places + length (stretch places lo n (f .numbers)) < 2 ^ 16
-  few-items = omega (arith, length-stretch places lo n (f .numbers) (R .numbers), add-mul lo n places, R .few)
+module _ (H : Hash) (q : Parameters) (real : Probes H q) (lo n : ℕ) (f : File) (hs : List ℕ) (R : Gatherable H (q .places) lo n f hs) (k newword : ℕ) where
+  few-items : lo * q .places + length (stretch (q .places) lo n (f .numbers)) < 2 ^ 16
+  few-items = omega (arith, length-stretch (q .places) lo n (f .numbers) (R .numbers), add-mul lo n (q .places), R .few)
 
-  pub stretch-homed : homed H (stretchWords places lo n k (f .numbers) hs) ≡ true
-  stretch-homed = words-homed (lo * places) k (stretch places lo n (f .numbers)) (stretch places lo n hs) (R .valid) few-items H (R .true-homes)
+  pub stretch-homed : homed H (stretchWords (q .places) lo n k (f .numbers) hs) ≡ true
+  stretch-homed = words-homed (lo * q .places) k (stretch (q .places) lo n (f .numbers)) (stretch (q .places) lo n hs) (R .valid) few-items H (R .true-homes)
 
-  pub stretch-grouped : groupsBelow lo n (stretchWords places lo n k (f .numbers) hs) ≡ true
-  stretch-grouped = words-grouped (lo * places) k (stretch places lo n (f .numbers)) (stretch places lo n hs) (R .valid) few-items lo n (R .some) (R .within)
+  pub stretch-grouped : groupsBelow lo n (stretchWords (q .places) lo n k (f .numbers) hs) ≡ true
+  stretch-grouped = words-grouped (lo * q .places) k (stretch (q .places) lo n (f .numbers)) (stretch (q .places) lo n hs) (R .valid) few-items lo n (R .some) (R .within)
 
-  pub stretch-sourced : (newnumber : ℕ) → sourced (f .numbers) newnumber (stretchWords places lo n k (f .numbers) hs) ≡ true
+  pub stretch-sourced : (newnumber : ℕ) → sourced (f .numbers) newnumber (stretchWords (q .places) lo n k (f .numbers) hs) ≡ true
   stretch-sourced newnumber =
-      words-sourced (lo * places) k (stretch places lo n (f .numbers)) (stretch places lo n hs) (R .valid) few-items (f .numbers) newnumber
-      (named-stretch places lo n newnumber (f .numbers) (R .numbers))
+      words-sourced (lo * q .places) k (stretch (q .places) lo n (f .numbers)) (stretch (q .places) lo n hs) (R .valid) few-items (f .numbers) newnumber
+      (named-stretch (q .places) lo n newnumber (f .numbers) (R .numbers))
 
-  stretch-fresh : fresh k (stretchWords places lo n k (f .numbers) hs) ≡ true
-  stretch-fresh = words-fresh (lo * places) k (stretch places lo n (f .numbers)) (stretch places lo n hs) (R .valid) few-items
+  stretch-fresh : fresh k (stretchWords (q .places) lo n k (f .numbers) hs) ≡ true
+  stretch-fresh = words-fresh (lo * q .places) k (stretch (q .places) lo n (f .numbers)) (stretch (q .places) lo n hs) (R .valid) few-items
 
-  stretch-stars : map (renamed (f .words) newword) (waits (stretchWords places lo n k (f .numbers) hs)) ≡ without k (gathered places f lo n)
-  stretch-stars = true-stars places lo n k newword f hs (R .valid) (R .few) (R .numbers) (R .words) (R .homes)
+  stretch-stars : map (renamed (f .words) newword) (waits (stretchWords (q .places) lo n k (f .numbers) hs)) ≡ without k (gathered (q .places) f lo n)
+  stretch-stars = true-stars (q .places) lo n k newword f hs (R .valid) (R .few) (R .numbers) (R .words) (R .homes)
 
   -- any words w carried in: the rule over the stars that these and the stretch's words name
   placed-with : (w : List ℕ) (t : List Star) → homed H w ≡ true → homesUpTo lo w ≡ true
-      → map (renamed (f .words) newword) (waits (w ++ stretchWords places lo n k (f .numbers) hs)) ≡ t
-      → (map (mapped (renamed (f .words) newword)) (plans bits places lo 0 n w (stretchWords places lo n k (f .numbers) hs)) ≡ pages H lo n t)
-      × (map (renamed (f .words) newword) (waits (remains bits places lo 0 n w (stretchWords places lo n k (f .numbers) hs))) ≡ left H lo n t)
+      → map (renamed (f .words) newword) (waits (w ++ stretchWords (q .places) lo n k (f .numbers) hs)) ≡ t
+      → (map (mapped (renamed (f .words) newword)) (plans q lo 0 n w (stretchWords (q .places) lo n k (f .numbers) hs)) ≡ pages H lo n t)
+      × (map (renamed (f .words) newword) (waits (remains q lo 0 n w (stretchWords (q .places) lo n k (f .numbers) hs))) ≡ left H lo n t)
   placed-with w t hw nw e =
       let g : Star → Star = renamed (f .words) newword in
-      let l : List ℕ = stretchWords places lo n k (f .numbers) hs in
-      let both = planned-pages H bits places real lo n w l hw nw stretch-homed stretch-grouped in (
+      let l : List ℕ = stretchWords (q .places) lo n k (f .numbers) hs in
+      let both = planned-pages H q real lo n w l hw nw stretch-homed stretch-grouped in (
         ap (map (mapped g)) (both .0) ∙ sym (pages-map g (renamed-keeps (f .words) newword) H lo n (waits (w ++ l))) ∙ ap (pages H lo n) e,
         ap (map g) (both .1) ∙ sym (left-map g (renamed-keeps (f .words) newword) H lo n (waits (w ++ l))) ∙ ap (left H lo n) e,
       )
 
   -- the stretch by itself: the rule over its stars but the star k
-  pub placed : (map (mapped (renamed (f .words) newword)) (plans bits places lo 0 n [] (stretchWords places lo n k (f .numbers) hs)) ≡ pages H lo n (without k (gathered places f lo n)))
-      × (map (renamed (f .words) newword) (waits (remains bits places lo 0 n [] (stretchWords places lo n k (f .numbers) hs))) ≡ left H lo n (without k (gathered places f lo n)))
-  placed = placed-with [] (without k (gathered places f lo n)) (unfold homed all in refl) (unfold all in refl) stretch-stars
+  pub placed : (map (mapped (renamed (f .words) newword)) (plans q lo 0 n [] (stretchWords (q .places) lo n k (f .numbers) hs)) ≡ pages H lo n (without k (gathered (q .places) f lo n)))
+      × (map (renamed (f .words) newword) (waits (remains q lo 0 n [] (stretchWords (q .places) lo n k (f .numbers) hs))) ≡ left H lo n (without k (gathered (q .places) f lo n)))
+  placed = placed-with [] (without k (gathered (q .places) f lo n)) (unfold homed all in refl) (unfold all in refl) stretch-stars
 
   -- .. and with the new star k, whose source is past the items
   pub placed-new : (h : ℕ) → h ≡ H .home k → h ≤ lo → k < 2 ^ 31 → length (f .words) + 1 < 2 ^ 16
-      → (map (mapped (renamed (f .words) newword)) (plans bits places lo 0 n (pack h k (length (f .words) + 1) ∷ []) (stretchWords places lo n k (f .numbers) hs))
-      ≡ pages H lo n (insert (record { number = k; word = newword }) (without k (gathered places f lo n))))
-      × (map (renamed (f .words) newword) (waits (remains bits places lo 0 n (pack h k (length (f .words) + 1) ∷ []) (stretchWords places lo n k (f .numbers) hs)))
-      ≡ left H lo n (insert (record { number = k; word = newword }) (without k (gathered places f lo n))))
+      → (map (mapped (renamed (f .words) newword)) (plans q lo 0 n (pack h k (length (f .words) + 1) ∷ []) (stretchWords (q .places) lo n k (f .numbers) hs))
+      ≡ pages H lo n (insert (record { number = k; word = newword }) (without k (gathered (q .places) f lo n))))
+      × (map (renamed (f .words) newword) (waits (remains q lo 0 n (pack h k (length (f .words) + 1) ∷ []) (stretchWords (q .places) lo n k (f .numbers) hs)))
+      ≡ left H lo n (insert (record { number = k; word = newword }) (without k (gathered (q .places) f lo n))))
   placed-new h eh near hk few =
       let s : ℕ = length (f .words) + 1 in
       let x : ℕ = pack h k s in
-      let l : List ℕ = stretchWords places lo n k (f .numbers) hs in
+      let l : List ℕ = stretchWords (q .places) lo n k (f .numbers) hs in
       let last : named (f .words) newword s ≡ newword = ap (named (f .words) newword) (add-one (length (f .words))) ∙ named-last (f .words) newword in
-      placed-with (x ∷ []) (insert (record { number = k; word = newword }) (without k (gathered places f lo n)))
+      placed-with (x ∷ []) (insert (record { number = k; word = newword }) (without k (gathered (q .places) f lo n)))
       (new-homed H h k s eh hk few) (new-near lo h k s near hk few)
       (new-star (f .words) newword h k s l hk few stretch-fresh ∙ ap (λ (y : ℕ). insert (record { number = k; word = y }) (map (renamed (f .words) newword) (waits l))) last
       ∙ ap (insert (record { number = k; word = newword })) stretch-stars)
@@ -177,58 +177,58 @@ taken-on : (lo n m : ℕ) (s d : List ℕ) → length s ≡ m → lo + n ≤ len
 taken-on lo n m s d e h = simp mul-one at (stretch-on 1 lo n m s d (e ∙ sym (mul-one m)) (rw (mul-one (lo + n)) h))
 
 -- what has been planned of n pages from lo: the sources in the pool, the separators, and the r words carried past
-pub record Layout (bits places lo n : ℕ) (w l pool planned W : List ℕ) (r : ℕ) : Type 0 where
-  pub sources : stretch places lo n pool ≡ column places (λ (s : Star). s .word) (plans bits places lo 0 n w l)
-  pub separators-are : take n (drop lo planned) ≡ separators (plans bits places lo 0 n w l)
-  pub passed : take r W ≡ remains bits places lo 0 n w l
-  pub counted : r ≡ length (remains bits places lo 0 n w l)
+pub record Layout (q : Parameters) (lo n : ℕ) (w l pool planned W : List ℕ) (r : ℕ) : Type 0 where
+  pub sources : stretch (q .places) lo n pool ≡ column (q .places) (λ (s : Star). s .word) (plans q lo 0 n w l)
+  pub separators-are : take n (drop lo planned) ≡ separators (plans q lo 0 n w l)
+  pub passed : take r W ≡ remains q lo 0 n w l
+  pub counted : r ≡ length (remains q lo 0 n w l)
 
-length-sources : (bits places lo n : ℕ) (w l : List ℕ) → length (column places (λ (s : Star). s .word) (plans bits places lo 0 n w l)) ≡ n * places
-length-sources bits places lo n w l =
-    length-column places (λ (s : Star). s .word) (plans bits places lo 0 n w l) (plans-roomy bits places lo 0 n w l)
-    ∙ ap (λ (m : ℕ). m * places) (length-plans bits places lo 0 n w l)
+length-sources : (q : Parameters) (lo n : ℕ) (w l : List ℕ) → length (column (q .places) (λ (s : Star). s .word) (plans q lo 0 n w l)) ≡ n * q .places
+length-sources q lo n w l =
+    length-column (q .places) (λ (s : Star). s .word) (plans q lo 0 n w l) (plans-roomy q lo 0 n w l)
+    ∙ ap (λ (m : ℕ). m * q .places) (length-plans q lo 0 n w l)
 
-length-planned : (bits places lo n : ℕ) (w l : List ℕ) → length (separators (plans bits places lo 0 n w l)) ≡ n
-length-planned bits places lo n w l = length-separators (plans bits places lo 0 n w l) ∙ length-plans bits places lo 0 n w l
+length-planned : (q : Parameters) (lo n : ℕ) (w l : List ℕ) → length (separators (plans q lo 0 n w l)) ≡ n
+length-planned q lo n w l = length-separators (plans q lo 0 n w l) ∙ length-plans q lo 0 n w l
 
-pub layout : (bits places lo n : ℕ) (w l pool pool′ planned planned′ W′ : List ℕ) (r : ℕ)
-    → Planned bits places lo n w l pool pool′ planned planned′ W′ r → (lo + n) * places ≤ length pool → lo + n ≤ length planned
-    → Layout bits places lo n w l pool′ planned′ W′ r
-layout bits places lo n w l pool pool′ planned planned′ W′ r P hp hd =
+pub layout : (q : Parameters) (lo n : ℕ) (w l pool pool′ planned planned′ W′ : List ℕ) (r : ℕ)
+    → Planned q lo n w l pool pool′ planned planned′ W′ r → (lo + n) * q .places ≤ length pool → lo + n ≤ length planned
+    → Layout q lo n w l pool′ planned′ W′ r
+layout q lo n w l pool pool′ planned planned′ W′ r P hp hd =
     record {
       sources =
-          ap (stretch places lo n) (P .sources)
-          ∙ stretch-written places lo n (column places (λ (s : Star). s .word) (plans bits places lo 0 n w l)) pool (length-sources bits places lo n w l) (omega (arith, add-mul lo n places));
+          ap (stretch (q .places) lo n) (P .sources)
+          ∙ stretch-written (q .places) lo n (column (q .places) (λ (s : Star). s .word) (plans q lo 0 n w l)) pool (length-sources q lo n w l) (omega (arith, add-mul lo n (q .places)));
       separators-are =
           ap (λ (m : List ℕ). take n (drop lo m)) (P .separators-are)
-          ∙ taken-written lo n (separators (plans bits places lo 0 n w l)) planned (length-planned bits places lo n w l) (omega arith);
+          ∙ taken-written lo n (separators (plans q lo 0 n w l)) planned (length-planned q lo n w l) (omega arith);
       passed = P .passed;
       counted = P .counted;
     }
 
 -- the next stretch planned: where none of its words b is homed below it, the two are one
-pub layout-next : (bits places lo n m : ℕ) (w a b pool pool′ planned planned′ W W′ : List ℕ) (r r′ : ℕ)
-    → groupsBelow lo n a ≡ true → from (lo + n) b ≡ true → (lo + n) * places ≤ length pool → lo + n ≤ length planned
-    → Layout bits places lo n w a pool planned W r → Planned bits places (lo + n) m (take r W) b pool pool′ planned planned′ W′ r′
-    → Layout bits places lo (n + m) w (a ++ b) pool′ planned′ W′ r′
-layout-next bits places lo n m w a b pool pool′ planned planned′ W W′ r r′ ga fb hp hd A P =
-    let both = plans-blocks bits places lo n m w a b ga fb in
-    let cs : List Contents = plans bits places lo 0 n w a in
-    let ds : List Contents = plans bits places (lo + n) 0 m (take r W) b in
-    let all-pages : plans bits places lo 0 (n + m) w (a ++ b) ≡ cs ++ ds
-    = both .0 ∙ ap (λ (u : List ℕ). cs ++ plans bits places (lo + n) 0 m u b) (sym (A .passed)) in
-    let past : remains bits places (lo + n) 0 m (take r W) b ≡ remains bits places lo 0 (n + m) w (a ++ b)
-    = ap (λ (u : List ℕ). remains bits places (lo + n) 0 m u b) (A .passed) ∙ sym (both .1) in
+pub layout-next : (q : Parameters) (lo n m : ℕ) (w a b pool pool′ planned planned′ W W′ : List ℕ) (r r′ : ℕ)
+    → groupsBelow lo n a ≡ true → from (lo + n) b ≡ true → (lo + n) * q .places ≤ length pool → lo + n ≤ length planned
+    → Layout q lo n w a pool planned W r → Planned q (lo + n) m (take r W) b pool pool′ planned planned′ W′ r′
+    → Layout q lo (n + m) w (a ++ b) pool′ planned′ W′ r′
+layout-next q lo n m w a b pool pool′ planned planned′ W W′ r r′ ga fb hp hd A P =
+    let both = plans-blocks q lo n m w a b ga fb in
+    let cs : List Contents = plans q lo 0 n w a in
+    let ds : List Contents = plans q (lo + n) 0 m (take r W) b in
+    let all-pages : plans q lo 0 (n + m) w (a ++ b) ≡ cs ++ ds
+    = both .0 ∙ ap (λ (u : List ℕ). cs ++ plans q (lo + n) 0 m u b) (sym (A .passed)) in
+    let past : remains q (lo + n) 0 m (take r W) b ≡ remains q lo 0 (n + m) w (a ++ b)
+    = ap (λ (u : List ℕ). remains q (lo + n) 0 m u b) (A .passed) ∙ sym (both .1) in
     record {
       sources =
-          ap (stretch places lo (n + m)) (P .sources)
-          ∙ stretch-on places lo n m (column places (λ (s : Star). s .word) ds) pool (length-sources bits places (lo + n) m (take r W) b) hp
-          ∙ ap (λ (x : List ℕ). x ++ column places (λ (s : Star). s .word) ds) (A .sources)
-          ∙ sym (column-append places (λ (s : Star). s .word) cs ds)
-          ∙ ap (column places (λ (s : Star). s .word)) (sym all-pages);
+          ap (stretch (q .places) lo (n + m)) (P .sources)
+          ∙ stretch-on (q .places) lo n m (column (q .places) (λ (s : Star). s .word) ds) pool (length-sources q (lo + n) m (take r W) b) hp
+          ∙ ap (λ (x : List ℕ). x ++ column (q .places) (λ (s : Star). s .word) ds) (A .sources)
+          ∙ sym (column-append (q .places) (λ (s : Star). s .word) cs ds)
+          ∙ ap (column (q .places) (λ (s : Star). s .word)) (sym all-pages);
       separators-are =
           ap (λ (x : List ℕ). take (n + m) (drop lo x)) (P .separators-are)
-          ∙ taken-on lo n m (separators ds) planned (length-planned bits places (lo + n) m (take r W) b) hd
+          ∙ taken-on lo n m (separators ds) planned (length-planned q (lo + n) m (take r W) b) hd
           ∙ ap (λ (x : List ℕ). x ++ separators ds) (A .separators-are)
           ∙ sym (separators-append cs ds)
           ∙ ap separators (sym all-pages);
@@ -237,12 +237,12 @@ layout-next bits places lo n m w a b pool pool′ planned planned′ W W′ r r�
     }
 
 -- applying the plan replaces the stretch by the planned pages, with the words that the sources name
-pub applied-layout : (bits places lo n newnumber newword : ℕ) (f : File) (w l pool planned W : List ℕ) (r : ℕ) → Layout bits places lo n w l pool planned W r
+pub applied-layout : (q : Parameters) (lo n newnumber newword : ℕ) (f : File) (w l pool planned W : List ℕ) (r : ℕ) → Layout q lo n w l pool planned W r
     → sourced (f .numbers) newnumber w ≡ true → sourced (f .numbers) newnumber l ≡ true
-    → applied places lo n newnumber newword pool planned f ≡ replaced places f lo (map (mapped (renamed (f .words) newword)) (plans bits places lo 0 n w l))
-applied-layout bits places lo n newnumber newword f w l pool planned W r A sw sl =
-    applied-is places lo n newnumber newword pool planned f (plans bits places lo 0 n w l) (A .sources) (A .separators-are)
-    (plans-sourced (f .numbers) newnumber bits places lo 0 n w l sw sl)
+    → applied (q .places) lo n newnumber newword pool planned f ≡ replaced (q .places) f lo (map (mapped (renamed (f .words) newword)) (plans q lo 0 n w l))
+applied-layout q lo n newnumber newword f w l pool planned W r A sw sl =
+    applied-is (q .places) lo n newnumber newword pool planned f (plans q lo 0 n w l) (A .sources) (A .separators-are)
+    (plans-sourced (f .numbers) newnumber q lo 0 n w l sw sl)
 
 -- ---- for a caller that surveys its pages and plans them in blocks
 
@@ -274,9 +274,9 @@ pub left-count : (g : Star → Star) (l : List ℕ) (t : List Star) → map g (w
 left-count g l t e = ap length (sym e) ∙ length-map (waits l) g ∙ length-waits l
 
 -- what is carried past a stretch carries true homes
-pub remains-homed : (H : Hash) (bits room : ℕ) → Probes H bits room → (lo v n : ℕ) (w l : List ℕ) → homed H w ≡ true → homed H l ≡ true → homed H (remains bits room lo v n w l) ≡ true
+pub remains-homed : (H : Hash) (q : Parameters) → Probes H q → (lo v n : ℕ) (w l : List ℕ) → homed H w ≡ true → homed H l ≡ true → homed H (remains q lo v n w l) ≡ true
 unfolding remains
-remains-homed H bits room real lo v zero w l hw hl = hw
-remains-homed H bits room real lo v (suc n) w l hw hl =
-    remains-homed H bits room real lo (suc v) n (carriedOn bits room (lo + v) (w ++ group lo v l)) l
-    (homed-onward H bits room real (lo + v) (w ++ group lo v l) (homed-probing H bits room real lo v w l hw hl)) hl
+remains-homed H q real lo v zero w l hw hl = hw
+remains-homed H q real lo v (suc n) w l hw hl =
+    remains-homed H q real lo (suc v) n (carriedOn q (lo + v) (w ++ group lo v l)) l
+    (homed-onward H q real (lo + v) (w ++ group lo v l) (homed-probing H q real lo v w l hw hl)) hl

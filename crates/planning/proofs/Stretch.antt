@@ -1,104 +1,79 @@
 -- Settling a stretch page by page: what has been planned, what waits, and what is still ahead.
 use mathlib.Core.Path.{_≡_, refl, sym, ap, _∙_}
-use mathlib.Core.Bool.{Bool, true, false, cond}
+use mathlib.Core.Bool.{true}
 use mathlib.Core.List.{List, [], _∷_, _++_, map, append-assoc, append-nil}
 use Prim.Native.Nat.{ℕ, zero, suc, _+_, _-_, _*_, _^_, _≤_, _<_, zero-le}
-use native.Mathlib.Nat.{le-refl, add-zero, zero-add, add-suc, suc-add, add-mul, suc-mul, mul-le-mul-right}
+use native.Mathlib.Nat.{add-zero, zero-add, add-suc, suc-add, add-mul, suc-mul, mul-le-mul-right}
 use native.Mathlib.Numerals.{add-one}
 use native.Mathlib.Omega.{arith}
-use lib.Dec.{leb}
 use lib.ListN.{length, getD, take, drop, set, length-append, take-append-drop}
 use lib.Seq.{slice, length-slice, length-take-le, take-take, take-at, drop-at, drop-drop, set-split, take-add}
 use lib.Pow.{pow-mono}
-use borrow.Author.Tests.{leb-true, le-ltb}
+use Rattle.hashing.specs.declared.Parameters.{Parameters}
 use Rattle.hashing.specs.Generator.{topOf}
 use Rattle.placement.specs.Rule.{Star, Contents, separators}
 use Rattle.placement.specs.File.{padded, column, written}
 use Rattle.placement.proofs.Standing.{length-separators}
 use Rattle.placement.proofs.Writing.{Roomy, column-append, length-column, separators-append, written-add}
-use Rattle.waiting.specs.Lists.{filter}
 use Rattle.waiting.specs.Words.{sourceOf}
 use Rattle.waiting.specs.Gather.{group, grouped, Scattered}
 use Rattle.waiting.specs.declared.settling.Settled.{Settled}
-use Rattle.waiting.specs.Settle.{Settlement, homesUpTo, signatureOf, under, staying, separatorFrom, separatorOf, slotsOf}
+use Rattle.waiting.specs.Settle.{Settlement, homesUpTo, staying, separatorOf, slotsOf}
 use Rattle.waiting.proofs.Grouping.{grouped-next, grouped-add}
+use Rattle.waiting.proofs.Cutting.{separator-fits, separator-most}
 use Rattle.planning.specs.Plans.{starOf, waits, settled, carriedOn, plans, remains, PagePlanned, Planned}
 use Rattle.planning.proofs.Pouring.{length-waits}
-use Rattle.planning.proofs.Ties.{near-probing, near-onward}
+use Rattle.planning.proofs.RuleOverWords.{near-probing, near-onward}
 use Rattle.planning.proofs.Slots.{drop-take}
 
 -- ---- the plan with one more page
 
 -- the last page comes after the others
-module _ (bits room lo : ℕ) (l : List ℕ) where
-  plans-last : (v n : ℕ) (w : List ℕ) → plans bits room lo v (suc n) w l
-      ≡ plans bits room lo v n w l ++ (settled bits room (lo + (v + n)) (remains bits room lo v n w l ++ group lo (v + n) l) ∷ [])
+module _ (q : Parameters) (lo : ℕ) (l : List ℕ) where
+  plans-last : (v n : ℕ) (w : List ℕ) → plans q lo v (suc n) w l
+      ≡ plans q lo v n w l ++ (settled q (lo + (v + n)) (remains q lo v n w l ++ group lo (v + n) l) ∷ [])
   unfolding plans remains
   plans-last v zero w = rw (add-zero v)
   plans-last v (suc n) w =
-      ap (λ (cs : List Contents). settled bits room (lo + v) (w ++ group lo v l) ∷ cs)
-      (rw (suc-add v n, ← add-suc v n) at (plans-last (suc v) n (carriedOn bits room (lo + v) (w ++ group lo v l))))
+      ap (λ (cs : List Contents). settled q (lo + v) (w ++ group lo v l) ∷ cs)
+      (rw (suc-add v n, ← add-suc v n) at (plans-last (suc v) n (carriedOn q (lo + v) (w ++ group lo v l))))
 
-  remains-last : (v n : ℕ) (w : List ℕ) → remains bits room lo v (suc n) w l
-      ≡ carriedOn bits room (lo + (v + n)) (remains bits room lo v n w l ++ group lo (v + n) l)
+  remains-last : (v n : ℕ) (w : List ℕ) → remains q lo v (suc n) w l
+      ≡ carriedOn q (lo + (v + n)) (remains q lo v n w l ++ group lo (v + n) l)
   unfolding remains
   remains-last v zero w = rw (add-zero v)
-  remains-last v (suc n) w = rw (suc-add v n, ← add-suc v n) at (remains-last (suc v) n (carriedOn bits room (lo + v) (w ++ group lo v l)))
+  remains-last v (suc n) w = rw (suc-add v n, ← add-suc v n) at (remains-last (suc v) n (carriedOn q (lo + v) (w ++ group lo v l)))
 
   -- what is carried past n pages is homed at these pages or lower
-  pub remains-near : (v n : ℕ) (w : List ℕ) → homesUpTo (lo + v) w ≡ true → homesUpTo (lo + (v + n)) (remains bits room lo v n w l) ≡ true
+  pub remains-near : (v n : ℕ) (w : List ℕ) → homesUpTo (lo + v) w ≡ true → homesUpTo (lo + (v + n)) (remains q lo v n w l) ≡ true
   unfolding remains
   remains-near v zero w h = rw (add-zero v) h
   remains-near v (suc n) w h =
       rw (add-suc v n, ← suc-add v n)
-      (remains-near (suc v) n (carriedOn bits room (lo + v) (w ++ group lo v l))
-      (near-onward bits room (lo + v) (lo + suc v) (w ++ group lo v l) (omega arith) (near-probing lo v w l h)))
+      (remains-near (suc v) n (carriedOn q (lo + v) (w ++ group lo v l))
+      (near-onward q (lo + v) (lo + suc v) (w ++ group lo v l) (omega arith) (near-probing lo v w l h)))
 
--- at most `room` stay
-staying-zero : (bits p : ℕ) (l : List ℕ) → staying bits p 0 l ≡ []
-unfolding staying filter under
-staying-zero bits p [] = refl
-staying-zero bits p (x ∷ l) = rw (le-ltb (signatureOf bits p x) 0 zero-le) (staying-zero bits p l)
-
-fits-from : (bits room p n : ℕ) (l : List ℕ) → length (staying bits p (separatorFrom bits room p l n) l) ≤ room
-unfolding separatorFrom
-fits-from bits room p zero l = rw (staying-zero bits p l) zero-le
-fits-from bits room p (suc n) l = go (leb (length (staying bits p (suc n) l)) room) refl (fits-from bits room p n l)
-  where
-    go : (t : Bool) → leb (length (staying bits p (suc n) l)) room ≡ t → length (staying bits p (separatorFrom bits room p l n) l) ≤ room
-        → length (staying bits p (cond t (suc n) (separatorFrom bits room p l n)) l) ≤ room
-    go true e ih = leb-true (length (staying bits p (suc n) l)) room e
-    go false e ih = ih
-
-pub plans-roomy : (bits room lo v n : ℕ) (w l : List ℕ) → Roomy room (plans bits room lo v n w l)
+-- at most b stay
+pub plans-roomy : (q : Parameters) (lo v n : ℕ) (w l : List ℕ) → Roomy (q .places) (plans q lo v n w l)
 unfolding plans settled separatorOf
-plans-roomy bits room lo v zero w l = tt
-plans-roomy bits room lo v (suc n) w l =
+plans-roomy q lo v zero w l = tt
+plans-roomy q lo v (suc n) w l =
     let here : List ℕ = w ++ group lo v l in (
-      rw (length-waits (staying bits (lo + v) (separatorOf bits room (lo + v) here) here)) (fits-from bits room (lo + v) (topOf bits) here),
-      plans-roomy bits room lo (suc v) n (carriedOn bits room (lo + v) here) l,
+      rw (length-waits (staying q (lo + v) (separatorOf q (lo + v) here) here)) (separator-fits q (lo + v) here (topOf (q .bits))),
+      plans-roomy q lo (suc v) n (carriedOn q (lo + v) here) l,
     )
 
-pub length-plans : (bits room lo v n : ℕ) (w l : List ℕ) → length (plans bits room lo v n w l) ≡ n
+pub length-plans : (q : Parameters) (lo v n : ℕ) (w l : List ℕ) → length (plans q lo v n w l) ≡ n
 unfolding plans
-length-plans bits room lo v zero w l = refl
-length-plans bits room lo v (suc n) w l = ap suc (length-plans bits room lo (suc v) n (carriedOn bits room (lo + v) (w ++ group lo v l)) l)
-
-separator-le : (bits room p n : ℕ) (l : List ℕ) → separatorFrom bits room p l n ≤ n
-unfolding separatorFrom
-separator-le bits room p zero l = le-refl 0
-separator-le bits room p (suc n) l = go (leb (length (staying bits p (suc n) l)) room) (separator-le bits room p n l)
-  where
-    go : (t : Bool) → separatorFrom bits room p l n ≤ n → cond t (suc n) (separatorFrom bits room p l n) ≤ suc n
-    go true ih = le-refl (suc n)
-    go false ih = omega arith
+length-plans q lo v zero w l = refl
+length-plans q lo v (suc n) w l = ap suc (length-plans q lo (suc v) n (carriedOn q (lo + v) (w ++ group lo v l)) l)
 
 -- a separator is a byte
-pub separator-byte : (bits room p : ℕ) (l : List ℕ) → bits ≤ 8 → separatorOf bits room p l < 256
+pub separator-byte : (q : Parameters) (p : ℕ) (l : List ℕ) → q .bits ≤ 8 → separatorOf q p l < 256
 unfolding separatorOf topOf
-separator-byte bits room p l h =
-    let power : 2 ^ bits ≤ 2 ^ 8 = pow-mono h in
-    omega (arith, separator-le bits room p (topOf bits) l)
+separator-byte q p l h =
+    let power : 2 ^ q .bits ≤ 2 ^ 8 = pow-mono h in
+    omega (arith, separator-most q p l (topOf (q .bits)))
 
 -- ---- parts of the waiting list
 
@@ -181,13 +156,13 @@ module _ (lo count carried : ℕ) (l W ends : List ℕ) (S : Started lo count ca
       (length-append (take carried W) (grouped lo 0 v l) ∙ ap (λ (k : ℕ). k + length (grouped lo 0 v l)) size)
 
 -- with v pages planned: what waits stands from `from` up to the end of group v - 1, and behind that the list is as it was
-pub record Settling (bits places lo count carried : ℕ) (l W pool planned : List ℕ) (pool′ W′ planned′ : List ℕ) (from v : ℕ) : Type 0 where
+pub record Settling (q : Parameters) (lo count carried : ℕ) (l W pool planned : List ℕ) (pool′ W′ planned′ : List ℕ) (from v : ℕ) : Type 0 where
   pub upto : v ≤ count
   pub start : from ≤ endOf carried lo l v
-  pub waiting : slice from (endOf carried lo l v) W′ ≡ remains bits places lo 0 v (take carried W) l
+  pub waiting : slice from (endOf carried lo l v) W′ ≡ remains q lo 0 v (take carried W) l
   pub ahead : drop (endOf carried lo l v) W′ ≡ drop (endOf carried lo l v) W
-  pub sources : pool′ ≡ written (lo * places) (column places (λ (s : Star). s .word) (plans bits places lo 0 v (take carried W) l)) pool
-  pub planned-are : planned′ ≡ written lo (separators (plans bits places lo 0 v (take carried W) l)) planned
+  pub sources : pool′ ≡ written (lo * q .places) (column (q .places) (λ (s : Star). s .word) (plans q lo 0 v (take carried W) l)) pool
+  pub planned-are : planned′ ≡ written lo (separators (plans q lo 0 v (take carried W) l)) planned
   pub long-pool : length pool′ ≡ length pool
   pub long-waiting : length W′ ≡ length W
   pub long-planned : length planned′ ≡ length planned
@@ -196,40 +171,40 @@ written-none : (at : ℕ) (d : List ℕ) → d ≡ written at [] d
 unfolding written
 written-none at d = sym (ap (λ (k : ℕ). take at d ++ drop k d) (add-zero at) ∙ take-append-drop at d)
 
-pub settling-none : (bits places lo count carried : ℕ) (l W pool planned : List ℕ) → Settling bits places lo count carried l W pool planned pool W planned 0 0
+pub settling-none : (q : Parameters) (lo count carried : ℕ) (l W pool planned : List ℕ) → Settling q lo count carried l W pool planned pool W planned 0 0
 unfolding remains plans column separators grouped
-settling-none bits places lo count carried l W pool planned =
+settling-none q lo count carried l W pool planned =
     record {
       upto = zero-le;
       start = zero-le;
       waiting = ap (λ (k : ℕ). take k W) (add-zero carried);
       ahead = refl;
-      sources = written-none (lo * places) pool;
+      sources = written-none (lo * q .places) pool;
       planned-are = written-none lo planned;
       long-pool = refl;
       long-waiting = refl;
       long-planned = refl;
     }
 
-module _ (bits places lo count carried : ℕ) (l W pool planned ends : List ℕ) (S : Started lo count carried l W ends)
-    (pool′ W′ planned′ : List ℕ) (from v : ℕ) (I : Settling bits places lo count carried l W pool planned pool′ W′ planned′ from v) (more : v < count) where
+module _ (q : Parameters) (lo count carried : ℕ) (l W pool planned ends : List ℕ) (S : Started lo count carried l W ends)
+    (pool′ W′ planned′ : List ℕ) (from v : ℕ) (I : Settling q lo count carried l W pool planned pool′ W′ planned′ from v) (more : v < count) where
   -- page lo + v is probed by what waits and its group
-  pub probed : slice from (endOf carried lo l (suc v)) W′ ≡ remains bits places lo 0 v (take carried W) l ++ group lo v l
+  pub probed : slice from (endOf carried lo l (suc v)) W′ ≡ remains q lo 0 v (take carried W) l ++ group lo v l
   probed =
       let e = endOf carried lo l v in
       let e′ = endOf carried lo l (suc v) in
       slice-join from e e′ W′ (I .start) (ends-rise lo count carried l W ends S v)
       (omega (arith, ends-within lo count carried l W ends S (suc v) more, S .room, I .long-waiting))
       ∙ ap (λ (s : List ℕ). s ++ slice e e′ W′) (I .waiting)
-      ∙ ap (λ (s : List ℕ). remains bits places lo 0 v (take carried W) l ++ s)
+      ∙ ap (λ (s : List ℕ). remains q lo 0 v (take carried W) l ++ s)
       (drop-take e e′ W′ ∙ ap (take (e′ - e)) (I .ahead) ∙ sym (drop-take e e′ W) ∙ group-there lo count carried l W ends S v more)
 
   -- .. all homed at that page or lower
   pub probed-near : homesUpTo lo (take carried W) ≡ true → homesUpTo (lo + v) (slice from (endOf carried lo l (suc v)) W′) ≡ true
   probed-near h =
       ap (homesUpTo (lo + v)) probed
-      ∙ near-probing lo v (remains bits places lo 0 v (take carried W) l) l
-      (rw (zero-add v) at (remains-near bits places lo l 0 v (take carried W) (rw (add-zero lo) h)))
+      ∙ near-probing lo v (remains q lo 0 v (take carried W) l) l
+      (rw (zero-add v) at (remains-near q lo l 0 v (take carried W) (rw (add-zero lo) h)))
 
   pub probed-inside : from ≤ endOf carried lo l (suc v)
   probed-inside = omega (arith, I .start, ends-rise lo count carried l W ends S v)
@@ -251,18 +226,18 @@ set-written : (l : List ℕ) (i x : ℕ) → i < length l → set l i x ≡ writ
 unfolding written
 set-written l i x h = set-split l i x h ∙ ap (λ (k : ℕ). take i l ++ (x ∷ drop k l)) (sym (add-one i))
 
-pub page-planned : (bits places p : ℕ) (l : List ℕ) (reach : ℕ) (W W′ slots pool pool′ planned : List ℕ) (r : Settled)
-    → Settlement bits p (separatorOf bits places p l) l reach W W′ slots r
-    → pool′ ≡ written (p * places) (padded places (map sourceOf (take (r .kept) slots))) pool → p < length planned
-    → PagePlanned bits places p l reach W W′ pool pool′ planned (set planned p (r .separator)) (r .from)
+pub page-planned : (q : Parameters) (p : ℕ) (l : List ℕ) (reach : ℕ) (W W′ slots pool pool′ planned : List ℕ) (r : Settled)
+    → Settlement q p (separatorOf q p l) l reach W W′ slots r
+    → pool′ ≡ written (p * q .places) (padded (q .places) (map sourceOf (take (r .kept) slots))) pool → p < length planned
+    → PagePlanned q p l reach W W′ pool pool′ planned (set planned p (r .separator)) (r .from)
 unfolding settled column carriedOn separators
-page-planned bits places p l reach W W′ slots pool pool′ planned r S e h =
-    let v : ℕ = separatorOf bits places p l in
+page-planned q p l reach W W′ slots pool pool′ planned r S e h =
+    let v : ℕ = separatorOf q p l in
     record {
       sources =
-          e ∙ ap (λ (s : List ℕ). written (p * places) s pool)
-          (ap (padded places) (ap (map sourceOf) (S .page) ∙ sym (words-waits (staying bits p v l)))
-          ∙ sym (append-nil (padded places (map (λ (s : Star). s .word) (waits (staying bits p v l))))));
+          e ∙ ap (λ (s : List ℕ). written (p * q .places) s pool)
+          (ap (padded (q .places)) (ap (map sourceOf) (S .page) ∙ sym (words-waits (staying q p v l)))
+          ∙ sym (append-nil (padded (q .places) (map (λ (s : Star). s .word) (waits (staying q p v l))))));
       separator = set-written planned p (r .separator) h ∙ ap (λ (s : ℕ). written p (s ∷ []) planned) (S .separator);
       order = omega (arith, S .start);
       passed = S .passed;
@@ -271,59 +246,59 @@ page-planned bits places p l reach W W′ slots pool pool′ planned r S e h =
 
 -- ---- from one page to the next
 
-module _ (bits places lo count carried : ℕ) (l W pool planned ends : List ℕ) (S : Started lo count carried l W ends)
-    (pool′ W′ planned′ : List ℕ) (from v : ℕ) (I : Settling bits places lo count carried l W pool planned pool′ W′ planned′ from v) (more : v < count)
+module _ (q : Parameters) (lo count carried : ℕ) (l W pool planned ends : List ℕ) (S : Started lo count carried l W ends)
+    (pool′ W′ planned′ : List ℕ) (from v : ℕ) (I : Settling q lo count carried l W pool planned pool′ W′ planned′ from v) (more : v < count)
     (reach : ℕ) (there : reach ≡ endOf carried lo l (suc v)) (W″ pool″ planned″ : List ℕ) (r : ℕ)
-    (P : PagePlanned bits places (lo + v) (slice from reach W′) reach W′ W″ pool′ pool″ planned′ planned″ r)
-    (inside : (lo + count) * places ≤ length pool) (within : lo + count ≤ length planned) where
+    (P : PagePlanned q (lo + v) (slice from reach W′) reach W′ W″ pool′ pool″ planned′ planned″ r)
+    (inside : (lo + count) * q .places ≤ length pool) (within : lo + count ≤ length planned) where
   w : List ℕ
   w = take carried W
 
   here : Contents
-  here = settled bits places (lo + v) (remains bits places lo 0 v w l ++ group lo v l)
+  here = settled q (lo + v) (remains q lo 0 v w l ++ group lo v l)
 
-  is-here : slice from reach W′ ≡ remains bits places lo 0 v w l ++ group lo v l
+  is-here : slice from reach W′ ≡ remains q lo 0 v w l ++ group lo v l
   unfolding w
-  is-here = ap (λ (k : ℕ). slice from k W′) there ∙ probed bits places lo count carried l W pool planned ends S pool′ W′ planned′ from v I more
+  is-here = ap (λ (k : ℕ). slice from k W′) there ∙ probed q lo count carried l W pool planned ends S pool′ W′ planned′ from v I more
 
-  one-more : plans bits places lo 0 (suc v) w l ≡ plans bits places lo 0 v w l ++ (here ∷ [])
+  one-more : plans q lo 0 (suc v) w l ≡ plans q lo 0 v w l ++ (here ∷ [])
   unfolding here
-  one-more = rw (zero-add v) at (plans-last bits places lo l 0 v w)
+  one-more = rw (zero-add v) at (plans-last q lo l 0 v w)
 
-  next-sources : pool″ ≡ written (lo * places) (column places (λ (s : Star). s .word) (plans bits places lo 0 (suc v) w l)) pool
+  next-sources : pool″ ≡ written (lo * q .places) (column (q .places) (λ (s : Star). s .word) (plans q lo 0 (suc v) w l)) pool
   unfolding here w
   next-sources =
-      let done : List ℕ = column places (λ (s : Star). s .word) (plans bits places lo 0 v w l) in
-      let size : length done ≡ v * places
-      = length-column places (λ (s : Star). s .word) (plans bits places lo 0 v w l) (plans-roomy bits places lo 0 v w l) ∙ ap (λ (n : ℕ). n * places) (length-plans bits places lo 0 v w l) in
-      let seam : (lo + v) * places ≡ lo * places + length done = add-mul lo v places ∙ ap (λ (n : ℕ). lo * places + n) (sym size) in
+      let done : List ℕ = column (q .places) (λ (s : Star). s .word) (plans q lo 0 v w l) in
+      let size : length done ≡ v * q .places
+      = length-column (q .places) (λ (s : Star). s .word) (plans q lo 0 v w l) (plans-roomy q lo 0 v w l) ∙ ap (λ (n : ℕ). n * q .places) (length-plans q lo 0 v w l) in
+      let seam : (lo + v) * q .places ≡ lo * q .places + length done = add-mul lo v (q .places) ∙ ap (λ (n : ℕ). lo * q .places + n) (sym size) in
       P .sources
-      ∙ ap (λ (m : List ℕ). written ((lo + v) * places) (column places (λ (s : Star). s .word) (settled bits places (lo + v) m ∷ [])) pool′) is-here
-      ∙ ap (λ (m : List ℕ). written ((lo + v) * places) (column places (λ (s : Star). s .word) (here ∷ [])) m) (I .sources)
-      ∙ ap (λ (k : ℕ). written k (column places (λ (s : Star). s .word) (here ∷ [])) (written (lo * places) done pool)) seam
-      ∙ written-add (lo * places) done (column places (λ (s : Star). s .word) (here ∷ [])) pool (omega (arith, add-mul lo count places))
-      ∙ ap (λ (m : List ℕ). written (lo * places) m pool)
-      (sym (column-append places (λ (s : Star). s .word) (plans bits places lo 0 v w l) (here ∷ []))
-      ∙ ap (column places (λ (s : Star). s .word)) (sym one-more))
+      ∙ ap (λ (m : List ℕ). written ((lo + v) * q .places) (column (q .places) (λ (s : Star). s .word) (settled q (lo + v) m ∷ [])) pool′) is-here
+      ∙ ap (λ (m : List ℕ). written ((lo + v) * q .places) (column (q .places) (λ (s : Star). s .word) (here ∷ [])) m) (I .sources)
+      ∙ ap (λ (k : ℕ). written k (column (q .places) (λ (s : Star). s .word) (here ∷ [])) (written (lo * q .places) done pool)) seam
+      ∙ written-add (lo * q .places) done (column (q .places) (λ (s : Star). s .word) (here ∷ [])) pool (omega (arith, add-mul lo count (q .places)))
+      ∙ ap (λ (m : List ℕ). written (lo * q .places) m pool)
+      (sym (column-append (q .places) (λ (s : Star). s .word) (plans q lo 0 v w l) (here ∷ []))
+      ∙ ap (column (q .places) (λ (s : Star). s .word)) (sym one-more))
 
-  next-planned : planned″ ≡ written lo (separators (plans bits places lo 0 (suc v) w l)) planned
+  next-planned : planned″ ≡ written lo (separators (plans q lo 0 (suc v) w l)) planned
   unfolding here w
   next-planned =
-      let done : List ℕ = separators (plans bits places lo 0 v w l) in
-      let size : length done ≡ v = length-separators (plans bits places lo 0 v w l) ∙ length-plans bits places lo 0 v w l in
+      let done : List ℕ = separators (plans q lo 0 v w l) in
+      let size : length done ≡ v = length-separators (plans q lo 0 v w l) ∙ length-plans q lo 0 v w l in
       P .separator
-      ∙ ap (λ (m : List ℕ). written (lo + v) (separators (settled bits places (lo + v) m ∷ [])) planned′) is-here
+      ∙ ap (λ (m : List ℕ). written (lo + v) (separators (settled q (lo + v) m ∷ [])) planned′) is-here
       ∙ ap (λ (m : List ℕ). written (lo + v) (separators (here ∷ [])) m) (I .planned-are)
       ∙ ap (λ (k : ℕ). written (lo + k) (separators (here ∷ [])) (written lo done planned)) (sym size)
       ∙ written-add lo done (separators (here ∷ [])) planned (omega arith)
-      ∙ ap (λ (m : List ℕ). written lo m planned) (sym (separators-append (plans bits places lo 0 v w l) (here ∷ [])) ∙ ap separators (sym one-more))
+      ∙ ap (λ (m : List ℕ). written lo m planned) (sym (separators-append (plans q lo 0 v w l) (here ∷ [])) ∙ ap separators (sym one-more))
 
-  next-waiting : slice r (endOf carried lo l (suc v)) W″ ≡ remains bits places lo 0 (suc v) w l
+  next-waiting : slice r (endOf carried lo l (suc v)) W″ ≡ remains q lo 0 (suc v) w l
   next-waiting =
       ap (λ (k : ℕ). slice r k W″) (sym there)
       ∙ P .passed
-      ∙ ap (carriedOn bits places (lo + v)) is-here
-      ∙ sym (rw (zero-add v) at (remains-last bits places lo l 0 v w))
+      ∙ ap (carriedOn q (lo + v)) is-here
+      ∙ sym (rw (zero-add v) at (remains-last q lo l 0 v w))
 
   next-ahead : drop (endOf carried lo l (suc v)) W″ ≡ drop (endOf carried lo l (suc v)) W
   next-ahead =
@@ -339,7 +314,7 @@ module _ (bits places lo count carried : ℕ) (l W pool planned ends : List ℕ)
       ∙ ap (λ (k : ℕ). drop k W) sum
 
   pub settling-next : length pool″ ≡ length pool′ → length W″ ≡ length W′ → length planned″ ≡ length planned′
-      → Settling bits places lo count carried l W pool planned pool″ W″ planned″ r (v + 1)
+      → Settling q lo count carried l W pool planned pool″ W″ planned″ r (v + 1)
   unfolding w
   settling-next lp lw ln =
       rw (add-one v)
@@ -356,17 +331,17 @@ module _ (bits places lo count carried : ℕ) (l W pool planned ends : List ℕ)
       })
 
 -- all pages planned, and what is left moved to the front
-pub planned-all : (bits places lo count carried : ℕ) (l W pool planned ends : List ℕ) → Started lo count carried l W ends
-    → (pool′ W′ planned′ : List ℕ) (from v : ℕ) → Settling bits places lo count carried l W pool planned pool′ W′ planned′ from v → v ≡ count
+pub planned-all : (q : Parameters) (lo count carried : ℕ) (l W pool planned ends : List ℕ) → Started lo count carried l W ends
+    → (pool′ W′ planned′ : List ℕ) (from v : ℕ) → Settling q lo count carried l W pool planned pool′ W′ planned′ from v → v ≡ count
     → (W″ : List ℕ) (end r : ℕ) → end ≡ carried + length l → r ≡ end - from → take r W″ ≡ slice from end W′
-    → Planned bits places lo count (take carried W) l pool pool′ planned planned′ W″ r
-planned-all bits places lo count carried l W pool planned ends S pool′ W′ planned′ from v I ev W″ end r ee er et =
+    → Planned q lo count (take carried W) l pool pool′ planned planned′ W″ r
+planned-all q lo count carried l W pool planned ends S pool′ W′ planned′ from v I ev W″ end r ee er et =
     let last : endOf carried lo l v ≡ end = ap (endOf carried lo l) ev ∙ ends-last lo count carried l W ends S ∙ sym ee in
-    let left : slice from end W′ ≡ remains bits places lo 0 count (take carried W) l
-    = ap (λ (k : ℕ). slice from k W′) (sym last) ∙ I .waiting ∙ ap (λ (n : ℕ). remains bits places lo 0 n (take carried W) l) ev in
+    let left : slice from end W′ ≡ remains q lo 0 count (take carried W) l
+    = ap (λ (k : ℕ). slice from k W′) (sym last) ∙ I .waiting ∙ ap (λ (n : ℕ). remains q lo 0 n (take carried W) l) ev in
     record {
-      sources = I .sources ∙ ap (λ (n : ℕ). written (lo * places) (column places (λ (s : Star). s .word) (plans bits places lo 0 n (take carried W) l)) pool) ev;
-      separators-are = I .planned-are ∙ ap (λ (n : ℕ). written lo (separators (plans bits places lo 0 n (take carried W) l)) planned) ev;
+      sources = I .sources ∙ ap (λ (n : ℕ). written (lo * q .places) (column (q .places) (λ (s : Star). s .word) (plans q lo 0 n (take carried W) l)) pool) ev;
+      separators-are = I .planned-are ∙ ap (λ (n : ℕ). written lo (separators (plans q lo 0 n (take carried W) l)) planned) ev;
       passed = et ∙ left;
       counted = er ∙ sym (length-slice from end W′ (omega (arith, S .room, I .long-waiting))) ∙ ap length left;
     }

@@ -6,11 +6,14 @@ use Prim.Native.Nat.{ℕ, zero, suc, _+_, _/_, _%_, _*_, _^_, _≤_}
 use lib.Dec.{eqb, leb}
 use lib.ListN.{length, getD, take, drop}
 use lib.Seq.{slice}
+use denote.Ref.{now}
+use Rattle.hashing.specs.declared.Parameters.{Parameters}
 use Rattle.placement.specs.Rule.{Star, Hash, Contents, separators}
 use Rattle.placement.specs.File.{column, written}
+use Rattle.placement.specs.Lent.{Lent}
 use Rattle.waiting.specs.Lists.{all}
 use Rattle.waiting.specs.Words.{homeOf, numberOf, sourceOf}
-use Rattle.waiting.specs.Gather.{group, stretch, wordsFrom}
+use Rattle.waiting.specs.Gather.{group, stretchWords}
 use Rattle.waiting.specs.Settle.{staying, passing, separatorOf, slotsOf}
 
 -- the star that a word's low part stands for: its number, and its source in place of a position word
@@ -25,47 +28,55 @@ waits l = map starOf (slotsOf l)
 unfoldable pub slotSource : List ℕ → ℕ → ℕ → ℕ
 slotSource slots kept i = cond (leb kept i) 0 (sourceOf (getD slots i 0))
 
--- the words of the stars of n pages from lo but the star k, of items with the homes hs
-abbrev pub stretchWords : ℕ → ℕ → ℕ → ℕ → List ℕ → List ℕ → List ℕ
-stretchWords places lo n k ns hs = wordsFrom (lo * places) k (stretch places lo n ns) (stretch places lo n hs)
-
 -- every word carries the home of its number
 unfoldable pub homed : Hash → List ℕ → Bool
 homed H l = all (λ w. eqb (H .home (numberOf w)) (homeOf w)) l
 
 -- what settling leaves on page p of the words that probe it
-unfoldable pub settled : ℕ → ℕ → ℕ → List ℕ → Contents
-settled bits room p l =
-    record { separator = separatorOf bits room p l; stars = waits (staying bits p (separatorOf bits room p l) l) }
+unfoldable pub settled : Parameters → ℕ → List ℕ → Contents
+settled q p l =
+    record { separator = separatorOf q p l; stars = waits (staying q p (separatorOf q p l) l) }
 
 -- what it carries on
-unfoldable pub carriedOn : ℕ → ℕ → ℕ → List ℕ → List ℕ
-carriedOn bits room p l = passing bits p (separatorOf bits room p l) l
+unfoldable pub carriedOn : Parameters → ℕ → List ℕ → List ℕ
+carriedOn q p l = passing q p (separatorOf q p l) l
 
 -- what n pages from lo + v get: page lo + v is probed by the words w carried on to it and its own group of the stretch's words l
-unfoldable pub plans : ℕ → ℕ → ℕ → ℕ → ℕ → List ℕ → List ℕ → List Contents
-plans bits room lo v zero w l = []
-plans bits room lo v (suc n) w l =
-    settled bits room (lo + v) (w ++ group lo v l)
-    ∷ plans bits room lo (suc v) n (carriedOn bits room (lo + v) (w ++ group lo v l)) l
+unfoldable pub plans : Parameters → ℕ → ℕ → ℕ → List ℕ → List ℕ → List Contents
+plans q lo v zero w l = []
+plans q lo v (suc n) w l =
+    settled q (lo + v) (w ++ group lo v l)
+    ∷ plans q lo (suc v) n (carriedOn q (lo + v) (w ++ group lo v l)) l
 
 -- what is carried past them
-unfoldable pub remains : ℕ → ℕ → ℕ → ℕ → ℕ → List ℕ → List ℕ → List ℕ
-remains bits room lo v zero w l = w
-remains bits room lo v (suc n) w l = remains bits room lo (suc v) n (carriedOn bits room (lo + v) (w ++ group lo v l)) l
+unfoldable pub remains : Parameters → ℕ → ℕ → ℕ → List ℕ → List ℕ → List ℕ
+remains q lo v zero w l = w
+remains q lo v (suc n) w l = remains q lo (suc v) n (carriedOn q (lo + v) (w ++ group lo v l)) l
 
 -- What planning page p leaves of the lists: the words l that probed it stand in W from some place up to `reach`.
-pub record PagePlanned (bits places p : ℕ) (l : List ℕ) (reach : ℕ) (W W′ pool pool′ planned planned′ : List ℕ) (r : ℕ) : Type 0 where
-  pub sources : pool′ ≡ written (p * places) (column places (λ (s : Star). s .word) (settled bits places p l ∷ [])) pool
-  pub separator : planned′ ≡ written p (separators (settled bits places p l ∷ [])) planned
+pub record PagePlanned (q : Parameters) (p : ℕ) (l : List ℕ) (reach : ℕ) (W W′ pool pool′ planned planned′ : List ℕ) (r : ℕ) : Type 0 where
+  pub sources : pool′ ≡ written (p * q .places) (column (q .places) (λ (s : Star). s .word) (settled q p l ∷ [])) pool
+  pub separator : planned′ ≡ written p (separators (settled q p l ∷ [])) planned
   pub order : r ≤ reach
-  pub passed : slice r reach W′ ≡ carriedOn bits places p l
+  pub passed : slice r reach W′ ≡ carriedOn q p l
   pub behind : drop reach W′ ≡ drop reach W
+
+abbrev pub PlansPage : Parameters → ℕ → ℕ → ℕ → Lent → Lent → Lent → ℕ → Type 0
+PlansPage q p from reach waiting pool planned r =
+    PagePlanned q p (slice from reach (now (waiting .entry))) reach (now (waiting .entry)) (now (waiting .exit)) (now (pool .entry)) (now (pool .exit))
+    (now (planned .entry)) (now (planned .exit)) r
 
 -- What planning `count` pages from page lo leaves, of the words w carried in and the stretch's words l: the source of each place's star in
 -- the pool, the new separators, and at the front of W′ the r words that are carried past the stretch.
-pub record Planned (bits places lo count : ℕ) (w l pool pool′ planned planned′ W′ : List ℕ) (r : ℕ) : Type 0 where
-  pub sources : pool′ ≡ written (lo * places) (column places (λ (s : Star). s .word) (plans bits places lo 0 count w l)) pool
-  pub separators-are : planned′ ≡ written lo (separators (plans bits places lo 0 count w l)) planned
-  pub passed : take r W′ ≡ remains bits places lo 0 count w l
-  pub counted : r ≡ length (remains bits places lo 0 count w l)
+pub record Planned (q : Parameters) (lo count : ℕ) (w l pool pool′ planned planned′ W′ : List ℕ) (r : ℕ) : Type 0 where
+  pub sources : pool′ ≡ written (lo * q .places) (column (q .places) (λ (s : Star). s .word) (plans q lo 0 count w l)) pool
+  pub separators-are : planned′ ≡ written lo (separators (plans q lo 0 count w l)) planned
+  pub passed : take r W′ ≡ remains q lo 0 count w l
+  pub counted : r ≡ length (remains q lo 0 count w l)
+
+-- the words carried in stand at the front of `waiting`, the homes of the items in the pool; the star k is left out
+abbrev pub PlansStretch : Parameters → ℕ → ℕ → ℕ → ℕ → Lent → Lent → Lent → Lent → ℕ → Type 0
+PlansStretch q lo count k carried numbers pool waiting planned r =
+    Planned q lo count (take carried (now (waiting .entry)))
+    (stretchWords (q .places) lo count k (now (numbers .entry)) (now (pool .entry))) (now (pool .entry)) (now (pool .exit)) (now (planned .entry))
+    (now (planned .exit)) (now (waiting .exit)) r

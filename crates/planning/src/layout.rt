@@ -6,12 +6,13 @@ ghost use Prim.Native.Nat.{_+_, _-_, _*_, _^_, _≤_, _<_};
 ghost use lib.ListN.{length, take};
 ghost use lib.Seq.{slice};
 ghost use Rattle.placement.specs.File.{padded, written};
+ghost use Rattle.placement.specs.Ready.{Signing};
 ghost use Rattle.waiting.specs.Words.{sourceOf};
-ghost use Rattle.hashing.specs.Generator.{multipliers};
 ghost use Rattle.waiting.specs.Lists.{allBelow};
 ghost use Rattle.waiting.specs.Gather.{stretch, starsIn};
-ghost use Rattle.waiting.specs.Settle.{homesUpTo};
-ghost use Rattle.planning.specs.Plans.{slotSource, stretchWords, PagePlanned, Planned};
+ghost use Rattle.waiting.specs.Settle.{homesUpTo, Probing};
+ghost use Rattle.planning.specs.Plans.{slotSource, PlansPage, PlansStretch};
+use hashing::Parameters;
 use waiting::gather;
 use waiting::settle;
 
@@ -57,24 +58,22 @@ fn close_up(waiting: &mut [u64], from: usize, end: usize) -> usize
 // One page of the plan. The words that pass on stand from the answer up to `reach`.
 fn settle_page(
     table: &[u32; 2049],
-    bits: u32,
+    parameters: Parameters,
     pool: &mut [u32],
     waiting: &mut [u64],
     planned: &mut [u8],
-    places: usize,
     from: usize,
     reach: usize,
     page: usize,
 ) -> usize
-    requires { ⌜ now table ≡ multipliers ⌝ }
-    requires { ⌜ ((1 ≤ bits) × (bits ≤ 8)) × (places ≤ 32) ⌝ }
-    requires { ⌜ (from ≤ reach) × ((reach ≤ length (now waiting)) × (reach ≤ 32768)) ⌝ }
-    requires { ⌜ (page < 1024) × (homesUpTo page (slice from reach (now waiting)) ≡ true) ⌝ }
-    requires { ⌜ (page < length (now planned)) × (page * places + places ≤ length (now pool)) ⌝ }
-    ensures { λ r. ⌜ PagePlanned bits places page (slice from reach (now (waiting .entry))) reach (now (waiting .entry)) (now (waiting .exit)) (now (pool .entry)) (now (pool .exit)) (now (planned .entry)) (now (planned .exit)) r ⌝ }
+    requires { ⌜ Signing parameters (now table) ⌝ }
+    requires { ⌜ Probing page from reach (now waiting) ⌝ }
+    requires { ⌜ (page < length (now planned)) × (page * parameters .places + parameters .places ≤ length (now pool)) ⌝ }
+    ensures { λ r. ⌜ PlansPage parameters page from reach waiting pool planned r ⌝ }
 {
+    let places = parameters.places as usize;
     let mut slots = [0u64; 32];
-    let settled = settle(table, bits, places, waiting, from, reach, page, &mut slots);
+    let settled = settle(table, parameters, waiting, from, reach, page, &mut slots);
     planned[page] = settled.separator as u8;
     store_sources(pool, &slots, page * places, places, settled.kept);
     settled.from
@@ -84,27 +83,26 @@ fn settle_page(
 // The pool holds the homes of the stretch's items, and sources afterwards. The words carried past the stretch are left at the front; the answer is their count.
 pub fn plan(
     table: &[u32; 2049],
-    bits: u32,
+    parameters: Parameters,
     numbers: &[u32],
     pool: &mut [u32],
     waiting: &mut [u64],
     planned: &mut [u8],
-    places: usize,
     lo: usize,
     count: usize,
     without: u32,
     carried: usize,
 ) -> usize
-    requires { ⌜ now table ≡ multipliers ⌝ }
-    requires { ⌜ ((1 ≤ bits) × (bits ≤ 8)) × (places ≤ 32) ⌝ }
+    requires { ⌜ Signing parameters (now table) ⌝ }
     requires { ⌜ (0 < count) × ((lo + count ≤ 1024) × (lo + count ≤ length (now planned))) ⌝ }
-    requires { ⌜ ((lo + count) * places ≤ length (now numbers)) × ((lo + count) * places ≤ length (now pool)) ⌝ }
-    requires { ⌜ allBelow (2 ^ 31) (stretch places lo count (now numbers)) ≡ true ⌝ }
-    requires { ⌜ allBelow (lo + count) (stretch places lo count (now pool)) ≡ true ⌝ }
-    requires { ⌜ (carried + starsIn without (stretch places lo count (now numbers)) ≤ length (now waiting)) × (length (now waiting) ≤ 32768) ⌝ }
+    requires { ⌜ ((lo + count) * parameters .places ≤ length (now numbers)) × ((lo + count) * parameters .places ≤ length (now pool)) ⌝ }
+    requires { ⌜ allBelow (2 ^ 31) (stretch (parameters .places) lo count (now numbers)) ≡ true ⌝ }
+    requires { ⌜ allBelow (lo + count) (stretch (parameters .places) lo count (now pool)) ≡ true ⌝ }
+    requires { ⌜ (carried + starsIn without (stretch (parameters .places) lo count (now numbers)) ≤ length (now waiting)) × (length (now waiting) ≤ 32768) ⌝ }
     requires { ⌜ homesUpTo lo (take carried (now waiting)) ≡ true ⌝ }
-    ensures { λ r. ⌜ Planned bits places lo count (take carried (now (waiting .entry))) (stretchWords places lo count without (now (numbers .entry)) (now (pool .entry))) (now (pool .entry)) (now (pool .exit)) (now (planned .entry)) (now (planned .exit)) (now (waiting .exit)) r ⌝ }
+    ensures { λ r. ⌜ PlansStretch parameters lo count without carried numbers pool waiting planned r ⌝ }
 {
+    let places = parameters.places as usize;
     let mut ends = [0u32; 1024];
     let end = gather(
         numbers,
@@ -123,11 +121,10 @@ pub fn plan(
         let reach = ends[v] as usize;
         from = settle_page(
             table,
-            bits,
+            parameters,
             pool,
             waiting,
             planned,
-            places,
             from,
             reach,
             lo + v,

@@ -188,7 +188,7 @@ fn clear_words(waiting: &mut [u64])
     }
 }
 
-// The pool after every call that uses it.
+// Zeros in both lists: the pool after a call that used it, and the places of an empty file.
 pub fn clear(pool: &mut [u32], waiting: &mut [u64])
     ensures { λ _. ⌜ now (pool .exit) ≡ replicate (length (now (pool .entry))) 0 ⌝ }
     ensures { λ _. ⌜ now (waiting .exit) ≡ replicate (length (now (waiting .entry))) 0 ⌝ }

@@ -1,4 +1,4 @@
-// Which pages a call re-places, and the plan over them: the survey of a stretch, the end of a stretch, block after block for an entry.
+// Which pages a call re-places: where a stretch of pages ends, and the survey of its pages.
 mod ends;
 mod surveying;
 

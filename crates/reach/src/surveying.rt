@@ -1,14 +1,10 @@
 // The survey of a stretch: each page is tested upward, and its stars' homes are kept.
 ghost use mathlib.Core.Path.{_≡_};
-ghost use mathlib.Core.Bool.{true};
-ghost use Prim.Native.Nat.{_+_, _-_, _*_, _≤_, _<_};
-ghost use lib.ListN.{length, drop};
-ghost use lib.Seq.{paste};
-ghost use Rattle.hashing.specs.Generator.{multipliers};
-ghost use Rattle.hashing.specs.Limits.{validParameters, validGrowth};
-ghost use Rattle.placement.specs.File.{Sized};
-ghost use Rattle.placement.specs.Hash.{homesOf, lent};
-ghost use Rattle.reach.specs.Reach.{firstUnsound};
+ghost use Prim.Native.Nat.{_-_, _*_, _≤_};
+ghost use lib.ListN.{length};
+ghost use Rattle.placement.specs.Lent.{held, before};
+ghost use Rattle.placement.specs.Ready.{Ready};
+ghost use Rattle.reach.specs.Reach.{firstUnsound, homesKept};
 use hashing::Geometry;
 
 // The first unsound page from `from` up to the one before `stop`, or `stop`.
@@ -22,15 +18,12 @@ pub fn survey_pages(
     from: usize,
     stop: usize,
 ) -> usize
-    requires { ⌜ now table ≡ multipliers ⌝ }
-    requires { ⌜ validParameters (geometry .parameters) ≡ true ⌝ }
-    requires { ⌜ validGrowth (geometry .parameters) (geometry .growth) ≡ true ⌝ }
-    requires { ⌜ Sized (geometry .parameters .places) (geometry .parameters .pages) (lent (now separators) (now numbers) (now words)) ⌝ }
+    requires { ⌜ Ready geometry (now table) (held separators numbers words) ⌝ }
     requires { ⌜ length (now homes) ≡ geometry .parameters .pages * geometry .parameters .places ⌝ }
     requires { ⌜ from ≤ stop ⌝ }
     requires { ⌜ stop ≤ geometry .parameters .pages ⌝ }
-    ensures { λ r. ⌜ r ≡ firstUnsound (geometry .parameters) (geometry .growth) (lent (now (separators .entry)) (now (numbers .entry)) (now (words .entry))) from (stop - from) ⌝ }
-    ensures { λ r. ⌜ (r ≡ stop → now (homes .exit) ≡ paste (now (homes .entry)) (from * geometry .parameters .places) (homesOf (geometry .parameters) (geometry .growth) (drop (from * geometry .parameters .places) (now (numbers .entry)))) ((stop - from) * geometry .parameters .places)) ⌝ }
+    ensures { λ r. ⌜ r ≡ firstUnsound (geometry .parameters) (geometry .growth) (before separators numbers words) from (stop - from) ⌝ }
+    ensures { λ r. ⌜ (r ≡ stop → now (homes .exit) ≡ homesKept geometry from stop (now (numbers .entry)) (now (homes .entry))) ⌝ }
 {
     let mut page = from;
     while page < stop {

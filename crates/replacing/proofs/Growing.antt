@@ -29,7 +29,7 @@ use Rattle.reach.proofs.Surveyed.{unsound}
 use Rattle.reach.proofs.Pastes.{map-take, map-drop}
 use Rattle.planning.proofs.Copies.{Copied, turn, unread}
 use Rattle.planning.proofs.Sourcing.{itemHome}
-use Rattle.planning.proofs.Placed.{Ready, probes-real, homes-real}
+use Rattle.planning.proofs.Placed.{Gatherable, probes-real, homes-real}
 use Rattle.replacing.specs.declared.Replaced.the-variants.{Done, Unsound, Overflows}
 use Rattle.replacing.specs.Stretch.{Plannable, fitting, restretched}
 use Rattle.replacing.specs.Calls.{hash, growthAnswer, growthFile}
@@ -145,21 +145,21 @@ module _ (p : Parameters) (g : Growth) (f : File) (valid : validParameters p ≡
           (ne-eqb (s .number) 0
           (λ z. omega (arith, gathered-proper validWord (hash p g) f 0 (p .pages) (real-sound p g f 0 (p .pages) (all-sound p g f 0 (p .pages) sound-pages)) s m .0))))
 
-      ready : Ready (hash p (grown p g)) (p .places) 0 (p .pages) f pool
+      ready : Gatherable (hash p (grown p g)) (p .places) 0 (p .pages) f pool
       ready = ready-stretch p f valid sized 0 (p .pages) (omega arith) (omega arith) pool size below within (hash p (grown p g)) true-homes
 
       all-are-sound : ltb (firstUnsound p g f 0 (p .pages)) (p .pages) ≡ false
       all-are-sound = le-ltb (firstUnsound p g f 0 (p .pages)) (p .pages) (omega (arith, sound-pages))
 
-      pub growth-plannable : (waiting : List ℕ) → length waiting ≡ p .pages * p .places → Plannable (p .bits) (p .places) 0 (p .pages) f pool waiting
+      pub growth-plannable : (waiting : List ℕ) → length waiting ≡ p .pages * p .places → Plannable p 0 (p .pages) f pool waiting
       growth-plannable waiting ew = plannable-stretch p f valid sized 0 (p .pages) (omega arith) (omega arith) pool size below within waiting ew
 
-      pub growth-done : (r : Bool) → r ≡ fitting (p .bits) (p .places) 0 (p .pages) 0 f pool → (f′ : File) → f′ ≡ restretched (p .bits) (p .places) 0 (p .pages) 0 f pool
+      pub growth-done : (r : Bool) → r ≡ fitting p 0 (p .pages) 0 f pool → (f′ : File) → f′ ≡ restretched p 0 (p .pages) 0 f pool
           → (cond r Done Overflows ≡ growthAnswer p g f (grown p g)) × (f′ ≡ growthFile p g f (grown p g))
       unfolding growthAnswer growthFile
       growth-done r er f′ ef =
           let H : Hash = hash p (grown p g) in
           let is : r ≡ isEmpty (left H 0 (p .pages) (gathered (p .places) f 0 (p .pages))) =
-          rw none-out at (er ∙ fitting-is H (p .bits) (p .places) (probes-real p (grown p g)) 0 (p .pages) f pool ready 0) in
+          rw none-out at (er ∙ fitting-is H p (probes-real p (grown p g)) 0 (p .pages) f pool ready 0) in
           rw (all-are-sound, is)
-          (refl, ef ∙ rw none-out at (restretched-is H (p .bits) (p .places) (probes-real p (grown p g)) 0 (p .pages) f pool ready 0))
+          (refl, ef ∙ rw none-out at (restretched-is H p (probes-real p (grown p g)) 0 (p .pages) f pool ready 0))

@@ -26,7 +26,7 @@ use Rattle.reach.specs.Reach.{firstUnsound}
 use Rattle.reach.proofs.Search.{such}
 use Rattle.reach.proofs.Surveyed.{unsound}
 use Rattle.planning.proofs.Sourcing.{itemHome, length-stretch}
-use Rattle.planning.proofs.Placed.{Ready, surveyed-homes}
+use Rattle.planning.proofs.Placed.{Gatherable, surveyed-homes}
 use Rattle.replacing.specs.Stretch.{Plannable}
 
 -- a bound that every item keeps
@@ -82,12 +82,10 @@ module _ (p : Parameters) (f : File) (valid : validParameters p ≡ true) (sized
     few : p .pages * p .places ≤ 32768
     few = omega (arith, mul-le-mul (limits p valid .pages-most) (limits p valid .places-most))
 
-    pub plannable-stretch : (waiting : List ℕ) → length waiting ≡ p .pages * p .places → Plannable (p .bits) (p .places) lo n f hs waiting
+    pub plannable-stretch : (waiting : List ℕ) → length waiting ≡ p .pages * p .places → Plannable p lo n f hs waiting
     plannable-stretch waiting ew =
         let l = limits p valid in
         record {
-          bits-least = l .bits-least;
-          bits-most = l .bits-most;
           places-most = l .places-most;
           some = some;
           pages-most = omega (arith, l .pages-most);
@@ -101,7 +99,7 @@ module _ (p : Parameters) (f : File) (valid : validParameters p ≡ true) (sized
           within = within;
         }
 
-    pub ready-stretch : (H : Hash) → stretch (p .places) lo n hs ≡ map (itemHome H) (stretch (p .places) lo n (f .numbers)) → Ready H (p .places) lo n f hs
+    pub ready-stretch : (H : Hash) → stretch (p .places) lo n hs ≡ map (itemHome H) (stretch (p .places) lo n (f .numbers)) → Gatherable H (p .places) lo n f hs
     ready-stretch H e =
         record {
           some = some;
@@ -130,8 +128,8 @@ module _ (p : Parameters) (g : Growth) (f : File) (valid : validParameters p ≡
   within : allBelow (lo + n) (stretch (p .places) lo n pool′) ≡ true
   within = rw surveyed (homes-below p f valid sized lo n inside g (all-sound p g f lo n sound))
 
-  pub plannable-surveyed : (waiting : List ℕ) → length pool′ ≡ p .pages * p .places → length waiting ≡ p .pages * p .places → Plannable (p .bits) (p .places) lo n f pool′ waiting
+  pub plannable-surveyed : (waiting : List ℕ) → length pool′ ≡ p .pages * p .places → length waiting ≡ p .pages * p .places → Plannable p lo n f pool′ waiting
   plannable-surveyed waiting ep ew = plannable-stretch p f valid sized lo n inside some pool′ ep below within waiting ew
 
-  pub ready-surveyed : length pool′ ≡ p .pages * p .places → Ready (hashOf p g) (p .places) lo n f pool′
+  pub ready-surveyed : length pool′ ≡ p .pages * p .places → Gatherable (hashOf p g) (p .places) lo n f pool′
   ready-surveyed ep = ready-stretch p f valid sized lo n inside some pool′ ep below within (hashOf p g) surveyed

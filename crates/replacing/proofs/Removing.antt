@@ -101,17 +101,17 @@ module _ (p : Parameters) (g : Growth) (f : File) (k : ℕ) where
           sound-fits validWord (hash p g) f (p .pages) from n (λ (s : Star). not (eqb (s .number) k)) sized inside
           (real-sound p g f from n (all-sound p g f from n sound-stretch))
 
-      pub removal-plannable : (waiting : List ℕ) → length waiting ≡ p .pages * p .places → Plannable (p .bits) (p .places) from (last + 1 - from) f pool′ waiting
+      pub removal-plannable : (waiting : List ℕ) → length waiting ≡ p .pages * p .places → Plannable p from (last + 1 - from) f pool′ waiting
       unfolding n
       removal-plannable waiting ew = plannable-surveyed p g f valid sized from n some inside sound-stretch pool pool′ size kept waiting size′ ew
 
-      pub removal-done : (Done ≡ removalAnswer p g f k) × (restretched (p .bits) (p .places) from (last + 1 - from) k f pool′ ≡ removalFile p g f k)
+      pub removal-done : (Done ≡ removalAnswer p g f k) × (restretched p from (last + 1 - from) k f pool′ ≡ removalFile p g f k)
       unfolding removalAnswer removalFile n
       removal-done =
           let t : ltb (unsoundOf p g f k) (startOf p g k + countOf p g f k) ≡ false =
           le-ltb (unsoundOf p g f k) (startOf p g k + countOf p g f k) (omega (arith, stop, same-unsound)) in
-          let done : restretched (p .bits) (p .places) from n k f pool′ ≡ replaced (p .places) f from (pages (hash p g) from n (without k (gathered (p .places) f from n))) =
-          restretched-is (hash p g) (p .bits) (p .places) (probes-real p g) from n f pool′
+          let done : restretched p from n k f pool′ ≡ replaced (p .places) f from (pages (hash p g) from n (without k (gathered (p .places) f from n))) =
+          restretched-is (hash p g) p (probes-real p g) from n f pool′
           (ready-surveyed p g f valid sized from n some inside sound-stretch pool pool′ size kept size′) k
           ∙ rw fits in
           rw t (refl, done ∙ rw (count, R .start))

@@ -8,17 +8,18 @@ use native.Mathlib.Omega.{arith}
 use lib.Dec.{eqb}
 use lib.ListN.{length, drop, take}
 use borrow.Author.Tests.{eq-eqb, ne-eqb}
+use Rattle.hashing.specs.declared.Parameters.{Parameters}
 use Rattle.placement.specs.Rule.{Star, Hash, pages, left, without}
 use Rattle.placement.specs.File.{File, gathered, replaced, written}
 use Rattle.placement.specs.Hash.{lent}
-use Rattle.waiting.specs.Gather.{stretch, skipped, starsIn}
+use Rattle.waiting.specs.Gather.{stretch, skipped, starsIn, stretchWords}
 use Rattle.reach.specs.Reach.{isEmpty}
 use Rattle.planning.specs.Sources.{named, renamed, sourced}
-use Rattle.planning.specs.Plans.{stretchWords, remains, Planned}
-use Rattle.planning.proofs.Ties.{Probes}
+use Rattle.planning.specs.Plans.{remains, Planned}
+use Rattle.planning.proofs.RuleOverWords.{Probes}
 use Rattle.planning.proofs.Applying.{applied}
 use Rattle.planning.proofs.Sourcing.{words-sourced, named-stretch, length-stretch}
-use Rattle.planning.proofs.Placed.{Ready, placed, left-count, layout, applied-layout}
+use Rattle.planning.proofs.Placed.{Gatherable, placed, left-count, layout, applied-layout}
 use Rattle.replacing.specs.Stretch.{Plannable, newPages, fitting, restretched}
 
 -- the stars of some items are at most the items
@@ -31,53 +32,53 @@ stars-most k (x ∷ l) = go (skipped k x) (stars-most k l)
     go true h = omega arith
     go false h = omega arith
 
-module _ (bits places lo n : ℕ) (f : File) (pool waiting : List ℕ) (L : Plannable bits places lo n f pool waiting) (k : ℕ) where
-  -- the waiting list has room for the stretch's stars
-  pub stars-fit : 0 + starsIn k (stretch places lo n (f .numbers)) ≤ length waiting
+module _ (q : Parameters) (lo n : ℕ) (f : File) (pool waiting : List ℕ) (L : Plannable q lo n f pool waiting) (k : ℕ) where
+  -- the waiting list has (q .places) for the stretch's stars
+  pub stars-fit : 0 + starsIn k (stretch (q .places) lo n (f .numbers)) ≤ length waiting
   stars-fit =
       omega (
         arith,
-        stars-most k (stretch places lo n (f .numbers)),
-        length-stretch places lo n (f .numbers) (L .numbers-long),
-        add-mul lo n places,
+        stars-most k (stretch (q .places) lo n (f .numbers)),
+        length-stretch (q .places) lo n (f .numbers) (L .numbers-long),
+        add-mul lo n (q .places),
         L .waiting-long,
       )
 
-  stretch-sourced : sourced (f .numbers) 0 (stretchWords places lo n k (f .numbers) pool) ≡ true
+  stretch-sourced : sourced (f .numbers) 0 (stretchWords (q .places) lo n k (f .numbers) pool) ≡ true
   stretch-sourced =
-      words-sourced (lo * places) k (stretch places lo n (f .numbers)) (stretch places lo n pool) (L .valid)
+      words-sourced (lo * q .places) k (stretch (q .places) lo n (f .numbers)) (stretch (q .places) lo n pool) (L .valid)
       (omega (
         arith,
-        length-stretch places lo n (f .numbers) (L .numbers-long),
-        add-mul lo n places,
+        length-stretch (q .places) lo n (f .numbers) (L .numbers-long),
+        add-mul lo n (q .places),
         mul-le-mul (L .pages-most) (L .places-most),
       ))
-      (f .numbers) 0 (named-stretch places lo n 0 (f .numbers) (L .numbers-long))
+      (f .numbers) 0 (named-stretch (q .places) lo n 0 (f .numbers) (L .numbers-long))
 
   -- the plan applied
   applied-stretch : (pool′ planned planned′ W′ : List ℕ) (r : ℕ) → lo + n ≤ length planned
-      → Planned bits places lo n [] (stretchWords places lo n k (f .numbers) pool) pool pool′ planned planned′ W′ r
-      → applied places lo n 0 0 pool′ planned′ f ≡ replaced places f lo (newPages bits places lo n k f pool)
+      → Planned q lo n [] (stretchWords (q .places) lo n k (f .numbers) pool) pool pool′ planned planned′ W′ r
+      → applied (q .places) lo n 0 0 pool′ planned′ f ≡ replaced (q .places) f lo (newPages q lo n k f pool)
   unfolding newPages
   applied-stretch pool′ planned planned′ W′ r long P =
-      let l : List ℕ = stretchWords places lo n k (f .numbers) pool in
-      applied-layout bits places lo n 0 0 f [] l pool′ planned′ W′ r
-      (layout bits places lo n [] l pool pool′ planned planned′ W′ r P (L .pool-long) long)
+      let l : List ℕ = stretchWords (q .places) lo n k (f .numbers) pool in
+      applied-layout q lo n 0 0 f [] l pool′ planned′ W′ r
+      (layout q lo n [] l pool pool′ planned planned′ W′ r P (L .pool-long) long)
       (unfold sourced Rattle.waiting.specs.Lists.all in refl) stretch-sourced
 
   -- what the answer of the plan decides
-  module _ (pool′ planned planned′ W′ : List ℕ) (r : ℕ) (P : Planned bits places lo n [] (stretchWords places lo n k (f .numbers) pool) pool pool′ planned planned′ W′ r) where
-    pub stretch-kept : (r ≡ 0 → ⊥) → (false ≡ fitting bits places lo n k f pool) × (f ≡ restretched bits places lo n k f pool)
+  module _ (pool′ planned planned′ W′ : List ℕ) (r : ℕ) (P : Planned q lo n [] (stretchWords (q .places) lo n k (f .numbers) pool) pool pool′ planned planned′ W′ r) where
+    pub stretch-kept : (r ≡ 0 → ⊥) → (false ≡ fitting q lo n k f pool) × (f ≡ restretched q lo n k f pool)
     unfolding fitting restretched
     stretch-kept some =
-        let e : eqb (length (remains bits places lo 0 n [] (stretchWords places lo n k (f .numbers) pool))) 0 ≡ false = ne-eqb _ 0 (λ z. some (P .counted ∙ z)) in
+        let e : eqb (length (remains q lo 0 n [] (stretchWords (q .places) lo n k (f .numbers) pool))) 0 ≡ false = ne-eqb _ 0 (λ z. some (P .counted ∙ z)) in
         rw e (refl, refl)
 
     pub stretch-placed : r ≡ 0 → lo + n ≤ length planned
-        → (true ≡ fitting bits places lo n k f pool) × (applied places lo n 0 0 pool′ planned′ f ≡ restretched bits places lo n k f pool)
+        → (true ≡ fitting q lo n k f pool) × (applied (q .places) lo n 0 0 pool′ planned′ f ≡ restretched q lo n k f pool)
     unfolding fitting restretched
     stretch-placed none long =
-        let e : eqb (length (remains bits places lo 0 n [] (stretchWords places lo n k (f .numbers) pool))) 0 ≡ true = eq-eqb _ 0 (sym (P .counted) ∙ none) in
+        let e : eqb (length (remains q lo 0 n [] (stretchWords (q .places) lo n k (f .numbers) pool))) 0 ≡ true = eq-eqb _ 0 (sym (P .counted) ∙ none) in
         rw e (refl, applied-stretch pool′ planned planned′ W′ r long P)
 
 -- the lists that the code leaves are the applied file's
@@ -93,15 +94,15 @@ none-left : (w : List Star) → eqb (length w) 0 ≡ isEmpty w
 none-left [] = refl
 none-left (s ∷ w) = ne-eqb (suc (length w)) 0 (λ e. omega arith)
 
-module _ (H : Hash) (bits places : ℕ) (real : Probes H bits places) (lo n : ℕ) (f : File) (hs : List ℕ) (R : Ready H places lo n f hs) (k : ℕ) where
-  pub fitting-is : fitting bits places lo n k f hs ≡ isEmpty (left H lo n (without k (gathered places f lo n)))
+module _ (H : Hash) (q : Parameters) (real : Probes H q) (lo n : ℕ) (f : File) (hs : List ℕ) (R : Gatherable H (q .places) lo n f hs) (k : ℕ) where
+  pub fitting-is : fitting q lo n k f hs ≡ isEmpty (left H lo n (without k (gathered (q .places) f lo n)))
   unfolding fitting
   fitting-is =
-      let past : List ℕ = remains bits places lo 0 n [] (stretchWords places lo n k (f .numbers) hs) in
-      let w : List Star = left H lo n (without k (gathered places f lo n)) in
-      ap (λ (m : ℕ). eqb m 0) (sym (left-count (renamed (f .words) 0) past w (placed H bits places real lo n f hs R k 0 .1))) ∙ none-left w
+      let past : List ℕ = remains q lo 0 n [] (stretchWords (q .places) lo n k (f .numbers) hs) in
+      let w : List Star = left H lo n (without k (gathered (q .places) f lo n)) in
+      ap (λ (m : ℕ). eqb m 0) (sym (left-count (renamed (f .words) 0) past w (placed H q real lo n f hs R k 0 .1))) ∙ none-left w
 
-  pub restretched-is : restretched bits places lo n k f hs
-      ≡ cond (isEmpty (left H lo n (without k (gathered places f lo n)))) (replaced places f lo (pages H lo n (without k (gathered places f lo n)))) f
+  pub restretched-is : restretched q lo n k f hs
+      ≡ cond (isEmpty (left H lo n (without k (gathered (q .places) f lo n)))) (replaced (q .places) f lo (pages H lo n (without k (gathered (q .places) f lo n)))) f
   unfolding restretched newPages
-  restretched-is = rw (fitting-is, placed H bits places real lo n f hs R k 0 .0)
+  restretched-is = rw (fitting-is, placed H q real lo n f hs R k 0 .0)

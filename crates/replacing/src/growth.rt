@@ -1,13 +1,10 @@
 // Growth by one page: all stars placed anew under the next growth state.
 ghost use mathlib.Core.Path.{_≡_};
-ghost use mathlib.Core.Bool.{true};
-ghost use Prim.Native.Nat.{_*_, _<_};
-ghost use lib.ListN.{length};
-ghost use Rattle.hashing.specs.Generator.{multipliers};
+ghost use Prim.Native.Nat.{_<_};
 ghost use Rattle.hashing.specs.Geometry.{pageCount, grown};
-ghost use Rattle.hashing.specs.Limits.{validParameters, validGrowth};
-ghost use Rattle.placement.specs.File.{Sized};
-ghost use Rattle.placement.specs.Hash.{lent, homeIn, homesOf};
+ghost use Rattle.placement.specs.Hash.{homeIn, homesOf};
+ghost use Rattle.placement.specs.Lent.{held, before, after};
+ghost use Rattle.placement.specs.Ready.{Homing, Ready, Pooled};
 ghost use Rattle.replacing.specs.Calls.{growthAnswer, growthFile};
 use crate::Replaced;
 use crate::stretch::replace_stretch;
@@ -15,9 +12,7 @@ use hashing::Geometry;
 
 // An item's home under the next growth state, from its home under this one; 0 for an empty place.
 fn next_home(table: &[u32; 2049], geometry: Geometry, number: u32, old: u32) -> u32
-    requires { ⌜ now table ≡ multipliers ⌝ }
-    requires { ⌜ validParameters (geometry .parameters) ≡ true ⌝ }
-    requires { ⌜ validGrowth (geometry .parameters) (geometry .growth) ≡ true ⌝ }
+    requires { ⌜ Homing geometry (now table) ⌝ }
     requires { ⌜ old ≡ homeIn (geometry .parameters) (geometry .growth) number ⌝ }
     ensures { λ r. ⌜ r ≡ homeIn (geometry .parameters) (grown (geometry .parameters) (geometry .growth)) number ⌝ }
 {
@@ -28,9 +23,7 @@ fn next_home(table: &[u32; 2049], geometry: Geometry, number: u32, old: u32) -> 
 }
 
 fn rehome(table: &[u32; 2049], geometry: Geometry, numbers: &[u32], homes: &mut [u32])
-    requires { ⌜ now table ≡ multipliers ⌝ }
-    requires { ⌜ validParameters (geometry .parameters) ≡ true ⌝ }
-    requires { ⌜ validGrowth (geometry .parameters) (geometry .growth) ≡ true ⌝ }
+    requires { ⌜ Homing geometry (now table) ⌝ }
     requires { ⌜ now homes ≡ homesOf (geometry .parameters) (geometry .growth) (now numbers) ⌝ }
     ensures { λ _. ⌜ now (homes .exit) ≡ homesOf (geometry .parameters) (grown (geometry .parameters) (geometry .growth)) (now (numbers .entry)) ⌝ }
 {
@@ -53,18 +46,13 @@ pub fn regrow(
     pool: &mut [u32],
     waiting: &mut [u64],
 ) -> Replaced
-    requires { ⌜ now table ≡ multipliers ⌝ }
-    requires { ⌜ validParameters (geometry .parameters) ≡ true ⌝ }
-    requires { ⌜ validGrowth (geometry .parameters) (geometry .growth) ≡ true ⌝ }
+    requires { ⌜ Ready geometry (now table) (held separators numbers words) ⌝ }
+    requires { ⌜ Pooled (geometry .parameters) (now pool) (now waiting) ⌝ }
     requires { ⌜ pageCount (geometry .parameters) (geometry .growth) < geometry .parameters .pages ⌝ }
-    requires { ⌜ Sized (geometry .parameters .places) (geometry .parameters .pages) (lent (now separators) (now numbers) (now words)) ⌝ }
-    requires { ⌜ (length (now pool) ≡ geometry .parameters .pages * geometry .parameters .places) × (length (now waiting) ≡ geometry .parameters .pages * geometry .parameters .places) ⌝ }
-    ensures { λ r. ⌜ r ≡ growthAnswer (geometry .parameters) (geometry .growth) (lent (now (separators .entry)) (now (numbers .entry)) (now (words .entry))) (grown (geometry .parameters) (geometry .growth)) ⌝ }
-    ensures { λ r. ⌜ lent (now (separators .exit)) (now (numbers .exit)) (now (words .exit)) ≡ growthFile (geometry .parameters) (geometry .growth) (lent (now (separators .entry)) (now (numbers .entry)) (now (words .entry))) (grown (geometry .parameters) (geometry .growth)) ⌝ }
+    ensures { λ r. ⌜ r ≡ growthAnswer (geometry .parameters) (geometry .growth) (before separators numbers words) (grown (geometry .parameters) (geometry .growth)) ⌝ }
+    ensures { λ r. ⌜ after separators numbers words ≡ growthFile (geometry .parameters) (geometry .growth) (before separators numbers words) (grown (geometry .parameters) (geometry .growth)) ⌝ }
 {
-    let places = geometry.parameters.places as usize;
     let pages = geometry.parameters.pages as usize;
-    let bits = geometry.parameters.bits;
     let bad = reach::survey_pages(table, geometry, separators, numbers, words, pool, 0, pages);
     if bad < pages {
         return Replaced::Unsound(bad);
@@ -72,13 +60,12 @@ pub fn regrow(
     rehome(table, geometry, numbers, pool);
     if !replace_stretch(
         table,
-        bits,
+        geometry.parameters,
         separators,
         numbers,
         words,
         pool,
         waiting,
-        places,
         0,
         pages,
         0,

@@ -1,12 +1,7 @@
 // The removal of a star over its reach.
 ghost use mathlib.Core.Path.{_≡_};
-ghost use mathlib.Core.Bool.{true};
-ghost use Prim.Native.Nat.{_*_};
-ghost use lib.ListN.{length};
-ghost use Rattle.hashing.specs.Generator.{multipliers};
-ghost use Rattle.hashing.specs.Limits.{validParameters, validGrowth};
-ghost use Rattle.placement.specs.File.{Sized};
-ghost use Rattle.placement.specs.Hash.{lent};
+ghost use Rattle.placement.specs.Lent.{held, before, after};
+ghost use Rattle.placement.specs.Ready.{Ready, Pooled};
 ghost use Rattle.replacing.specs.Calls.{removalAnswer, removalFile};
 use crate::Replaced;
 use crate::stretch::replace_stretch;
@@ -23,18 +18,14 @@ pub fn remove_star(
     waiting: &mut [u64],
     number: u32,
 ) -> Replaced
-    requires { ⌜ now table ≡ multipliers ⌝ }
-    requires { ⌜ validParameters (geometry .parameters) ≡ true ⌝ }
-    requires { ⌜ validGrowth (geometry .parameters) (geometry .growth) ≡ true ⌝ }
-    requires { ⌜ Sized (geometry .parameters .places) (geometry .parameters .pages) (lent (now separators) (now numbers) (now words)) ⌝ }
-    requires { ⌜ (length (now pool) ≡ geometry .parameters .pages * geometry .parameters .places) × (length (now waiting) ≡ geometry .parameters .pages * geometry .parameters .places) ⌝ }
-    ensures { λ r. ⌜ r ≡ removalAnswer (geometry .parameters) (geometry .growth) (lent (now (separators .entry)) (now (numbers .entry)) (now (words .entry))) number ⌝ }
-    ensures { λ r. ⌜ lent (now (separators .exit)) (now (numbers .exit)) (now (words .exit)) ≡ removalFile (geometry .parameters) (geometry .growth) (lent (now (separators .entry)) (now (numbers .entry)) (now (words .entry))) number ⌝ }
+    requires { ⌜ Ready geometry (now table) (held separators numbers words) ⌝ }
+    requires { ⌜ Pooled (geometry .parameters) (now pool) (now waiting) ⌝ }
+    ensures { λ r. ⌜ r ≡ removalAnswer (geometry .parameters) (geometry .growth) (before separators numbers words) number ⌝ }
+    ensures { λ r. ⌜ after separators numbers words ≡ removalFile (geometry .parameters) (geometry .growth) (before separators numbers words) number ⌝ }
 {
-    let places = geometry.parameters.places as usize;
-    let bits = geometry.parameters.bits;
+    let parameters = geometry.parameters;
     let from = hashing::home(table, geometry, number) as usize;
-    let last = reach::stretch_end(separators, (1 << bits) - 1, from);
+    let last = reach::stretch_end(separators, placement::top_of(parameters), from);
     let stop = last + 1;
     let bad = reach::survey_pages(
         table,
@@ -51,13 +42,12 @@ pub fn remove_star(
     }
     replace_stretch(
         table,
-        bits,
+        parameters,
         separators,
         numbers,
         words,
         pool,
         waiting,
-        places,
         from,
         stop - from,
         number,

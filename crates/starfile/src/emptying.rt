@@ -1,8 +1,6 @@
 // Making an empty file.
 ghost use mathlib.Core.Path.{_≡_};
-ghost use Prim.Native.Nat.{_≤_};
 ghost use lib.ListN.{length, replicate};
-ghost use Rattle.hashing.specs.Generator.{topOf};
 ghost use Rattle.starfile.specs.Answers.{Leaves, lent, unpooled, placed};
 ghost use Rattle.starfile.specs.Calls.{makeOf};
 use crate::answers::Grown;
@@ -38,7 +36,7 @@ pub fn make(
             growth,
         };
     }
-    fill(separators, top(parameters.bits));
+    fill(separators, placement::top_of(parameters));
     planning::clear(numbers, words);
     Grown {
         answer: Placed::On(0),
@@ -54,12 +52,4 @@ fn fill(separators: &mut [u8], top: u8)
         separators[i] = top;
         i += 1;
     }
-}
-
-// 2^k − 1, the greatest separator.
-fn top(bits: u32) -> u8
-    requires { ⌜ (1 ≤ bits) × (bits ≤ 8) ⌝ }
-    ensures { λ r. ⌜ r ≡ topOf bits ⌝ }
-{
-    ((1u32 << bits) - 1) as u8
 }

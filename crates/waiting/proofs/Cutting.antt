@@ -8,143 +8,144 @@ use lib.Arith.{le-zero}
 use lib.Dec.{leb, ltb, eqb}
 use lib.ListN.{length, getD}
 use borrow.Author.Tests.{leb-true, leb-false, ltb-true, ltb-false, eqb-true, eqb-false, le-leb, lt-leb, lt-ltb, le-ltb}
-use Rattle.hashing.specs.Generator.{multiplier, topOf}
+use Rattle.hashing.specs.declared.Parameters.{Parameters}
+use Rattle.hashing.specs.Generator.{multiplierOf, topOf}
 use Rattle.hashing.proofs.Laws.{signature-below}
-use Rattle.waiting.specs.Lists.{filter, all, alike, sumTo}
+use Rattle.waiting.specs.Lists.{filter, alike, sumTo}
 use Rattle.waiting.specs.Words.{homeOf, numberOf}
 use Rattle.waiting.specs.Settle.{signatureOf, under, staying, passing, separatorFrom, separatorOf}
 use Rattle.waiting.proofs.Lists.{filter-append, filter-length, filter-true, filter-false}
 use Rattle.waiting.proofs.Counting.{sum-next, sum-none, alike-here, alike-other}
 
-module _ (bits p : ℕ) where
-  pub stays : (v w : ℕ) (l : List ℕ) → signatureOf bits p w < v → staying bits p v (w ∷ l) ≡ w ∷ staying bits p v l
+module _ (q : Parameters) (p : ℕ) where
+  pub stays : (v w : ℕ) (l : List ℕ) → signatureOf q p w < v → staying q p v (w ∷ l) ≡ w ∷ staying q p v l
   unfolding staying under
-  stays v w l h = filter-true (under bits p v) w l (lt-ltb (signatureOf bits p w) v h)
+  stays v w l h = filter-true (under q p v) w l (lt-ltb (signatureOf q p w) v h)
 
-  pub goes : (v w : ℕ) (l : List ℕ) → v ≤ signatureOf bits p w → staying bits p v (w ∷ l) ≡ staying bits p v l
+  pub goes : (v w : ℕ) (l : List ℕ) → v ≤ signatureOf q p w → staying q p v (w ∷ l) ≡ staying q p v l
   unfolding staying under
-  goes v w l h = filter-false (under bits p v) w l (le-ltb (signatureOf bits p w) v h)
+  goes v w l h = filter-false (under q p v) w l (le-ltb (signatureOf q p w) v h)
 
-  pub passes-not : (v w : ℕ) (l : List ℕ) → signatureOf bits p w < v → passing bits p v (w ∷ l) ≡ passing bits p v l
+  pub passes-not : (v w : ℕ) (l : List ℕ) → signatureOf q p w < v → passing q p v (w ∷ l) ≡ passing q p v l
   unfolding passing under
-  passes-not v w l h = filter-false (λ x. not (under bits p v x)) w l (rw (lt-ltb (signatureOf bits p w) v h))
+  passes-not v w l h = filter-false (λ x. not (under q p v x)) w l (rw (lt-ltb (signatureOf q p w) v h))
 
-  pub passes : (v w : ℕ) (l : List ℕ) → v ≤ signatureOf bits p w → passing bits p v (w ∷ l) ≡ w ∷ passing bits p v l
+  pub passes : (v w : ℕ) (l : List ℕ) → v ≤ signatureOf q p w → passing q p v (w ∷ l) ≡ w ∷ passing q p v l
   unfolding passing under
-  passes v w l h = filter-true (λ x. not (under bits p v x)) w l (rw (le-ltb (signatureOf bits p w) v h))
+  passes v w l h = filter-true (λ x. not (under q p v x)) w l (rw (le-ltb (signatureOf q p w) v h))
 
-  pub staying-nil : (v : ℕ) → staying bits p v [] ≡ []
+  pub staying-nil : (v : ℕ) → staying q p v [] ≡ []
   unfolding staying filter
   staying-nil v = refl
 
-  pub passing-nil : (v : ℕ) → passing bits p v [] ≡ []
+  pub passing-nil : (v : ℕ) → passing q p v [] ≡ []
   unfolding passing filter
   passing-nil v = refl
 
-  pub staying-append : (v : ℕ) (a b : List ℕ) → staying bits p v (a ++ b) ≡ staying bits p v a ++ staying bits p v b
+  pub staying-append : (v : ℕ) (a b : List ℕ) → staying q p v (a ++ b) ≡ staying q p v a ++ staying q p v b
   unfolding staying
-  staying-append v a b = filter-append (under bits p v) a b
+  staying-append v a b = filter-append (under q p v) a b
 
-  pub passing-length : (v : ℕ) (l : List ℕ) → length (passing bits p v l) ≤ length l
+  pub passing-length : (v : ℕ) (l : List ℕ) → length (passing q p v l) ≤ length l
   unfolding passing
-  passing-length v l = filter-length (λ w. not (under bits p v w)) l
+  passing-length v l = filter-length (λ w. not (under q p v w)) l
 
-  pub staying-length : (v : ℕ) (l : List ℕ) → length (staying bits p v l) ≤ length l
+  pub staying-length : (v : ℕ) (l : List ℕ) → length (staying q p v l) ≤ length l
   unfolding staying
-  staying-length v l = filter-length (under bits p v) l
+  staying-length v l = filter-length (under q p v) l
 
-  pub staying-zero : (l : List ℕ) → length (staying bits p 0 l) ≡ 0
+  pub staying-zero : (l : List ℕ) → length (staying q p 0 l) ≡ 0
   staying-zero [] = ap length (staying-nil 0)
   staying-zero (w ∷ l) = ap length (goes 0 w l zero-le) ∙ staying-zero l
 
   -- one separator higher: those of that signature stay too
-  pub staying-suc : (v : ℕ) (l : List ℕ) → length (staying bits p (suc v) l) ≡ length (staying bits p v l) + length (alike (signatureOf bits p) v l)
+  pub staying-suc : (v : ℕ) (l : List ℕ) → length (staying q p (suc v) l) ≡ length (staying q p v l) + length (alike (signatureOf q p) v l)
   unfolding filter
   staying-suc v [] = rw (staying-nil v, staying-nil (suc v))
-  staying-suc v (w ∷ l) = go (ltb (signatureOf bits p w) v) refl (eqb (signatureOf bits p w) v) refl (staying-suc v l)
+  staying-suc v (w ∷ l) = go (ltb (signatureOf q p w) v) refl (eqb (signatureOf q p w) v) refl (staying-suc v l)
     where
-      go : (a : Bool) → ltb (signatureOf bits p w) v ≡ a → (b : Bool) → eqb (signatureOf bits p w) v ≡ b
-          → length (staying bits p (suc v) l) ≡ length (staying bits p v l) + length (alike (signatureOf bits p) v l)
-          → length (staying bits p (suc v) (w ∷ l)) ≡ length (staying bits p v (w ∷ l)) + length (alike (signatureOf bits p) v (w ∷ l))
+      go : (a : Bool) → ltb (signatureOf q p w) v ≡ a → (b : Bool) → eqb (signatureOf q p w) v ≡ b
+          → length (staying q p (suc v) l) ≡ length (staying q p v l) + length (alike (signatureOf q p) v l)
+          → length (staying q p (suc v) (w ∷ l)) ≡ length (staying q p v (w ∷ l)) + length (alike (signatureOf q p) v (w ∷ l))
       go a ea true eb rec =
-          let same : signatureOf bits p w ≡ v = eqb-true (signatureOf bits p w) v eb in
-          omega (arith, ap length (stays (suc v) w l (omega arith)), ap length (goes v w l (omega arith)), ap length (alike-here (signatureOf bits p) v w l same))
+          let same : signatureOf q p w ≡ v = eqb-true (signatureOf q p w) v eb in
+          omega (arith, ap length (stays (suc v) w l (omega arith)), ap length (goes v w l (omega arith)), ap length (alike-here (signatureOf q p) v w l same))
       go true ea false eb rec =
-          let less : signatureOf bits p w < v = ltb-true (signatureOf bits p w) v ea in
-          omega (arith, ap length (stays (suc v) w l (omega arith)), ap length (stays v w l less), ap length (alike-other (signatureOf bits p) v w l (eqb-false (signatureOf bits p w) v eb)))
+          let less : signatureOf q p w < v = ltb-true (signatureOf q p w) v ea in
+          omega (arith, ap length (stays (suc v) w l (omega arith)), ap length (stays v w l less), ap length (alike-other (signatureOf q p) v w l (eqb-false (signatureOf q p w) v eb)))
       go false ea false eb rec =
-          let more : v ≤ signatureOf bits p w = ltb-false (signatureOf bits p w) v ea in
-          let other : signatureOf bits p w ≡ v → ⊥ = eqb-false (signatureOf bits p w) v eb in
-          omega (arith, ap length (goes (suc v) w l (omega arith)), ap length (goes v w l more), ap length (alike-other (signatureOf bits p) v w l other))
+          let more : v ≤ signatureOf q p w = ltb-false (signatureOf q p w) v ea in
+          let other : signatureOf q p w ≡ v → ⊥ = eqb-false (signatureOf q p w) v eb in
+          omega (arith, ap length (goes (suc v) w l (omega arith)), ap length (goes v w l more), ap length (alike-other (signatureOf q p) v w l other))
 
-  pub staying-mono : (l : List ℕ) (u v : ℕ) → u ≤ v → length (staying bits p u l) ≤ length (staying bits p v l)
+  pub staying-mono : (l : List ℕ) (u v : ℕ) → u ≤ v → length (staying q p u l) ≤ length (staying q p v l)
   staying-mono l u zero h = ap-le (le-zero h)
     where
-      ap-le : u ≡ zero → length (staying bits p u l) ≤ length (staying bits p zero l)
+      ap-le : u ≡ zero → length (staying q p u l) ≤ length (staying q p zero l)
       ap-le e = rw e (omega arith)
   staying-mono l u (suc v) h = go (leb u v) refl (staying-mono l u v)
     where
-      go : (t : Bool) → leb u v ≡ t → (u ≤ v → length (staying bits p u l) ≤ length (staying bits p v l)) → length (staying bits p u l) ≤ length (staying bits p (suc v) l)
+      go : (t : Bool) → leb u v ≡ t → (u ≤ v → length (staying q p u l) ≤ length (staying q p v l)) → length (staying q p u l) ≤ length (staying q p (suc v) l)
       go true e rec = omega (arith, rec (leb-true u v e), staying-suc v l)
       go false e rec = let same : u ≡ suc v = omega (arith, leb-false u v e) in rw same (omega arith)
 
   -- the counts of the signatures below v are those that stay under it
-  pub staying-sum : (l counts : List ℕ) → ((v : ℕ) → v < 256 → getD counts v 0 ≡ length (alike (signatureOf bits p) v l))
-      → (v : ℕ) → v ≤ 256 → sumTo v counts ≡ length (staying bits p v l)
+  pub staying-sum : (l counts : List ℕ) → ((v : ℕ) → v < 256 → getD counts v 0 ≡ length (alike (signatureOf q p) v l))
+      → (v : ℕ) → v ≤ 256 → sumTo v counts ≡ length (staying q p v l)
   staying-sum l counts H zero h = sum-none counts ∙ sym (staying-zero l)
   staying-sum l counts H (suc v) h =
       omega (arith, staying-sum l counts H v (omega arith), sum-next v counts, H v h, staying-suc v l)
 
-  module _ (room : ℕ) (l : List ℕ) where
-    pub separator-found : (n v : ℕ) → v ≤ n → length (staying bits p v l) ≤ room → (v < n → room < length (staying bits p (v + 1) l)) → separatorFrom bits room p l n ≡ v
+  module _ (l : List ℕ) where
+    pub separator-found : (n v : ℕ) → v ≤ n → length (staying q p v l) ≤ q .places → (v < n → q .places < length (staying q p (v + 1) l)) → separatorFrom q p l n ≡ v
     unfolding separatorFrom
     separator-found zero v h fits more = sym (le-zero h)
     separator-found (suc n) v h fits more = go (eqb v (suc n)) refl (separator-found n v)
       where
         go : (t : Bool) → eqb v (suc n) ≡ t
-            → (v ≤ n → length (staying bits p v l) ≤ room → (v < n → room < length (staying bits p (v + 1) l)) → separatorFrom bits room p l n ≡ v)
-            → cond (leb (length (staying bits p (suc n) l)) room) (suc n) (separatorFrom bits room p l n) ≡ v
+            → (v ≤ n → length (staying q p v l) ≤ q .places → (v < n → q .places < length (staying q p (v + 1) l)) → separatorFrom q p l n ≡ v)
+            → cond (leb (length (staying q p (suc n) l)) (q .places)) (suc n) (separatorFrom q p l n) ≡ v
         go true e rec =
             let same : v ≡ suc n = eqb-true v (suc n) e in
-            rw (le-leb (length (staying bits p (suc n) l)) room (rw same at fits)) (sym same)
+            rw (le-leb (length (staying q p (suc n) l)) (q .places) (rw same at fits)) (sym same)
         go false e rec =
             let other : v ≡ suc n → ⊥ = eqb-false v (suc n) e in
-            rw (lt-leb (length (staying bits p (suc n) l)) room (omega (arith, more (omega arith), staying-mono l (v + 1) (suc n) (omega arith))))
+            rw (lt-leb (length (staying q p (suc n) l)) (q .places) (omega (arith, more (omega arith), staying-mono l (v + 1) (suc n) (omega arith))))
             (rec (omega arith) fits (λ k. more (omega arith)))
 
-    pub separator-fits : (n : ℕ) → length (staying bits p (separatorFrom bits room p l n) l) ≤ room
+    pub separator-fits : (n : ℕ) → length (staying q p (separatorFrom q p l n) l) ≤ q .places
     unfolding separatorFrom
     separator-fits zero = omega (arith, staying-zero l)
-    separator-fits (suc n) = go (leb (length (staying bits p (suc n) l)) room) refl (separator-fits n)
+    separator-fits (suc n) = go (leb (length (staying q p (suc n) l)) (q .places)) refl (separator-fits n)
       where
-        go : (t : Bool) → leb (length (staying bits p (suc n) l)) room ≡ t → length (staying bits p (separatorFrom bits room p l n) l) ≤ room
-            → length (staying bits p (cond t (suc n) (separatorFrom bits room p l n)) l) ≤ room
-        go true e rec = leb-true (length (staying bits p (suc n) l)) room e
+        go : (t : Bool) → leb (length (staying q p (suc n) l)) (q .places) ≡ t → length (staying q p (separatorFrom q p l n) l) ≤ q .places
+            → length (staying q p (cond t (suc n) (separatorFrom q p l n)) l) ≤ q .places
+        go true e rec = leb-true (length (staying q p (suc n) l)) (q .places) e
         go false e rec = rec
 
-    pub separator-most : (n : ℕ) → separatorFrom bits room p l n ≤ n
+    pub separator-most : (n : ℕ) → separatorFrom q p l n ≤ n
     unfolding separatorFrom
     separator-most zero = omega arith
-    separator-most (suc n) = go (leb (length (staying bits p (suc n) l)) room) (separator-most n)
+    separator-most (suc n) = go (leb (length (staying q p (suc n) l)) (q .places)) (separator-most n)
       where
-        go : (t : Bool) → separatorFrom bits room p l n ≤ n → cond t (suc n) (separatorFrom bits room p l n) ≤ suc n
+        go : (t : Bool) → separatorFrom q p l n ≤ n → cond t (suc n) (separatorFrom q p l n) ≤ suc n
         go true rec = omega arith
         go false rec = omega arith
 
     -- all stay where there is room for all
-    pub separator-top : length l ≤ room → separatorOf bits room p l ≡ topOf bits
+    pub separator-top : length l ≤ q .places → separatorOf q p l ≡ topOf (q .bits)
     unfolding separatorOf
-    separator-top h = separator-found (topOf bits) (topOf bits) (omega arith) (omega (arith, staying-length (topOf bits) l)) (λ k. omega arith)
+    separator-top h = separator-found (topOf (q .bits)) (topOf (q .bits)) (omega arith) (omega (arith, staying-length (topOf (q .bits)) l)) (λ k. omega arith)
 
-  module _ (some : 1 ≤ bits) where
-    pub signature-small : (w : ℕ) → signatureOf bits p w < topOf bits
+  module _ (some : 1 ≤ q .bits) where
+    pub signature-small : (w : ℕ) → signatureOf q p w < topOf (q .bits)
     unfolding signatureOf
-    signature-small w = signature-below multiplier bits (numberOf w) (p - homeOf w + 1) some
+    signature-small w = signature-below (multiplierOf q) (q .bits) (numberOf w) (p - homeOf w + 1) some
 
-    pub staying-top : (l : List ℕ) → staying bits p (topOf bits) l ≡ l
-    staying-top [] = staying-nil (topOf bits)
-    staying-top (w ∷ l) = stays (topOf bits) w l (signature-small w) ∙ ap (λ (r : List ℕ). w ∷ r) (staying-top l)
+    pub staying-top : (l : List ℕ) → staying q p (topOf (q .bits)) l ≡ l
+    staying-top [] = staying-nil (topOf (q .bits))
+    staying-top (w ∷ l) = stays (topOf (q .bits)) w l (signature-small w) ∙ ap (λ (r : List ℕ). w ∷ r) (staying-top l)
 
-    pub passing-top : (l : List ℕ) → passing bits p (topOf bits) l ≡ []
-    passing-top [] = passing-nil (topOf bits)
-    passing-top (w ∷ l) = passes-not (topOf bits) w l (signature-small w) ∙ passing-top l
+    pub passing-top : (l : List ℕ) → passing q p (topOf (q .bits)) l ≡ []
+    passing-top [] = passing-nil (topOf (q .bits))
+    passing-top (w ∷ l) = passes-not (topOf (q .bits)) w l (signature-small w) ∙ passing-top l

@@ -13,4 +13,3 @@ pub use words::home_of;
 pub use words::low_of;
 pub use words::number_of;
 pub use words::pack;
-pub use words::source_of;

@@ -1,7 +1,7 @@
 // A waiting star as one word: home, number and source. Numeric order of the low 47 bits is order by number.
 ghost use mathlib.Core.Path.{_≡_};
 ghost use Prim.Native.Nat.{_≤_, _<_, _^_};
-ghost use Rattle.waiting.specs.Words.{homeOf, numberOf, sourceOf, lowOf};
+ghost use Rattle.waiting.specs.Words.{homeOf, numberOf, lowOf};
 ghost use Rattle.waiting.specs.Words.{pack as Words·pack};
 
 const HOME: u64 = 140737488355328; // 2^47
@@ -29,12 +29,6 @@ pub fn number_of(word: u64) -> u32
     ensures { λ r. ⌜ r ≡ numberOf word ⌝ }
 {
     (word / NUMBER % NUMBERS) as u32
-}
-
-pub fn source_of(word: u64) -> usize
-    ensures { λ r. ⌜ r ≡ sourceOf word ⌝ }
-{
-    (word % NUMBER) as usize
 }
 
 pub fn low_of(word: u64) -> u64

@@ -6,7 +6,7 @@ use Rattle.placement.specs.File.{File}
 use Rattle.placement.specs.Hash.{lent}
 use Rattle.reach.specs.Reach.{firstUnsound}
 use Rattle.comparing.proofs.Planned.{homes-whole}
-use Rattle.comparing.proofs.Told.{surveyed, surveyed-sound, told-unsound, told-differs, told-clean}
+use Rattle.comparing.proofs.Verdicts.{surveyed, surveyed-sound, told-unsound, told-differs, told-clean}
 use borrow.Author.Needs.{needs}
 use Rattle.comparing.proofs.checking.check_file.Statement.{statement}
 use Rattle.comparing.proofs.checking.check_file.Tie as tie
@@ -20,7 +20,7 @@ cast-pages c = search needs
 survey-pages-requires : tie.Need-survey-pages-requires
 survey-pages-requires c κs =
     let pre = c .before .before .before .before .before .before .before .pre in
-    (pre .0, (pre .1 .0 .0, (pre .1 .0 .1, (pre .1 .1 .0, (pre .1 .1 .1 .0, (omega arith, le-refl _))))))
+    (pre .0, (pre .1 .ofNumbers, (omega arith, le-refl _)))
 
 same-length : tie.Need-same-length
 same-length c = search needs
@@ -47,17 +47,11 @@ compare-planned-requires c κs =
     let a = start (c .before .before) .args in (
       pre .0,
       (
-        pre .1 .0,
+        none-unsound (c .before .before),
         (
-          pre .1 .1 .0,
-          (
-            none-unsound (c .before .before),
-            (
-              c .before .before .before .before .before .survey-pages .ensures .1 (all-of (c .before .before))
-                  ∙ homes-whole (a .geometry .parameters) (a .geometry .growth) (now (a .pool)) (now (a .numbers)) (a .geometry .parameters .pages) (pre .1 .1 .1 .0) (pre .1 .1 .0 .ofNumbers),
-              pre .1 .1 .1 .1,
-            ),
-          ),
+          c .before .before .before .before .before .survey-pages .ensures .1 (all-of (c .before .before))
+              ∙ homes-whole (a .geometry .parameters) (a .geometry .growth) (now (a .pool)) (now (a .numbers)) (a .geometry .parameters .pages) (pre .1 .ofNumbers) (pre .0 .sized .ofNumbers),
+          pre .1 .ofWords,
         ),
       ),
     )

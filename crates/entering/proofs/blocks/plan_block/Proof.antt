@@ -7,7 +7,6 @@ use lib.Seq.{paste, length-take-le}
 use denote.Ref.{now}
 use borrow.Author.Needs.{needs}
 use Rattle.hashing.proofs.Bounds.{Limits, limits}
-use Rattle.hashing.proofs.Laws.{top-shifted, top-least}
 use Rattle.placement.specs.File.{File}
 use Rattle.placement.specs.Hash.{lent, homesOf}
 use Rattle.entering.specs.Entry.{blockEnd, BlockSound}
@@ -20,42 +19,37 @@ cast-places c = search needs
 
 -- the parameters' limits, at entry
 bounds : (s : tie.Start) → Limits (s .args .geometry .parameters)
-bounds s = limits (s .args .geometry .parameters) (s .pre .1 .0)
+bounds s = limits (s .args .geometry .parameters) (s .pre .0 .homing .signing .valid)
 
 abbrev file : tie.Start → File
 file s = lent (now (s .args .separators)) (now (s .args .numbers)) (now (s .args .words))
 
-shl-stretch-end : tie.Need-shl-stretch-end
-shl-stretch-end c = omega (arith, bounds (c .before .before .before .before .before .before .before) .bits-most)
-
-sub-stretch-end : tie.Need-sub-stretch-end
-sub-stretch-end c =
-    let s = c .before .before .before .before .before .before .before in
-    omega (arith, top-shifted (s .args .geometry .parameters .bits) (bounds s .bits-most), top-least (s .args .geometry .parameters .bits) (bounds s .bits-least))
+top-of-requires : tie.Need-top-of-requires
+top-of-requires c κs = search needs
 
 stretch-end-requires : tie.Need-stretch-end-requires
 stretch-end-requires c κs = search needs
 
 -- from the end of the block on
 abbrev entry : tie.After-stretch-end → tie.Start
-entry c = c .before .before .before .before .before .before .before .before
+entry c = c .before .before .before .before .before .before .before .before .before .before
 
 block-end : (c : tie.After-stretch-end) → c .stretch-end .result ≡ blockEnd (entry c .args .geometry .parameters) (entry c .args .geometry .growth) (file (entry c)) (entry c .args .lo)
 block-end c =
     let s = entry c in
-    end-found (s .args .geometry .parameters) (s .args .geometry .growth) (file s) (s .pre .1 .0) (s .pre .1 .1 .1 .0) (s .args .lo) (s .pre .1 .1 .1 .1 .1 .0 .1)
-    (c .stretch-end .result) (c .stretch-end .ensures)
+    end-found (s .args .geometry .parameters) (s .args .geometry .growth) (file s) (s .pre .0 .homing .signing .valid) (s .pre .0 .sized) (s .args .lo) (s .pre .1 .1 .0 .1)
+    (c .before .top-of .result) (c .stretch-end .result) (c .before .top-of .ensures) (c .stretch-end .ensures)
 
 low : (c : tie.After-stretch-end) → entry c .args .lo ≤ c .stretch-end .result
 low c =
     let s = entry c in
-    last-low (s .args .geometry .parameters) (s .args .geometry .growth) (file s) (s .pre .1 .0) (s .pre .1 .1 .1 .0) (s .args .lo) (s .pre .1 .1 .1 .1 .1 .0 .1)
+    last-low (s .args .geometry .parameters) (s .args .geometry .growth) (file s) (s .pre .0 .homing .signing .valid) (s .pre .0 .sized) (s .args .lo) (s .pre .1 .1 .0 .1)
     (c .stretch-end .result) (block-end c)
 
 high : (c : tie.After-stretch-end) → c .stretch-end .result < entry c .args .geometry .parameters .pages
 high c =
     let s = entry c in
-    last-high (s .args .geometry .parameters) (s .args .geometry .growth) (file s) (s .pre .1 .0) (s .pre .1 .1 .1 .0) (s .args .lo) (s .pre .1 .1 .1 .1 .1 .0 .1)
+    last-high (s .args .geometry .parameters) (s .args .geometry .growth) (file s) (s .pre .0 .homing .signing .valid) (s .pre .0 .sized) (s .args .lo) (s .pre .1 .1 .0 .1)
     (c .stretch-end .result) (block-end c)
 
 items : (c : tie.After-stretch-end) → (c .stretch-end .result + 1) * entry c .args .geometry .parameters .places ≤ entry c .args .geometry .parameters .pages * entry c .args .geometry .parameters .places
@@ -69,7 +63,7 @@ abbrev ended : tie.Else1 → tie.After-stretch-end
 ended c = c .before .before .before .before .before
 
 abbrev from : tie.Else1 → tie.Start
-from c = c .before .before .before .before .before .before .before .before .before .before .before .before .before
+from c = c .before .before .before .before .before .before .before .before .before .before .before .before .before .before .before
 
 add-stop : tie.Need-add-stop
 add-stop c =
@@ -79,7 +73,7 @@ survey-pages-requires : tie.Need-survey-pages-requires
 survey-pages-requires c κs =
     let e = c .before in
     let s = entry e in
-    (s .pre .0, (s .pre .1 .0, (s .pre .1 .1 .0, (s .pre .1 .1 .1 .0, (s .pre .1 .1 .1 .1 .0 .0, (omega (arith, low e), omega (arith, high e)))))))
+    (s .pre .0, (s .pre .1 .0 .ofNumbers, (omega (arith, low e), omega (arith, high e))))
 
 same-length : tie.Need-same-length
 same-length c = search needs
@@ -88,12 +82,12 @@ returns : tie.Need-returns
 returns c =
     let e = c .before .before .before .before .before in
     let s = entry e in
-    block-unsound (s .args .geometry .parameters) (s .args .geometry .growth) (file s) (s .pre .1 .0) (s .pre .1 .1 .1 .0) (s .args .lo) (s .pre .1 .1 .1 .1 .1 .0 .1)
+    block-unsound (s .args .geometry .parameters) (s .args .geometry .growth) (file s) (s .pre .0 .homing .signing .valid) (s .pre .0 .sized) (s .args .lo) (s .pre .1 .1 .0 .1)
     (e .stretch-end .result) (block-end e) (c .before .before .before .survey-pages .result) (c .before .before .before .survey-pages .ensures .0) (c .if1 .taken)
 
 sub-if2 : tie.Need-sub-if2
 sub-if2 c =
-    omega (arith, from c .pre .1 .1 .1 .1 .1 .1 .0)
+    omega (arith, from c .pre .1 .1 .1 .0)
 
 mul-count-stars : tie.Need-mul-count-stars
 mul-count-stars c =
@@ -106,7 +100,7 @@ mul-count-stars-2 c =
 count-stars-requires : tie.Need-count-stars-requires
 count-stars-requires c κs = (
   mul-le-mul-right (from c .args .geometry .parameters .places) (omega (arith, low (ended c))),
-  omega (arith, items (ended c), from c .pre .1 .1 .1 .0 .ofNumbers),
+  omega (arith, items (ended c), from c .pre .0 .sized .ofNumbers),
 )
 
 same-length-2 : tie.Need-same-length-2
@@ -115,7 +109,7 @@ same-length-2 c = search needs
 clear : (c : tie.Else1) → BlockSound (from c .args .geometry .parameters) (from c .args .geometry .growth) (file (from c)) (from c .args .lo)
 clear c =
     let s = from c in
-    block-clear (s .args .geometry .parameters) (s .args .geometry .growth) (file s) (s .pre .1 .0) (s .pre .1 .1 .1 .0) (s .args .lo) (s .pre .1 .1 .1 .1 .1 .0 .1)
+    block-clear (s .args .geometry .parameters) (s .args .geometry .growth) (file s) (s .pre .0 .homing .signing .valid) (s .pre .0 .sized) (s .args .lo) (s .pre .1 .1 .0 .1)
     (ended c .stretch-end .result) (block-end (ended c)) (c .before .before .before .survey-pages .result) (c .before .before .before .survey-pages .ensures .0) (c .if1 .left)
 
 -- the pool holds the block's homes
@@ -126,23 +120,23 @@ homes : (c : tie.Else1) → c .before .before .before .survey-pages .last .1 .1 
 homes c =
     let s = from c in
     c .before .before .before .survey-pages .ensures .1
-    (bad-none (s .args .geometry .parameters) (s .args .geometry .growth) (file s) (s .pre .1 .0) (s .pre .1 .1 .1 .0) (s .args .lo) (s .pre .1 .1 .1 .1 .1 .0 .1)
+    (bad-none (s .args .geometry .parameters) (s .args .geometry .growth) (file s) (s .pre .0 .homing .signing .valid) (s .pre .0 .sized) (s .args .lo) (s .pre .1 .1 .0 .1)
     (ended c .stretch-end .result) (block-end (ended c)) (c .before .before .before .survey-pages .result) (c .before .before .before .survey-pages .ensures .0) (c .if1 .left))
 
 returns-2 : tie.Need-returns-2
 returns-2 c =
     let d = c .before .before in
     let s = from d in
-    block-crowded (s .args .geometry .parameters) (s .args .geometry .growth) (file s) (s .pre .1 .0) (s .pre .1 .1 .1 .0) (s .args .lo) (s .pre .1 .1 .1 .1 .1 .0 .1)
+    block-crowded (s .args .geometry .parameters) (s .args .geometry .growth) (file s) (s .pre .0 .homing .signing .valid) (s .pre .0 .sized) (s .args .lo) (s .pre .1 .1 .0 .1)
     (ended d .stretch-end .result) (block-end (ended d)) (clear d) (take (s .args .incoming) (now (s .args .waiting))) (s .args .incoming)
-    (length-take-le (s .args .incoming) (now (s .args .waiting)) (s .pre .1 .1 .1 .1 .1 .1 .0))
+    (length-take-le (s .args .incoming) (now (s .args .waiting)) (s .pre .1 .1 .1 .0))
     (omega (
       arith,
       c .if2 .taken,
       c .before .count-stars .ensures,
-      s .pre .1 .1 .1 .1 .0 .1,
-      s .pre .1 .1 .1 .1 .1 .1 .0,
-      found-count (s .args .geometry .parameters) (s .args .geometry .growth) (file s) (s .pre .1 .0) (s .pre .1 .1 .1 .0) (s .args .lo) (s .pre .1 .1 .1 .1 .1 .0 .1) (ended d .stretch-end .result) (block-end (ended d)) (clear d),
+      s .pre .1 .0 .ofWords,
+      s .pre .1 .1 .1 .0,
+      found-count (s .args .geometry .parameters) (s .args .geometry .growth) (file s) (s .pre .0 .homing .signing .valid) (s .pre .0 .sized) (s .args .lo) (s .pre .1 .1 .0 .1) (ended d .stretch-end .result) (block-end (ended d)) (clear d),
     ))
 
 sub-plan : tie.Need-sub-plan
@@ -157,24 +151,21 @@ plan-requires c κs =
     let y = c .before .before .before .before .before .before .before .before .survey-pages in
     let sum : s .args .lo + (e .stretch-end .result + 1 - s .args .lo) ≡ e .stretch-end .result + 1 = omega (arith, low e) in
     let fits : (s .args .lo + (e .stretch-end .result + 1 - s .args .lo)) * s .args .geometry .parameters .places ≤ s .args .geometry .parameters .pages * s .args .geometry .parameters .places = rw sum (items e) in (
-      s .pre .0,
+      s .pre .0 .homing .signing,
       (
-        ((bounds s .bits-least, bounds s .bits-most), bounds s .places-most),
+        (omega (arith, low e), (omega (arith, sum, high e, bounds s .pages-most), omega (arith, sum, high e, s .pre .1 .1 .0 .0))),
         (
-          (omega (arith, low e), (omega (arith, sum, high e, bounds s .pages-most), omega (arith, sum, high e, s .pre .1 .1 .1 .1 .1 .0 .0))),
+          (omega (arith, fits, s .pre .0 .sized .ofNumbers), omega (arith, fits, y .kept .1 .1 .1 .1 .1 .0, s .pre .1 .0 .ofNumbers)),
           (
-            (omega (arith, fits, s .pre .1 .1 .1 .0 .ofNumbers), omega (arith, fits, y .kept .1 .1 .1 .1 .1 .0, s .pre .1 .1 .1 .1 .0 .0)),
+            found-numbers (s .args .geometry .parameters) (s .args .geometry .growth) (file s) (s .pre .0 .homing .signing .valid) (s .pre .0 .sized) (s .args .lo) (s .pre .1 .1 .0 .1) (e .stretch-end .result) (block-end e) (clear d),
             (
-              found-numbers (s .args .geometry .parameters) (s .args .geometry .growth) (file s) (s .pre .1 .0) (s .pre .1 .1 .1 .0) (s .args .lo) (s .pre .1 .1 .1 .1 .1 .0 .1) (e .stretch-end .result) (block-end e) (clear d),
+              found-below (s .args .geometry .parameters) (s .args .geometry .growth) (file s) (s .pre .0 .homing .signing .valid) (s .pre .0 .sized) (s .args .lo) (s .pre .1 .1 .0 .1) (e .stretch-end .result) (block-end e) (clear d) (now (s .args .pool)) (y .last .1 .1 .1 .1 .1 .0) (s .pre .1 .0 .ofNumbers) (homes d),
               (
-                found-below (s .args .geometry .parameters) (s .args .geometry .growth) (file s) (s .pre .1 .0) (s .pre .1 .1 .1 .0) (s .args .lo) (s .pre .1 .1 .1 .1 .1 .0 .1) (e .stretch-end .result) (block-end e) (clear d) (now (s .args .pool)) (y .last .1 .1 .1 .1 .1 .0) (s .pre .1 .1 .1 .1 .0 .0) (homes d),
                 (
-                  (
-                    omega (arith, c .before .before .before .if2 .left, c .before .before .before .before .count-stars .ensures, s .pre .1 .1 .1 .1 .1 .1 .0, found-count (s .args .geometry .parameters) (s .args .geometry .growth) (file s) (s .pre .1 .0) (s .pre .1 .1 .1 .0) (s .args .lo) (s .pre .1 .1 .1 .1 .1 .0 .1) (e .stretch-end .result) (block-end e) (clear d)),
-                    omega (arith, few s, s .pre .1 .1 .1 .1 .0 .1),
-                  ),
-                  s .pre .1 .1 .1 .1 .1 .1 .1,
+                  omega (arith, c .before .before .before .if2 .left, c .before .before .before .before .count-stars .ensures, s .pre .1 .1 .1 .0, found-count (s .args .geometry .parameters) (s .args .geometry .growth) (file s) (s .pre .0 .homing .signing .valid) (s .pre .0 .sized) (s .args .lo) (s .pre .1 .1 .0 .1) (e .stretch-end .result) (block-end e) (clear d)),
+                  omega (arith, few s, s .pre .1 .0 .ofWords),
                 ),
+                s .pre .1 .1 .1 .1,
               ),
             ),
           ),
@@ -196,8 +187,8 @@ returns-3 c =
     let d = c .before .before .before .before .before .before .before .before .before .before .before .before in
     let s = from d in
     let y = c .before .before .before .before .before .before .before .before .before .before .before .before .before .before .before .survey-pages in
-    block-planned (s .args .geometry .parameters) (s .args .geometry .growth) (file s) (s .pre .1 .0) (s .pre .1 .1 .1 .0) (s .args .lo) (s .pre .1 .1 .1 .1 .1 .0 .1)
-    (ended d .stretch-end .result) (block-end (ended d)) (clear d) (now (s .args .pool)) (y .last .1 .1 .1 .1 .1 .0) (s .pre .1 .1 .1 .1 .0 .0) (homes d)
+    block-planned (s .args .geometry .parameters) (s .args .geometry .growth) (file s) (s .pre .0 .homing .signing .valid) (s .pre .0 .sized) (s .args .lo) (s .pre .1 .1 .0 .1)
+    (ended d .stretch-end .result) (block-end (ended d)) (clear d) (now (s .args .pool)) (y .last .1 .1 .1 .1 .1 .0) (s .pre .1 .0 .ofNumbers) (homes d)
     (take (s .args .incoming) (now (s .args .waiting))) (now (s .args .planned)) (c .before .before .before .before .before .before .plan .last .1 .1 .1 .0) (c .before .before .before .before .before .before .plan .last .1 .1 .1 .1 .1 .0) (c .before .before .before .before .before .before .plan .last .1 .1 .1 .1 .0) (c .before .before .before .before .before .before .plan .result)
     (c .before .before .before .before .before .before .plan .ensures)
 
@@ -206,8 +197,7 @@ plan-block-spec =
     tie.close
     (tie.spec
     cast-places
-    shl-stretch-end
-    sub-stretch-end
+    top-of-requires
     stretch-end-requires
     add-stop
     survey-pages-requires

@@ -8,7 +8,7 @@ use denote.Ref.{now}
 use borrow.Author.Needs.{needs}
 use Rattle.hashing.specs.declared.Parameters.{Parameters}
 use Rattle.hashing.specs.declared.Growth.{Growth}
-use Rattle.hashing.specs.Generator.{multiplier}
+use Rattle.hashing.specs.Generator.{multiplierOf}
 use Rattle.hashing.specs.Home.{home as Home·home}
 use Rattle.hashing.proofs.Bounds.{Limits, limits}
 use Rattle.hashing.proofs.Laws.{home-pages}
@@ -23,14 +23,14 @@ use Rattle.entering.proofs.blocks.plan_entry.Statement.{statement}
 use Rattle.entering.proofs.blocks.plan_entry.Tie as tie
 
 abbrev Inv-loop : tie.InvT-loop
-Inv-loop table geometry separators numbers words pool₀ waiting₀ planned₀ number pages home lo₀ carried₀ pool waiting planned lo carried =
+Inv-loop table geometry separators numbers words pool₀ waiting₀ planned₀ number home pages lo₀ carried₀ pool waiting planned lo carried =
     (length pool ≡ length pool₀)
     × ((length waiting ≡ length waiting₀)
     × ((length planned ≡ length planned₀)
     × Reached (geometry .parameters) (geometry .growth) (lent separators numbers words) number pool planned waiting lo carried))
 
 abbrev μ-loop : tie.MeasureT-loop
-μ-loop table geometry separators numbers words pool₀ waiting₀ planned₀ number pages home lo₀ carried₀ pool waiting planned lo carried =
+μ-loop table geometry separators numbers words pool₀ waiting₀ planned₀ number home pages lo₀ carried₀ pool waiting planned lo carried =
     geometry .parameters .pages - lo
 
 abbrev Start : Type 0
@@ -40,12 +40,12 @@ abbrev file : Start → File
 file s = lent (now (s .args .separators)) (now (s .args .numbers)) (now (s .args .words))
 
 bounds : (s : Start) → Limits (s .args .geometry .parameters)
-bounds s = limits (s .args .geometry .parameters) (s .pre .1 .0)
+bounds s = limits (s .args .geometry .parameters) (s .pre .0 .homing .signing .valid)
 
 few : (s : Start) → s .args .geometry .parameters .pages * s .args .geometry .parameters .places ≤ 32768
 few s = mul-le-mul (bounds s .pages-most) (bounds s .places-most)
 
-waiting-long : (h : tie.At-loop Inv-loop μ-loop) → length (h .loop .waiting) ≡ length (now (h .before .before .before .before .before .before .before .before .before .before .args .waiting))
+waiting-long : (h : tie.At-loop Inv-loop μ-loop) → length (h .loop .waiting) ≡ length (now (h .before .before .before .before .before .before .before .before .before .args .waiting))
 waiting-long h = h .loop .inv .1 .0 ∙ simp length-set
 
 -- from the plan of a block on
@@ -53,7 +53,7 @@ abbrev Place : Type 0
 Place = tie.After-plan-block Inv-loop μ-loop
 
 abbrev start : Place → Start
-start x = x .before .before .before .before .before .before .before .before .before .before .before .before .before .before
+start x = x .before .before .before .before .before .before .before .before .before .before .before .before .before
 
 abbrev head : Place → tie.At-loop Inv-loop μ-loop
 head x = x .before .before .before .before
@@ -70,10 +70,10 @@ known x b e =
     (head x .loop .pool) (x .plan-block .last .1 .1 .1 .1 .1 .0) (head x .loop .planned) (x .plan-block .last .1 .1 .1 .1 .1 .1 .1 .0) (x .plan-block .last .1 .1 .1 .1 .1 .1 .0) b) e (x .plan-block .ensures)
 
 pool-long : (x : Place) → length (head x .loop .pool) ≡ start x .args .geometry .parameters .pages * start x .args .geometry .parameters .places
-pool-long x = head x .loop .inv .0 ∙ start x .pre .1 .1 .1 .1 .0 .0
+pool-long x = head x .loop .inv .0 ∙ start x .pre .1 .0 .ofNumbers
 
 planned-long : (x : Place) → start x .args .geometry .parameters .pages ≤ length (head x .loop .planned)
-planned-long x = omega (arith, head x .loop .inv .1 .1 .0, start x .pre .1 .1 .1 .1 .1 .0)
+planned-long x = omega (arith, head x .loop .inv .1 .1 .0, start x .pre .1 .1 .0)
 
 waiting-kept : (x : Place) → length (x .plan-block .last .1 .1 .1 .1 .1 .1 .0) ≡ length (now (start x .args .waiting))
 waiting-kept x = x .plan-block .kept .1 .1 .1 .1 .1 .1 .0 ∙ waiting-long (head x)
@@ -87,35 +87,29 @@ planned x last left e = known x (block·Planned last left) e
 cast-pages : tie.Need-cast-pages Inv-loop μ-loop
 cast-pages c = search needs
 
-home-requires : tie.Need-home-requires Inv-loop μ-loop
-home-requires c κs = search needs
-
 add-pack : tie.Need-add-pack Inv-loop μ-loop
 add-pack c = search needs
 
 pack-requires : tie.Need-pack-requires Inv-loop μ-loop
 pack-requires c κs =
-    let s = c .before .before .before .before .before .before .before .before in (
-      omega (arith, c .home .ensures, home-pages multiplier (s .args .geometry .parameters) (s .args .geometry .growth) (s .args .number) (s .pre .1 .0) (s .pre .1 .1 .0), bounds s .pages-most),
-      (omega (arith, valid-most (s .args .number) (s .pre .1 .1 .1 .1 .1 .1 .0)), omega (arith, few s, s .pre .1 .1 .1 .0 .ofNumbers)),
+    let s = c .before .before .before .before .before .before .before in (
+      omega (arith, s .pre .1 .1 .1 .1 .1, home-pages (multiplierOf (s .args .geometry .parameters)) (s .args .geometry .parameters) (s .args .geometry .growth) (s .args .number) (s .pre .0 .homing .signing .valid) (s .pre .0 .homing .growth), bounds s .pages-most),
+      (omega (arith, valid-most (s .args .number) (s .pre .1 .1 .1 .0)), omega (arith, few s, s .pre .0 .sized .ofNumbers)),
     )
 
 slice-write-waiting : tie.Need-slice-write-waiting Inv-loop μ-loop
 slice-write-waiting c =
-    let s = c .before .before .before .before .before .before .before .before .before in
-    omega (arith, s .pre .1 .1 .1 .1 .0 .1, some-items (s .args .geometry .parameters) (s .args .geometry .growth) (s .pre .1 .0) (s .pre .1 .1 .0) (s .args .number))
+    let s = c .before .before .before .before .before .before .before .before in
+    omega (arith, s .pre .1 .0 .ofWords, some-items (s .args .geometry .parameters) (s .args .geometry .growth) (s .pre .0 .homing .signing .valid) (s .pre .0 .homing .growth) (s .args .number))
 
-cast-lo : tie.Need-cast-lo Inv-loop μ-loop
-cast-lo c = search needs
-
-unfolded : (p : Parameters) (g : Growth) (k : ℕ) → Home·home multiplier p g k ≡ startOf p g k
+unfolded : (p : Parameters) (g : Growth) (k : ℕ) → Home·home (multiplierOf p) p g k ≡ startOf p g k
 unfolding hashOf
 unfolded p g k = refl
 
 loop-holds : tie.Need-loop-holds Inv-loop μ-loop
 loop-holds c =
-    let s = c .before .before .before .before .before .before .before .before .before in
-    let from : c .before .home .result ≡ startOf (s .args .geometry .parameters) (s .args .geometry .growth) (s .args .number) = c .before .home .ensures ∙ unfolded (s .args .geometry .parameters) (s .args .geometry .growth) (s .args .number) in
+    let s = c .before .before .before .before .before .before .before .before in
+    let from : s .args .home ≡ startOf (s .args .geometry .parameters) (s .args .geometry .growth) (s .args .number) = s .pre .1 .1 .1 .1 .1 ∙ unfolded (s .args .geometry .parameters) (s .args .geometry .growth) (s .args .number) in
     let word : c .pack .result ≡ newWord (s .args .geometry .parameters) (s .args .geometry .growth) (file s) (s .args .number) = c .pack .ensures ∙ rw from in (
       refl,
       (
@@ -123,35 +117,26 @@ loop-holds c =
         (
           refl,
           rw (word, from)
-              (reached-none (s .args .geometry .parameters) (s .args .geometry .growth) (file s) (s .args .number) (s .pre .1 .0) (s .pre .1 .1 .1 .0) (s .pre .1 .1 .1 .1 .1 .1 .0) (s .pre .1 .1 .1 .1 .1 .1 .1) (now (s .args .pool)) (now (s .args .planned)) (now (s .args .waiting))
-              (omega (arith, unfolded (s .args .geometry .parameters) (s .args .geometry .growth) (s .args .number), home-pages multiplier (s .args .geometry .parameters) (s .args .geometry .growth) (s .args .number) (s .pre .1 .0) (s .pre .1 .1 .0)))
-              (omega (arith, s .pre .1 .1 .1 .1 .0 .1, some-items (s .args .geometry .parameters) (s .args .geometry .growth) (s .pre .1 .0) (s .pre .1 .1 .0) (s .args .number)))),
+              (reached-none (s .args .geometry .parameters) (s .args .geometry .growth) (file s) (s .args .number) (s .pre .0 .homing .signing .valid) (s .pre .0 .sized) (s .pre .1 .1 .1 .0) (s .pre .1 .1 .1 .1 .0) (now (s .args .pool)) (now (s .args .planned)) (now (s .args .waiting))
+              (omega (arith, unfolded (s .args .geometry .parameters) (s .args .geometry .growth) (s .args .number), home-pages (multiplierOf (s .args .geometry .parameters)) (s .args .geometry .parameters) (s .args .geometry .growth) (s .args .number) (s .pre .0 .homing .signing .valid) (s .pre .0 .homing .growth)))
+              (omega (arith, s .pre .1 .0 .ofWords, some-items (s .args .geometry .parameters) (s .args .geometry .growth) (s .pre .0 .homing .signing .valid) (s .pre .0 .homing .growth) (s .args .number)))),
         ),
       ),
     )
 
 plan-block-requires : tie.Need-plan-block-requires Inv-loop μ-loop
 plan-block-requires c κs =
-    let s = c .before .before .before .before .before .before .before .before .before .before .before .before .before in
+    let s = c .before .before .before .before .before .before .before .before .before .before .before .before in
     let l = c .before .before .before .loop in
     let r = l .inv .1 .1 .1 in (
       s .pre .0,
       (
-        s .pre .1 .0,
+        record { ofNumbers = l .inv .0 ∙ s .pre .1 .0 .ofNumbers; ofWords = waiting-long (c .before .before .before) ∙ s .pre .1 .0 .ofWords },
         (
-          s .pre .1 .1 .0,
+          (omega (arith, l .inv .1 .1 .0, s .pre .1 .1 .0), r .inside),
           (
-            s .pre .1 .1 .1 .0,
-            (
-              (l .inv .0 ∙ s .pre .1 .1 .1 .1 .0 .0, waiting-long (c .before .before .before) ∙ s .pre .1 .1 .1 .1 .0 .1),
-              (
-                (omega (arith, l .inv .1 .1 .0, s .pre .1 .1 .1 .1 .1 .0), r .inside),
-                (
-                  spanned-few (s .args .geometry .parameters) (s .args .geometry .growth) (file s) (s .args .number) (s .pre .1 .0) (s .pre .1 .1 .1 .0) (s .pre .1 .1 .1 .1 .1 .1 .0) (s .pre .1 .1 .1 .1 .1 .1 .1) (l .pool) (l .planned) (l .waiting) (r .done) (l .carried) (r .spanned),
-                  rw (r .at) (spanned-near (s .args .geometry .parameters) (s .args .geometry .growth) (file s) (s .args .number) (s .pre .1 .0) (s .pre .1 .1 .1 .0) (s .pre .1 .1 .1 .1 .1 .1 .0) (s .pre .1 .1 .1 .1 .1 .1 .1) (l .pool) (l .planned) (l .waiting) (r .done) (l .carried) (r .spanned)),
-                ),
-              ),
-            ),
+            spanned-few (s .args .geometry .parameters) (s .args .geometry .growth) (file s) (s .args .number) (s .pre .0 .homing .signing .valid) (s .pre .0 .sized) (s .pre .1 .1 .1 .0) (s .pre .1 .1 .1 .1 .0) (l .pool) (l .planned) (l .waiting) (r .done) (l .carried) (r .spanned),
+            rw (r .at) (spanned-near (s .args .geometry .parameters) (s .args .geometry .growth) (file s) (s .args .number) (s .pre .0 .homing .signing .valid) (s .pre .0 .sized) (s .pre .1 .1 .1 .0) (s .pre .1 .1 .1 .1 .0) (l .pool) (l .planned) (l .waiting) (r .done) (l .carried) (r .spanned)),
           ),
         ),
       ),
@@ -175,7 +160,7 @@ returns c =
     let x = c .before .before .before .before .before .before .before .before .before in
     let s = start x in
     let page = c .before .page .given .0 .0 in (
-      (λ word. reached-unsound (s .args .geometry .parameters) (s .args .geometry .growth) (file s) (s .args .number) (s .pre .1 .0) (s .pre .1 .1 .1 .0) (s .pre .1 .1 .1 .1 .1 .1 .0) (s .pre .1 .1 .1 .1 .1 .1 .1) (head x .loop .pool) (head x .loop .planned) (head x .loop .waiting) (head x .loop .lo) (head x .loop .carried) (reached x) page (known x (block·Unsound page) (c .before .page .given .1)) word),
+      (λ word. reached-unsound (s .args .geometry .parameters) (s .args .geometry .growth) (file s) (s .args .number) (s .pre .0 .homing .signing .valid) (s .pre .0 .sized) (s .pre .1 .1 .1 .0) (s .pre .1 .1 .1 .1 .0) (head x .loop .pool) (head x .loop .planned) (head x .loop .waiting) (head x .loop .lo) (head x .loop .carried) (reached x) page (known x (block·Unsound page) (c .before .page .given .1)) word),
       (λ word last e. absurd (unsound-ends page last e)),
     )
 
@@ -196,7 +181,7 @@ returns-2 : tie.Need-returns-2 Inv-loop μ-loop
 returns-2 c =
     let x = c .before .before .before .before .before .before .before .before in
     let s = start x in (
-      (λ word. reached-crowded (s .args .geometry .parameters) (s .args .geometry .growth) (file s) (s .args .number) (s .pre .1 .0) (s .pre .1 .1 .1 .0) (s .pre .1 .1 .1 .1 .1 .1 .0) (s .pre .1 .1 .1 .1 .1 .1 .1) (head x .loop .pool) (head x .loop .planned) (head x .loop .waiting) (head x .loop .lo) (head x .loop .carried) (reached x) (known x Crowded (c .enum-told .given .1)) word),
+      (λ word. reached-crowded (s .args .geometry .parameters) (s .args .geometry .growth) (file s) (s .args .number) (s .pre .0 .homing .signing .valid) (s .pre .0 .sized) (s .pre .1 .1 .1 .0) (s .pre .1 .1 .1 .1 .0) (head x .loop .pool) (head x .loop .planned) (head x .loop .waiting) (head x .loop .lo) (head x .loop .carried) (reached x) (known x Crowded (c .enum-told .given .1)) word),
       (λ word last e. absurd (overflows-ends last e)),
     )
 
@@ -218,8 +203,8 @@ returns-3 c =
     let x = c .before .before .before .before .before .before .before .before .before .before in
     let s = start x in
     let v = c .before .before .last .given in (
-      (λ word. reached-ends (s .args .geometry .parameters) (s .args .geometry .growth) (file s) (s .args .number) (s .pre .1 .0) (s .pre .1 .1 .1 .0) (s .pre .1 .1 .1 .1 .1 .1 .0) (s .pre .1 .1 .1 .1 .1 .1 .1) (head x .loop .pool) (head x .loop .planned) (head x .loop .waiting) (head x .loop .lo) (head x .loop .carried) (reached x) (x .plan-block .last .1 .1 .1 .1 .1 .0) (x .plan-block .last .1 .1 .1 .1 .1 .1 .1 .0) (x .plan-block .last .1 .1 .1 .1 .1 .1 .0) (v .0 .0) (v .0 .1 .0) (pool-long x) (planned-long x) (planned x (v .0 .0) (v .0 .1 .0) (v .1)) (c .if1 .taken) word),
-      reached-applies (s .args .geometry .parameters) (s .args .geometry .growth) (file s) (s .args .number) (s .pre .1 .0) (s .pre .1 .1 .1 .0) (s .pre .1 .1 .1 .1 .1 .1 .0) (s .pre .1 .1 .1 .1 .1 .1 .1) (head x .loop .pool) (head x .loop .planned) (head x .loop .waiting) (head x .loop .lo) (head x .loop .carried) (reached x) (x .plan-block .last .1 .1 .1 .1 .1 .0) (x .plan-block .last .1 .1 .1 .1 .1 .1 .1 .0) (x .plan-block .last .1 .1 .1 .1 .1 .1 .0) (v .0 .0) (v .0 .1 .0) (pool-long x) (planned-long x) (planned x (v .0 .0) (v .0 .1 .0) (v .1)) (c .if1 .taken),
+      (λ word. reached-ends (s .args .geometry .parameters) (s .args .geometry .growth) (file s) (s .args .number) (s .pre .0 .homing .signing .valid) (s .pre .0 .sized) (s .pre .1 .1 .1 .0) (s .pre .1 .1 .1 .1 .0) (head x .loop .pool) (head x .loop .planned) (head x .loop .waiting) (head x .loop .lo) (head x .loop .carried) (reached x) (x .plan-block .last .1 .1 .1 .1 .1 .0) (x .plan-block .last .1 .1 .1 .1 .1 .1 .1 .0) (x .plan-block .last .1 .1 .1 .1 .1 .1 .0) (v .0 .0) (v .0 .1 .0) (pool-long x) (planned-long x) (planned x (v .0 .0) (v .0 .1 .0) (v .1)) (c .if1 .taken) word),
+      reached-applies (s .args .geometry .parameters) (s .args .geometry .growth) (file s) (s .args .number) (s .pre .0 .homing .signing .valid) (s .pre .0 .sized) (s .pre .1 .1 .1 .0) (s .pre .1 .1 .1 .1 .0) (head x .loop .pool) (head x .loop .planned) (head x .loop .waiting) (head x .loop .lo) (head x .loop .carried) (reached x) (x .plan-block .last .1 .1 .1 .1 .1 .0) (x .plan-block .last .1 .1 .1 .1 .1 .1 .1 .0) (x .plan-block .last .1 .1 .1 .1 .1 .1 .0) (v .0 .0) (v .0 .1 .0) (pool-long x) (planned-long x) (planned x (v .0 .0) (v .0 .1 .0) (v .1)) (c .if1 .taken),
     )
 
 add-lo : tie.Need-add-lo Inv-loop μ-loop
@@ -244,7 +229,7 @@ returns-4 c =
     let x = c .before .before .before .before .before .before .before .before .before .before .before in
     let s = start x in
     let v = c .before .before .before .last .given in (
-      (λ word. reached-overflows (s .args .geometry .parameters) (s .args .geometry .growth) (file s) (s .args .number) (s .pre .1 .0) (s .pre .1 .1 .1 .0) (s .pre .1 .1 .1 .1 .1 .1 .0) (s .pre .1 .1 .1 .1 .1 .1 .1) (head x .loop .pool) (head x .loop .planned) (head x .loop .waiting) (head x .loop .lo) (head x .loop .carried) (reached x) (x .plan-block .last .1 .1 .1 .1 .1 .0) (x .plan-block .last .1 .1 .1 .1 .1 .1 .1 .0) (x .plan-block .last .1 .1 .1 .1 .1 .1 .0) (v .0 .0) (v .0 .1 .0) (pool-long x) (planned-long x) (planned x (v .0 .0) (v .0 .1 .0) (v .1)) (c .before .if1 .left) (omega (arith, c .if2 .taken)) word),
+      (λ word. reached-overflows (s .args .geometry .parameters) (s .args .geometry .growth) (file s) (s .args .number) (s .pre .0 .homing .signing .valid) (s .pre .0 .sized) (s .pre .1 .1 .1 .0) (s .pre .1 .1 .1 .1 .0) (head x .loop .pool) (head x .loop .planned) (head x .loop .waiting) (head x .loop .lo) (head x .loop .carried) (reached x) (x .plan-block .last .1 .1 .1 .1 .1 .0) (x .plan-block .last .1 .1 .1 .1 .1 .1 .1 .0) (x .plan-block .last .1 .1 .1 .1 .1 .1 .0) (v .0 .0) (v .0 .1 .0) (pool-long x) (planned-long x) (planned x (v .0 .0) (v .0 .1 .0) (v .1)) (c .before .if1 .left) (omega (arith, c .if2 .taken)) word),
       (λ word last e. absurd (overflows-ends last e)),
     )
 
@@ -266,7 +251,7 @@ loop-again c =
         (
           x .plan-block .kept .1 .1 .1 .1 .1 .1 .1 .0 ∙ head x .loop .inv .1 .1 .0,
           rw (add-one (v .0 .0))
-              (reached-next (s .args .geometry .parameters) (s .args .geometry .growth) (file s) (s .args .number) (s .pre .1 .0) (s .pre .1 .1 .1 .0) (s .pre .1 .1 .1 .1 .1 .1 .0) (s .pre .1 .1 .1 .1 .1 .1 .1) (head x .loop .pool) (head x .loop .planned) (head x .loop .waiting) (head x .loop .lo) (head x .loop .carried) (reached x) (x .plan-block .last .1 .1 .1 .1 .1 .0) (x .plan-block .last .1 .1 .1 .1 .1 .1 .1 .0) (x .plan-block .last .1 .1 .1 .1 .1 .1 .0) (v .0 .0) (v .0 .1 .0) (pool-long x) (planned-long x) (planned x (v .0 .0) (v .0 .1 .0) (v .1)) (c .before .if1 .left) (omega (arith, c .if2 .left, planned x (v .0 .0) (v .0 .1 .0) (v .1) .is, block-most (s .args .geometry .parameters) (s .args .geometry .growth) (file s) (head x .loop .lo) (reached x .inside)))),
+              (reached-next (s .args .geometry .parameters) (s .args .geometry .growth) (file s) (s .args .number) (s .pre .0 .homing .signing .valid) (s .pre .0 .sized) (s .pre .1 .1 .1 .0) (s .pre .1 .1 .1 .1 .0) (head x .loop .pool) (head x .loop .planned) (head x .loop .waiting) (head x .loop .lo) (head x .loop .carried) (reached x) (x .plan-block .last .1 .1 .1 .1 .1 .0) (x .plan-block .last .1 .1 .1 .1 .1 .1 .1 .0) (x .plan-block .last .1 .1 .1 .1 .1 .1 .0) (v .0 .0) (v .0 .1 .0) (pool-long x) (planned-long x) (planned x (v .0 .0) (v .0 .1 .0) (v .1)) (c .before .if1 .left) (omega (arith, c .if2 .left, planned x (v .0 .0) (v .0 .1 .0) (v .1) .is, block-most (s .args .geometry .parameters) (s .args .geometry .growth) (file s) (head x .loop .lo) (reached x .inside)))),
         ),
       ),
     )
@@ -278,11 +263,9 @@ plan-entry-spec =
     Inv-loop
     μ-loop
     cast-pages
-    home-requires
     add-pack
     pack-requires
     slice-write-waiting
-    cast-lo
     loop-holds
     plan-block-requires
     enum-known-page

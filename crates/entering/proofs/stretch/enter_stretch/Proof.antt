@@ -6,7 +6,7 @@ use denote.Ref.{now}
 use borrow.Author.Needs.{needs}
 use Rattle.hashing.specs.declared.Parameters.{Parameters}
 use Rattle.hashing.specs.declared.Growth.{Growth}
-use Rattle.hashing.specs.Generator.{multiplier}
+use Rattle.hashing.specs.Generator.{multiplierOf}
 use Rattle.hashing.specs.Home.{home as Home·home}
 use Rattle.hashing.proofs.Bounds.{Limits, limits}
 use Rattle.placement.specs.File.{File}
@@ -21,7 +21,7 @@ abbrev file : tie.Start → File
 file s = lent (now (s .args .separators)) (now (s .args .numbers)) (now (s .args .words))
 
 bounds : (s : tie.Start) → Limits (s .args .geometry .parameters)
-bounds s = limits (s .args .geometry .parameters) (s .pre .1 .0)
+bounds s = limits (s .args .geometry .parameters) (s .pre .0 .homing .signing .valid)
 
 -- from the plan on
 abbrev Place : Type 0
@@ -30,7 +30,7 @@ Place = tie.After-plan-entry
 abbrev start : Place → tie.Start
 start x = x .before .before .before .before .before .before .before .before .before .before .before .before .before .before
 
-unfolded : (p : Parameters) (g : Growth) (k : ℕ) → Home·home multiplier p g k ≡ startOf p g k
+unfolded : (p : Parameters) (g : Growth) (k : ℕ) → Home·home (multiplierOf p) p g k ≡ startOf p g k
 unfolding hashOf
 unfolded p g k = refl
 
@@ -58,7 +58,7 @@ cast-places : tie.Need-cast-places
 cast-places c = search needs
 
 home-requires : tie.Need-home-requires
-home-requires c κs = search needs
+home-requires c κs = let ready = c .before .before .before .before .before .before .pre .0 .homing in (ready .signing .table, (ready .signing .valid, ready .growth))
 
 cast-from : tie.Need-cast-from
 cast-from c = search needs
@@ -69,7 +69,7 @@ slice-aggregate-plan-entry c = search needs
 plan-entry-requires : tie.Need-plan-entry-requires
 plan-entry-requires c κs =
     let s = c .before .before .before .before .before .before .before .before .before .before .before .before .before in
-    (s .pre .0, (s .pre .1 .0, (s .pre .1 .1 .0, (s .pre .1 .1 .1 .0, (s .pre .1 .1 .1 .1 .0, (bounds s .pages-most, (s .pre .1 .1 .1 .1 .1 .0, s .pre .1 .1 .1 .1 .1 .1)))))))
+    (s .pre .0, (s .pre .1 .0, (bounds s .pages-most, (s .pre .1 .1 .0, (s .pre .1 .1 .1, c .before .before .before .before .before .before .home .ensures)))))
 
 enum-known-page : tie.Need-enum-known-page
 enum-known-page c = search needs
@@ -103,19 +103,19 @@ apply-requires c κs =
     let l = v .0 .0 in (
       (bounds s .places-most, omega (arith, stop x l (v .1), high x l (v .1), bounds s .pages-most)),
       (
-        (omega (arith, stop x l (v .1), high x l (v .1), s .pre .1 .1 .1 .0 .ofSeparators), omega (arith, stop x l (v .1), high x l (v .1), bounds s .pages-most, x .plan-entry .kept .1 .1 .1 .1 .1 .1 .1 .0)),
+        (omega (arith, stop x l (v .1), high x l (v .1), s .pre .0 .sized .ofSeparators), omega (arith, stop x l (v .1), high x l (v .1), bounds s .pages-most, x .plan-entry .kept .1 .1 .1 .1 .1 .1 .1 .0)),
         (
-          (omega (arith, items x l (v .1), s .pre .1 .1 .1 .0 .ofNumbers), omega (arith, items x l (v .1), s .pre .1 .1 .1 .0 .ofWords)),
-          (omega (arith, items x l (v .1), s .pre .1 .1 .1 .1 .0 .0, x .plan-entry .kept .1 .1 .1 .1 .1 .0), omega (arith, items x l (v .1), s .pre .1 .1 .1 .1 .0 .1, x .plan-entry .kept .1 .1 .1 .1 .1 .1 .0)),
+          (omega (arith, items x l (v .1), s .pre .0 .sized .ofNumbers), omega (arith, items x l (v .1), s .pre .0 .sized .ofWords)),
+          (omega (arith, items x l (v .1), s .pre .1 .0 .ofNumbers, x .plan-entry .kept .1 .1 .1 .1 .1 .0), omega (arith, items x l (v .1), s .pre .1 .0 .ofWords, x .plan-entry .kept .1 .1 .1 .1 .1 .1 .0)),
         ),
       ),
     )
 
-named-page-requires : tie.Need-named-page-requires
-named-page-requires c κs =
+named-from-requires : tie.Need-named-from-requires
+named-from-requires c κs =
     let x = c .before .before .before .before .before .before .before .before .before .before .before .before .before .before .before .before .before .before .before .before .before .before .before .before .before .before in
     let s = start x in
-    (s .pre .0, (s .pre .1 .0, (s .pre .1 .1 .0, c .before .before .before .before .before .before .before .before .before .before .before .apply .kept .0 ∙ s .pre .1 .1 .1 .0 .ofSeparators)))
+    (s .pre .0 .homing, (c .before .before .before .before .before .before .before .before .before .before .before .apply .kept .0 ∙ s .pre .0 .sized .ofSeparators, x .before .before .before .before .before .before .before .home .ensures))
 
 same-length : tie.Need-same-length
 same-length c = search needs
@@ -186,10 +186,10 @@ returns-3 c =
     entry-file (s .args .geometry .parameters) (s .args .geometry .growth) (file s) (s .args .number) (s .args .word) (x .plan-entry .last .1 .1 .1 .1 .1 .0) (x .plan-entry .last .1 .1 .1 .1 .1 .1 .1 .0) last (answer x last (v .1))
     (λ word l e. x .plan-entry .ensures .1 word l (v .1 ∙ e)) (y .last .0) (y .last .1 .0) (y .last .1 .1 .0)
     (rw (home-is x) at (y .ensures .0)) (rw (home-is x) at (y .ensures .1 .0)) (rw (home-is x) at (y .ensures .1 .1)) in (
-      ends-answer (s .args .geometry .parameters) (s .args .geometry .growth) (file s) (s .args .number) (s .args .word) last (answer x last (v .1)) (c .named-page .result)
-          (c .named-page .ensures
+      ends-answer (s .args .geometry .parameters) (s .args .geometry .growth) (file s) (s .args .number) (s .args .word) last (answer x last (v .1)) (c .named-from .result)
+          (c .named-from .ensures
           ∙ ap (λ (f : File). namedPage (s .args .geometry .parameters) (s .args .geometry .growth) (f .separators) (s .args .number)) whole
-          ∙ named-holds (s .args .geometry .parameters) (s .args .geometry .growth) (file s) (s .args .number) (s .args .word) last (answer x last (v .1)) (omega (arith, home-is x, low x last (v .1), high x last (v .1), s .pre .1 .1 .1 .0 .ofSeparators))),
+          ∙ named-holds (s .args .geometry .parameters) (s .args .geometry .growth) (file s) (s .args .number) (s .args .word) last (answer x last (v .1)) (omega (arith, home-is x, low x last (v .1), high x last (v .1), s .pre .0 .sized .ofSeparators))),
       whole,
     )
 
@@ -209,7 +209,7 @@ enter-stretch-spec =
     add-apply
     sub-apply
     apply-requires
-    named-page-requires
+    named-from-requires
     same-length
     same-length-2
     same-length-3

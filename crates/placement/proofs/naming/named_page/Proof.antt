@@ -1,31 +1,16 @@
 -- `placement::naming::named_page` meets its contract.
 -- Assumes nothing.
-use mathlib.Core.Path.{_∙_}
-use native.Mathlib.Omega.{arith}
-use borrow.Author.Needs.{needs}
-use Rattle.hashing.specs.Generator.{multiplierOf}
-use Rattle.hashing.proofs.Bounds.{limits}
-use Rattle.hashing.proofs.Laws.{home-pages}
-use Rattle.placement.proofs.Probing.{named-is}
 use Rattle.placement.proofs.naming.named_page.Statement.{statement}
 use Rattle.placement.proofs.naming.named_page.Tie as tie
 
 home-requires : tie.Need-home-requires
-home-requires c κs = search needs
+home-requires c κs = let ready = c .before .pre .0 in (ready .signing .table, (ready .signing .valid, ready .growth))
 
-cast-home : tie.Need-cast-home
-cast-home c = search needs
-
-probe-requires : tie.Need-probe-requires
-probe-requires c κs =
-    let s = c .before .before in
-    let g = s .args .geometry in
-    let l = limits (g .parameters) (s .pre .1 .0) in
-    let low = home-pages (multiplierOf (g .parameters)) (g .parameters) (g .growth) (s .args .number) (s .pre .1 .0) (s .pre .1 .1 .0) in
-    (s .pre .0, (s .pre .1 .0, (omega (arith, c .home .ensures, low, l .pages-most), omega arith)))
+named-from-requires : tie.Need-named-from-requires
+named-from-requires c κs = let s = c .before .before in (s .pre .0, (s .pre .1, c .home .ensures))
 
 returns : tie.Need-returns
-returns c = c .probe .ensures ∙ named-is _ _ _ _ _ (c .before .home .ensures)
+returns c = c .named-from .ensures
 
 pub named-page-spec : {M : Type 1} → statement M
-named-page-spec = tie.close (tie.spec home-requires cast-home probe-requires returns)
+named-page-spec = tie.close (tie.spec home-requires named-from-requires returns)

@@ -38,8 +38,8 @@ add-signature c = search needs
 signature-requires : tie.Need-signature-requires Inv-loop μ-loop
 signature-requires c κs =
     let s = c .before .before .before in
-    let l = limits (s .args .parameters) (s .pre .1 .0) in
-    (s .pre .0, ((l .bits-least, l .bits-most), (omega arith, omega arith)))
+    let l = limits (s .args .parameters) (s .pre .0 .valid) in
+    (s .pre .0 .table, ((l .bits-least, l .bits-most), (omega arith, omega arith)))
 
 shared-slice-read-if1 : tie.Need-shared-slice-read-if1 Inv-loop μ-loop
 shared-slice-read-if1 c = search needs

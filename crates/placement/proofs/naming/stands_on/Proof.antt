@@ -9,7 +9,7 @@ use Rattle.placement.proofs.naming.stands_on.Statement.{statement}
 use Rattle.placement.proofs.naming.stands_on.Tie as tie
 
 home-requires : tie.Need-home-requires
-home-requires c κs = search needs
+home-requires c κs = let ready = c .before .pre .0 in (ready .signing .table, (ready .signing .valid, ready .growth))
 
 cast-lowest : tie.Need-cast-lowest
 cast-lowest c = search needs
@@ -25,8 +25,8 @@ add-probe c = search needs
 probe-requires : tie.Need-probe-requires
 probe-requires c κs =
     let s = c .before .before .before in
-    let l = limits (s .args .geometry .parameters) (s .pre .1 .0) in
-    (s .pre .0, (s .pre .1 .0, (omega (arith, l .pages-most), omega arith)))
+    let l = limits (s .args .geometry .parameters) (s .pre .0 .signing .valid) in
+    (s .pre .0 .signing, (omega (arith, l .pages-most), omega arith))
 
 returns-2 : tie.Need-returns-2
 returns-2 c =

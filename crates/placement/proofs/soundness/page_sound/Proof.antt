@@ -5,9 +5,9 @@ use mathlib.Core.Bool.{false≢true, and-false}
 use Prim.Native.Nat.{_-_, _≤_}
 use native.Mathlib.Omega.{arith}
 use borrow.Author.Needs.{needs}
-use borrow.Author.Tests.{not-false}
+use borrow.Author.Tests.{not-false, lt-leb, le-leb}
 use lib.ListN.{length}
-use Rattle.hashing.proofs.Bounds.{limits, failed, passed}
+use Rattle.hashing.proofs.Bounds.{limits, failed}
 use Rattle.placement.specs.Survey.{soundIn}
 use Rattle.placement.proofs.Items.{Surveyed, surveyed-none, surveyed-refused, surveyed-more, surveyed-all}
 use Rattle.placement.proofs.soundness.page_sound.Statement.{statement}
@@ -23,23 +23,24 @@ abbrev μ-loop : tie.MeasureT-loop
 cast-places : tie.Need-cast-places Inv-loop μ-loop
 cast-places c = search needs
 
-shared-slice-read-in-range : tie.Need-shared-slice-read-in-range Inv-loop μ-loop
-shared-slice-read-in-range c = search needs
+top-of-requires : tie.Need-top-of-requires Inv-loop μ-loop
+top-of-requires c κs = search needs
 
-in-range-requires : tie.Need-in-range-requires Inv-loop μ-loop
-in-range-requires c κs =
-    let s = c .before .before .before in
-    let l = limits (s .args .geometry .parameters) (s .pre .1 .0) in
-    (l .bits-least, l .bits-most)
+shared-slice-read-if1 : tie.Need-shared-slice-read-if1 Inv-loop μ-loop
+shared-slice-read-if1 c = search needs
 
 returns : tie.Need-returns Inv-loop μ-loop
 unfolding soundIn
-returns c = (rw (failed _ _ (c .before .in-range .ensures) (c .if1 .taken)), λ e. absurd (false≢true e))
+returns c =
+    record {
+      sound = rw (lt-leb _ _ (rw (c .before .before .top-of .ensures) at (c .if1 .taken)));
+      homes = λ e. absurd (false≢true e);
+    }
 
 loop-holds : tie.Need-loop-holds Inv-loop μ-loop
 loop-holds c =
     let s = c .before .before .before .before .before in
-    let l = limits (s .args .geometry .parameters) (s .pre .1 .0) in
+    let l = limits (s .args .geometry .parameters) (s .pre .0 .signing .valid) in
     let ns : length (s .args .t4 .numbers) ≡ 32 = search needs in
     let ws : length (s .args .t4 .words) ≡ 32 = search needs in
     (search needs, l .places-most, surveyed-none _ _ _ _ _ _ _ (omega (arith, l .places-most)) (omega (arith, l .places-most)))
@@ -65,7 +66,7 @@ returns-2 c =
     let item = c .before .before .admitted .ensures in
     let inside = c .before .before .before .before .before .loop-test .taken in
     let refused = surveyed-refused _ _ _ _ (c .before .before .before .before .before .before .loop .inv .2) inside (failed _ _ (item .sound) (c .if2 .taken)) in
-    (simp (refused, and-false), λ e. absurd (false≢true e))
+    record { sound = simp (refused, and-false); homes = λ e. absurd (false≢true e) }
 
 mul-homes : tie.Need-mul-homes Inv-loop μ-loop
 mul-homes c = search needs
@@ -94,7 +95,10 @@ returns-3 c =
     let done = c .before .loop .inv .2 in
     let places = c .before .before .before .before .before .before .before .args .geometry .parameters .places in
     let e : c .before .loop .i ≡ places = omega arith in
-    (rw (passed _ _ (c .before .before .before .in-range .ensures) (c .before .before .if1 .left)) (sym (surveyed-all _ _ _ _ done e)), λ t. rw e at (done .homed))
+    record {
+      sound = rw (le-leb _ _ (rw (c .before .before .before .before .top-of .ensures) at (c .before .before .if1 .left))) (sym (surveyed-all _ _ _ _ done e));
+      homes = λ t. rw e at (done .homed);
+    }
 
 pub page-sound-spec : {M : Type 1} → statement M
 page-sound-spec =
@@ -103,8 +107,8 @@ page-sound-spec =
     Inv-loop
     μ-loop
     cast-places
-    shared-slice-read-in-range
-    in-range-requires
+    top-of-requires
+    shared-slice-read-if1
     returns
     loop-holds
     mul-admitted

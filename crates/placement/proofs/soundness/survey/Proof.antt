@@ -2,11 +2,12 @@
 -- Assumes nothing.
 use mathlib.Core.Path.{_≡_, sym, _∙_}
 use mathlib.Core.Bool.{false≢true}
-use Prim.Native.Nat.{_*_, _≤_}
+use Prim.Native.Nat.{ℕ, _+_, _*_, _≤_}
 use native.Mathlib.Omega.{arith}
 use borrow.Author.Needs.{needs}
 use borrow.Author.Tests.{not-true, not-false}
 use Rattle.hashing.proofs.Bounds.{limits}
+use Rattle.pages.proofs.Parts.{page-fits}
 use Rattle.placement.specs.Hash.{soundAt, lent}
 use Rattle.placement.proofs.Items.{sound-loaded, homes-loaded, paste-front}
 use Rattle.placement.proofs.soundness.survey.Statement.{statement}
@@ -15,19 +16,24 @@ use Rattle.placement.proofs.soundness.survey.Tie as tie
 cast-places : tie.Need-cast-places
 cast-places c = search needs
 
--- a page has at most 32 places, and lies within the lent lists
+-- a page has at most 32 places
 places-most : (c : tie.Start) → c .args .geometry .parameters .places ≤ 32
-places-most c = limits (c .args .geometry .parameters) (c .pre .1 .0) .places-most
+places-most c = limits (c .args .geometry .parameters) (c .pre .0 .homing .signing .valid) .places-most
+
+-- .. and lies within the lent lists
+inside : (c : tie.Start) {n : ℕ} → n ≡ c .args .geometry .parameters .pages * c .args .geometry .parameters .places
+    → c .args .page * c .args .geometry .parameters .places + c .args .geometry .parameters .places ≤ n
+inside c e = page-fits _ _ _ (c .pre .1 .1) e
 
 load-requires : tie.Need-load-requires
 load-requires c κs =
     let s = c .before .before .before .before .before in
-    (places-most s, (s .pre .1 .1 .1 .1 .1 .0, s .pre .1 .1 .1 .1 .1 .1 .0))
+    (places-most s, (inside s (s .pre .0 .sized .ofNumbers), inside s (s .pre .0 .sized .ofWords)))
 
 page-sound-requires : tie.Need-page-sound-requires
 page-sound-requires c κs =
     let pre = c .before .before .before .before .before .before .pre in
-    (pre .0, (pre .1 .0, (pre .1 .1 .0, (pre .1 .1 .1 .0, pre .1 .1 .1 .1 .0))))
+    (pre .0 .homing, (pre .0 .sized .ofSeparators, pre .1 .1))
 
 -- the value tested is the page's
 told : (c : tie.After-page-sound) →
@@ -35,22 +41,22 @@ told : (c : tie.After-page-sound) →
     c .page-sound .result .sound ≡ soundAt (s .geometry .parameters) (s .geometry .growth) (lent (s .separators .now) (s .numbers .now) (s .words .now)) (s .page)
 told c =
     let s = c .before .before .before .before .before .before .before in
-    c .page-sound .ensures .0
+    c .page-sound .ensures .sound
     ∙ sound-loaded _ _ (lent (s .args .separators .now) (s .args .numbers .now) (s .args .words .now)) _ _
-    (s .pre .1 .1 .1 .1 .1 .0)
-    (s .pre .1 .1 .1 .1 .1 .1 .0)
+    (inside s (s .pre .0 .sized .ofNumbers))
+    (inside s (s .pre .0 .sized .ofWords))
     (c .before .load .ensures)
 
 returns : tie.Need-returns
 returns c = (sym (sym (told (c .before .before)) ∙ not-true _ (c .if1 .taken)), λ e. absurd (false≢true e))
 
 mul-keep : tie.Need-mul-keep
-mul-keep c = omega (arith, c .before .before .before .before .before .before .before .before .before .before .before)
+mul-keep c = let s = c .before .before .before .before .before .before .before .before .before .before .before in omega (arith, inside s (s .pre .1 .0))
 
 keep-requires : tie.Need-keep-requires
 keep-requires c κs =
     let s = c .before .before .before .before .before .before .before .before .before .before .before in
-    (places-most s, s .pre .1 .1 .1 .1 .1 .1 .1)
+    (places-most s, inside s (s .pre .1 .0))
 
 same-length : tie.Need-same-length
 same-length c = search needs
@@ -64,7 +70,7 @@ returns-2 c =
       λ e.
           c .before .before .keep .ensures
           ∙ paste-front (s .args .homes .now) (tested .page-sound .result .homes) _ (s .args .page * s .args .geometry .parameters .places) (s .args .geometry .parameters .places)
-          (tested .page-sound .ensures .1 yes ∙ homes-loaded _ _ _ _ _ _ (s .pre .1 .1 .1 .1 .1 .0) (tested .before .load .ensures)),
+          (tested .page-sound .ensures .homes yes ∙ homes-loaded _ _ _ _ _ _ (inside s (s .pre .0 .sized .ofNumbers)) (tested .before .load .ensures)),
     )
 
 pub survey-spec : {M : Type 1} → statement M

@@ -4,10 +4,12 @@ use mathlib.Core.List.{List}
 use Prim.Native.Nat.{ℕ, suc, _+_, _-_, _*_, _≤_}
 use native.Mathlib.Nat.{le-antisymm}
 use native.Mathlib.Omega.{arith}
+use borrow.Author.Needs.{needs}
 use lib.ListN.{length, getD, take}
 use lib.Seq.{slice}
 use denote.Ref.{now}
-use Rattle.waiting.specs.Gather.{stretch, wordsFrom}
+use Rattle.hashing.proofs.Bounds.{limits}
+use Rattle.waiting.specs.Gather.{stretch, stretchWords}
 use Rattle.waiting.specs.Settle.{homesUpTo}
 use Rattle.waiting.proofs.Items.{words-count}
 use Rattle.planning.specs.Plans.{Planned}
@@ -17,28 +19,28 @@ use Rattle.planning.proofs.layout.plan.Statement.{statement}
 use Rattle.planning.proofs.layout.plan.Tie as tie
 
 abbrev Inv-loop : tie.InvT-loop
-Inv-loop table bits numbers pool₀ waiting₀ planned₀ places lo count without carried ends end from₀ v₀ pool waiting planned from v =
-    Settling bits places lo count carried (wordsFrom (lo * places) without (stretch places lo count numbers) (stretch places lo count pool₀))
+Inv-loop table parameters numbers pool₀ waiting₀ planned₀ lo count without carried places ends end from₀ v₀ pool waiting planned from v =
+    Settling parameters lo count carried (stretchWords (parameters .places) lo count without numbers pool₀)
     waiting₀ pool₀ planned₀ pool waiting planned from v
 
 abbrev μ-loop : tie.MeasureT-loop
-μ-loop table bits numbers pool₀ waiting₀ planned₀ places lo count without carried ends end from₀ v₀ pool waiting planned from v =
+μ-loop table parameters numbers pool₀ waiting₀ planned₀ lo count without carried places ends end from₀ v₀ pool waiting planned from v =
     count - v
 
 -- the stretch's words
 abbrev L : tie.Start Inv-loop μ-loop → List ℕ
 L c =
     let a = c .args in
-    wordsFrom (a .lo * a .places) (a .without) (stretch (a .places) (a .lo) (a .count) (now (a .numbers))) (stretch (a .places) (a .lo) (a .count) (now (a .pool)))
+    stretchWords (a .parameters .places) (a .lo) (a .count) (a .without) (now (a .numbers)) (now (a .pool))
 
 enough : (c : tie.Start Inv-loop μ-loop) → c .args .carried + length (L c) ≤ length (now (c .args .waiting))
 enough c =
     let a = c .args in
-    let p = c .pre .1 .1 .1 in
-    let ln = length-stretch (a .places) (a .lo) (a .count) (now (a .numbers)) (p .0 .0) in
-    let lh = length-stretch (a .places) (a .lo) (a .count) (now (a .pool)) (p .0 .1) in
+    let p = c .pre .1 .1 in
+    let ln = length-stretch (a .parameters .places) (a .lo) (a .count) (now (a .numbers)) (p .0 .0) in
+    let lh = length-stretch (a .parameters .places) (a .lo) (a .count) (now (a .pool)) (p .0 .1) in
     rw
-    (words-count (a .lo * a .places) (a .without) (stretch (a .places) (a .lo) (a .count) (now (a .numbers))) (stretch (a .places) (a .lo) (a .count) (now (a .pool)))
+    (words-count (a .lo * a .parameters .places) (a .without) (stretch (a .parameters .places) (a .lo) (a .count) (now (a .numbers))) (stretch (a .parameters .places) (a .lo) (a .count) (now (a .pool)))
     (omega (arith, ln, lh)))
     (p .1 .1 .1 .0 .0)
 
@@ -49,7 +51,7 @@ abbrev ends : tie.After-slice-known4 Inv-loop μ-loop → List ℕ
 ends c = c .before .before .gather .last .1 .1 .1 .0
 
 abbrev start : tie.After-slice-known4 Inv-loop μ-loop → tie.Start Inv-loop μ-loop
-start c = c .before .before .before .before .before .before .before .before .before .before
+start c = c .before .before .before .before .before .before .before .before .before .before .before
 
 ready : (c : tie.After-slice-known4 Inv-loop μ-loop) → Started (start c .args .lo) (start c .args .count) (start c .args .carried) (L (start c)) (W c) (ends c)
 ready c = started _ _ _ _ (now (start c .args .waiting)) _ _ (c .before .before .gather .ensures .1) (enough (start c)) (c .before .before .gather .kept .1 .1 .0)
@@ -64,10 +66,10 @@ reach-is c = ready (c .before .before) .ended (c .before .loop .v) (c .loop-test
 
 few : (c : tie.At-loop Inv-loop μ-loop) → length (c .loop .waiting) ≤ 32768
 few c =
-    omega (arith, c .loop .inv .long-waiting, c .before .before .before .gather .kept .1 .1 .0, start (c .before) .pre .1 .1 .1 .1 .1 .1 .0 .1)
+    omega (arith, c .loop .inv .long-waiting, c .before .before .before .gather .kept .1 .1 .0, start (c .before) .pre .1 .1 .1 .1 .1 .0 .1)
 
 reached : (c : tie.In-loop Inv-loop μ-loop) → reach c ≤ length (c .before .loop .waiting)
-reached c = rw (reach-is c) (probed-within _ _ _ _ _ _ _ _ _ _ (ready (c .before .before)) _ _ _ _ _ (c .before .loop .inv) (c .loop-test .taken))
+reached c = rw (reach-is c) (probed-within _ _ _ _ _ _ _ _ _ (ready (c .before .before)) _ _ _ _ _ (c .before .loop .inv) (c .loop-test .taken))
 
 -- the words carried in are where they were
 carried-here : (c : tie.After-slice-known4 Inv-loop μ-loop) → take (start c .args .carried) (W c) ≡ take (start c .args .carried) (now (start c .args .waiting))
@@ -77,19 +79,22 @@ near-here : (c : tie.In-loop Inv-loop μ-loop)
     → homesUpTo (start (c .before .before) .args .lo + c .before .loop .v) (slice (c .before .loop .from) (reach c) (c .before .loop .waiting)) ≡ true
 near-here c =
     let b = c .before .before in
-    let p = start b .pre .1 .1 .1 .1 .1 .1 .1 in
+    let p = start b .pre .1 .1 .1 .1 .1 .1 in
     rw (reach-is c)
-    (probed-near _ _ _ _ _ _ _ _ _ _ (ready b) _ _ _ _ _ (c .before .loop .inv) (c .loop-test .taken) (rw (carried-here b) p))
+    (probed-near _ _ _ _ _ _ _ _ _ (ready b) _ _ _ _ _ (c .before .loop .inv) (c .loop-test .taken) (rw (carried-here b) p))
+
+cast-places : tie.Need-cast-places Inv-loop μ-loop
+cast-places c = search needs
 
 gather-requires : tie.Need-gather-requires Inv-loop μ-loop
 gather-requires c κs =
-    let p = c .before .before .before .before .before .before .before .pre in (
-      (p .1 .0 .1, (p .1 .1 .0 .0, p .1 .1 .0 .1 .0)),
-      (p .1 .1 .1 .0, (p .1 .1 .1 .1 .0, (p .1 .1 .1 .1 .1 .0, ((refl, omega (arith, p)), p .1 .1 .1 .1 .1 .1 .0 .0)))),
+    let p = c .before .before .before .before .before .before .before .before .pre in (
+      (limits _ (p .0 .valid) .places-most, (p .1 .0 .0, p .1 .0 .1 .0)),
+      (p .1 .1 .0, (p .1 .1 .1 .0, (p .1 .1 .1 .1 .0, ((refl, omega (arith, p)), p .1 .1 .1 .1 .1 .0 .0)))),
     )
 
 loop-holds : tie.Need-loop-holds Inv-loop μ-loop
-loop-holds c = settling-none _ _ _ _ _ _ _ _ _
+loop-holds c = settling-none _ _ _ _ _ _ _ _
 
 mul-reach : tie.Need-mul-reach Inv-loop μ-loop
 mul-reach c = record { fits = omega (arith, start (c .before .before) .pre) }
@@ -112,14 +117,14 @@ settle-page-requires c κs =
     let inv = i .before .loop .inv in (
       p .0,
       (
-        p .1 .0,
-        (
-          (rw (reach-is i) (probed-inside _ _ _ _ _ _ _ _ _ _ (ready (i .before .before)) _ _ _ _ _ inv (i .loop-test .taken)), (reached i, omega (arith, reached i, few (i .before)))),
-          (
-            (omega (arith, p), near-here i),
-            (omega (arith, p, inv .long-planned), rw (inv .long-pool) (page-inside (a .lo) (i .before .loop .v) (a .count) (a .places) (length (now (a .pool))) (i .loop-test .taken) (p .1 .1 .1 .0 .1))),
-          ),
-        ),
+        record {
+          order = rw (reach-is i) (probed-inside _ _ _ _ _ _ _ _ _ (ready (i .before .before)) _ _ _ _ _ inv (i .loop-test .taken));
+          inside = reached i;
+          most = omega (arith, reached i, few (i .before));
+          page = omega (arith, p);
+          homes = near-here i;
+        },
+        (omega (arith, p, inv .long-planned), rw (inv .long-pool) (page-inside (a .lo) (i .before .loop .v) (a .count) (a .parameters .places) (length (now (a .pool))) (i .loop-test .taken) (p .1 .1 .0 .1))),
       ),
     )
 
@@ -134,7 +139,7 @@ loop-again c =
     let i = c .before .before .before .before .before .before .before .before .before .before in
     let s = start (i .before .before) in
     let d = c .before .before .before .before .before .before .settle-page in
-    settling-next _ _ _ _ _ _ _ _ _ _ (ready (i .before .before)) _ _ _ _ _ (i .before .loop .inv) (i .loop-test .taken) _ (reach-is i) _ _ _ _ (d .ensures) (s .pre .1 .1 .1 .0 .1) (s .pre .1 .1 .0 .1 .1) (d .kept .1 .1 .0) (d .kept .1 .1 .1 .0) (d .kept .1 .1 .1 .1 .0)
+    settling-next _ _ _ _ _ _ _ _ _ (ready (i .before .before)) _ _ _ _ _ (i .before .loop .inv) (i .loop-test .taken) _ (reach-is i) _ _ _ _ (d .ensures) (s .pre .1 .1 .0 .1) (s .pre .1 .0 .1 .1) (d .kept .1 .1 .0) (d .kept .1 .1 .1 .0) (d .kept .1 .1 .1 .1 .0)
 
 close-up-requires : tie.Need-close-up-requires Inv-loop μ-loop
 close-up-requires c κs =
@@ -162,9 +167,9 @@ returns c =
     let b = l .before in
     let a = start b .args in
     let u = c .before .before .close-up in
-    subst (λ (w : List ℕ). Planned (a .bits) (a .places) (a .lo) (a .count) w (L (start b)) (now (a .pool)) (l .loop .pool) (now (a .planned)) (l .loop .planned) (u .last .0) (u .result))
+    subst (λ (w : List ℕ). Planned (a .parameters) (a .lo) (a .count) w (L (start b)) (now (a .pool)) (l .loop .pool) (now (a .planned)) (l .loop .planned) (u .last .0) (u .result))
     (carried-here b)
-    (planned-all _ _ _ _ _ _ _ _ _ _ (ready b) _ _ _ _ _ (l .loop .inv) (le-antisymm (l .loop .inv .upto) (c .before .before .before .before .loop-test .left)) _ _ _ (b .before .before .gather .ensures .0) (u .ensures .0) (u .ensures .1))
+    (planned-all _ _ _ _ _ _ _ _ _ (ready b) _ _ _ _ _ (l .loop .inv) (le-antisymm (l .loop .inv .upto) (c .before .before .before .before .loop-test .left)) _ _ _ (b .before .before .gather .ensures .0) (u .ensures .0) (u .ensures .1))
 
 pub plan-spec : {M : Type 1} → statement M
 plan-spec =
@@ -172,6 +177,7 @@ plan-spec =
     (tie.spec
     Inv-loop
     μ-loop
+    cast-places
     gather-requires
     loop-holds
     mul-reach

@@ -2,26 +2,30 @@ use mathlib.Core.Path.{refl}
 use native.Mathlib.Omega.{arith}
 use lib.Seq.{slice}
 use denote.Ref.{now}
+use Rattle.hashing.proofs.Bounds.{limits}
 use Rattle.planning.proofs.Stretch.{page-planned, separator-byte}
 use borrow.Author.Needs.{needs}
 use Rattle.planning.proofs.layout.settle_page.Statement.{statement}
 use Rattle.planning.proofs.layout.settle_page.Tie as tie
 
+cast-places : tie.Need-cast-places
+cast-places c = search needs
+
 settle-requires : tie.Need-settle-requires
 settle-requires c κs =
-    let p = c .before .before .before .before .before .pre in
-    (p .0, (p .1 .0, (p .1 .1 .0, (p .1 .1 .1 .0, refl))))
+    let p = c .before .before .before .before .before .before .pre in
+    (p .0, (p .1 .0, refl))
 
 cast-planned : tie.Need-cast-planned
 cast-planned c =
-    let s = c .before .before .before .before .before .before .before .before .before in
+    let s = c .before .before .before .before .before .before .before .before .before .before in
     let a = s .args in
     record {
       fits =
           omega (
             arith,
             c .before .before .before .settle .ensures .0 .separator,
-            separator-byte (a .bits) (a .places) (a .page) (slice (a .from) (a .reach) (now (a .waiting))) (s .pre .1 .0 .0 .1),
+            separator-byte (a .parameters) (a .page) (slice (a .from) (a .reach) (now (a .waiting))) (limits _ (s .pre .0 .valid) .bits-most),
           );
     }
 
@@ -32,7 +36,11 @@ mul-store-sources : tie.Need-mul-store-sources
 mul-store-sources c = search needs
 
 store-sources-requires : tie.Need-store-sources-requires
-store-sources-requires c κs = search needs
+store-sources-requires c κs =
+    let s = c .before .before .before .before .before .before .before .before .before .before .before .before in
+    let most = limits _ (s .pre .0 .valid) .places-most in
+    let done = c .before .before .before .before .before .settle .ensures in
+    ((s .pre .1 .1 .1, most), (done .1, omega (arith, done .0 .size, done .1, most)))
 
 same-length : tie.Need-same-length
 same-length c = search needs
@@ -45,15 +53,16 @@ same-length-3 c = search needs
 
 returns : tie.Need-returns
 returns c =
-    let s = c .before .before .before .before .before .before .before .before .before .before .before .before .before .before in
+    let s = c .before .before .before .before .before .before .before .before .before .before .before .before .before .before .before in
     let a = s .args in
     let d = c .before .before .before .before .before .before .before .before .settle in
-    page-planned (a .bits) (a .places) (a .page) (slice (a .from) (a .reach) (now (a .waiting))) (a .reach) (now (a .waiting)) (d .last .1 .1 .1 .0) (d .last .1 .1 .1 .1 .1 .1 .1 .0) (now (a .pool)) (c .before .before .store-sources .last .0) (now (a .planned)) (d .result) (d .ensures .0) (c .before .before .store-sources .ensures) (omega (arith, s .pre))
+    page-planned (a .parameters) (a .page) (slice (a .from) (a .reach) (now (a .waiting))) (a .reach) (now (a .waiting)) (d .last .1 .1 .0) (d .last .1 .1 .1 .1 .1 .1 .0) (now (a .pool)) (c .before .before .store-sources .last .0) (now (a .planned)) (d .result) (d .ensures .0) (c .before .before .store-sources .ensures) (omega (arith, s .pre))
 
 pub settle-page-spec : {M : Type 1} → statement M
 settle-page-spec =
     tie.close
     (tie.spec
+    cast-places
     settle-requires
     cast-planned
     slice-write-planned

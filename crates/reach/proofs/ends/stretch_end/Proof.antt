@@ -1,5 +1,5 @@
 use mathlib.Core.Path.{_≡_, refl}
-use Prim.Native.Nat.{_-_, _≤_}
+use Prim.Native.Nat.{_-_}
 use native.Mathlib.Numerals.{add-one}
 use native.Mathlib.Omega.{arith}
 use lib.ListN.{length}
@@ -8,8 +8,6 @@ use Rattle.reach.specs.Reach.{storedTop}
 use Rattle.reach.proofs.Search.{Sought, sought-none, sought-next, sought-found, sought-all}
 use Rattle.reach.proofs.ends.stretch_end.Statement.{statement}
 use Rattle.reach.proofs.ends.stretch_end.Tie as tie
-use Rattle.reach.proofs.ends.stretch_end.Reads as reads
-use Rattle.reach.proofs.ends.stretch_end.Lts as lts
 
 abbrev Inv-loop : tie.InvT-loop
 Inv-loop separators top from last page₀ page =
@@ -18,39 +16,27 @@ Inv-loop separators top from last page₀ page =
 abbrev μ-loop : tie.MeasureT-loop
 μ-loop separators top from last page₀ page = last - page
 
--- src/ends.rt:13:16
 sub-last : tie.Need-sub-last Inv-loop μ-loop
 sub-last c = omega arith
 
--- src/ends.rt:15:5
 loop-holds : tie.Need-loop-holds Inv-loop μ-loop
 loop-holds c = (refl, sought-none _ _ _)
 
--- src/ends.rt:16:12
 shared-slice-read-if1 : tie.Need-shared-slice-read-if1 Inv-loop μ-loop
 shared-slice-read-if1 c = omega arith
 
--- src/ends.rt:16:12
-cast-if1 : tie.Need-cast-if1 Inv-loop μ-loop
-cast-if1 c = omega (arith, c .shared-slice-known .given (c .before .before .loop .page))
-
--- src/ends.rt:17:13
 returns : tie.Need-returns Inv-loop μ-loop
 returns c = sought-found _ _ _ _ (c .before .before .before .loop .inv .1) (omega (arith, c .before .before .before .loop .inv .1 .low)) (eq-eqb _ _ (c .if1 .taken))
 
--- src/ends.rt:19:9
 add-page : tie.Need-add-page Inv-loop μ-loop
 add-page c = omega arith
 
--- src/ends.rt:15:5
 loop-less : tie.Need-loop-less Inv-loop μ-loop
 loop-less c = omega arith
 
--- src/ends.rt:15:5
 loop-again : tie.Need-loop-again Inv-loop μ-loop
 loop-again c = (c .before .before .before .loop .inv .0, rw (add-one _) (sought-next _ _ _ _ (c .before .before .before .loop .inv .1) (omega (arith, c .before .before .before .loop .inv .1 .low)) (ne-eqb _ _ (c .if1 .left))))
 
--- src/ends.rt:9:1
 returns-2 : tie.Need-returns-2 Inv-loop μ-loop
 returns-2 c = sought-all _ _ _ _ (c .before .loop .inv .1) (omega (arith, c .before .loop .inv .1 .low))
 
@@ -63,7 +49,6 @@ stretch-end-spec =
     sub-last
     loop-holds
     shared-slice-read-if1
-    cast-if1
     returns
     add-page
     loop-less

@@ -1,17 +1,13 @@
-use mathlib.Core.Path.{_≡_, refl, sym, _∙_}
-use Prim.Native.Nat.{_-_, _+_, _*_, _≤_, _<_}
+use mathlib.Core.Path.{_≡_, _∙_}
+use Prim.Native.Nat.{_-_, _*_, _<_}
 use native.Mathlib.Omega.{arith}
 use lib.ListN.{length}
 use borrow.Author.Tests.{not-false}
 use Rattle.hashing.proofs.Bounds.{passed, failed}
-use Rattle.pages.proofs.Parts.{page-fits}
 use Rattle.placement.specs.Hash.{lent}
 use Rattle.reach.proofs.Surveyed.{Surveyed, surveyed-none, surveyed-next, surveyed-fails, surveyed-all}
 use Rattle.reach.proofs.surveying.survey_pages.Statement.{statement}
 use Rattle.reach.proofs.surveying.survey_pages.Tie as tie
-use Rattle.reach.proofs.surveying.survey_pages.Reads as reads
-use Rattle.reach.proofs.surveying.survey_pages.Lts as lts
-use Rattle.placement.proofs.survey.Reads as survey-reads
 
 abbrev Inv-loop : tie.InvT-loop
 Inv-loop table geometry separators numbers words homes₀ from stop page₀ homes page =
@@ -20,70 +16,41 @@ Inv-loop table geometry separators numbers words homes₀ from stop page₀ home
 abbrev μ-loop : tie.MeasureT-loop
 μ-loop table geometry separators numbers words homes₀ from stop page₀ homes page = stop - page
 
--- src/surveying.rt:27:5
 loop-holds : tie.Need-loop-holds Inv-loop μ-loop
 loop-holds c = surveyed-none _ _ _ _ _ _
 
--- src/surveying.rt:28:13
 abbrev start : tie.After-survey-arg Inv-loop μ-loop → tie.Start Inv-loop μ-loop
 start c = c .before .before .before .before .before .before .before
 
 homes-long : (c : tie.After-survey-arg Inv-loop μ-loop) → length (c .before .before .loop .homes) ≡ start c .args .geometry .parameters .pages * start c .args .geometry .parameters .places
-homes-long c = c .before .before .loop .inv .long ∙ start c .pre .1 .1 .1 .1 .0
+homes-long c = c .before .before .loop .inv .long ∙ start c .pre .1 .0
 
 below : (c : tie.After-survey-arg Inv-loop μ-loop) → c .before .before .loop .page < start c .args .geometry .parameters .pages
-below c = omega (arith, c .before .loop-test .taken, start c .pre .1 .1 .1 .1 .1 .1)
+below c = omega (arith, c .before .loop-test .taken, start c .pre .1 .1 .1)
 
 survey-requires : tie.Need-survey-requires Inv-loop μ-loop
-survey-requires c κs =
-    let pre = start c .pre in
-    let sized = pre .1 .1 .1 .0 in (
-      pre .0,
-      (
-        pre .1 .0,
-        (
-          pre .1 .1 .0,
-          (
-            sized .ofSeparators,
-            (
-              below c,
-              (
-                page-fits _ _ _ (below c) (sized .ofNumbers),
-                (page-fits _ _ _ (below c) (sized .ofWords), page-fits _ _ _ (below c) (homes-long c)),
-              ),
-            ),
-          ),
-        ),
-      ),
-    )
+survey-requires c κs = (start c .pre .0, (homes-long c, below c))
 
--- src/surveying.rt:29:13
 same-length : tie.Need-same-length Inv-loop μ-loop
 same-length c = c .before .before .before .survey .kept .1 .1 .1 .1 .1 .0 ∙ c .before .before .before .before .before .before .loop .inv .long
 
--- src/surveying.rt:29:13
 returns : tie.Need-returns Inv-loop μ-loop
 returns c = (surveyed-fails _ _ _ _ _ _ _ _ (c .before .before .before .before .before .before .loop .inv) (omega (arith, c .before .before .before .before .before .loop-test .taken)) (failed _ _ (c .before .before .before .survey .ensures .0) (c .if1 .taken)), λ e. absurd (omega (arith, c .before .before .before .before .before .loop-test .taken)))
 
--- src/surveying.rt:31:9
 add-page : tie.Need-add-page Inv-loop μ-loop
 add-page c = omega arith
 
--- src/surveying.rt:27:5
 loop-less : tie.Need-loop-less Inv-loop μ-loop
 loop-less c = omega arith
 
--- src/surveying.rt:27:5
 loop-again : tie.Need-loop-again Inv-loop μ-loop
 loop-again c =
     let s = c .before .before .before .before .before .before .before .before .before .before .before in
-    surveyed-next _ _ _ _ _ _ _ _ (c .before .before .before .before .before .before .loop .inv) (s .pre .1 .1 .1 .0) (s .pre .1 .1 .1 .1 .0) (omega (arith, c .before .before .before .before .before .loop-test .taken)) (omega (arith, s .pre .1 .1 .1 .1 .1 .0, s .pre .1 .1 .1 .1 .1 .1)) _ (passed _ _ (c .before .before .before .survey .ensures .0) (c .if1 .left)) (c .before .before .before .survey .ensures .1 (not-false _ (c .if1 .left))) (c .before .before .before .survey .kept .1 .1 .1 .1 .1 .0)
+    surveyed-next _ _ _ _ _ _ _ _ (c .before .before .before .before .before .before .loop .inv) (s .pre .0 .sized) (s .pre .1 .0) (omega (arith, c .before .before .before .before .before .loop-test .taken)) (omega (arith, s .pre .1 .1 .0, s .pre .1 .1 .1)) _ (passed _ _ (c .before .before .before .survey .ensures .0) (c .if1 .left)) (c .before .before .before .survey .ensures .1 (not-false _ (c .if1 .left))) (c .before .before .before .survey .kept .1 .1 .1 .1 .1 .0)
 
--- src/surveying.rt:15:1
 same-length-2 : tie.Need-same-length-2 Inv-loop μ-loop
 same-length-2 c = c .before .loop .inv .long
 
--- src/surveying.rt:15:1
 returns-2 : tie.Need-returns-2 Inv-loop μ-loop
 returns-2 c = (surveyed-all _ _ _ _ _ _ _ _ (c .before .loop .inv) (omega arith), λ e. (rw e at (c .before .loop .inv .kept)))
 

@@ -11,19 +11,16 @@ use borrow.Author.Needs.{needs}
 use Rattle.replacing.proofs.growth.regrow.Statement.{statement}
 use Rattle.replacing.proofs.growth.regrow.Tie as tie
 
-cast-places : tie.Need-cast-places
-cast-places c = search needs
-
 cast-pages : tie.Need-cast-pages
 cast-pages c = search needs
 
 abbrev start : tie.After-survey-pages → tie.Start
-start c = c .before .before .before .before .before .before .before .before .before .before .before .before
+start c = c .before .before .before .before .before .before .before .before .before .before .before
 
 survey-pages-requires : tie.Need-survey-pages-requires
 survey-pages-requires c κs =
-    let pre = c .before .before .before .before .before .before .before .before .before .before .before .pre in
-    (pre .0, (pre .1 .0, (pre .1 .1 .0, (pre .1 .1 .1 .1 .0, (pre .1 .1 .1 .1 .1 .0, (omega arith, omega arith))))))
+    let pre = c .before .before .before .before .before .before .before .before .before .before .pre in
+    (pre .0, (pre .1 .0 .ofNumbers, (omega arith, omega arith)))
 
 same-length : tie.Need-same-length
 same-length c = search needs
@@ -41,22 +38,14 @@ returns : tie.Need-returns
 returns c =
     let surveyed = c .before .before .before in
     let pre = start surveyed .pre in
-    growth-refused _ _ _ (pre .1 .0) (pre .1 .1 .1 .1 .0) _ (surveyed .survey-pages .ensures .0) (c .if1 .taken)
+    growth-refused _ _ _ (pre .0 .homing .signing .valid) (pre .0 .sized) _ (surveyed .survey-pages .ensures .0) (c .if1 .taken)
 
 rehome-requires : tie.Need-rehome-requires
 rehome-requires c κs =
     let sound = c .before .before in
     let surveyed = sound .before .before .before in
-    let pre = start surveyed .pre in (
-      pre .0,
-      (
-        pre .1 .0,
-        (
-          pre .1 .1 .0,
-          surveyed-all _ _ _ (pre .1 .0) (pre .1 .1 .1 .1 .0) _ (surveyed .survey-pages .ensures .0) (sound .if1 .left) _ _ (pre .1 .1 .1 .1 .1 .0) (surveyed .survey-pages .ensures .1),
-        ),
-      ),
-    )
+    let pre = start surveyed .pre in
+    (pre .0 .homing, surveyed-all _ _ _ (pre .0 .homing .signing .valid) (pre .0 .sized) _ (surveyed .survey-pages .ensures .0) (sound .if1 .left) _ _ (pre .1 .0 .ofNumbers) (surveyed .survey-pages .ensures .1))
 
 replace-stretch-requires : tie.Need-replace-stretch-requires
 replace-stretch-requires c κs =
@@ -64,9 +53,9 @@ replace-stretch-requires c κs =
     let sound = rehomed .before .before .before in
     let surveyed = sound .before .before .before in
     let pre = start surveyed .pre in (
-      pre .0,
-      growth-plannable _ _ _ (pre .1 .0) (pre .1 .1 .1 .1 .0) _ (surveyed .survey-pages .ensures .0) (sound .if1 .left) (pre .1 .1 .0) (pre .1 .1 .1 .0) _ (rehomed .rehome .ensures)
-          _ (pre .1 .1 .1 .1 .1 .1),
+      pre .0 .homing .signing,
+      growth-plannable _ _ _ (pre .0 .homing .signing .valid) (pre .0 .sized) _ (surveyed .survey-pages .ensures .0) (sound .if1 .left) (pre .0 .homing .growth) (pre .1 .1) _ (rehomed .rehome .ensures)
+          _ (pre .1 .0 .ofWords),
     )
 
 same-length-5 : tie.Need-same-length-5
@@ -100,7 +89,7 @@ answered c r e =
     let sound = rehomed .before .before .before in
     let surveyed = sound .before .before .before in
     let pre = start surveyed .pre in
-    growth-done _ _ _ (pre .1 .0) (pre .1 .1 .1 .1 .0) _ (surveyed .survey-pages .ensures .0) (sound .if1 .left) (pre .1 .1 .0) (pre .1 .1 .1 .0) _ (rehomed .rehome .ensures)
+    growth-done _ _ _ (pre .0 .homing .signing .valid) (pre .0 .sized) _ (surveyed .survey-pages .ensures .0) (sound .if1 .left) (pre .0 .homing .growth) (pre .1 .1) _ (rehomed .rehome .ensures)
     r (sym e ∙ c .replace-stretch .ensures .0) _ (c .replace-stretch .ensures .1)
 
 returns-2 : tie.Need-returns-2
@@ -128,7 +117,6 @@ pub regrow-spec : {M : Type 1} → statement M
 regrow-spec =
     tie.close
     (tie.spec
-    cast-places
     cast-pages
     survey-pages-requires
     same-length

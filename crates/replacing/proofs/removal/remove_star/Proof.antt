@@ -1,8 +1,8 @@
 use mathlib.Core.Path.{_∙_}
 use native.Mathlib.Omega.{arith}
-use Rattle.hashing.specs.Generator.{multiplier}
+use Rattle.hashing.specs.Generator.{multiplierOf}
 use Rattle.hashing.proofs.Bounds.{limits}
-use Rattle.hashing.proofs.Laws.{home-pages, top-least, top-shifted}
+use Rattle.hashing.proofs.Laws.{home-pages}
 use Rattle.placement.specs.Hash.{hashOf, lent}
 use Rattle.replacing.proofs.Removing.{Reached, reached, removal-refused, removal-plannable, removal-done}
 use borrow.Author.Needs.{needs}
@@ -10,48 +10,43 @@ use Rattle.replacing.proofs.removal.remove_star.Statement.{statement}
 use Rattle.replacing.proofs.removal.remove_star.Tie as tie
 
 abbrev start : tie.After-stretch-end → tie.Start
-start c = c .before .before .before .before .before .before .before .before .before
+start c = c .before .before .before .before .before .before .before .before .before .before
 
 -- the reach
 reach : (c : tie.After-stretch-end)
     → Reached (start c .args .geometry .parameters) (start c .args .geometry .growth)
-    (lent (start c .args .separators .now) (start c .args .numbers .now) (start c .args .words .now)) (start c .args .number) (c .before .before .home .result) (c .stretch-end .result)
+    (lent (start c .args .separators .now) (start c .args .numbers .now) (start c .args .words .now)) (start c .args .number) (c .before .before .before .home .result) (c .stretch-end .result)
 unfolding hashOf
 reach c =
     let pre = start c .pre in
-    reached _ _ _ _ (pre .1 .0) (pre .1 .1 .0) (pre .1 .1 .1 .0) _ _ _ (c .before .before .home .ensures) (top-shifted _ (limits _ (pre .1 .0) .bits-most)) (c .stretch-end .ensures)
-
-cast-places : tie.Need-cast-places
-cast-places c = search needs
+    reached _ _ _ _ (pre .0 .homing .signing .valid) (pre .0 .homing .growth) (pre .0 .sized) _ _ _ (c .before .before .before .home .ensures) (c .before .top-of .ensures) (c .stretch-end .ensures)
 
 home-requires : tie.Need-home-requires
-home-requires c κs = search needs
+home-requires c κs = let ready = c .before .before .before .before .before .before .pre .0 .homing in (ready .signing .table, (ready .signing .valid, ready .growth))
 
 cast-from : tie.Need-cast-from
 cast-from c = search needs
 
-shl-stretch-end : tie.Need-shl-stretch-end
-shl-stretch-end c = omega (arith, limits _ (c .before .before .before .before .before .before .before .before .pre .1 .0) .bits-most)
-
-sub-stretch-end : tie.Need-sub-stretch-end
-sub-stretch-end c =
-    let l = limits _ (c .before .before .before .before .before .before .before .before .pre .1 .0) in
-    omega (arith, top-shifted _ (l .bits-most), top-least _ (l .bits-least))
+top-of-requires : tie.Need-top-of-requires
+top-of-requires c κs = search needs
 
 stretch-end-requires : tie.Need-stretch-end-requires
 stretch-end-requires c κs =
-    let pre = c .before .before .before .before .before .before .before .before .pre in
-    omega (arith, c .before .home .ensures, home-pages multiplier _ _ (c .before .before .before .before .before .before .before .before .args .number) (pre .1 .0) (pre .1 .1 .0), pre .1 .1 .1 .0 .ofSeparators)
+    let s = c .before .before .before .before .before .before .before .before .before in
+    let p = s .args .geometry .parameters in
+    let ready = s .pre .0 in
+    let low = home-pages (multiplierOf p) p (s .args .geometry .growth) (s .args .number) (ready .homing .signing .valid) (ready .homing .growth) in
+    omega (arith, c .before .before .home .ensures, low, ready .sized .ofSeparators)
 
 add-stop : tie.Need-add-stop
-add-stop c = omega (arith, reach c .inside, limits _ (start c .pre .1 .0) .pages-most)
+add-stop c = omega (arith, reach c .inside, limits _ (start c .pre .0 .homing .signing .valid) .pages-most)
 
 survey-pages-requires : tie.Need-survey-pages-requires
 survey-pages-requires c κs =
     let end = c .before .before .before .before in
     let pre = start end .pre in
     let R = reach end in
-    (pre .0, (pre .1 .0, (pre .1 .1 .0, (pre .1 .1 .1 .0, (pre .1 .1 .1 .1 .0, (omega (arith, R .order), omega (arith, R .inside)))))))
+    (pre .0, (pre .1 .ofNumbers, (omega (arith, R .order), omega (arith, R .inside))))
 
 same-length : tie.Need-same-length
 same-length c = search needs
@@ -79,10 +74,10 @@ replace-stretch-requires c κs =
     let surveyed = sound .before .before .before in
     let end = surveyed .before .before .before .before .before in
     let pre = start end .pre in
-    let lengths = pre .1 .1 .1 .1 in (
-      pre .0,
-      removal-plannable _ _ _ _ _ _ (reach end) (pre .1 .0) (pre .1 .1 .1 .0) _ (surveyed .survey-pages .ensures .0) (sound .if1 .left) _ _ (lengths .0)
-          (surveyed .survey-pages .kept .1 .1 .1 .1 .1 .0 ∙ lengths .0) (surveyed .survey-pages .ensures .1) _ (lengths .1),
+    let lengths = pre .1 in (
+      pre .0 .homing .signing,
+      removal-plannable _ _ _ _ _ _ (reach end) (pre .0 .homing .signing .valid) (pre .0 .sized) _ (surveyed .survey-pages .ensures .0) (sound .if1 .left) _ _ (lengths .ofNumbers)
+          (surveyed .survey-pages .kept .1 .1 .1 .1 .1 .0 ∙ lengths .ofNumbers) (surveyed .survey-pages .ensures .1) _ (lengths .ofWords),
     )
 
 same-length-5 : tie.Need-same-length-5
@@ -107,21 +102,19 @@ returns-2 c =
     let surveyed = sound .before .before .before in
     let end = surveyed .before .before .before .before .before in
     let pre = start end .pre in
-    let lengths = pre .1 .1 .1 .1 in
+    let lengths = pre .1 in
     let done =
-    removal-done _ _ _ _ _ _ (reach end) (pre .1 .0) (pre .1 .1 .1 .0) _ (surveyed .survey-pages .ensures .0) (sound .if1 .left) _ _ (lengths .0)
-    (surveyed .survey-pages .kept .1 .1 .1 .1 .1 .0 ∙ lengths .0) (surveyed .survey-pages .ensures .1) in
+    removal-done _ _ _ _ _ _ (reach end) (pre .0 .homing .signing .valid) (pre .0 .sized) _ (surveyed .survey-pages .ensures .0) (sound .if1 .left) _ _ (lengths .ofNumbers)
+    (surveyed .survey-pages .kept .1 .1 .1 .1 .1 .0 ∙ lengths .ofNumbers) (surveyed .survey-pages .ensures .1) in
     (done .0, placed .replace-stretch .ensures .1 ∙ done .1)
 
 pub remove-star-spec : {M : Type 1} → statement M
 remove-star-spec =
     tie.close
     (tie.spec
-    cast-places
     home-requires
     cast-from
-    shl-stretch-end
-    sub-stretch-end
+    top-of-requires
     stretch-end-requires
     add-stop
     survey-pages-requires

@@ -17,11 +17,8 @@ plan-requires c κs =
     let L = start c .pre .1 in (
       start c .pre .0,
       (
-        ((L .bits-least, L .bits-most), L .places-most),
-        (
-          (L .some, (L .pages-most, L .pages-most)),
-          ((L .numbers-long, L .pool-long), (L .valid, (L .within, ((stars-fit _ _ _ _ _ _ _ L _, L .waiting-most), refl)))),
-        ),
+        (L .some, (L .pages-most, L .pages-most)),
+        ((L .numbers-long, L .pool-long), (L .valid, (L .within, ((stars-fit _ _ _ _ _ _ L _, L .waiting-most), refl)))),
       ),
     )
 
@@ -37,10 +34,13 @@ same-length-3 c = search needs
 returns : tie.Need-returns
 returns c =
     let planned = c .before .before .before .before .before .before in
-    stretch-kept _ _ _ _ _ _ _ (start (planned .before) .pre .1) _ _ _ _ _ _ (planned .plan .ensures) (c .if1 .taken)
+    stretch-kept _ _ _ _ _ _ (start (planned .before) .pre .1) _ _ _ _ _ _ (planned .plan .ensures) (c .if1 .taken)
 
 slice-aggregate-apply : tie.Need-slice-aggregate-apply
 slice-aggregate-apply c = search needs
+
+cast-apply : tie.Need-cast-apply
+cast-apply c = search needs
 
 apply-requires : tie.Need-apply-requires
 apply-requires c κs = search needs
@@ -63,10 +63,10 @@ same-length-8 c = search needs
 returns-2 : tie.Need-returns-2
 returns-2 c =
     let applying = c .before .before .before .before .before .before .before .before .before .before in
-    let chosen = applying .before .before .before .before .before .before .before in
+    let chosen = applying .before .before .before .before .before .before .before .before in
     let planned = chosen .before .before .before .before .before .before in
     let L = start (planned .before) .pre .1 in
-    let placed = stretch-placed _ _ _ _ _ _ _ L _ _ _ _ _ _ (planned .plan .ensures) (chosen .if1 .left) (L .pages-most) in
+    let placed = stretch-placed _ _ _ _ _ _ L _ _ _ _ _ _ (planned .plan .ensures) (chosen .if1 .left) (L .pages-most) in
     let left = applying .apply .ensures in
     (placed .0, applied-lists _ _ _ _ _ _ _ _ _ _ _ (left .0) (left .1 .0) (left .1 .1) ∙ placed .1)
 
@@ -81,6 +81,7 @@ replace-stretch-spec =
     same-length-3
     returns
     slice-aggregate-apply
+    cast-apply
     apply-requires
     same-length-4
     same-length-5

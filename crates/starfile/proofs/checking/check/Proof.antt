@@ -11,6 +11,7 @@ use Rattle.hashing.proofs.Bounds.{limits, both, passed, failed, growth-within, 
 use Rattle.pages.specs.Position.{validNumber, validPosition}
 use Rattle.placement.specs.File.{File}
 use Rattle.placement.specs.Hash.{lent}
+use Rattle.placement.proofs.Prepared.{ready, pool-ready}
 use Rattle.starfile.specs.Answers.{Pool, checked, refusedBy, pooled, cleared}
 use Rattle.starfile.specs.Calls.{checkOf, fileFits, poolFits}
 use Rattle.starfile.specs.Outcomes.{verdictChecked}
@@ -74,7 +75,7 @@ multipliers-requires c κs = search needs
 check-file-requires : tie.Need-check-file-requires
 check-file-requires c κs =
     let d = c .before .before .before .before in
-    (c .before .before .before .multipliers .ensures, (valid d, (sized _ _ (fits d .0), pool-sized _ (poolOf (begun d)) (fits d .1))))
+    (ready (c .before .before .before .multipliers .ensures) (valid d .0) (valid d .1) (sized _ _ (fits d .0)), pool-ready (pool-sized _ (poolOf (begun d)) (fits d .1)))
 
 clear-requires : tie.Need-clear-requires
 clear-requires c κs = search needs

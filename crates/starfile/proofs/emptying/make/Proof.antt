@@ -3,7 +3,7 @@ use mathlib.Core.Path.{_≡_, sym, _∙_, ap}
 use lib.ListN.{length, replicate}
 use Prim.Native.Nat.{ℕ}
 use denote.Ref.{now}
-use Rattle.hashing.proofs.Bounds.{limits, passed, failed}
+use Rattle.hashing.proofs.Bounds.{passed, failed}
 use Rattle.placement.specs.File.{File}
 use Rattle.placement.specs.Hash.{lent}
 use Rattle.starfile.specs.Answers.{placed, refusedBy, numberOf, pageOf, unpooled}
@@ -17,7 +17,6 @@ use Rattle.starfile.proofs.emptying.make.Lts as lts
 use Rattle.hashing.proofs.parameters_valid.Reads as parameters-valid-reads
 use Rattle.planning.proofs.clear.Reads as clear-reads
 use Rattle.starfile.proofs.emptying.fill.Reads as fill-reads
-use Rattle.starfile.proofs.emptying.top.Reads as top-reads
 use Rattle.starfile.proofs.lending.file_fits.Reads as file-fits-reads
 
 -- src/emptying.rt:24:9
@@ -46,10 +45,8 @@ returns-2 c =
     make-short (s .args .parameters) (fileOf s) unpooled (passed _ _ (c .before .before .before .parameters-valid .ensures) (c .before .before .if1 .left)) (failed _ _ (c .before .file-fits .ensures) (c .if2 .taken))
 
 -- src/emptying.rt:36:22
-top-requires : tie.Need-top-requires
-top-requires c κs =
-    let l = limits _ (passed _ _ (c .before .before .before .before .parameters-valid .ensures) (c .before .before .before .if1 .left)) in
-    (l .bits-least, l .bits-most)
+top-of-requires : tie.Need-top-of-requires
+top-of-requires c κs = passed _ _ (c .before .before .before .before .parameters-valid .ensures) (c .before .before .before .if1 .left)
 
 -- src/emptying.rt:36:5
 fill-requires : tie.Need-fill-requires
@@ -79,7 +76,7 @@ returns-3 c =
     make-empty (s .args .parameters) (fileOf s) unpooled _ _ _
     (passed _ _ (c .before .before .before .before .before .before .before .before .before .before .before .before .before .before .before .parameters-valid .ensures) (c .before .before .before .before .before .before .before .before .before .before .before .before .before .before .if1 .left))
     (passed _ _ (c .before .before .before .before .before .before .before .before .before .before .before .before .before .file-fits .ensures) (c .before .before .before .before .before .before .before .before .before .before .before .before .if2 .left))
-    (c .before .before .before .before .before .before .before .before .before .fill .ensures ∙ ap (replicate {A = ℕ} (length (now (s .args .separators)))) (c .before .before .before .before .before .before .before .before .before .before .top .ensures))
+    (c .before .before .before .before .before .before .before .before .before .fill .ensures ∙ ap (replicate {A = ℕ} (length (now (s .args .separators)))) (c .before .before .before .before .before .before .before .before .before .before .top-of .ensures))
     (c .before .before .before .before .clear .ensures .0)
     (c .before .before .before .before .clear .ensures .1)
 
@@ -91,7 +88,7 @@ make-spec =
     returns
     file-fits-requires
     returns-2
-    top-requires
+    top-of-requires
     fill-requires
     clear-requires
     same-length

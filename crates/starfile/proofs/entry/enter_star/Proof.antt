@@ -11,6 +11,7 @@ use Rattle.hashing.proofs.Bounds.{limits, both, passed, failed, growth-within, 
 use Rattle.pages.specs.Position.{validNumber, validPosition}
 use Rattle.placement.specs.File.{File}
 use Rattle.placement.specs.Hash.{lent}
+use Rattle.placement.proofs.Prepared.{ready, pool-ready}
 use Rattle.starfile.specs.Answers.{Pool, placed, checked, refusedBy, numberOf, pageOf, pooled, cleared}
 use Rattle.starfile.specs.Calls.{enterOn, enteredAgain, named, readable, holds}
 use Rattle.starfile.specs.Outcomes.{entryPlaced}
@@ -104,21 +105,12 @@ enter-stretch-requires c κs =
     let s = c .before .before .before .before .before .before .before .before .before .before .before .before .before .before .before .before .before .before .before .before .before in
     let found = c .before .before .before .before .before .before .before .before .before .before .find .ensures in
     let opened = not-false _ (c .before .before .before .before .before .before .before .if1 .left) in (
-      c .before .before .before .before .before .before .before .before .before .before .before .before .before .before .before .multipliers .ensures,
+      ready (c .before .before .before .before .before .before .before .before .before .before .before .before .before .before .before .multipliers .ensures) (s .pre .0) (s .pre .1 .0) (s .pre .1 .1 .0),
       (
-        s .pre .0,
+        pool-ready (pool-sized (s .args .parameters) (poolOf s) (s .pre .1 .1 .1 .0)),
         (
-          s .pre .1 .0,
-          (
-            s .pre .1 .1 .0,
-            (
-              pool-sized (s .args .parameters) (poolOf s) (s .pre .1 .1 .1 .0),
-              (
-                s .pre .1 .1 .1 .1,
-                unheld (s .args .parameters) (s .args .growth) (fileOf s) (s .args .number) (sym (found .readableIs) ∙ opened) (sym (found .heldIs opened) ∙ c .before .before .before .before .before .before .if2 .left),
-              ),
-            ),
-          ),
+          s .pre .1 .1 .1 .1,
+          unheld (s .args .parameters) (s .args .growth) (fileOf s) (s .args .number) (sym (found .readableIs) ∙ opened) (sym (found .heldIs opened) ∙ c .before .before .before .before .before .before .if2 .left),
         ),
       ),
     )

@@ -11,6 +11,7 @@ use Rattle.hashing.proofs.Bounds.{limits, both, passed, failed, growth-within, 
 use Rattle.pages.specs.Position.{validNumber, validPosition}
 use Rattle.placement.specs.File.{File}
 use Rattle.placement.specs.Hash.{lent}
+use Rattle.placement.proofs.Prepared.{ready, pool-ready}
 use Rattle.starfile.specs.Answers.{Pool, placed, checked, refusedBy, numberOf, pageOf, pooled, cleared}
 use Rattle.hashing.specs.Geometry.{highest, pageCount, grown}
 use Rattle.starfile.specs.Calls.{growOn}
@@ -81,11 +82,8 @@ grown-requires c κs =
 regrow-requires : tie.Need-regrow-requires
 regrow-requires c κs =
     let s = c .before .before .before .before .before .before .before .before .before .before .before .before .before .before .before .before in (
-      c .before .before .before .before .before .before .before .multipliers .ensures,
-      (
-        s .pre .0,
-        (s .pre .1 .0, (room (c .before .before .before .before .before .before .before .before), (s .pre .1 .1 .0, pool-sized (s .args .parameters) (poolOf s) (s .pre .1 .1 .1)))),
-      ),
+      ready (c .before .before .before .before .before .before .before .multipliers .ensures) (s .pre .0) (s .pre .1 .0) (s .pre .1 .1 .0),
+      (pool-ready (pool-sized (s .args .parameters) (poolOf s) (s .pre .1 .1 .1)), room (c .before .before .before .before .before .before .before .before)),
     )
 
 grown-by-requires : tie.Need-grown-by-requires

@@ -11,6 +11,7 @@ use Rattle.pages.proofs.Parts.{page-fits}
 use Rattle.placement.specs.File.{File}
 use Rattle.placement.specs.Hash.{lent, soundAt}
 use Rattle.placement.proofs.Items.{sound-loaded}
+use Rattle.placement.proofs.Prepared.{homing}
 use Rattle.starfile.proofs.Refusals.{items-most}
 use Rattle.starfile.proofs.Finding.{named-most, past-file, in-file, unread-as, absent-as, held-as, held-is, at-is, at-below, word-is, item-below, word-valid, one-least}
 use borrow.Author.Needs.{needs}
@@ -74,12 +75,12 @@ load-requires c κs = (limits _ (begun c .pre .1 .0) .places-most, (fits c, fits
 page-sound-requires : tie.Need-page-sound-requires
 page-sound-requires c κs =
     let pre = begun (c .before) .pre in
-    (pre .0, (pre .1 .0, (pre .1 .1 .0, (pre .1 .1 .1 .0 .ofSeparators, inside (c .before)))))
+    (homing (pre .0) (pre .1 .0) (pre .1 .1 .0), (pre .1 .1 .1 .0 .ofSeparators, inside (c .before)))
 
 -- src/naming.rt:38:9
 -- the value tested is the page's
 told : (c : tie.After-page-sound) → c .page-sound .result .sound ≡ soundAt (begun (c .before .before) .args .geometry .parameters) (begun (c .before .before) .args .geometry .growth) (fileOf (begun (c .before .before))) (c .before .before .before .before .named-page .result)
-told c = c .page-sound .ensures .0 ∙ sound-loaded _ _ (fileOf (begun (c .before .before))) _ _ (fits (c .before .before)) (fits-words (c .before .before)) (c .before .load .ensures)
+told c = c .page-sound .ensures .sound ∙ sound-loaded _ _ (fileOf (begun (c .before .before))) _ _ (fits (c .before .before)) (fits-words (c .before .before)) (c .before .load .ensures)
 
 unread-requires-2 : tie.Need-unread-requires-2
 unread-requires-2 c κs = search needs

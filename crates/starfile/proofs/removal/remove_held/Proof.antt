@@ -11,6 +11,7 @@ use Rattle.hashing.proofs.Bounds.{limits, both, passed, failed, growth-within, 
 use Rattle.pages.specs.Position.{validNumber, validPosition}
 use Rattle.placement.specs.File.{File}
 use Rattle.placement.specs.Hash.{lent}
+use Rattle.placement.proofs.Prepared.{ready, pool-ready}
 use Rattle.starfile.specs.Answers.{Pool, placed, checked, refusedBy, numberOf, pageOf, pooled, cleared}
 use Rattle.starfile.specs.Calls.{removeOn, named, readable, holds}
 use Rattle.starfile.specs.Outcomes.{replacedPlaced}
@@ -81,8 +82,8 @@ returns-2 c =
 remove-star-requires : tie.Need-remove-star-requires
 remove-star-requires c κs =
     let s = c .before .before .before .before .before .before .before .before .before .before .before .before .before .before .before .before .before .before .before .before .before .before in (
-      c .before .before .before .before .before .before .before .before .before .before .before .before .before .before .before .before .multipliers .ensures,
-      (s .pre .0, (s .pre .1 .0, (s .pre .1 .1 .0, pool-sized (s .args .parameters) (poolOf s) (s .pre .1 .1 .1 .0)))),
+      ready (c .before .before .before .before .before .before .before .before .before .before .before .before .before .before .before .before .multipliers .ensures) (s .pre .0) (s .pre .1 .0) (s .pre .1 .1 .0),
+      pool-ready (pool-sized (s .args .parameters) (poolOf s) (s .pre .1 .1 .1 .0)),
     )
 
 replaced-placed-requires : tie.Need-replaced-placed-requires

@@ -7,7 +7,8 @@ use native.Mathlib.Nat.{add-suc}
 use native.Mathlib.Omega.{arith}
 use lib.Dec.{leb, ltb, eqb}
 use borrow.Author.Tests.{le-leb, lt-leb, lt-ltb, leb-true, ltb-true, eqb-true}
-use Rattle.hashing.specs.Generator.{multiplier, signature, topOf}
+use Rattle.hashing.specs.declared.Parameters.{Parameters}
+use Rattle.hashing.specs.Generator.{multiplierOf, signature, topOf}
 use Rattle.placement.specs.Rule.{Star, Hash, below, onward, contentsOf, pages, left}
 use Rattle.placement.specs.Rule.{staying as rule·staying, passing as rule·passing, separatorFrom as rule·separatorFrom, separatorOf as rule·separatorOf}
 use Rattle.waiting.specs.Lists.{filter, all}
@@ -19,10 +20,10 @@ use Rattle.planning.specs.Plans.{starOf, waits, homed, settled, carriedO
 use Rattle.planning.proofs.Pouring.{select-waits, length-waits}
 
 -- A hash whose signatures are the generator's on the page's probe, t = 1 at home.
-pub record Probes (H : Hash) (bits room : ℕ) : Type 0 where
-  pub signatures : (k p : ℕ) → H .signature k p ≡ signature multiplier bits k (p - H .home k + 1)
-  pub top : H .top ≡ topOf bits
-  pub room-is : H .room ≡ room
+pub record Probes (H : Hash) (q : Parameters) : Type 0 where
+  pub signatures : (k p : ℕ) → H .signature k p ≡ signature (multiplierOf q) (q .bits) k (p - H .home k + 1)
+  pub top : H .top ≡ topOf (q .bits)
+  pub room-is : H .room ≡ (q .places)
 
 pub number-low : (w : ℕ) → starOf (lowOf w) .number ≡ numberOf w
 unfolding starOf lowOf numberOf
@@ -84,14 +85,14 @@ beyond-grouped lo v u (suc n) l h =
     (all-filtered (λ w. eqb (groupOf lo w) u) l))
     (beyond-grouped lo v (suc u) n l (omega arith))
 
-pub near-onward : (bits room p q : ℕ) (l : List ℕ) → p ≤ q → homesUpTo p l ≡ true → homesUpTo q (carriedOn bits room p l) ≡ true
+pub near-onward : (q : Parameters) (p r : ℕ) (l : List ℕ) → p ≤ r → homesUpTo p l ≡ true → homesUpTo r (carriedOn q p l) ≡ true
 unfolding carriedOn passing
-near-onward bits room p q l h n = near-higher p q (carriedOn bits room p l) h (near-filter p (λ w. not (under bits p (separatorOf bits room p l) w)) l n)
+near-onward q p r l h n = near-higher p r (carriedOn q p l) h (near-filter p (λ w. not (under q p (separatorOf q p l) w)) l n)
 
-module _ (H : Hash) (bits room : ℕ) (real : Probes H bits room) where
+module _ (H : Hash) (q : Parameters) (real : Probes H q) where
   -- of a homed word, whether its star stays
   below-near : (p v w : ℕ) → (eqb (H .home (numberOf w)) (homeOf w) && leb (homeOf w) p) ≡ true
-      → below H p v (starOf (lowOf w) .number) ≡ under bits p v w
+      → below H p v (starOf (lowOf w) .number) ≡ under q p v w
   unfolding below under signatureOf
   below-near p v w e =
       let b = both-true (eqb (H .home (numberOf w)) (homeOf w)) (leb (homeOf w) p) e in
@@ -109,53 +110,53 @@ module _ (H : Hash) (bits room : ℕ) (real : Probes H bits room) where
   module _ (p : ℕ) (l r : List ℕ) (hl : homed H l ≡ true) (nl : homesUpTo p l ≡ true) (hr : homed H r ≡ true) (br : beyond p r ≡ true) where
     -- of those that probe the page and those homed above it, f of the test goes by the signatures of the first and by false of the others
     parted : (f : Bool → Bool) (v : ℕ) → filter (λ w. f (below H p v (starOf (lowOf w) .number))) (l ++ r)
-        ≡ filter (λ w. f (under bits p v w)) l ++ filter (λ _. f false) r
+        ≡ filter (λ w. f (under q p v w)) l ++ filter (λ _. f false) r
     unfolding homed beyond
     parted f v =
         filter-append (λ w. f (below H p v (starOf (lowOf w) .number))) l r
         ∙ ap (λ (s : List ℕ). s ++ filter (λ w. f (below H p v (starOf (lowOf w) .number))) r)
         (filter-agree (λ w. eqb (H .home (numberOf w)) (homeOf w) && leb (homeOf w) p)
-        (λ w. f (below H p v (starOf (lowOf w) .number))) (λ w. f (under bits p v w)) l
+        (λ w. f (below H p v (starOf (lowOf w) .number))) (λ w. f (under q p v w)) l
         (all-both (λ w. eqb (H .home (numberOf w)) (homeOf w)) (λ w. leb (homeOf w) p) l hl nl)
         (λ w e. ap f (below-near p v w e)))
-        ∙ ap (λ (s : List ℕ). filter (λ w. f (under bits p v w)) l ++ s)
+        ∙ ap (λ (s : List ℕ). filter (λ w. f (under q p v w)) l ++ s)
         (filter-agree (λ w. eqb (H .home (numberOf w)) (homeOf w) && ltb p (homeOf w))
         (λ w. f (below H p v (starOf (lowOf w) .number))) (λ _. f false) r
         (all-both (λ w. eqb (H .home (numberOf w)) (homeOf w)) (λ w. ltb p (homeOf w)) r hr br)
         (λ w e. ap f (below-beyond p v w e)))
 
-    pub staying-tie : (v : ℕ) → rule·staying H p v (waits (l ++ r)) ≡ waits (staying bits p v l)
+    pub staying-tie : (v : ℕ) → rule·staying H p v (waits (l ++ r)) ≡ waits (staying q p v l)
     unfolding rule·staying staying
     staying-tie v =
         select-waits (λ (s : Star). below H p v (s .number)) (l ++ r)
         ∙ ap waits
         (parted (λ t. t) v
-        ∙ ap (λ (s : List ℕ). staying bits p v l ++ s) (filter-none r)
-        ∙ append-nil (staying bits p v l))
+        ∙ ap (λ (s : List ℕ). staying q p v l ++ s) (filter-none r)
+        ∙ append-nil (staying q p v l))
 
-    pub passing-tie : (v : ℕ) → rule·passing H p v (waits (l ++ r)) ≡ waits (passing bits p v l ++ r)
+    pub passing-tie : (v : ℕ) → rule·passing H p v (waits (l ++ r)) ≡ waits (passing q p v l ++ r)
     unfolding rule·passing passing
     passing-tie v =
         select-waits (λ (s : Star). not (below H p v (s .number))) (l ++ r)
-        ∙ ap waits (parted not v ∙ ap (λ (s : List ℕ). passing bits p v l ++ s) (filter-every r))
+        ∙ ap waits (parted not v ∙ ap (λ (s : List ℕ). passing q p v l ++ s) (filter-every r))
 
-    separator-from : (n : ℕ) → rule·separatorFrom H p (waits (l ++ r)) n ≡ separatorFrom bits room p l n
+    separator-from : (n : ℕ) → rule·separatorFrom H p (waits (l ++ r)) n ≡ separatorFrom q p l n
     unfolding rule·separatorFrom separatorFrom
     separator-from zero = refl
     separator-from (suc v) =
-        rw (separator-from v, staying-tie (suc v), length-waits (staying bits p (suc v) l), real .room-is)
+        rw (separator-from v, staying-tie (suc v), length-waits (staying q p (suc v) l), real .room-is)
 
-    pub separator-tie : rule·separatorOf H p (waits (l ++ r)) ≡ separatorOf bits room p l
+    pub separator-tie : rule·separatorOf H p (waits (l ++ r)) ≡ separatorOf q p l
     unfolding rule·separatorOf separatorOf
-    separator-tie = separator-from (H .top) ∙ ap (separatorFrom bits room p l) (real .top)
+    separator-tie = separator-from (H .top) ∙ ap (separatorFrom q p l) (real .top)
 
-    pub contents-tie : contentsOf H p (waits (l ++ r)) ≡ settled bits room p l
+    pub contents-tie : contentsOf H p (waits (l ++ r)) ≡ settled q p l
     unfolding contentsOf settled
-    contents-tie = rw (separator-tie, staying-tie (separatorOf bits room p l))
+    contents-tie = rw (separator-tie, staying-tie (separatorOf q p l))
 
-    pub onward-tie : onward H p (waits (l ++ r)) ≡ waits (carriedOn bits room p l ++ r)
+    pub onward-tie : onward H p (waits (l ++ r)) ≡ waits (carriedOn q p l ++ r)
     unfolding onward carriedOn
-    onward-tie = rw (separator-tie, passing-tie (separatorOf bits room p l))
+    onward-tie = rw (separator-tie, passing-tie (separatorOf q p l))
 
   pub homed-append : (a b : List ℕ) → homed H a ≡ true → homed H b ≡ true → homed H (a ++ b) ≡ true
   unfolding homed
@@ -175,23 +176,23 @@ module _ (H : Hash) (bits room : ℕ) (real : Probes H bits room) where
   pub homed-probing : (lo v : ℕ) (w l : List ℕ) → homed H w ≡ true → homed H l ≡ true → homed H (w ++ group lo v l) ≡ true
   homed-probing lo v w l hw hl = homed-append w (group lo v l) hw (homed-filter (λ x. eqb (groupOf lo x) v) l hl)
 
-  pub homed-onward : (p : ℕ) (l : List ℕ) → homed H l ≡ true → homed H (carriedOn bits room p l) ≡ true
+  pub homed-onward : (p : ℕ) (l : List ℕ) → homed H l ≡ true → homed H (carriedOn q p l) ≡ true
   unfolding carriedOn passing
-  homed-onward p l h = homed-filter (λ w. not (under bits p (separatorOf bits room p l) w)) l h
+  homed-onward p l h = homed-filter (λ w. not (under q p (separatorOf q p l) w)) l h
 
   pub plans-are : (lo v n : ℕ) (w l : List ℕ) → homed H w ≡ true → homesUpTo (lo + v) w ≡ true → homed H l ≡ true
-      → (pages H (lo + v) n (waits (w ++ grouped lo v n l)) ≡ plans bits room lo v n w l)
-      × (left H (lo + v) n (waits (w ++ grouped lo v n l)) ≡ waits (remains bits room lo v n w l))
+      → (pages H (lo + v) n (waits (w ++ grouped lo v n l)) ≡ plans q lo v n w l)
+      × (left H (lo + v) n (waits (w ++ grouped lo v n l)) ≡ waits (remains q lo v n w l))
   unfolding pages left plans remains grouped
   plans-are lo v zero w l hw nw hl = (refl, ap waits (append-nil w))
   plans-are lo v (suc n) w l hw nw hl =
       let here : List ℕ = w ++ group lo v l in
-      let on : List ℕ = carriedOn bits room (lo + v) here in
+      let on : List ℕ = carriedOn q (lo + v) here in
       let rest : List ℕ = grouped lo (suc v) n l in
       let hh : homed H here ≡ true = homed-probing lo v w l hw hl in
       let nh : homesUpTo (lo + v) here ≡ true = near-probing lo v w l nw in
       let hr : homed H rest ≡ true = homed-grouped lo (suc v) n l hl in
       let br : beyond (lo + v) rest ≡ true = beyond-grouped lo v (suc v) n l (omega arith) in
-      let ih = plans-are lo (suc v) n on l (homed-onward (lo + v) here hh) (near-onward bits room (lo + v) (lo + suc v) here (omega arith) nh) hl in
+      let ih = plans-are lo (suc v) n on l (homed-onward (lo + v) here hh) (near-onward q (lo + v) (lo + suc v) here (omega arith) nh) hl in
       rw (← append-assoc w (group lo v l) rest, contents-tie (lo + v) here rest hh nh hr br, onward-tie (lo + v) here rest hh nh hr br, ← add-suc lo v)
       (rw (ih .0, ih .1) (refl, refl))

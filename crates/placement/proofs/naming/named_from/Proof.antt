@@ -1,0 +1,25 @@
+-- `placement::naming::named_from` meets its contract.
+-- Assumes nothing.
+use mathlib.Core.Path.{_∙_}
+use native.Mathlib.Omega.{arith}
+use Rattle.hashing.specs.Generator.{multiplierOf}
+use Rattle.hashing.proofs.Bounds.{limits}
+use Rattle.hashing.proofs.Laws.{home-pages}
+use Rattle.placement.proofs.Probing.{named-is}
+use Rattle.placement.proofs.naming.named_from.Statement.{statement}
+use Rattle.placement.proofs.naming.named_from.Tie as tie
+
+probe-requires : tie.Need-probe-requires
+probe-requires c κs =
+    let s = c .before in
+    let g = s .args .geometry in
+    let ready = s .pre .0 in
+    let l = limits (g .parameters) (ready .signing .valid) in
+    let low = home-pages (multiplierOf (g .parameters)) (g .parameters) (g .growth) (s .args .number) (ready .signing .valid) (ready .growth) in
+    (ready .signing, (omega (arith, s .pre .1 .1, low, l .pages-most), omega arith))
+
+returns : tie.Need-returns
+returns c = c .probe .ensures ∙ named-is _ _ _ _ _ (c .before .before .pre .1 .1)
+
+pub named-from-spec : {M : Type 1} → statement M
+named-from-spec = tie.close (tie.spec probe-requires returns)

@@ -1,0 +1,20 @@
+-- The lent buffers of a call by their contents: as a `requires` finds them, and in an `ensures` before and after the call.
+use mathlib.Core.List.{List}
+use Prim.Native.Nat.{ℕ}
+use denote.Ref.{RefT, now}
+use denote.Triple.Both.{Both}
+use Rattle.placement.specs.File.{File}
+use Rattle.placement.specs.Hash.{lent}
+
+-- a buffer as an `ensures` names it
+abbrev pub Lent : Type 0
+Lent = Both (RefT (List ℕ)) (RefT (List ℕ))
+
+abbrev pub held : RefT (List ℕ) → RefT (List ℕ) → RefT (List ℕ) → File
+held separators numbers words = lent (now separators) (now numbers) (now words)
+
+abbrev pub before : Lent → Lent → Lent → File
+before separators numbers words = held (separators .entry) (numbers .entry) (words .entry)
+
+abbrev pub after : Lent → Lent → Lent → File
+after separators numbers words = held (separators .exit) (numbers .exit) (words .exit)

@@ -1,0 +1,35 @@
+-- What the work below the calls needs of the table, the parameters, the growth state and the lent buffers: a call refuses with 1 or 2 where it is not so.
+use mathlib.Core.Path.{_≡_}
+use mathlib.Core.Bool.{true}
+use mathlib.Core.List.{List}
+use Prim.Native.Nat.{ℕ, _*_}
+use lib.ListN.{length}
+use Rattle.hashing.specs.declared.Parameters.{Parameters}
+use Rattle.hashing.specs.declared.Geometry.{Geometry}
+use Rattle.hashing.specs.Generator.{multipliers}
+use Rattle.hashing.specs.Limits.{validParameters, validGrowth}
+use Rattle.placement.specs.File.{File, Sized}
+
+-- the table that the parameters' multiplier makes
+abbrev pub multipliersOf : Parameters → List ℕ
+multipliersOf p = multipliers
+
+-- for signatures: the table is the parameters' own, and these are valid
+pub record Signing (p : Parameters) (t : List ℕ) : Type 0 where
+  pub table : t ≡ multipliersOf p
+  pub valid : validParameters p ≡ true
+
+-- for homes: the growth state is valid too
+pub record Homing (g : Geometry) (t : List ℕ) : Type 0 where
+  pub signing : Signing (g .parameters) t
+  pub growth : validGrowth (g .parameters) (g .growth) ≡ true
+
+-- for pages: the file is as long as the parameters say
+pub record Ready (g : Geometry) (t : List ℕ) (f : File) : Type 0 where
+  pub homing : Homing g t
+  pub sized : Sized (g .parameters .places) (g .parameters .pages) f
+
+-- for placing stars: so is the pool
+pub record Pooled (p : Parameters) (numbers words : List ℕ) : Type 0 where
+  pub ofNumbers : length numbers ≡ p .pages * p .places
+  pub ofWords : length words ≡ p .pages * p .places
