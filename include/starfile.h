@@ -43,10 +43,21 @@ enum heatherplane_refusal {
     HEATHERPLANE_FULL = 8            /* a star would be carried past the last page */
 };
 
-/* What a call answers. A value that a call does not name is 0 or false. */
+/* What a call answers. A value that a call does not name is 0 or false.
+ *
+ * place is where the number was sought: on the page that the separators named before the call changed anything, the first place
+ * that is empty or holds a number not below it, or b if there is none. The lower numbers of that page stand before the place; at
+ * the place stands the number itself, if it is held, or else the next higher one, if there is any. Each call that came to this
+ * search tells the place, refused afterwards or not; it is 0 with BAD_PARAMETERS, BAD_LENGTH, BAD_NUMBER, BAD_POSITION and where
+ * the named page itself is DAMAGED.
+ *
+ * page and place may be of different things. After an accepted entry page is where the star now stands, and place is where it was
+ * sought, not where it ends: with one place a page (b=1 N=1 n0=1 s=1 k=8 A=50 M=2) and star 32 held, entering star 170 answers
+ * page 0, place 1; it was sought behind 32, and now stands in place 0. A DAMAGED page met after the search is told with that place. */
 struct heatherplane_reply {
     uint32_t refusal; /* an enum heatherplane_refusal */
     uint32_t page;    /* 0 where the call was refused, except with HEATHERPLANE_DAMAGED */
+    uint32_t place;   /* 0 to b */
     uint32_t ra;
     int32_t dec;
     bool found;
@@ -73,8 +84,8 @@ struct heatherplane_growth {
  *
  * Buffers: the file's three, which are only read. Their lengths are pages, pages * places and pages * places.
  * Refused: BAD_PARAMETERS, BAD_LENGTH, BAD_NUMBER, DAMAGED (the page that the separators name).
- * Accepted: found tells whether the star is held, page is the page that the separators name for it, and ra and dec are its
- * position if it is held.
+ * Accepted: found tells whether the star is held, page is the page that the separators name for it, place its place there or
+ * the one where it would stand, and ra and dec are its position if it is held.
  * Afterwards: nothing was written. */
 struct heatherplane_reply heatherplane_look_up(
     uint32_t places, uint32_t groups, uint32_t width, uint32_t step, uint32_t bits, uint32_t load, uint32_t pages,

@@ -58,6 +58,24 @@ static void look_up(const struct heatherplane_file *file, uint32_t number)
         printf("look up %" PRIu32 ": none, page %" PRIu32 "\n", number, reply.page);
 }
 
+/* The browsing screen: the numbers beside a number on its page, or beside where it would stand, read from the lent page. */
+static void neighbours(const struct heatherplane_file *file, uint32_t number)
+{
+    struct heatherplane_reply reply = heatherplane_look_up_in(file, number);
+    if (reply.refusal) {
+        printf("neighbours of %" PRIu32 ": refused with %" PRIu32 ", page %" PRIu32 "\n", number, reply.refusal, reply.page);
+        return;
+    }
+    const uint32_t places = file->parameters.places;
+    const uint32_t *page = file->numbers + reply.page * places;
+    const uint32_t behind = reply.found ? reply.place + 1 : reply.place;
+    /* 0 where there is none, as in an empty place */
+    const uint32_t lower = reply.place > 0 ? page[reply.place - 1] : 0;
+    const uint32_t higher = behind < places ? page[behind] : 0;
+    printf("neighbours of %" PRIu32 ": %" PRIu32 " and %" PRIu32 ", page %" PRIu32 ", place %" PRIu32 "\n",
+           number, lower, higher, reply.page, reply.place);
+}
+
 static void remove_star(const struct heatherplane_file *file, uint32_t number)
 {
     struct heatherplane_reply reply = heatherplane_remove_in(file, number);
@@ -79,6 +97,12 @@ int main(void)
     look_up(&file, 2);
     look_up(&file, 32349);
     look_up(&file, 3);
+
+    /* of a held star, of numbers between and above the stars of its page, and on an empty page */
+    neighbours(&file, 1);
+    neighbours(&file, 5);
+    neighbours(&file, 32353);
+    neighbours(&file, 3);
 
     /* a resent entry is accepted */
     enter(&file, 1, 10, -5);

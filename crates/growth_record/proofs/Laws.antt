@@ -65,7 +65,7 @@ pub keeps :
     new ≡ growOf p g f pool .growth →
     keptBy answer g new ≡ growOf p g f pool .growth
 unfolding placed refusedBy spotted Keeps
-keeps p g f pool (On page) new said grew = grew
-keeps p g f pool (Refused r) new said grew =
+keeps p g f pool (On page place) new said grew = grew
+keeps p g f pool (Refused r place) new said grew =
     let number : numberOf r ≡ growOf p g f pool .answer .refusal = ap (λ (a : Answer). a .refusal) said in
     sym (refused-keeps p g f pool (rw number at (numbered r)))

@@ -6,5 +6,5 @@ use Rattle.starfile.specs.declared.answers.Placed.the-variants.{On, Refused}
 
 -- "File buffers and (e, x) keep their contents" after a refusal
 abbrev pub keptBy : Placed → Growth → Growth → Growth
-keptBy (On page) old new = new
-keptBy (Refused r) old new = old
+keptBy (On page place) old new = new
+keptBy (Refused r place) old new = old

@@ -42,7 +42,7 @@ fn kept(old: Growth, grown: Grown) -> Growth
 {
     let answer = grown.answer;
     match answer {
-        Placed::On(_) => grown.growth,
-        Placed::Refused(_) => old,
+        Placed::On(_, _) => grown.growth,
+        Placed::Refused(_, _) => old,
     }
 }

@@ -14,7 +14,7 @@ use Rattle.pages.proofs.Places.{held-there}
 use Rattle.placement.specs.File.{File, starsAt, sound}
 use Rattle.placement.specs.Hash.{hashOf, soundAt, namedPage}
 use Rattle.starfile.specs.declared.answers.Answer.{Answer}
-use Rattle.starfile.specs.Answers.{Pool, After, accepted, refused, foundAt}
+use Rattle.starfile.specs.Answers.{Pool, After, acceptedAt, refused, foundAt}
 use Rattle.starfile.specs.Calls.{named, fileFits, unless, orElse, unlent, unchanged, guarded, readable, holds, itemOf, lookedUp, lookUpOf}
 use Rattle.histories.specs.Alike.{Alike, LookUpsAlike}
 
@@ -46,11 +46,11 @@ module _ (p : Parameters) (g : Growth) (f h : File) (page : ℕ) (seps : f .sepa
       place = placeOf k (part (p .places) page (h .numbers))
 
       found : ℕ → Answer
-      found word = foundAt page (unpacked word)
+      found word = foundAt page place (unpacked word)
 
       go : (t : Bool) → heldAt k (part (p .places) page (h .numbers)) ≡ t
-          → cond (readable p g h page) (cond t (found (getD (f .words) (page * p .places + place) 0)) (accepted page)) (refused 5 page)
-          ≡ cond (readable p g h page) (cond t (found (getD (h .words) (page * p .places + place) 0)) (accepted page)) (refused 5 page)
+          → cond (readable p g h page) (cond t (found (getD (f .words) (page * p .places + place) 0)) (acceptedAt page place)) (refused 5 page)
+          ≡ cond (readable p g h page) (cond t (found (getD (h .words) (page * p .places + place) 0)) (acceptedAt page place)) (refused 5 page)
       go true e = rw (item-alike (p .places) page place (f .words) (h .words) (place-below (p .places) page k (h .numbers) e) ws)
       go false e = refl
 

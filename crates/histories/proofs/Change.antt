@@ -8,16 +8,16 @@ use lib.ListN.{set}
 use Rattle.hashing.specs.declared.Parameters.{Parameters}
 use Rattle.pages.specs.declared.position.Position.{Position}
 use Rattle.pages.specs.Position.{validNumber, validPosition, validWord, packed}
-use Rattle.pages.specs.Page.{part, placeOf}
+use Rattle.pages.specs.Page.{part}
 use Rattle.pages.proofs.Places.{held-there}
 use Rattle.placement.specs.Rule.{reworded, changed}
 use Rattle.placement.specs.File.{File, laid}
 use Rattle.placement.specs.Hash.{hashOf, namedPage}
 use Rattle.placement.proofs.Mapping.{left-map}
 use Rattle.placement.proofs.Change.{reworded-keeps, changed-laid}
-use Rattle.starfile.specs.Answers.{Pool, spotted, accepted, refused}
+use Rattle.starfile.specs.Answers.{Pool, spotted, acceptedAt, refused, refusedAt}
 use Rattle.starfile.specs.Calls.{unless, orElse, guarded, unchanged, holds, itemOf, changeOn, changeOf}
-use Rattle.histories.specs.Model.{Model, change, updated, setPosition, positionOf, fileOf, pageFor}
+use Rattle.histories.specs.Model.{Model, change, updated, setPosition, positionOf, fileOf, pageFor, placeOn}
 use Rattle.histories.proofs.Entries.{ValidEntry, ordered-set}
 use Rattle.histories.proofs.Stars.{stars-change}
 use Rattle.histories.proofs.Fitting.{Fitting, hashFor, starsFor, rising-from, proper, in-range, laid-stars, named-inside, named-readable}
@@ -54,11 +54,10 @@ module _ (p : Parameters) (m : Model) (t : Fitting p m) (k : ℕ) (q r : Positio
   laid-anew : laid (p .places) (hashFor p m) (p .pages) (changed k (packed q) (starsFor m)) ≡ reworded-file p m k q
   unfolding fileOf hashOf itemOf holds
   laid-anew =
-      let place = placeOf k (part (p .places) (pageFor p m k) (fileOf p m .numbers)) in
-      changed-laid validWord (hashFor p m) (p .pages) (pageFor p m k) place k (packed q) (starsFor m) (rising-from p m t) (proper p m t)
+      changed-laid validWord (hashFor p m) (p .pages) (pageFor p m k) (placeOn p m k) k (packed q) (starsFor m) (rising-from p m t) (proper p m t)
       (in-range k (valid .number) .0) (named-inside p m t k) (place-inside p m t k r e) (held-there k (part (p .places) (pageFor p m k) (fileOf p m .numbers)) (held p m t k r e) .1)
 
-  changes : (pool : Pool) → Conforms p m (change k q) (record { answer = accepted (pageFor p m k); growth = m .growth; file = reworded-file p m k q; pool = pool })
+  changes : (pool : Pool) → Conforms p m (change k q) (record { answer = acceptedAt (pageFor p m k) (placeOn p m k); growth = m .growth; file = reworded-file p m k q; pool = pool })
   unfolding updated spotted
   changes pool =
       accepted-conforms p m t (change k q) _ refl refl
@@ -75,13 +74,13 @@ module _ (p : Parameters) (m : Model) (t : Fitting p m) (k : ℕ) (q : Position)
           → Conforms p m (change k q)
           (cond (holds p (fileOf p m) (pageFor p m k) k)
           (record {
-            answer = accepted (pageFor p m k);
+            answer = acceptedAt (pageFor p m k) (placeOn p m k);
             growth = m .growth;
             file = reworded-file p m k q;
             pool = pool;
           })
-          (unchanged (m .growth) (fileOf p m) pool (refused 7 0)))
-      go none e = rw (not-held p m t k (in-range k (valid .number) .0) e) (refused-conforms p m t (change k q) pool (refused 7 0) (λ d. omega arith) (λ d. omega arith))
+          (unchanged (m .growth) (fileOf p m) pool (refusedAt 7 0 (placeOn p m k))))
+      go none e = rw (not-held p m t k (in-range k (valid .number) .0) e) (refused-conforms p m t (change k q) pool (refusedAt 7 0 (placeOn p m k)) (λ d. omega arith) (λ d. omega arith))
       go (some r) e = rw (held p m t k r e) (changes p m t k q r e valid pool)
 
   pub change-conforms : (pool : Pool) → Conforms p m (change k q) (changeOf p (m .growth) (fileOf p m) pool k q)

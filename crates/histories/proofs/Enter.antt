@@ -21,10 +21,10 @@ use Rattle.placement.specs.Hash.{hashOf, namedPage}
 use Rattle.placement.proofs.Entry.{entered, entry-refused}
 use Rattle.reach.specs.Reach.{isEmpty, entering, entersWithin, entryEnd, storedTop, pagesTo, holding}
 use Rattle.reach.proofs.Search.{Such, such}
-use Rattle.starfile.specs.Answers.{Pool, spotted, accepted, refused, cleared}
+use Rattle.starfile.specs.Answers.{Pool, spotted, acceptedAt, refused, refusedAt, cleared}
 use Rattle.starfile.specs.Calls.{poolFits, unless, orElse, guarded, unchanged, holds, itemOf, enterTo, enteredAgain, enterOn, enterOf}
 use Rattle.starfile.proofs.Resending.{HeldEntry, resend-leaves, other-refused}
-use Rattle.histories.specs.Model.{Model, enter, updated, setPosition, positionOf, starsOf, fileOf, pageFor}
+use Rattle.histories.specs.Model.{Model, enter, updated, setPosition, positionOf, starsOf, fileOf, pageFor, placeOn}
 use Rattle.histories.proofs.Entries.{ValidEntry, ordered-set, position-valid, set-same}
 use Rattle.histories.proofs.Stars.{starOf, stars-enter}
 use Rattle.histories.proofs.Fitting.{Fitting, hashFor, starsFor, bounded, homed, rising-from, proper, lengths, in-range, laid-stars, named-readable}
@@ -88,7 +88,7 @@ module _ (p : Parameters) (m : Model) (t : Fitting p m) (k : ℕ) (q : Position)
               (rising-from p m t) (proper p m t) (t .fits) (entry .high) new refl (omega (arith, found .low, found .high, inside))
 
   module _ (valid : ValidEntry (record { number = k; position = q })) (absent : positionOf k (m .entries) ≡ none) where
-    enters : (pool : Pool) → Conforms p m (enter k q) (enterTo p (m .growth) (fileOf p m) pool new to)
+    enters : (pool : Pool) → Conforms p m (enter k q) (enterTo p (m .growth) (fileOf p m) pool new (placeOn p m k) to)
     unfolding enterTo updated spotted
     enters pool =
         rw (none-unsound p m t from (pagesTo from to) (entry .high), le-ltb (from + pagesTo from to) (from + pagesTo from to) (le-refl (from + pagesTo from to)))
@@ -98,12 +98,12 @@ module _ (p : Parameters) (m : Model) (t : Fitting p m) (k : ℕ) (q : Position)
             → Conforms p m (enter k q)
             (cond b
             (record {
-              answer = accepted (holding k from (pages (hashFor p m) from (pagesTo from to) (entering (hashFor p m) (fileOf p m) new to)));
+              answer = acceptedAt (holding k from (pages (hashFor p m) from (pagesTo from to) (entering (hashFor p m) (fileOf p m) new to))) (placeOn p m k);
               growth = m .growth;
               file = replaced (p .places) (fileOf p m) from (pages (hashFor p m) from (pagesTo from to) (entering (hashFor p m) (fileOf p m) new to));
               pool = pool;
             })
-            (unchanged (m .growth) (fileOf p m) pool (refused 8 0)))
+            (unchanged (m .growth) (fileOf p m) pool (refusedAt 8 0 (placeOn p m k))))
         go true e =
             accepted-conforms p m t (enter k q) _ refl refl
             (placed e .0 ∙ laid-stars p (updated p (enter k q) m) (insert new (starsFor m)) (stars-enter k q (m .entries) absent))
@@ -114,7 +114,7 @@ module _ (p : Parameters) (m : Model) (t : Fitting p m) (k : ℕ) (q : Position)
               fits = rw (stars-enter k q (m .entries) absent) (placed e .1);
             })
             (λ j d. cc)
-        go false e = refused-conforms p m t (enter k q) pool (refused 8 0) (λ d. omega arith) (λ d. omega arith)
+        go false e = refused-conforms p m t (enter k q) pool (refusedAt 8 0 (placeOn p m k)) (λ d. omega arith) (λ d. omega arith)
 
   -- The model fed a number's own position again is the same model.
   pub fed-own : positionOf k (m .entries) ≡ some q → updated p (enter k q) m ≡ m
@@ -141,11 +141,11 @@ module _ (p : Parameters) (m : Model) (t : Fitting p m) (k : ℕ) (q : Position)
     again valid pool = go (eqb stored (packed q)) refl
       where
         go : (b : Bool) → eqb stored (packed q) ≡ b
-            → Conforms p m (enter k q) (unchanged (m .growth) (fileOf p m) pool (cond b (accepted (pageFor p m k)) (refused 6 0)))
+            → Conforms p m (enter k q) (unchanged (m .growth) (fileOf p m) pool (cond b (acceptedAt (pageFor p m k) (placeOn p m k)) (refusedAt 6 0 (placeOn p m k))))
         go true d =
             let stays = fed-own (e ∙ ap some (own (valid .position) (eqb-true stored (packed q) d))) in
             accepted-conforms p m t (enter k q) _ refl (ap (λ (n : Model). n .growth) (sym stays)) (ap (fileOf p) (sym stays)) (rw stays t) (λ j c. cc)
-        go false d = refused-conforms p m t (enter k q) pool (refused 6 0) (λ c. omega arith) (λ c. omega arith)
+        go false d = refused-conforms p m t (enter k q) pool (refusedAt 6 0 (placeOn p m k)) (λ c. omega arith) (λ c. omega arith)
 
   enters-on : ValidEntry (record { number = k; position = q }) → (pool : Pool) → Conforms p m (enter k q) (enterOn p (m .growth) (fileOf p m) pool (pageFor p m k) new)
   unfolding enterOn spotted
@@ -155,7 +155,7 @@ module _ (p : Parameters) (m : Model) (t : Fitting p m) (k : ℕ) (q : Position)
           → Conforms p m (enter k q)
           (cond (holds p (fileOf p m) (pageFor p m k) k)
           (unchanged (m .growth) (fileOf p m) pool (enteredAgain p (fileOf p m) (pageFor p m k) new))
-          (enterTo p (m .growth) (fileOf p m) pool new to))
+          (enterTo p (m .growth) (fileOf p m) pool new (placeOn p m k) to))
       go none e = rw (not-held p m t k (in-range k (valid .number) .0) e) (enters valid e pool)
       go (some r) e = rw (held p m t k r e) (again r e valid pool)
 
@@ -185,17 +185,17 @@ module _ (p : Parameters) (m : Model) (t : Fitting p m) (k : ℕ) (q : Position)
           held = held p m t k r e;
         }
 
-    pub resent : r ≡ q → enterOf p (m .growth) (fileOf p m) pool k q ≡ unchanged (m .growth) (fileOf p m) (cleared pool) (accepted (pageFor p m k))
+    pub resent : r ≡ q → enterOf p (m .growth) (fileOf p m) pool k q ≡ unchanged (m .growth) (fileOf p m) (cleared pool) (acceptedAt (pageFor p m k) (placeOn p m k))
     unfolding pageFor namedPage
     resent d = resend-leaves p (m .growth) (fileOf p m) pool k q there (held-word p m t k r e ∙ ap packed d)
 
-    pub other : (r ≡ q → ⊥) → enterOf p (m .growth) (fileOf p m) pool k q ≡ unchanged (m .growth) (fileOf p m) (cleared pool) (refused 6 0)
+    pub other : (r ≡ q → ⊥) → enterOf p (m .growth) (fileOf p m) pool k q ≡ unchanged (m .growth) (fileOf p m) (cleared pool) (refusedAt 6 0 (placeOn p m k))
     unfolding pageFor namedPage stored
     other d = other-refused p (m .growth) (fileOf p m) pool k q there (λ w. d (own r e valid w))
 
   -- The entry of a star that the model does not hold.
   module _ (pool : Pool) (lengths : poolFits p pool ≡ true) (valid : ValidEntry (record { number = k; position = q })) (absent : positionOf k (m .entries) ≡ none) where
-    reached : enterOf p (m .growth) (fileOf p m) pool k q ≡ enterTo p (m .growth) (fileOf p m) (cleared pool) new to
+    reached : enterOf p (m .growth) (fileOf p m) pool k q ≡ enterTo p (m .growth) (fileOf p m) (cleared pool) new (placeOn p m k) to
     unfolding enterOf enterOn pageFor namedPage
     reached = guards ∙ rw (named-readable p m t k, not-held p m t k (in-range k (valid .number) .0) absent)
       where
@@ -213,12 +213,12 @@ module _ (p : Parameters) (m : Model) (t : Fitting p m) (k : ℕ) (q : Position)
         go : (b : Bool) → entersWithin (hashFor p m) (fileOf p m) new to ≡ b
             → (cond b
             (record {
-              answer = accepted (holding k from (pages (hashFor p m) from (pagesTo from to) (entering (hashFor p m) (fileOf p m) new to)));
+              answer = acceptedAt (holding k from (pages (hashFor p m) from (pagesTo from to) (entering (hashFor p m) (fileOf p m) new to))) (placeOn p m k);
               growth = m .growth;
               file = replaced (p .places) (fileOf p m) from (pages (hashFor p m) from (pagesTo from to) (entering (hashFor p m) (fileOf p m) new to));
               pool = cleared pool;
             })
-            (unchanged (m .growth) (fileOf p m) (cleared pool) (refused 8 0))
+            (unchanged (m .growth) (fileOf p m) (cleared pool) (refusedAt 8 0 (placeOn p m k)))
             .answer .refusal ≡ 8)
             ↔ (left (hashFor p m) 0 (p .pages) (insert new (starsFor m)) ≡ [] → ⊥)
         go true e = ((λ h. absurd (omega arith)), λ h. absurd (h (placed e .1)))

@@ -10,9 +10,9 @@ use Rattle.placement.specs.File.{File, Clean}
 use Rattle.placement.specs.Hash.{hashOf, namedPage}
 use Rattle.placement.proofs.Sound.{clean-laid}
 use Rattle.starfile.specs.declared.answers.Answer.{Answer}
-use Rattle.starfile.specs.Answers.{Pool, After, spotted, accepted, refused, cleared}
+use Rattle.starfile.specs.Answers.{Pool, After, spotted, acceptedAt, refusedAt, cleared}
 use Rattle.starfile.specs.Calls.{poolFits, unchanged, lookUpOf, enterOf, checkOf}
-use Rattle.histories.specs.Model.{Model, lookUp, enter, change, remove, grow, due, check, fed, positionOf, fileOf, pageFor, answered}
+use Rattle.histories.specs.Model.{Model, lookUp, enter, change, remove, grow, due, check, fed, positionOf, fileOf, pageFor, placeOn, answered}
 use Rattle.histories.specs.Call.{Call, step, isAccepted}
 use Rattle.histories.specs.Run.{State, Event, initial, outcome, next, end}
 use Rattle.histories.specs.Theorem.{EveryHistory}
@@ -69,7 +69,7 @@ no-step p s c pool a e d =
 
 module _ (p : Parameters) (s : State) (agrees : Agrees p s) (pool : Pool) (fit : poolFits p pool ≡ true) (k : ℕ) where
   module _ (q : Position) (e : positionOf k (s .model .entries) ≡ some q) where
-    leaves : enterOf p (s .growth) (s .file) pool k q ≡ unchanged (s .growth) (s .file) (cleared pool) (accepted (pageFor p (s .model) k))
+    leaves : enterOf p (s .growth) (s .file) pool k q ≡ unchanged (s .growth) (s .file) (cleared pool) (acceptedAt (pageFor p (s .model) k) (placeOn p (s .model) k))
     leaves =
         rw (agrees .growth, agrees .file)
         (resent p (s .model) (agrees .fitting) k q pool fit q e (position-valid 1 k q (s .model .entries) (agrees .fitting .ordered) e .position) refl)
@@ -77,11 +77,11 @@ module _ (p : Parameters) (s : State) (agrees : Agrees p s) (pool : Pool) (fit :
     stays : next p s (record { request = enter k q; pool = pool }) ≡ s
     unfolding outcome step fed isAccepted spotted
     stays =
-        no-step p s (record { request = enter k q; pool = pool }) (cleared pool) (accepted (pageFor p (s .model) k)) leaves
+        no-step p s (record { request = enter k q; pool = pool }) (cleared pool) (acceptedAt (pageFor p (s .model) k) (placeOn p (s .model) k)) leaves
         (fed-own p (s .model) (agrees .fitting) k q e)
 
   refuses : (q r : Position) → validPosition q ≡ true → positionOf k (s .model .entries) ≡ some r → (r ≡ q → ⊥)
-      → enterOf p (s .growth) (s .file) pool k q .answer ≡ refused 6 0
+      → enterOf p (s .growth) (s .file) pool k q .answer ≡ refusedAt 6 0 (placeOn p (s .model) k)
   refuses q r v e d = rw (agrees .growth, agrees .file, other p (s .model) (agrees .fitting) k q pool fit r e v d)
 
 in-history : (p : Parameters) (s : State) → Agrees p s → InHistory p s

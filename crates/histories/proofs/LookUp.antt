@@ -10,9 +10,9 @@ use Rattle.pages.specs.declared.position.Position.{Position}
 use Rattle.pages.specs.Position.{validNumber, unpacked}
 use Rattle.pages.proofs.Words.{unpack-pack}
 use Rattle.placement.specs.Hash.{namedPage}
-use Rattle.starfile.specs.Answers.{Pool, spotted, accepted, refused, foundAt}
+use Rattle.starfile.specs.Answers.{Pool, spotted, acceptedAt, refused, foundAt}
 use Rattle.starfile.specs.Calls.{unless, guarded, unchanged, holds, itemOf, lookedUp, lookUpOf}
-use Rattle.histories.specs.Model.{Model, lookUp, updated, positionOf, fileOf, pageFor, answerWith, answered}
+use Rattle.histories.specs.Model.{Model, lookUp, updated, positionOf, fileOf, pageFor, placeOn, answerWith, answered}
 use Rattle.histories.proofs.Entries.{position-valid}
 use Rattle.histories.proofs.Fitting.{Fitting, in-range, named-readable}
 use Rattle.histories.proofs.Held.{held, held-word, not-held}
@@ -28,8 +28,8 @@ module _ (p : Parameters) (m : Model) (t : Fitting p m) where
       page = pageFor p m k
 
       go : (o : Option Position) → positionOf k (m .entries) ≡ o
-          → cond (holds p (fileOf p m) page k) (foundAt page (unpacked (getD (fileOf p m .words) (itemOf p (fileOf p m) page k) 0))) (accepted page)
-          ≡ answerWith o page
+          → cond (holds p (fileOf p m) page k) (foundAt page (placeOn p m k) (unpacked (getD (fileOf p m .words) (itemOf p (fileOf p m) page k) 0))) (acceptedAt page (placeOn p m k))
+          ≡ answerWith o page (placeOn p m k)
       go none e = rw (not-held p m t k h e)
       go (some q) e =
           rw (held p m t k q e, held-word p m t k q e, unpack-pack q (position-valid 1 k q (m .entries) (t .ordered) e .position))
@@ -38,7 +38,7 @@ module _ (p : Parameters) (m : Model) (t : Fitting p m) where
   unfolding answered answerWith spotted foundAt
   answer-accepted k = go (positionOf k (m .entries))
     where
-      go : (o : Option Position) → answerWith o (pageFor p m k) .refusal ≡ 0
+      go : (o : Option Position) → answerWith o (pageFor p m k) (placeOn p m k) .refusal ≡ 0
       go none = refl
       go (some q) = refl
 

@@ -16,9 +16,9 @@ use Rattle.placement.specs.File.{gathered, replaced, laid}
 use Rattle.placement.specs.Hash.{hashOf, namedPage}
 use Rattle.placement.proofs.Entry.{removed}
 use Rattle.reach.specs.Reach.{removalEnd, storedTop, pagesTo}
-use Rattle.starfile.specs.Answers.{Pool, spotted, refused, cleared}
+use Rattle.starfile.specs.Answers.{Pool, spotted, refused, refusedAt, cleared}
 use Rattle.starfile.specs.Calls.{poolFits, unless, orElse, guarded, unchanged, holds, removeTo, removeOn, removeOf}
-use Rattle.histories.specs.Model.{Model, remove, updated, positionOf, fileOf, pageFor}
+use Rattle.histories.specs.Model.{Model, remove, updated, positionOf, fileOf, pageFor, placeOn}
 use Rattle.histories.proofs.Entries.{ordered-strike}
 use Rattle.histories.proofs.Stars.{stars-strike}
 use Rattle.histories.proofs.Fitting.{Fitting, hashFor, starsFor, bounded, homed, rising-from, proper, in-range, laid-stars, named-readable}
@@ -52,9 +52,9 @@ module _ (p : Parameters) (m : Model) (t : Fitting p m) (k : ℕ) where
       (rising-from p m t) (proper p m t) (t .fits) (removal .high) k refl (removal .ends) in
       (all .1, all .2)
 
-  removes : (pool : Pool) (page : ℕ) → Conforms p m (remove k) (removeTo p (m .growth) (fileOf p m) pool page k to)
+  removes : (pool : Pool) (page place : ℕ) → Conforms p m (remove k) (removeTo p (m .growth) (fileOf p m) pool page k place to)
   unfolding removeTo updated spotted
-  removes pool page =
+  removes pool page place =
       rw (none-unsound p m t from (pagesTo from to) (removal .high), le-ltb (from + pagesTo from to) (from + pagesTo from to) (le-refl (from + pagesTo from to)))
       (accepted-conforms p m t (remove k) _ refl refl same
       (record {
@@ -76,10 +76,10 @@ module _ (p : Parameters) (m : Model) (t : Fitting p m) (k : ℕ) where
       go : (o : Option Position) → positionOf k (m .entries) ≡ o
           → Conforms p m (remove k)
           (cond (holds p (fileOf p m) (pageFor p m k) k)
-          (removeTo p (m .growth) (fileOf p m) pool (pageFor p m k) k to)
-          (unchanged (m .growth) (fileOf p m) pool (refused 7 0)))
-      go none e = rw (not-held p m t k h e) (refused-conforms p m t (remove k) pool (refused 7 0) (λ d. omega arith) (λ d. omega arith))
-      go (some q) e = rw (held p m t k q e) (removes pool (pageFor p m k))
+          (removeTo p (m .growth) (fileOf p m) pool (pageFor p m k) k (placeOn p m k) to)
+          (unchanged (m .growth) (fileOf p m) pool (refusedAt 7 0 (placeOn p m k))))
+      go none e = rw (not-held p m t k h e) (refused-conforms p m t (remove k) pool (refusedAt 7 0 (placeOn p m k)) (λ d. omega arith) (λ d. omega arith))
+      go (some q) e = rw (held p m t k q e) (removes pool (pageFor p m k) (placeOn p m k))
 
   pub remove-conforms : (pool : Pool) → Conforms p m (remove k) (removeOf p (m .growth) (fileOf p m) pool k)
   unfolding removeOf pageFor namedPage spotted

@@ -99,20 +99,20 @@ module _ (p : Parameters) (f : File) (pool : Pool) (h : LentHistory) (answers : 
         unfolding refusalOf agreeing
         as-made = rw (even, lent, known) (sym (ap (λ (x : Answer). x .refusal) (made .answers)))
 
-        pub make-refused : (r : Refusal) → a ≡ NotPlaced r → Replays (replayOf p f pool h answers) (Refused r) answers file pool
+        pub make-refused : (r : Refusal) (place : ℕ) → a ≡ NotPlaced r place → Replays (replayOf p f pool h answers) (Refused r) answers file pool
         unfolding placed refusedBy spotted refusalSaid growthSaid
-        make-refused r e =
+        make-refused r place e =
             let n : placed a .refusal ≡ suc (numberOf r - 1) = rw e (refusal-number r) in
             let refusal = sym (ap (λ (x : Answer). x .refusal) (made .answers)) in
             let same : file ≡ f = made .files ∙ make-refuses p f unpooled (numberOf r - 1) (refusal ∙ n) in
             rw same (refused-replays (numberOf r - 1) (as-made ∙ n) (Refused r) (refusal-number r) refl)
 
-        pub make-done : (page : ℕ) → a ≡ On page → (growth : Growth) → growth ≡ makeOf p f unpooled .growth
+        pub make-done : (page place : ℕ) → a ≡ On page place → (growth : Growth) → growth ≡ makeOf p f unpooled .growth
             → (last : Growth) (answers′ : List ℕ) (file′ : File) (pool′ : Pool)
             → Runs p (from growth file) pool (requestsOf h) [] last answers′ file′ pool′
             → Replays (replayOf p f pool h answers) (Done last) answers′ file′ pool′
         unfolding placed spotted replayOf replayedWith initial refusalSaid growthSaid
-        make-done page e growth g last answers′ file′ pool′ t =
+        make-done page place e growth g last answers′ file′ pool′ t =
             let n : refusalOf p f pool h answers ≡ 0 = as-made ∙ rw e in
             let u : Runs p (initial p f unpooled) pool (requestsOf h) [] last answers′ file′ pool′ = rw (g, made .files) at t in
             rw n

@@ -10,9 +10,9 @@ use Rattle.pages.specs.declared.position.Position.{Position}
 use Rattle.pages.specs.Position.{validNumber, validPosition, validWord}
 use Rattle.placement.specs.Rule.{left}
 use Rattle.placement.specs.File.{File, Clean}
-use Rattle.starfile.specs.Answers.{Pool, accepted, refused}
+use Rattle.starfile.specs.Answers.{Pool, acceptedAt, refusedAt}
 use Rattle.starfile.specs.Calls.{hash, poolFits, makeOf, lookUpOf, enterOf, checkOf}
-use Rattle.histories.specs.Model.{Model, enter, setPosition, positionOf, starsOf, pageFor, answered}
+use Rattle.histories.specs.Model.{Model, enter, setPosition, positionOf, starsOf, pageFor, placeOn, answered}
 use Rattle.histories.specs.Call.{Call}
 use Rattle.histories.specs.Run.{State, Event, initial, next, events, end}
 
@@ -31,16 +31,16 @@ pub record InHistory (p : Parameters) (now : State) : Type 0 where
       → positionOf k (now .model .entries) ≡ none
       → (enterOf p (now .growth) (now .file) pool k q .answer .refusal ≡ 8)
       ↔ (left (hash p (now .model .growth)) 0 (p .pages) (starsOf (setPosition k q (now .model .entries))) ≡ [] → ⊥)
-  -- an entry of a held star with its own position answers its page and is no step: file, growth state and model stay
+  -- an entry of a held star with its own position answers its page and place and is no step: file, growth state and model stay
   pub resent :
       (pool : Pool) (k : ℕ) (q : Position) → poolFits p pool ≡ true → positionOf k (now .model .entries) ≡ some q
-      → (enterOf p (now .growth) (now .file) pool k q .answer ≡ accepted (pageFor p (now .model) k))
+      → (enterOf p (now .growth) (now .file) pool k q .answer ≡ acceptedAt (pageFor p (now .model) k) (placeOn p (now .model) k))
       × (next p now (record { request = enter k q; pool = pool }) ≡ now)
   -- with any other position it is refused with 6
   pub held :
       (pool : Pool) (k : ℕ) (q r : Position) → poolFits p pool ≡ true → validPosition q ≡ true
       → positionOf k (now .model .entries) ≡ some r → (r ≡ q → ⊥)
-      → enterOf p (now .growth) (now .file) pool k q .answer ≡ refused 6 0
+      → enterOf p (now .growth) (now .file) pool k q .answer ≡ refusedAt 6 0 (placeOn p (now .model) k)
 
 -- so it is before each call of a history, and at its end
 pub record Throughout (p : Parameters) (start : State) (history : List Call) : Type 0 where

@@ -12,8 +12,8 @@ use Rattle.pages.specs.Position.{packed}
 use Rattle.placement.specs.Rule.{Star, first, filter}
 use Rattle.placement.specs.File.{File, laid}
 use Rattle.starfile.specs.declared.answers.Answer.{Answer}
-use Rattle.starfile.specs.Answers.{accepted, foundAt}
-use Rattle.starfile.specs.Calls.{hash}
+use Rattle.starfile.specs.Answers.{acceptedAt, foundAt}
+use Rattle.starfile.specs.Calls.{hash, placeFor}
 
 pub record Entry : Type 0 where
   pub number : ℕ
@@ -80,11 +80,15 @@ fileOf p m = laid (p .places) (hash p (m .growth)) (p .pages) (starsOf (m .entri
 unfoldable pub pageFor : Parameters → Model → ℕ → ℕ
 pageFor p m k = first (hash p (m .growth)) 0 (fileOf p m .separators) k
 
--- "the position it holds, or "none", and as page .."
-unfoldable pub answerWith : Option Position → ℕ → Answer
-answerWith none page = accepted page
-answerWith (some q) page = foundAt page q
+-- where the number stands on that page of the model's, or would stand: document 02 (ii)
+abbrev pub placeOn : Parameters → Model → ℕ → ℕ
+placeOn p m k = placeFor p (fileOf p m) (pageFor p m k) k
+
+-- "the position it holds, or "none", and as page ..", with the place
+unfoldable pub answerWith : Option Position → ℕ → ℕ → Answer
+answerWith none page place = acceptedAt page place
+answerWith (some q) page place = foundAt page place q
 
 -- "It answers a look-up"
 unfoldable pub answered : Parameters → Model → ℕ → Answer
-answered p m k = answerWith (positionOf k (m .entries)) (pageFor p m k)
+answered p m k = answerWith (positionOf k (m .entries)) (pageFor p m k) (placeOn p m k)

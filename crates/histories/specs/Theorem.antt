@@ -12,7 +12,7 @@ use Rattle.histories.specs.Run.{State, Event, initial, events, end}
 
 -- what holds of a history from a state on
 pub record AsModel (p : Parameters) (start : State) (history : List Call) : Type 0 where
-  -- each accepted look-up answers position or none, and page, as the model after the calls before it
+  -- each accepted look-up answers position or none, page and place, as the model after the calls before it
   pub lookUps :
       (t : Event) → List·Memᴰ t (events p start history) → (k : ℕ) → t .call .request ≡ lookUp k → t .answer .refusal ≡ 0
       → t .answer ≡ answered p (t .before .model) k

@@ -61,7 +61,7 @@ pub fn replay(
     let made = starfile::make(parameters, separators, numbers, words);
     let answer = made.answer;
     match answer {
-        Placed::On(_) => Replayed::Done(run(
+        Placed::On(_, _) => Replayed::Done(run(
             parameters,
             made.growth,
             separators,
@@ -75,7 +75,7 @@ pub fn replay(
             decs,
             answers,
         )),
-        Placed::Refused(refusal) => Replayed::Refused(refusal),
+        Placed::Refused(refusal, _) => Replayed::Refused(refusal),
     }
 }
 

@@ -25,7 +25,7 @@ pageAt places page ns ws =
 abbrev pub stops : ℕ → ℕ → Bool
 stops k n = eqb n 0 || leb k n
 
--- the first place that is empty or holds a number not below k, or the number of places
+-- "the first place that is empty or holds a number not below the one sought, or b if there is none", of a page's b numbers: document 02 (ii)
 unfoldable pub placeOf : ℕ → List ℕ → ℕ
 placeOf k [] = 0
 placeOf k (n ∷ ns) = cond (stops k n) 0 (suc (placeOf k ns))
@@ -34,7 +34,7 @@ placeOf k (n ∷ ns) = cond (stops k n) 0 (suc (placeOf k ns))
 unfoldable pub heldAt : ℕ → List ℕ → Bool
 heldAt k ns = ltb (placeOf k ns) (length ns) && eqb (getD ns (placeOf k ns) 0) k
 
--- what the search of k answers
+-- what the search of k answers: that place, "besides whether it is held"
 abbrev pub placeIn : ℕ → List ℕ → Place
 placeIn k ns = record { at = placeOf k ns; held = heldAt k ns }
 

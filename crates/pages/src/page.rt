@@ -54,6 +54,8 @@ pub fn store(numbers: &mut [u32], words: &mut [u64], places: usize, page: usize,
     }
 }
 
+// "the first place that is empty or holds a number not below the one sought, or b if there is none, besides whether it is held":
+// of the b places in use, so that a number above all those of a full page is told b, and not 32.
 pub fn search(value: Page, places: usize, number: u32) -> Place
     requires { ⌜ places ≤ 32 ⌝ }
     ensures { λ r. ⌜ r ≡ placeIn number (take places (value .numbers)) ⌝ }

@@ -16,13 +16,13 @@ use Rattle.pages.specs.Position.{validWord, validNumber}
 use Rattle.pages.specs.declared.page.Page.{Page}
 use Rattle.pages.specs.declared.page.Place.{Place}
 use Rattle.pages.proofs.Parts.{page-fits, take-filled, part-length, part-item, filled-item}
-use Rattle.pages.proofs.Places.{held-there}
+use Rattle.pages.proofs.Places.{place-le, held-there}
 use Rattle.placement.specs.File.{File, Sized, starsAt}
 use Rattle.placement.specs.Hash.{hashOf, soundAt, namedPage}
 use Rattle.placement.proofs.Standing.{first-le}
 use Rattle.placement.proofs.Search.{held-star}
 use Rattle.placement.proofs.Sound.{sound-facts, sound-proper}
-use Rattle.starfile.specs.Calls.{named, readable, holds, itemOf}
+use Rattle.starfile.specs.Calls.{named, readable, holds, placeFor, itemOf}
 use Rattle.starfile.specs.Named.{NamedAs}
 
 pub named-most : (p : Parameters) (g : Growth) (f : File) (k : ℕ) → Sized (p .places) (p .pages) f → named p g f k ≤ p .pages
@@ -43,40 +43,44 @@ unfolding readable
 in-file p g f page t h e = rw (lt-ltb page (p .pages) h, e)
 
 module _ (p : Parameters) (g : Growth) (f : File) (k page : ℕ) (sized : Sized (p .places) (p .pages) f) (is : page ≡ named p g f k) where
-  pub unread-as : readable p g f page ≡ false → NamedAs p g f k (record { page = page; readable = false; held = false; item = 0; word = 0 })
+  pub unread-as : readable p g f page ≡ false → NamedAs p g f k (record { page = page; readable = false; held = false; place = 0; item = 0; word = 0 })
   unread-as e =
       record {
         pageMost = rw is (named-most p g f k sized);
         pageIs = is;
         readableIs = sym (rw (← is) e);
         heldIs = λ t. absurd (false≢true t);
+        placeIs = λ t. absurd (false≢true t);
         itemIs = λ t. absurd (false≢true t);
         wordIs = λ t. absurd (false≢true t);
         itemBelow = λ t. absurd (false≢true t);
         wordValid = λ t. absurd (false≢true t);
       }
 
-  pub absent-as : readable p g f page ≡ true → holds p f page k ≡ false → NamedAs p g f k (record { page = page; readable = true; held = false; item = 0; word = 0 })
-  absent-as e h =
+  pub absent-as : (place : ℕ) → readable p g f page ≡ true → holds p f page k ≡ false → place ≡ placeFor p f page k
+      → NamedAs p g f k (record { page = page; readable = true; held = false; place = place; item = 0; word = 0 })
+  absent-as place e h a =
       record {
         pageMost = rw is (named-most p g f k sized);
         pageIs = is;
         readableIs = sym (rw (← is) e);
         heldIs = λ t. sym (rw (← is) h);
+        placeIs = λ t. rw (← is) a;
         itemIs = λ t. absurd (false≢true t);
         wordIs = λ t. absurd (false≢true t);
         itemBelow = λ t. absurd (false≢true t);
         wordValid = λ t. absurd (false≢true t);
       }
 
-  pub held-as : (item word : ℕ) → readable p g f page ≡ true → holds p f page k ≡ true → item ≡ itemOf p f page k → word ≡ getD (f .words) (itemOf p f page k) 0
-      → item < p .pages * p .places → validWord word ≡ true → NamedAs p g f k (record { page = page; readable = true; held = true; item = item; word = word })
-  held-as item word e h i w b v =
+  pub held-as : (place item word : ℕ) → readable p g f page ≡ true → holds p f page k ≡ true → place ≡ placeFor p f page k → item ≡ itemOf p f page k → word ≡ getD (f .words) (itemOf p f page k) 0
+      → item < p .pages * p .places → validWord word ≡ true → NamedAs p g f k (record { page = page; readable = true; held = true; place = place; item = item; word = word })
+  held-as place item word e h a i w b v =
       record {
         pageMost = rw is (named-most p g f k sized);
         pageIs = is;
         readableIs = sym (rw (← is) e);
         heldIs = λ t. sym (rw (← is) h);
+        placeIs = λ t. rw (← is) a;
         itemIs = λ t. rw (← is) i;
         wordIs = λ t. rw (← is) w;
         itemBelow = λ t. b;
@@ -93,15 +97,21 @@ module _ (p : Parameters) (f : File) (k page : ℕ) (v : Page) (place : Place) (
   unfolding holds
   held-is = ap (λ (q : Place). q .held) searched
 
+  pub place-is : place .at ≡ placeFor p f page k
+  place-is = ap (λ (q : Place). q .at) searched
+
+  pub place-most : place .at ≤ p .places
+  place-most = rw place-is (rw (part-length (p .places) page (f .numbers) inside) at (place-le k (part (p .places) page (f .numbers))))
+
   pub at-is : page * p .places + place .at ≡ itemOf p f page k
   unfolding itemOf
-  at-is = ap (λ (q : Place). page * p .places + q .at) searched
+  at-is = ap (λ (i : ℕ). page * p .places + i) place-is
 
   pub at-below : place .held ≡ true → place .at < p .places
   unfolding holds
   at-below h =
       let there = held-there k (part (p .places) page (f .numbers)) (sym held-is ∙ h) .0 in
-      rw (ap (λ (q : Place). q .at) searched) (rw (part-length (p .places) page (f .numbers) inside) at there)
+      rw place-is (rw (part-length (p .places) page (f .numbers) inside) at there)
 
   pub word-is : place .held ≡ true → getD (v .words) (place .at) 0 ≡ getD (f .words) (itemOf p f page k) 0
   word-is h =

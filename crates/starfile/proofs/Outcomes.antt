@@ -29,7 +29,7 @@ use Rattle.replacing.specs.Calls.{removalAnswer, removalFile, growthAnswer, gro
 use Rattle.replacing.specs.Calls as removal
 use Rattle.comparing.specs.declared.checking.Verdict.the-variants.{Clean, Differs, Unsound as verdict·Unsound}
 use Rattle.comparing.specs.Verdicts.{verdictOf}
-use Rattle.starfile.specs.Answers.{Answer, After, Pool, placed, checked, refusedBy, accepted, refused, spotted}
+use Rattle.starfile.specs.Answers.{Answer, After, Pool, placed, checked, refusedBy, accepted, refused, acceptedAt, refusedAt, spotted}
 use Rattle.starfile.specs.Calls.{hash, unchanged, enterTo, removeTo, growTo, checkedAt, allStars}
 use Rattle.starfile.specs.Outcomes.{EntrySmall, entryPlaced, ReplacedSmall, replacedPlaced, replacedGrown, VerdictSmall, verdictChecked}
 
@@ -108,43 +108,46 @@ module _ (p : Parameters) (g : Growth) (f : File) (v : validParameters p ≡ tru
 
 module _ (p : Parameters) (g : Growth) (f : File) (pool : Pool) where
   module _ (k word : ℕ) where
-    entered-cases : (t u : Bool) (bad page : ℕ) (next : File)
-        → (placed (entryPlaced (cond t (Unsound bad) (cond u (On page) Overflows)))
-        ≡ cond t (unchanged g f pool (refused 5 bad)) (cond u (record { answer = accepted page; growth = g; file = next; pool = pool }) (unchanged g f pool (refused 8 0))) .answer)
+    entered-cases : (t u : Bool) (bad page place : ℕ) (next : File)
+        → (placed (entryPlaced (cond t (Unsound bad) (cond u (On page) Overflows)) place)
+        ≡ cond t (unchanged g f pool (refusedAt 5 bad place)) (cond u (record { answer = acceptedAt page place; growth = g; file = next; pool = pool }) (unchanged g f pool (refusedAt 8 0 place))) .answer)
         × (cond t f (cond u next f)
-        ≡ cond t (unchanged g f pool (refused 5 bad)) (cond u (record { answer = accepted page; growth = g; file = next; pool = pool }) (unchanged g f pool (refused 8 0))) .file)
+        ≡ cond t (unchanged g f pool (refusedAt 5 bad place)) (cond u (record { answer = acceptedAt page place; growth = g; file = next; pool = pool }) (unchanged g f pool (refusedAt 8 0 place))) .file)
     unfolding placed refusedBy
-    entered-cases true u bad page next = (refl, refl)
-    entered-cases false true bad page next = (refl, refl)
-    entered-cases false false bad page next = (refl, refl)
+    entered-cases true u bad page place next = (refl, refl)
+    entered-cases false true bad page place next = (refl, refl)
+    entered-cases false false bad page place next = (refl, refl)
 
-    pub entered-is : (placed (entryPlaced (entryAnswer p g f k word)) ≡ enterTo p g f pool (entry.newStar k word) (entry.endOf p g f k word) .answer)
-        × (entryFile p g f k word ≡ enterTo p g f pool (entry.newStar k word) (entry.endOf p g f k word) .file)
+    pub entered-is : (place : ℕ)
+        → (placed (entryPlaced (entryAnswer p g f k word) place) ≡ enterTo p g f pool (entry.newStar k word) place (entry.endOf p g f k word) .answer)
+        × (entryFile p g f k word ≡ enterTo p g f pool (entry.newStar k word) place (entry.endOf p g f k word) .file)
     unfolding entryAnswer entryFile enterTo
-    entered-is =
+    entered-is place =
         entered-cases
         (ltb (entry.unsoundOf p g f k word) (entry.startOf p g k + entry.countOf p g f k word))
         (entersWithin (hash p g) f (entry.newStar k word) (entry.endOf p g f k word))
         (entry.unsoundOf p g f k word)
         (holding k (entry.startOf p g k) (entry.contentsOf p g f k word))
+        place
         (replaced (p .places) f (entry.startOf p g k) (entry.contentsOf p g f k word))
 
-  removed-cases : (t : Bool) (bad page : ℕ) (next : File)
-      → (placed (replacedPlaced (cond t (replaced·Unsound bad) Done) page) ≡ cond t (unchanged g f pool (refused 5 bad)) (record { answer = accepted page; growth = g; file = next; pool = pool }) .answer)
-      × (cond t f next ≡ cond t (unchanged g f pool (refused 5 bad)) (record { answer = accepted page; growth = g; file = next; pool = pool }) .file)
+  removed-cases : (t : Bool) (bad page place : ℕ) (next : File)
+      → (placed (replacedPlaced (cond t (replaced·Unsound bad) Done) page place) ≡ cond t (unchanged g f pool (refusedAt 5 bad place)) (record { answer = acceptedAt page place; growth = g; file = next; pool = pool }) .answer)
+      × (cond t f next ≡ cond t (unchanged g f pool (refusedAt 5 bad place)) (record { answer = acceptedAt page place; growth = g; file = next; pool = pool }) .file)
   unfolding placed refusedBy
-  removed-cases true bad page next = (refl, refl)
-  removed-cases false bad page next = (refl, refl)
+  removed-cases true bad page place next = (refl, refl)
+  removed-cases false bad page place next = (refl, refl)
 
-  pub removed-is : (page k : ℕ)
-      → (placed (replacedPlaced (removalAnswer p g f k) page) ≡ removeTo p g f pool page k (removalEnd (hash p g) (p .pages) f (hash p g .home k)) .answer)
-      × (removalFile p g f k ≡ removeTo p g f pool page k (removalEnd (hash p g) (p .pages) f (hash p g .home k)) .file)
+  pub removed-is : (page k place : ℕ)
+      → (placed (replacedPlaced (removalAnswer p g f k) page place) ≡ removeTo p g f pool page k place (removalEnd (hash p g) (p .pages) f (hash p g .home k)) .answer)
+      × (removalFile p g f k ≡ removeTo p g f pool page k place (removalEnd (hash p g) (p .pages) f (hash p g .home k)) .file)
   unfolding removalAnswer removalFile removeTo
-  removed-is page k =
+  removed-is page k place =
       removed-cases
       (ltb (removal.unsoundOf p g f k) (removal.startOf p g k + removal.countOf p g f k))
       (removal.unsoundOf p g f k)
       page
+      place
       (replaced (p .places) f (removal.startOf p g k)
       (pages (hash p g) (removal.startOf p g k) (removal.countOf p g f k) (without k (gathered (p .places) f (removal.startOf p g k) (removal.countOf p g f k)))))
 

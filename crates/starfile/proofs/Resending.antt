@@ -12,8 +12,8 @@ use Rattle.pages.specs.declared.position.Position.{Position}
 use Rattle.pages.specs.Position.{validNumber, validPosition, validWord, packed, unpacked}
 use Rattle.pages.proofs.Words.{unpack-pack, pack-unpack}
 use Rattle.placement.specs.File.{File}
-use Rattle.starfile.specs.Answers.{Pool, cleared, accepted, refused}
-use Rattle.starfile.specs.Calls.{fileFits, poolFits, unchanged, readable, named, holds, itemOf, enteredAgain, enterOn, enterOf}
+use Rattle.starfile.specs.Answers.{Pool, cleared, acceptedAt, refusedAt}
+use Rattle.starfile.specs.Calls.{fileFits, poolFits, unchanged, readable, named, holds, placeFor, itemOf, enteredAgain, enterOn, enterOf}
 use Rattle.starfile.proofs.Refusals.{well-lent}
 
 -- two words are the same exactly if their positions are
@@ -38,11 +38,11 @@ module _ (p : Parameters) (g : Growth) (f : File) (pool : Pool) (k : ℕ) (q : P
   again = rw (well-lent p g (fileFits p f && poolFits p pool) (t .state) (t .lengths), t .number, t .position, t .read, t .held)
 
   -- with its stored position: accepted, and every lent item and the growth state stay
-  pub resend-leaves : stored ≡ packed q → enterOf p g f pool k q ≡ unchanged g f (cleared pool) (accepted (named p g f k))
+  pub resend-leaves : stored ≡ packed q → enterOf p g f pool k q ≡ unchanged g f (cleared pool) (acceptedAt (named p g f k) (placeFor p f (named p g f k) k))
   unfolding enteredAgain
   resend-leaves e = again ∙ rw (eq-eqb stored (packed q) e)
 
   -- "Any other position is 6."
-  pub other-refused : (stored ≡ packed q → ⊥) → enterOf p g f pool k q ≡ unchanged g f (cleared pool) (refused 6 0)
+  pub other-refused : (stored ≡ packed q → ⊥) → enterOf p g f pool k q ≡ unchanged g f (cleared pool) (refusedAt 6 0 (placeFor p f (named p g f k) k))
   unfolding enteredAgain
   other-refused e = again ∙ rw (ne-eqb stored (packed q) e)

@@ -54,9 +54,16 @@ accepted page = spotted 0 page 0
 abbrev pub refused : ℕ → ℕ → Answer
 refused n page = spotted n page 0
 
-unfoldable pub foundAt : ℕ → Position → Answer
-foundAt page position =
-    record { refusal = 0; page = page; place = 0; found = true; position = position; due = false; stars = 0 }
+-- the same with "the place found on the page first named": document 02 (ii)
+abbrev pub acceptedAt : ℕ → ℕ → Answer
+acceptedAt page place = spotted 0 page place
+
+abbrev pub refusedAt : ℕ → ℕ → ℕ → Answer
+refusedAt n page place = spotted n page place
+
+unfoldable pub foundAt : ℕ → ℕ → Position → Answer
+foundAt page place position =
+    record { refusal = 0; page = page; place = place; found = true; position = position; due = false; stars = 0 }
 
 unfoldable pub counted : Bool → ℕ → Answer
 counted due stars =
@@ -90,13 +97,13 @@ refusedBy r place = spotted (numberOf r) (pageOf r) place
 
 -- the papers' number and values for each case of an answer
 unfoldable pub placed : Placed → Answer
-placed (On page) = accepted page
-placed (NotPlaced r) = refusedBy r 0
+placed (On page place) = acceptedAt page place
+placed (NotPlaced r place) = refusedBy r place
 
 unfoldable pub sought : Found → Answer
-sought (At page position) = foundAt page position
-sought (Absent page) = accepted page
-sought (NotSought r) = refusedBy r 0
+sought (At page place position) = foundAt page place position
+sought (Absent page place) = acceptedAt page place
+sought (NotSought r place) = refusedBy r place
 
 unfoldable pub dueSaid : Due → Answer
 dueSaid (Yes stars) = counted true stars

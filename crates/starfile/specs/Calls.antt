@@ -20,6 +20,8 @@ use Rattle.starfile.specs.Answers.{
   Answer,
   accepted,
   refused,
+  acceptedAt,
+  refusedAt,
   spotted,
   foundAt,
   counted,
@@ -81,7 +83,7 @@ abbrev pub guarded : Growth → File → Pool → ℕ → After → After
 guarded g f pool zero after = after
 guarded g f pool (suc n) after = untouched g f pool (suc n)
 
--- The named page
+-- The named page. Past its refusal 5 an answer has the place found on it, whatever the call does then: document 02 (ii)
 
 -- "the page the separators name is unsound, or none is named (page given as M)"
 unfoldable pub readable : Parameters → Growth → File → ℕ → Bool
@@ -93,9 +95,13 @@ named p g f k = namedPage p g (f .separators) k
 unfoldable pub holds : Parameters → File → ℕ → ℕ → Bool
 holds p f page k = heldAt k (part (p .places) page (f .numbers))
 
--- the item of the place at which a page's search of k ends
+-- where k stands on a page or would stand: the place at which the page's search ends
+abbrev pub placeFor : Parameters → File → ℕ → ℕ → ℕ
+placeFor p f page k = placeOf k (part (p .places) page (f .numbers))
+
+-- the item of that place
 unfoldable pub itemOf : Parameters → File → ℕ → ℕ → ℕ
-itemOf p f page k = page * p .places + placeOf k (part (p .places) page (f .numbers))
+itemOf p f page k = page * p .places + placeFor p f page k
 
 -- Make
 
@@ -119,8 +125,11 @@ makeOf p f pool =
 -- "It answers the position or "none", with the page."
 unfoldable pub lookedUp : Parameters → Growth → File → ℕ → ℕ → Answer
 lookedUp p g f page k =
+    let place = placeFor p f page k in
     cond (readable p g f page)
-    (cond (holds p f page k) (foundAt page (unpacked (getD (f .words) (itemOf p f page k) 0))) (accepted page))
+    (cond (holds p f page k)
+    (foundAt page place (unpacked (getD (f .words) (itemOf p f page k) 0)))
+    (acceptedAt page place))
     (refused 5 page)
 
 unfoldable pub lookUpOf : Parameters → Growth → File → Pool → ℕ → After
@@ -131,35 +140,37 @@ lookUpOf p g f pool k =
 
 -- Enter
 
--- the rule applied to the reach that ends at page `to`
-unfoldable pub enterTo : Parameters → Growth → File → Pool → Star → ℕ → After
-enterTo p g f pool s to =
+-- the rule applied to the reach that ends at page `to`; `place` is where the star was sought
+unfoldable pub enterTo : Parameters → Growth → File → Pool → Star → ℕ → ℕ → After
+enterTo p g f pool s place to =
     let H = hash p g in
     let from = H .home (s .number) in
     let n = pagesTo from to in
     let bad = firstUnsound p g f from n in
     let cs = pages H from n (entering H f s to) in
     cond (ltb bad (from + n))
-    (unchanged g f pool (refused 5 bad))
+    (unchanged g f pool (refusedAt 5 bad place))
     (cond (entersWithin H f s to)
     (record {
-      answer = accepted (holding (s .number) from cs);
+      answer = acceptedAt (holding (s .number) from cs) place;
       growth = g;
       file = replaced (p .places) f from cs;
       pool = pool;
     })
-    (unchanged g f pool (refused 8 0)))
+    (unchanged g f pool (refusedAt 8 0 place)))
 
 -- "a held star with exactly its stored position is now accepted, answers its page", "Any other position is 6": document 02 (v)
 unfoldable pub enteredAgain : Parameters → File → ℕ → Star → Answer
-enteredAgain p f page s = cond (eqb (getD (f .words) (itemOf p f page (s .number)) 0) (s .word)) (accepted page) (refused 6 0)
+enteredAgain p f page s =
+    let place = placeFor p f page (s .number) in
+    cond (eqb (getD (f .words) (itemOf p f page (s .number)) 0) (s .word)) (acceptedAt page place) (refusedAt 6 0 place)
 
 unfoldable pub enterOn : Parameters → Growth → File → Pool → ℕ → Star → After
 enterOn p g f pool page s =
     cond (readable p g f page)
     (cond (holds p f page (s .number))
     (unchanged g f pool (enteredAgain p f page s))
-    (enterTo p g f pool s (entryEnd (hash p g) (p .pages) f s)))
+    (enterTo p g f pool s (placeFor p f page (s .number)) (entryEnd (hash p g) (p .pages) f s)))
     (unchanged g f pool (refused 5 page))
 
 unfoldable pub enterOf : Parameters → Growth → File → Pool → ℕ → Position → After
@@ -174,10 +185,11 @@ enterOf p g f pool k position =
 -- "A change writes one word."
 unfoldable pub changeOn : Parameters → Growth → File → Pool → ℕ → ℕ → ℕ → After
 changeOn p g f pool page k word =
+    let place = placeFor p f page k in
     cond (readable p g f page)
     (cond (holds p f page k)
     (record {
-      answer = accepted page;
+      answer = acceptedAt page place;
       growth = g;
       file =
           record {
@@ -187,7 +199,7 @@ changeOn p g f pool page k word =
           };
       pool = pool;
     })
-    (unchanged g f pool (refused 7 0)))
+    (unchanged g f pool (refusedAt 7 0 place)))
     (unchanged g f pool (refused 5 page))
 
 unfoldable pub changeOf : Parameters → Growth → File → Pool → ℕ → Position → After
@@ -198,16 +210,16 @@ changeOf p g f pool k position =
 
 -- Remove
 
-unfoldable pub removeTo : Parameters → Growth → File → Pool → ℕ → ℕ → ℕ → After
-removeTo p g f pool page k to =
+unfoldable pub removeTo : Parameters → Growth → File → Pool → ℕ → ℕ → ℕ → ℕ → After
+removeTo p g f pool page k place to =
     let H = hash p g in
     let from = H .home k in
     let n = pagesTo from to in
     let bad = firstUnsound p g f from n in
     cond (ltb bad (from + n))
-    (unchanged g f pool (refused 5 bad))
+    (unchanged g f pool (refusedAt 5 bad place))
     (record {
-      answer = accepted page;
+      answer = acceptedAt page place;
       growth = g;
       file = replaced (p .places) f from (pages H from n (without k (gathered (p .places) f from n)));
       pool = pool;
@@ -215,10 +227,11 @@ removeTo p g f pool page k to =
 
 unfoldable pub removeOn : Parameters → Growth → File → Pool → ℕ → ℕ → After
 removeOn p g f pool page k =
+    let place = placeFor p f page k in
     cond (readable p g f page)
     (cond (holds p f page k)
-    (removeTo p g f pool page k (removalEnd (hash p g) (p .pages) f (hash p g .home k)))
-    (unchanged g f pool (refused 7 0)))
+    (removeTo p g f pool page k place (removalEnd (hash p g) (p .pages) f (hash p g .home k)))
+    (unchanged g f pool (refusedAt 7 0 place)))
     (unchanged g f pool (refused 5 page))
 
 unfoldable pub removeOf : Parameters → Growth → File → Pool → ℕ → After

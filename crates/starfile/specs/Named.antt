@@ -7,7 +7,7 @@ use Rattle.hashing.specs.declared.Parameters.{Parameters}
 use Rattle.hashing.specs.declared.Growth.{Growth}
 use Rattle.pages.specs.Position.{validWord}
 use Rattle.placement.specs.File.{File}
-use Rattle.starfile.specs.Calls.{named, readable, holds, itemOf}
+use Rattle.starfile.specs.Calls.{named, readable, holds, placeFor, itemOf}
 use Rattle.starfile.specs.declared.naming.Named.{Named}
 
 pub record NamedAs (p : Parameters) (g : Growth) (f : File) (k : ℕ) (r : Named) : Type 0 where
@@ -15,6 +15,7 @@ pub record NamedAs (p : Parameters) (g : Growth) (f : File) (k : ℕ) (r : Named
   pub pageIs : r .page ≡ named p g f k
   pub readableIs : r .readable ≡ readable p g f (named p g f k)
   pub heldIs : r .readable ≡ true → r .held ≡ holds p f (named p g f k) k
+  pub placeIs : r .readable ≡ true → r .place ≡ placeFor p f (named p g f k) k
   pub itemIs : r .held ≡ true → r .item ≡ itemOf p f (named p g f k) k
   pub wordIs : r .held ≡ true → r .word ≡ getD (f .words) (itemOf p f (named p g f k) k) 0
   pub itemBelow : r .held ≡ true → r .item < p .pages * p .places

@@ -20,27 +20,27 @@ EntrySmall (On page) = page < 2 ^ 32
 EntrySmall (Unsound page) = page < 2 ^ 32
 EntrySmall Overflows = Unit {0}
 
-abbrev pub entryPlaced : Entered → Placed
-entryPlaced (On page) = placed·On page
-entryPlaced (Unsound page) = Refused (Damaged page)
-entryPlaced Overflows = Refused Full
+abbrev pub entryPlaced : Entered → ℕ → Placed
+entryPlaced (On page) place = placed·On page place
+entryPlaced (Unsound page) place = Refused (Damaged page) place
+entryPlaced Overflows place = Refused Full place
 
 abbrev pub ReplacedSmall : Replaced → Type 0
 ReplacedSmall Done = Unit {0}
 ReplacedSmall (replaced·Unsound page) = page < 2 ^ 32
 ReplacedSmall replaced·Overflows = Unit {0}
 
-abbrev pub replacedPlaced : Replaced → ℕ → Placed
-replacedPlaced Done page = placed·On page
-replacedPlaced (replaced·Unsound bad) page = Refused (Damaged bad)
-replacedPlaced replaced·Overflows page = Refused Full
+abbrev pub replacedPlaced : Replaced → ℕ → ℕ → Placed
+replacedPlaced Done page place = placed·On page place
+replacedPlaced (replaced·Unsound bad) page place = Refused (Damaged bad) place
+replacedPlaced replaced·Overflows page place = Refused Full place
 
 -- refused, with the growth state as it was
 abbrev pub unmovedBy : Growth → Refusal → Grown
-unmovedBy growth refusal = record { answer = Refused refusal; growth = growth }
+unmovedBy growth refusal = record { answer = Refused refusal 0; growth = growth }
 
 abbrev pub replacedGrown : Replaced → ℕ → Growth → Growth → Grown
-replacedGrown Done page growth next = record { answer = placed·On page; growth = next }
+replacedGrown Done page growth next = record { answer = placed·On page 0; growth = next }
 replacedGrown (replaced·Unsound bad) page growth next = unmovedBy growth (Damaged bad)
 replacedGrown replaced·Overflows page growth next = unmovedBy growth Full
 

@@ -15,16 +15,16 @@ pub enum Refusal {
     Full,
 }
 
-// An answer that names a page at most.
+// A page, and "the place found on the page first named (0 if refused before that search)": document 02 (ii).
 pub enum Placed {
-    On(u32),
-    Refused(Refusal),
+    On(u32, u32),
+    Refused(Refusal, u32),
 }
 
 pub enum Found {
-    At(u32, Position),
-    Absent(u32),
-    Refused(Refusal),
+    At(u32, u32, Position),
+    Absent(u32, u32),
+    Refused(Refusal, u32),
 }
 
 // Whether growth is due, with the count of stars.
@@ -61,8 +61,8 @@ pub fn placed_answer(answer: Placed) -> Answer
     ensures { λ r. ⌜ r ≡ placed answer ⌝ }
 {
     match answer {
-        Placed::On(page) => at_spot(0, page, 0),
-        Placed::Refused(refusal) => refused_answer(refusal, 0),
+        Placed::On(page, place) => at_spot(0, page, place),
+        Placed::Refused(refusal, place) => refused_answer(refusal, place),
     }
 }
 
@@ -70,17 +70,17 @@ pub fn sought_answer(answer: Found) -> Answer
     ensures { λ r. ⌜ r ≡ sought answer ⌝ }
 {
     match answer {
-        Found::At(page, position) => Answer {
+        Found::At(page, place, position) => Answer {
             refusal: 0,
             page,
-            place: 0,
+            place,
             found: true,
             position,
             due: false,
             stars: 0,
         },
-        Found::Absent(page) => at_spot(0, page, 0),
-        Found::Refused(refusal) => refused_answer(refusal, 0),
+        Found::Absent(page, place) => at_spot(0, page, place),
+        Found::Refused(refusal, place) => refused_answer(refusal, place),
     }
 }
 

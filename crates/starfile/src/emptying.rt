@@ -26,20 +26,20 @@ pub fn make(
     };
     if !hashing::parameters_valid(parameters) {
         return Grown {
-            answer: Placed::Refused(Refusal::BadParameters),
+            answer: Placed::Refused(Refusal::BadParameters, 0),
             growth,
         };
     }
     if !file_fits(parameters, separators.len(), numbers.len(), words.len()) {
         return Grown {
-            answer: Placed::Refused(Refusal::BadLength),
+            answer: Placed::Refused(Refusal::BadLength, 0),
             growth,
         };
     }
     fill(separators, placement::top_of(parameters));
     planning::clear(numbers, words);
     Grown {
-        answer: Placed::On(0),
+        answer: Placed::On(0, 0),
         growth,
     }
 }

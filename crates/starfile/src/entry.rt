@@ -34,7 +34,7 @@ pub fn enter(
     ensures { λ r. ⌜ Leaves (enterOf parameters growth (lent (now (separators .entry)) (now (numbers .entry)) (now (words .entry))) (pooled (now (poolnumbers .entry)) (now (poolwords .entry))) number position) (placed r) (lent (now (separators .exit)) (now (numbers .exit)) (now (words .exit))) (pooled (now (poolnumbers .exit)) (now (poolwords .exit))) ⌝ }
 {
     if !state_valid(parameters, growth) {
-        return Placed::Refused(Refusal::BadParameters);
+        return Placed::Refused(Refusal::BadParameters, 0);
     }
     if !all_fit(
         parameters,
@@ -44,13 +44,13 @@ pub fn enter(
         poolnumbers.len(),
         poolwords.len(),
     ) {
-        return Placed::Refused(Refusal::BadLength);
+        return Placed::Refused(Refusal::BadLength, 0);
     }
     if !pages::position::number_valid(number) {
-        return Placed::Refused(Refusal::BadNumber);
+        return Placed::Refused(Refusal::BadNumber, 0);
     }
     if !pages::position::position_valid(position) {
-        return Placed::Refused(Refusal::BadPosition);
+        return Placed::Refused(Refusal::BadPosition, 0);
     }
     let word = pages::position::pack(position);
     let answer = enter_star(
@@ -92,34 +92,38 @@ fn enter_star(
     let named = find(&table, geometry, separators, numbers, words, number);
     let page = named.page as u32;
     if !named.readable {
-        return Placed::Refused(Refusal::Damaged(page));
+        return Placed::Refused(Refusal::Damaged(page), 0);
     }
     if named.held {
         if named.word == word {
-            return Placed::On(page);
+            return Placed::On(page, named.place);
         }
-        return Placed::Refused(Refusal::Held);
+        return Placed::Refused(Refusal::Held, named.place);
     }
-    entry_placed(entering::enter_stretch(
-        &table,
-        geometry,
-        separators,
-        numbers,
-        words,
-        poolnumbers,
-        poolwords,
-        number,
-        word,
-    ))
+    entry_placed(
+        entering::enter_stretch(
+            &table,
+            geometry,
+            separators,
+            numbers,
+            words,
+            poolnumbers,
+            poolwords,
+            number,
+            word,
+        ),
+        named.place,
+    )
 }
 
-fn entry_placed(entered: Entered) -> Placed
+// The page where the star now stands, with the place given, at which it was sought.
+fn entry_placed(entered: Entered, place: u32) -> Placed
     requires { ⌜ EntrySmall entered ⌝ }
-    ensures { λ r. ⌜ r ≡ entryPlaced entered ⌝ }
+    ensures { λ r. ⌜ r ≡ entryPlaced entered place ⌝ }
 {
     match entered {
-        Entered::On(page) => Placed::On(page as u32),
-        Entered::Unsound(page) => Placed::Refused(Refusal::Damaged(page as u32)),
-        Entered::Overflows => Placed::Refused(Refusal::Full),
+        Entered::On(page) => Placed::On(page as u32, place),
+        Entered::Unsound(page) => Placed::Refused(Refusal::Damaged(page as u32), place),
+        Entered::Overflows => Placed::Refused(Refusal::Full, place),
     }
 }

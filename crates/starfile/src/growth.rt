@@ -99,7 +99,7 @@ fn grown_by(replaced: Replaced, page: u32, growth: Growth, next: Growth) -> Grow
 {
     match replaced {
         Replaced::Done => Grown {
-            answer: Placed::On(page),
+            answer: Placed::On(page, 0),
             growth: next,
         },
         Replaced::Unsound(bad) => unmoved(growth, Refusal::Damaged(bad as u32)),
@@ -111,7 +111,7 @@ fn unmoved(growth: Growth, refusal: Refusal) -> Grown
     ensures { λ r. ⌜ r ≡ unmovedBy growth refusal ⌝ }
 {
     Grown {
-        answer: Placed::Refused(refusal),
+        answer: Placed::Refused(refusal, 0),
         growth,
     }
 }

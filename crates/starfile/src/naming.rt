@@ -14,7 +14,9 @@ pub struct Named {
     // the page is below M and sound
     pub readable: bool,
     pub held: bool,
-    // where the number stands, if it is held, and its word
+    // where the number stands on the page or would stand, if it is readable
+    pub place: u32,
+    // the item there, if the number is held, and its word
     pub item: usize,
     pub word: u64,
 }
@@ -44,13 +46,15 @@ pub fn find(
     if !placement::page_sound(table, geometry, separators, value, page).sound {
         return unread(page);
     }
-    let place = pages::page::search(value, places, number);
-    let at = place.at;
-    if !place.held {
+    let found = pages::page::search(value, places, number);
+    let at = found.at;
+    let place = at as u32;
+    if !found.held {
         return Named {
             page,
             readable: true,
             held: false,
+            place,
             item: 0,
             word: 0,
         };
@@ -59,18 +63,20 @@ pub fn find(
         page,
         readable: true,
         held: true,
+        place,
         item: page * places + at,
         word: value.words[at],
     }
 }
 
 fn unread(page: usize) -> Named
-    ensures { λ r. ⌜ r ≡ record { page = page; readable = false; held = false; item = 0; word = 0 } ⌝ }
+    ensures { λ r. ⌜ r ≡ record { page = page; readable = false; held = false; place = 0; item = 0; word = 0 } ⌝ }
 {
     Named {
         page,
         readable: false,
         held: false,
+        place: 0,
         item: 0,
         word: 0,
     }

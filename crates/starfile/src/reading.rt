@@ -23,13 +23,13 @@ pub fn look_up(
     ensures { λ r. ⌜ sought r ≡ lookUpOf parameters growth (lent (now (separators .entry)) (now (numbers .entry)) (now (words .entry))) unpooled number .answer ⌝ }
 {
     if !state_valid(parameters, growth) {
-        return Found::Refused(Refusal::BadParameters);
+        return Found::Refused(Refusal::BadParameters, 0);
     }
     if !file_fits(parameters, separators.len(), numbers.len(), words.len()) {
-        return Found::Refused(Refusal::BadLength);
+        return Found::Refused(Refusal::BadLength, 0);
     }
     if !pages::position::number_valid(number) {
-        return Found::Refused(Refusal::BadNumber);
+        return Found::Refused(Refusal::BadNumber, 0);
     }
     let table = hashing::multipliers();
     let named = find(
@@ -42,10 +42,10 @@ pub fn look_up(
     );
     let page = named.page as u32;
     if !named.readable {
-        return Found::Refused(Refusal::Damaged(page));
+        return Found::Refused(Refusal::Damaged(page), 0);
     }
     if !named.held {
-        return Found::Absent(page);
+        return Found::Absent(page, named.place);
     }
-    Found::At(page, pages::position::unpack(named.word))
+    Found::At(page, named.place, pages::position::unpack(named.word))
 }

@@ -33,7 +33,7 @@ pub fn remove(
     ensures { λ r. ⌜ Leaves (removeOf parameters growth (lent (now (separators .entry)) (now (numbers .entry)) (now (words .entry))) (pooled (now (poolnumbers .entry)) (now (poolwords .entry))) number) (placed r) (lent (now (separators .exit)) (now (numbers .exit)) (now (words .exit))) (pooled (now (poolnumbers .exit)) (now (poolwords .exit))) ⌝ }
 {
     if !state_valid(parameters, growth) {
-        return Placed::Refused(Refusal::BadParameters);
+        return Placed::Refused(Refusal::BadParameters, 0);
     }
     if !all_fit(
         parameters,
@@ -43,10 +43,10 @@ pub fn remove(
         poolnumbers.len(),
         poolwords.len(),
     ) {
-        return Placed::Refused(Refusal::BadLength);
+        return Placed::Refused(Refusal::BadLength, 0);
     }
     if !pages::position::number_valid(number) {
-        return Placed::Refused(Refusal::BadNumber);
+        return Placed::Refused(Refusal::BadNumber, 0);
     }
     let answer = remove_held(
         parameters,
@@ -85,10 +85,10 @@ fn remove_held(
     let named = find(&table, geometry, separators, numbers, words, number);
     let page = named.page as u32;
     if !named.readable {
-        return Placed::Refused(Refusal::Damaged(page));
+        return Placed::Refused(Refusal::Damaged(page), 0);
     }
     if !named.held {
-        return Placed::Refused(Refusal::NotHeld);
+        return Placed::Refused(Refusal::NotHeld, named.place);
     }
     replaced_placed(
         replacing::remove_star(
@@ -102,17 +102,18 @@ fn remove_held(
             number,
         ),
         page,
+        named.place,
     )
 }
 
-// What is answered if the stretch was placed anew: the page given.
-pub fn replaced_placed(replaced: Replaced, page: u32) -> Placed
+// What is answered if the stretch was placed anew: the page and the place given.
+pub fn replaced_placed(replaced: Replaced, page: u32, place: u32) -> Placed
     requires { ⌜ ReplacedSmall replaced ⌝ }
-    ensures { λ r. ⌜ r ≡ replacedPlaced replaced page ⌝ }
+    ensures { λ r. ⌜ r ≡ replacedPlaced replaced page place ⌝ }
 {
     match replaced {
-        Replaced::Done => Placed::On(page),
-        Replaced::Unsound(bad) => Placed::Refused(Refusal::Damaged(bad as u32)),
-        Replaced::Overflows => Placed::Refused(Refusal::Full),
+        Replaced::Done => Placed::On(page, place),
+        Replaced::Unsound(bad) => Placed::Refused(Refusal::Damaged(bad as u32), place),
+        Replaced::Overflows => Placed::Refused(Refusal::Full, place),
     }
 }

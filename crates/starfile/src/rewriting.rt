@@ -25,16 +25,16 @@ pub fn change(
     ensures { λ r. ⌜ Leaves (changeOf parameters growth (lent (now (separators .entry)) (now (numbers .entry)) (now (words .entry))) unpooled number position) (placed r) (lent (now (separators .entry)) (now (numbers .entry)) (now (words .exit))) unpooled ⌝ }
 {
     if !state_valid(parameters, growth) {
-        return Placed::Refused(Refusal::BadParameters);
+        return Placed::Refused(Refusal::BadParameters, 0);
     }
     if !file_fits(parameters, separators.len(), numbers.len(), words.len()) {
-        return Placed::Refused(Refusal::BadLength);
+        return Placed::Refused(Refusal::BadLength, 0);
     }
     if !pages::position::number_valid(number) {
-        return Placed::Refused(Refusal::BadNumber);
+        return Placed::Refused(Refusal::BadNumber, 0);
     }
     if !pages::position::position_valid(position) {
-        return Placed::Refused(Refusal::BadPosition);
+        return Placed::Refused(Refusal::BadPosition, 0);
     }
     let table = hashing::multipliers();
     let named = find(
@@ -47,12 +47,12 @@ pub fn change(
     );
     let page = named.page as u32;
     if !named.readable {
-        return Placed::Refused(Refusal::Damaged(page));
+        return Placed::Refused(Refusal::Damaged(page), 0);
     }
     if !named.held {
-        return Placed::Refused(Refusal::NotHeld);
+        return Placed::Refused(Refusal::NotHeld, named.place);
     }
     let item = named.item;
     words[item] = pages::position::pack(position);
-    Placed::On(page)
+    Placed::On(page, named.place)
 }

@@ -36,6 +36,7 @@ replyOf a =
     record {
       refusal = a .refusal;
       page = a .page;
+      place = a .place;
       ra = a .position .ra;
       dec = a .position .dec;
       found = a .found;

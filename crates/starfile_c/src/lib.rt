@@ -16,6 +16,7 @@ use starfile::answers::sought_answer;
 pub struct Reply {
     pub refusal: u32,
     pub page: u32,
+    pub place: u32,
     pub ra: u32,
     pub dec: i32,
     pub found: bool,
@@ -158,6 +159,7 @@ fn reply_of(answer: Answer) -> Reply
     Reply {
         refusal: answer.refusal,
         page: answer.page,
+        place: answer.place,
         ra: position.ra,
         dec: position.dec,
         found: answer.found,

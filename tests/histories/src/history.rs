@@ -76,6 +76,9 @@ impl History {
         random_pool(&mut tester.random, &mut self.lent);
         let call = self.make_call(kind, number, ra, dec);
         let (outcome, after) = tester.compare(&call, &self.lent);
+        if kind.takes_number() {
+            tester.expect(self.first_place(number) == outcome.place as usize, "a call answers another place");
+        }
         let resend = kind == Kind::Enter && self.book.contains_key(&number);
         if (kind == Kind::LookUp || resend) && outcome.refusal == 0 {
             self.call_alike(tester, &call, &outcome);
@@ -143,6 +146,13 @@ impl History {
         let home = home(&self.parameters, &self.growth, number.into());
         let signature = |page: u64| signature(&self.parameters, number.into(), page - home + 1);
         (home..).find(|&page| u64::from(self.lent.separators[page as usize]) > signature(page)).unwrap()
+    }
+
+    /// How many lower numbers stand on that page.
+    fn first_place(&self, number: u32) -> usize {
+        let places = self.parameters.places as usize;
+        let first = self.first_page(number) as usize * places;
+        self.lent.numbers[first..first + places].iter().filter(|&&other| other != 0 && other < number).count()
     }
 
     fn check_file(&self, tester: &mut Tester) {

@@ -3,7 +3,7 @@
 use model::{Buffers, Call, Growth, Kind, Outcome, Parameters};
 
 /// The requests of document 02 that have landed in the library.
-pub const LANDED: &[u32] = &[3, 4, 5];
+pub const LANDED: &[u32] = &[2, 3, 4, 5];
 
 // Each slice is a pointer and a length in items.
 #[rustfmt::skip]

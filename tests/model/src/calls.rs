@@ -65,18 +65,32 @@ fn attempt(call: &Call, lent: &mut Buffers) -> Result<Outcome, Refusal> {
         return refuse(4);
     }
     let mut file = File { parameters: call.parameters, growth: call.growth, lent };
-    let page = |page: usize| Outcome { page: page as u32, ..unchanged(call) };
     match call.kind {
         Kind::Make => file.make(),
-        Kind::LookUp => return file.look_up(call.number, unchanged(call)),
-        Kind::Enter => return file.enter(Star { number: call.number, word: pack(call.ra, call.dec) }).map(page),
-        Kind::Change => return file.change(Star { number: call.number, word: pack(call.ra, call.dec) }).map(page),
-        Kind::Remove => return file.remove(call.number).map(page),
         Kind::Grow => return file.grow(),
         Kind::Due => return Ok(file.due(unchanged(call))),
         Kind::Check => file.check()?,
+        Kind::LookUp | Kind::Enter | Kind::Change | Kind::Remove => return on_a_star(call, &mut file),
     }
     Ok(unchanged(call))
+}
+
+/// The calls that take a number: each answers the place found on the page first named, also when refused after that.
+fn on_a_star(call: &Call, file: &mut File) -> Result<Outcome, Refusal> {
+    let number = call.number;
+    let named = file.sound_named(number)?;
+    let place = file.place(named, number);
+    let page = |page: usize| Outcome { page: page as u32, ..unchanged(call) };
+    let answer = match call.kind {
+        Kind::Enter => file.enter(named, Star { number, word: pack(call.ra, call.dec) }).map(page),
+        Kind::Change => file.change(named, Star { number, word: pack(call.ra, call.dec) }).map(page),
+        Kind::Remove => file.remove(named, number).map(page),
+        _ => Ok(file.look_up(named, number, page(named))),
+    };
+    match answer {
+        Ok(outcome) => Ok(Outcome { place: place as u32, ..outcome }),
+        Err(refusal) => Err(Refusal { place, ..refusal }),
+    }
 }
 
 fn parameters_valid(p: &Parameters) -> bool {
@@ -138,6 +152,12 @@ impl File<'_> {
         items.map(star).filter(|star| star.number != 0).collect()
     }
 
+    /// The first place of a page that is empty or holds a number not below the one sought, or b if there is none.
+    fn place(&self, page: usize, number: u32) -> usize {
+        let numbers = &self.lent.numbers[self.items(page)];
+        numbers.iter().position(|&other| other == 0 || other >= number).unwrap_or(numbers.len())
+    }
+
     /// The item at which a page holds the number.
     fn held(&self, page: usize, number: u32) -> Option<usize> {
         self.items(page).find(|&item| self.lent.numbers[item] == number)
@@ -193,17 +213,15 @@ impl File<'_> {
         self.lent.words.fill(0);
     }
 
-    fn look_up(&self, number: u32, none: Outcome) -> Result<Outcome, Refusal> {
-        let page = self.sound_named(number)?;
-        let Some(item) = self.held(page, number) else {
-            return Ok(Outcome { page: page as u32, ..none });
+    fn look_up(&self, named: usize, number: u32, none: Outcome) -> Outcome {
+        let Some(item) = self.held(named, number) else {
+            return none;
         };
         let (ra, dec) = unpack(self.lent.words[item]);
-        Ok(Outcome { page: page as u32, found: 1, ra, dec, ..none })
+        Outcome { found: 1, ra, dec, ..none }
     }
 
-    fn enter(&mut self, new: Star) -> Result<usize, Refusal> {
-        let named = self.sound_named(new.number)?;
+    fn enter(&mut self, named: usize, new: Star) -> Result<usize, Refusal> {
         if let Some(item) = self.held(named, new.number) {
             // A resend of the stored position is accepted and reads no other page.
             return if self.lent.words[item] == new.word { Ok(named) } else { refuse(6) };
@@ -227,18 +245,16 @@ impl File<'_> {
         refuse(8)
     }
 
-    fn change(&mut self, star: Star) -> Result<usize, Refusal> {
-        let page = self.sound_named(star.number)?;
-        let Some(item) = self.held(page, star.number) else {
+    fn change(&mut self, named: usize, star: Star) -> Result<usize, Refusal> {
+        let Some(item) = self.held(named, star.number) else {
             return refuse(7);
         };
         self.lent.words[item] = star.word;
-        Ok(page)
+        Ok(named)
     }
 
-    fn remove(&mut self, number: u32) -> Result<usize, Refusal> {
-        let page = self.sound_named(number)?;
-        if self.held(page, number).is_none() {
+    fn remove(&mut self, named: usize, number: u32) -> Result<usize, Refusal> {
+        if self.held(named, number).is_none() {
             return refuse(7);
         }
         let home = self.home(number);
@@ -251,7 +267,7 @@ impl File<'_> {
         let (pages, carried) = self.rule(home..=last, stars);
         assert!(carried.is_empty(), "over sound pages a removal carries nothing past its reach");
         self.write(home, &pages);
-        Ok(page)
+        Ok(named)
     }
 
     fn grow(&mut self) -> Result<Outcome, Refusal> {

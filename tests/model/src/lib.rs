@@ -13,7 +13,7 @@ pub mod vectors;
 pub use calls::run;
 
 /// The requests of document 02 that the model follows.
-pub const LANDED: &[u32] = &[3, 4, 5];
+pub const LANDED: &[u32] = &[2, 3, 4, 5];
 
 /// The document's b, N, n0, s, k, A and M.
 #[repr(C)]

@@ -238,6 +238,43 @@ pub fn damaged_values(run: Run) {
     assert_eq!(answers(session.look_up(1)), (5, 2));
 }
 
+/// The place on the page first named, in every answer after that search.
+pub fn places(run: Run) {
+    let spot = |outcome: Outcome| (outcome.refusal, outcome.page, outcome.place);
+    let mut session = Session::new(run, TWO_PAGES);
+    assert_eq!(spot(session.enter(32)), (0, 0, 0));
+    assert_eq!(spot(session.enter(170)), (0, 0, 1));
+    assert_eq!(spot(session.look_up(32)), (0, 1, 0));
+    let mut session = Session::new(run, [4, 1, 1, 1, 8, 80, 1]);
+    for (place, number) in [(0, 10), (1, 20), (2, 30)] {
+        assert_eq!(spot(session.enter(number)), (0, 0, place));
+    }
+    for (number, place) in [(9, 0), (10, 0), (11, 1), (30, 2), (31, 3)] {
+        assert_eq!(spot(session.look_up(number)), (0, 0, place));
+    }
+    assert_eq!(spot(session.enter(15)), (0, 0, 1));
+    assert_eq!(spot(session.enter(40)), (8, 0, 4));
+    assert_eq!(spot(session.look_up(40)), (0, 0, 4));
+    assert_eq!(spot(session.call(Kind::Enter, 15, 2, 0)), (6, 0, 1));
+    assert_eq!(spot(session.call(Kind::Enter, 15, 1_296_000_000, 0)), (4, 0, 0));
+    assert_eq!(spot(session.call(Kind::Change, 20, 0, 0)), (0, 0, 2));
+    assert_eq!(spot(session.call(Kind::Change, 19, 0, 0)), (7, 0, 2));
+    assert_eq!(spot(session.remove(31)), (7, 0, 4));
+    assert_eq!(spot(session.remove(30)), (0, 0, 3));
+    assert_eq!(spot(session.check()), (0, 0, 0));
+    // The lower page passes every star on and is damaged: the reach meets it after the search.
+    let mut session = Session::new(run, [2, 1, 1, 1, 8, 50, 2]);
+    session.lent.separators[0] = 0;
+    session.lent.numbers = vec![0, 0, 5, 9];
+    session.lent.words = vec![7, 0, pack(1, 0), pack(1, 0)];
+    assert_eq!(spot(session.enter(170)), (5, 0, 2));
+    assert_eq!(spot(session.remove(9)), (5, 0, 1));
+    assert_eq!(spot(session.look_up(7)), (0, 1, 1));
+    session.lent.words[2] = u64::MAX;
+    assert_eq!(spot(session.look_up(7)), (5, 1, 0));
+    assert_eq!(spot(session.enter(7)), (5, 1, 0));
+}
+
 /// A resend of the stored position is accepted, though the reach is damaged; any other position is 6.
 pub fn resends(run: Run) {
     let mut session = Session::new(run, TWO_PAGES);
@@ -249,7 +286,7 @@ pub fn resends(run: Run) {
         let mut expected = session.clone();
         expected.lent.pool_words.fill(0);
         let outcome = session.enter(32);
-        assert_eq!((outcome.refusal, outcome.page), (0, 1));
+        assert_eq!((outcome.refusal, outcome.page, outcome.place), (0, 1, 0));
         assert!(session.lent == expected.lent && session.growth == expected.growth);
         assert_eq!(answers(session.call(Kind::Enter, 32, 1, 1)), (6, 0));
         assert_eq!(answers(session.call(Kind::Enter, 32, 2, 0)), (6, 0));
@@ -292,7 +329,7 @@ macro_rules! point_tests {
     ($run:path) => {
         $crate::point_tests!($run: homes value_limits parameter_limits growth_limits second_star_of_a_home
             growth_without_room growth_repairs entry_below_named_page removal_raises_separator
-            entry_without_room_in_its_reach entry_into_full_file check_order damaged_values resends pages_in_use pool_contents);
+            entry_without_room_in_its_reach entry_into_full_file check_order damaged_values places resends pages_in_use pool_contents);
     };
     ($run:path: $($name:ident)*) => {
         $(#[test] fn $name() { $crate::points::$name($run) })*

@@ -94,7 +94,7 @@ returns-4 c =
     (passed _ _ (one .before .lengths-agree .ensures) (one .if1 .left))
     (passed _ _ (three .before .before .before .pool-agrees .ensures) (three .before .before .if2 .left))
     (passed _ _ (three .before .kinds-known .ensures) (three .if3 .left))
-    _ _ (made .make .ensures .0) _ (told .enum-told .given .1) _ (made .make .ensures .1) _ _ _ _
+    _ _ (made .make .ensures .0) _ _ (told .enum-told .given .1) _ (made .make .ensures .1) _ _ _ _
     (c .before .before .before .before .before .before .before .before .before .before .before .before .run .ensures)
 
 same-length-7 : tie.Need-same-length-7
@@ -116,7 +116,7 @@ returns-5 c =
     (passed _ _ (one .before .lengths-agree .ensures) (one .if1 .left))
     (passed _ _ (three .before .before .before .pool-agrees .ensures) (three .before .before .if2 .left))
     (passed _ _ (three .before .kinds-known .ensures) (three .if3 .left))
-    _ _ (made .make .ensures .0) _ (c .before .answer .given .1)
+    _ _ (made .make .ensures .0) _ _ (c .before .answer .given .1)
 
 pub replay-spec : {M : Type 1} → statement M
 replay-spec =

@@ -13,8 +13,7 @@ use Rattle.placement.specs.File.{File}
 use Rattle.placement.specs.Hash.{lent}
 use Rattle.placement.proofs.Prepared.{ready, pool-ready}
 use Rattle.starfile.specs.Answers.{Pool, placed, checked, refusedBy, numberOf, pageOf, pooled, cleared}
-use Rattle.starfile.specs.Calls.{enterOn, enteredAgain, named, readable, holds}
-use Rattle.starfile.specs.Outcomes.{entryPlaced}
+use Rattle.starfile.specs.Calls.{enterOn, enteredAgain, named, readable, holds, placeFor}
 use Rattle.starfile.proofs.Outcomes.{entry-small, entered-is}
 use Rattle.starfile.proofs.Pools.{pool-sized, unheld}
 use borrow.Author.Needs.{needs}
@@ -78,7 +77,7 @@ returns-2 c =
     let there = c .before .before .if2 .taken in
     let held = sym (found .heldIs opened) ∙ there in
     let same = eq-eqb _ _ (sym (found .wordIs there) ∙ c .if3 .taken) in
-    record { answers = rw (read, held, same, found .pageIs); files = rw (read, held) }
+    record { answers = rw (read, held, same, ← found .placeIs opened, ← found .pageIs); files = rw (read, held) }
 
 same-length-7 : tie.Need-same-length-7
 same-length-7 c = search needs
@@ -98,7 +97,7 @@ returns-3 c =
     let there = c .before .before .if2 .taken in
     let held = sym (found .heldIs opened) ∙ there in
     let other = ne-eqb _ _ (λ e. c .if3 .left (found .wordIs there ∙ e)) in
-    record { answers = rw (read, held, other); files = rw (read, held) }
+    record { answers = rw (read, held, other, ← found .placeIs opened); files = rw (read, held) }
 
 enter-stretch-requires : tie.Need-enter-stretch-requires
 enter-stretch-requires c κs =
@@ -145,9 +144,9 @@ returns-4 c =
     let read = sym (found .readableIs) ∙ opened in
     let held = sym (found .heldIs opened) ∙ c .before .before .before .before .before .before .before .before .before .before .before .before .before .before .before .before .before .before .if2 .left in
     let done = c .before .before .before .before .before .before .before .before .before .before .before .enter-stretch .ensures in
-    let is = entered-is (s .args .parameters) (s .args .growth) (fileOf s) (cleared (poolOf s)) (s .args .number) (s .args .word) in
+    let is = entered-is (s .args .parameters) (s .args .growth) (fileOf s) (cleared (poolOf s)) (s .args .number) (s .args .word) (placeFor (s .args .parameters) (fileOf s) (named (s .args .parameters) (s .args .growth) (fileOf s) (s .args .number)) (s .args .number)) in
     record {
-      answers = rw (read, held) (ap placed (c .entry-placed .ensures ∙ ap entryPlaced (done .0)) ∙ is .0);
+      answers = rw (read, held) (ap placed (rw (done .0, found .placeIs opened) at (c .entry-placed .ensures)) ∙ is .0);
       files = rw (read, held) (done .1 ∙ is .1);
     }
 

@@ -9,14 +9,14 @@ use Rattle.starfile.proofs.entry.entry_placed.Lts as lts
 enum-known-entered : tie.Need-enum-known-entered
 enum-known-entered c = search needs
 
-cast-t5 : tie.Need-cast-t5
-cast-t5 c = omega (arith, rw (c .before .entered .given .1) at (c .before .before .before .pre))
+cast-t6 : tie.Need-cast-t6
+cast-t6 c = omega (arith, rw (c .before .entered .given .1) at (c .before .before .before .pre))
 
 enum-known-entered-2 : tie.Need-enum-known-entered-2
 enum-known-entered-2 c = search needs
 
-cast-t6 : tie.Need-cast-t6
-cast-t6 c = omega (arith, rw (c .before .entered2 .given .1) at (c .before .before .before .pre))
+cast-t7 : tie.Need-cast-t7
+cast-t7 c = omega (arith, rw (c .before .entered2 .given .1) at (c .before .before .before .pre))
 
 enum-told : tie.Need-enum-told
 enum-told c = search needs
@@ -35,9 +35,9 @@ entry-placed-spec =
     tie.close
     (tie.spec
     enum-known-entered
-    cast-t5
-    enum-known-entered-2
     cast-t6
+    enum-known-entered-2
+    cast-t7
     enum-told
     returns
     returns-2

@@ -13,7 +13,7 @@ use Rattle.placement.specs.Hash.{lent, soundAt}
 use Rattle.placement.proofs.Items.{sound-loaded}
 use Rattle.placement.proofs.Prepared.{homing}
 use Rattle.starfile.proofs.Refusals.{items-most}
-use Rattle.starfile.proofs.Finding.{named-most, past-file, in-file, unread-as, absent-as, held-as, held-is, at-is, at-below, word-is, item-below, word-valid, one-least}
+use Rattle.starfile.proofs.Finding.{named-most, past-file, in-file, unread-as, absent-as, held-as, held-is, place-is, place-most, at-is, at-below, word-is, item-below, word-valid, one-least}
 use borrow.Author.Needs.{needs}
 use Rattle.starfile.proofs.naming.find.Statement.{statement}
 use Rattle.starfile.proofs.naming.find.Tie as tie
@@ -105,14 +105,23 @@ tested c = c .before .before .before
 sound : (c : tie.After-search) → soundAt (begun (tested c .before .before) .args .geometry .parameters) (begun (tested c .before .before) .args .geometry .growth) (fileOf (begun (tested c .before .before))) (tested c .before .before .before .before .named-page .result) ≡ true
 sound c = sym (told (tested c)) ∙ not-false _ (c .before .if2 .left)
 
+place-below : (c : tie.After-search) → c .search .result .at ≤ begun (tested c .before .before) .args .geometry .parameters .places
+place-below c =
+    let e = tested c .before .before in
+    place-most (begun e .args .geometry .parameters) (fileOf (begun e)) (begun e .args .number) _ _ _ (fits e) (c .before .before .before .before .load .ensures) (c .search .ensures)
+
+cast-place : tie.Need-cast-place
+cast-place c = omega (arith, place-below c, limits _ (begun (tested c .before .before) .pre .1 .0) .places-most)
+
 returns-3 : tie.Need-returns-3
 returns-3 c =
     let d = c .before .before in
     let e = tested d .before .before in
     let s = begun e in
-    absent-as (s .args .geometry .parameters) (s .args .geometry .growth) (fileOf s) (s .args .number) _ (s .pre .1 .1 .1 .0) (c .before .before .before .before .before .before .before .before .before .named-page .ensures)
+    absent-as (s .args .geometry .parameters) (s .args .geometry .growth) (fileOf s) (s .args .number) _ (s .pre .1 .1 .1 .0) (c .before .before .before .before .before .before .before .before .before .named-page .ensures) _
     (in-file _ _ _ _ _ (inside e) (sound d))
     (sym (held-is (s .args .geometry .parameters) (fileOf s) _ _ _ _ (fits e) (c .before .before .before .before .before .before .load .ensures) (d .search .ensures)) ∙ not-true _ (c .if3 .taken))
+    (place-is (s .args .geometry .parameters) (fileOf s) _ _ _ _ (fits e) (c .before .before .before .before .before .before .load .ensures) (d .search .ensures))
 
 -- src/naming.rt:55:15
 -- the number is held
@@ -124,20 +133,20 @@ within c =
     let e = tested (c .before .before) .before .before in
     at-below (begun e .args .geometry .parameters) (fileOf (begun e)) (begun e .args .number) _ _ _ (fits e) (c .before .before .before .before .before .before .load .ensures) (c .before .before .search .ensures) (held c)
 
-mul-t12 : tie.Need-mul-t12
-mul-t12 c = omega (arith, fits (tested (c .before .before) .before .before), items-most _ (c .before .before .before .before .before .before .before .before .before .before .before .before .before .before .pre .1 .0), c .before .before .before .before .before .before .before .before .before .before .before .before .before .before .pre .1 .1 .1 .0 .ofNumbers)
+mul-t13 : tie.Need-mul-t13
+mul-t13 c = omega (arith, fits (tested (c .before .before) .before .before), items-most _ (c .before .before .before .before .before .before .before .before .before .before .before .before .before .before .pre .1 .0), c .before .before .before .before .before .before .before .before .before .before .before .before .before .before .pre .1 .1 .1 .0 .ofNumbers)
 
 -- src/naming.rt:55:15
-add-t16 : tie.Need-add-t16
-add-t16 c = omega (arith, fits (tested (c .before .before) .before .before), items-most _ (c .before .before .before .before .before .before .before .before .before .before .before .before .before .before .pre .1 .0), c .before .before .before .before .before .before .before .before .before .before .before .before .before .before .pre .1 .1 .1 .0 .ofNumbers, within c)
+add-t17 : tie.Need-add-t17
+add-t17 c = omega (arith, fits (tested (c .before .before) .before .before), items-most _ (c .before .before .before .before .before .before .before .before .before .before .before .before .before .before .pre .1 .0), c .before .before .before .before .before .before .before .before .before .before .before .before .before .before .pre .1 .1 .1 .0 .ofNumbers, within c)
 
 -- src/naming.rt:56:15
-mul-t17 : tie.Need-mul-t17
-mul-t17 c = omega (arith, within c, limits _ (c .before .before .before .before .before .before .before .before .before .before .before .before .before .before .pre .1 .0) .places-most)
+mul-t18 : tie.Need-mul-t18
+mul-t18 c = omega (arith, within c, limits _ (c .before .before .before .before .before .before .before .before .before .before .before .before .before .before .pre .1 .0) .places-most)
 
 -- src/naming.rt:56:15
-element-copy-out-t20 : tie.Need-element-copy-out-t20
-element-copy-out-t20 c = omega (arith, within c, limits _ (c .before .before .before .before .before .before .before .before .before .before .before .before .before .before .pre .1 .0) .places-most)
+element-copy-out-t21 : tie.Need-element-copy-out-t21
+element-copy-out-t21 c = omega (arith, within c, limits _ (c .before .before .before .before .before .before .before .before .before .before .before .before .before .before .pre .1 .0) .places-most)
 
 -- src/naming.rt:23:1
 returns-4 : tie.Need-returns-4
@@ -145,9 +154,10 @@ returns-4 c =
     let d = c .before .before .before in
     let e = tested d .before .before in
     let s = begun e in
-    held-as (s .args .geometry .parameters) (s .args .geometry .growth) (fileOf s) (s .args .number) _ (s .pre .1 .1 .1 .0) (c .before .before .before .before .before .before .before .before .before .before .named-page .ensures) _ _
+    held-as (s .args .geometry .parameters) (s .args .geometry .growth) (fileOf s) (s .args .number) _ (s .pre .1 .1 .1 .0) (c .before .before .before .before .before .before .before .before .before .before .named-page .ensures) _ _ _
     (in-file _ _ _ _ _ (inside e) (sound d))
     (sym (held-is (s .args .geometry .parameters) (fileOf s) _ _ _ _ (fits e) (c .before .before .before .before .before .before .before .load .ensures) (d .search .ensures)) ∙ held (c .before))
+    (place-is (s .args .geometry .parameters) (fileOf s) _ _ _ _ (fits e) (c .before .before .before .before .before .before .before .load .ensures) (d .search .ensures))
     (at-is (s .args .geometry .parameters) (fileOf s) _ _ _ _ (fits e) (c .before .before .before .before .before .before .before .load .ensures) (d .search .ensures))
     (word-is (s .args .geometry .parameters) (fileOf s) _ _ _ _ (fits e) (c .before .before .before .before .before .before .before .load .ensures) (d .search .ensures) (held (c .before)))
     (item-below (s .args .geometry .parameters) (fileOf s) (s .args .number) _ _ _ (fits e) (c .before .before .before .before .before .before .before .load .ensures) (d .search .ensures) (held (c .before)) (sym (s .pre .1 .1 .1 .0 .ofNumbers)))
@@ -169,9 +179,10 @@ find-spec =
     unread-requires-2
     returns-2
     search-requires
+    cast-place
     returns-3
-    mul-t12
-    add-t16
-    mul-t17
-    element-copy-out-t20
+    mul-t13
+    add-t17
+    mul-t18
+    element-copy-out-t21
     returns-4)

@@ -105,7 +105,7 @@ returns-5 c =
     let found = c .before .before .before .before .before .find .ensures in
     let read = not-false _ (c .before .before .if4 .left) in
     let d = c .before .before .before .before .before .before .before .before in
-    rw (well-lent _ _ _ (state d) (fits d), numbered d, sym (found .readableIs) ∙ read, sym (found .heldIs read) ∙ not-true _ (c .if5 .taken), found .pageIs)
+    rw (well-lent _ _ _ (state d) (fits d), numbered d, sym (found .readableIs) ∙ read, sym (found .heldIs read) ∙ not-true _ (c .if5 .taken), ← found .placeIs read, found .pageIs)
 
 -- src/reading.rt:36:21
 unpack-requires : tie.Need-unpack-requires
@@ -119,7 +119,7 @@ returns-6 c =
     let read = not-false _ (c .before .before .before .if4 .left) in
     let held = not-false _ (c .before .if5 .left) in
     let d = c .before .before .before .before .before .before .before .before .before in
-    rw (well-lent _ _ _ (state d) (fits d), numbered d, sym (found .readableIs) ∙ read, sym (found .heldIs read) ∙ held, c .unpack .ensures, found .wordIs held, found .pageIs)
+    rw (well-lent _ _ _ (state d) (fits d), numbered d, sym (found .readableIs) ∙ read, sym (found .heldIs read) ∙ held, c .unpack .ensures, found .wordIs held, ← found .placeIs read, found .pageIs)
 
 pub look-up-spec : {M : Type 1} → statement M
 look-up-spec =

@@ -13,7 +13,7 @@ use Rattle.placement.specs.File.{File}
 use Rattle.placement.specs.Hash.{lent}
 use Rattle.placement.proofs.Prepared.{ready, pool-ready}
 use Rattle.starfile.specs.Answers.{Pool, placed, checked, refusedBy, numberOf, pageOf, pooled, cleared}
-use Rattle.starfile.specs.Calls.{removeOn, named, readable, holds}
+use Rattle.starfile.specs.Calls.{removeOn, named, readable, holds, placeFor}
 use Rattle.starfile.specs.Outcomes.{replacedPlaced}
 use Rattle.replacing.specs.Calls.{removalAnswer}
 use Rattle.starfile.proofs.Outcomes.{removal-small, removed-is}
@@ -77,7 +77,7 @@ returns-2 c =
     let opened = not-false _ (c .before .before .if1 .left) in
     let read = sym (found .readableIs) ∙ opened in
     let held = sym (found .heldIs opened) ∙ not-true _ (c .if2 .taken) in
-    record { answers = rw (read, held); files = rw (read, held) }
+    record { answers = rw (read, held, ← found .placeIs opened); files = rw (read, held) }
 
 remove-star-requires : tie.Need-remove-star-requires
 remove-star-requires c κs =
@@ -116,9 +116,9 @@ returns-3 c =
     let read = sym (found .readableIs) ∙ opened in
     let held = sym (found .heldIs opened) ∙ not-false _ (c .before .before .before .before .before .before .before .before .before .before .before .before .before .before .before .before .before .before .if2 .left) in
     let done = c .before .before .before .before .before .before .before .before .before .before .before .remove-star .ensures in
-    let is = removed-is (s .args .parameters) (s .args .growth) (fileOf s) (cleared (poolOf s)) (named (s .args .parameters) (s .args .growth) (fileOf s) (s .args .number)) (s .args .number) in
+    let is = removed-is (s .args .parameters) (s .args .growth) (fileOf s) (cleared (poolOf s)) (named (s .args .parameters) (s .args .growth) (fileOf s) (s .args .number)) (s .args .number) (placeFor (s .args .parameters) (fileOf s) (named (s .args .parameters) (s .args .growth) (fileOf s) (s .args .number)) (s .args .number)) in
     record {
-      answers = rw (read, held) (ap placed (rw (done .0, found .pageIs) at (c .replaced-placed .ensures)) ∙ is .0);
+      answers = rw (read, held) (ap placed (rw (done .0, found .pageIs, found .placeIs opened) at (c .replaced-placed .ensures)) ∙ is .0);
       files = rw (read, held) (done .1 ∙ is .1);
     }
 

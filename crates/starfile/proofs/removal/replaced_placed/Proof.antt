@@ -12,8 +12,8 @@ enum-told c = search needs
 enum-known-replaced : tie.Need-enum-known-replaced
 enum-known-replaced c = search needs
 
-cast-t5 : tie.Need-cast-t5
-cast-t5 c = omega (arith, rw (c .before .replaced .given .1) at (c .before .before .before .pre))
+cast-t6 : tie.Need-cast-t6
+cast-t6 c = omega (arith, rw (c .before .replaced .given .1) at (c .before .before .before .pre))
 
 enum-told-2 : tie.Need-enum-told-2
 enum-told-2 c = search needs
@@ -30,4 +30,4 @@ returns-3 c = rw (c .enum-told2 .given .1)
 pub replaced-placed-spec : {M : Type 1} → statement M
 replaced-placed-spec =
     tie.close
-    (tie.spec enum-told enum-known-replaced cast-t5 enum-told-2 returns returns-2 returns-3)
+    (tie.spec enum-told enum-known-replaced cast-t6 enum-told-2 returns returns-2 returns-3)

@@ -138,7 +138,7 @@ returns-6 c =
     let read = not-false _ (c .before .before .if5 .left) in
     let d = c .before .before .before .before .before .before .before .before .before in
     leaves _ _ (c .before .before .before .before .before .before .before .before .before .before .before .before .before .before .before .before .before .before .before .before .args .growth) _ _
-    (rw (well-lent _ _ _ (state d) (fits d), numbered d, positioned d, sym (found .readableIs) ∙ read, sym (found .heldIs read) ∙ not-true _ (c .if6 .taken)))
+    (rw (well-lent _ _ _ (state d) (fits d), numbered d, positioned d, sym (found .readableIs) ∙ read, sym (found .heldIs read) ∙ not-true _ (c .if6 .taken), ← found .placeIs read))
 
 -- src/rewriting.rt:41:19
 pack-requires : tie.Need-pack-requires
@@ -168,7 +168,7 @@ returns-7 c =
     let there = not-false _ (c .before .if6 .left) in
     let d = c .before .before .before .before .before .before .before .before .before .before in
     leaves _ _ (begun d .args .growth) _ _
-    (rw (well-lent _ _ _ (state d) (fits d), numbered d, positioned d, sym (found .readableIs) ∙ read, sym (found .heldIs read) ∙ there, found .pageIs, found .itemIs there, c .pack .ensures))
+    (rw (well-lent _ _ _ (state d) (fits d), numbered d, positioned d, sym (found .readableIs) ∙ read, sym (found .heldIs read) ∙ there, ← found .placeIs read, found .pageIs, found .itemIs there, c .pack .ensures))
 
 pub change-spec : {M : Type 1} → statement M
 change-spec =
