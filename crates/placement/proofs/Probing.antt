@@ -104,7 +104,8 @@ first-from p g page [] k = refl
 first-from p g page (v ∷ vs) k = rw (first-from p g (suc page) vs k)
 
 -- no signature reaches the greatest separator
-below-top : (p : Parameters) (g : Growth) (k page v : ℕ) → validParameters p ≡ true → home (multiplierOf p) p g k ≤ page → topOf (p .bits) ≤ v → below (hashOf p g) page v k ≡ true
+below-top : (p : Parameters) (g : Growth) (k page v : ℕ) → validParameters p ≡ true → home (multiplierOf p) p g k ≤ page → topOf (p .bits) ≤ v
+    → below (hashOf p g) page v k ≡ true
 unfolding below hashOf
 below-top p g k page v ok h t =
     let low = signature-below (multiplierOf p) (p .bits) k (page - home (multiplierOf p) p g k + 1) (limits p ok .bits-least) in
@@ -121,7 +122,8 @@ module _ (p : Parameters) (g : Growth) (seps : List ℕ) (k h : ℕ) (at-home : 
   named-here page i =
       rw (at-home, add-one page, first-from p g 0 (take (suc page) seps) k) (first-taken (hashOf p g) seps k page i)
 
-  pub named-before-top : validParameters p ≡ true → (page : ℕ) → page < length seps → h ≤ page → topOf (p .bits) ≤ getD seps page 0 → eqb (first (hashFrom p h) 0 (take page seps) k) page ≡ eqb (namedPage p g seps k) page
+  pub named-before-top : validParameters p ≡ true → (page : ℕ) → page < length seps → h ≤ page → topOf (p .bits) ≤ getD seps page 0
+      → eqb (first (hashFrom p h) 0 (take page seps) k) page ≡ eqb (namedPage p g seps k) page
   unfolding namedPage
   named-before-top ok page i low t =
       rw (at-home, first-from p g 0 (take page seps) k)

@@ -70,7 +70,9 @@ admitted-requires : tie.Need-admitted-requires Inv-loop μ-loop
 admitted-requires c κs =
     let s = c .before .before .before .before .before .before .before .before .before .before in
     let loop = c .before .before .before .loop in
-    (s .pre .0, (s .pre .1 .0, (s .pre .1 .1, item-at _ (s .args .t4 .numbers) _ _ (loop .i) (loop .inv .2 .numbered) (c .before .before .loop-test .taken) (c .before .before .before .before .homes-of .ensures))))
+    let homes = c .before .before .before .before .homes-of .ensures in
+    let home = item-at _ (s .args .t4 .numbers) _ _ (loop .i) (loop .inv .2 .numbered) (c .before .before .loop-test .taken) homes in
+    (s .pre .0, (s .pre .1 .0, (s .pre .1 .1, home)))
 
 returns-2 : tie.Need-returns-2 Inv-loop μ-loop
 unfolding soundIn
