@@ -1,8 +1,8 @@
 -- A page is sound exactly if each of its items is, after the one before.
-use mathlib.Core.Path.{_≡_, refl, _∙_}
+use mathlib.Core.Path.{_≡_, refl, sym, _∙_}
 use mathlib.Core.Bool.{Bool, true, false, not, cond, _&&_, true≢false, false≢true}
-use mathlib.Core.List.{List, [], _∷_, map-append}
-use Prim.Native.Nat.{ℕ, suc, _+_, _-_, _*_, _≤_, _<_}
+use mathlib.Core.List.{List, [], _∷_, map, map-append}
+use Prim.Native.Nat.{ℕ, zero, suc, _+_, _-_, _*_, _≤_, _<_}
 use native.Mathlib.Nat.{le-refl}
 use native.Mathlib.Numerals.{add-one}
 use native.Mathlib.Omega.{arith}
@@ -22,6 +22,17 @@ use Rattle.placement.specs.Rule.{Star, keep}
 use Rattle.placement.specs.File.{File, starsOf, starsAt, greatest, orderly, every, sound}
 use Rattle.placement.specs.Hash.{hashOf, soundAt, namedPage, homeIn, homesOf}
 use Rattle.placement.specs.Survey.{admits, soundIn, admitsItem, lastAfter}
+
+-- a function of all items at once, by one item
+map-at : (f : ℕ → ℕ) (l : List ℕ) (i : ℕ) → i < length l → getD (map f l) i 0 ≡ f (getD l i 0)
+map-at f [] i h = absurd (omega arith)
+map-at f (x ∷ l) zero h = refl
+map-at f (x ∷ l) (suc i) h = map-at f l i (omega arith)
+
+pub item-at : (f : ℕ → ℕ) (ns hs : List ℕ) (n i : ℕ) → n ≤ length ns → i < n → take n hs ≡ map f (take n ns) → getD hs i 0 ≡ f (getD ns i 0)
+item-at f ns hs n i h b e =
+    sym (getD-take n hs i 0 b)
+    ∙ rw e (map-at f (take n ns) i (omega (arith, length-take-le n ns h)) ∙ rw (getD-take n ns i 0 b))
 
 module _ (p : Parameters) (g : Growth) (seps : List ℕ) (page : ℕ) where
   -- one item, then the others

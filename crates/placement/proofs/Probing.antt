@@ -10,10 +10,10 @@ use native.Mathlib.Omega.{arith}
 use lib.Dec.{eqb, ltb}
 use lib.ListN.{length, getD, take, drop}
 use lib.Seq.{drop-cons, drop-length, take-length, length-take-le, getD-take}
-use borrow.Author.Tests.{ne-eqb, le-leb}
+use borrow.Author.Tests.{ne-eqb, le-leb, lt-ltb}
 use Rattle.hashing.specs.declared.Parameters.{Parameters}
 use Rattle.hashing.specs.declared.Growth.{Growth}
-use Rattle.hashing.specs.Generator.{multiplierOf, signature}
+use Rattle.hashing.specs.Generator.{multiplierOf, signature, topOf}
 use Rattle.hashing.specs.Home.{home}
 use Rattle.hashing.specs.Limits.{validParameters, validGrowth}
 use Rattle.hashing.proofs.Bounds.{limits}
@@ -22,6 +22,20 @@ use Rattle.placement.specs.Rule.{Hash, below, first}
 use Rattle.placement.specs.Hash.{hashOf, hashFrom, namedPage}
 use Rattle.placement.proofs.Separator.{Bounded}
 use Rattle.placement.proofs.Standing.{first-le, first-home, first-home-on, first-within, first-below, first-before}
+
+-- the first page is not above one that keeps the number, nor above the first of fewer pages
+first-stops : (H : Hash) (vs : List ℕ) (k p : ℕ) → p < length vs → below H p (getD vs p 0) k ≡ true → first H 0 vs k ≤ p
+first-stops H vs k p h b = go (decLt p (first H 0 vs k))
+  where
+    go : Dec (p < first H 0 vs k) → first H 0 vs k ≤ p
+    go (yes d) = absurd (true≢false (sym b ∙ (rw (zero-add p) at (first-before H 0 p vs k h (rw (zero-add p) d)))))
+    go (no d) = omega arith
+
+first-seen : (H : Hash) (vs : List ℕ) (k n p : ℕ) → n ≤ length vs → p < n → first H 0 (take n vs) k ≡ p → first H 0 vs k ≤ p
+first-seen H vs k n p h d e =
+    first-stops H vs k p (omega arith)
+    (rw (zero-add p, getD-take n vs p 0 d) at
+    (first-below H 0 p (take n vs) k (omega (arith, length-take-le n vs h)) (e ∙ sym (zero-add p))))
 
 -- No page below p is the first one.
 pub record Probed (H : Hash) (vs : List ℕ) (k p : ℕ) : Type 0 where
@@ -66,6 +80,19 @@ module _ (H : Hash) (vs : List ℕ) (k p : ℕ) where
               (first-below H 0 p (take (suc p) vs) k (omega (arith, length-take-le (suc p) vs h)) (e ∙ sym (zero-add p))))
               ∙ not-here)
 
+  -- .. and without p itself, if it keeps the number
+  pub first-before-kept : p < length vs → below H p (getD vs p 0) k ≡ true → eqb (first H 0 (take p vs) k) p ≡ eqb (first H 0 vs k) p
+  first-before-kept h b = go (decLt (first H 0 vs k) p) (decLt (first H 0 (take p vs) k) p)
+    where
+      go : Dec (first H 0 vs k < p) → Dec (first H 0 (take p vs) k < p) → eqb (first H 0 (take p vs) k) p ≡ eqb (first H 0 vs k) p
+      go (yes d) t = rw (first-within H 0 p vs k (rw (zero-add p) d))
+      go (no d) (yes t) = absurd (omega (arith, first-seen H vs k p (first H 0 (take p vs) k) (omega arith) t refl))
+      go (no d) (no t) =
+          let long = length-take-le p vs (omega arith) in
+          let all : first H 0 (take p vs) k ≡ p = omega (arith, first-le H 0 (take p vs) k, long) in
+          let here : first H 0 vs k ≡ p = omega (arith, first-stops H vs k p h b) in
+          rw (all, here)
+
 -- From home on, a page keeps those with a signature below its separator.
 pub below-from : (p : Parameters) (h k page v : ℕ) → h ≤ page → below (hashFrom p h) page v k ≡ ltb (signature (multiplierOf p) (p .bits) k (page - h + 1)) v
 unfolding below hashFrom
@@ -75,6 +102,14 @@ pub first-from : (p : Parameters) (g : Growth) (page : ℕ) (vs : List ℕ) (k :
 unfolding first below hashFrom hashOf
 first-from p g page [] k = refl
 first-from p g page (v ∷ vs) k = rw (first-from p g (suc page) vs k)
+
+-- no signature reaches the greatest separator
+below-top : (p : Parameters) (g : Growth) (k page v : ℕ) → validParameters p ≡ true → home (multiplierOf p) p g k ≤ page → topOf (p .bits) ≤ v
+    → below (hashOf p g) page v k ≡ true
+unfolding below hashOf
+below-top p g k page v ok h t =
+    let low = signature-below (multiplierOf p) (p .bits) k (page - home (multiplierOf p) p g k + 1) (limits p ok .bits-least) in
+    rw (le-leb (home (multiplierOf p) p g k) page h, lt-ltb (signature (multiplierOf p) (p .bits) k (page - home (multiplierOf p) p g k + 1)) v (omega (arith, low, t)))
 
 -- What a probe of a number from its home finds: of all pages the named one, of those up to a page whether that is named.
 module _ (p : Parameters) (g : Growth) (seps : List ℕ) (k h : ℕ) (at-home : h ≡ home (multiplierOf p) p g k) where
@@ -86,6 +121,13 @@ module _ (p : Parameters) (g : Growth) (seps : List ℕ) (k h : ℕ) (at-home : 
   unfolding namedPage
   named-here page i =
       rw (at-home, add-one page, first-from p g 0 (take (suc page) seps) k) (first-taken (hashOf p g) seps k page i)
+
+  pub named-before-top : validParameters p ≡ true → (page : ℕ) → page < length seps → h ≤ page → topOf (p .bits) ≤ getD seps page 0
+      → eqb (first (hashFrom p h) 0 (take page seps) k) page ≡ eqb (namedPage p g seps k) page
+  unfolding namedPage
+  named-before-top ok page i low t =
+      rw (at-home, first-from p g 0 (take page seps) k)
+      (first-before-kept (hashOf p g) seps k page i (below-top p g k page (getD seps page 0) ok (rw at-home at low) t))
 
   pub named-above : (page : ℕ) → page < length seps → page < h → eqb (namedPage p g seps k) page ≡ false
   unfolding namedPage hashOf

@@ -1,7 +1,7 @@
 -- The soundness of a page by its items, as it is tested: each item after the one before.
 use mathlib.Core.Path.{_≡_}
 use mathlib.Core.Bool.{Bool, true, cond, _&&_}
-use mathlib.Core.List.{List}
+use mathlib.Core.List.{List, map}
 use Prim.Native.Nat.{ℕ, _*_}
 use lib.Dec.{leb, ltb, eqb}
 use lib.ListN.{getD, take}
@@ -9,7 +9,8 @@ use lib.Seq.{paste}
 use Rattle.hashing.specs.declared.Parameters.{Parameters}
 use Rattle.hashing.specs.declared.Growth.{Growth}
 use Rattle.hashing.specs.declared.Geometry.{Geometry}
-use Rattle.hashing.specs.Generator.{topOf}
+use Rattle.hashing.specs.Generator.{multiplierOf, topOf}
+use Rattle.hashing.specs.Home.{home}
 use Rattle.pages.specs.declared.page.Page.{Page}
 use Rattle.pages.specs.Page.{part}
 use Rattle.pages.specs.Position.{validWord}
@@ -38,6 +39,10 @@ admitsItem p g seps page last n w =
 -- What the next number must exceed: after an empty place no number is taken.
 abbrev pub lastAfter : ℕ → ℕ
 lastAfter n = cond (eqb n 0) greatest n
+
+-- The homes of the numbers in a page's places, of empty ones too.
+abbrev pub Homes : Geometry → List ℕ → List ℕ → Type 0
+Homes g ns hs = take (g .parameters .places) hs ≡ map (home (multiplierOf (g .parameters)) (g .parameters) (g .growth)) (take (g .parameters .places) ns)
 
 -- What is told of an item.
 pub record Admitted (p : Parameters) (g : Growth) (seps : List ℕ) (page low n w : ℕ) (r : Item) : Type 0 where

@@ -6,14 +6,9 @@ ghost use lib.ListN.{length, take};
 ghost use Rattle.placement.specs.Rule.{first};
 ghost use Rattle.placement.specs.Hash.{hashFrom, namedPage, homeUnder};
 ghost use Rattle.placement.specs.Ready.{Signing, Homing};
+use crate::soundness::top_of;
 use hashing::Geometry;
 use hashing::Parameters;
-
-// A number's home, and whether the page asked about is the one that the separators name.
-pub struct Standing {
-    pub here: bool,
-    pub home: u32,
-}
 
 pub fn named_page(table: &[u32; 2049], geometry: Geometry, separators: &[u8], number: u32) -> usize
     requires { ⌜ Homing geometry (now table) ⌝ }
@@ -73,35 +68,28 @@ fn probe(
     page
 }
 
-// Probes no page above the one asked about.
+// Whether the page is the one that the separators name, by the number's home: no page above it is probed, and not the page itself
+// where every signature is below its separator.
 pub fn stands_on(
     table: &[u32; 2049],
     geometry: Geometry,
     separators: &[u8],
     number: u32,
+    home: usize,
     page: usize,
-) -> Standing
+) -> bool
     requires { ⌜ Homing geometry (now table) ⌝ }
     requires { ⌜ length (now separators) ≡ geometry .parameters .pages ⌝ }
     requires { ⌜ page < geometry .parameters .pages ⌝ }
-    ensures { λ r. ⌜ r .here ≡ eqb (namedPage (geometry .parameters) (geometry .growth) (now (separators .entry)) number) page ⌝ }
-    ensures { λ r. ⌜ r .home ≡ homeUnder geometry number ⌝ }
+    requires { ⌜ home ≡ homeUnder geometry number ⌝ }
+    ensures { λ r. ⌜ r ≡ eqb (namedPage (geometry .parameters) (geometry .growth) (now (separators .entry)) number) page ⌝ }
 {
-    let home = hashing::home(table, geometry, number);
-    let lowest = home as usize;
-    if page < lowest {
-        return Standing { here: false, home };
+    let parameters = geometry.parameters;
+    if page < home {
+        return false;
     }
-    let found = probe(
-        table,
-        geometry.parameters,
-        separators,
-        number,
-        lowest,
-        page + 1,
-    );
-    Standing {
-        here: found == page,
-        home,
+    if top_of(parameters) <= separators[page] {
+        return probe(table, parameters, separators, number, home, page) == page;
     }
+    probe(table, parameters, separators, number, home, page + 1) == page
 }

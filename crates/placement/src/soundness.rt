@@ -1,18 +1,19 @@
-// The soundness of a page. Each star's home is computed once, for the test, and kept.
+// The soundness of a page. Its stars' homes are computed once and at once, for the test, and kept.
 ghost use mathlib.Core.Path.{_≡_};
 ghost use mathlib.Core.Bool.{true, _&&_};
 ghost use Prim.Native.Nat.{_+_, _*_, _≤_, _<_};
 ghost use lib.Dec.{leb, ltb};
 ghost use lib.ListN.{length};
 ghost use lib.Seq.{paste};
-ghost use Rattle.hashing.specs.Generator.{topOf};
-ghost use Rattle.hashing.specs.Limits.{validParameters};
+ghost use Rattle.hashing.specs.Generator.{multiplierOf, topOf};
+ghost use Rattle.hashing.specs.Home.{home as Home·home};
+ghost use Rattle.hashing.specs.Limits.{validParameters, validGrowth};
 ghost use Rattle.pages.specs.Position.{validWord};
 ghost use Rattle.placement.specs.File.{greatest};
 ghost use Rattle.placement.specs.Hash.{soundAt};
 ghost use Rattle.placement.specs.Lent.{held, before};
 ghost use Rattle.placement.specs.Ready.{Homing, Ready};
-ghost use Rattle.placement.specs.Survey.{Admitted, Tested, surveyed};
+ghost use Rattle.placement.specs.Survey.{Homes, Admitted, Tested, surveyed};
 use crate::naming::stands_on;
 use hashing::Geometry;
 use hashing::Parameters;
@@ -54,6 +55,7 @@ pub fn page_sound(
             homes,
         };
     }
+    let found = homes_of(geometry, value);
     let mut last: u32 = 0;
     let mut i = 0;
     while i < places {
@@ -65,6 +67,7 @@ pub fn page_sound(
             last,
             value.numbers[i],
             value.words[i],
+            found[i],
         );
         if !item.sound {
             return Soundness {
@@ -77,6 +80,20 @@ pub fn page_sound(
         i += 1;
     }
     Soundness { sound: true, homes }
+}
+
+// The homes of the page's numbers.
+fn homes_of(geometry: Geometry, value: Page) -> [u16; 32]
+    requires { ⌜ validParameters (geometry .parameters) ≡ true ⌝ }
+    requires { ⌜ validGrowth (geometry .parameters) (geometry .growth) ≡ true ⌝ }
+    ensures { λ r. ⌜ Homes geometry (value .numbers) r ⌝ }
+{
+    let powers = homes::first_multipliers();
+    let numbers = value.numbers;
+    let places = geometry.parameters.places as usize;
+    let mut pages = [0u16; 32];
+    homes::of_page(&powers, geometry, &numbers, places, &mut pages);
+    pages
 }
 
 // 2^k − 1, the greatest separator.
@@ -95,10 +112,12 @@ fn admitted(
     last: u32,
     number: u32,
     word: u64,
+    home: u16,
 ) -> Item
     requires { ⌜ Homing geometry (now table) ⌝ }
     requires { ⌜ length (now separators) ≡ geometry .parameters .pages ⌝ }
     requires { ⌜ page < geometry .parameters .pages ⌝ }
+    requires { ⌜ home ≡ Home·home (multiplierOf (geometry .parameters)) (geometry .parameters) (geometry .growth) number ⌝ }
     ensures { λ r. ⌜ Admitted (geometry .parameters) (geometry .growth) (now (separators .entry)) page last number word r ⌝ }
 {
     if number == 0 {
@@ -115,10 +134,9 @@ fn admitted(
             last,
         };
     }
-    let standing = stands_on(table, geometry, separators, number, page);
     Item {
-        sound: standing.here,
-        home: standing.home,
+        sound: stands_on(table, geometry, separators, number, home as usize, page),
+        home: home as u32,
         last: number,
     }
 }

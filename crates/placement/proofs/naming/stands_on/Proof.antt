@@ -1,39 +1,62 @@
 -- `placement::naming::stands_on` meets its contract.
 -- Assumes nothing.
 use mathlib.Core.Path.{sym}
+use Prim.Native.Nat.{_≤_}
 use native.Mathlib.Omega.{arith}
 use borrow.Author.Needs.{needs}
 use Rattle.hashing.proofs.Bounds.{limits}
-use Rattle.placement.proofs.Probing.{named-here, named-above}
+use Rattle.placement.proofs.Probing.{named-here, named-before-top, named-above}
 use Rattle.placement.proofs.naming.stands_on.Statement.{statement}
 use Rattle.placement.proofs.naming.stands_on.Tie as tie
 
-home-requires : tie.Need-home-requires
-home-requires c κs = let ready = c .before .pre .0 in (ready .signing .table, (ready .signing .valid, ready .growth))
-
-cast-lowest : tie.Need-cast-lowest
-cast-lowest c = search needs
+pages-most : (c : tie.Start) → c .args .geometry .parameters .pages ≤ 1024
+pages-most c = limits (c .args .geometry .parameters) (c .pre .0 .signing .valid) .pages-most
 
 returns : tie.Need-returns
 returns c =
-    let home = c .before .home .ensures in
-    (sym (named-above _ _ _ _ _ home (c .before .before .before .args .page) (omega arith) (c .if1 .taken)), home)
+    let s = c .before .before .before in
+    sym (named-above _ _ _ _ _ (s .pre .1 .1 .1) (s .args .page) (omega arith) (c .if1 .taken))
+
+top-of-requires : tie.Need-top-of-requires
+top-of-requires c κs = search needs
+
+shared-slice-read-if2 : tie.Need-shared-slice-read-if2
+shared-slice-read-if2 c = search needs
+
+probe-requires : tie.Need-probe-requires
+probe-requires c κs =
+    let s = c .before .before .before .before .before .before in
+    (s .pre .0 .signing, (omega (arith, pages-most s), omega arith))
+
+returns-2 : tie.Need-returns-2
+returns-2 c =
+    let s = c .before .before .before .before .before .before .before in
+    rw (c .probe .ensures)
+    (named-before-top _ _ _ _ _ (s .pre .1 .1 .1) (s .pre .0 .signing .valid) (s .args .page) (omega arith) (omega arith)
+    (rw (c .before .before .before .top-of .ensures) at (c .before .if2 .taken)))
 
 add-probe : tie.Need-add-probe
 add-probe c = search needs
 
-probe-requires : tie.Need-probe-requires
-probe-requires c κs =
-    let s = c .before .before .before in
-    let l = limits (s .args .geometry .parameters) (s .pre .0 .signing .valid) in
-    (s .pre .0 .signing, (omega (arith, l .pages-most), omega arith))
+probe-requires-2 : tie.Need-probe-requires-2
+probe-requires-2 c κs =
+    let s = c .before .before .before .before .before .before in
+    (s .pre .0 .signing, (omega (arith, pages-most s), omega arith))
 
-returns-2 : tie.Need-returns-2
-returns-2 c =
-    let home = c .before .before .home .ensures in
-    let page = c .before .before .before .before .args .page in
-    (rw (c .probe .ensures) (named-here _ _ _ _ _ home page (omega arith)), home)
+returns-3 : tie.Need-returns-3
+returns-3 c =
+    let s = c .before .before .before .before .before .before .before in
+    rw (c .probe2 .ensures) (named-here _ _ _ _ _ (s .pre .1 .1 .1) (s .args .page) (omega arith))
 
 pub stands-on-spec : {M : Type 1} → statement M
 stands-on-spec =
-    tie.close (tie.spec home-requires cast-lowest returns add-probe probe-requires returns-2)
+    tie.close
+    (tie.spec
+    returns
+    top-of-requires
+    shared-slice-read-if2
+    probe-requires
+    returns-2
+    add-probe
+    probe-requires-2
+    returns-3)

@@ -36,8 +36,8 @@ returns-3 : tie.Need-returns-3
 returns-3 c =
     let star = c .before .before .before .if1 .left in
     record {
-      sound = c .stands-on .ensures .0 ∙ sym (passed-item _ _ _ _ _ _ _ star (passed _ _ (c .before .before .ordered .ensures) (c .before .if2 .left)));
-      home = λ e. c .stands-on .ensures .1 ∙ rw (ne-eqb _ _ star);
+      sound = c .stands-on .ensures ∙ sym (passed-item _ _ _ _ _ _ _ star (passed _ _ (c .before .before .ordered .ensures) (c .before .if2 .left)));
+      home = λ e. rw (ne-eqb _ _ star) (c .before .before .before .before .before .pre .1 .1 .1);
       last = λ e. rw (ne-eqb _ _ star);
     }
 

@@ -9,16 +9,16 @@ use borrow.Author.Tests.{not-false, lt-leb, le-leb}
 use lib.ListN.{length}
 use Rattle.hashing.proofs.Bounds.{limits, failed}
 use Rattle.placement.specs.Survey.{soundIn}
-use Rattle.placement.proofs.Items.{Surveyed, surveyed-none, surveyed-refused, surveyed-more, surveyed-all}
+use Rattle.placement.proofs.Items.{Surveyed, surveyed-none, surveyed-refused, surveyed-more, surveyed-all, item-at}
 use Rattle.placement.proofs.soundness.page_sound.Statement.{statement}
 use Rattle.placement.proofs.soundness.page_sound.Tie as tie
 
 abbrev Inv-loop : tie.InvT-loop
-Inv-loop table geometry separators page value places homes₀ last₀ i₀ homes last i =
+Inv-loop table geometry separators page value places homes₀ found last₀ i₀ homes last i =
     (i ≤ places) × (places ≤ 32) × Surveyed (geometry .parameters) (geometry .growth) separators page (value .numbers) (value .words) places i last homes
 
 abbrev μ-loop : tie.MeasureT-loop
-μ-loop table geometry separators page value places homes₀ last₀ i₀ homes last i = places - i
+μ-loop table geometry separators page value places homes₀ found last₀ i₀ homes last i = places - i
 
 cast-places : tie.Need-cast-places Inv-loop μ-loop
 cast-places c = search needs
@@ -37,9 +37,12 @@ returns c =
       homes = λ e. absurd (false≢true e);
     }
 
+homes-of-requires : tie.Need-homes-of-requires Inv-loop μ-loop
+homes-of-requires c κs = let ready = c .before .before .before .before .before .pre .0 in (ready .signing .valid, ready .growth)
+
 loop-holds : tie.Need-loop-holds Inv-loop μ-loop
 loop-holds c =
-    let s = c .before .before .before .before .before in
+    let s = c .before .before .before .before .before .before in
     let l = limits (s .args .geometry .parameters) (s .pre .0 .signing .valid) in
     let ns : length (s .args .t4 .numbers) ≡ 32 = search needs in
     let ws : length (s .args .t4 .words) ≡ 32 = search needs in
@@ -57,8 +60,19 @@ mul-admitted-2 c = search needs
 element-copy-out-admitted-2 : tie.Need-element-copy-out-admitted-2 Inv-loop μ-loop
 element-copy-out-admitted-2 c = search needs
 
+mul-admitted-3 : tie.Need-mul-admitted-3 Inv-loop μ-loop
+mul-admitted-3 c = search needs
+
+array-read-admitted : tie.Need-array-read-admitted Inv-loop μ-loop
+array-read-admitted c = search needs
+
 admitted-requires : tie.Need-admitted-requires Inv-loop μ-loop
-admitted-requires c κs = c .before .before .before .before .before .before .before .before .before .pre
+admitted-requires c κs =
+    let s = c .before .before .before .before .before .before .before .before .before .before in
+    let loop = c .before .before .before .loop in
+    let homes = c .before .before .before .before .homes-of .ensures in
+    let home = item-at _ (s .args .t4 .numbers) _ _ (loop .i) (loop .inv .2 .numbered) (c .before .before .loop-test .taken) homes in
+    (s .pre .0, (s .pre .1 .0, (s .pre .1 .1, home)))
 
 returns-2 : tie.Need-returns-2 Inv-loop μ-loop
 unfolding soundIn
@@ -93,10 +107,10 @@ returns-3 : tie.Need-returns-3 Inv-loop μ-loop
 unfolding soundIn
 returns-3 c =
     let done = c .before .loop .inv .2 in
-    let places = c .before .before .before .before .before .before .before .args .geometry .parameters .places in
+    let places = c .before .before .before .before .before .before .before .before .args .geometry .parameters .places in
     let e : c .before .loop .i ≡ places = omega arith in
     record {
-      sound = rw (le-leb _ _ (rw (c .before .before .before .before .top-of .ensures) at (c .before .before .if1 .left))) (sym (surveyed-all _ _ _ _ done e));
+      sound = rw (le-leb _ _ (rw (c .before .before .before .before .before .top-of .ensures) at (c .before .before .before .if1 .left))) (sym (surveyed-all _ _ _ _ done e));
       homes = λ t. rw e at (done .homed);
     }
 
@@ -110,11 +124,14 @@ page-sound-spec =
     top-of-requires
     shared-slice-read-if1
     returns
+    homes-of-requires
     loop-holds
     mul-admitted
     element-copy-out-admitted
     mul-admitted-2
     element-copy-out-admitted-2
+    mul-admitted-3
+    array-read-admitted
     admitted-requires
     returns-2
     mul-homes

@@ -1,0 +1,4 @@
+pub mod Numbers
+pub mod Lists
+pub mod Prepared
+pub mod Steps

@@ -1,0 +1,51 @@
+-- Eight numbers at once: a list by its places, and what becomes of each place.
+use mathlib.Core.Bool.{cond}
+use mathlib.Core.List.{List, [], _∷_, _++_}
+use mathlib.Core.Path.{_≡_}
+use Prim.Native.Nat.{ℕ, zero, suc, _+_, _*_, _/_, _%_, _<_}
+use lib.Dec.{leb, eqb}
+use lib.ListN.{getD}
+use Rattle.hashing.specs.declared.Parameters.{Parameters}
+use Rattle.hashing.specs.declared.Growth.{Growth}
+use Rattle.hashing.specs.Generator.{modulus}
+use Rattle.hashing.specs.Geometry.{sizeAt, countAt, rank}
+use Rattle.hashing.specs.Home.{afterSteps}
+use Rattle.homes.specs.declared.stages.Stage.{Stage}
+use Rattle.homes.specs.declared.stages.Sweep.{Sweep}
+
+-- the list of f at 0 to n − 1
+unfoldable pub lanes : ℕ → (ℕ → ℕ) → List ℕ
+lanes zero f = []
+lanes (suc n) f = lanes n f ++ (f n ∷ [])
+
+-- each of the eight places holds less than n
+abbrev pub Under : ℕ → List ℕ → Type 0
+Under n l = (i : ℕ) → i < 8 → getD l i 0 < n
+
+-- 1 where factor·K mod m is at most `most`
+unfoldable pub hitOf : ℕ → ℕ → ℕ → ℕ
+hitOf factor most k = cond (leb (factor * k % modulus) most) 1 0
+
+-- to first + order where hit, with an order below the limit
+unfoldable pub movedBy : ℕ → ℕ → ℕ → ℕ → ℕ → ℕ
+movedBy limit first hit order old = cond (eqb hit 0) old (cond (leb limit order) old (first + order))
+
+-- one step of eight numbers: of their groups with first 0, of their pages with first n·G
+unfoldable pub stepped : ℕ → Sweep → Stage → ℕ → ℕ → List ℕ → List ℕ → List ℕ → List ℕ
+stepped factor sweep stage limit first keys groups old =
+    lanes 8 (λ i. movedBy limit first
+    (hitOf factor (modulus / (stage .size + 1)) (getD keys i 0))
+    (rank (sweep .step) (stage .count) (getD groups i 0))
+    (getD old i 0))
+
+-- the pages of eight numbers after i steps
+unfoldable pub pagesAfter : ℕ → Parameters → Growth → List ℕ → ℕ → List ℕ
+pagesAfter a p g keys i = lanes 8 (λ j. afterSteps a p g (getD keys j 0) i)
+
+-- and their groups among count groups
+unfoldable pub groupsAfter : ℕ → Parameters → Growth → List ℕ → ℕ → ℕ → List ℕ
+groupsAfter a p g keys i count = lanes 8 (λ j. afterSteps a p g (getD keys j 0) i % count)
+
+-- the groups are known, except at the start and where they have just doubled
+abbrev pub Grouped : ℕ → Parameters → Growth → List ℕ → ℕ → List ℕ → Type 0
+Grouped a p g keys i groups = (sizeAt p i ≡ p .width → ⊥) → groups ≡ groupsAfter a p g keys i (countAt p i)

@@ -1,0 +1,11 @@
+// The homes of a page's numbers at once: eight numbers a block, every step over the whole block, in lanes of 16 bits.
+mod blocks;
+mod lanes;
+mod page;
+mod powers;
+mod scalars;
+mod stages;
+
+pub use blocks::of_block;
+pub use page::of_page;
+pub use powers::first_multipliers;
