@@ -1,8 +1,8 @@
 /* The look-up, the entry and the removal of a star file, for C and C++ programs.
  *
  * A star file maps star numbers to positions. The caller lends all of its memory and passes it, with the file's parameters and
- * growth state, to each call. Nothing is kept between calls. The functions may be called from several threads at once, on files
- * that share no buffer.
+ * growth state, to each call. Nothing is kept between calls. Calls may run at once in several threads on files that share no buffer;
+ * look-ups on one file may too, as they only read, while nothing else writes it.
  *
  * A file of M pages with b places each has three buffers, and entry and removal need a pool besides:
  *
@@ -15,10 +15,14 @@
  * Place i of page p is item p * b + i. An empty file has every separator 2^bits - 1, all numbers and words 0 and the growth
  * state (0, 0).
  *
+ * Buffers, parameters and growth state belong together: keep them together between runs. Others that are valid by themselves, but
+ * not this file's own, are accepted, and then a star that is held may be answered as not found (docs/DAMAGE.md). A checksum of your
+ * own over all of them finds that; no call here can.
+ *
  * Each buffer is passed as a pointer to its first item and its length in items. The pointer is aligned for its type, that many
  * items can be read there and, where it is no pointer to const, written. No two buffers of a call overlap. With length 0 the
- * pointer may be null. All else that a caller can get wrong is refused: no contents, length or value leads to undefined behaviour,
- * and every call returns. */
+ * pointer may be null. Within that, no contents, length or value leads to undefined behaviour, and every call returns. What is
+ * refused is listed at each call. */
 #ifndef HEATHERPLANE_STARFILE_H
 #define HEATHERPLANE_STARFILE_H
 
@@ -63,18 +67,37 @@ struct heatherplane_reply {
     bool found;
 };
 
+/* The refusal's name, for messages. */
+static inline const char *heatherplane_refusal_name(uint32_t refusal)
+{
+    switch (refusal) {
+    case HEATHERPLANE_ACCEPTED: return "accepted";
+    case HEATHERPLANE_BAD_PARAMETERS: return "bad parameters";
+    case HEATHERPLANE_BAD_LENGTH: return "bad length";
+    case HEATHERPLANE_BAD_NUMBER: return "bad number";
+    case HEATHERPLANE_BAD_POSITION: return "bad position";
+    case HEATHERPLANE_DAMAGED: return "damaged";
+    case HEATHERPLANE_HELD: return "held";
+    case HEATHERPLANE_NOT_HELD: return "not held";
+    case HEATHERPLANE_FULL: return "full";
+    default: return "unknown";
+    }
+}
+
 struct heatherplane_parameters {
     uint32_t places; /* b, places of a page: 1 to 32 */
     uint32_t groups; /* N, first groups: 1 to 256 */
     uint32_t width;  /* n0, first pages of a group: 1 to 4 */
     uint32_t step;   /* s, step of a sweep: 1 to groups */
     uint32_t bits;   /* k, bits of a separator: 1 to 8 */
-    uint32_t load;   /* A, load in per cent: 1 to 99 */
+    uint32_t load;   /* A, load in per cent: 1 to 99; tested, though the three calls below do not use it */
     uint32_t pages;  /* M: width * groups to 1024 */
 };
 
-/* With n = width + expansions % width and G = groups * 2^(expansions / width): expanded is below G, and n * G + expanded is at
- * most pages. The calls below read this state and leave it as it is. */
+/* How many pages are addressed: with n = width + expansions % width and G = groups * 2^(expansions / width), n * G + expanded of
+ * them, at most pages; expanded is below G. Pages above hold overflow only. The calls below read this state and leave it as it is:
+ * a host that never grows its file chooses width * groups near pages, so that (0, 0) addresses nearly all of it. With FULL, look at
+ * the load: far from full, too few pages are addressed. */
 struct heatherplane_growth {
     uint32_t expansions; /* e, partial expansions finished */
     uint32_t expanded;   /* x, groups expanded in the present one */
@@ -148,6 +171,29 @@ struct heatherplane_file {
     uint64_t *pool_words;
     size_t pool_words_length;
 };
+
+/* Such a value, with the lengths that the parameters ask for. */
+static inline struct heatherplane_file heatherplane_file_of(
+    struct heatherplane_parameters parameters, struct heatherplane_growth growth,
+    uint8_t *separators, uint32_t *numbers, uint64_t *words, uint32_t *pool_numbers, uint64_t *pool_words)
+{
+    const size_t pages = parameters.pages;
+    const size_t items = pages * parameters.places;
+    struct heatherplane_file file;
+    file.parameters = parameters;
+    file.growth = growth;
+    file.separators = separators;
+    file.separators_length = pages;
+    file.numbers = numbers;
+    file.numbers_length = items;
+    file.words = words;
+    file.words_length = items;
+    file.pool_numbers = pool_numbers;
+    file.pool_numbers_length = items;
+    file.pool_words = pool_words;
+    file.pool_words_length = items;
+    return file;
+}
 
 /* The three calls on such a value. */
 

@@ -22,27 +22,23 @@ static struct heatherplane_file empty_file(void)
         numbers[item] = 0;
         words[item] = 0;
     }
-    return (struct heatherplane_file){
-        .parameters = {.places = PLACES, .groups = 2, .width = 2, .step = 1, .bits = BITS, .load = 80, .pages = PAGES},
-        .growth = {.expansions = 0, .expanded = 0},
-        .separators = separators,
-        .separators_length = PAGES,
-        .numbers = numbers,
-        .numbers_length = PAGES * PLACES,
-        .words = words,
-        .words_length = PAGES * PLACES,
-        .pool_numbers = pool_numbers,
-        .pool_numbers_length = PAGES * PLACES,
-        .pool_words = pool_words,
-        .pool_words_length = PAGES * PLACES,
-    };
+    const struct heatherplane_parameters parameters = {
+        .places = PLACES, .groups = 2, .width = 2, .step = 1, .bits = BITS, .load = 80, .pages = PAGES};
+    const struct heatherplane_growth growth = {.expansions = 0, .expanded = 0};
+    return heatherplane_file_of(parameters, growth, separators, numbers, words, pool_numbers, pool_words);
+}
+
+static void tell_refusal(const char *call, uint32_t number, struct heatherplane_reply reply)
+{
+    printf("%s %" PRIu32 ": refused with %" PRIu32 " (%s), page %" PRIu32 "\n",
+           call, number, reply.refusal, heatherplane_refusal_name(reply.refusal), reply.page);
 }
 
 static void enter(const struct heatherplane_file *file, uint32_t number, uint32_t ra, int32_t dec)
 {
     struct heatherplane_reply reply = heatherplane_enter_in(file, number, ra, dec);
     if (reply.refusal)
-        printf("enter %" PRIu32 ": refused with %" PRIu32 ", page %" PRIu32 "\n", number, reply.refusal, reply.page);
+        tell_refusal("enter", number, reply);
     else
         printf("enter %" PRIu32 ": on page %" PRIu32 "\n", number, reply.page);
 }
@@ -51,7 +47,7 @@ static void look_up(const struct heatherplane_file *file, uint32_t number)
 {
     struct heatherplane_reply reply = heatherplane_look_up_in(file, number);
     if (reply.refusal)
-        printf("look up %" PRIu32 ": refused with %" PRIu32 ", page %" PRIu32 "\n", number, reply.refusal, reply.page);
+        tell_refusal("look up", number, reply);
     else if (reply.found)
         printf("look up %" PRIu32 ": on page %" PRIu32 " at %" PRIu32 " %" PRId32 "\n", number, reply.page, reply.ra, reply.dec);
     else
@@ -63,7 +59,7 @@ static void neighbours(const struct heatherplane_file *file, uint32_t number)
 {
     struct heatherplane_reply reply = heatherplane_look_up_in(file, number);
     if (reply.refusal) {
-        printf("neighbours of %" PRIu32 ": refused with %" PRIu32 ", page %" PRIu32 "\n", number, reply.refusal, reply.page);
+        tell_refusal("neighbours of", number, reply);
         return;
     }
     const uint32_t places = file->parameters.places;
@@ -80,7 +76,7 @@ static void remove_star(const struct heatherplane_file *file, uint32_t number)
 {
     struct heatherplane_reply reply = heatherplane_remove_in(file, number);
     if (reply.refusal)
-        printf("remove %" PRIu32 ": refused with %" PRIu32 ", page %" PRIu32 "\n", number, reply.refusal, reply.page);
+        tell_refusal("remove", number, reply);
     else
         printf("remove %" PRIu32 ": from page %" PRIu32 "\n", number, reply.page);
 }
