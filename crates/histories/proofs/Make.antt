@@ -72,7 +72,7 @@ make-accepts p f pool e = go (validParameters p) (fileFits p f) refl refl e
     go false true v l e = absurd (omega arith)
     go false false v l e = absurd (omega arith)
 
-pub initial-agrees : (p : Parameters) (f : File) (pool : Pool) → makeOf p f pool .answer .refusal ≡ 0 → Agrees p (initial p f pool)
+pub initial-agrees : (p : Parameters) (f : File) (pool : Pool) → makeOf p f pool .answer .refusal ≡ 0 → Agrees (initial p f pool)
 unfolding initial makeOf emptyModel starsOf
 initial-agrees p f pool e =
     let a = make-accepts p f pool e in

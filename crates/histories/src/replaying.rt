@@ -2,7 +2,7 @@
 ghost use mathlib.Core.Path.{_≡_};
 ghost use mathlib.Core.List.{[]};
 ghost use Rattle.starfile.specs.Answers.{lent, pooled};
-ghost use Rattle.histories.specs.Model.{emptyModel};
+ghost use Rattle.histories.specs.Run.{fresh};
 ghost use Rattle.histories.specs.Replay.{lentHistory, allKinds, evenLengths, evenPool, requestsOf, replayOf, Replays};
 ghost use Rattle.histories.specs.Steps.{Even, Runs};
 use crate::calling::replay_step;
@@ -140,7 +140,7 @@ fn run(
     answers: &mut [u32],
 ) -> Growth
     requires { ⌜ Even (lentHistory (now kinds) (now stars) (now ras) (now decs)) (now answers) ⌝ }
-    ensures { λ r. ⌜ Runs parameters (record { growth = growth; file = lent (now (separators .entry)) (now (numbers .entry)) (now (words .entry)); model = emptyModel }) (pooled (now (poolnumbers .entry)) (now (poolwords .entry))) (requestsOf (lentHistory (now (kinds .entry)) (now (stars .entry)) (now (ras .entry)) (now (decs .entry)))) [] r (now (answers .exit)) (lent (now (separators .exit)) (now (numbers .exit)) (now (words .exit))) (pooled (now (poolnumbers .exit)) (now (poolwords .exit))) ⌝ }
+    ensures { λ r. ⌜ Runs (fresh parameters growth (lent (now (separators .entry)) (now (numbers .entry)) (now (words .entry)))) (pooled (now (poolnumbers .entry)) (now (poolwords .entry))) (requestsOf (lentHistory (now (kinds .entry)) (now (stars .entry)) (now (ras .entry)) (now (decs .entry)))) [] r (now (answers .exit)) (lent (now (separators .exit)) (now (numbers .exit)) (now (words .exit))) (pooled (now (poolnumbers .exit)) (now (poolwords .exit))) ⌝ }
 {
     let mut state = growth;
     let mut i = 0;
