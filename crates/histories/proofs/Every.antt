@@ -13,7 +13,7 @@ use Rattle.starfile.specs.declared.answers.Answer.{Answer}
 use Rattle.starfile.specs.Answers.{Pool, After, spotted, acceptedAt, refusedAt, cleared}
 use Rattle.starfile.specs.Calls.{poolFits, unchanged, lookUpOf, enterOf, checkOf}
 use Rattle.histories.specs.Model.{Model, lookUp, enter, change, remove, grow, due, check, fed, positionOf, fileOf, pageFor, placeOn, answered}
-use Rattle.histories.specs.Call.{Call, step, isAccepted}
+use Rattle.histories.specs.Call.{Call, callOf, step, isAccepted}
 use Rattle.histories.specs.Run.{State, Event, initial, outcome, next, end}
 use Rattle.histories.specs.Theorem.{EveryHistory}
 use Rattle.histories.specs.Corollaries.{InHistory, EachState, SameContents, SameState, HistoryIndependence}
@@ -74,10 +74,10 @@ module _ (s : State) (agrees : Agrees s) (pool : Pool) (fit : poolFits (s .param
         rw (agrees .growth, agrees .file)
         (resent (s .parameters) (s .model) (agrees .fitting) k q pool fit q e (position-valid 1 k q (s .model .entries) (agrees .fitting .ordered) e .position) refl)
 
-    stays : next s (record { request = enter k q; pool = pool }) ≡ s
+    stays : next s (callOf pool (enter k q)) ≡ s
     unfolding outcome step fed isAccepted spotted
     stays =
-        no-step s (record { request = enter k q; pool = pool }) (cleared pool) (acceptedAt (pageFor (s .parameters) (s .model) k) (placeOn (s .parameters) (s .model) k)) leaves
+        no-step s (callOf pool (enter k q)) (cleared pool) (acceptedAt (pageFor (s .parameters) (s .model) k) (placeOn (s .parameters) (s .model) k)) leaves
         (fed-own (s .parameters) (s .model) (agrees .fitting) k q e)
 
   refuses : (q r : Position) → validPosition q ≡ true → positionOf k (s .model .entries) ≡ some r → (r ≡ q → ⊥)
@@ -85,6 +85,7 @@ module _ (s : State) (agrees : Agrees s) (pool : Pool) (fit : poolFits (s .param
   refuses q r v e d = rw (agrees .growth, agrees .file, other (s .parameters) (s .model) (agrees .fitting) k q pool fit r e v d)
 
 in-history : (s : State) → Agrees s → InHistory s
+unfolding outcome step
 in-history s agrees =
     record {
       clean = rw (agrees .growth, agrees .file) (clean-file (s .parameters) (s .model) (agrees .fitting));

@@ -13,9 +13,9 @@ use Rattle.placement.specs.File.{File}
 use Rattle.starfile.specs.declared.answers.Answer.{Answer}
 use Rattle.starfile.specs.Answers.{Pool, After}
 use Rattle.histories.specs.Model.{Request}
-use Rattle.histories.specs.Call.{step}
+use Rattle.histories.specs.Call.{callOf, step}
 use Rattle.histories.specs.Run.{State, fresh, outcome, next, events, end}
-use Rattle.histories.specs.Replay.{LentHistory, requestAt, requestsTo, requestsOf, callOf, historyFrom, poolAfter, encoded, answersOf}
+use Rattle.histories.specs.Replay.{LentHistory, requestAt, requestsTo, requestsOf, historyFrom, poolAfter, encoded, answersOf}
 use Rattle.histories.specs.Steps.{Written, Even, Runs}
 use Rattle.histories.proofs.Histories.{end-keeps}
 

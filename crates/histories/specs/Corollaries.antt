@@ -11,36 +11,36 @@ use Rattle.pages.specs.Position.{validNumber, validPosition, validWord}
 use Rattle.placement.specs.Rule.{left}
 use Rattle.placement.specs.File.{File, Clean}
 use Rattle.starfile.specs.Answers.{Pool, acceptedAt, refusedAt}
-use Rattle.starfile.specs.Calls.{hash, poolFits, makeOf, lookUpOf, enterOf, checkOf}
-use Rattle.histories.specs.Model.{enter, setPosition, positionOf, starsOf, pageFor, placeOn, answered}
-use Rattle.histories.specs.Call.{Call}
-use Rattle.histories.specs.Run.{State, Event, initial, next, events, end}
+use Rattle.starfile.specs.Calls.{hash, poolFits, makeOf}
+use Rattle.histories.specs.Model.{lookUp, enter, check, setPosition, positionOf, starsOf, pageFor, placeOn, answered}
+use Rattle.histories.specs.Call.{Call, callOf}
+use Rattle.histories.specs.Run.{State, Event, initial, outcome, next, events, end}
 
 -- what holds of a state of a history
 pub record InHistory (now : State) : Type 0 where
   -- the file is clean: all pages are sound, and it is what the rule gives its stars
   pub clean : Clean validWord (hash (now .parameters) (now .growth)) (now .parameters .pages) (now .file)
   -- so a check accepts it
-  pub checked : (pool : Pool) → poolFits (now .parameters) pool ≡ true → checkOf (now .parameters) (now .growth) (now .file) pool .answer .refusal ≡ 0
+  pub checked : (pool : Pool) → poolFits (now .parameters) pool ≡ true → outcome now (callOf pool check) .answer .refusal ≡ 0
   -- a look-up of a valid number is accepted, and answers as the model
   pub sought :
-      (pool : Pool) (k : ℕ) → validNumber k ≡ true → lookUpOf (now .parameters) (now .growth) (now .file) pool k .answer ≡ answered (now .parameters) (now .model) k
+      (pool : Pool) (k : ℕ) → validNumber k ≡ true → outcome now (callOf pool (lookUp k)) .answer ≡ answered (now .parameters) (now .model) k
   -- the entry of a star not held is refused with 8 exactly if the model's stars with it do not fit
   pub full :
       (pool : Pool) (k : ℕ) (q : Position) → poolFits (now .parameters) pool ≡ true → validNumber k ≡ true → validPosition q ≡ true
       → positionOf k (now .model .entries) ≡ none
-      → (enterOf (now .parameters) (now .growth) (now .file) pool k q .answer .refusal ≡ 8)
+      → (outcome now (callOf pool (enter k q)) .answer .refusal ≡ 8)
       ↔ (left (hash (now .parameters) (now .model .growth)) 0 (now .parameters .pages) (starsOf (setPosition k q (now .model .entries))) ≡ [] → ⊥)
   -- an entry of a held star with its own position answers its page and place and is no step: file, growth state and model stay
   pub resent :
       (pool : Pool) (k : ℕ) (q : Position) → poolFits (now .parameters) pool ≡ true → positionOf k (now .model .entries) ≡ some q
-      → (enterOf (now .parameters) (now .growth) (now .file) pool k q .answer ≡ acceptedAt (pageFor (now .parameters) (now .model) k) (placeOn (now .parameters) (now .model) k))
-      × (next now (record { request = enter k q; pool = pool }) ≡ now)
+      → (outcome now (callOf pool (enter k q)) .answer ≡ acceptedAt (pageFor (now .parameters) (now .model) k) (placeOn (now .parameters) (now .model) k))
+      × (next now (callOf pool (enter k q)) ≡ now)
   -- with any other position it is refused with 6
   pub held :
       (pool : Pool) (k : ℕ) (q r : Position) → poolFits (now .parameters) pool ≡ true → validPosition q ≡ true
       → positionOf k (now .model .entries) ≡ some r → (r ≡ q → ⊥)
-      → enterOf (now .parameters) (now .growth) (now .file) pool k q .answer ≡ refusedAt 6 0 (placeOn (now .parameters) (now .model) k)
+      → outcome now (callOf pool (enter k q)) .answer ≡ refusedAt 6 0 (placeOn (now .parameters) (now .model) k)
 
 -- so it is before each call of a history, and at its end
 pub record Throughout (start : State) (history : List Call) : Type 0 where

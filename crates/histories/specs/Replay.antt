@@ -17,7 +17,7 @@ use Rattle.starfile.specs.Calls.{unless, orElse, makeOf}
 use Rattle.histories.specs.declared.replaying.Replayed.{Replayed}
 use Rattle.histories.specs.declared.replaying.Replayed.the-variants.{Done, BadKind, Refused}
 use Rattle.histories.specs.Model.{fileOf, Request, lookUp, enter, change, remove, grow, due, check}
-use Rattle.histories.specs.Call.{Call}
+use Rattle.histories.specs.Call.{Call, callOf}
 use Rattle.histories.specs.Run.{State, Event, initial, outcome, next, events, end}
 use Rattle.histories.specs.Theorem.{AsModel}
 
@@ -61,9 +61,6 @@ abbrev pub requestsOf : LentHistory → List Request
 requestsOf h = requestsTo h (length (h .kinds))
 
 -- The calls: each has the pool as the call before left it.
-
-abbrev pub callOf : Pool → Request → Call
-callOf pool r = record { request = r; pool = pool }
 
 unfoldable pub historyFrom : State → Pool → List Request → List Call
 historyFrom s pool [] = []
