@@ -15,7 +15,7 @@ use Rattle.starfile.specs.Answers.{Pool, After}
 use Rattle.histories.specs.Model.{Request}
 use Rattle.histories.specs.Call.{callOf, step}
 use Rattle.histories.specs.Run.{State, fresh, outcome, next, events, end}
-use Rattle.histories.specs.Replay.{LentHistory, requestAt, requestsTo, requestsOf, historyFrom, poolAfter, encoded, answersOf}
+use Rattle.histories.specs.Replay.{LentHistory, requestAt, requestsTo, requestsOf, historyFrom, lastPool, encoded, answersOf}
 use Rattle.histories.specs.Steps.{Written, Even, Runs}
 use Rattle.histories.proofs.Histories.{end-keeps}
 
@@ -24,23 +24,23 @@ abbrev after : State → Pool → List Request → State
 after s pool rs = end s (historyFrom s pool rs)
 
 abbrev more : State → Pool → List Request → Request → State
-more s pool rs r = next (after s pool rs) (callOf (poolAfter s pool rs) r)
+more s pool rs r = next (after s pool rs) (callOf (lastPool s pool rs) r)
 
 end-snoc : (s : State) (pool : Pool) (rs : List Request) (r : Request) → after s pool (rs ++ r ∷ []) ≡ more s pool rs r
-unfolding historyFrom end poolAfter
+unfolding historyFrom end lastPool
 end-snoc s pool [] r = refl
 end-snoc s pool (x ∷ rs) r = end-snoc (next s (callOf pool x)) (outcome s (callOf pool x) .pool) rs r
 
 pool-snoc : (s : State) (pool : Pool) (rs : List Request) (r : Request)
-    → poolAfter s pool (rs ++ r ∷ []) ≡ outcome (after s pool rs) (callOf (poolAfter s pool rs) r) .pool
-unfolding historyFrom end poolAfter
+    → lastPool s pool (rs ++ r ∷ []) ≡ outcome (after s pool rs) (callOf (lastPool s pool rs) r) .pool
+unfolding historyFrom end lastPool
 pool-snoc s pool [] r = refl
 pool-snoc s pool (x ∷ rs) r = pool-snoc (next s (callOf pool x)) (outcome s (callOf pool x) .pool) rs r
 
 answers-snoc : (s : State) (pool : Pool) (rs : List Request) (r : Request)
     → answersOf (events s (historyFrom s pool (rs ++ r ∷ [])))
-    ≡ answersOf (events s (historyFrom s pool rs)) ++ encoded (outcome (after s pool rs) (callOf (poolAfter s pool rs) r) .answer)
-unfolding historyFrom end poolAfter events answersOf
+    ≡ answersOf (events s (historyFrom s pool rs)) ++ encoded (outcome (after s pool rs) (callOf (lastPool s pool rs) r) .answer)
+unfolding historyFrom end lastPool events answersOf
 answers-snoc s pool [] r = append-nil (encoded (outcome s (callOf pool r) .answer))
 answers-snoc s pool (x ∷ rs) r =
     rw (answers-snoc (next s (callOf pool x)) (outcome s (callOf pool x) .pool) rs r)
@@ -92,7 +92,7 @@ module _ (p : Parameters) (h : LentHistory) (growth₀ : Growth) (file₀ : File
   so-far i = answersOf (events (fresh p growth₀ file₀) (historyFrom (fresh p growth₀ file₀) pool₀ (requestsTo h i)))
 
   pub ongoing-none : Ongoing p h growth₀ file₀ pool₀ answers₀ 0 growth₀ answers₀ file₀ pool₀
-  unfolding requestsTo historyFrom events end poolAfter answersOf
+  unfolding requestsTo historyFrom events end lastPool answersOf
   ongoing-none =
       rw (zero-mul 8)
       (record {
@@ -107,7 +107,7 @@ module _ (p : Parameters) (h : LentHistory) (growth₀ : Growth) (file₀ : File
     abbrev this : After
     this =
         outcome (after (fresh p growth₀ file₀) pool₀ (requestsTo h i))
-        (callOf (poolAfter (fresh p growth₀ file₀) pool₀ (requestsTo h i)) (requestAt h i))
+        (callOf (lastPool (fresh p growth₀ file₀) pool₀ (requestsTo h i)) (requestAt h i))
 
     same-step : step p growth file pool (requestAt h i) ≡ this
     unfolding outcome

@@ -6,4 +6,5 @@ pub mod Corollaries
 pub mod Alike
 pub mod Demand3
 pub mod Replay
+pub mod Lent
 pub mod Steps

@@ -67,9 +67,9 @@ historyFrom s pool [] = []
 historyFrom s pool (r ∷ rs) = callOf pool r ∷ historyFrom (next s (callOf pool r)) (outcome s (callOf pool r) .pool) rs
 
 -- the pool after the last call
-unfoldable pub poolAfter : State → Pool → List Request → Pool
-poolAfter s pool [] = pool
-poolAfter s pool (r ∷ rs) = poolAfter (next s (callOf pool r)) (outcome s (callOf pool r) .pool) rs
+unfoldable pub lastPool : State → Pool → List Request → Pool
+lastPool s pool [] = pool
+lastPool s pool (r ∷ rs) = lastPool (next s (callOf pool r)) (outcome s (callOf pool r) .pool) rs
 
 -- Eight numbers for each answer.
 
@@ -145,7 +145,7 @@ replayedWith zero p f pool h answers =
       growth = end (initial p f unpooled) (historyOf p f pool h) .growth;
       answers = answersOf (events (initial p f unpooled) (historyOf p f pool h));
       file = end (initial p f unpooled) (historyOf p f pool h) .file;
-      pool = poolAfter (initial p f unpooled) pool (requestsOf h);
+      pool = lastPool (initial p f unpooled) pool (requestsOf h);
     }
 
 unfoldable pub replayOf : Parameters → File → Pool → LentHistory → List ℕ → Replay

@@ -10,7 +10,7 @@ use Rattle.starfile.specs.Answers.{Pool, After}
 use Rattle.histories.specs.declared.calling.Stepped.{Stepped}
 use Rattle.histories.specs.Model.{Request}
 use Rattle.histories.specs.Run.{State, events, end}
-use Rattle.histories.specs.Replay.{LentHistory, historyFrom, poolAfter, encoded, answersOf}
+use Rattle.histories.specs.Replay.{LentHistory, historyFrom, lastPool, encoded, answersOf}
 
 pub record Steps (after : After) (r : Stepped) (file : File) (pool : Pool) : Type 0 where
   pub answers : r .answer ≡ after .answer
@@ -37,4 +37,4 @@ pub record Runs (s : State) (before : Pool) (rs : List Request) (later : List �
   pub answersAre : answers ≡ answersOf (events s (historyFrom s before rs)) ++ later
   pub growths : growth ≡ end s (historyFrom s before rs) .growth
   pub files : file ≡ end s (historyFrom s before rs) .file
-  pub pools : pool ≡ poolAfter s before rs
+  pub pools : pool ≡ lastPool s before rs
