@@ -12,9 +12,9 @@ use Rattle.placement.proofs.Sound.{clean-laid}
 use Rattle.starfile.specs.declared.answers.Answer.{Answer}
 use Rattle.starfile.specs.Answers.{Pool, After, spotted, acceptedAt, refusedAt, cleared}
 use Rattle.starfile.specs.Calls.{poolFits, unchanged, lookUpOf, enterOf, checkOf}
-use Rattle.histories.specs.Model.{Model, lookUp, enter, change, remove, grow, due, check, fed, positionOf, fileOf, pageFor, placeOn, answered}
+use Rattle.histories.specs.Model.{Model, lookUp, enter, change, remove, grow, due, check, fed, heldPosition, modelFile, pageFor, placeOn, answered}
 use Rattle.histories.specs.Call.{Call, callOf, step, isAccepted}
-use Rattle.histories.specs.Run.{State, Event, initial, outcome, next, end}
+use Rattle.histories.specs.Run.{HistoryState, Event, initial, outcome, next, end}
 use Rattle.histories.specs.Theorem.{EveryHistory}
 use Rattle.histories.specs.Corollaries.{InHistory, EachState, SameContents, SameState, HistoryIndependence}
 use Rattle.histories.proofs.Entries.{determined, position-valid}
@@ -46,29 +46,29 @@ pub every-history : EveryHistory
 every-history p f pool accepted history = as-model conforming (initial p f pool) (initial-agrees p f pool accepted) history
 
 -- The corollaries.
-clean-file : (p : Parameters) (m : Model) → Fitting p m → Clean validWord (hashFor p m) (p .pages) (fileOf p m)
-unfolding fileOf hashOf
+clean-file : (p : Parameters) (m : Model) → Fitting p m → Clean validWord (hashFor p m) (p .pages) (modelFile p m)
+unfolding modelFile hashOf
 clean-file p m t =
     clean-laid validWord (hashFor p m) (p .pages) (starsFor m) (rising-from p m t) (proper p m t) (t .fits)
 
-check-accepts : (p : Parameters) (m : Model) → Fitting p m → (pool : Pool) → poolFits p pool ≡ true → checkOf p (m .growth) (fileOf p m) pool .answer .refusal ≡ 0
+check-accepts : (p : Parameters) (m : Model) → Fitting p m → (pool : Pool) → poolFits p pool ≡ true → checkOf p (m .growth) (modelFile p m) pool .answer .refusal ≡ 0
 unfolding checkOf spotted
 check-accepts p m t pool e = rw (lent-pool p m t (poolFits p pool), e, finds-nothing p m t)
 
-look-up-accepts : (p : Parameters) (m : Model) → Fitting p m → (pool : Pool) (k : ℕ) → validNumber k ≡ true → lookUpOf p (m .growth) (fileOf p m) pool k .answer ≡ answered p m k
+look-up-accepts : (p : Parameters) (m : Model) → Fitting p m → (pool : Pool) (k : ℕ) → validNumber k ≡ true → lookUpOf p (m .growth) (modelFile p m) pool k .answer ≡ answered p m k
 unfolding lookUpOf pageFor namedPage
 look-up-accepts p m t pool k e = rw (lent p m t, e) (looks-up p m t k (in-range k e .0))
 
 -- A call that is answered so and leaves the file, and leaves the model when fed, is no step.
-no-step : (s : State) (c : Call) (pool : Pool) (a : Answer) → outcome s c ≡ unchanged (s .growth) (s .file) pool a
+no-step : (s : HistoryState) (c : Call) (pool : Pool) (a : Answer) → outcome s c ≡ unchanged (s .growth) (s .file) pool a
     → fedWith (s .parameters) (c .request) a (s .model) ≡ s .model → next s c ≡ s
 unfolding next
 no-step s c pool a e d =
     let m = ap (λ (x : After). fedWith (s .parameters) (c .request) (x .answer) (s .model)) e ∙ d in
     λ i. record { parameters = s .parameters; growth = e i .growth; file = e i .file; model = m i }
 
-module _ (s : State) (agrees : Agrees s) (pool : Pool) (fit : poolFits (s .parameters) pool ≡ true) (k : ℕ) where
-  module _ (q : Position) (e : positionOf k (s .model .entries) ≡ some q) where
+module _ (s : HistoryState) (agrees : Agrees s) (pool : Pool) (fit : poolFits (s .parameters) pool ≡ true) (k : ℕ) where
+  module _ (q : Position) (e : heldPosition k (s .model .entries) ≡ some q) where
     leaves : enterOf (s .parameters) (s .growth) (s .file) pool k q ≡ unchanged (s .growth) (s .file) (cleared pool) (acceptedAt (pageFor (s .parameters) (s .model) k) (placeOn (s .parameters) (s .model) k))
     leaves =
         rw (agrees .growth, agrees .file)
@@ -80,11 +80,11 @@ module _ (s : State) (agrees : Agrees s) (pool : Pool) (fit : poolFits (s .param
         no-step s (callOf pool (enter k q)) (cleared pool) (acceptedAt (pageFor (s .parameters) (s .model) k) (placeOn (s .parameters) (s .model) k)) leaves
         (fed-own (s .parameters) (s .model) (agrees .fitting) k q e)
 
-  refuses : (q r : Position) → validPosition q ≡ true → positionOf k (s .model .entries) ≡ some r → (r ≡ q → ⊥)
+  refuses : (q r : Position) → validPosition q ≡ true → heldPosition k (s .model .entries) ≡ some r → (r ≡ q → ⊥)
       → enterOf (s .parameters) (s .growth) (s .file) pool k q .answer ≡ refusedAt 6 0 (placeOn (s .parameters) (s .model) k)
   refuses q r v e d = rw (agrees .growth, agrees .file, other (s .parameters) (s .model) (agrees .fitting) k q pool fit r e v d)
 
-in-history : (s : State) → Agrees s → InHistory s
+in-history : (s : HistoryState) → Agrees s → InHistory s
 unfolding outcome step
 in-history s agrees =
     record {
@@ -104,15 +104,15 @@ each-state p f pool accepted history =
       after = in-history (end (initial p f pool) history) (end-agrees conforming (initial p f pool) start history);
     }
 
-same-model : (p q : Parameters) (a b : Model) → Fitting p a → Fitting q b → ((k : ℕ) → positionOf k (a .entries) ≡ positionOf k (b .entries)) → a .growth ≡ b .growth → a ≡ b
+same-model : (p q : Parameters) (a b : Model) → Fitting p a → Fitting q b → ((k : ℕ) → heldPosition k (a .entries) ≡ heldPosition k (b .entries)) → a .growth ≡ b .growth → a ≡ b
 same-model p q a b s t positions growth =
     let e = determined 1 (a .entries) (b .entries) (s .ordered) (t .ordered) positions in
     λ i. record { entries = e i; growth = growth i }
 
-same-state : (a b : State) → Agrees a → Agrees b → SameContents a b → SameState a b
+same-state : (a b : HistoryState) → Agrees a → Agrees b → SameContents a b → SameState a b
 same-state a b s t c =
     let m = same-model (a .parameters) (b .parameters) (a .model) (b .model) (s .fitting) (t .fitting) (c .positions) (c .growth) in
-    let l : fileOf (a .parameters) (a .model) ≡ fileOf (b .parameters) (b .model) = λ i. fileOf (c .parameters i) (m i) in
+    let l : modelFile (a .parameters) (a .model) ≡ modelFile (b .parameters) (b .model) = λ i. modelFile (c .parameters i) (m i) in
     let f : a .file ≡ b .file = s .file ∙ l ∙ sym (t .file) in
     record {
       model = m;

@@ -20,8 +20,8 @@ use Rattle.starfile.specs.Answers.{Pool, After, Leaves, unpooled, numberOf, pla
 use Rattle.starfile.specs.Calls.{fileFits, unless, orElse, guarded, emptyFile, makeOf}
 use Rattle.histories.specs.declared.replaying.Replayed.{Replayed}
 use Rattle.histories.specs.declared.replaying.Replayed.the-variants.{Done, BadKind, Refused}
-use Rattle.histories.specs.Model.{fileOf}
-use Rattle.histories.specs.Run.{State, fresh, initial, end}
+use Rattle.histories.specs.Model.{modelFile}
+use Rattle.histories.specs.Run.{HistoryState, fresh, initial, end}
 use Rattle.histories.specs.Theorem.{AsModel}
 use Rattle.histories.specs.Replay.{
   LentHistory,
@@ -144,6 +144,6 @@ every-replay p f pool h answers e =
     let agrees = end-agrees conforming (initial p f unpooled) (initial-agrees p f unpooled made) (historyOf p f pool h) in
     record {
       asModel = every-history p f unpooled made (historyOf p f pool h);
-      fileIs = rw n (agrees .file ∙ ap (λ (q : Parameters). fileOf q (end (initial p f unpooled) (historyOf p f pool h) .model)) keeps);
+      fileIs = rw n (agrees .file ∙ ap (λ (q : Parameters). modelFile q (end (initial p f unpooled) (historyOf p f pool h) .model)) keeps);
       growthIs = rw n (agrees .growth);
     }

@@ -14,33 +14,33 @@ use Rattle.starfile.specs.declared.answers.Answer.{Answer}
 use Rattle.starfile.specs.Answers.{Pool, After}
 use Rattle.histories.specs.Model.{Request}
 use Rattle.histories.specs.Call.{callOf, step}
-use Rattle.histories.specs.Run.{State, fresh, outcome, next, events, end}
-use Rattle.histories.specs.Replay.{LentHistory, requestAt, requestsTo, requestsOf, historyFrom, lastPool, encoded, answersOf}
-use Rattle.histories.specs.Steps.{Written, Even, Runs}
+use Rattle.histories.specs.Run.{HistoryState, fresh, outcome, next, events, end}
+use Rattle.histories.specs.Replay.{LentHistory, requestAt, requestsTo, requestsOf, historyFrom, lastPool, encoded, eventAnswers}
+use Rattle.histories.specs.Steps.{Recorded, Even, Runs}
 use Rattle.histories.proofs.Histories.{end-keeps}
 
 -- the state after the requests, and the call of one more
-abbrev after : State → Pool → List Request → State
+abbrev after : HistoryState → Pool → List Request → HistoryState
 after s pool rs = end s (historyFrom s pool rs)
 
-abbrev more : State → Pool → List Request → Request → State
+abbrev more : HistoryState → Pool → List Request → Request → HistoryState
 more s pool rs r = next (after s pool rs) (callOf (lastPool s pool rs) r)
 
-end-snoc : (s : State) (pool : Pool) (rs : List Request) (r : Request) → after s pool (rs ++ r ∷ []) ≡ more s pool rs r
+end-snoc : (s : HistoryState) (pool : Pool) (rs : List Request) (r : Request) → after s pool (rs ++ r ∷ []) ≡ more s pool rs r
 unfolding historyFrom end lastPool
 end-snoc s pool [] r = refl
 end-snoc s pool (x ∷ rs) r = end-snoc (next s (callOf pool x)) (outcome s (callOf pool x) .pool) rs r
 
-pool-snoc : (s : State) (pool : Pool) (rs : List Request) (r : Request)
+pool-snoc : (s : HistoryState) (pool : Pool) (rs : List Request) (r : Request)
     → lastPool s pool (rs ++ r ∷ []) ≡ outcome (after s pool rs) (callOf (lastPool s pool rs) r) .pool
 unfolding historyFrom end lastPool
 pool-snoc s pool [] r = refl
 pool-snoc s pool (x ∷ rs) r = pool-snoc (next s (callOf pool x)) (outcome s (callOf pool x) .pool) rs r
 
-answers-snoc : (s : State) (pool : Pool) (rs : List Request) (r : Request)
-    → answersOf (events s (historyFrom s pool (rs ++ r ∷ [])))
-    ≡ answersOf (events s (historyFrom s pool rs)) ++ encoded (outcome (after s pool rs) (callOf (lastPool s pool rs) r) .answer)
-unfolding historyFrom end lastPool events answersOf
+answers-snoc : (s : HistoryState) (pool : Pool) (rs : List Request) (r : Request)
+    → eventAnswers (events s (historyFrom s pool (rs ++ r ∷ [])))
+    ≡ eventAnswers (events s (historyFrom s pool rs)) ++ encoded (outcome (after s pool rs) (callOf (lastPool s pool rs) r) .answer)
+unfolding historyFrom end lastPool events eventAnswers
 answers-snoc s pool [] r = append-nil (encoded (outcome s (callOf pool r) .answer))
 answers-snoc s pool (x ∷ rs) r =
     rw (answers-snoc (next s (callOf pool x)) (outcome s (callOf pool x) .pool) rs r)
@@ -64,7 +64,7 @@ eight-long a = refl
 pub record Ongoing (p : Parameters) (h : LentHistory) (growth₀ : Growth) (file₀ : File) (pool₀ : Pool) (answers₀ : List ℕ)
     (i : ℕ) (growth : Growth) (answers : List ℕ) (file : File) (pool : Pool) : Type 0 where
   pub most : i ≤ length (h .kinds)
-  pub counted : length (answersOf (events (fresh p growth₀ file₀) (historyFrom (fresh p growth₀ file₀) pool₀ (requestsTo h i)))) ≡ i * 8
+  pub counted : length (eventAnswers (events (fresh p growth₀ file₀) (historyFrom (fresh p growth₀ file₀) pool₀ (requestsTo h i)))) ≡ i * 8
   pub runs : Runs (fresh p growth₀ file₀) pool₀ (requestsTo h i) (drop (i * 8) answers₀) growth answers file pool
 
 -- the lent slices keep their lengths
@@ -89,10 +89,10 @@ same-lengths file pool answers =
 
 module _ (p : Parameters) (h : LentHistory) (growth₀ : Growth) (file₀ : File) (pool₀ : Pool) (answers₀ : List ℕ) where
   abbrev so-far : ℕ → List ℕ
-  so-far i = answersOf (events (fresh p growth₀ file₀) (historyFrom (fresh p growth₀ file₀) pool₀ (requestsTo h i)))
+  so-far i = eventAnswers (events (fresh p growth₀ file₀) (historyFrom (fresh p growth₀ file₀) pool₀ (requestsTo h i)))
 
   pub ongoing-none : Ongoing p h growth₀ file₀ pool₀ answers₀ 0 growth₀ answers₀ file₀ pool₀
-  unfolding requestsTo historyFrom events end lastPool answersOf
+  unfolding requestsTo historyFrom events end lastPool eventAnswers
   ongoing-none =
       rw (zero-mul 8)
       (record {
@@ -114,14 +114,14 @@ module _ (p : Parameters) (h : LentHistory) (growth₀ : Growth) (file₀ : File
     same-step = rw (end-keeps (fresh p growth₀ file₀) (historyFrom (fresh p growth₀ file₀) pool₀ (requestsTo h i)), t .runs .growths, t .runs .files, t .runs .pools)
 
     pub ongoing-more : i < length (h .kinds) → (growth′ : Growth) (answers′ : List ℕ) (file′ : File) (pool′ : Pool)
-        → Written (step p growth file pool (requestAt h i)) answers (i * 8) growth′ answers′ file′ pool′
+        → Recorded (step p growth file pool (requestAt h i)) answers (i * 8) growth′ answers′ file′ pool′
         → Ongoing p h growth₀ file₀ pool₀ answers₀ (i + 1) growth′ answers′ file′ pool′
     unfolding requestsTo next
     ongoing-more l growth′ answers′ file′ pool′ w =
         let s = fresh p growth₀ file₀ in
         let rs = requestsTo h i in
         let r = requestAt h i in
-        let v : Written this answers (i * 8) growth′ answers′ file′ pool′ = rw same-step at w in
+        let v : Recorded this answers (i * 8) growth′ answers′ file′ pool′ = rw same-step at w in
         rw (add-one i)
         (record {
           most = omega arith;
@@ -134,8 +134,8 @@ module _ (p : Parameters) (h : LentHistory) (growth₀ : Growth) (file₀ : File
                     v .answersAre
                     ∙ written-behind (so-far i) answers₀ answers (encoded (this .answer)) (i * 8) (t .counted) (t .runs .answersAre)
                     ∙ rw (eight (this .answer), answers-snoc s pool₀ rs r, suc-mul i 8);
-                growths = v .growths ∙ sym (ap (λ (x : State). x .growth) (end-snoc s pool₀ rs r));
-                files = v .files ∙ sym (ap (λ (x : State). x .file) (end-snoc s pool₀ rs r));
+                growths = v .growths ∙ sym (ap (λ (x : HistoryState). x .growth) (end-snoc s pool₀ rs r));
+                files = v .files ∙ sym (ap (λ (x : HistoryState). x .file) (end-snoc s pool₀ rs r));
                 pools = v .pools ∙ sym (pool-snoc s pool₀ rs r);
               };
         })

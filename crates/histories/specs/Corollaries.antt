@@ -12,12 +12,12 @@ use Rattle.placement.specs.Rule.{left}
 use Rattle.placement.specs.File.{File, Clean}
 use Rattle.starfile.specs.Answers.{Pool, acceptedAt, refusedAt}
 use Rattle.starfile.specs.Calls.{hash, poolFits, makeOf}
-use Rattle.histories.specs.Model.{lookUp, enter, check, setPosition, positionOf, starsOf, pageFor, placeOn, answered}
+use Rattle.histories.specs.Model.{lookUp, enter, check, setPosition, heldPosition, entryStars, pageFor, placeOn, answered}
 use Rattle.histories.specs.Call.{Call, callOf}
-use Rattle.histories.specs.Run.{State, Event, initial, outcome, next, events, end}
+use Rattle.histories.specs.Run.{HistoryState, Event, initial, outcome, next, events, end}
 
 -- what holds of a state of a history
-pub record InHistory (now : State) : Type 0 where
+pub record InHistory (now : HistoryState) : Type 0 where
   -- the file is clean: all pages are sound, and it is what the rule gives its stars
   pub clean : Clean validWord (hash (now .parameters) (now .growth)) (now .parameters .pages) (now .file)
   -- so a check accepts it
@@ -28,22 +28,22 @@ pub record InHistory (now : State) : Type 0 where
   -- the entry of a star not held is refused with 8 exactly if the model's stars with it do not fit
   pub full :
       (pool : Pool) (k : ℕ) (q : Position) → poolFits (now .parameters) pool ≡ true → validNumber k ≡ true → validPosition q ≡ true
-      → positionOf k (now .model .entries) ≡ none
+      → heldPosition k (now .model .entries) ≡ none
       → (outcome now (callOf pool (enter k q)) .answer .refusal ≡ 8)
-      ↔ (left (hash (now .parameters) (now .model .growth)) 0 (now .parameters .pages) (starsOf (setPosition k q (now .model .entries))) ≡ [] → ⊥)
+      ↔ (left (hash (now .parameters) (now .model .growth)) 0 (now .parameters .pages) (entryStars (setPosition k q (now .model .entries))) ≡ [] → ⊥)
   -- an entry of a held star with its own position answers its page and place and is no step: file, growth state and model stay
   pub resent :
-      (pool : Pool) (k : ℕ) (q : Position) → poolFits (now .parameters) pool ≡ true → positionOf k (now .model .entries) ≡ some q
+      (pool : Pool) (k : ℕ) (q : Position) → poolFits (now .parameters) pool ≡ true → heldPosition k (now .model .entries) ≡ some q
       → (outcome now (callOf pool (enter k q)) .answer ≡ acceptedAt (pageFor (now .parameters) (now .model) k) (placeOn (now .parameters) (now .model) k))
       × (next now (callOf pool (enter k q)) ≡ now)
   -- with any other position it is refused with 6
   pub held :
       (pool : Pool) (k : ℕ) (q r : Position) → poolFits (now .parameters) pool ≡ true → validPosition q ≡ true
-      → positionOf k (now .model .entries) ≡ some r → (r ≡ q → ⊥)
+      → heldPosition k (now .model .entries) ≡ some r → (r ≡ q → ⊥)
       → outcome now (callOf pool (enter k q)) .answer ≡ refusedAt 6 0 (placeOn (now .parameters) (now .model) k)
 
 -- so it is before each call of a history, and at its end
-pub record Throughout (start : State) (history : List Call) : Type 0 where
+pub record Throughout (start : HistoryState) (history : List Call) : Type 0 where
   pub before : (t : Event) → List·Memᴰ t (events start history) → InHistory (t .before)
   pub after : InHistory (end start history)
 
@@ -53,13 +53,13 @@ EachState =
     → (history : List Call) → Throughout (initial p f pool) history
 
 -- the same parameters, stars, positions and growth state: the same position, if any, for each number
-pub record SameContents (a b : State) : Type 0 where
+pub record SameContents (a b : HistoryState) : Type 0 where
   pub parameters : a .parameters ≡ b .parameters
-  pub positions : (k : ℕ) → positionOf k (a .model .entries) ≡ positionOf k (b .model .entries)
+  pub positions : (k : ℕ) → heldPosition k (a .model .entries) ≡ heldPosition k (b .model .entries)
   pub growth : a .model .growth ≡ b .model .growth
 
 -- two states with equal models and equal separators, pages and growth state
-pub record SameState (a b : State) : Type 0 where
+pub record SameState (a b : HistoryState) : Type 0 where
   pub model : a .model ≡ b .model
   pub separators : a .file .separators ≡ b .file .separators
   pub numbers : a .file .numbers ≡ b .file .numbers

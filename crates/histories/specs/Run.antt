@@ -10,26 +10,26 @@ use Rattle.histories.specs.Model.{Model, emptyModel, fed}
 use Rattle.histories.specs.Call.{Call, step, isAccepted}
 
 -- the parameters, the growth state, the file and the model between two calls
-pub record State : Type 0 where
+pub record HistoryState : Type 0 where
   pub parameters : Parameters
   pub growth : Growth
   pub file : File
   pub model : Model
 
 -- a state whose model is still empty
-abbrev pub fresh : Parameters → Growth → File → State
+abbrev pub fresh : Parameters → Growth → File → HistoryState
 fresh p g f = record { parameters = p; growth = g; file = f; model = emptyModel }
 
 -- "from the empty file that making one left"
-unfoldable pub initial : Parameters → File → Pool → State
+unfoldable pub initial : Parameters → File → Pool → HistoryState
 initial p f pool = fresh p (makeOf p f pool .growth) (makeOf p f pool .file)
 
 -- what a call answers and leaves at a state
-unfoldable pub outcome : State → Call → After
+unfoldable pub outcome : HistoryState → Call → After
 outcome s c = step (s .parameters) (s .growth) (s .file) (c .pool) (c .request)
 
 -- the state after a call: "Each call has that file's parameters"; the model is fed the request and whether it was accepted
-unfoldable pub next : State → Call → State
+unfoldable pub next : HistoryState → Call → HistoryState
 next s c =
     record {
       parameters = s .parameters;
@@ -40,16 +40,16 @@ next s c =
 
 -- a call of a history, the state before it, and its answer
 pub record Event : Type 0 where
-  pub before : State
+  pub before : HistoryState
   pub call : Call
   pub answer : Answer
 
 -- "A history is a list of look-ups, entries, changes, removals, growths, Dues .. and checks on one file, refused ones included"
-unfoldable pub events : State → List Call → List Event
+unfoldable pub events : HistoryState → List Call → List Event
 events s [] = []
 events s (c ∷ cs) = record { before = s; call = c; answer = outcome s c .answer } ∷ events (next s c) cs
 
 -- the state after the last call
-unfoldable pub end : State → List Call → State
+unfoldable pub end : HistoryState → List Call → HistoryState
 end s [] = s
 end s (c ∷ cs) = end (next s c) cs

@@ -6,12 +6,12 @@ use Rattle.hashing.specs.declared.Parameters.{Parameters}
 use Rattle.placement.specs.File.{File}
 use Rattle.starfile.specs.Answers.{Pool}
 use Rattle.starfile.specs.Calls.{makeOf}
-use Rattle.histories.specs.Model.{lookUp, fileOf, answered}
+use Rattle.histories.specs.Model.{lookUp, modelFile, answered}
 use Rattle.histories.specs.Call.{Call}
-use Rattle.histories.specs.Run.{State, Event, initial, events, end}
+use Rattle.histories.specs.Run.{HistoryState, Event, initial, events, end}
 
 -- what holds of a history from a state on
-pub record AsModel (start : State) (history : List Call) : Type 0 where
+pub record AsModel (start : HistoryState) (history : List Call) : Type 0 where
   -- each accepted look-up answers position or none, page and place, as the model after the calls before it
   pub lookUps :
       (t : Event) → List·Memᴰ t (events start history) → (k : ℕ) → t .call .request ≡ lookUp k → t .answer .refusal ≡ 0
@@ -19,9 +19,9 @@ pub record AsModel (start : State) (history : List Call) : Type 0 where
   -- "Refused for damage means 5": no call is
   pub undamaged : (t : Event) → List·Memᴰ t (events start history) → t .answer .refusal ≡ 5 → ⊥
   -- at the end separators, pages and growth state are the model's under the parameters then held
-  pub separators : end start history .file .separators ≡ fileOf (end start history .parameters) (end start history .model) .separators
-  pub numbers : end start history .file .numbers ≡ fileOf (end start history .parameters) (end start history .model) .numbers
-  pub words : end start history .file .words ≡ fileOf (end start history .parameters) (end start history .model) .words
+  pub separators : end start history .file .separators ≡ modelFile (end start history .parameters) (end start history .model) .separators
+  pub numbers : end start history .file .numbers ≡ modelFile (end start history .parameters) (end start history .model) .numbers
+  pub words : end start history .file .words ≡ modelFile (end start history .parameters) (end start history .model) .words
   pub growth : end start history .growth ≡ end start history .model .growth
 
 -- for all parameters and buffers that make accepts, and every history

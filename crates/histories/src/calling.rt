@@ -6,7 +6,7 @@ ghost use Rattle.placement.specs.Lent.{before, after};
 ghost use Rattle.histories.specs.Call.{step};
 ghost use Rattle.histories.specs.Lent.{poolBefore, poolAfter};
 ghost use Rattle.histories.specs.Replay.{requestOf};
-ghost use Rattle.histories.specs.Steps.{Steps, Written};
+ghost use Rattle.histories.specs.Steps.{Steps, Recorded};
 use hashing::Growth;
 use hashing::Parameters;
 use pages::position::Position;
@@ -132,7 +132,7 @@ pub fn replay_step(
     at: usize,
 ) -> Growth
     requires { ⌜ at + 8 ≤ length (now answers) ⌝ }
-    ensures { λ r. ⌜ Written (step parameters growth (before separators numbers words) (poolBefore poolnumbers poolwords) (requestOf kind star position))
+    ensures { λ r. ⌜ Recorded (step parameters growth (before separators numbers words) (poolBefore poolnumbers poolwords) (requestOf kind star position))
         (now (answers .entry)) at r (now (answers .exit)) (after separators numbers words) (poolAfter poolnumbers poolwords) ⌝ }
 {
     let stepped = run_call(
