@@ -58,7 +58,8 @@ module _ (p : Parameters) (m : Model) (t : Fitting p m) (k : ℕ) (q : Position)
   unfolding entryEnd stops
   entry =
       reach (hashFor p m) (p .pages) (modelFile p m) from stops
-      (λ page e. eqb-true (getD (modelFile p m .separators) page 0) (hashFor p m .top) (and-eq-true-iff (storedTop (modelFile p m .separators) (hashFor p m .top) page) (entersWithin (hashFor p m) (modelFile p m) new page) .0 e .0))
+      (λ page e. eqb-true (getD (modelFile p m .separators) page 0) (hashFor p m .top)
+      (and-eq-true-iff (storedTop (modelFile p m .separators) (hashFor p m .top) page) (entersWithin (hashFor p m) (modelFile p m) new page) .0 e .0))
       inside
 
   placed : entersWithin (hashFor p m) (modelFile p m) new to ≡ true

@@ -69,7 +69,8 @@ no-step s c pool a e d =
 
 module _ (s : HistoryState) (agrees : Agrees s) (pool : Pool) (fit : poolFits (s .parameters) pool ≡ true) (k : ℕ) where
   module _ (q : Position) (e : heldPosition k (s .model .entries) ≡ some q) where
-    leaves : enterOf (s .parameters) (s .growth) (s .file) pool k q ≡ unchanged (s .growth) (s .file) (cleared pool) (acceptedAt (pageFor (s .parameters) (s .model) k) (placeOn (s .parameters) (s .model) k))
+    leaves : enterOf (s .parameters) (s .growth) (s .file) pool k q
+        ≡ unchanged (s .growth) (s .file) (cleared pool) (acceptedAt (pageFor (s .parameters) (s .model) k) (placeOn (s .parameters) (s .model) k))
     leaves =
         rw (agrees .growth, agrees .file)
         (resent (s .parameters) (s .model) (agrees .fitting) k q pool fit q e (position-valid 1 k q (s .model .entries) (agrees .fitting .ordered) e .position) refl)

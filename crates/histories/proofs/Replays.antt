@@ -21,8 +21,7 @@ use Rattle.starfile.specs.Calls.{fileFits, unless, orElse, guarded, emptyFile, 
 use Rattle.histories.specs.declared.replaying.Replayed.{Replayed}
 use Rattle.histories.specs.declared.replaying.Replayed.the-variants.{Done, BadKind, Refused}
 use Rattle.histories.specs.Model.{modelFile}
-use Rattle.histories.specs.Run.{HistoryState, fresh, initial, end}
-use Rattle.histories.specs.Theorem.{AsModel}
+use Rattle.histories.specs.Run.{fresh, initial, end}
 use Rattle.histories.specs.Replay.{
   LentHistory,
   allKinds,
@@ -33,13 +32,11 @@ use Rattle.histories.specs.Replay.{
   unknownKind,
   refusalOf,
   historyOf,
-  Replay,
   replayedWith,
   replayOf,
   refusalSaid,
   growthSaid,
   Replays,
-  AsReplayed,
   EveryReplay,
 }
 use Rattle.histories.specs.Steps.{Runs}

@@ -104,6 +104,7 @@ stars-strike k [] = refl
 stars-strike k (e ∷ es) = go (eqb (e .number) k) (stars-strike k es)
   where
     go : (t : Bool) → entryStars (filter (λ (d : Entry). not (eqb (d .number) k)) es) ≡ filter (λ (s : Star). not (eqb (s .number) k)) (entryStars es)
-        → entryStars (keep (not t) e (filter (λ (d : Entry). not (eqb (d .number) k)) es)) ≡ keep (not t) (starOf (e .number) (e .position)) (filter (λ (s : Star). not (eqb (s .number) k)) (entryStars es))
+        → entryStars (keep (not t) e (filter (λ (d : Entry). not (eqb (d .number) k)) es))
+        ≡ keep (not t) (starOf (e .number) (e .position)) (filter (λ (s : Star). not (eqb (s .number) k)) (entryStars es))
     go true ih = ih
     go false ih = rw ih

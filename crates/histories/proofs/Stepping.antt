@@ -3,7 +3,7 @@ use mathlib.Core.Path.{_≡_, refl, sym, ap, _∙_}
 use mathlib.Core.Bool.{Bool, true, false, cond, _&&_}
 use mathlib.Core.List.{List}
 use Prim.Native.Nat.{ℕ, zero, suc, _+_}
-use lib.Dec.{eqb, ltb}
+use lib.Dec.{ltb}
 use lib.Seq.{paste}
 use borrow.Author.Tests.{ne-eqb}
 use Rattle.hashing.specs.declared.Parameters.{Parameters}
