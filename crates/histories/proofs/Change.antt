@@ -17,7 +17,7 @@ use Rattle.placement.proofs.Mapping.{left-map}
 use Rattle.placement.proofs.Change.{reworded-keeps, changed-laid}
 use Rattle.starfile.specs.Answers.{Pool, spotted, acceptedAt, refused, refusedAt}
 use Rattle.starfile.specs.Calls.{unless, orElse, guarded, unchanged, holds, itemOf, changeOn, changeOf}
-use Rattle.histories.specs.Model.{Model, change, updated, setPosition, positionOf, fileOf, pageFor, placeOn}
+use Rattle.histories.specs.Model.{Model, change, updated, setPosition, heldPosition, modelFile, pageFor, placeOn}
 use Rattle.histories.proofs.Entries.{ValidEntry, ordered-set}
 use Rattle.histories.proofs.Stars.{stars-change}
 use Rattle.histories.proofs.Fitting.{Fitting, hashFor, starsFor, rising-from, proper, in-range, laid-stars, named-inside, named-readable}
@@ -29,12 +29,12 @@ use Rattle.histories.proofs.Conforms.{Conforms, refused-conforms, accep
 abbrev reworded-file : Parameters → Model → ℕ → Position → File
 reworded-file p m k q =
     record {
-      separators = fileOf p m .separators;
-      numbers = fileOf p m .numbers;
-      words = set (fileOf p m .words) (itemOf p (fileOf p m) (pageFor p m k) k) (packed q);
+      separators = modelFile p m .separators;
+      numbers = modelFile p m .numbers;
+      words = set (modelFile p m .words) (itemOf p (modelFile p m) (pageFor p m k) k) (packed q);
     }
 
-module _ (p : Parameters) (m : Model) (t : Fitting p m) (k : ℕ) (q r : Position) (e : positionOf k (m .entries) ≡ some r) (valid : ValidEntry (record { number = k; position = q })) where
+module _ (p : Parameters) (m : Model) (t : Fitting p m) (k : ℕ) (q r : Position) (e : heldPosition k (m .entries) ≡ some r) (valid : ValidEntry (record { number = k; position = q })) where
   abbrev anew : Model
   anew = record { entries = setPosition k q (m .entries); growth = m .growth }
 
@@ -52,10 +52,10 @@ module _ (p : Parameters) (m : Model) (t : Fitting p m) (k : ℕ) (q r : Positio
       }
 
   laid-anew : laid (p .places) (hashFor p m) (p .pages) (changed k (packed q) (starsFor m)) ≡ reworded-file p m k q
-  unfolding fileOf hashOf itemOf holds
+  unfolding modelFile hashOf itemOf holds
   laid-anew =
       changed-laid validWord (hashFor p m) (p .pages) (pageFor p m k) (placeOn p m k) k (packed q) (starsFor m) (rising-from p m t) (proper p m t)
-      (in-range k (valid .number) .0) (named-inside p m t k) (place-inside p m t k r e) (held-there k (part (p .places) (pageFor p m k) (fileOf p m .numbers)) (held p m t k r e) .1)
+      (in-range k (valid .number) .0) (named-inside p m t k) (place-inside p m t k r e) (held-there k (part (p .places) (pageFor p m k) (modelFile p m .numbers)) (held p m t k r e) .1)
 
   changes : (pool : Pool) → Conforms p m (change k q) (record { answer = acceptedAt (pageFor p m k) (placeOn p m k); growth = m .growth; file = reworded-file p m k q; pool = pool })
   unfolding updated spotted
@@ -66,30 +66,30 @@ module _ (p : Parameters) (m : Model) (t : Fitting p m) (k : ℕ) (q r : Positio
       (λ j d. cc)
 
 module _ (p : Parameters) (m : Model) (t : Fitting p m) (k : ℕ) (q : Position) where
-  changes-on : ValidEntry (record { number = k; position = q }) → (pool : Pool) → Conforms p m (change k q) (changeOn p (m .growth) (fileOf p m) pool (pageFor p m k) k (packed q))
+  changes-on : ValidEntry (record { number = k; position = q }) → (pool : Pool) → Conforms p m (change k q) (changeOn p (m .growth) (modelFile p m) pool (pageFor p m k) k (packed q))
   unfolding changeOn spotted
-  changes-on valid pool = rw (named-readable p m t k) (go (positionOf k (m .entries)) refl)
+  changes-on valid pool = rw (named-readable p m t k) (go (heldPosition k (m .entries)) refl)
     where
-      go : (o : Option Position) → positionOf k (m .entries) ≡ o
+      go : (o : Option Position) → heldPosition k (m .entries) ≡ o
           → Conforms p m (change k q)
-          (cond (holds p (fileOf p m) (pageFor p m k) k)
+          (cond (holds p (modelFile p m) (pageFor p m k) k)
           (record {
             answer = acceptedAt (pageFor p m k) (placeOn p m k);
             growth = m .growth;
             file = reworded-file p m k q;
             pool = pool;
           })
-          (unchanged (m .growth) (fileOf p m) pool (refusedAt 7 0 (placeOn p m k))))
+          (unchanged (m .growth) (modelFile p m) pool (refusedAt 7 0 (placeOn p m k))))
       go none e = rw (not-held p m t k (in-range k (valid .number) .0) e) (refused-conforms p m t (change k q) pool (refusedAt 7 0 (placeOn p m k)) (λ d. omega arith) (λ d. omega arith))
       go (some r) e = rw (held p m t k r e) (changes p m t k q r e valid pool)
 
-  pub change-conforms : (pool : Pool) → Conforms p m (change k q) (changeOf p (m .growth) (fileOf p m) pool k q)
+  pub change-conforms : (pool : Pool) → Conforms p m (change k q) (changeOf p (m .growth) (modelFile p m) pool k q)
   unfolding changeOf pageFor namedPage spotted
   change-conforms pool = rw (lent p m t) (go (validNumber k) (validPosition q) refl refl)
     where
       go : (v w : Bool) → validNumber k ≡ v → validPosition q ≡ w
           → Conforms p m (change k q)
-          (guarded (m .growth) (fileOf p m) pool (orElse (unless v 3) (unless w 4)) (changeOn p (m .growth) (fileOf p m) pool (pageFor p m k) k (packed q)))
+          (guarded (m .growth) (modelFile p m) pool (orElse (unless v 3) (unless w 4)) (changeOn p (m .growth) (modelFile p m) pool (pageFor p m k) k (packed q)))
       go false w e f = refused-conforms p m t (change k q) pool (refused 3 0) (λ d. omega arith) (λ d. omega arith)
       go true false e f = refused-conforms p m t (change k q) pool (refused 4 0) (λ d. omega arith) (λ d. omega arith)
       go true true e f = changes-on (record { number = e; position = f }) pool

@@ -11,7 +11,7 @@ use Rattle.hashing.specs.declared.Parameters.{Parameters}
 use Rattle.hashing.specs.declared.Growth.{Growth}
 use Rattle.pages.specs.Position.{validWord}
 use Rattle.placement.specs.Rule.{Contents, pages}
-use Rattle.placement.specs.File.{written, laid, replaced, fileOf as fileWith}
+use Rattle.placement.specs.File.{written, laid, replaced, fileOf}
 use Rattle.placement.specs.Hash.{hashOf}
 use Rattle.placement.proofs.Composition.{length-pages}
 use Rattle.placement.proofs.Writing.{Roomy}
@@ -20,61 +20,61 @@ use Rattle.starfile.specs.Answers.{Pool, spotted, refused, cleared, accepted}
 use Rattle.reach.specs.Reach.{firstUnsound}
 use Rattle.comparing.specs.Spots.{firstSpot, ruled}
 use Rattle.starfile.specs.Calls.{hash, poolFits, unless, guarded, unchanged, allStars, checkedAt, checkOf}
-use Rattle.histories.specs.Model.{Model, check, updated, fileOf}
+use Rattle.histories.specs.Model.{Model, check, updated, modelFile}
 use Rattle.histories.proofs.Fitting.{Fitting, hashFor, starsFor, rising, proper}
 use Rattle.histories.proofs.Guards.{lent-pool}
 use Rattle.histories.proofs.Searching.{none-unsound, no-spot}
 use Rattle.histories.proofs.Conforms.{Conforms, refused-conforms, accepted-conforms}
 
 -- All pages replaced.
-replaced-all : (b : ℕ) (cs ds : List Contents) → Roomy b cs → Roomy b ds → length ds ≡ length cs → replaced b (fileWith b cs) 0 ds ≡ fileWith b ds
+replaced-all : (b : ℕ) (cs ds : List Contents) → Roomy b cs → Roomy b ds → length ds ≡ length cs → replaced b (fileOf b cs) 0 ds ≡ fileOf b ds
 unfolding written
-replaced-all b cs ds rc rd e = replaced-of b cs ds 0 rc rd (omega arith) ∙ ap (fileWith b) whole
+replaced-all b cs ds rc rd e = replaced-of b cs ds 0 rc rd (omega arith) ∙ ap (fileOf b) whole
   where
     whole : written 0 ds cs ≡ ds
     whole = ap (λ (l : List Contents). ds ++ l) (drop-of-length-le cs {i = 0 + length ds} (omega arith)) ∙ append-nil ds
 
 module _ (p : Parameters) (m : Model) (t : Fitting p m) where
   -- The file's stars are the model's.
-  pub all-stars : allStars p (fileOf p m) ≡ starsFor m
-  unfolding fileOf hashOf
+  pub all-stars : allStars p (modelFile p m) ≡ starsFor m
+  unfolding modelFile hashOf
   all-stars = gathered-laid validWord (hashFor p m) (p .pages) (starsFor m) (proper p m t) 1 (rising p m t) (t .fits)
 
   -- Placed anew under any growth state, they make that layout.
-  pub placed-anew : (g : Growth) → replaced (p .places) (fileOf p m) 0 (pages (hash p g) 0 (p .pages) (starsFor m)) ≡ laid (p .places) (hash p g) (p .pages) (starsFor m)
-  unfolding fileOf laid hashOf
+  pub placed-anew : (g : Growth) → replaced (p .places) (modelFile p m) 0 (pages (hash p g) 0 (p .pages) (starsFor m)) ≡ laid (p .places) (hash p g) (p .pages) (starsFor m)
+  unfolding modelFile laid hashOf
   placed-anew g =
       replaced-all (p .places) (pages (hashFor p m) 0 (p .pages) (starsFor m)) (pages (hash p g) 0 (p .pages) (starsFor m))
       (roomy-pages (hashFor p m) 0 (p .pages) (starsFor m))
       (roomy-pages (hash p g) 0 (p .pages) (starsFor m))
       (length-pages (hash p g) 0 (p .pages) (starsFor m) ∙ sym (length-pages (hashFor p m) 0 (p .pages) (starsFor m)))
 
-  as-ruled : ruled p (m .growth) (fileOf p m) ≡ fileOf p m
-  unfolding ruled fileOf
+  as-ruled : ruled p (m .growth) (modelFile p m) ≡ modelFile p m
+  unfolding ruled modelFile
   as-ruled = rw all-stars (placed-anew (m .growth))
 
-  pub finds-nothing : checkedAt p (firstUnsound p (m .growth) (fileOf p m) 0 (p .pages)) (firstSpot p (fileOf p m) (ruled p (m .growth) (fileOf p m))) ≡ accepted 0
+  pub finds-nothing : checkedAt p (firstUnsound p (m .growth) (modelFile p m) 0 (p .pages)) (firstSpot p (modelFile p m) (ruled p (m .growth) (modelFile p m))) ≡ accepted 0
   unfolding checkedAt
   finds-nothing =
       rw (
         none-unsound p m t 0 (p .pages) (omega (arith, zero-add (p .pages))),
         zero-add (p .pages),
         as-ruled,
-        no-spot p (fileOf p m),
+        no-spot p (modelFile p m),
         le-ltb (p .pages) (p .pages) (le-refl (p .pages)),
         le-ltb (p .pages * suc (p .places)) (p .pages * suc (p .places)) (le-refl (p .pages * suc (p .places))),
       )
 
-  pub check-conforms : (pool : Pool) → Conforms p m check (checkOf p (m .growth) (fileOf p m) pool)
+  pub check-conforms : (pool : Pool) → Conforms p m check (checkOf p (m .growth) (modelFile p m) pool)
   unfolding checkOf updated spotted
   check-conforms pool = rw (lent-pool p m t (poolFits p pool)) (go (poolFits p pool))
     where
       go : (v : Bool)
           → Conforms p m check
-          (guarded (m .growth) (fileOf p m) pool (unless v 2)
-          (unchanged (m .growth) (fileOf p m) (cleared pool)
-          (checkedAt p (firstUnsound p (m .growth) (fileOf p m) 0 (p .pages)) (firstSpot p (fileOf p m) (ruled p (m .growth) (fileOf p m))))))
+          (guarded (m .growth) (modelFile p m) pool (unless v 2)
+          (unchanged (m .growth) (modelFile p m) (cleared pool)
+          (checkedAt p (firstUnsound p (m .growth) (modelFile p m) 0 (p .pages)) (firstSpot p (modelFile p m) (ruled p (m .growth) (modelFile p m))))))
       go false = refused-conforms p m t check pool (refused 2 0) (λ e. omega arith) (λ e. omega arith)
       go true =
           rw finds-nothing
-          (accepted-conforms p m t check (unchanged (m .growth) (fileOf p m) (cleared pool) (accepted 0)) refl refl refl t (λ k e. cc))
+          (accepted-conforms p m t check (unchanged (m .growth) (modelFile p m) (cleared pool) (accepted 0)) refl refl refl t (λ k e. cc))

@@ -7,7 +7,7 @@ use Rattle.hashing.specs.declared.Parameters.{Parameters}
 use Rattle.starfile.specs.declared.answers.Answer.{Answer}
 use Rattle.starfile.specs.Answers.{Pool, After}
 use Rattle.starfile.specs.Calls.{unchanged}
-use Rattle.histories.specs.Model.{Model, Request, lookUp, updated, fed, fileOf, answered}
+use Rattle.histories.specs.Model.{Model, Request, lookUp, updated, fed, modelFile, answered}
 use Rattle.histories.specs.Call.{isAccepted}
 use Rattle.histories.proofs.Fitting.{Fitting}
 
@@ -18,7 +18,7 @@ fedWith p r a m = fed p r (isAccepted a) m
 -- A request to the model's own file is answered as it should be and leaves the file of the model fed with it.
 pub record Conforms (p : Parameters) (m : Model) (r : Request) (a : After) : Type 0 where
   pub growth : a .growth ≡ fedWith p r (a .answer) m .growth
-  pub file : a .file ≡ fileOf p (fedWith p r (a .answer) m)
+  pub file : a .file ≡ modelFile p (fedWith p r (a .answer) m)
   pub fitting : Fitting p (fedWith p r (a .answer) m)
   pub undamaged : a .answer .refusal ≡ 5 → ⊥
   pub found : (k : ℕ) → r ≡ lookUp k → a .answer .refusal ≡ 0 → a .answer ≡ answered p m k
@@ -33,23 +33,23 @@ module _ (p : Parameters) (m : Model) (fitting : Fitting p m) (r : Request) wher
   fed-accepted a h = rw (eq-eqb (a .refusal) 0 h)
 
   -- refused, and nothing was changed
-  pub refused-conforms : (pool : Pool) (a : Answer) → (a .refusal ≡ 0 → ⊥) → (a .refusal ≡ 5 → ⊥) → Conforms p m r (unchanged (m .growth) (fileOf p m) pool a)
+  pub refused-conforms : (pool : Pool) (a : Answer) → (a .refusal ≡ 0 → ⊥) → (a .refusal ≡ 5 → ⊥) → Conforms p m r (unchanged (m .growth) (modelFile p m) pool a)
   refused-conforms pool a h g =
       record {
         growth = sym (ap (λ (n : Model). n .growth) (fed-refused a h));
-        file = sym (ap (fileOf p) (fed-refused a h));
+        file = sym (ap (modelFile p) (fed-refused a h));
         fitting = rw (fed-refused a h) fitting;
         undamaged = g;
         found = λ k e z. absurd (h z);
       }
 
   -- accepted, with what the request makes of growth state and file
-  pub accepted-conforms : (a : After) → a .answer .refusal ≡ 0 → a .growth ≡ updated p r m .growth → a .file ≡ fileOf p (updated p r m) → Fitting p (updated p r m)
+  pub accepted-conforms : (a : After) → a .answer .refusal ≡ 0 → a .growth ≡ updated p r m .growth → a .file ≡ modelFile p (updated p r m) → Fitting p (updated p r m)
       → ((k : ℕ) → r ≡ lookUp k → a .answer ≡ answered p m k) → Conforms p m r a
   accepted-conforms a z g f fit h =
       record {
         growth = g ∙ sym (ap (λ (n : Model). n .growth) (fed-accepted (a .answer) z));
-        file = f ∙ sym (ap (fileOf p) (fed-accepted (a .answer) z));
+        file = f ∙ sym (ap (modelFile p) (fed-accepted (a .answer) z));
         fitting = rw (fed-accepted (a .answer) z) fit;
         undamaged = λ e. omega arith;
         found = λ k e _. h k e;

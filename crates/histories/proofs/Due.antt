@@ -4,17 +4,17 @@ use Rattle.hashing.specs.declared.Parameters.{Parameters}
 use Rattle.starfile.specs.Answers.{Pool, counted}
 use Rattle.starfile.specs.Calls.{unchanged, dueOf}
 use Rattle.starfile.specs.Due.{stars, isDue}
-use Rattle.histories.specs.Model.{Model, due, updated, fileOf}
+use Rattle.histories.specs.Model.{Model, due, updated, modelFile}
 use Rattle.histories.proofs.Fitting.{Fitting}
 use Rattle.histories.proofs.Guards.{lent}
 use Rattle.histories.proofs.Conforms.{Conforms, accepted-conforms}
 
-pub due-conforms : (p : Parameters) (m : Model) → Fitting p m → (pool : Pool) → Conforms p m due (dueOf p (m .growth) (fileOf p m) pool)
+pub due-conforms : (p : Parameters) (m : Model) → Fitting p m → (pool : Pool) → Conforms p m due (dueOf p (m .growth) (modelFile p m) pool)
 unfolding dueOf updated counted
 due-conforms p m t pool =
     rw (lent p m t)
     (accepted-conforms p m t due
-    (unchanged (m .growth) (fileOf p m) pool (counted (isDue p (m .growth) (fileOf p m .numbers)) (stars (fileOf p m .numbers))))
+    (unchanged (m .growth) (modelFile p m) pool (counted (isDue p (m .growth) (modelFile p m .numbers)) (stars (modelFile p m .numbers))))
     refl
     refl
     refl

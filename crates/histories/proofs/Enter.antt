@@ -24,7 +24,7 @@ use Rattle.reach.proofs.Search.{Such, such}
 use Rattle.starfile.specs.Answers.{Pool, spotted, acceptedAt, refused, refusedAt, cleared}
 use Rattle.starfile.specs.Calls.{poolFits, unless, orElse, guarded, unchanged, holds, itemOf, enterTo, enteredAgain, enterOn, enterOf}
 use Rattle.starfile.proofs.Resending.{HeldEntry, resend-leaves, other-refused}
-use Rattle.histories.specs.Model.{Model, enter, updated, setPosition, positionOf, starsOf, fileOf, pageFor, placeOn}
+use Rattle.histories.specs.Model.{Model, enter, updated, setPosition, heldPosition, entryStars, modelFile, pageFor, placeOn}
 use Rattle.histories.proofs.Entries.{ValidEntry, ordered-set, position-valid, set-same}
 use Rattle.histories.proofs.Stars.{starOf, stars-enter}
 use Rattle.histories.proofs.Fitting.{Fitting, hashFor, starsFor, bounded, homed, rising-from, proper, lengths, in-range, laid-stars, named-readable}
@@ -46,64 +46,65 @@ module _ (p : Parameters) (m : Model) (t : Fitting p m) (k : ℕ) (q : Position)
   from = hashFor p m .home k
 
   abbrev to : ℕ
-  to = entryEnd (hashFor p m) (p .pages) (fileOf p m) new
+  to = entryEnd (hashFor p m) (p .pages) (modelFile p m) new
 
   stops : ℕ → Bool
-  stops page = storedTop (fileOf p m .separators) (hashFor p m .top) page && entersWithin (hashFor p m) (fileOf p m) new page
+  stops page = storedTop (modelFile p m .separators) (hashFor p m .top) page && entersWithin (hashFor p m) (modelFile p m) new page
 
   inside : from < p .pages
   inside = homed p (m .growth) k (t .parameters) (t .growth)
 
-  entry : Reach (hashFor p m) (p .pages) (fileOf p m) from to
+  entry : Reach (hashFor p m) (p .pages) (modelFile p m) from to
   unfolding entryEnd stops
   entry =
-      reach (hashFor p m) (p .pages) (fileOf p m) from stops
-      (λ page e. eqb-true (getD (fileOf p m .separators) page 0) (hashFor p m .top) (and-eq-true-iff (storedTop (fileOf p m .separators) (hashFor p m .top) page) (entersWithin (hashFor p m) (fileOf p m) new page) .0 e .0))
+      reach (hashFor p m) (p .pages) (modelFile p m) from stops
+      (λ page e. eqb-true (getD (modelFile p m .separators) page 0) (hashFor p m .top)
+      (and-eq-true-iff (storedTop (modelFile p m .separators) (hashFor p m .top) page) (entersWithin (hashFor p m) (modelFile p m) new page) .0 e .0))
       inside
 
-  placed : entersWithin (hashFor p m) (fileOf p m) new to ≡ true
-      → (replaced (p .places) (fileOf p m) from (pages (hashFor p m) from (pagesTo from to) (entering (hashFor p m) (fileOf p m) new to))
+  placed : entersWithin (hashFor p m) (modelFile p m) new to ≡ true
+      → (replaced (p .places) (modelFile p m) from (pages (hashFor p m) from (pagesTo from to) (entering (hashFor p m) (modelFile p m) new to))
       ≡ laid (p .places) (hashFor p m) (p .pages) (insert new (starsFor m)))
       × (left (hashFor p m) 0 (p .pages) (insert new (starsFor m)) ≡ [])
-  unfolding fileOf hashOf entering entersWithin
+  unfolding modelFile hashOf entering entersWithin
   placed e =
       entered validWord (hashFor p m) (bounded p (m .growth) (t .parameters)) (p .pages) from (to - from) (starsFor m)
       (rising-from p m t) (proper p m t) (t .fits) (entry .high) new refl (entry .ends) (is-empty _ e)
 
   -- Where the reach's rule carries a star on, so does the rule over all pages.
-  carried : entersWithin (hashFor p m) (fileOf p m) new to ≡ false → left (hashFor p m) 0 (p .pages) (insert new (starsFor m)) ≡ [] → ⊥
-  unfolding fileOf hashOf entering entersWithin entryEnd stops
+  carried : entersWithin (hashFor p m) (modelFile p m) new to ≡ false → left (hashFor p m) 0 (p .pages) (insert new (starsFor m)) ≡ [] → ⊥
+  unfolding modelFile hashOf entering entersWithin entryEnd stops
   carried e fits = go (decLt to (from + (p .pages - 1 - from)))
     where
       found : Such stops from (p .pages - 1 - from) to
       found = such stops from (p .pages - 1 - from)
 
       go : Dec (to < from + (p .pages - 1 - from)) → ⊥
-      go (yes d) = true≢false (sym (and-eq-true-iff (storedTop (fileOf p m .separators) (hashFor p m .top) to) (entersWithin (hashFor p m) (fileOf p m) new to) .0 (found .passes d) .1) ∙ e)
+      go (yes d) = true≢false (sym (and-eq-true-iff (storedTop (modelFile p m .separators) (hashFor p m .top) to) (entersWithin (hashFor p m) (modelFile p m) new to) .0 (found .passes d) .1) ∙ e)
       go (no d) = true≢false (sym (ap isEmpty (sym last ∙ fits)) ∙ e)
         where
-          last : left (hashFor p m) 0 (p .pages) (insert new (starsFor m)) ≡ left (hashFor p m) from (pagesTo from to) (insert new (gathered (p .places) (fileOf p m) from (pagesTo from to)))
+          last : left (hashFor p m) 0 (p .pages) (insert new (starsFor m)) ≡ left (hashFor p m) from (pagesTo from to) (insert new (gathered (p .places) (modelFile p m) from (pagesTo from to)))
           last =
               entry-refused validWord (hashFor p m) (bounded p (m .growth) (t .parameters)) (p .pages) from (to - from) (starsFor m)
               (rising-from p m t) (proper p m t) (t .fits) (entry .high) new refl (omega (arith, found .low, found .high, inside))
 
-  module _ (valid : ValidEntry (record { number = k; position = q })) (absent : positionOf k (m .entries) ≡ none) where
-    enters : (pool : Pool) → Conforms p m (enter k q) (enterTo p (m .growth) (fileOf p m) pool new (placeOn p m k) to)
+  module _ (valid : ValidEntry (record { number = k; position = q })) (absent : heldPosition k (m .entries) ≡ none) where
+    enters : (pool : Pool) → Conforms p m (enter k q) (enterTo p (m .growth) (modelFile p m) pool new (placeOn p m k) to)
     unfolding enterTo updated spotted
     enters pool =
         rw (none-unsound p m t from (pagesTo from to) (entry .high), le-ltb (from + pagesTo from to) (from + pagesTo from to) (le-refl (from + pagesTo from to)))
-        (go (entersWithin (hashFor p m) (fileOf p m) new to) refl)
+        (go (entersWithin (hashFor p m) (modelFile p m) new to) refl)
       where
-        go : (b : Bool) → entersWithin (hashFor p m) (fileOf p m) new to ≡ b
+        go : (b : Bool) → entersWithin (hashFor p m) (modelFile p m) new to ≡ b
             → Conforms p m (enter k q)
             (cond b
             (record {
-              answer = acceptedAt (holding k from (pages (hashFor p m) from (pagesTo from to) (entering (hashFor p m) (fileOf p m) new to))) (placeOn p m k);
+              answer = acceptedAt (holding k from (pages (hashFor p m) from (pagesTo from to) (entering (hashFor p m) (modelFile p m) new to))) (placeOn p m k);
               growth = m .growth;
-              file = replaced (p .places) (fileOf p m) from (pages (hashFor p m) from (pagesTo from to) (entering (hashFor p m) (fileOf p m) new to));
+              file = replaced (p .places) (modelFile p m) from (pages (hashFor p m) from (pagesTo from to) (entering (hashFor p m) (modelFile p m) new to));
               pool = pool;
             })
-            (unchanged (m .growth) (fileOf p m) pool (refusedAt 8 0 (placeOn p m k))))
+            (unchanged (m .growth) (modelFile p m) pool (refusedAt 8 0 (placeOn p m k))))
         go true e =
             accepted-conforms p m t (enter k q) _ refl refl
             (placed e .0 ∙ laid-stars p (updated p (enter k q) m) (insert new (starsFor m)) (stars-enter k q (m .entries) absent))
@@ -117,16 +118,16 @@ module _ (p : Parameters) (m : Model) (t : Fitting p m) (k : ℕ) (q : Position)
         go false e = refused-conforms p m t (enter k q) pool (refusedAt 8 0 (placeOn p m k)) (λ d. omega arith) (λ d. omega arith)
 
   -- The model fed a number's own position again is the same model.
-  pub fed-own : positionOf k (m .entries) ≡ some q → updated p (enter k q) m ≡ m
+  pub fed-own : heldPosition k (m .entries) ≡ some q → updated p (enter k q) m ≡ m
   unfolding updated
   fed-own e =
       let es = set-same 1 k q (m .entries) (in-range k (position-valid 1 k q (m .entries) (t .ordered) e .number) .0) (t .ordered) e in
       λ i. record { entries = es i; growth = m .growth }
 
   -- A held star: its own position again is no step.
-  module _ (r : Position) (e : positionOf k (m .entries) ≡ some r) where
+  module _ (r : Position) (e : heldPosition k (m .entries) ≡ some r) where
     stored : ℕ
-    stored = getD (fileOf p m .words) (itemOf p (fileOf p m) (pageFor p m k) k) 0
+    stored = getD (modelFile p m .words) (itemOf p (modelFile p m) (pageFor p m k) k) 0
 
     own : validPosition q ≡ true → stored ≡ packed q → r ≡ q
     unfolding stored
@@ -136,44 +137,44 @@ module _ (p : Parameters) (m : Model) (t : Fitting p m) (k : ℕ) (q : Position)
         ∙ unpack-pack q valid
 
     again : ValidEntry (record { number = k; position = q }) → (pool : Pool)
-        → Conforms p m (enter k q) (unchanged (m .growth) (fileOf p m) pool (enteredAgain p (fileOf p m) (pageFor p m k) new))
+        → Conforms p m (enter k q) (unchanged (m .growth) (modelFile p m) pool (enteredAgain p (modelFile p m) (pageFor p m k) new))
     unfolding enteredAgain spotted stored
     again valid pool = go (eqb stored (packed q)) refl
       where
         go : (b : Bool) → eqb stored (packed q) ≡ b
-            → Conforms p m (enter k q) (unchanged (m .growth) (fileOf p m) pool (cond b (acceptedAt (pageFor p m k) (placeOn p m k)) (refusedAt 6 0 (placeOn p m k))))
+            → Conforms p m (enter k q) (unchanged (m .growth) (modelFile p m) pool (cond b (acceptedAt (pageFor p m k) (placeOn p m k)) (refusedAt 6 0 (placeOn p m k))))
         go true d =
             let stays = fed-own (e ∙ ap some (own (valid .position) (eqb-true stored (packed q) d))) in
-            accepted-conforms p m t (enter k q) _ refl (ap (λ (n : Model). n .growth) (sym stays)) (ap (fileOf p) (sym stays)) (rw stays t) (λ j c. cc)
+            accepted-conforms p m t (enter k q) _ refl (ap (λ (n : Model). n .growth) (sym stays)) (ap (modelFile p) (sym stays)) (rw stays t) (λ j c. cc)
         go false d = refused-conforms p m t (enter k q) pool (refusedAt 6 0 (placeOn p m k)) (λ c. omega arith) (λ c. omega arith)
 
-  enters-on : ValidEntry (record { number = k; position = q }) → (pool : Pool) → Conforms p m (enter k q) (enterOn p (m .growth) (fileOf p m) pool (pageFor p m k) new)
+  enters-on : ValidEntry (record { number = k; position = q }) → (pool : Pool) → Conforms p m (enter k q) (enterOn p (m .growth) (modelFile p m) pool (pageFor p m k) new)
   unfolding enterOn spotted
-  enters-on valid pool = rw (named-readable p m t k) (go (positionOf k (m .entries)) refl)
+  enters-on valid pool = rw (named-readable p m t k) (go (heldPosition k (m .entries)) refl)
     where
-      go : (o : Option Position) → positionOf k (m .entries) ≡ o
+      go : (o : Option Position) → heldPosition k (m .entries) ≡ o
           → Conforms p m (enter k q)
-          (cond (holds p (fileOf p m) (pageFor p m k) k)
-          (unchanged (m .growth) (fileOf p m) pool (enteredAgain p (fileOf p m) (pageFor p m k) new))
-          (enterTo p (m .growth) (fileOf p m) pool new (placeOn p m k) to))
+          (cond (holds p (modelFile p m) (pageFor p m k) k)
+          (unchanged (m .growth) (modelFile p m) pool (enteredAgain p (modelFile p m) (pageFor p m k) new))
+          (enterTo p (m .growth) (modelFile p m) pool new (placeOn p m k) to))
       go none e = rw (not-held p m t k (in-range k (valid .number) .0) e) (enters valid e pool)
       go (some r) e = rw (held p m t k r e) (again r e valid pool)
 
-  pub enter-conforms : (pool : Pool) → Conforms p m (enter k q) (enterOf p (m .growth) (fileOf p m) pool k q)
+  pub enter-conforms : (pool : Pool) → Conforms p m (enter k q) (enterOf p (m .growth) (modelFile p m) pool k q)
   unfolding enterOf pageFor namedPage spotted
   enter-conforms pool = rw (lent-pool p m t (poolFits p pool)) (go (poolFits p pool) (validNumber k) (validPosition q) refl refl)
     where
       go : (u v w : Bool) → validNumber k ≡ v → validPosition q ≡ w
           → Conforms p m (enter k q)
-          (guarded (m .growth) (fileOf p m) pool (orElse (unless u 2) (orElse (unless v 3) (unless w 4))) (enterOn p (m .growth) (fileOf p m) (cleared pool) (pageFor p m k) new))
+          (guarded (m .growth) (modelFile p m) pool (orElse (unless u 2) (orElse (unless v 3) (unless w 4))) (enterOn p (m .growth) (modelFile p m) (cleared pool) (pageFor p m k) new))
       go false v w e f = refused-conforms p m t (enter k q) pool (refused 2 0) (λ d. omega arith) (λ d. omega arith)
       go true false w e f = refused-conforms p m t (enter k q) pool (refused 3 0) (λ d. omega arith) (λ d. omega arith)
       go true true false e f = refused-conforms p m t (enter k q) pool (refused 4 0) (λ d. omega arith) (λ d. omega arith)
       go true true true e f = enters-on (record { number = e; position = f }) (cleared pool)
 
   -- The entry of a star that the model holds, with its own position and with another.
-  module _ (pool : Pool) (fit : poolFits p pool ≡ true) (r : Position) (e : positionOf k (m .entries) ≡ some r) (valid : validPosition q ≡ true) where
-    there : HeldEntry p (m .growth) (fileOf p m) pool k q
+  module _ (pool : Pool) (fit : poolFits p pool ≡ true) (r : Position) (e : heldPosition k (m .entries) ≡ some r) (valid : validPosition q ≡ true) where
+    there : HeldEntry p (m .growth) (modelFile p m) pool k q
     unfolding pageFor namedPage
     there =
         record {
@@ -185,40 +186,40 @@ module _ (p : Parameters) (m : Model) (t : Fitting p m) (k : ℕ) (q : Position)
           held = held p m t k r e;
         }
 
-    pub resent : r ≡ q → enterOf p (m .growth) (fileOf p m) pool k q ≡ unchanged (m .growth) (fileOf p m) (cleared pool) (acceptedAt (pageFor p m k) (placeOn p m k))
+    pub resent : r ≡ q → enterOf p (m .growth) (modelFile p m) pool k q ≡ unchanged (m .growth) (modelFile p m) (cleared pool) (acceptedAt (pageFor p m k) (placeOn p m k))
     unfolding pageFor namedPage
-    resent d = resend-leaves p (m .growth) (fileOf p m) pool k q there (held-word p m t k r e ∙ ap packed d)
+    resent d = resend-leaves p (m .growth) (modelFile p m) pool k q there (held-word p m t k r e ∙ ap packed d)
 
-    pub other : (r ≡ q → ⊥) → enterOf p (m .growth) (fileOf p m) pool k q ≡ unchanged (m .growth) (fileOf p m) (cleared pool) (refusedAt 6 0 (placeOn p m k))
+    pub other : (r ≡ q → ⊥) → enterOf p (m .growth) (modelFile p m) pool k q ≡ unchanged (m .growth) (modelFile p m) (cleared pool) (refusedAt 6 0 (placeOn p m k))
     unfolding pageFor namedPage stored
-    other d = other-refused p (m .growth) (fileOf p m) pool k q there (λ w. d (own r e valid w))
+    other d = other-refused p (m .growth) (modelFile p m) pool k q there (λ w. d (own r e valid w))
 
   -- The entry of a star that the model does not hold.
-  module _ (pool : Pool) (lengths : poolFits p pool ≡ true) (valid : ValidEntry (record { number = k; position = q })) (absent : positionOf k (m .entries) ≡ none) where
-    reached : enterOf p (m .growth) (fileOf p m) pool k q ≡ enterTo p (m .growth) (fileOf p m) (cleared pool) new (placeOn p m k) to
+  module _ (pool : Pool) (lengths : poolFits p pool ≡ true) (valid : ValidEntry (record { number = k; position = q })) (absent : heldPosition k (m .entries) ≡ none) where
+    reached : enterOf p (m .growth) (modelFile p m) pool k q ≡ enterTo p (m .growth) (modelFile p m) (cleared pool) new (placeOn p m k) to
     unfolding enterOf enterOn pageFor namedPage
     reached = guards ∙ rw (named-readable p m t k, not-held p m t k (in-range k (valid .number) .0) absent)
       where
-        guards : enterOf p (m .growth) (fileOf p m) pool k q ≡ enterOn p (m .growth) (fileOf p m) (cleared pool) (pageFor p m k) new
+        guards : enterOf p (m .growth) (modelFile p m) pool k q ≡ enterOn p (m .growth) (modelFile p m) (cleared pool) (pageFor p m k) new
         guards = rw (lent-pool p m t (poolFits p pool), lengths, valid .number, valid .position)
 
     -- It is refused with 8 exactly if the model's stars with it do not fit.
-    pub full : (enterOf p (m .growth) (fileOf p m) pool k q .answer .refusal ≡ 8)
-        ↔ (left (hashFor p m) 0 (p .pages) (starsOf (setPosition k q (m .entries))) ≡ [] → ⊥)
+    pub full : (enterOf p (m .growth) (modelFile p m) pool k q .answer .refusal ≡ 8)
+        ↔ (left (hashFor p m) 0 (p .pages) (entryStars (setPosition k q (m .entries))) ≡ [] → ⊥)
     unfolding enterTo spotted
     full =
         rw (reached, stars-enter k q (m .entries) absent, none-unsound p m t from (pagesTo from to) (entry .high), le-ltb (from + pagesTo from to) (from + pagesTo from to) (le-refl (from + pagesTo from to)))
-        (go (entersWithin (hashFor p m) (fileOf p m) new to) refl)
+        (go (entersWithin (hashFor p m) (modelFile p m) new to) refl)
       where
-        go : (b : Bool) → entersWithin (hashFor p m) (fileOf p m) new to ≡ b
+        go : (b : Bool) → entersWithin (hashFor p m) (modelFile p m) new to ≡ b
             → (cond b
             (record {
-              answer = acceptedAt (holding k from (pages (hashFor p m) from (pagesTo from to) (entering (hashFor p m) (fileOf p m) new to))) (placeOn p m k);
+              answer = acceptedAt (holding k from (pages (hashFor p m) from (pagesTo from to) (entering (hashFor p m) (modelFile p m) new to))) (placeOn p m k);
               growth = m .growth;
-              file = replaced (p .places) (fileOf p m) from (pages (hashFor p m) from (pagesTo from to) (entering (hashFor p m) (fileOf p m) new to));
+              file = replaced (p .places) (modelFile p m) from (pages (hashFor p m) from (pagesTo from to) (entering (hashFor p m) (modelFile p m) new to));
               pool = cleared pool;
             })
-            (unchanged (m .growth) (fileOf p m) (cleared pool) (refusedAt 8 0 (placeOn p m k)))
+            (unchanged (m .growth) (modelFile p m) (cleared pool) (refusedAt 8 0 (placeOn p m k)))
             .answer .refusal ≡ 8)
             ↔ (left (hashFor p m) 0 (p .pages) (insert new (starsFor m)) ≡ [] → ⊥)
         go true e = ((λ h. absurd (omega arith)), λ h. absurd (h (placed e .1)))

@@ -11,7 +11,7 @@ use borrow.Author.Tests.{eqb-true, eq-eqb, ne-eqb}
 use Rattle.pages.specs.declared.position.Position.{Position}
 use Rattle.pages.specs.Position.{validNumber, validPosition}
 use Rattle.placement.specs.Rule.{keep, filter}
-use Rattle.histories.specs.Model.{Entry, setPosition, strike, positionOf}
+use Rattle.histories.specs.Model.{Entry, setPosition, strike, heldPosition}
 use Rattle.histories.proofs.Compared.{Compared, lower, equal, higher, compared}
 
 -- a valid number and a valid position
@@ -50,105 +50,105 @@ ordered-strike low k (e ∷ es) o = go (eqb (e .number) k) (ordered-strike (suc 
     go false ih = (o .0, o .1, ih)
 
 -- An accepted entry or change "sets the number's position", and no other.
-pub position-set : (k : ℕ) (q : Position) (es : List Entry) → positionOf k (setPosition k q es) ≡ some q
-unfolding setPosition positionOf
+pub position-set : (k : ℕ) (q : Position) (es : List Entry) → heldPosition k (setPosition k q es) ≡ some q
+unfolding setPosition heldPosition
 position-set k q [] = rw (eq-eqb k k refl)
 position-set k q (e ∷ es) = go (compared (e .number) k) (position-set k q es)
   where
-    go : Compared (e .number) k → positionOf k (setPosition k q es) ≡ some q
-        → positionOf k (cond (ltb (e .number) k) (e ∷ setPosition k q es) (record { number = k; position = q } ∷ cond (eqb (e .number) k) es (e ∷ es))) ≡ some q
+    go : Compared (e .number) k → heldPosition k (setPosition k q es) ≡ some q
+        → heldPosition k (cond (ltb (e .number) k) (e ∷ setPosition k q es) (record { number = k; position = q } ∷ cond (eqb (e .number) k) es (e ∷ es))) ≡ some q
     go (lower g t u) ih = rw (t, u) ih
     go (equal g t u) ih = rw (t, eq-eqb k k refl)
     go (higher g t u) ih = rw (t, eq-eqb k k refl)
 
-pub position-set-other : (j k : ℕ) (q : Position) (es : List Entry) → (j ≡ k → ⊥) → positionOf j (setPosition k q es) ≡ positionOf j es
-unfolding setPosition positionOf
+pub position-set-other : (j k : ℕ) (q : Position) (es : List Entry) → (j ≡ k → ⊥) → heldPosition j (setPosition k q es) ≡ heldPosition j es
+unfolding setPosition heldPosition
 position-set-other j k q [] h = rw (ne-eqb k j (λ e. h (sym e)))
 position-set-other j k q (e ∷ es) h = go (compared (e .number) k) (position-set-other j k q es h)
   where
     other : eqb k j ≡ false
     other = ne-eqb k j (λ e. h (sym e))
 
-    go : Compared (e .number) k → positionOf j (setPosition k q es) ≡ positionOf j es
-        → positionOf j (cond (ltb (e .number) k) (e ∷ setPosition k q es) (record { number = k; position = q } ∷ cond (eqb (e .number) k) es (e ∷ es))) ≡ positionOf j (e ∷ es)
+    go : Compared (e .number) k → heldPosition j (setPosition k q es) ≡ heldPosition j es
+        → heldPosition j (cond (ltb (e .number) k) (e ∷ setPosition k q es) (record { number = k; position = q } ∷ cond (eqb (e .number) k) es (e ∷ es))) ≡ heldPosition j (e ∷ es)
     go (lower g t u) ih = rw (t, ih)
     go (equal g t u) ih = rw (t, u, other, ne-eqb (e .number) j (λ d. h (sym d ∙ g)))
     go (higher g t u) ih = rw (t, u, other)
 
 -- An accepted removal "strikes the number out", and no other.
-pub position-strike : (k : ℕ) (es : List Entry) → positionOf k (strike k es) ≡ none
-unfolding strike filter positionOf
+pub position-strike : (k : ℕ) (es : List Entry) → heldPosition k (strike k es) ≡ none
+unfolding strike filter heldPosition
 position-strike k [] = refl
 position-strike k (e ∷ es) = go (eqb (e .number) k) refl (position-strike k es)
   where
-    go : (t : Bool) → eqb (e .number) k ≡ t → positionOf k (filter (λ (d : Entry). not (eqb (d .number) k)) es) ≡ none
-        → positionOf k (keep (not t) e (filter (λ (d : Entry). not (eqb (d .number) k)) es)) ≡ none
+    go : (t : Bool) → eqb (e .number) k ≡ t → heldPosition k (filter (λ (d : Entry). not (eqb (d .number) k)) es) ≡ none
+        → heldPosition k (keep (not t) e (filter (λ (d : Entry). not (eqb (d .number) k)) es)) ≡ none
     go true u ih = ih
     go false u ih = rw (u, ih)
 
-pub position-strike-other : (j k : ℕ) (es : List Entry) → (j ≡ k → ⊥) → positionOf j (strike k es) ≡ positionOf j es
-unfolding strike filter positionOf
+pub position-strike-other : (j k : ℕ) (es : List Entry) → (j ≡ k → ⊥) → heldPosition j (strike k es) ≡ heldPosition j es
+unfolding strike filter heldPosition
 position-strike-other j k [] h = refl
 position-strike-other j k (e ∷ es) h = go (eqb (e .number) k) refl (position-strike-other j k es h)
   where
-    go : (t : Bool) → eqb (e .number) k ≡ t → positionOf j (filter (λ (d : Entry). not (eqb (d .number) k)) es) ≡ positionOf j es
-        → positionOf j (keep (not t) e (filter (λ (d : Entry). not (eqb (d .number) k)) es)) ≡ cond (eqb (e .number) j) (some (e .position)) (positionOf j es)
+    go : (t : Bool) → eqb (e .number) k ≡ t → heldPosition j (filter (λ (d : Entry). not (eqb (d .number) k)) es) ≡ heldPosition j es
+        → heldPosition j (keep (not t) e (filter (λ (d : Entry). not (eqb (d .number) k)) es)) ≡ cond (eqb (e .number) j) (some (e .position)) (heldPosition j es)
     go true u ih = rw (ne-eqb (e .number) j (λ d. h (sym d ∙ eqb-true (e .number) k u)), ih)
     go false u ih = rw ih
 
 -- A number below all has no position.
-pub position-low : (low k : ℕ) (es : List Entry) → Ordered low es → k < low → positionOf k es ≡ none
-unfolding positionOf
+pub position-low : (low k : ℕ) (es : List Entry) → Ordered low es → k < low → heldPosition k es ≡ none
+unfolding heldPosition
 position-low low k [] o h = refl
 position-low low k (e ∷ es) o h =
     rw (ne-eqb (e .number) k (λ d. omega (arith, o .0))) (position-low (suc (e .number)) k es (o .2) (omega (arith, o .0)))
 
-pub position-head : (e : Entry) (es : List Entry) → positionOf (e .number) (e ∷ es) ≡ some (e .position)
-unfolding positionOf
+pub position-head : (e : Entry) (es : List Entry) → heldPosition (e .number) (e ∷ es) ≡ some (e .position)
+unfolding heldPosition
 position-head e es = rw (eq-eqb (e .number) (e .number) refl)
 
-pub position-tail : (k : ℕ) (e : Entry) (es : List Entry) → (e .number ≡ k → ⊥) → positionOf k (e ∷ es) ≡ positionOf k es
-unfolding positionOf
+pub position-tail : (k : ℕ) (e : Entry) (es : List Entry) → (e .number ≡ k → ⊥) → heldPosition k (e ∷ es) ≡ heldPosition k es
+unfolding heldPosition
 position-tail k e es h = rw (ne-eqb (e .number) k h)
 
 -- A number with a position is valid, and so is the position.
-pub position-valid : (low k : ℕ) (q : Position) (es : List Entry) → Ordered low es → positionOf k es ≡ some q → ValidEntry (record { number = k; position = q })
-unfolding positionOf
+pub position-valid : (low k : ℕ) (q : Position) (es : List Entry) → Ordered low es → heldPosition k es ≡ some q → ValidEntry (record { number = k; position = q })
+unfolding heldPosition
 position-valid low k q [] o h = let z : _≡_ {A = ℕ} 0 1 = cc in absurd (omega arith)
 position-valid low k q (e ∷ es) o h = go (eqb (e .number) k) refl h (position-valid (suc (e .number)) k q es (o .2))
   where
-    go : (t : Bool) → eqb (e .number) k ≡ t → cond t (some (e .position)) (positionOf k es) ≡ some q
-        → (positionOf k es ≡ some q → ValidEntry (record { number = k; position = q })) → ValidEntry (record { number = k; position = q })
+    go : (t : Bool) → eqb (e .number) k ≡ t → cond t (some (e .position)) (heldPosition k es) ≡ some q
+        → (heldPosition k es ≡ some q → ValidEntry (record { number = k; position = q })) → ValidEntry (record { number = k; position = q })
     go true u h ih =
         let r : e .position ≡ q = cc in
         record { number = rw (eqb-true (e .number) k u) at (o .1 .number); position = rw r at (o .1 .position) }
     go false u h ih = ih h
 
 -- The entries are determined by which position, if any, they give for each number.
-module _ (d e : Entry) (ds es : List Entry) (h : (k : ℕ) → positionOf k (d ∷ ds) ≡ positionOf k (e ∷ es)) where
+module _ (d e : Entry) (ds es : List Entry) (h : (k : ℕ) → heldPosition k (d ∷ ds) ≡ heldPosition k (e ∷ es)) where
   not-lower : Ordered (e .number) (e ∷ es) → d .number < e .number → ⊥
   not-lower r g =
       let z : _≡_ {A = ℕ} 0 1 = cc (h (d .number), position-head d ds, position-low (e .number) (d .number) (e ∷ es) r g) in omega arith
 
   same-head : d .number ≡ e .number → d ≡ e
   same-head g =
-      let p : some (d .position) ≡ some (e .position) = sym (position-head d ds) ∙ h (d .number) ∙ ap (λ (k : ℕ). positionOf k (e ∷ es)) g ∙ position-head e es in
+      let p : some (d .position) ≡ some (e .position) = sym (position-head d ds) ∙ h (d .number) ∙ ap (λ (k : ℕ). heldPosition k (e ∷ es)) g ∙ position-head e es in
       let q : d .position ≡ e .position = cc in
       λ i. record { number = g i; position = q i }
 
-  same-tail : (low : ℕ) → d .number < low → d .number ≡ e .number → Ordered low ds → Ordered low es → (k : ℕ) → positionOf k ds ≡ positionOf k es
+  same-tail : (low : ℕ) → d .number < low → d .number ≡ e .number → Ordered low ds → Ordered low es → (k : ℕ) → heldPosition k ds ≡ heldPosition k es
   same-tail low l g o r k = go (compared (d .number) k)
     where
-      apart : (d .number ≡ k → ⊥) → positionOf k ds ≡ positionOf k es
+      apart : (d .number ≡ k → ⊥) → heldPosition k ds ≡ heldPosition k es
       apart f = sym (position-tail k d ds f) ∙ h k ∙ position-tail k e es (λ c. f (g ∙ c))
 
-      go : Compared (d .number) k → positionOf k ds ≡ positionOf k es
+      go : Compared (d .number) k → heldPosition k ds ≡ heldPosition k es
       go (lower a t u) = apart (λ c. omega arith)
       go (equal a t u) = position-low low k ds o (omega arith) ∙ sym (position-low low k es r (omega arith))
       go (higher a t u) = apart (λ c. omega arith)
 
-pub determined : (low : ℕ) (ds es : List Entry) → Ordered low ds → Ordered low es → ((k : ℕ) → positionOf k ds ≡ positionOf k es) → ds ≡ es
-unfolding positionOf
+pub determined : (low : ℕ) (ds es : List Entry) → Ordered low ds → Ordered low es → ((k : ℕ) → heldPosition k ds ≡ heldPosition k es) → ds ≡ es
+unfolding heldPosition
 determined low [] [] o r h = refl
 determined low [] (e ∷ es) o r h =
     let z : _≡_ {A = ℕ} 0 1 = cc (h (e .number), position-head e es) in absurd (omega arith)
@@ -156,7 +156,7 @@ determined low (d ∷ ds) [] o r h =
     let z : _≡_ {A = ℕ} 0 1 = cc (h (d .number), position-head d ds) in absurd (omega arith)
 determined low (d ∷ ds) (e ∷ es) o r h = go (compared (d .number) (e .number)) (λ t f. determined (suc (d .number)) ds es (o .2) t f)
   where
-    go : Compared (d .number) (e .number) → (Ordered (suc (d .number)) es → ((k : ℕ) → positionOf k ds ≡ positionOf k es) → ds ≡ es) → d ∷ ds ≡ e ∷ es
+    go : Compared (d .number) (e .number) → (Ordered (suc (d .number)) es → ((k : ℕ) → heldPosition k ds ≡ heldPosition k es) → ds ≡ es) → d ∷ ds ≡ e ∷ es
     go (lower g t u) ih = absurd (not-lower d e ds es h (le-refl (e .number), r .1, r .2) g)
     go (equal g t u) ih =
         let after : Ordered (suc (d .number)) es = rw g (r .2) in
@@ -165,11 +165,11 @@ determined low (d ∷ ds) (e ∷ es) o r h = go (compared (d .number) (e .number
     go (higher g t u) ih = absurd (not-lower e d es ds (λ k. sym (h k)) (le-refl (d .number), o .1, o .2) g)
 
 -- Setting a number's own position changes nothing.
-pub set-same : (low k : ℕ) (q : Position) (es : List Entry) → low ≤ k → Ordered low es → positionOf k es ≡ some q → setPosition k q es ≡ es
+pub set-same : (low k : ℕ) (q : Position) (es : List Entry) → low ≤ k → Ordered low es → heldPosition k es ≡ some q → setPosition k q es ≡ es
 set-same low k q es h o e =
     determined low (setPosition k q es) es (ordered-set low k q es h (position-valid low k q es o e) o) o (λ j. go j (compared j k))
   where
-    go : (j : ℕ) → Compared j k → positionOf j (setPosition k q es) ≡ positionOf j es
+    go : (j : ℕ) → Compared j k → heldPosition j (setPosition k q es) ≡ heldPosition j es
     go j (lower g t u) = position-set-other j k q es (λ d. omega arith)
     go j (equal g t u) = rw g (position-set k q es ∙ sym e)
     go j (higher g t u) = position-set-other j k q es (λ d. omega arith)

@@ -14,7 +14,7 @@ use Rattle.hashing.proofs.Laws.{signature-below, home-pages}
 use Rattle.hashing.proofs.Bounds.{limits}
 use Rattle.pages.specs.Position.{validNumber, validWord}
 use Rattle.placement.specs.Rule.{Star, Hash, pages, left}
-use Rattle.placement.specs.File.{laid, Sized, greatest, fileOf as fileWith}
+use Rattle.placement.specs.File.{laid, Sized, greatest, fileOf}
 use Rattle.placement.specs.Hash.{hashOf, soundAt}
 use Rattle.placement.proofs.Separator.{Bounded}
 use Rattle.placement.proofs.Order.{Rising, rising-less}
@@ -22,7 +22,7 @@ use Rattle.placement.proofs.Pages.{Proper}
 use Rattle.placement.proofs.Files.{sized-laid}
 use Rattle.placement.proofs.Sound.{sound-laid, facts-sound}
 use Rattle.starfile.specs.Calls.{hash, fileFits, readable}
-use Rattle.histories.specs.Model.{Model, starsOf, fileOf, pageFor}
+use Rattle.histories.specs.Model.{Model, entryStars, modelFile, pageFor}
 use Rattle.histories.proofs.Entries.{Ordered}
 use Rattle.histories.proofs.Stars.{stars-rise, stars-valid}
 use Rattle.histories.proofs.Naming.{page-named}
@@ -41,17 +41,17 @@ pub record Fitting (p : Parameters) (m : Model) : Type 0 where
   pub parameters : validParameters p ≡ true
   pub growth : validGrowth p (m .growth) ≡ true
   pub ordered : Ordered 1 (m .entries)
-  pub fits : left (hash p (m .growth)) 0 (p .pages) (starsOf (m .entries)) ≡ []
+  pub fits : left (hash p (m .growth)) 0 (p .pages) (entryStars (m .entries)) ≡ []
 
 abbrev pub hashFor : Parameters → Model → Hash
 hashFor p m = hash p (m .growth)
 
 abbrev pub starsFor : Model → List Star
-starsFor m = starsOf (m .entries)
+starsFor m = entryStars (m .entries)
 
 -- the model's file, by its stars
-pub laid-stars : (p : Parameters) (m : Model) (w : List Star) → starsFor m ≡ w → laid (p .places) (hashFor p m) (p .pages) w ≡ fileOf p m
-unfolding fileOf
+pub laid-stars : (p : Parameters) (m : Model) (w : List Star) → starsFor m ≡ w → laid (p .places) (hashFor p m) (p .pages) w ≡ modelFile p m
+unfolding modelFile
 laid-stars p m w e = ap (laid (p .places) (hashFor p m) (p .pages)) (sym e)
 
 pub in-range : (k : ℕ) → validNumber k ≡ true → (1 ≤ k) × (k ≤ greatest)
@@ -73,25 +73,25 @@ module _ (p : Parameters) (m : Model) (t : Fitting p m) where
       let r = in-range (s .number) (v .number) in
       (r .0, r .1, v .word)
 
-  pub sized : Sized (p .places) (p .pages) (fileOf p m)
-  unfolding fileOf hashOf
+  pub sized : Sized (p .places) (p .pages) (modelFile p m)
+  unfolding modelFile hashOf
   sized = sized-laid validWord (hashFor p m) (p .pages) (starsFor m) proper
 
-  pub lengths : fileFits p (fileOf p m) ≡ true
+  pub lengths : fileFits p (modelFile p m) ≡ true
   unfolding fileFits
   lengths = rw (eq-eqb _ _ (sized .ofSeparators), eq-eqb _ _ (sized .ofNumbers), eq-eqb _ _ (sized .ofWords))
 
-  pub all-sound : (page : ℕ) → page < p .pages → soundAt p (m .growth) (fileOf p m) page ≡ true
-  unfolding soundAt fileOf hashOf
+  pub all-sound : (page : ℕ) → page < p .pages → soundAt p (m .growth) (modelFile p m) page ≡ true
+  unfolding soundAt modelFile hashOf
   all-sound page h =
-      facts-sound validWord (hashFor p m) (fileOf p m) page
+      facts-sound validWord (hashFor p m) (modelFile p m) page
       (sound-laid validWord (hashFor p m) (p .pages) (starsFor m) rising-from proper page h)
 
   pub named-inside : (k : ℕ) → pageFor p m k < p .pages
-  unfolding pageFor fileOf laid fileWith
+  unfolding pageFor modelFile laid fileOf
   named-inside k =
       page-named (hashFor p m) (bounded p (m .growth) (t .parameters)) (p .pages) (starsFor m) k (t .fits) (homed p (m .growth) k (t .parameters) (t .growth))
 
-  pub named-readable : (k : ℕ) → readable p (m .growth) (fileOf p m) (pageFor p m k) ≡ true
+  pub named-readable : (k : ℕ) → readable p (m .growth) (modelFile p m) (pageFor p m k) ≡ true
   unfolding readable
   named-readable k = rw (lt-ltb (pageFor p m k) (p .pages) (named-inside k), all-sound (pageFor p m k) (named-inside k))

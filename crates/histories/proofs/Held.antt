@@ -12,32 +12,32 @@ use Rattle.pages.proofs.Parts.{part-item}
 use Rattle.placement.specs.Hash.{hashOf}
 use Rattle.placement.proofs.Search.{found, missing}
 use Rattle.starfile.specs.Calls.{holds, itemOf}
-use Rattle.histories.specs.Model.{Model, positionOf, fileOf, pageFor}
+use Rattle.histories.specs.Model.{Model, heldPosition, modelFile, pageFor}
 use Rattle.histories.proofs.Stars.{starOf, held-star, no-star}
 use Rattle.histories.proofs.Alike.{place-below}
 use Rattle.histories.proofs.Fitting.{Fitting, hashFor, starsFor, rising-from, proper, named-inside}
 
 module _ (p : Parameters) (m : Model) (t : Fitting p m) (k : ℕ) where
-  module _ (q : Position) (e : positionOf k (m .entries) ≡ some q) where
-    there : (heldAt k (part (p .places) (pageFor p m k) (fileOf p m .numbers)) ≡ true)
-        × (getD (part (p .places) (pageFor p m k) (fileOf p m .words)) (placeOf k (part (p .places) (pageFor p m k) (fileOf p m .numbers))) 0 ≡ packed q)
-    unfolding pageFor fileOf hashOf
+  module _ (q : Position) (e : heldPosition k (m .entries) ≡ some q) where
+    there : (heldAt k (part (p .places) (pageFor p m k) (modelFile p m .numbers)) ≡ true)
+        × (getD (part (p .places) (pageFor p m k) (modelFile p m .words)) (placeOf k (part (p .places) (pageFor p m k) (modelFile p m .numbers))) 0 ≡ packed q)
+    unfolding pageFor modelFile hashOf
     there =
         let all = found validWord (hashFor p m) (p .pages) (starsFor m) (rising-from p m t) (proper p m t) (t .fits) (starOf k q) (pageFor p m k) (held-star k q (m .entries) e) refl in
         (all .1, all .2)
 
-    pub held : holds p (fileOf p m) (pageFor p m k) k ≡ true
+    pub held : holds p (modelFile p m) (pageFor p m k) k ≡ true
     unfolding holds
     held = there .0
 
-    pub place-inside : placeOf k (part (p .places) (pageFor p m k) (fileOf p m .numbers)) < p .places
-    place-inside = place-below (p .places) (pageFor p m k) k (fileOf p m .numbers) (there .0)
+    pub place-inside : placeOf k (part (p .places) (pageFor p m k) (modelFile p m .numbers)) < p .places
+    place-inside = place-below (p .places) (pageFor p m k) k (modelFile p m .numbers) (there .0)
 
-    pub held-word : getD (fileOf p m .words) (itemOf p (fileOf p m) (pageFor p m k) k) 0 ≡ packed q
+    pub held-word : getD (modelFile p m .words) (itemOf p (modelFile p m) (pageFor p m k) k) 0 ≡ packed q
     unfolding itemOf
-    held-word = sym (part-item (p .places) (pageFor p m k) (fileOf p m .words) _ place-inside) ∙ there .1
+    held-word = sym (part-item (p .places) (pageFor p m k) (modelFile p m .words) _ place-inside) ∙ there .1
 
-  pub not-held : 1 ≤ k → positionOf k (m .entries) ≡ none → holds p (fileOf p m) (pageFor p m k) k ≡ false
-  unfolding holds fileOf hashOf
+  pub not-held : 1 ≤ k → heldPosition k (m .entries) ≡ none → holds p (modelFile p m) (pageFor p m k) k ≡ false
+  unfolding holds modelFile hashOf
   not-held h e =
       missing validWord (hashFor p m) (p .pages) (starsFor m) (rising-from p m t) (proper p m t) (t .fits) k (pageFor p m k) h (no-star k (m .entries) e) (named-inside p m t k)

@@ -1,60 +1,70 @@
 -- Every history, from the law of each kind of call.
-use mathlib.Core.Path.{_≡_, sym, ap, subst}
+use mathlib.Core.Path.{_≡_, refl, sym, ap, subst, _∙_}
 use mathlib.Core.List.{List, [], _∷_, List·Memᴰ, List·Memᴰ·not-nil, List·Memᴰ·cases-cons}
 use mathlib.Core.Logic.{⊎-elim}
 use Prim.Native.Nat.{ℕ}
 use Rattle.hashing.specs.declared.Parameters.{Parameters}
 use Rattle.placement.specs.File.{File}
 use Rattle.starfile.specs.Answers.{Pool}
-use Rattle.histories.specs.Model.{Model, Request, lookUp, fileOf, answered}
+use Rattle.histories.specs.Model.{Model, Request, lookUp, modelFile, answered}
 use Rattle.histories.specs.Call.{Call, step}
-use Rattle.histories.specs.Run.{State, Event, outcome, next, events, end}
+use Rattle.histories.specs.Run.{HistoryState, Event, outcome, next, events, end}
 use Rattle.histories.specs.Theorem.{AsModel}
 use Rattle.histories.proofs.Fitting.{Fitting}
 use Rattle.histories.proofs.Conforms.{Conforms}
 
+-- No call changes the parameters.
+pub next-keeps : (t : HistoryState) (c : Call) → next t c .parameters ≡ t .parameters
+unfolding next
+next-keeps t c = refl
+
+pub end-keeps : (t : HistoryState) (cs : List Call) → end t cs .parameters ≡ t .parameters
+unfolding end
+end-keeps t [] = refl
+end-keeps t (c ∷ cs) = end-keeps (next t c) cs ∙ next-keeps t c
+
 -- Between two calls growth state and file are the model's.
-pub record Agrees (p : Parameters) (t : State) : Type 0 where
+pub record Agrees (t : HistoryState) : Type 0 where
   pub growth : t .growth ≡ t .model .growth
-  pub file : t .file ≡ fileOf p (t .model)
-  pub fitting : Fitting p (t .model)
+  pub file : t .file ≡ modelFile (t .parameters) (t .model)
+  pub fitting : Fitting (t .parameters) (t .model)
 
 -- Every request to a fitting model's own file is answered rightly.
 abbrev pub Conforming : Type 0
-Conforming = (p : Parameters) (m : Model) → Fitting p m → (pool : Pool) (r : Request) → Conforms p m r (step p (m .growth) (fileOf p m) pool r)
+Conforming = (p : Parameters) (m : Model) → Fitting p m → (pool : Pool) (r : Request) → Conforms p m r (step p (m .growth) (modelFile p m) pool r)
 
-module _ (conforming : Conforming) (p : Parameters) where
-  pub call-conforms : (t : State) → Agrees p t → (c : Call) → Conforms p (t .model) (c .request) (outcome p t c)
+module _ (conforming : Conforming) where
+  pub call-conforms : (t : HistoryState) → Agrees t → (c : Call) → Conforms (t .parameters) (t .model) (c .request) (outcome t c)
   unfolding outcome
-  call-conforms t agrees c = rw (agrees .growth, agrees .file) (conforming p (t .model) (agrees .fitting) (c .pool) (c .request))
+  call-conforms t agrees c = rw (agrees .growth, agrees .file) (conforming (t .parameters) (t .model) (agrees .fitting) (c .pool) (c .request))
 
-  pub next-agrees : (t : State) → Agrees p t → (c : Call) → Agrees p (next p t c)
+  pub next-agrees : (t : HistoryState) → Agrees t → (c : Call) → Agrees (next t c)
   unfolding next
   next-agrees t agrees c =
       let right = call-conforms t agrees c in
       record { growth = right .growth; file = right .file; fitting = right .fitting }
 
-  pub end-agrees : (t : State) → Agrees p t → (cs : List Call) → Agrees p (end p t cs)
+  pub end-agrees : (t : HistoryState) → Agrees t → (cs : List Call) → Agrees (end t cs)
   unfolding end
   end-agrees t agrees [] = agrees
-  end-agrees t agrees (c ∷ cs) = end-agrees (next p t c) (next-agrees t agrees c) cs
+  end-agrees t agrees (c ∷ cs) = end-agrees (next t c) (next-agrees t agrees c) cs
 
   -- What holds of each call at a state that agrees with its model holds of each call of a history.
   pub each-event : (P : Event → Type 0)
-      → ((t : State) → Agrees p t → (c : Call) → P (record { before = t; call = c; answer = outcome p t c .answer }))
-      → (t : State) → Agrees p t → (cs : List Call) (u : Event) → List·Memᴰ u (events p t cs) → P u
+      → ((t : HistoryState) → Agrees t → (c : Call) → P (record { before = t; call = c; answer = outcome t c .answer }))
+      → (t : HistoryState) → Agrees t → (cs : List Call) (u : Event) → List·Memᴰ u (events t cs) → P u
   unfolding events
   each-event P h t agrees [] u m = absurd (List·Memᴰ·not-nil m)
   each-event P h t agrees (c ∷ cs) u m =
       ⊎-elim
-      (λ (e : u ≡ record { before = t; call = c; answer = outcome p t c .answer }). subst P (sym e) (h t agrees c))
-      (λ n. each-event P h (next p t c) (next-agrees t agrees c) cs u n)
+      (λ (e : u ≡ record { before = t; call = c; answer = outcome t c .answer }). subst P (sym e) (h t agrees c))
+      (λ n. each-event P h (next t c) (next-agrees t agrees c) cs u n)
       (List·Memᴰ·cases-cons m)
 
-  pub as-model : (t : State) → Agrees p t → (cs : List Call) → AsModel p t cs
+  pub as-model : (t : HistoryState) → Agrees t → (cs : List Call) → AsModel t cs
   as-model t agrees cs =
       record {
-        lookUps = each-event (λ (u : Event). (k : ℕ) → u .call .request ≡ lookUp k → u .answer .refusal ≡ 0 → u .answer ≡ answered p (u .before .model) k)
+        lookUps = each-event (λ (u : Event). (k : ℕ) → u .call .request ≡ lookUp k → u .answer .refusal ≡ 0 → u .answer ≡ answered (u .before .parameters) (u .before .model) k)
             (λ s h c. call-conforms s h c .found) t agrees cs;
         undamaged = each-event (λ (u : Event). u .answer .refusal ≡ 5 → ⊥) (λ s h c. call-conforms s h c .undamaged) t agrees cs;
         separators = ap (λ (f : File). f .separators) (end-agrees t agrees cs .file);

@@ -19,6 +19,7 @@ pub mod Remove
 pub mod Enter
 pub mod Change
 pub mod Every
+pub mod Demand3
 pub mod Signed
 pub mod Known
 pub mod Stepping

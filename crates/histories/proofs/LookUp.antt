@@ -12,7 +12,7 @@ use Rattle.pages.proofs.Words.{unpack-pack}
 use Rattle.placement.specs.Hash.{namedPage}
 use Rattle.starfile.specs.Answers.{Pool, spotted, acceptedAt, refused, foundAt}
 use Rattle.starfile.specs.Calls.{unless, guarded, unchanged, holds, itemOf, lookedUp, lookUpOf}
-use Rattle.histories.specs.Model.{Model, lookUp, updated, positionOf, fileOf, pageFor, placeOn, answerWith, answered}
+use Rattle.histories.specs.Model.{Model, lookUp, updated, heldPosition, modelFile, pageFor, placeOn, answerWith, answered}
 use Rattle.histories.proofs.Entries.{position-valid}
 use Rattle.histories.proofs.Fitting.{Fitting, in-range, named-readable}
 use Rattle.histories.proofs.Held.{held, held-word, not-held}
@@ -20,15 +20,15 @@ use Rattle.histories.proofs.Guards.{lent}
 use Rattle.histories.proofs.Conforms.{Conforms, refused-conforms, accepted-conforms}
 
 module _ (p : Parameters) (m : Model) (t : Fitting p m) where
-  pub looks-up : (k : ℕ) → 1 ≤ k → lookedUp p (m .growth) (fileOf p m) (pageFor p m k) k ≡ answered p m k
+  pub looks-up : (k : ℕ) → 1 ≤ k → lookedUp p (m .growth) (modelFile p m) (pageFor p m k) k ≡ answered p m k
   unfolding lookedUp answered answerWith
-  looks-up k h = rw (named-readable p m t k) (go (positionOf k (m .entries)) refl)
+  looks-up k h = rw (named-readable p m t k) (go (heldPosition k (m .entries)) refl)
     where
       page : ℕ
       page = pageFor p m k
 
-      go : (o : Option Position) → positionOf k (m .entries) ≡ o
-          → cond (holds p (fileOf p m) page k) (foundAt page (placeOn p m k) (unpacked (getD (fileOf p m .words) (itemOf p (fileOf p m) page k) 0))) (acceptedAt page (placeOn p m k))
+      go : (o : Option Position) → heldPosition k (m .entries) ≡ o
+          → cond (holds p (modelFile p m) page k) (foundAt page (placeOn p m k) (unpacked (getD (modelFile p m .words) (itemOf p (modelFile p m) page k) 0))) (acceptedAt page (placeOn p m k))
           ≡ answerWith o page (placeOn p m k)
       go none e = rw (not-held p m t k h e)
       go (some q) e =
@@ -36,22 +36,22 @@ module _ (p : Parameters) (m : Model) (t : Fitting p m) where
 
   pub answer-accepted : (k : ℕ) → answered p m k .refusal ≡ 0
   unfolding answered answerWith spotted foundAt
-  answer-accepted k = go (positionOf k (m .entries))
+  answer-accepted k = go (heldPosition k (m .entries))
     where
       go : (o : Option Position) → answerWith o (pageFor p m k) (placeOn p m k) .refusal ≡ 0
       go none = refl
       go (some q) = refl
 
-  pub look-up-conforms : (pool : Pool) (k : ℕ) → Conforms p m (lookUp k) (lookUpOf p (m .growth) (fileOf p m) pool k)
+  pub look-up-conforms : (pool : Pool) (k : ℕ) → Conforms p m (lookUp k) (lookUpOf p (m .growth) (modelFile p m) pool k)
   unfolding lookUpOf updated pageFor namedPage spotted
   look-up-conforms pool k = rw (lent p m t) (go (validNumber k) refl)
     where
       go : (v : Bool) → validNumber k ≡ v
-          → Conforms p m (lookUp k) (guarded (m .growth) (fileOf p m) pool (unless v 3) (unchanged (m .growth) (fileOf p m) pool (lookedUp p (m .growth) (fileOf p m) (pageFor p m k) k)))
+          → Conforms p m (lookUp k) (guarded (m .growth) (modelFile p m) pool (unless v 3) (unchanged (m .growth) (modelFile p m) pool (lookedUp p (m .growth) (modelFile p m) (pageFor p m k) k)))
       go false v = refused-conforms p m t (lookUp k) pool (refused 3 0) (λ e. omega arith) (λ e. omega arith)
       go true v =
           let same = looks-up k (in-range k v .0) in
-          accepted-conforms p m t (lookUp k) (unchanged (m .growth) (fileOf p m) pool (lookedUp p (m .growth) (fileOf p m) (pageFor p m k) k))
+          accepted-conforms p m t (lookUp k) (unchanged (m .growth) (modelFile p m) pool (lookedUp p (m .growth) (modelFile p m) (pageFor p m k) k))
           (rw same (answer-accepted k))
           refl
           refl

@@ -11,12 +11,12 @@ use Rattle.hashing.specs.Geometry.{ungrown}
 use Rattle.hashing.specs.Limits.{validParameters}
 use Rattle.hashing.proofs.Laws.{start-valid}
 use Rattle.placement.specs.Rule.{Star, Hash, Contents, filter, passing, contentsOf, staying, onward, pages, left, separators}
-use Rattle.placement.specs.File.{File, padded, column, laid, fileOf as fileWith}
+use Rattle.placement.specs.File.{File, padded, column, laid, fileOf}
 use Rattle.placement.specs.Hash.{hashOf}
 use Rattle.placement.proofs.Separator.{Bounded, probing-top}
 use Rattle.starfile.specs.Answers.{Pool, spotted}
 use Rattle.starfile.specs.Calls.{hash, fileFits, unless, orElse, guarded, emptyFile, makeOf}
-use Rattle.histories.specs.Model.{emptyModel, starsOf, fileOf}
+use Rattle.histories.specs.Model.{emptyModel, entryStars, modelFile}
 use Rattle.histories.specs.Run.{initial}
 use Rattle.histories.proofs.Fitting.{bounded}
 use Rattle.histories.proofs.Histories.{Agrees}
@@ -47,12 +47,12 @@ column-none b g (suc n) top = rw (column-none b g n top, sub-zero b, replicate-a
 
 pub laid-none : (b : ℕ) (H : Hash) → Bounded H → (n : ℕ)
     → laid b H n [] ≡ record { separators = replicate n (H .top); numbers = replicate (n * b) 0; words = replicate (n * b) 0 }
-unfolding laid fileWith
+unfolding laid fileOf
 laid-none b H bounds n =
     rw (pages-none H bounds 0 n, separators-none n (vacant H), column-none b (λ (s : Star). s .number) n (H .top), column-none b (λ (s : Star). s .word) n (H .top))
 
-empty-is : (p : Parameters) → validParameters p ≡ true → emptyFile p ≡ fileOf p emptyModel
-unfolding emptyFile fileOf emptyModel starsOf hashOf
+empty-is : (p : Parameters) → validParameters p ≡ true → emptyFile p ≡ modelFile p emptyModel
+unfolding emptyFile modelFile emptyModel entryStars hashOf
 empty-is p v = sym (laid-none (p .places) (hash p ungrown) (bounded p ungrown v) (p .pages))
 
 -- What make accepts.
@@ -72,8 +72,8 @@ make-accepts p f pool e = go (validParameters p) (fileFits p f) refl refl e
     go false true v l e = absurd (omega arith)
     go false false v l e = absurd (omega arith)
 
-pub initial-agrees : (p : Parameters) (f : File) (pool : Pool) → makeOf p f pool .answer .refusal ≡ 0 → Agrees p (initial p f pool)
-unfolding initial makeOf emptyModel starsOf
+pub initial-agrees : (p : Parameters) (f : File) (pool : Pool) → makeOf p f pool .answer .refusal ≡ 0 → Agrees (initial p f pool)
+unfolding initial makeOf emptyModel entryStars
 initial-agrees p f pool e =
     let a = make-accepts p f pool e in
     rw (a .parameters, a .lengths)

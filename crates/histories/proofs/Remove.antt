@@ -18,7 +18,7 @@ use Rattle.placement.proofs.Entry.{removed}
 use Rattle.reach.specs.Reach.{removalEnd, storedTop, pagesTo}
 use Rattle.starfile.specs.Answers.{Pool, spotted, refused, refusedAt, cleared}
 use Rattle.starfile.specs.Calls.{poolFits, unless, orElse, guarded, unchanged, holds, removeTo, removeOn, removeOf}
-use Rattle.histories.specs.Model.{Model, remove, updated, positionOf, fileOf, pageFor, placeOn}
+use Rattle.histories.specs.Model.{Model, remove, updated, heldPosition, modelFile, pageFor, placeOn}
 use Rattle.histories.proofs.Entries.{ordered-strike}
 use Rattle.histories.proofs.Stars.{stars-strike}
 use Rattle.histories.proofs.Fitting.{Fitting, hashFor, starsFor, bounded, homed, rising-from, proper, in-range, laid-stars, named-readable}
@@ -33,26 +33,26 @@ module _ (p : Parameters) (m : Model) (t : Fitting p m) (k : ℕ) where
   from = hashFor p m .home k
 
   abbrev to : ℕ
-  to = removalEnd (hashFor p m) (p .pages) (fileOf p m) from
+  to = removalEnd (hashFor p m) (p .pages) (modelFile p m) from
 
-  removal : Reach (hashFor p m) (p .pages) (fileOf p m) from to
+  removal : Reach (hashFor p m) (p .pages) (modelFile p m) from to
   unfolding removalEnd
   removal =
-      reach (hashFor p m) (p .pages) (fileOf p m) from (storedTop (fileOf p m .separators) (hashFor p m .top))
-      (λ q e. eqb-true (getD (fileOf p m .separators) q 0) (hashFor p m .top) e)
+      reach (hashFor p m) (p .pages) (modelFile p m) from (storedTop (modelFile p m .separators) (hashFor p m .top))
+      (λ q e. eqb-true (getD (modelFile p m .separators) q 0) (hashFor p m .top) e)
       (homed p (m .growth) k (t .parameters) (t .growth))
 
-  struck : (replaced (p .places) (fileOf p m) from (pages (hashFor p m) from (pagesTo from to) (without k (gathered (p .places) (fileOf p m) from (pagesTo from to))))
+  struck : (replaced (p .places) (modelFile p m) from (pages (hashFor p m) from (pagesTo from to) (without k (gathered (p .places) (modelFile p m) from (pagesTo from to))))
       ≡ laid (p .places) (hashFor p m) (p .pages) (without k (starsFor m)))
       × (left (hashFor p m) 0 (p .pages) (without k (starsFor m)) ≡ [])
-  unfolding fileOf hashOf
+  unfolding modelFile hashOf
   struck =
       let all =
       removed validWord (hashFor p m) (bounded p (m .growth) (t .parameters)) (p .pages) from (to - from) (starsFor m)
       (rising-from p m t) (proper p m t) (t .fits) (removal .high) k refl (removal .ends) in
       (all .1, all .2)
 
-  removes : (pool : Pool) (page place : ℕ) → Conforms p m (remove k) (removeTo p (m .growth) (fileOf p m) pool page k place to)
+  removes : (pool : Pool) (page place : ℕ) → Conforms p m (remove k) (removeTo p (m .growth) (modelFile p m) pool page k place to)
   unfolding removeTo updated spotted
   removes pool page place =
       rw (none-unsound p m t from (pagesTo from to) (removal .high), le-ltb (from + pagesTo from to) (from + pagesTo from to) (le-refl (from + pagesTo from to)))
@@ -65,29 +65,29 @@ module _ (p : Parameters) (m : Model) (t : Fitting p m) (k : ℕ) where
       })
       (λ j d. cc))
     where
-      same : replaced (p .places) (fileOf p m) from (pages (hashFor p m) from (pagesTo from to) (without k (gathered (p .places) (fileOf p m) from (pagesTo from to))))
-          ≡ fileOf p (updated p (remove k) m)
+      same : replaced (p .places) (modelFile p m) from (pages (hashFor p m) from (pagesTo from to) (without k (gathered (p .places) (modelFile p m) from (pagesTo from to))))
+          ≡ modelFile p (updated p (remove k) m)
       same = struck .0 ∙ laid-stars p (updated p (remove k) m) (without k (starsFor m)) (stars-strike k (m .entries))
 
-  removes-on : (pool : Pool) → 1 ≤ k → Conforms p m (remove k) (removeOn p (m .growth) (fileOf p m) pool (pageFor p m k) k)
+  removes-on : (pool : Pool) → 1 ≤ k → Conforms p m (remove k) (removeOn p (m .growth) (modelFile p m) pool (pageFor p m k) k)
   unfolding removeOn spotted
-  removes-on pool h = rw (named-readable p m t k) (go (positionOf k (m .entries)) refl)
+  removes-on pool h = rw (named-readable p m t k) (go (heldPosition k (m .entries)) refl)
     where
-      go : (o : Option Position) → positionOf k (m .entries) ≡ o
+      go : (o : Option Position) → heldPosition k (m .entries) ≡ o
           → Conforms p m (remove k)
-          (cond (holds p (fileOf p m) (pageFor p m k) k)
-          (removeTo p (m .growth) (fileOf p m) pool (pageFor p m k) k (placeOn p m k) to)
-          (unchanged (m .growth) (fileOf p m) pool (refusedAt 7 0 (placeOn p m k))))
+          (cond (holds p (modelFile p m) (pageFor p m k) k)
+          (removeTo p (m .growth) (modelFile p m) pool (pageFor p m k) k (placeOn p m k) to)
+          (unchanged (m .growth) (modelFile p m) pool (refusedAt 7 0 (placeOn p m k))))
       go none e = rw (not-held p m t k h e) (refused-conforms p m t (remove k) pool (refusedAt 7 0 (placeOn p m k)) (λ d. omega arith) (λ d. omega arith))
       go (some q) e = rw (held p m t k q e) (removes pool (pageFor p m k) (placeOn p m k))
 
-  pub remove-conforms : (pool : Pool) → Conforms p m (remove k) (removeOf p (m .growth) (fileOf p m) pool k)
+  pub remove-conforms : (pool : Pool) → Conforms p m (remove k) (removeOf p (m .growth) (modelFile p m) pool k)
   unfolding removeOf pageFor namedPage spotted
   remove-conforms pool = rw (lent-pool p m t (poolFits p pool)) (go (poolFits p pool) (validNumber k) refl)
     where
       go : (v w : Bool) → validNumber k ≡ w
           → Conforms p m (remove k)
-          (guarded (m .growth) (fileOf p m) pool (orElse (unless v 2) (unless w 3)) (removeOn p (m .growth) (fileOf p m) (cleared pool) (pageFor p m k) k))
+          (guarded (m .growth) (modelFile p m) pool (orElse (unless v 2) (unless w 3)) (removeOn p (m .growth) (modelFile p m) (cleared pool) (pageFor p m k) k))
       go false w e = refused-conforms p m t (remove k) pool (refused 2 0) (λ d. omega arith) (λ d. omega arith)
       go true false e = refused-conforms p m t (remove k) pool (refused 3 0) (λ d. omega arith) (λ d. omega arith)
       go true true e = removes-on (cleared pool) (in-range k e .0)

@@ -20,9 +20,8 @@ use Rattle.starfile.specs.Answers.{Pool, After, Leaves, unpooled, numberOf, pla
 use Rattle.starfile.specs.Calls.{fileFits, unless, orElse, guarded, emptyFile, makeOf}
 use Rattle.histories.specs.declared.replaying.Replayed.{Replayed}
 use Rattle.histories.specs.declared.replaying.Replayed.the-variants.{Done, BadKind, Refused}
-use Rattle.histories.specs.Model.{fileOf}
-use Rattle.histories.specs.Run.{State, initial, end}
-use Rattle.histories.specs.Theorem.{AsModel}
+use Rattle.histories.specs.Model.{modelFile}
+use Rattle.histories.specs.Run.{fresh, initial, end}
 use Rattle.histories.specs.Replay.{
   LentHistory,
   allKinds,
@@ -33,18 +32,15 @@ use Rattle.histories.specs.Replay.{
   unknownKind,
   refusalOf,
   historyOf,
-  Replay,
   replayedWith,
   replayOf,
   refusalSaid,
   growthSaid,
   Replays,
-  AsReplayed,
   EveryReplay,
 }
 use Rattle.histories.specs.Steps.{Runs}
-use Rattle.histories.proofs.Running.{from}
-use Rattle.histories.proofs.Histories.{end-agrees}
+use Rattle.histories.proofs.Histories.{end-keeps, end-agrees}
 use Rattle.histories.proofs.Make.{initial-agrees}
 use Rattle.histories.proofs.Every.{conforming, every-history}
 
@@ -109,12 +105,12 @@ module _ (p : Parameters) (f : File) (pool : Pool) (h : LentHistory) (answers : 
 
         pub make-done : (page place : ℕ) → a ≡ On page place → (growth : Growth) → growth ≡ makeOf p f unpooled .growth
             → (last : Growth) (answers′ : List ℕ) (file′ : File) (pool′ : Pool)
-            → Runs p (from growth file) pool (requestsOf h) [] last answers′ file′ pool′
+            → Runs (fresh p growth file) pool (requestsOf h) [] last answers′ file′ pool′
             → Replays (replayOf p f pool h answers) (Done last) answers′ file′ pool′
         unfolding placed spotted replayOf replayedWith initial refusalSaid growthSaid
         make-done page place e growth g last answers′ file′ pool′ t =
             let n : refusalOf p f pool h answers ≡ 0 = as-made ∙ rw e in
-            let u : Runs p (initial p f unpooled) pool (requestsOf h) [] last answers′ file′ pool′ = rw (g, made .files) at t in
+            let u : Runs (initial p f unpooled) pool (requestsOf h) [] last answers′ file′ pool′ = rw (g, made .files) at t in
             rw n
             (record {
               refusals = refl;
@@ -136,14 +132,15 @@ accepted-run zero p f pool h answers e = refl
 accepted-run (suc n) p f pool h answers e = absurd (omega arith)
 
 pub every-replay : EveryReplay
-unfolding replayOf replayedWith refusalOf
+unfolding replayOf replayedWith refusalOf initial
 every-replay p f pool h answers e =
     let n : refusalOf p f pool h answers ≡ 0 = accepted-run (refusalOf p f pool h answers) p f pool h answers e in
     let rest = either-none (unless (agreeing f pool h answers) 2) _ n in
     let made : makeOf p f unpooled .answer .refusal ≡ 0 = either-none (unless (allKinds (h .kinds)) unknownKind) _ rest in
-    let agrees = end-agrees conforming p (initial p f unpooled) (initial-agrees p f unpooled made) (historyOf p f pool h) in
+    let keeps : end (initial p f unpooled) (historyOf p f pool h) .parameters ≡ p = end-keeps (initial p f unpooled) (historyOf p f pool h) in
+    let agrees = end-agrees conforming (initial p f unpooled) (initial-agrees p f unpooled made) (historyOf p f pool h) in
     record {
       asModel = every-history p f unpooled made (historyOf p f pool h);
-      fileIs = rw n (agrees .file);
+      fileIs = rw n (agrees .file ∙ ap (λ (q : Parameters). modelFile q (end (initial p f unpooled) (historyOf p f pool h) .model)) keeps);
       growthIs = rw n (agrees .growth);
     }

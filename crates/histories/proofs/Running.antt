@@ -1,7 +1,7 @@
 -- Several steps of a replay: what a history of one call more answers and leaves.
 use mathlib.Core.Path.{_≡_, refl, sym, ap, _∙_}
 use mathlib.Core.List.{List, [], _∷_, _++_, append-assoc, append-nil}
-use Prim.Native.Nat.{ℕ, suc, _+_, _*_, _≤_, _<_}
+use Prim.Native.Nat.{ℕ, _+_, _*_, _≤_, _<_}
 use native.Mathlib.Nat.{suc-mul, zero-mul}
 use native.Mathlib.Numerals.{add-one}
 use native.Mathlib.Omega.{arith}
@@ -12,39 +12,39 @@ use Rattle.hashing.specs.declared.Growth.{Growth}
 use Rattle.placement.specs.File.{File}
 use Rattle.starfile.specs.declared.answers.Answer.{Answer}
 use Rattle.starfile.specs.Answers.{Pool, After}
-use Rattle.histories.specs.Model.{Request, emptyModel}
-use Rattle.histories.specs.Call.{step}
-use Rattle.histories.specs.Run.{State, outcome, next, events, end}
-use Rattle.histories.specs.Replay.{LentHistory, requestAt, requestsTo, requestsOf, callOf, historyFrom, poolAfter, encoded, answersOf}
-use Rattle.histories.specs.Steps.{Written, Even, Runs}
+use Rattle.histories.specs.Model.{Request}
+use Rattle.histories.specs.Call.{callOf, step}
+use Rattle.histories.specs.Run.{HistoryState, fresh, outcome, next, events, end}
+use Rattle.histories.specs.Replay.{LentHistory, requestAt, requestsTo, requestsOf, historyFrom, lastPool, encoded, eventAnswers}
+use Rattle.histories.specs.Steps.{Recorded, Even, Runs}
+use Rattle.histories.proofs.Histories.{end-keeps}
 
-module _ (p : Parameters) where
-  -- the state after the requests, and the call of one more
-  abbrev after : State → Pool → List Request → State
-  after s pool rs = end p s (historyFrom p s pool rs)
+-- the state after the requests, and the call of one more
+abbrev after : HistoryState → Pool → List Request → HistoryState
+after s pool rs = end s (historyFrom s pool rs)
 
-  abbrev more : State → Pool → List Request → Request → State
-  more s pool rs r = next p (after s pool rs) (callOf (poolAfter p s pool rs) r)
+abbrev more : HistoryState → Pool → List Request → Request → HistoryState
+more s pool rs r = next (after s pool rs) (callOf (lastPool s pool rs) r)
 
-  end-snoc : (s : State) (pool : Pool) (rs : List Request) (r : Request) → after s pool (rs ++ r ∷ []) ≡ more s pool rs r
-  unfolding historyFrom end poolAfter
-  end-snoc s pool [] r = refl
-  end-snoc s pool (x ∷ rs) r = end-snoc (next p s (callOf pool x)) (outcome p s (callOf pool x) .pool) rs r
+end-snoc : (s : HistoryState) (pool : Pool) (rs : List Request) (r : Request) → after s pool (rs ++ r ∷ []) ≡ more s pool rs r
+unfolding historyFrom end lastPool
+end-snoc s pool [] r = refl
+end-snoc s pool (x ∷ rs) r = end-snoc (next s (callOf pool x)) (outcome s (callOf pool x) .pool) rs r
 
-  pool-snoc : (s : State) (pool : Pool) (rs : List Request) (r : Request)
-      → poolAfter p s pool (rs ++ r ∷ []) ≡ outcome p (after s pool rs) (callOf (poolAfter p s pool rs) r) .pool
-  unfolding historyFrom end poolAfter
-  pool-snoc s pool [] r = refl
-  pool-snoc s pool (x ∷ rs) r = pool-snoc (next p s (callOf pool x)) (outcome p s (callOf pool x) .pool) rs r
+pool-snoc : (s : HistoryState) (pool : Pool) (rs : List Request) (r : Request)
+    → lastPool s pool (rs ++ r ∷ []) ≡ outcome (after s pool rs) (callOf (lastPool s pool rs) r) .pool
+unfolding historyFrom end lastPool
+pool-snoc s pool [] r = refl
+pool-snoc s pool (x ∷ rs) r = pool-snoc (next s (callOf pool x)) (outcome s (callOf pool x) .pool) rs r
 
-  answers-snoc : (s : State) (pool : Pool) (rs : List Request) (r : Request)
-      → answersOf (events p s (historyFrom p s pool (rs ++ r ∷ [])))
-      ≡ answersOf (events p s (historyFrom p s pool rs)) ++ encoded (outcome p (after s pool rs) (callOf (poolAfter p s pool rs) r) .answer)
-  unfolding historyFrom end poolAfter events answersOf
-  answers-snoc s pool [] r = append-nil (encoded (outcome p s (callOf pool r) .answer))
-  answers-snoc s pool (x ∷ rs) r =
-      rw (answers-snoc (next p s (callOf pool x)) (outcome p s (callOf pool x) .pool) rs r)
-      (sym (append-assoc (encoded (outcome p s (callOf pool x) .answer)) _ _))
+answers-snoc : (s : HistoryState) (pool : Pool) (rs : List Request) (r : Request)
+    → eventAnswers (events s (historyFrom s pool (rs ++ r ∷ [])))
+    ≡ eventAnswers (events s (historyFrom s pool rs)) ++ encoded (outcome (after s pool rs) (callOf (lastPool s pool rs) r) .answer)
+unfolding historyFrom end lastPool events eventAnswers
+answers-snoc s pool [] r = append-nil (encoded (outcome s (callOf pool r) .answer))
+answers-snoc s pool (x ∷ rs) r =
+    rw (answers-snoc (next s (callOf pool x)) (outcome s (callOf pool x) .pool) rs r)
+    (sym (append-assoc (encoded (outcome s (callOf pool x) .answer)) _ _))
 
 -- eight answers more, written behind those of the calls before
 written-behind : (done whole before row : List ℕ) (at : ℕ) → length done ≡ at → before ≡ done ++ drop at whole
@@ -61,14 +61,11 @@ unfolding encoded
 eight-long a = refl
 
 -- the first i calls of a lent history, run from a state whose model is the empty one
-abbrev pub from : Growth → File → State
-from growth file = record { growth = growth; file = file; model = emptyModel }
-
 pub record Ongoing (p : Parameters) (h : LentHistory) (growth₀ : Growth) (file₀ : File) (pool₀ : Pool) (answers₀ : List ℕ)
     (i : ℕ) (growth : Growth) (answers : List ℕ) (file : File) (pool : Pool) : Type 0 where
   pub most : i ≤ length (h .kinds)
-  pub counted : length (answersOf (events p (from growth₀ file₀) (historyFrom p (from growth₀ file₀) pool₀ (requestsTo h i)))) ≡ i * 8
-  pub runs : Runs p (from growth₀ file₀) pool₀ (requestsTo h i) (drop (i * 8) answers₀) growth answers file pool
+  pub counted : length (eventAnswers (events (fresh p growth₀ file₀) (historyFrom (fresh p growth₀ file₀) pool₀ (requestsTo h i)))) ≡ i * 8
+  pub runs : Runs (fresh p growth₀ file₀) pool₀ (requestsTo h i) (drop (i * 8) answers₀) growth answers file pool
 
 -- the lent slices keep their lengths
 pub record SameLengths (file₀ : File) (pool₀ : Pool) (answers₀ : List ℕ) (file : File) (pool : Pool) (answers : List ℕ) : Type 0 where
@@ -92,10 +89,10 @@ same-lengths file pool answers =
 
 module _ (p : Parameters) (h : LentHistory) (growth₀ : Growth) (file₀ : File) (pool₀ : Pool) (answers₀ : List ℕ) where
   abbrev so-far : ℕ → List ℕ
-  so-far i = answersOf (events p (from growth₀ file₀) (historyFrom p (from growth₀ file₀) pool₀ (requestsTo h i)))
+  so-far i = eventAnswers (events (fresh p growth₀ file₀) (historyFrom (fresh p growth₀ file₀) pool₀ (requestsTo h i)))
 
   pub ongoing-none : Ongoing p h growth₀ file₀ pool₀ answers₀ 0 growth₀ answers₀ file₀ pool₀
-  unfolding requestsTo historyFrom events end poolAfter answersOf
+  unfolding requestsTo historyFrom events end lastPool eventAnswers
   ongoing-none =
       rw (zero-mul 8)
       (record {
@@ -109,42 +106,42 @@ module _ (p : Parameters) (h : LentHistory) (growth₀ : Growth) (file₀ : File
     -- what the call of one more answers and leaves
     abbrev this : After
     this =
-        outcome p (after p (from growth₀ file₀) pool₀ (requestsTo h i))
-        (callOf (poolAfter p (from growth₀ file₀) pool₀ (requestsTo h i)) (requestAt h i))
+        outcome (after (fresh p growth₀ file₀) pool₀ (requestsTo h i))
+        (callOf (lastPool (fresh p growth₀ file₀) pool₀ (requestsTo h i)) (requestAt h i))
 
     same-step : step p growth file pool (requestAt h i) ≡ this
     unfolding outcome
-    same-step = rw (t .runs .growths, t .runs .files, t .runs .pools)
+    same-step = rw (end-keeps (fresh p growth₀ file₀) (historyFrom (fresh p growth₀ file₀) pool₀ (requestsTo h i)), t .runs .growths, t .runs .files, t .runs .pools)
 
     pub ongoing-more : i < length (h .kinds) → (growth′ : Growth) (answers′ : List ℕ) (file′ : File) (pool′ : Pool)
-        → Written (step p growth file pool (requestAt h i)) answers (i * 8) growth′ answers′ file′ pool′
+        → Recorded (step p growth file pool (requestAt h i)) answers (i * 8) growth′ answers′ file′ pool′
         → Ongoing p h growth₀ file₀ pool₀ answers₀ (i + 1) growth′ answers′ file′ pool′
     unfolding requestsTo next
     ongoing-more l growth′ answers′ file′ pool′ w =
-        let s = from growth₀ file₀ in
+        let s = fresh p growth₀ file₀ in
         let rs = requestsTo h i in
         let r = requestAt h i in
-        let v : Written this answers (i * 8) growth′ answers′ file′ pool′ = rw same-step at w in
+        let v : Recorded this answers (i * 8) growth′ answers′ file′ pool′ = rw same-step at w in
         rw (add-one i)
         (record {
           most = omega arith;
           counted =
-              rw (answers-snoc p s pool₀ rs r, length-append (so-far i) (encoded (this .answer)), t .counted, eight-long (this .answer))
+              rw (answers-snoc s pool₀ rs r, length-append (so-far i) (encoded (this .answer)), t .counted, eight-long (this .answer))
               (sym (suc-mul i 8));
           runs =
               record {
                 answersAre =
                     v .answersAre
                     ∙ written-behind (so-far i) answers₀ answers (encoded (this .answer)) (i * 8) (t .counted) (t .runs .answersAre)
-                    ∙ rw (eight (this .answer), answers-snoc p s pool₀ rs r, suc-mul i 8);
-                growths = v .growths ∙ sym (ap (λ (x : State). x .growth) (end-snoc p s pool₀ rs r));
-                files = v .files ∙ sym (ap (λ (x : State). x .file) (end-snoc p s pool₀ rs r));
-                pools = v .pools ∙ sym (pool-snoc p s pool₀ rs r);
+                    ∙ rw (eight (this .answer), answers-snoc s pool₀ rs r, suc-mul i 8);
+                growths = v .growths ∙ sym (ap (λ (x : HistoryState). x .growth) (end-snoc s pool₀ rs r));
+                files = v .files ∙ sym (ap (λ (x : HistoryState). x .file) (end-snoc s pool₀ rs r));
+                pools = v .pools ∙ sym (pool-snoc s pool₀ rs r);
               };
         })
 
     pub ongoing-all : length (h .kinds) ≤ i → Even h answers₀
-        → Runs p (from growth₀ file₀) pool₀ (requestsOf h) [] growth answers file pool
+        → Runs (fresh p growth₀ file₀) pool₀ (requestsOf h) [] growth answers file pool
     ongoing-all l even =
         let e : i ≡ length (h .kinds) = omega (arith, t .most) in
         let n : drop (length (h .kinds) * 8) answers₀ ≡ [] =

@@ -14,7 +14,7 @@ use Rattle.placement.specs.Hash.{soundAt}
 use Rattle.reach.specs.Reach.{firstSuch, firstUnsound}
 use Rattle.reach.proofs.Search.{Such, such}
 use Rattle.comparing.specs.Spots.{differ, firstSpot}
-use Rattle.histories.specs.Model.{Model, fileOf}
+use Rattle.histories.specs.Model.{Model, modelFile}
 use Rattle.histories.proofs.Fitting.{Fitting, all-sound}
 
 pub none-such : (test : ℕ → Bool) (from n : ℕ) → ((q : ℕ) → q < from + n → test q ≡ false) → firstSuch test from n ≡ from + n
@@ -27,10 +27,10 @@ none-such test from n h = go (decLt (firstSuch test from n) (from + n))
     go (yes d) = absurd (true≢false (sym (found .passes d) ∙ h (firstSuch test from n) d))
     go (no d) = omega (arith, found .high)
 
-pub none-unsound : (p : Parameters) (m : Model) → Fitting p m → (from n : ℕ) → from + n ≤ p .pages → firstUnsound p (m .growth) (fileOf p m) from n ≡ from + n
+pub none-unsound : (p : Parameters) (m : Model) → Fitting p m → (from n : ℕ) → from + n ≤ p .pages → firstUnsound p (m .growth) (modelFile p m) from n ≡ from + n
 unfolding firstUnsound
 none-unsound p m t from n h =
-    none-such (λ (q : ℕ). not (soundAt p (m .growth) (fileOf p m) q)) from n
+    none-such (λ (q : ℕ). not (soundAt p (m .growth) (modelFile p m) q)) from n
     (λ q g. ap not (all-sound p m t q (omega arith)))
 
 same-spot : (places : ℕ) (f : File) (page place : ℕ) → differ places f f page place ≡ false

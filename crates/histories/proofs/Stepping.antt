@@ -3,7 +3,7 @@ use mathlib.Core.Path.{_≡_, refl, sym, ap, _∙_}
 use mathlib.Core.Bool.{Bool, true, false, cond, _&&_}
 use mathlib.Core.List.{List}
 use Prim.Native.Nat.{ℕ, zero, suc, _+_}
-use lib.Dec.{eqb, ltb}
+use lib.Dec.{ltb}
 use lib.Seq.{paste}
 use borrow.Author.Tests.{ne-eqb}
 use Rattle.hashing.specs.declared.Parameters.{Parameters}
@@ -44,7 +44,7 @@ use Rattle.starfile.specs.Calls.{
 use Rattle.histories.specs.declared.calling.Stepped.{Stepped}
 use Rattle.histories.specs.Call.{step}
 use Rattle.histories.specs.Replay.{requestOf, encoded}
-use Rattle.histories.specs.Steps.{Steps, Written}
+use Rattle.histories.specs.Steps.{Steps, Recorded}
 
 -- A call that only answers leaves every pool as it was.
 only-answers : (g : Growth) (f : File) (pool : Pool) (n : ℕ) (a : Answer)
@@ -167,11 +167,11 @@ module _ (p : Parameters) (g : Growth) (f : File) (pool : Pool) where
           rw (ne-eqb _ _ e0, ne-eqb _ _ e1, ne-eqb _ _ e2, ne-eqb _ _ e3, ne-eqb _ _ e4, ne-eqb _ _ e5)
           (record { answers = h ∙ l .answers; growths = sym check-growth; files = l .files; pools = l .pools })
 
--- the answers of a step, written
-pub written : (after : After) (r : Stepped) (file : File) (pool : Pool) (before answers : List ℕ) (at : ℕ)
+-- the answers of a step, recorded
+pub recorded : (after : After) (r : Stepped) (file : File) (pool : Pool) (before answers : List ℕ) (at : ℕ)
     → Steps after r file pool → answers ≡ paste before at (encoded (r .answer)) 8
-    → Written after before at (r .growth) answers file pool
-written after r file pool before answers at s w =
+    → Recorded after before at (r .growth) answers file pool
+recorded after r file pool before answers at s w =
     record {
       answersAre = w ∙ ap (λ (a : Answer). paste before at (encoded a) 8) (s .answers);
       growths = s .growths;

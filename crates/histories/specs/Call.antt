@@ -14,6 +14,9 @@ pub record Call : Type 0 where
   pub request : Request
   pub pool : Pool
 
+abbrev pub callOf : Pool → Request → Call
+callOf pool r = record { request = r; pool = pool }
+
 -- "Each call has that file's parameters, .. and the file buffers and (e, x) as the call before left them": the calls of starfile
 unfoldable pub step : Parameters → Growth → File → Pool → Request → After
 step p g f pool (lookUp k) = lookUpOf p g f pool k

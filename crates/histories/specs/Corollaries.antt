@@ -11,65 +11,66 @@ use Rattle.pages.specs.Position.{validNumber, validPosition, validWord}
 use Rattle.placement.specs.Rule.{left}
 use Rattle.placement.specs.File.{File, Clean}
 use Rattle.starfile.specs.Answers.{Pool, acceptedAt, refusedAt}
-use Rattle.starfile.specs.Calls.{hash, poolFits, makeOf, lookUpOf, enterOf, checkOf}
-use Rattle.histories.specs.Model.{Model, enter, setPosition, positionOf, starsOf, pageFor, placeOn, answered}
-use Rattle.histories.specs.Call.{Call}
-use Rattle.histories.specs.Run.{State, Event, initial, next, events, end}
+use Rattle.starfile.specs.Calls.{hash, poolFits, makeOf}
+use Rattle.histories.specs.Model.{lookUp, enter, check, setPosition, heldPosition, entryStars, pageFor, placeOn, answered}
+use Rattle.histories.specs.Call.{Call, callOf}
+use Rattle.histories.specs.Run.{HistoryState, Event, initial, outcome, next, events, end}
 
 -- what holds of a state of a history
-pub record InHistory (p : Parameters) (now : State) : Type 0 where
+pub record InHistory (now : HistoryState) : Type 0 where
   -- the file is clean: all pages are sound, and it is what the rule gives its stars
-  pub clean : Clean validWord (hash p (now .growth)) (p .pages) (now .file)
+  pub clean : Clean validWord (hash (now .parameters) (now .growth)) (now .parameters .pages) (now .file)
   -- so a check accepts it
-  pub checked : (pool : Pool) → poolFits p pool ≡ true → checkOf p (now .growth) (now .file) pool .answer .refusal ≡ 0
+  pub checked : (pool : Pool) → poolFits (now .parameters) pool ≡ true → outcome now (callOf pool check) .answer .refusal ≡ 0
   -- a look-up of a valid number is accepted, and answers as the model
   pub sought :
-      (pool : Pool) (k : ℕ) → validNumber k ≡ true → lookUpOf p (now .growth) (now .file) pool k .answer ≡ answered p (now .model) k
+      (pool : Pool) (k : ℕ) → validNumber k ≡ true → outcome now (callOf pool (lookUp k)) .answer ≡ answered (now .parameters) (now .model) k
   -- the entry of a star not held is refused with 8 exactly if the model's stars with it do not fit
   pub full :
-      (pool : Pool) (k : ℕ) (q : Position) → poolFits p pool ≡ true → validNumber k ≡ true → validPosition q ≡ true
-      → positionOf k (now .model .entries) ≡ none
-      → (enterOf p (now .growth) (now .file) pool k q .answer .refusal ≡ 8)
-      ↔ (left (hash p (now .model .growth)) 0 (p .pages) (starsOf (setPosition k q (now .model .entries))) ≡ [] → ⊥)
+      (pool : Pool) (k : ℕ) (q : Position) → poolFits (now .parameters) pool ≡ true → validNumber k ≡ true → validPosition q ≡ true
+      → heldPosition k (now .model .entries) ≡ none
+      → (outcome now (callOf pool (enter k q)) .answer .refusal ≡ 8)
+      ↔ (left (hash (now .parameters) (now .model .growth)) 0 (now .parameters .pages) (entryStars (setPosition k q (now .model .entries))) ≡ [] → ⊥)
   -- an entry of a held star with its own position answers its page and place and is no step: file, growth state and model stay
   pub resent :
-      (pool : Pool) (k : ℕ) (q : Position) → poolFits p pool ≡ true → positionOf k (now .model .entries) ≡ some q
-      → (enterOf p (now .growth) (now .file) pool k q .answer ≡ acceptedAt (pageFor p (now .model) k) (placeOn p (now .model) k))
-      × (next p now (record { request = enter k q; pool = pool }) ≡ now)
+      (pool : Pool) (k : ℕ) (q : Position) → poolFits (now .parameters) pool ≡ true → heldPosition k (now .model .entries) ≡ some q
+      → (outcome now (callOf pool (enter k q)) .answer ≡ acceptedAt (pageFor (now .parameters) (now .model) k) (placeOn (now .parameters) (now .model) k))
+      × (next now (callOf pool (enter k q)) ≡ now)
   -- with any other position it is refused with 6
   pub held :
-      (pool : Pool) (k : ℕ) (q r : Position) → poolFits p pool ≡ true → validPosition q ≡ true
-      → positionOf k (now .model .entries) ≡ some r → (r ≡ q → ⊥)
-      → enterOf p (now .growth) (now .file) pool k q .answer ≡ refusedAt 6 0 (placeOn p (now .model) k)
+      (pool : Pool) (k : ℕ) (q r : Position) → poolFits (now .parameters) pool ≡ true → validPosition q ≡ true
+      → heldPosition k (now .model .entries) ≡ some r → (r ≡ q → ⊥)
+      → outcome now (callOf pool (enter k q)) .answer ≡ refusedAt 6 0 (placeOn (now .parameters) (now .model) k)
 
 -- so it is before each call of a history, and at its end
-pub record Throughout (p : Parameters) (start : State) (history : List Call) : Type 0 where
-  pub before : (t : Event) → List·Memᴰ t (events p start history) → InHistory p (t .before)
-  pub after : InHistory p (end p start history)
+pub record Throughout (start : HistoryState) (history : List Call) : Type 0 where
+  pub before : (t : Event) → List·Memᴰ t (events start history) → InHistory (t .before)
+  pub after : InHistory (end start history)
 
 abbrev pub EachState : Type 0
 EachState =
     (p : Parameters) (f : File) (pool : Pool) → makeOf p f pool .answer .refusal ≡ 0
-    → (history : List Call) → Throughout p (initial p f pool) history
+    → (history : List Call) → Throughout (initial p f pool) history
 
--- the same stars, positions and growth state: the same position, if any, for each number
-pub record SameContents (a b : Model) : Type 0 where
-  pub positions : (k : ℕ) → positionOf k (a .entries) ≡ positionOf k (b .entries)
-  pub growth : a .growth ≡ b .growth
+-- the same parameters, stars, positions and growth state: the same position, if any, for each number
+pub record SameContents (a b : HistoryState) : Type 0 where
+  pub parameters : a .parameters ≡ b .parameters
+  pub positions : (k : ℕ) → heldPosition k (a .model .entries) ≡ heldPosition k (b .model .entries)
+  pub growth : a .model .growth ≡ b .model .growth
 
 -- two states with equal models and equal separators, pages and growth state
-pub record SameState (a b : State) : Type 0 where
+pub record SameState (a b : HistoryState) : Type 0 where
   pub model : a .model ≡ b .model
   pub separators : a .file .separators ≡ b .file .separators
   pub numbers : a .file .numbers ≡ b .file .numbers
   pub words : a .file .words ≡ b .file .words
   pub growth : a .growth ≡ b .growth
 
--- two histories with the same parameters that end with the same contents end alike, however they came there
+-- two histories that end with the same parameters and contents end alike, however they came there
 abbrev pub HistoryIndependence : Type 0
 HistoryIndependence =
-    (p : Parameters) (f g : File) (pool other : Pool)
-    → makeOf p f pool .answer .refusal ≡ 0 → makeOf p g other .answer .refusal ≡ 0
+    (p q : Parameters) (f g : File) (pool other : Pool)
+    → makeOf p f pool .answer .refusal ≡ 0 → makeOf q g other .answer .refusal ≡ 0
     → (history another : List Call)
-    → SameContents (end p (initial p f pool) history .model) (end p (initial p g other) another .model)
-    → SameState (end p (initial p f pool) history) (end p (initial p g other) another)
+    → SameContents (end (initial p f pool) history) (end (initial q g other) another)
+    → SameState (end (initial p f pool) history) (end (initial q g other) another)

@@ -4,5 +4,7 @@ pub mod Run
 pub mod Theorem
 pub mod Corollaries
 pub mod Alike
+pub mod Demand3
 pub mod Replay
+pub mod Lent
 pub mod Steps

@@ -41,9 +41,9 @@ unfoldable pub strike : ℕ → List Entry → List Entry
 strike k es = filter (λ (e : Entry). not (eqb (e .number) k)) es
 
 -- the position that the model holds for a number, if any
-unfoldable pub positionOf : ℕ → List Entry → Option Position
-positionOf k [] = none
-positionOf k (e ∷ es) = cond (eqb (e .number) k) (some (e .position)) (positionOf k es)
+unfoldable pub heldPosition : ℕ → List Entry → Option Position
+heldPosition k [] = none
+heldPosition k (e ∷ es) = cond (eqb (e .number) k) (some (e .position)) (heldPosition k es)
 
 -- A call's kind, number and position.
 pub data Request : Type 0 where
@@ -69,20 +69,20 @@ fed p r true m = updated p r m
 fed p r false m = m
 
 -- "its stars, .. positions packed into words"
-unfoldable pub starsOf : List Entry → List Star
-starsOf es = map (λ (e : Entry). record { number = e .number; word = packed (e .position) }) es
+unfoldable pub entryStars : List Entry → List Star
+entryStars es = map (λ (e : Entry). record { number = e .number; word = packed (e .position) }) es
 
 -- "Its separators and pages are what the rule over pages 0 to M−1 gives its stars, homes being taken under its (e, x)"
-unfoldable pub fileOf : Parameters → Model → File
-fileOf p m = laid (p .places) (hash p (m .growth)) (p .pages) (starsOf (m .entries))
+unfoldable pub modelFile : Parameters → Model → File
+modelFile p m = laid (p .places) (hash p (m .growth)) (p .pages) (entryStars (m .entries))
 
 -- "as page the first from home whose separator, of these, is above the number's signature there"
 unfoldable pub pageFor : Parameters → Model → ℕ → ℕ
-pageFor p m k = first (hash p (m .growth)) 0 (fileOf p m .separators) k
+pageFor p m k = first (hash p (m .growth)) 0 (modelFile p m .separators) k
 
 -- where the number stands on that page of the model's, or would stand: document 02 (ii)
 abbrev pub placeOn : Parameters → Model → ℕ → ℕ
-placeOn p m k = placeFor p (fileOf p m) (pageFor p m k) k
+placeOn p m k = placeFor p (modelFile p m) (pageFor p m k) k
 
 -- "the position it holds, or "none", and as page ..", with the place
 unfoldable pub answerWith : Option Position → ℕ → ℕ → Answer
@@ -91,4 +91,4 @@ answerWith (some q) page place = foundAt page place q
 
 -- "It answers a look-up"
 unfoldable pub answered : Parameters → Model → ℕ → Answer
-answered p m k = answerWith (positionOf k (m .entries)) (pageFor p m k) (placeOn p m k)
+answered p m k = answerWith (heldPosition k (m .entries)) (pageFor p m k) (placeOn p m k)

@@ -16,9 +16,9 @@ use Rattle.starfile.specs.Answers.{Pool, numberOf, unpooled}
 use Rattle.starfile.specs.Calls.{unless, orElse, makeOf}
 use Rattle.histories.specs.declared.replaying.Replayed.{Replayed}
 use Rattle.histories.specs.declared.replaying.Replayed.the-variants.{Done, BadKind, Refused}
-use Rattle.histories.specs.Model.{fileOf, Request, lookUp, enter, change, remove, grow, due, check}
-use Rattle.histories.specs.Call.{Call}
-use Rattle.histories.specs.Run.{State, Event, initial, outcome, next, events, end}
+use Rattle.histories.specs.Model.{modelFile, Request, lookUp, enter, change, remove, grow, due, check}
+use Rattle.histories.specs.Call.{Call, callOf}
+use Rattle.histories.specs.Run.{HistoryState, Event, initial, outcome, next, events, end}
 use Rattle.histories.specs.Theorem.{AsModel}
 
 -- the lent slices of a history: the kind, number, right ascension and declination of each call
@@ -62,17 +62,14 @@ requestsOf h = requestsTo h (length (h .kinds))
 
 -- The calls: each has the pool as the call before left it.
 
-abbrev pub callOf : Pool → Request → Call
-callOf pool r = record { request = r; pool = pool }
-
-unfoldable pub historyFrom : Parameters → State → Pool → List Request → List Call
-historyFrom p s pool [] = []
-historyFrom p s pool (r ∷ rs) = callOf pool r ∷ historyFrom p (next p s (callOf pool r)) (outcome p s (callOf pool r) .pool) rs
+unfoldable pub historyFrom : HistoryState → Pool → List Request → List Call
+historyFrom s pool [] = []
+historyFrom s pool (r ∷ rs) = callOf pool r ∷ historyFrom (next s (callOf pool r)) (outcome s (callOf pool r) .pool) rs
 
 -- the pool after the last call
-unfoldable pub poolAfter : Parameters → State → Pool → List Request → Pool
-poolAfter p s pool [] = pool
-poolAfter p s pool (r ∷ rs) = poolAfter p (next p s (callOf pool r)) (outcome p s (callOf pool r) .pool) rs
+unfoldable pub lastPool : HistoryState → Pool → List Request → Pool
+lastPool s pool [] = pool
+lastPool s pool (r ∷ rs) = lastPool (next s (callOf pool r)) (outcome s (callOf pool r) .pool) rs
 
 -- Eight numbers for each answer.
 
@@ -97,9 +94,9 @@ encoded a =
     ∷ a .stars
     ∷ []
 
-unfoldable pub answersOf : List Event → List ℕ
-answersOf [] = []
-answersOf (t ∷ ts) = encoded (t .answer) ++ answersOf ts
+unfoldable pub eventAnswers : List Event → List ℕ
+eventAnswers [] = []
+eventAnswers (t ∷ ts) = encoded (t .answer) ++ eventAnswers ts
 
 -- What a replay answers and leaves.
 
@@ -137,7 +134,7 @@ refusalOf p f pool h answers =
 
 -- the history of a replay, from the file that make left
 abbrev pub historyOf : Parameters → File → Pool → LentHistory → List Call
-historyOf p f pool h = historyFrom p (initial p f unpooled) pool (requestsOf h)
+historyOf p f pool h = historyFrom (initial p f unpooled) pool (requestsOf h)
 
 -- refused, with everything as it was, or run
 unfoldable pub replayedWith : ℕ → Parameters → File → Pool → LentHistory → List ℕ → Replay
@@ -145,10 +142,10 @@ replayedWith (suc n) p f pool h answers = record { refusal = suc n; growth = ung
 replayedWith zero p f pool h answers =
     record {
       refusal = 0;
-      growth = end p (initial p f unpooled) (historyOf p f pool h) .growth;
-      answers = answersOf (events p (initial p f unpooled) (historyOf p f pool h));
-      file = end p (initial p f unpooled) (historyOf p f pool h) .file;
-      pool = poolAfter p (initial p f unpooled) pool (requestsOf h);
+      growth = end (initial p f unpooled) (historyOf p f pool h) .growth;
+      answers = eventAnswers (events (initial p f unpooled) (historyOf p f pool h));
+      file = end (initial p f unpooled) (historyOf p f pool h) .file;
+      pool = lastPool (initial p f unpooled) pool (requestsOf h);
     }
 
 unfoldable pub replayOf : Parameters → File → Pool → LentHistory → List ℕ → Replay
@@ -175,9 +172,9 @@ pub record Replays (replay : Replay) (r : Replayed) (answers : List ℕ) (file :
 
 -- An accepted replay leaves the model's file: every history, said of the one that the slices hold.
 pub record AsReplayed (p : Parameters) (f : File) (pool : Pool) (h : LentHistory) (answers : List ℕ) : Type 0 where
-  pub asModel : AsModel p (initial p f unpooled) (historyOf p f pool h)
-  pub fileIs : replayOf p f pool h answers .file ≡ fileOf p (end p (initial p f unpooled) (historyOf p f pool h) .model)
-  pub growthIs : replayOf p f pool h answers .growth ≡ end p (initial p f unpooled) (historyOf p f pool h) .model .growth
+  pub asModel : AsModel (initial p f unpooled) (historyOf p f pool h)
+  pub fileIs : replayOf p f pool h answers .file ≡ modelFile p (end (initial p f unpooled) (historyOf p f pool h) .model)
+  pub growthIs : replayOf p f pool h answers .growth ≡ end (initial p f unpooled) (historyOf p f pool h) .model .growth
 
 abbrev pub EveryReplay : Type 0
 EveryReplay =

@@ -9,41 +9,47 @@ use Rattle.starfile.specs.Calls.{makeOf}
 use Rattle.histories.specs.Model.{Model, emptyModel, fed}
 use Rattle.histories.specs.Call.{Call, step, isAccepted}
 
--- the growth state, the file and the model between two calls
-pub record State : Type 0 where
+-- the parameters, the growth state, the file and the model between two calls
+pub record HistoryState : Type 0 where
+  pub parameters : Parameters
   pub growth : Growth
   pub file : File
   pub model : Model
 
+-- a state whose model is still empty
+abbrev pub fresh : Parameters → Growth → File → HistoryState
+fresh p g f = record { parameters = p; growth = g; file = f; model = emptyModel }
+
 -- "from the empty file that making one left"
-unfoldable pub initial : Parameters → File → Pool → State
-initial p f pool = record { growth = makeOf p f pool .growth; file = makeOf p f pool .file; model = emptyModel }
+unfoldable pub initial : Parameters → File → Pool → HistoryState
+initial p f pool = fresh p (makeOf p f pool .growth) (makeOf p f pool .file)
 
 -- what a call answers and leaves at a state
-unfoldable pub outcome : Parameters → State → Call → After
-outcome p s c = step p (s .growth) (s .file) (c .pool) (c .request)
+unfoldable pub outcome : HistoryState → Call → After
+outcome s c = step (s .parameters) (s .growth) (s .file) (c .pool) (c .request)
 
--- the state after a call: the model is fed the request and whether it was accepted
-unfoldable pub next : Parameters → State → Call → State
-next p s c =
+-- the state after a call: "Each call has that file's parameters"; the model is fed the request and whether it was accepted
+unfoldable pub next : HistoryState → Call → HistoryState
+next s c =
     record {
-      growth = outcome p s c .growth;
-      file = outcome p s c .file;
-      model = fed p (c .request) (isAccepted (outcome p s c .answer)) (s .model);
+      parameters = s .parameters;
+      growth = outcome s c .growth;
+      file = outcome s c .file;
+      model = fed (s .parameters) (c .request) (isAccepted (outcome s c .answer)) (s .model);
     }
 
 -- a call of a history, the state before it, and its answer
 pub record Event : Type 0 where
-  pub before : State
+  pub before : HistoryState
   pub call : Call
   pub answer : Answer
 
 -- "A history is a list of look-ups, entries, changes, removals, growths, Dues .. and checks on one file, refused ones included"
-unfoldable pub events : Parameters → State → List Call → List Event
-events p s [] = []
-events p s (c ∷ cs) = record { before = s; call = c; answer = outcome p s c .answer } ∷ events p (next p s c) cs
+unfoldable pub events : HistoryState → List Call → List Event
+events s [] = []
+events s (c ∷ cs) = record { before = s; call = c; answer = outcome s c .answer } ∷ events (next s c) cs
 
 -- the state after the last call
-unfoldable pub end : Parameters → State → List Call → State
-end p s [] = s
-end p s (c ∷ cs) = end p (next p s c) cs
+unfoldable pub end : HistoryState → List Call → HistoryState
+end s [] = s
+end s (c ∷ cs) = end (next s c) cs

@@ -4,14 +4,13 @@ use mathlib.Core.List.{List, _++_}
 use Prim.Native.Nat.{ℕ, _*_}
 use lib.ListN.{length}
 use lib.Seq.{paste}
-use Rattle.hashing.specs.declared.Parameters.{Parameters}
 use Rattle.hashing.specs.declared.Growth.{Growth}
 use Rattle.placement.specs.File.{File}
 use Rattle.starfile.specs.Answers.{Pool, After}
 use Rattle.histories.specs.declared.calling.Stepped.{Stepped}
 use Rattle.histories.specs.Model.{Request}
-use Rattle.histories.specs.Run.{State, events, end}
-use Rattle.histories.specs.Replay.{LentHistory, historyFrom, poolAfter, encoded, answersOf}
+use Rattle.histories.specs.Run.{HistoryState, events, end}
+use Rattle.histories.specs.Replay.{LentHistory, historyFrom, lastPool, encoded, eventAnswers}
 
 pub record Steps (after : After) (r : Stepped) (file : File) (pool : Pool) : Type 0 where
   pub answers : r .answer ≡ after .answer
@@ -19,7 +18,7 @@ pub record Steps (after : After) (r : Stepped) (file : File) (pool : Pool) : Typ
   pub files : file ≡ after .file
   pub pools : pool ≡ after .pool
 
-pub record Written (after : After) (before : List ℕ) (at : ℕ) (growth : Growth) (answers : List ℕ) (file : File) (pool : Pool) : Type 0 where
+pub record Recorded (after : After) (before : List ℕ) (at : ℕ) (growth : Growth) (answers : List ℕ) (file : File) (pool : Pool) : Type 0 where
   pub answersAre : answers ≡ paste before at (encoded (after .answer)) 8
   pub growths : growth ≡ after .growth
   pub files : file ≡ after .file
@@ -33,9 +32,9 @@ pub record Even (h : LentHistory) (answers : List ℕ) : Type 0 where
   pub eight : length answers ≡ length (h .kinds) * 8
 
 -- the requests rs, run from a state, with the answers of later ones still to come
-pub record Runs (p : Parameters) (s : State) (before : Pool) (rs : List Request) (later : List ℕ)
+pub record Runs (s : HistoryState) (before : Pool) (rs : List Request) (later : List ℕ)
     (growth : Growth) (answers : List ℕ) (file : File) (pool : Pool) : Type 0 where
-  pub answersAre : answers ≡ answersOf (events p s (historyFrom p s before rs)) ++ later
-  pub growths : growth ≡ end p s (historyFrom p s before rs) .growth
-  pub files : file ≡ end p s (historyFrom p s before rs) .file
-  pub pools : pool ≡ poolAfter p s before rs
+  pub answersAre : answers ≡ eventAnswers (events s (historyFrom s before rs)) ++ later
+  pub growths : growth ≡ end s (historyFrom s before rs) .growth
+  pub files : file ≡ end s (historyFrom s before rs) .file
+  pub pools : pool ≡ lastPool s before rs

@@ -6,26 +6,26 @@ use Rattle.hashing.specs.declared.Parameters.{Parameters}
 use Rattle.placement.specs.File.{File}
 use Rattle.starfile.specs.Answers.{Pool}
 use Rattle.starfile.specs.Calls.{makeOf}
-use Rattle.histories.specs.Model.{lookUp, fileOf, answered}
+use Rattle.histories.specs.Model.{lookUp, modelFile, answered}
 use Rattle.histories.specs.Call.{Call}
-use Rattle.histories.specs.Run.{State, Event, initial, events, end}
+use Rattle.histories.specs.Run.{HistoryState, Event, initial, events, end}
 
 -- what holds of a history from a state on
-pub record AsModel (p : Parameters) (start : State) (history : List Call) : Type 0 where
+pub record AsModel (start : HistoryState) (history : List Call) : Type 0 where
   -- each accepted look-up answers position or none, page and place, as the model after the calls before it
   pub lookUps :
-      (t : Event) → List·Memᴰ t (events p start history) → (k : ℕ) → t .call .request ≡ lookUp k → t .answer .refusal ≡ 0
-      → t .answer ≡ answered p (t .before .model) k
+      (t : Event) → List·Memᴰ t (events start history) → (k : ℕ) → t .call .request ≡ lookUp k → t .answer .refusal ≡ 0
+      → t .answer ≡ answered (t .before .parameters) (t .before .model) k
   -- "Refused for damage means 5": no call is
-  pub undamaged : (t : Event) → List·Memᴰ t (events p start history) → t .answer .refusal ≡ 5 → ⊥
-  -- at the end separators, pages and growth state are the model's
-  pub separators : end p start history .file .separators ≡ fileOf p (end p start history .model) .separators
-  pub numbers : end p start history .file .numbers ≡ fileOf p (end p start history .model) .numbers
-  pub words : end p start history .file .words ≡ fileOf p (end p start history .model) .words
-  pub growth : end p start history .growth ≡ end p start history .model .growth
+  pub undamaged : (t : Event) → List·Memᴰ t (events start history) → t .answer .refusal ≡ 5 → ⊥
+  -- at the end separators, pages and growth state are the model's under the parameters then held
+  pub separators : end start history .file .separators ≡ modelFile (end start history .parameters) (end start history .model) .separators
+  pub numbers : end start history .file .numbers ≡ modelFile (end start history .parameters) (end start history .model) .numbers
+  pub words : end start history .file .words ≡ modelFile (end start history .parameters) (end start history .model) .words
+  pub growth : end start history .growth ≡ end start history .model .growth
 
 -- for all parameters and buffers that make accepts, and every history
 abbrev pub EveryHistory : Type 0
 EveryHistory =
     (p : Parameters) (f : File) (pool : Pool) → makeOf p f pool .answer .refusal ≡ 0
-    → (history : List Call) → AsModel p (initial p f pool) history
+    → (history : List Call) → AsModel (initial p f pool) history

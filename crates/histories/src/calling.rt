@@ -2,10 +2,11 @@
 ghost use mathlib.Core.Path.{_≡_};
 ghost use Prim.Native.Nat.{_+_, _≤_};
 ghost use lib.ListN.{length};
-ghost use Rattle.starfile.specs.Answers.{lent, pooled};
+ghost use Rattle.placement.specs.Lent.{before, after};
 ghost use Rattle.histories.specs.Call.{step};
+ghost use Rattle.histories.specs.Lent.{poolBefore, poolAfter};
 ghost use Rattle.histories.specs.Replay.{requestOf};
-ghost use Rattle.histories.specs.Steps.{Steps, Written};
+ghost use Rattle.histories.specs.Steps.{Steps, Recorded};
 use hashing::Growth;
 use hashing::Parameters;
 use pages::position::Position;
@@ -34,7 +35,8 @@ fn run_call(
     star: u32,
     position: Position,
 ) -> Stepped
-    ensures { λ r. ⌜ Steps (step parameters growth (lent (now (separators .entry)) (now (numbers .entry)) (now (words .entry))) (pooled (now (poolnumbers .entry)) (now (poolwords .entry))) (requestOf kind star position)) r (lent (now (separators .exit)) (now (numbers .exit)) (now (words .exit))) (pooled (now (poolnumbers .exit)) (now (poolwords .exit))) ⌝ }
+    ensures { λ r. ⌜ Steps (step parameters growth (before separators numbers words) (poolBefore poolnumbers poolwords) (requestOf kind star position))
+        r (after separators numbers words) (poolAfter poolnumbers poolwords) ⌝ }
 {
     if kind == 0 {
         let found = starfile::look_up(parameters, growth, separators, numbers, words, star);
@@ -130,7 +132,8 @@ pub fn replay_step(
     at: usize,
 ) -> Growth
     requires { ⌜ at + 8 ≤ length (now answers) ⌝ }
-    ensures { λ r. ⌜ Written (step parameters growth (lent (now (separators .entry)) (now (numbers .entry)) (now (words .entry))) (pooled (now (poolnumbers .entry)) (now (poolwords .entry))) (requestOf kind star position)) (now (answers .entry)) at r (now (answers .exit)) (lent (now (separators .exit)) (now (numbers .exit)) (now (words .exit))) (pooled (now (poolnumbers .exit)) (now (poolwords .exit))) ⌝ }
+    ensures { λ r. ⌜ Recorded (step parameters growth (before separators numbers words) (poolBefore poolnumbers poolwords) (requestOf kind star position))
+        (now (answers .entry)) at r (now (answers .exit)) (after separators numbers words) (poolAfter poolnumbers poolwords) ⌝ }
 {
     let stepped = run_call(
         parameters,

@@ -1,8 +1,9 @@
 // A lent history, run through the calls of starfile from a file made for it.
 ghost use mathlib.Core.Path.{_≡_};
 ghost use mathlib.Core.List.{[]};
-ghost use Rattle.starfile.specs.Answers.{lent, pooled};
-ghost use Rattle.histories.specs.Model.{emptyModel};
+ghost use Rattle.placement.specs.Lent.{before, after};
+ghost use Rattle.histories.specs.Run.{fresh};
+ghost use Rattle.histories.specs.Lent.{poolBefore, poolAfter, historyBefore};
 ghost use Rattle.histories.specs.Replay.{lentHistory, allKinds, evenLengths, evenPool, requestsOf, replayOf, Replays};
 ghost use Rattle.histories.specs.Steps.{Even, Runs};
 use crate::calling::replay_step;
@@ -36,7 +37,9 @@ pub fn replay(
     decs: &[i32],
     answers: &mut [u32],
 ) -> Replayed
-    ensures { λ r. ⌜ Replays (replayOf parameters (lent (now (separators .entry)) (now (numbers .entry)) (now (words .entry))) (pooled (now (poolnumbers .entry)) (now (poolwords .entry))) (lentHistory (now (kinds .entry)) (now (stars .entry)) (now (ras .entry)) (now (decs .entry))) (now (answers .entry))) r (now (answers .exit)) (lent (now (separators .exit)) (now (numbers .exit)) (now (words .exit))) (pooled (now (poolnumbers .exit)) (now (poolwords .exit))) ⌝ }
+    ensures { λ r. ⌜ Replays
+        (replayOf parameters (before separators numbers words) (poolBefore poolnumbers poolwords) (historyBefore kinds stars ras decs) (now (answers .entry)))
+        r (now (answers .exit)) (after separators numbers words) (poolAfter poolnumbers poolwords) ⌝ }
 {
     if !lengths_agree(
         kinds.len(),
@@ -140,7 +143,8 @@ fn run(
     answers: &mut [u32],
 ) -> Growth
     requires { ⌜ Even (lentHistory (now kinds) (now stars) (now ras) (now decs)) (now answers) ⌝ }
-    ensures { λ r. ⌜ Runs parameters (record { growth = growth; file = lent (now (separators .entry)) (now (numbers .entry)) (now (words .entry)); model = emptyModel }) (pooled (now (poolnumbers .entry)) (now (poolwords .entry))) (requestsOf (lentHistory (now (kinds .entry)) (now (stars .entry)) (now (ras .entry)) (now (decs .entry)))) [] r (now (answers .exit)) (lent (now (separators .exit)) (now (numbers .exit)) (now (words .exit))) (pooled (now (poolnumbers .exit)) (now (poolwords .exit))) ⌝ }
+    ensures { λ r. ⌜ Runs (fresh parameters growth (before separators numbers words)) (poolBefore poolnumbers poolwords) (requestsOf (historyBefore kinds stars ras decs)) []
+        r (now (answers .exit)) (after separators numbers words) (poolAfter poolnumbers poolwords) ⌝ }
 {
     let mut state = growth;
     let mut i = 0;

@@ -1,5 +1,5 @@
 -- `histories::calling::replay_step` meets its contract.
-use Rattle.histories.proofs.Stepping.{written}
+use Rattle.histories.proofs.Stepping.{recorded}
 use borrow.Author.Needs.{needs}
 use Rattle.histories.proofs.calling.replay_step.Statement.{statement}
 use Rattle.histories.proofs.calling.replay_step.Tie as tie
@@ -31,7 +31,7 @@ same-length-6 c = search needs
 returns : tie.Need-returns
 returns c =
     let written-at = c .before .before .before in
-    written _ _ _ _ _ _ _
+    recorded _ _ _ _ _ _ _
     (written-at .before .before .before .before .before .before .before .before .before .before .before .before .before .run-call .ensures)
     (written-at .write .ensures)
 

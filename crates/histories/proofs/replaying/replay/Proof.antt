@@ -11,8 +11,8 @@ use Rattle.histories.proofs.replaying.replay.Statement.{statement}
 use Rattle.histories.proofs.replaying.replay.Tie as tie
 
 -- the lent file, pool and history at entry
-abbrev fileOf : tie.Start → File
-fileOf s = lent (now (s .args .separators)) (now (s .args .numbers)) (now (s .args .words))
+abbrev lentFile : tie.Start → File
+lentFile s = lent (now (s .args .separators)) (now (s .args .numbers)) (now (s .args .words))
 
 abbrev poolOf : tie.Start → Pool
 poolOf s = pooled (now (s .args .poolnumbers)) (now (s .args .poolwords))
@@ -26,7 +26,7 @@ lengths-agree-requires c κs = tt
 returns : tie.Need-returns
 returns c =
     let s = c .before .before .before .before .before .before .before .before .before .before .before in
-    uneven-history _ (fileOf s) (poolOf s) (lentOf s) (now (s .args .answers)) (failed _ _ (c .before .lengths-agree .ensures) (c .if1 .taken))
+    uneven-history _ (lentFile s) (poolOf s) (lentOf s) (now (s .args .answers)) (failed _ _ (c .before .lengths-agree .ensures) (c .if1 .taken))
 
 pool-agrees-requires : tie.Need-pool-agrees-requires
 pool-agrees-requires c κs = tt
@@ -35,7 +35,7 @@ returns-2 : tie.Need-returns-2
 returns-2 c =
     let one = c .before .before in
     let s = one .before .before .before .before .before .before .before .before .before .before .before in
-    uneven-pool _ (fileOf s) (poolOf s) (lentOf s) (now (s .args .answers))
+    uneven-pool _ (lentFile s) (poolOf s) (lentOf s) (now (s .args .answers))
     (passed _ _ (one .before .lengths-agree .ensures) (one .if1 .left))
     (failed _ _ (c .before .pool-agrees .ensures) (c .if2 .taken))
 
@@ -46,7 +46,7 @@ returns-3 : tie.Need-returns-3
 returns-3 c =
     let one = c .before .before .before .before in
     let s = one .before .before .before .before .before .before .before .before .before .before .before in
-    unknown-kind _ (fileOf s) (poolOf s) (lentOf s) (now (s .args .answers))
+    unknown-kind _ (lentFile s) (poolOf s) (lentOf s) (now (s .args .answers))
     (passed _ _ (one .before .lengths-agree .ensures) (one .if1 .left))
     (passed _ _ (c .before .before .before .pool-agrees .ensures) (c .before .before .if2 .left))
     (failed _ _ (c .before .kinds-known .ensures) (c .if3 .taken))
@@ -90,7 +90,7 @@ returns-4 c =
     let three = made .before .before .before .before in
     let one = three .before .before .before .before in
     let s = one .before .before .before .before .before .before .before .before .before .before .before in
-    make-done _ (fileOf s) (poolOf s) (lentOf s) (now (s .args .answers))
+    make-done _ (lentFile s) (poolOf s) (lentOf s) (now (s .args .answers))
     (passed _ _ (one .before .lengths-agree .ensures) (one .if1 .left))
     (passed _ _ (three .before .before .before .pool-agrees .ensures) (three .before .before .if2 .left))
     (passed _ _ (three .before .kinds-known .ensures) (three .if3 .left))
@@ -112,7 +112,7 @@ returns-5 c =
     let three = made .before .before .before .before in
     let one = three .before .before .before .before in
     let s = one .before .before .before .before .before .before .before .before .before .before .before in
-    make-refused _ (fileOf s) (poolOf s) (lentOf s) (now (s .args .answers))
+    make-refused _ (lentFile s) (poolOf s) (lentOf s) (now (s .args .answers))
     (passed _ _ (one .before .lengths-agree .ensures) (one .if1 .left))
     (passed _ _ (three .before .before .before .pool-agrees .ensures) (three .before .before .if2 .left))
     (passed _ _ (three .before .kinds-known .ensures) (three .if3 .left))

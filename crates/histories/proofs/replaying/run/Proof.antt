@@ -1,5 +1,5 @@
 -- `histories::replaying::run` meets its contract. The invariant: the first i calls are run, and every slice has its length.
-use mathlib.Core.Path.{_≡_, refl, _∙_}
+use mathlib.Core.Path.{_≡_, _∙_}
 use Prim.Native.Nat.{_-_}
 use native.Mathlib.Omega.{arith}
 use lib.IntN.{pos}

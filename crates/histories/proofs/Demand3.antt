@@ -1,0 +1,13 @@
+-- Demand 3.
+use Rattle.histories.specs.Demand3.{Demand3}
+use Rattle.histories.proofs.Every.{every-history, each-state, history-independence}
+use Rattle.histories.proofs.Alike.{look-ups-alike}
+
+pub demand-3 : Demand3
+demand-3 =
+    record {
+      everyHistory = every-history;
+      historyIndependence = history-independence;
+      eachState = each-state;
+      lookUpsAlike = look-ups-alike;
+    }

@@ -1,0 +1,16 @@
+-- Demand 3, all of it, and what follows of every history with it.
+use Rattle.histories.specs.Theorem.{EveryHistory}
+use Rattle.histories.specs.Corollaries.{EachState, HistoryIndependence}
+use Rattle.histories.specs.Alike.{LookUpsAlike}
+
+pub record Demand3 : Type 0 where
+  -- "a single statement about the whole list and not one for each call" (01): look-ups answer as the book, no call is refused for
+  -- damage, and at the end separators, pages and (e, x) are the book's, "what the rule over pages 0 to M−1 gives its stars" (01)
+  pub everyHistory : EveryHistory
+  -- so they depend only on what the book holds, "star numbers, each once with a position, and an (e, x) of its own" (01)
+  pub historyIndependence : HistoryIndependence
+  -- before each call and at the end the file is "a file that the check accepts (a clean file)" (02 (i)), "8 needs a star carried past
+  -- M−1" (01), and an entry of a held star with its stored position "counts as no step", any other being 6 (02 (v))
+  pub eachState : EachState
+  -- look-ups "that are alike" (02 (xiii)) get one answer: alike in number, parameters, (e, x), lengths, separators and the page named
+  pub lookUpsAlike : LookUpsAlike
