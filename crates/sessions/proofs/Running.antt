@@ -53,7 +53,7 @@ pub start-stands : (s : Session) (out : List ℕ) → Stands (runs (runOf s) [])
 unfolding runs runOf
 start-stands s out = record { state = refl; line = refl; text = record { buffer = refl; end = refl } }
 
-run-of :
+pub run-of :
     (r : Run) (at next : ℕ) (before after : List ℕ) (s : Session) → Stands r at before after s next → runOf s ≡ onward r
 unfolding runOf onward
 run-of r at next before after s h i = record { state = h .state i; begun = h .line i; text = [] }
