@@ -13,6 +13,7 @@ pub mod LookUp
 pub mod Due
 pub mod Searching
 pub mod Check
+pub mod Empty
 pub mod Grow
 pub mod Reaching
 pub mod Remove

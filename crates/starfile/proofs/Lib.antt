@@ -8,4 +8,5 @@ pub mod Points
 pub mod Pools
 pub mod Refusals
 pub mod Resending
+pub mod Separators
 pub mod Tallies

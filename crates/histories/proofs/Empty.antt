@@ -1,0 +1,101 @@
+-- An empty file may be lent with every valid growth state, as it has no star to be placed otherwise.
+use mathlib.Core.Path.{_≡_, refl, sym, ap, _∙_, subst}
+use mathlib.Core.Bool.{Bool, true, false, cond, _&&_}
+use mathlib.Core.List.{[]}
+use Prim.Native.Nat.{_-_, _<_}
+use native.Mathlib.Nat.{zero-add, le-refl}
+use native.Mathlib.Omega.{arith}
+use lib.Dec.{eqb}
+use borrow.Author.Tests.{le-ltb, ne-eqb}
+use Rattle.hashing.specs.declared.Parameters.{Parameters}
+use Rattle.hashing.specs.declared.Growth.{Growth}
+use Rattle.hashing.specs.Geometry.{pageCount, highest, grown}
+use Rattle.hashing.specs.Limits.{validParameters, validGrowth}
+use Rattle.pages.specs.Position.{validWord}
+use Rattle.placement.specs.File.{File, Clean, laid}
+use Rattle.placement.specs.Hash.{hashOf}
+use Rattle.placement.proofs.Sound.{clean-laid}
+use Rattle.starfile.specs.Answers.{Pool, After, accepted, refused, cleared}
+use Rattle.starfile.specs.Calls.{hash, fileFits, poolFits, unless, orElse, unlent, guarded, unchanged, emptyFile, growTo, growOf, checkOf}
+use Rattle.histories.specs.Model.{Model, starsOf, fileOf}
+use Rattle.histories.proofs.Fitting.{Fitting, bounded, rising-from, proper, lengths}
+use Rattle.histories.proofs.Guards.{lent-pool}
+use Rattle.histories.proofs.Searching.{none-unsound}
+use Rattle.histories.proofs.Make.{left-none, laid-none}
+use Rattle.histories.proofs.Check.{all-stars, placed-anew, finds-nothing}
+
+-- the model of no star
+abbrev starless : Growth → Model
+starless g = record { entries = []; growth = g }
+
+-- what an accepted growth of an empty file leaves
+abbrev pub grownEmpty : Parameters → Growth → Pool → After
+grownEmpty p g pool = record { answer = accepted (pageCount p g); growth = grown p g; file = emptyFile p; pool = cleared pool }
+
+module _ (p : Parameters) (g : Growth) (valid : validParameters p ≡ true) (state : validGrowth p g ≡ true) where
+  fitting : Fitting p (starless g)
+  unfolding starsOf
+  fitting = record { parameters = valid; growth = state; ordered = tt; fits = left-none (hash p g) 0 (p .pages) }
+
+  laid-empty : (next : Growth) → laid (p .places) (hash p next) (p .pages) [] ≡ emptyFile p
+  unfolding emptyFile hashOf
+  laid-empty next = laid-none (p .places) (hash p next) (bounded p next valid) (p .pages)
+
+  file-empty : fileOf p (starless g) ≡ emptyFile p
+  unfolding fileOf starsOf
+  file-empty = laid-empty g
+
+  pub empty-clean : Clean validWord (hash p g) (p .pages) (emptyFile p)
+  unfolding starsOf hashOf
+  empty-clean =
+      subst (Clean validWord (hash p g) (p .pages)) (laid-empty g)
+      (clean-laid validWord (hash p g) (p .pages) [] (rising-from p (starless g) fitting) (proper p (starless g) fitting) (fitting .fits))
+
+  checks : (pool : Pool) → poolFits p pool ≡ true
+      → checkOf p g (fileOf p (starless g)) pool ≡ unchanged g (fileOf p (starless g)) (cleared pool) (accepted 0)
+  unfolding checkOf
+  checks pool fits = rw (lent-pool p (starless g) fitting (poolFits p pool), fits, finds-nothing p (starless g) fitting)
+
+  -- check accepts it
+  pub empty-checked : (pool : Pool) → poolFits p pool ≡ true → checkOf p g (emptyFile p) pool ≡ unchanged g (emptyFile p) (cleared pool) (accepted 0)
+  empty-checked pool fits = subst (λ (f : File). checkOf p g f pool ≡ unchanged g f (cleared pool) (accepted 0)) file-empty (checks pool fits)
+
+  grows-to : (pool : Pool) → growTo p g (fileOf p (starless g)) (cleared pool) (grown p g) ≡ grownEmpty p g pool
+  unfolding growTo starsOf
+  grows-to pool =
+      rw (
+        none-unsound p (starless g) fitting 0 (p .pages) (omega (arith, zero-add (p .pages))),
+        zero-add (p .pages),
+        le-ltb (p .pages) (p .pages) (le-refl (p .pages)),
+        all-stars p (starless g) fitting,
+        left-none (hash p (grown p g)) 0 (p .pages),
+        placed-anew p (starless g) fitting (grown p g),
+        laid-empty (grown p g),
+      )
+
+  grows-from : (pool : Pool) → growTo p g (emptyFile p) (cleared pool) (grown p g) ≡ grownEmpty p g pool
+  grows-from pool = ap (λ (f : File). growTo p g f (cleared pool) (grown p g)) (sym file-empty) ∙ grows-to pool
+
+  lengths-fit : fileFits p (emptyFile p) ≡ true
+  lengths-fit = subst (λ (f : File). fileFits p f ≡ true) file-empty (lengths p (starless g) fitting)
+
+  -- with the highest address below M − 1 growth accepts it, and leaves the file
+  pub empty-grows : (pool : Pool) → poolFits p pool ≡ true → highest p g < p .pages - 1 → growOf p g (emptyFile p) pool ≡ grownEmpty p g pool
+  unfolding growOf unlent
+  empty-grows pool fits low = rw (valid, state, lengths-fit, fits, ne-eqb (highest p g) (p .pages - 1) (λ e. omega arith)) (grows-from pool)
+
+-- accepted or refused, growth leaves an empty file as it was
+pub empty-kept : (p : Parameters) (g : Growth) (pool : Pool) → growOf p g (emptyFile p) pool .file ≡ emptyFile p
+unfolding growOf unlent
+empty-kept p g pool = go (validParameters p) refl (validGrowth p g) refl (fileFits p (emptyFile p) && poolFits p pool) (eqb (highest p g) (p .pages - 1))
+  where
+    go : (v : Bool) → validParameters p ≡ v → (w : Bool) → validGrowth p g ≡ w → (l h : Bool)
+        → guarded g (emptyFile p) pool (orElse (unless (v && w) 1) (unless l 2))
+        (cond h (unchanged g (emptyFile p) (cleared pool) (refused 8 0)) (growTo p g (emptyFile p) (cleared pool) (grown p g)))
+        .file
+        ≡ emptyFile p
+    go false e w d l h = refl
+    go true e false d l h = refl
+    go true e true d false h = refl
+    go true e true d true true = refl
+    go true e true d true false = ap (λ (a : After). a .file) (grows-from p g e d pool)
