@@ -17,7 +17,7 @@ use Rattle.placement.specs.Hash.{hashOf}
 use Rattle.placement.proofs.Sound.{clean-laid}
 use Rattle.starfile.specs.Answers.{Pool, After, accepted, refused, cleared}
 use Rattle.starfile.specs.Calls.{hash, fileFits, poolFits, unless, orElse, unlent, guarded, unchanged, emptyFile, growTo, growOf, checkOf}
-use Rattle.histories.specs.Model.{Model, starsOf, fileOf}
+use Rattle.histories.specs.Model.{Model, entryStars, modelFile}
 use Rattle.histories.proofs.Fitting.{Fitting, bounded, rising-from, proper, lengths}
 use Rattle.histories.proofs.Guards.{lent-pool}
 use Rattle.histories.proofs.Searching.{none-unsound}
@@ -34,25 +34,25 @@ grownEmpty p g pool = record { answer = accepted (pageCount p g); growth = grown
 
 module _ (p : Parameters) (g : Growth) (valid : validParameters p ≡ true) (state : validGrowth p g ≡ true) where
   fitting : Fitting p (starless g)
-  unfolding starsOf
+  unfolding entryStars
   fitting = record { parameters = valid; growth = state; ordered = tt; fits = left-none (hash p g) 0 (p .pages) }
 
   laid-empty : (next : Growth) → laid (p .places) (hash p next) (p .pages) [] ≡ emptyFile p
   unfolding emptyFile hashOf
   laid-empty next = laid-none (p .places) (hash p next) (bounded p next valid) (p .pages)
 
-  file-empty : fileOf p (starless g) ≡ emptyFile p
-  unfolding fileOf starsOf
+  file-empty : modelFile p (starless g) ≡ emptyFile p
+  unfolding modelFile entryStars
   file-empty = laid-empty g
 
   pub empty-clean : Clean validWord (hash p g) (p .pages) (emptyFile p)
-  unfolding starsOf hashOf
+  unfolding entryStars hashOf
   empty-clean =
       subst (Clean validWord (hash p g) (p .pages)) (laid-empty g)
       (clean-laid validWord (hash p g) (p .pages) [] (rising-from p (starless g) fitting) (proper p (starless g) fitting) (fitting .fits))
 
   checks : (pool : Pool) → poolFits p pool ≡ true
-      → checkOf p g (fileOf p (starless g)) pool ≡ unchanged g (fileOf p (starless g)) (cleared pool) (accepted 0)
+      → checkOf p g (modelFile p (starless g)) pool ≡ unchanged g (modelFile p (starless g)) (cleared pool) (accepted 0)
   unfolding checkOf
   checks pool fits = rw (lent-pool p (starless g) fitting (poolFits p pool), fits, finds-nothing p (starless g) fitting)
 
@@ -60,8 +60,8 @@ module _ (p : Parameters) (g : Growth) (valid : validParameters p ≡ true) (sta
   pub empty-checked : (pool : Pool) → poolFits p pool ≡ true → checkOf p g (emptyFile p) pool ≡ unchanged g (emptyFile p) (cleared pool) (accepted 0)
   empty-checked pool fits = subst (λ (f : File). checkOf p g f pool ≡ unchanged g f (cleared pool) (accepted 0)) file-empty (checks pool fits)
 
-  grows-to : (pool : Pool) → growTo p g (fileOf p (starless g)) (cleared pool) (grown p g) ≡ grownEmpty p g pool
-  unfolding growTo starsOf
+  grows-to : (pool : Pool) → growTo p g (modelFile p (starless g)) (cleared pool) (grown p g) ≡ grownEmpty p g pool
+  unfolding growTo entryStars
   grows-to pool =
       rw (
         none-unsound p (starless g) fitting 0 (p .pages) (omega (arith, zero-add (p .pages))),
