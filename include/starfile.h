@@ -95,9 +95,13 @@ struct heatherplane_parameters {
 };
 
 /* How many pages are addressed: with n = width + expansions % width and G = groups * 2^(expansions / width), n * G + expanded of
- * them, at most pages; expanded is below G. Pages above hold overflow only. The calls below read this state and leave it as it is:
- * a host that never grows its file chooses width * groups near pages, so that (0, 0) addresses nearly all of it. With FULL, look at
- * the load: far from full, too few pages are addressed. */
+ * them, at most pages; expanded is below G. Pages above hold overflow only. The calls below read this state and leave it as it is.
+ *
+ * An empty file may begin with any valid state, and then keeps it. A host that never grows its file addresses most pages from the
+ * start: width * groups near pages with the state (0, 0), or a state for the stars expected, at places * load / 100 of them a page.
+ * With places=32 groups=8 width=2 pages=1024 the state (0, 0) addresses 16 pages: the file is FULL at a third of its places, and
+ * entries near that take long. On FULL, look at the load: far from full, too few pages are addressed; make a new file with a
+ * later state and enter the stars again, or grow the file by the Rattle call. */
 struct heatherplane_growth {
     uint32_t expansions; /* e, partial expansions finished */
     uint32_t expanded;   /* x, groups expanded in the present one */
