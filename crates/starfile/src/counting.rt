@@ -2,7 +2,8 @@
 ghost use mathlib.Core.Path.{_≡_};
 ghost use Prim.Native.Nat.{_+_, _-_, _/_, _≤_, _<_, max};
 ghost use lib.ListN.{length};
-ghost use Rattle.starfile.specs.Answers.{lent, unpooled, dueSaid};
+ghost use Rattle.placement.specs.Lent.{before};
+ghost use Rattle.starfile.specs.Answers.{unpooled, dueSaid};
 ghost use Rattle.starfile.specs.Calls.{dueOf};
 ghost use Rattle.starfile.specs.Due.{stars};
 ghost use Rattle.starfile.specs.Used.{Blank, Used};
@@ -21,7 +22,7 @@ pub fn due(
     numbers: &[u32],
     words: &[u64],
 ) -> Due
-    ensures { λ r. ⌜ dueSaid r ≡ dueOf parameters growth (lent (now (separators .entry)) (now (numbers .entry)) (now (words .entry))) unpooled .answer ⌝ }
+    ensures { λ r. ⌜ dueSaid r ≡ dueOf parameters growth (before separators numbers words) unpooled .answer ⌝ }
 {
     if !state_valid(parameters, growth) {
         return Due::Refused(Refusal::BadParameters);

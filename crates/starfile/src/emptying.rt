@@ -1,7 +1,8 @@
 // Making an empty file.
 ghost use mathlib.Core.Path.{_≡_};
 ghost use lib.ListN.{length, replicate};
-ghost use Rattle.starfile.specs.Answers.{Leaves, lent, unpooled, placed};
+ghost use Rattle.placement.specs.Lent.{before, after};
+ghost use Rattle.starfile.specs.Answers.{Leaves, unpooled, placed};
 ghost use Rattle.starfile.specs.Calls.{makeOf};
 use crate::answers::Grown;
 use crate::answers::Placed;
@@ -17,8 +18,9 @@ pub fn make(
     numbers: &mut [u32],
     words: &mut [u64],
 ) -> Grown
-    ensures { λ r. ⌜ Leaves (makeOf parameters (lent (now (separators .entry)) (now (numbers .entry)) (now (words .entry))) unpooled) (placed (r .answer)) (lent (now (separators .exit)) (now (numbers .exit)) (now (words .exit))) unpooled ⌝ }
-    ensures { λ r. ⌜ r .growth ≡ makeOf parameters (lent (now (separators .entry)) (now (numbers .entry)) (now (words .entry))) unpooled .growth ⌝ }
+    ensures { λ r. ⌜ Leaves (makeOf parameters (before separators numbers words) unpooled)
+        (placed (r .answer)) (after separators numbers words) unpooled ⌝ }
+    ensures { λ r. ⌜ r .growth ≡ makeOf parameters (before separators numbers words) unpooled .growth ⌝ }
 {
     let growth = Growth {
         expansions: 0,

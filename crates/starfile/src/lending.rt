@@ -1,9 +1,8 @@
 // Refusals 1 and 2: parameters, growth state and the lengths of what is lent.
 ghost use mathlib.Core.Path.{_≡_};
 ghost use mathlib.Core.Bool.{true, _&&_};
-ghost use Prim.Native.Nat.{_*_};
-ghost use lib.Dec.{eqb};
 ghost use Rattle.hashing.specs.Limits.{validParameters, validGrowth};
+ghost use Rattle.starfile.specs.Calls.{fileLengths, poolLengths};
 use hashing::Growth;
 use hashing::Parameters;
 
@@ -19,7 +18,7 @@ pub fn state_valid(parameters: Parameters, growth: Growth) -> bool
 // M separators, M·b numbers and M·b words.
 pub fn file_fits(parameters: Parameters, separators: usize, numbers: usize, words: usize) -> bool
     requires { ⌜ validParameters parameters ≡ true ⌝ }
-    ensures { λ r. ⌜ r ≡ (eqb separators (parameters .pages) && (eqb numbers (parameters .pages * parameters .places) && eqb words (parameters .pages * parameters .places))) ⌝ }
+    ensures { λ r. ⌜ r ≡ fileLengths parameters separators numbers words ⌝ }
 {
     if separators != parameters.pages as usize {
         return false;
@@ -29,7 +28,7 @@ pub fn file_fits(parameters: Parameters, separators: usize, numbers: usize, word
 
 pub fn pool_fits(parameters: Parameters, numbers: usize, words: usize) -> bool
     requires { ⌜ validParameters parameters ≡ true ⌝ }
-    ensures { λ r. ⌜ r ≡ (eqb numbers (parameters .pages * parameters .places) && eqb words (parameters .pages * parameters .places)) ⌝ }
+    ensures { λ r. ⌜ r ≡ poolLengths parameters numbers words ⌝ }
 {
     let items = parameters.pages as usize * parameters.places as usize;
     if numbers != items {
@@ -48,7 +47,7 @@ pub fn all_fit(
     poolwords: usize,
 ) -> bool
     requires { ⌜ validParameters parameters ≡ true ⌝ }
-    ensures { λ r. ⌜ r ≡ ((eqb separators (parameters .pages) && (eqb numbers (parameters .pages * parameters .places) && eqb words (parameters .pages * parameters .places))) && (eqb poolnumbers (parameters .pages * parameters .places) && eqb poolwords (parameters .pages * parameters .places))) ⌝ }
+    ensures { λ r. ⌜ r ≡ (fileLengths parameters separators numbers words && poolLengths parameters poolnumbers poolwords) ⌝ }
 {
     if !file_fits(parameters, separators, numbers, words) {
         return false;

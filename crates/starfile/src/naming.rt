@@ -5,7 +5,7 @@ ghost use Rattle.hashing.specs.Generator.{multipliers};
 ghost use Rattle.hashing.specs.Limits.{validParameters, validGrowth};
 ghost use Rattle.pages.specs.Position.{validNumber};
 ghost use Rattle.placement.specs.File.{Sized};
-ghost use Rattle.placement.specs.Hash.{lent};
+ghost use Rattle.placement.specs.Lent.{held, before};
 ghost use Rattle.starfile.specs.Named.{NamedAs};
 use hashing::Geometry;
 
@@ -33,9 +33,9 @@ pub fn find(
     requires { ⌜ now table ≡ multipliers ⌝ }
     requires { ⌜ validParameters (geometry .parameters) ≡ true ⌝ }
     requires { ⌜ validGrowth (geometry .parameters) (geometry .growth) ≡ true ⌝ }
-    requires { ⌜ Sized (geometry .parameters .places) (geometry .parameters .pages) (lent (now separators) (now numbers) (now words)) ⌝ }
+    requires { ⌜ Sized (geometry .parameters .places) (geometry .parameters .pages) (held separators numbers words) ⌝ }
     requires { ⌜ validNumber number ≡ true ⌝ }
-    ensures { λ r. ⌜ NamedAs (geometry .parameters) (geometry .growth) (lent (now (separators .entry)) (now (numbers .entry)) (now (words .entry))) number r ⌝ }
+    ensures { λ r. ⌜ NamedAs (geometry .parameters) (geometry .growth) (before separators numbers words) number r ⌝ }
 {
     let places = geometry.parameters.places as usize;
     let page = placement::named_page(table, geometry, separators, number);

@@ -1,6 +1,7 @@
 // The look-up.
 ghost use mathlib.Core.Path.{_≡_};
-ghost use Rattle.starfile.specs.Answers.{lent, unpooled, sought};
+ghost use Rattle.placement.specs.Lent.{before};
+ghost use Rattle.starfile.specs.Answers.{unpooled, sought};
 ghost use Rattle.starfile.specs.Calls.{lookUpOf};
 use crate::answers::Found;
 use crate::answers::Refusal;
@@ -20,7 +21,7 @@ pub fn look_up(
     words: &[u64],
     number: u32,
 ) -> Found
-    ensures { λ r. ⌜ sought r ≡ lookUpOf parameters growth (lent (now (separators .entry)) (now (numbers .entry)) (now (words .entry))) unpooled number .answer ⌝ }
+    ensures { λ r. ⌜ sought r ≡ lookUpOf parameters growth (before separators numbers words) unpooled number .answer ⌝ }
 {
     if !state_valid(parameters, growth) {
         return Found::Refused(Refusal::BadParameters, 0);

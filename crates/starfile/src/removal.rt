@@ -5,10 +5,11 @@ ghost use Prim.Native.Nat.{_≤_};
 ghost use Rattle.hashing.specs.Limits.{validParameters, validGrowth};
 ghost use Rattle.pages.specs.Position.{validNumber};
 ghost use Rattle.placement.specs.File.{Sized};
-ghost use Rattle.placement.specs.Hash.{lent};
+ghost use Rattle.placement.specs.Lent.{held, before, after};
 ghost use Rattle.starfile.specs.Answers.{Leaves, Stores, pooled, cleared, placed};
 ghost use Rattle.starfile.specs.Calls.{removeOf, removeOn, named, poolFits};
 ghost use Rattle.starfile.specs.Outcomes.{ReplacedSmall, replacedPlaced};
+ghost use Rattle.starfile.specs.Lent.{poolBefore, poolAfter};
 use crate::answers::Placed;
 use crate::answers::Refusal;
 use crate::lending::all_fit;
@@ -30,7 +31,8 @@ pub fn remove(
     poolwords: &mut [u64],
     number: u32,
 ) -> Placed
-    ensures { λ r. ⌜ Leaves (removeOf parameters growth (lent (now (separators .entry)) (now (numbers .entry)) (now (words .entry))) (pooled (now (poolnumbers .entry)) (now (poolwords .entry))) number) (placed r) (lent (now (separators .exit)) (now (numbers .exit)) (now (words .exit))) (pooled (now (poolnumbers .exit)) (now (poolwords .exit))) ⌝ }
+    ensures { λ r. ⌜ Leaves (removeOf parameters growth (before separators numbers words) (poolBefore poolnumbers poolwords) number)
+        (placed r) (after separators numbers words) (poolAfter poolnumbers poolwords) ⌝ }
 {
     if !state_valid(parameters, growth) {
         return Placed::Refused(Refusal::BadParameters, 0);
@@ -75,10 +77,12 @@ fn remove_held(
 ) -> Placed
     requires { ⌜ validParameters parameters ≡ true ⌝ }
     requires { ⌜ validGrowth parameters growth ≡ true ⌝ }
-    requires { ⌜ Sized (parameters .places) (parameters .pages) (lent (now separators) (now numbers) (now words)) ⌝ }
+    requires { ⌜ Sized (parameters .places) (parameters .pages) (held separators numbers words) ⌝ }
     requires { ⌜ poolFits parameters (pooled (now poolnumbers) (now poolwords)) ≡ true ⌝ }
     requires { ⌜ validNumber number ≡ true ⌝ }
-    ensures { λ r. ⌜ Stores (removeOn parameters growth (lent (now (separators .entry)) (now (numbers .entry)) (now (words .entry))) (cleared (pooled (now (poolnumbers .entry)) (now (poolwords .entry)))) (named parameters growth (lent (now (separators .entry)) (now (numbers .entry)) (now (words .entry))) number) number) (placed r) (lent (now (separators .exit)) (now (numbers .exit)) (now (words .exit))) ⌝ }
+    ensures { λ r. ⌜ Stores (removeOn parameters growth (before separators numbers words) (cleared (poolBefore poolnumbers poolwords))
+        (named parameters growth (before separators numbers words) number) number)
+        (placed r) (after separators numbers words) ⌝ }
 {
     let table = hashing::multipliers();
     let geometry = Geometry { parameters, growth };

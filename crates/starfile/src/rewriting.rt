@@ -1,6 +1,7 @@
 // The change of a position.
 ghost use mathlib.Core.Path.{_≡_};
-ghost use Rattle.starfile.specs.Answers.{Leaves, lent, unpooled, placed};
+ghost use Rattle.placement.specs.Lent.{held, before};
+ghost use Rattle.starfile.specs.Answers.{Leaves, unpooled, placed};
 ghost use Rattle.starfile.specs.Calls.{changeOf};
 use crate::answers::Placed;
 use crate::answers::Refusal;
@@ -22,7 +23,8 @@ pub fn change(
     number: u32,
     position: Position,
 ) -> Placed
-    ensures { λ r. ⌜ Leaves (changeOf parameters growth (lent (now (separators .entry)) (now (numbers .entry)) (now (words .entry))) unpooled number position) (placed r) (lent (now (separators .entry)) (now (numbers .entry)) (now (words .exit))) unpooled ⌝ }
+    ensures { λ r. ⌜ Leaves (changeOf parameters growth (before separators numbers words) unpooled number position)
+        (placed r) (held (separators .entry) (numbers .entry) (words .exit)) unpooled ⌝ }
 {
     if !state_valid(parameters, growth) {
         return Placed::Refused(Refusal::BadParameters, 0);
