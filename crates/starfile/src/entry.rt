@@ -1,14 +1,13 @@
 // The entry of a star.
 ghost use mathlib.Core.Path.{_≡_};
 ghost use mathlib.Core.Bool.{true};
-ghost use Rattle.hashing.specs.Limits.{validParameters, validGrowth};
 ghost use Rattle.pages.specs.Position.{validNumber};
-ghost use Rattle.placement.specs.File.{Sized};
 ghost use Rattle.placement.specs.Lent.{held, before, after};
-ghost use Rattle.starfile.specs.Answers.{Leaves, Stores, pooled, cleared, placed};
-ghost use Rattle.starfile.specs.Calls.{enterOf, enterOn, named, poolFits};
+ghost use Rattle.placement.specs.Ready.{Pooled};
+ghost use Rattle.starfile.specs.Answers.{Leaves, Stores, cleared, placed};
+ghost use Rattle.starfile.specs.Calls.{enterOf, enterOn, named};
 ghost use Rattle.starfile.specs.Outcomes.{EntrySmall, entryPlaced};
-ghost use Rattle.starfile.specs.Lent.{poolBefore, poolAfter};
+ghost use Rattle.starfile.specs.Lent.{Admitted, poolBefore, poolAfter};
 use crate::answers::Placed;
 use crate::answers::Refusal;
 use crate::lending::all_fit;
@@ -82,10 +81,8 @@ fn enter_star(
     number: u32,
     word: u64,
 ) -> Placed
-    requires { ⌜ validParameters parameters ≡ true ⌝ }
-    requires { ⌜ validGrowth parameters growth ≡ true ⌝ }
-    requires { ⌜ Sized (parameters .places) (parameters .pages) (held separators numbers words) ⌝ }
-    requires { ⌜ poolFits parameters (pooled (now poolnumbers) (now poolwords)) ≡ true ⌝ }
+    requires { ⌜ Admitted parameters growth (held separators numbers words) ⌝ }
+    requires { ⌜ Pooled parameters (now poolnumbers) (now poolwords) ⌝ }
     requires { ⌜ validNumber number ≡ true ⌝ }
     ensures { λ r. ⌜ Stores (enterOn parameters growth (before separators numbers words) (cleared (poolBefore poolnumbers poolwords))
         (named parameters growth (before separators numbers words) number) (record { number = number; word = word }))

@@ -1,13 +1,11 @@
 // Growth by one page.
 ghost use mathlib.Core.Path.{_≡_};
-ghost use mathlib.Core.Bool.{true};
-ghost use Rattle.hashing.specs.Limits.{validParameters, validGrowth};
-ghost use Rattle.placement.specs.File.{Sized};
 ghost use Rattle.placement.specs.Lent.{held, before, after};
-ghost use Rattle.starfile.specs.Answers.{Leaves, Stores, pooled, cleared, placed};
-ghost use Rattle.starfile.specs.Calls.{growOf, growOn, poolFits};
+ghost use Rattle.placement.specs.Ready.{Pooled};
+ghost use Rattle.starfile.specs.Answers.{Leaves, Stores, cleared, placed};
+ghost use Rattle.starfile.specs.Calls.{growOf, growOn};
 ghost use Rattle.starfile.specs.Outcomes.{ReplacedSmall, replacedGrown, unmovedBy};
-ghost use Rattle.starfile.specs.Lent.{poolBefore, poolAfter};
+ghost use Rattle.starfile.specs.Lent.{Admitted, poolBefore, poolAfter};
 use crate::answers::Grown;
 use crate::answers::Placed;
 use crate::answers::Refusal;
@@ -68,10 +66,8 @@ fn grow_file(
     poolnumbers: &mut [u32],
     poolwords: &mut [u64],
 ) -> Grown
-    requires { ⌜ validParameters parameters ≡ true ⌝ }
-    requires { ⌜ validGrowth parameters growth ≡ true ⌝ }
-    requires { ⌜ Sized (parameters .places) (parameters .pages) (held separators numbers words) ⌝ }
-    requires { ⌜ poolFits parameters (pooled (now poolnumbers) (now poolwords)) ≡ true ⌝ }
+    requires { ⌜ Admitted parameters growth (held separators numbers words) ⌝ }
+    requires { ⌜ Pooled parameters (now poolnumbers) (now poolwords) ⌝ }
     ensures { λ r. ⌜ Stores (growOn parameters growth (before separators numbers words) (cleared (poolBefore poolnumbers poolwords)))
         (placed (r .answer)) (after separators numbers words) ⌝ }
     ensures { λ r. ⌜ r .growth ≡ growOn parameters growth (before separators numbers words) (cleared (poolBefore poolnumbers poolwords)) .growth ⌝ }

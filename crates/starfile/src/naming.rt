@@ -1,11 +1,9 @@
 // The page that the separators name for a number, and what it holds of it.
 ghost use mathlib.Core.Path.{_≡_};
 ghost use mathlib.Core.Bool.{true, false};
-ghost use Rattle.hashing.specs.Generator.{multipliers};
-ghost use Rattle.hashing.specs.Limits.{validParameters, validGrowth};
 ghost use Rattle.pages.specs.Position.{validNumber};
-ghost use Rattle.placement.specs.File.{Sized};
 ghost use Rattle.placement.specs.Lent.{held, before};
+ghost use Rattle.placement.specs.Ready.{Ready};
 ghost use Rattle.starfile.specs.Named.{NamedAs};
 use hashing::Geometry;
 
@@ -30,10 +28,7 @@ pub fn find(
     words: &[u64],
     number: u32,
 ) -> Named
-    requires { ⌜ now table ≡ multipliers ⌝ }
-    requires { ⌜ validParameters (geometry .parameters) ≡ true ⌝ }
-    requires { ⌜ validGrowth (geometry .parameters) (geometry .growth) ≡ true ⌝ }
-    requires { ⌜ Sized (geometry .parameters .places) (geometry .parameters .pages) (held separators numbers words) ⌝ }
+    requires { ⌜ Ready geometry (now table) (held separators numbers words) ⌝ }
     requires { ⌜ validNumber number ≡ true ⌝ }
     ensures { λ r. ⌜ NamedAs (geometry .parameters) (geometry .growth) (before separators numbers words) number r ⌝ }
 {

@@ -2,14 +2,13 @@
 ghost use mathlib.Core.Path.{_≡_};
 ghost use mathlib.Core.Bool.{true};
 ghost use Prim.Native.Nat.{_≤_};
-ghost use Rattle.hashing.specs.Limits.{validParameters, validGrowth};
 ghost use Rattle.pages.specs.Position.{validNumber};
-ghost use Rattle.placement.specs.File.{Sized};
 ghost use Rattle.placement.specs.Lent.{held, before, after};
-ghost use Rattle.starfile.specs.Answers.{Leaves, Stores, pooled, cleared, placed};
-ghost use Rattle.starfile.specs.Calls.{removeOf, removeOn, named, poolFits};
+ghost use Rattle.placement.specs.Ready.{Pooled};
+ghost use Rattle.starfile.specs.Answers.{Leaves, Stores, cleared, placed};
+ghost use Rattle.starfile.specs.Calls.{removeOf, removeOn, named};
 ghost use Rattle.starfile.specs.Outcomes.{ReplacedSmall, replacedPlaced};
-ghost use Rattle.starfile.specs.Lent.{poolBefore, poolAfter};
+ghost use Rattle.starfile.specs.Lent.{Admitted, poolBefore, poolAfter};
 use crate::answers::Placed;
 use crate::answers::Refusal;
 use crate::lending::all_fit;
@@ -75,10 +74,8 @@ fn remove_held(
     poolwords: &mut [u64],
     number: u32,
 ) -> Placed
-    requires { ⌜ validParameters parameters ≡ true ⌝ }
-    requires { ⌜ validGrowth parameters growth ≡ true ⌝ }
-    requires { ⌜ Sized (parameters .places) (parameters .pages) (held separators numbers words) ⌝ }
-    requires { ⌜ poolFits parameters (pooled (now poolnumbers) (now poolwords)) ≡ true ⌝ }
+    requires { ⌜ Admitted parameters growth (held separators numbers words) ⌝ }
+    requires { ⌜ Pooled parameters (now poolnumbers) (now poolwords) ⌝ }
     requires { ⌜ validNumber number ≡ true ⌝ }
     ensures { λ r. ⌜ Stores (removeOn parameters growth (before separators numbers words) (cleared (poolBefore poolnumbers poolwords))
         (named parameters growth (before separators numbers words) number) number)

@@ -11,11 +11,10 @@ use Rattle.hashing.proofs.Bounds.{limits, both, passed, failed, growth-within, 
 use Rattle.pages.specs.Position.{validNumber, validPosition}
 use Rattle.placement.specs.File.{File}
 use Rattle.placement.specs.Hash.{lent}
-use Rattle.placement.proofs.Prepared.{ready, pool-ready}
 use Rattle.starfile.specs.Answers.{Pool, placed, checked, refusedBy, numberOf, pageOf, pooled, cleared}
 use Rattle.starfile.specs.Calls.{enterOn, enteredAgain, named, readable, holds, placeFor}
 use Rattle.starfile.proofs.Outcomes.{entry-small, entered-is}
-use Rattle.starfile.proofs.Pools.{pool-sized, unheld}
+use Rattle.starfile.proofs.Pools.{prepared, unheld}
 use borrow.Author.Needs.{needs}
 use Rattle.starfile.proofs.entry.enter_star.Statement.{statement}
 use Rattle.starfile.proofs.entry.enter_star.Tie as tie
@@ -38,10 +37,10 @@ multipliers-requires c κs = search needs
 find-requires : tie.Need-find-requires
 find-requires c κs =
     let pre = c .before .before .before .before .before .before .before .before .before .before .pre in
-    (c .before .before .before .before .multipliers .ensures, (pre .0, (pre .1 .0, (pre .1 .1 .0, pre .1 .1 .1 .1))))
+    (prepared (c .before .before .before .before .multipliers .ensures) (pre .0), pre .1 .1)
 
 cast-page : tie.Need-cast-page
-cast-page c = omega (arith, c .before .find .ensures .pageMost, limits _ (c .before .before .before .before .before .before .before .before .before .before .before .before .pre .0) .pages-most)
+cast-page c = omega (arith, c .before .find .ensures .pageMost, limits _ (c .before .before .before .before .before .before .before .before .before .before .before .before .pre .0 .homing .signing .valid) .pages-most)
 
 same-length : tie.Need-same-length
 same-length c = search needs
@@ -104,11 +103,11 @@ enter-stretch-requires c κs =
     let s = c .before .before .before .before .before .before .before .before .before .before .before .before .before .before .before .before .before .before .before .before .before in
     let found = c .before .before .before .before .before .before .before .before .before .before .find .ensures in
     let opened = not-false _ (c .before .before .before .before .before .before .before .if1 .left) in (
-      ready (c .before .before .before .before .before .before .before .before .before .before .before .before .before .before .before .multipliers .ensures) (s .pre .0) (s .pre .1 .0) (s .pre .1 .1 .0),
+      prepared (c .before .before .before .before .before .before .before .before .before .before .before .before .before .before .before .multipliers .ensures) (s .pre .0),
       (
-        pool-ready (pool-sized (s .args .parameters) (poolOf s) (s .pre .1 .1 .1 .0)),
+        s .pre .1 .0,
         (
-          s .pre .1 .1 .1 .1,
+          s .pre .1 .1,
           unheld (s .args .parameters) (s .args .growth) (fileOf s) (s .args .number) (sym (found .readableIs) ∙ opened) (sym (found .heldIs opened) ∙ c .before .before .before .before .before .before .if2 .left),
         ),
       ),
@@ -118,7 +117,7 @@ entry-placed-requires : tie.Need-entry-placed-requires
 entry-placed-requires c κs =
     let s = c .before .before .before .before .before .before .before .before .before .before .before .before .before .before .before .before .before .before .before .before .before .before .before .before .before .before .before .before .before .before .before .before in
     rw (c .before .before .before .before .before .before .before .before .before .before .enter-stretch .ensures .0)
-    (entry-small (s .args .parameters) (s .args .growth) (fileOf s) (s .pre .0) (s .pre .1 .0) (s .args .number) (s .args .word))
+    (entry-small (s .args .parameters) (s .args .growth) (fileOf s) (s .pre .0 .homing .signing .valid) (s .pre .0 .homing .growth) (s .args .number) (s .args .word))
 
 same-length-10 : tie.Need-same-length-10
 same-length-10 c = search needs

@@ -11,11 +11,12 @@ use Rattle.hashing.proofs.Bounds.{limits, both, passed, failed, growth-within, 
 use Rattle.pages.specs.Position.{validNumber, validPosition}
 use Rattle.placement.specs.File.{File}
 use Rattle.placement.specs.Hash.{lent}
+use Rattle.placement.proofs.Prepared.{ready, pool-ready}
 use Rattle.starfile.specs.Answers.{Pool, placed, checked, refusedBy, numberOf, pageOf, pooled, cleared}
 use Rattle.starfile.specs.Calls.{growOf, fileFits, poolFits}
 use Rattle.starfile.proofs.Making.{made-by}
 use Rattle.starfile.proofs.Refusals.{bad-state, bad-lengths, well-lent, sized}
-use Rattle.starfile.proofs.Pools.{cleared-is, leaves-cleared, grow-pool}
+use Rattle.starfile.proofs.Pools.{pool-sized, cleared-is, leaves-cleared, grow-pool}
 use borrow.Author.Needs.{needs}
 use Rattle.starfile.proofs.growth.grow.Statement.{statement}
 use Rattle.starfile.proofs.growth.grow.Tie as tie
@@ -76,7 +77,7 @@ fits c = both _ _ (fit c)
 grow-file-requires : tie.Need-grow-file-requires
 grow-file-requires c κs =
     let d = c .before .before .before .before .before in
-    (valid d .0, (valid d .1, (sized _ _ (fits d .0), fits d .1)))
+    (ready refl (valid d .0) (valid d .1) (sized _ _ (fits d .0)), pool-ready (pool-sized _ (poolOf (begun d)) (fits d .1)))
 
 clear-requires : tie.Need-clear-requires
 clear-requires c κs = search needs

@@ -11,12 +11,11 @@ use Rattle.hashing.proofs.Bounds.{limits, both, passed, failed, growth-within, 
 use Rattle.pages.specs.Position.{validNumber, validPosition}
 use Rattle.placement.specs.File.{File}
 use Rattle.placement.specs.Hash.{lent}
-use Rattle.placement.proofs.Prepared.{ready, pool-ready}
 use Rattle.starfile.specs.Answers.{Pool, placed, checked, refusedBy, numberOf, pageOf, pooled, cleared}
 use Rattle.hashing.specs.Geometry.{highest, pageCount, grown}
 use Rattle.starfile.specs.Calls.{growOn}
 use Rattle.starfile.proofs.Outcomes.{growth-small, grown-is}
-use Rattle.starfile.proofs.Pools.{pool-sized}
+use Rattle.starfile.proofs.Pools.{prepared}
 use borrow.Author.Needs.{needs}
 use Rattle.starfile.proofs.growth.grow_file.Statement.{statement}
 use Rattle.starfile.proofs.growth.grow_file.Tie as tie
@@ -43,13 +42,13 @@ page-is : (c : tie.After-highest-address) → c .highest-address .result + 1 ≡
 unfolding highest
 page-is c =
     let s = c .before .before .before .before .before .before in
-    let w = growth-within (s .args .parameters) (s .args .growth) (s .pre .1 .0) in
-    omega (arith, c .highest-address .ensures, spread _ _ (limits _ (s .pre .0)) w .pages-low)
+    let w = growth-within (s .args .parameters) (s .args .growth) (s .pre .0 .homing .growth) in
+    omega (arith, c .highest-address .ensures, spread _ _ (limits _ (s .pre .0 .homing .signing .valid)) w .pages-low)
 
 pages-most : (c : tie.After-highest-address) → pageCount (c .before .before .before .before .before .before .args .parameters) (c .before .before .before .before .before .before .args .growth) ≤ 1024
 pages-most c =
     let s = c .before .before .before .before .before .before in
-    omega (arith, growth-within (s .args .parameters) (s .args .growth) (s .pre .1 .0) .pages-fit, limits _ (s .pre .0) .pages-most)
+    omega (arith, growth-within (s .args .parameters) (s .args .growth) (s .pre .0 .homing .growth) .pages-fit, limits _ (s .pre .0 .homing .signing .valid) .pages-most)
 
 add-page : tie.Need-add-page
 add-page c = omega (arith, page-is c, pages-most c)
@@ -72,25 +71,25 @@ multipliers-requires c κs = search needs
 room : (c : tie.Else1) → pageCount (c .before .before .before .before .before .before .before .before .args .parameters) (c .before .before .before .before .before .before .before .before .args .growth) < c .before .before .before .before .before .before .before .before .args .parameters .pages
 room c =
     let s = c .before .before .before .before .before .before .before .before in
-    omega (arith, c .if1 .left, page-is (c .before .before), growth-within (s .args .parameters) (s .args .growth) (s .pre .1 .0) .pages-fit)
+    omega (arith, c .if1 .left, page-is (c .before .before), growth-within (s .args .parameters) (s .args .growth) (s .pre .0 .homing .growth) .pages-fit)
 
 grown-requires : tie.Need-grown-requires
 grown-requires c κs =
     let s = c .before .before .before .before .before .before .before .before .before in
-    (s .pre .0, (s .pre .1 .0, room (c .before)))
+    (s .pre .0 .homing .signing .valid, (s .pre .0 .homing .growth, room (c .before)))
 
 regrow-requires : tie.Need-regrow-requires
 regrow-requires c κs =
     let s = c .before .before .before .before .before .before .before .before .before .before .before .before .before .before .before .before in (
-      ready (c .before .before .before .before .before .before .before .multipliers .ensures) (s .pre .0) (s .pre .1 .0) (s .pre .1 .1 .0),
-      (pool-ready (pool-sized (s .args .parameters) (poolOf s) (s .pre .1 .1 .1)), room (c .before .before .before .before .before .before .before .before)),
+      prepared (c .before .before .before .before .before .before .before .multipliers .ensures) (s .pre .0),
+      (s .pre .1, room (c .before .before .before .before .before .before .before .before)),
     )
 
 grown-by-requires : tie.Need-grown-by-requires
 grown-by-requires c κs =
     let s = c .before .before .before .before .before .before .before .before .before .before .before .before .before .before .before .before .before .before .before .before .before .before .before .before .before .before .before in
     rw (c .before .before .before .before .before .before .before .before .before .before .regrow .ensures .0)
-    (growth-small (s .args .parameters) (s .args .growth) (fileOf s) (s .pre .0) (s .pre .1 .0) (grown (s .args .parameters) (s .args .growth)))
+    (growth-small (s .args .parameters) (s .args .growth) (fileOf s) (s .pre .0 .homing .signing .valid) (s .pre .0 .homing .growth) (grown (s .args .parameters) (s .args .growth)))
 
 same-length : tie.Need-same-length
 same-length c = search needs

@@ -10,6 +10,7 @@ use Rattle.hashing.proofs.Bounds.{limits, both, passed, failed}
 use Rattle.pages.specs.Position.{validNumber}
 use Rattle.placement.specs.File.{File}
 use Rattle.placement.specs.Hash.{lent}
+use Rattle.placement.proofs.Prepared.{ready}
 use Rattle.starfile.specs.Answers.{sought, refusedBy, numberOf, pageOf}
 use Rattle.starfile.specs.Calls.{lookUpOf, lookedUp, fileFits, named, readable, holds}
 use Rattle.starfile.proofs.Refusals.{bad-state, bad-lengths, well-lent, sized}
@@ -84,7 +85,7 @@ multipliers-requires c κs = search needs
 find-requires : tie.Need-find-requires
 find-requires c κs =
     let d = c .before .before in
-    (c .before .multipliers .ensures, (valid d .0, (valid d .1, (sized _ _ (fits d), numbered d))))
+    (ready (c .before .multipliers .ensures) (valid d .0) (valid d .1) (sized _ _ (fits d)), numbered d)
 
 -- src/reading.rt:29:16
 cast-page : tie.Need-cast-page

@@ -11,10 +11,11 @@ use Rattle.hashing.proofs.Bounds.{limits, both, passed, failed, growth-within, 
 use Rattle.pages.specs.Position.{validNumber, validPosition}
 use Rattle.placement.specs.File.{File}
 use Rattle.placement.specs.Hash.{lent}
+use Rattle.placement.proofs.Prepared.{ready, pool-ready}
 use Rattle.starfile.specs.Answers.{Pool, placed, checked, refusedBy, numberOf, pageOf, pooled, cleared}
 use Rattle.starfile.specs.Calls.{removeOf, fileFits, poolFits, named}
 use Rattle.starfile.proofs.Refusals.{bad-state, bad-lengths, well-lent, sized, leaves}
-use Rattle.starfile.proofs.Pools.{cleared-is, leaves-cleared, remove-pool}
+use Rattle.starfile.proofs.Pools.{pool-sized, cleared-is, leaves-cleared, remove-pool}
 use borrow.Author.Needs.{needs}
 use Rattle.starfile.proofs.removal.remove.Statement.{statement}
 use Rattle.starfile.proofs.removal.remove.Tie as tie
@@ -83,7 +84,7 @@ numbered c = passed _ _ (c .before .number-valid .ensures) (c .if3 .left)
 remove-held-requires : tie.Need-remove-held-requires
 remove-held-requires c κs =
     let d = c .before .before .before .before .before in
-    (valid d .0, (valid d .1, (sized _ _ (fits d .0), (fits d .1, numbered d))))
+    (ready refl (valid d .0) (valid d .1) (sized _ _ (fits d .0)), (pool-ready (pool-sized _ (poolOf (begun d)) (fits d .1)), numbered d))
 
 clear-requires : tie.Need-clear-requires
 clear-requires c κs = search needs

@@ -11,13 +11,12 @@ use Rattle.hashing.proofs.Bounds.{limits, both, passed, failed, growth-within, 
 use Rattle.pages.specs.Position.{validNumber, validPosition}
 use Rattle.placement.specs.File.{File}
 use Rattle.placement.specs.Hash.{lent}
-use Rattle.placement.proofs.Prepared.{ready, pool-ready}
 use Rattle.starfile.specs.Answers.{Pool, placed, checked, refusedBy, numberOf, pageOf, pooled, cleared}
 use Rattle.starfile.specs.Calls.{removeOn, named, readable, holds, placeFor}
 use Rattle.starfile.specs.Outcomes.{replacedPlaced}
 use Rattle.replacing.specs.Calls.{removalAnswer}
 use Rattle.starfile.proofs.Outcomes.{removal-small, removed-is}
-use Rattle.starfile.proofs.Pools.{pool-sized}
+use Rattle.starfile.proofs.Pools.{prepared}
 use borrow.Author.Needs.{needs}
 use Rattle.starfile.proofs.removal.remove_held.Statement.{statement}
 use Rattle.starfile.proofs.removal.remove_held.Tie as tie
@@ -40,10 +39,10 @@ multipliers-requires c κs = search needs
 find-requires : tie.Need-find-requires
 find-requires c κs =
     let pre = c .before .before .before .before .before .before .before .before .before .before .pre in
-    (c .before .before .before .before .multipliers .ensures, (pre .0, (pre .1 .0, (pre .1 .1 .0, pre .1 .1 .1 .1))))
+    (prepared (c .before .before .before .before .multipliers .ensures) (pre .0), pre .1 .1)
 
 cast-page : tie.Need-cast-page
-cast-page c = omega (arith, c .before .find .ensures .pageMost, limits _ (c .before .before .before .before .before .before .before .before .before .before .before .before .pre .0) .pages-most)
+cast-page c = omega (arith, c .before .find .ensures .pageMost, limits _ (c .before .before .before .before .before .before .before .before .before .before .before .before .pre .0 .homing .signing .valid) .pages-most)
 
 same-length : tie.Need-same-length
 same-length c = search needs
@@ -82,15 +81,15 @@ returns-2 c =
 remove-star-requires : tie.Need-remove-star-requires
 remove-star-requires c κs =
     let s = c .before .before .before .before .before .before .before .before .before .before .before .before .before .before .before .before .before .before .before .before .before .before in (
-      ready (c .before .before .before .before .before .before .before .before .before .before .before .before .before .before .before .before .multipliers .ensures) (s .pre .0) (s .pre .1 .0) (s .pre .1 .1 .0),
-      pool-ready (pool-sized (s .args .parameters) (poolOf s) (s .pre .1 .1 .1 .0)),
+      prepared (c .before .before .before .before .before .before .before .before .before .before .before .before .before .before .before .before .multipliers .ensures) (s .pre .0),
+      s .pre .1 .0,
     )
 
 replaced-placed-requires : tie.Need-replaced-placed-requires
 replaced-placed-requires c κs =
     let s = c .before .before .before .before .before .before .before .before .before .before .before .before .before .before .before .before .before .before .before .before .before .before .before .before .before .before .before .before .before .before .before .before .before in
     rw (c .before .before .before .before .before .before .before .before .before .before .remove-star .ensures .0)
-    (removal-small (s .args .parameters) (s .args .growth) (fileOf s) (s .pre .0) (s .pre .1 .0) (s .args .number))
+    (removal-small (s .args .parameters) (s .args .growth) (fileOf s) (s .pre .0 .homing .signing .valid) (s .pre .0 .homing .growth) (s .args .number))
 
 same-length-7 : tie.Need-same-length-7
 same-length-7 c = search needs

@@ -11,6 +11,7 @@ use Rattle.hashing.proofs.Bounds.{limits, both, passed, failed}
 use Rattle.pages.specs.Position.{validNumber, validPosition}
 use Rattle.placement.specs.File.{File}
 use Rattle.placement.specs.Hash.{lent}
+use Rattle.placement.proofs.Prepared.{ready}
 use Rattle.starfile.specs.Answers.{placed, refusedBy, numberOf, pageOf}
 use Rattle.starfile.specs.Calls.{changeOf, changeOn, fileFits, named, readable, holds}
 use Rattle.starfile.proofs.Refusals.{bad-state, bad-lengths, well-lent, sized, items-most, leaves}
@@ -107,7 +108,7 @@ multipliers-requires c κs = search needs
 find-requires : tie.Need-find-requires
 find-requires c κs =
     let d = c .before .before .before in
-    (c .before .before .multipliers .ensures, (valid d .0, (valid d .1, (sized _ _ (fits d), numbered d))))
+    (ready (c .before .before .multipliers .ensures) (valid d .0) (valid d .1) (sized _ _ (fits d)), numbered d)
 
 -- src/rewriting.rt:33:16
 cast-page : tie.Need-cast-page
