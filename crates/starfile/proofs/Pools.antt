@@ -22,12 +22,6 @@ use Rattle.starfile.specs.Answers.{Answer, After, Pool, Leaves, Stores, 
 use Rattle.starfile.specs.Lent.{Admitted}
 use Rattle.starfile.specs.Calls.{hash, named, readable, holds, poolFits, enterOn, enterTo, removeOn, removeTo, growOn, growTo, allStars}
 
-pub pool-sized : (p : Parameters) (pool : Pool) → poolFits p pool ≡ true → (length (pool .numbers) ≡ p .pages * p .places) × (length (pool .words) ≡ p .pages * p .places)
-unfolding poolFits
-pool-sized p pool e =
-    let t = both _ _ e in
-    (eqb-true _ _ (t .0), eqb-true _ _ (t .1))
-
 -- what the calls below need, with the table that the call made
 pub prepared : {g : Geometry} {t : List ℕ} {f : File} → t ≡ multipliersOf (g .parameters) → Admitted (g .parameters) (g .growth) f → Ready g t f
 prepared table a = ready table (a .homing .signing .valid) (a .homing .growth) (a .sized)

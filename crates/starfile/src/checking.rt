@@ -8,8 +8,9 @@ ghost use Rattle.starfile.specs.Outcomes.{VerdictSmall, verdictChecked};
 ghost use Rattle.starfile.specs.Lent.{poolBefore, poolAfter};
 use crate::answers::Checked;
 use crate::answers::Refusal;
+use crate::lending::Admission;
 use crate::lending::all_fit;
-use crate::lending::state_valid;
+use crate::lending::guard;
 use comparing::Verdict;
 use hashing::Geometry;
 use hashing::Growth;
@@ -28,18 +29,16 @@ pub fn check(
     ensures { λ r. ⌜ Leaves (checkOf parameters growth (before separators numbers words) (poolBefore poolnumbers poolwords))
         (checked r) (before separators numbers words) (poolAfter poolnumbers poolwords) ⌝ }
 {
-    if !state_valid(parameters, growth) {
-        return Checked::Refused(Refusal::BadParameters, 0);
-    }
-    if !all_fit(
+    let fits = all_fit(
         parameters,
         separators.len(),
         numbers.len(),
         words.len(),
         poolnumbers.len(),
         poolwords.len(),
-    ) {
-        return Checked::Refused(Refusal::BadLength, 0);
+    );
+    if let Admission::Refused(refusal) = guard(parameters, growth, fits) {
+        return Checked::Refused(refusal, 0);
     }
     let table = hashing::multipliers();
     let verdict = comparing::check_file(

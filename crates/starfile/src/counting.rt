@@ -8,9 +8,9 @@ ghost use Rattle.starfile.specs.Calls.{dueOf};
 ghost use Rattle.starfile.specs.Due.{stars};
 ghost use Rattle.starfile.specs.Used.{Blank, Used};
 use crate::answers::Due;
-use crate::answers::Refusal;
+use crate::lending::Admission;
 use crate::lending::file_fits;
-use crate::lending::state_valid;
+use crate::lending::guard;
 use hashing::Geometry;
 use hashing::Growth;
 use hashing::Parameters;
@@ -24,11 +24,9 @@ pub fn due(
 ) -> Due
     ensures { λ r. ⌜ dueSaid r ≡ dueOf parameters growth (before separators numbers words) unpooled .answer ⌝ }
 {
-    if !state_valid(parameters, growth) {
-        return Due::Refused(Refusal::BadParameters);
-    }
-    if !file_fits(parameters, separators.len(), numbers.len(), words.len()) {
-        return Due::Refused(Refusal::BadLength);
+    let fits = file_fits(parameters, separators.len(), numbers.len(), words.len());
+    if let Admission::Refused(refusal) = guard(parameters, growth, fits) {
+        return Due::Refused(refusal);
     }
     let geometry = Geometry { parameters, growth };
     let end = used(numbers);

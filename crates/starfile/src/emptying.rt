@@ -6,8 +6,9 @@ ghost use Rattle.starfile.specs.Answers.{Leaves, unpooled, placed};
 ghost use Rattle.starfile.specs.Calls.{makeOf};
 use crate::answers::Grown;
 use crate::answers::Placed;
-use crate::answers::Refusal;
+use crate::lending::Admission;
 use crate::lending::file_fits;
+use crate::lending::guard;
 use hashing::Growth;
 use hashing::Parameters;
 
@@ -26,15 +27,10 @@ pub fn make(
         expansions: 0,
         expanded: 0,
     };
-    if !hashing::parameters_valid(parameters) {
+    let fits = file_fits(parameters, separators.len(), numbers.len(), words.len());
+    if let Admission::Refused(refusal) = guard(parameters, growth, fits) {
         return Grown {
-            answer: Placed::Refused(Refusal::BadParameters, 0),
-            growth,
-        };
-    }
-    if !file_fits(parameters, separators.len(), numbers.len(), words.len()) {
-        return Grown {
-            answer: Placed::Refused(Refusal::BadLength, 0),
+            answer: Placed::Refused(refusal, 0),
             growth,
         };
     }

@@ -10,8 +10,9 @@ ghost use Rattle.starfile.specs.Outcomes.{EntrySmall, entryPlaced};
 ghost use Rattle.starfile.specs.Lent.{Admitted, poolBefore, poolAfter};
 use crate::answers::Placed;
 use crate::answers::Refusal;
+use crate::lending::Admission;
 use crate::lending::all_fit;
-use crate::lending::state_valid;
+use crate::lending::guard;
 use crate::naming::find;
 use entering::Entered;
 use hashing::Geometry;
@@ -34,18 +35,16 @@ pub fn enter(
     ensures { λ r. ⌜ Leaves (enterOf parameters growth (before separators numbers words) (poolBefore poolnumbers poolwords) number position)
         (placed r) (after separators numbers words) (poolAfter poolnumbers poolwords) ⌝ }
 {
-    if !state_valid(parameters, growth) {
-        return Placed::Refused(Refusal::BadParameters, 0);
-    }
-    if !all_fit(
+    let fits = all_fit(
         parameters,
         separators.len(),
         numbers.len(),
         words.len(),
         poolnumbers.len(),
         poolwords.len(),
-    ) {
-        return Placed::Refused(Refusal::BadLength, 0);
+    );
+    if let Admission::Refused(refusal) = guard(parameters, growth, fits) {
+        return Placed::Refused(refusal, 0);
     }
     if !pages::position::number_valid(number) {
         return Placed::Refused(Refusal::BadNumber, 0);

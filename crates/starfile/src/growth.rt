@@ -9,8 +9,9 @@ ghost use Rattle.starfile.specs.Lent.{Admitted, poolBefore, poolAfter};
 use crate::answers::Grown;
 use crate::answers::Placed;
 use crate::answers::Refusal;
+use crate::lending::Admission;
 use crate::lending::all_fit;
-use crate::lending::state_valid;
+use crate::lending::guard;
 use hashing::Geometry;
 use hashing::Growth;
 use hashing::Parameters;
@@ -30,18 +31,16 @@ pub fn grow(
         (placed (r .answer)) (after separators numbers words) (poolAfter poolnumbers poolwords) ⌝ }
     ensures { λ r. ⌜ r .growth ≡ growOf parameters growth (before separators numbers words) (poolBefore poolnumbers poolwords) .growth ⌝ }
 {
-    if !state_valid(parameters, growth) {
-        return unmoved(growth, Refusal::BadParameters);
-    }
-    if !all_fit(
+    let fits = all_fit(
         parameters,
         separators.len(),
         numbers.len(),
         words.len(),
         poolnumbers.len(),
         poolwords.len(),
-    ) {
-        return unmoved(growth, Refusal::BadLength);
+    );
+    if let Admission::Refused(refusal) = guard(parameters, growth, fits) {
+        return unmoved(growth, refusal);
     }
     let answer = grow_file(
         parameters,

@@ -1,12 +1,32 @@
 // Refusals 1 and 2: parameters, growth state and the lengths of what is lent.
 ghost use mathlib.Core.Path.{_≡_};
-ghost use mathlib.Core.Bool.{true, _&&_};
+ghost use mathlib.Core.Bool.{_&&_};
 ghost use Rattle.hashing.specs.Limits.{validParameters, validGrowth};
-ghost use Rattle.starfile.specs.Calls.{fileLengths, poolLengths};
+ghost use Rattle.starfile.specs.Answers.{admissionNumber};
+ghost use Rattle.starfile.specs.Calls.{fileLengths, poolLengths, unlent};
+use crate::answers::Refusal;
 use hashing::Growth;
 use hashing::Parameters;
 
-pub fn state_valid(parameters: Parameters, growth: Growth) -> bool
+pub enum Admission {
+    Passed,
+    Refused(Refusal),
+}
+
+// Every call begins with it; `fits` is whether what is lent is as long as the parameters say.
+pub fn guard(parameters: Parameters, growth: Growth, fits: bool) -> Admission
+    ensures { λ r. ⌜ admissionNumber r ≡ unlent parameters growth fits ⌝ }
+{
+    if !state_valid(parameters, growth) {
+        return Admission::Refused(Refusal::BadParameters);
+    }
+    if !fits {
+        return Admission::Refused(Refusal::BadLength);
+    }
+    Admission::Passed
+}
+
+fn state_valid(parameters: Parameters, growth: Growth) -> bool
     ensures { λ r. ⌜ r ≡ (validParameters parameters && validGrowth parameters growth) ⌝ }
 {
     if !hashing::parameters_valid(parameters) {
@@ -17,7 +37,6 @@ pub fn state_valid(parameters: Parameters, growth: Growth) -> bool
 
 // M separators, M·b numbers and M·b words.
 pub fn file_fits(parameters: Parameters, separators: usize, numbers: usize, words: usize) -> bool
-    requires { ⌜ validParameters parameters ≡ true ⌝ }
     ensures { λ r. ⌜ r ≡ fileLengths parameters separators numbers words ⌝ }
 {
     if separators != parameters.pages as usize {
@@ -27,7 +46,6 @@ pub fn file_fits(parameters: Parameters, separators: usize, numbers: usize, word
 }
 
 pub fn pool_fits(parameters: Parameters, numbers: usize, words: usize) -> bool
-    requires { ⌜ validParameters parameters ≡ true ⌝ }
     ensures { λ r. ⌜ r ≡ poolLengths parameters numbers words ⌝ }
 {
     let items = parameters.pages as usize * parameters.places as usize;
@@ -46,7 +64,6 @@ pub fn all_fit(
     poolnumbers: usize,
     poolwords: usize,
 ) -> bool
-    requires { ⌜ validParameters parameters ≡ true ⌝ }
     ensures { λ r. ⌜ r ≡ (fileLengths parameters separators numbers words && poolLengths parameters poolnumbers poolwords) ⌝ }
 {
     if !file_fits(parameters, separators, numbers, words) {

@@ -5,8 +5,9 @@ ghost use Rattle.starfile.specs.Answers.{unpooled, sought};
 ghost use Rattle.starfile.specs.Calls.{lookUpOf};
 use crate::answers::Found;
 use crate::answers::Refusal;
+use crate::lending::Admission;
 use crate::lending::file_fits;
-use crate::lending::state_valid;
+use crate::lending::guard;
 use crate::naming::find;
 use hashing::Geometry;
 use hashing::Growth;
@@ -23,11 +24,9 @@ pub fn look_up(
 ) -> Found
     ensures { λ r. ⌜ sought r ≡ lookUpOf parameters growth (before separators numbers words) unpooled number .answer ⌝ }
 {
-    if !state_valid(parameters, growth) {
-        return Found::Refused(Refusal::BadParameters, 0);
-    }
-    if !file_fits(parameters, separators.len(), numbers.len(), words.len()) {
-        return Found::Refused(Refusal::BadLength, 0);
+    let fits = file_fits(parameters, separators.len(), numbers.len(), words.len());
+    if let Admission::Refused(refusal) = guard(parameters, growth, fits) {
+        return Found::Refused(refusal, 0);
     }
     if !pages::position::number_valid(number) {
         return Found::Refused(Refusal::BadNumber, 0);

@@ -11,8 +11,9 @@ ghost use Rattle.starfile.specs.Outcomes.{ReplacedSmall, replacedPlaced}
 ghost use Rattle.starfile.specs.Lent.{Admitted, poolBefore, poolAfter};
 use crate::answers::Placed;
 use crate::answers::Refusal;
+use crate::lending::Admission;
 use crate::lending::all_fit;
-use crate::lending::state_valid;
+use crate::lending::guard;
 use crate::naming::find;
 use hashing::Geometry;
 use hashing::Growth;
@@ -33,18 +34,16 @@ pub fn remove(
     ensures { λ r. ⌜ Leaves (removeOf parameters growth (before separators numbers words) (poolBefore poolnumbers poolwords) number)
         (placed r) (after separators numbers words) (poolAfter poolnumbers poolwords) ⌝ }
 {
-    if !state_valid(parameters, growth) {
-        return Placed::Refused(Refusal::BadParameters, 0);
-    }
-    if !all_fit(
+    let fits = all_fit(
         parameters,
         separators.len(),
         numbers.len(),
         words.len(),
         poolnumbers.len(),
         poolwords.len(),
-    ) {
-        return Placed::Refused(Refusal::BadLength, 0);
+    );
+    if let Admission::Refused(refusal) = guard(parameters, growth, fits) {
+        return Placed::Refused(refusal, 0);
     }
     if !pages::position::number_valid(number) {
         return Placed::Refused(Refusal::BadNumber, 0);
