@@ -1,16 +1,15 @@
 -- Refusals 1 and 2 of the definitions, from the tests in code; and what is known once they are passed.
 use mathlib.Core.Path.{_≡_, refl, sym, ap, _∙_}
-use mathlib.Core.Bool.{Bool, true, false, not, _&&_}
-use Prim.Native.Nat.{ℕ, _*_, _+_, _≤_, _<_}
+use mathlib.Core.Bool.{Bool, true, false, _&&_}
+use Prim.Native.Nat.{ℕ, _*_, _≤_}
 use native.Mathlib.Nat.{mul-le-mul}
 use native.Mathlib.Omega.{arith}
-use lib.Dec.{eqb}
 use lib.ListN.{length}
 use borrow.Author.Tests.{eqb-true}
 use Rattle.hashing.specs.declared.Parameters.{Parameters}
 use Rattle.hashing.specs.declared.Growth.{Growth}
 use Rattle.hashing.specs.Limits.{validParameters, validGrowth}
-use Rattle.hashing.proofs.Bounds.{Limits, limits, both}
+use Rattle.hashing.proofs.Bounds.{limits, both}
 use Rattle.placement.specs.File.{File, Sized}
 use Rattle.placement.specs.Ready.{Pooled}
 use Rattle.placement.proofs.Prepared.{ready, pool-ready}

@@ -1,18 +1,11 @@
 -- `starfile::check` meets its contract.
-use mathlib.Core.Path.{_≡_, refl, sym, ap, _∙_}
-use mathlib.Core.Bool.{true, false, _&&_}
-use Prim.Native.Nat.{_+_, _-_, _*_, _≤_, _<_}
-use native.Mathlib.Omega.{arith}
-use lib.ListN.{length}
-use borrow.Author.Tests.{not-true, not-false, eq-eqb, ne-eqb}
+use mathlib.Core.Path.{_≡_, refl, ap, _∙_}
+use mathlib.Core.Bool.{_&&_}
 use denote.Ref.{now}
-use Rattle.hashing.specs.Limits.{validParameters, validGrowth}
-use Rattle.hashing.proofs.Bounds.{limits, both, passed, failed, growth-within, spread}
-use Rattle.pages.specs.Position.{validNumber, validPosition}
 use Rattle.placement.specs.File.{File}
 use Rattle.placement.specs.Hash.{lent}
 use Rattle.placement.specs.Ready.{Pooled}
-use Rattle.starfile.specs.Answers.{Pool, checked, refusedBy, pooled, cleared}
+use Rattle.starfile.specs.Answers.{Pool, checked, pooled}
 use Rattle.starfile.specs.Lent.{Admitted}
 use Rattle.starfile.specs.Calls.{unlent, checkOf, fileFits, poolFits}
 use Rattle.starfile.specs.Outcomes.{verdictChecked}
@@ -22,14 +15,6 @@ use Rattle.starfile.proofs.Pools.{prepared, cleared-is}
 use borrow.Author.Needs.{needs}
 use Rattle.starfile.proofs.checking.check.Statement.{statement}
 use Rattle.starfile.proofs.checking.check.Tie as tie
-use Rattle.starfile.proofs.checking.check.Reads as reads
-use Rattle.starfile.proofs.checking.check.Lts as lts
-use Rattle.comparing.proofs.check_file.Reads as check-file-reads
-use Rattle.hashing.proofs.multipliers.Reads as multipliers-reads
-use Rattle.planning.proofs.clear.Reads as clear-reads
-use Rattle.starfile.proofs.checking.verdict_checked.Reads as verdict-checked-reads
-use Rattle.starfile.proofs.lending.all_fit.Reads as all-fit-reads
-use Rattle.starfile.proofs.lending.guard.Reads as guard-reads
 
 abbrev fileOf : tie.Start → File
 fileOf s = lent (now (s .args .separators)) (now (s .args .numbers)) (now (s .args .words))

@@ -1,7 +1,6 @@
 -- `starfile::due` meets its contract.
 use Rattle.placement.specs.File.{File}
 use mathlib.Core.Path.{_≡_, sym, ap, _∙_}
-use mathlib.Core.Bool.{true, _&&_}
 use Prim.Native.Nat.{ℕ, _*_, _+_, _-_, _/_, _≤_, max}
 use native.Mathlib.Omega.{arith}
 use lib.ListN.{length}
@@ -9,9 +8,8 @@ use lib.Seq.{length-take-le}
 use borrow.Author.Tests.{lt-ltb, le-ltb}
 use native.Mathlib.Nat.{mul-le-mul}
 use Rattle.hashing.specs.Geometry.{pageCount, highest}
-use Rattle.hashing.proofs.Bounds.{limits, both, passed, failed, growth-within, spread}
-use Rattle.hashing.specs.Limits.{validParameters, validGrowth}
-use Rattle.starfile.specs.Answers.{After, lent, dueSaid, refusedBy, numberOf, pageOf}
+use Rattle.hashing.proofs.Bounds.{limits, growth-within, spread}
+use Rattle.starfile.specs.Answers.{After, lent, dueSaid}
 use Rattle.starfile.specs.Lent.{Admitted}
 use Rattle.starfile.specs.Calls.{unlent, dueOf, fileFits}
 use Rattle.starfile.specs.Due.{stars, pagesInUse, exceeds, isDue}

@@ -1,4 +1,4 @@
-use mathlib.Core.Path.{_≡_, refl, _∙_}
+use mathlib.Core.Path.{_≡_, refl}
 use mathlib.Core.List.{_++_}
 use Prim.Native.Nat.{_≤_, _-_}
 use native.Mathlib.Omega.{arith}
@@ -7,8 +7,6 @@ use borrow.Author.Fill.{fill-more}
 use Rattle.starfile.proofs.Tallies.{filled-all}
 use Rattle.starfile.proofs.emptying.fill.Statement.{statement}
 use Rattle.starfile.proofs.emptying.fill.Tie as tie
-use Rattle.starfile.proofs.emptying.fill.Reads as reads
-use Rattle.starfile.proofs.emptying.fill.Lts as lts
 
 abbrev Inv-loop : tie.InvT-loop
 Inv-loop separators₀ top i₀ separators i =

@@ -1,5 +1,5 @@
 -- `starfile::make` meets its contract.
-use mathlib.Core.Path.{_≡_, sym, _∙_, ap}
+use mathlib.Core.Path.{_≡_, _∙_, ap}
 use lib.ListN.{length, replicate}
 use Prim.Native.Nat.{ℕ}
 use denote.Ref.{now}
@@ -14,12 +14,6 @@ use Rattle.starfile.proofs.Refusals.{unlent-facts, refusal-is, none-is,
 use borrow.Author.Needs.{needs}
 use Rattle.starfile.proofs.emptying.make.Statement.{statement}
 use Rattle.starfile.proofs.emptying.make.Tie as tie
-use Rattle.starfile.proofs.emptying.make.Reads as reads
-use Rattle.starfile.proofs.emptying.make.Lts as lts
-use Rattle.planning.proofs.clear.Reads as clear-reads
-use Rattle.starfile.proofs.emptying.fill.Reads as fill-reads
-use Rattle.starfile.proofs.lending.file_fits.Reads as file-fits-reads
-use Rattle.starfile.proofs.lending.guard.Reads as guard-reads
 
 abbrev fileOf : tie.Start → File
 fileOf s = lent (now (s .args .separators)) (now (s .args .numbers)) (now (s .args .words))

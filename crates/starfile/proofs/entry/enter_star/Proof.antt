@@ -1,29 +1,18 @@
 -- `starfile::entry::enter_star` meets its contract.
-use mathlib.Core.Path.{_≡_, refl, sym, ap, _∙_}
-use mathlib.Core.Bool.{true, false, _&&_}
-use Prim.Native.Nat.{_+_, _-_, _*_, _≤_, _<_}
+use mathlib.Core.Path.{sym, ap, _∙_}
 use native.Mathlib.Omega.{arith}
-use lib.ListN.{length}
 use borrow.Author.Tests.{not-true, not-false, eq-eqb, ne-eqb}
 use denote.Ref.{now}
-use Rattle.hashing.specs.Limits.{validParameters, validGrowth}
-use Rattle.hashing.proofs.Bounds.{limits, both, passed, failed, growth-within, spread}
-use Rattle.pages.specs.Position.{validNumber, validPosition}
+use Rattle.hashing.proofs.Bounds.{limits}
 use Rattle.placement.specs.File.{File}
 use Rattle.placement.specs.Hash.{lent}
-use Rattle.starfile.specs.Answers.{Pool, placed, checked, refusedBy, numberOf, pageOf, pooled, cleared}
-use Rattle.starfile.specs.Calls.{enterOn, enteredAgain, named, readable, holds, placeFor}
+use Rattle.starfile.specs.Answers.{Pool, placed, refusedBy, pooled, cleared}
+use Rattle.starfile.specs.Calls.{enterOn, enteredAgain, named, placeFor}
 use Rattle.starfile.proofs.Outcomes.{entry-small, entered-is}
 use Rattle.starfile.proofs.Pools.{prepared, unheld}
 use borrow.Author.Needs.{needs}
 use Rattle.starfile.proofs.entry.enter_star.Statement.{statement}
 use Rattle.starfile.proofs.entry.enter_star.Tie as tie
-use Rattle.starfile.proofs.entry.enter_star.Reads as reads
-use Rattle.starfile.proofs.entry.enter_star.Lts as lts
-use Rattle.entering.proofs.enter_stretch.Reads as enter-stretch-reads
-use Rattle.hashing.proofs.multipliers.Reads as multipliers-reads
-use Rattle.starfile.proofs.entry.entry_placed.Reads as entry-placed-reads
-use Rattle.starfile.proofs.naming.find.Reads as find-reads
 
 abbrev fileOf : tie.Start → File
 fileOf s = lent (now (s .args .separators)) (now (s .args .numbers)) (now (s .args .words))
@@ -52,7 +41,7 @@ same-length-3 : tie.Need-same-length-3
 same-length-3 c = search needs
 
 returns : tie.Need-returns
-unfolding enterOn placed refusedBy numberOf pageOf
+unfolding enterOn placed refusedBy
 returns c =
     let found = c .before .before .before .find .ensures in
     let unread = sym (found .readableIs) ∙ not-true _ (c .if1 .taken) in
@@ -88,7 +77,7 @@ same-length-9 : tie.Need-same-length-9
 same-length-9 c = search needs
 
 returns-3 : tie.Need-returns-3
-unfolding enterOn enteredAgain placed refusedBy numberOf pageOf
+unfolding enterOn enteredAgain placed refusedBy
 returns-3 c =
     let found = c .before .before .before .before .before .before .find .ensures in
     let opened = not-false _ (c .before .before .before .if1 .left) in

@@ -1,18 +1,11 @@
 -- `starfile::grow` meets its contract.
-use mathlib.Core.Path.{_≡_, refl, sym, ap, _∙_}
-use mathlib.Core.Bool.{true, false, _&&_}
-use Prim.Native.Nat.{_+_, _-_, _*_, _≤_, _<_}
-use native.Mathlib.Omega.{arith}
-use lib.ListN.{length}
-use borrow.Author.Tests.{not-true, not-false, eq-eqb, ne-eqb}
+use mathlib.Core.Path.{_≡_}
+use mathlib.Core.Bool.{_&&_}
 use denote.Ref.{now}
-use Rattle.hashing.specs.Limits.{validParameters, validGrowth}
-use Rattle.hashing.proofs.Bounds.{limits, both, passed, failed, growth-within, spread}
-use Rattle.pages.specs.Position.{validNumber, validPosition}
 use Rattle.placement.specs.File.{File}
 use Rattle.placement.specs.Hash.{lent}
 use Rattle.placement.specs.Ready.{Pooled}
-use Rattle.starfile.specs.Answers.{Pool, placed, checked, refusedBy, numberOf, pageOf, pooled, cleared}
+use Rattle.starfile.specs.Answers.{Pool, placed, pooled, cleared}
 use Rattle.starfile.specs.Lent.{Admitted}
 use Rattle.starfile.specs.Calls.{unlent, growOf, fileFits, poolFits}
 use Rattle.starfile.proofs.Making.{made-by}
@@ -21,13 +14,6 @@ use Rattle.starfile.proofs.Pools.{cleared-is, leaves-cleared, grow-pool
 use borrow.Author.Needs.{needs}
 use Rattle.starfile.proofs.growth.grow.Statement.{statement}
 use Rattle.starfile.proofs.growth.grow.Tie as tie
-use Rattle.starfile.proofs.growth.grow.Reads as reads
-use Rattle.starfile.proofs.growth.grow.Lts as lts
-use Rattle.planning.proofs.clear.Reads as clear-reads
-use Rattle.starfile.proofs.growth.grow_file.Reads as grow-file-reads
-use Rattle.starfile.proofs.growth.unmoved.Reads as unmoved-reads
-use Rattle.starfile.proofs.lending.all_fit.Reads as all-fit-reads
-use Rattle.starfile.proofs.lending.guard.Reads as guard-reads
 
 abbrev fileOf : tie.Start → File
 fileOf s = lent (now (s .args .separators)) (now (s .args .numbers)) (now (s .args .words))

@@ -1,32 +1,19 @@
 -- `starfile::growth::grow_file` meets its contract.
-use mathlib.Core.Path.{_≡_, refl, sym, ap, _∙_}
-use mathlib.Core.Bool.{true, false, _&&_}
-use Prim.Native.Nat.{_+_, _-_, _*_, _≤_, _<_}
+use mathlib.Core.Path.{_≡_, _∙_}
+use Prim.Native.Nat.{_+_, _-_, _≤_, _<_}
 use native.Mathlib.Omega.{arith}
-use lib.ListN.{length}
-use borrow.Author.Tests.{not-true, not-false, eq-eqb, ne-eqb}
+use borrow.Author.Tests.{eq-eqb, ne-eqb}
 use denote.Ref.{now}
-use Rattle.hashing.specs.Limits.{validParameters, validGrowth}
-use Rattle.hashing.proofs.Bounds.{limits, both, passed, failed, growth-within, spread}
-use Rattle.pages.specs.Position.{validNumber, validPosition}
+use Rattle.hashing.proofs.Bounds.{limits, growth-within, spread}
 use Rattle.placement.specs.File.{File}
 use Rattle.placement.specs.Hash.{lent}
-use Rattle.starfile.specs.Answers.{Pool, placed, checked, refusedBy, numberOf, pageOf, pooled, cleared}
+use Rattle.starfile.specs.Answers.{Pool, placed, refusedBy, pooled, cleared}
 use Rattle.hashing.specs.Geometry.{highest, pageCount, grown}
-use Rattle.starfile.specs.Calls.{growOn}
 use Rattle.starfile.proofs.Outcomes.{growth-small, grown-is}
 use Rattle.starfile.proofs.Pools.{prepared}
 use borrow.Author.Needs.{needs}
 use Rattle.starfile.proofs.growth.grow_file.Statement.{statement}
 use Rattle.starfile.proofs.growth.grow_file.Tie as tie
-use Rattle.starfile.proofs.growth.grow_file.Reads as reads
-use Rattle.starfile.proofs.growth.grow_file.Lts as lts
-use Rattle.hashing.proofs.Geometry.highest_address.Reads as highest-address-reads
-use Rattle.hashing.proofs.multipliers.Reads as multipliers-reads
-use Rattle.hashing.proofs.grown.Reads as grown-reads
-use Rattle.replacing.proofs.regrow.Reads as regrow-reads
-use Rattle.starfile.proofs.growth.grown_by.Reads as grown-by-reads
-use Rattle.starfile.proofs.growth.unmoved.Reads as unmoved-reads
 
 abbrev fileOf : tie.Start → File
 fileOf s = lent (now (s .args .separators)) (now (s .args .numbers)) (now (s .args .words))
@@ -57,7 +44,7 @@ unmoved-requires : tie.Need-unmoved-requires
 unmoved-requires c κs = search needs
 
 returns : tie.Need-returns
-unfolding placed refusedBy numberOf pageOf highest
+unfolding placed refusedBy highest
 returns c =
     let s = c .before .before .before .before .before .before .before .before .before in
     let last : highest (s .args .parameters) (s .args .growth) ≡ s .args .parameters .pages - 1 = omega (arith, c .before .if1 .taken, c .before .before .before .highest-address .ensures) in

@@ -1,6 +1,5 @@
 -- `starfile::lending::pool_fits` meets its contract.
-use mathlib.Core.Bool.{false}
-use Prim.Native.Nat.{_*_, _≤_}
+use Prim.Native.Nat.{_≤_}
 use native.Mathlib.Omega.{arith}
 use borrow.Author.Tests.{eq-eqb, ne-eqb}
 use native.Mathlib.Nat.{mul-le-mul}

@@ -16,13 +16,6 @@ use Rattle.starfile.proofs.Finding.{named-most, past-file, in-file, unr
 use borrow.Author.Needs.{needs}
 use Rattle.starfile.proofs.naming.find.Statement.{statement}
 use Rattle.starfile.proofs.naming.find.Tie as tie
-use Rattle.starfile.proofs.naming.find.Reads as reads
-use Rattle.starfile.proofs.naming.find.Lts as lts
-use Rattle.pages.proofs.page.load.Reads as load-reads
-use Rattle.pages.proofs.page.search.Reads as search-reads
-use Rattle.placement.proofs.named_page.Reads as named-page-reads
-use Rattle.placement.proofs.page_sound.Reads as page-sound-reads
-use Rattle.starfile.proofs.naming.unread.Reads as unread-reads
 
 abbrev fileOf : tie.Start → File
 fileOf s = lent (now (s .args .separators)) (now (s .args .numbers)) (now (s .args .words))

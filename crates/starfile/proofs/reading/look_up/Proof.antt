@@ -1,31 +1,21 @@
 -- `starfile::look_up` meets its contract.
 use mathlib.Core.Path.{_≡_, sym, ap, _∙_}
-use mathlib.Core.Bool.{true, false, _&&_}
-use Prim.Native.Nat.{_≤_}
+use mathlib.Core.Bool.{true}
 use native.Mathlib.Omega.{arith}
 use borrow.Author.Tests.{not-true, not-false}
 use denote.Ref.{now}
-use Rattle.hashing.specs.Limits.{validParameters, validGrowth}
-use Rattle.hashing.proofs.Bounds.{limits, both, passed, failed}
+use Rattle.hashing.proofs.Bounds.{limits, passed, failed}
 use Rattle.pages.specs.Position.{validNumber}
 use Rattle.placement.specs.File.{File}
 use Rattle.placement.specs.Hash.{lent}
-use Rattle.starfile.specs.Answers.{After, sought, refusedBy, numberOf, pageOf}
+use Rattle.starfile.specs.Answers.{After, sought, refusedBy}
 use Rattle.starfile.specs.Lent.{Admitted}
-use Rattle.starfile.specs.Calls.{unlent, lookUpOf, lookedUp, fileFits, named, readable, holds}
+use Rattle.starfile.specs.Calls.{unlent, lookUpOf, lookedUp, fileFits}
 use Rattle.starfile.proofs.Refusals.{turned-away-first, refusal-is, none-is, admitted}
 use Rattle.starfile.proofs.Pools.{prepared}
 use borrow.Author.Needs.{needs}
 use Rattle.starfile.proofs.reading.look_up.Statement.{statement}
 use Rattle.starfile.proofs.reading.look_up.Tie as tie
-use Rattle.starfile.proofs.reading.look_up.Reads as reads
-use Rattle.starfile.proofs.reading.look_up.Lts as lts
-use Rattle.hashing.proofs.multipliers.Reads as multipliers-reads
-use Rattle.pages.proofs.position.number_valid.Reads as number-valid-reads
-use Rattle.pages.proofs.position.unpack.Reads as unpack-reads
-use Rattle.starfile.proofs.lending.file_fits.Reads as file-fits-reads
-use Rattle.starfile.proofs.lending.guard.Reads as guard-reads
-use Rattle.starfile.proofs.naming.find.Reads as find-reads
 
 abbrev fileOf : tie.Start → File
 fileOf s = lent (now (s .args .separators)) (now (s .args .numbers)) (now (s .args .words))
@@ -61,7 +51,7 @@ number-valid-requires : tie.Need-number-valid-requires
 number-valid-requires c κs = search needs
 
 returns-2 : tie.Need-returns-2
-unfolding lookUpOf sought refusedBy numberOf pageOf
+unfolding lookUpOf sought refusedBy
 returns-2 c =
     rw (
       none (c .before .before),
@@ -86,7 +76,7 @@ cast-page : tie.Need-cast-page
 cast-page c = omega (arith, c .before .find .ensures .pageMost, limits _ (lent-well (told (c .before .before .before .before)) .homing .signing .valid) .pages-most)
 
 returns-3 : tie.Need-returns-3
-unfolding lookUpOf lookedUp sought refusedBy numberOf pageOf
+unfolding lookUpOf lookedUp sought refusedBy
 returns-3 c =
     let found = c .before .before .before .find .ensures in
     let d = c .before .before .before .before .before .before in

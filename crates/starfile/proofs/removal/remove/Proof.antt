@@ -1,32 +1,20 @@
 -- `starfile::remove` meets its contract.
-use mathlib.Core.Path.{_≡_, refl, sym, ap, _∙_}
-use mathlib.Core.Bool.{true, false, _&&_}
-use Prim.Native.Nat.{_+_, _-_, _*_, _≤_, _<_}
-use native.Mathlib.Omega.{arith}
-use lib.ListN.{length}
-use borrow.Author.Tests.{not-true, not-false, eq-eqb, ne-eqb}
+use mathlib.Core.Path.{_≡_}
+use mathlib.Core.Bool.{true, _&&_}
 use denote.Ref.{now}
-use Rattle.hashing.specs.Limits.{validParameters, validGrowth}
-use Rattle.hashing.proofs.Bounds.{limits, both, passed, failed, growth-within, spread}
-use Rattle.pages.specs.Position.{validNumber, validPosition}
+use Rattle.hashing.proofs.Bounds.{passed, failed}
+use Rattle.pages.specs.Position.{validNumber}
 use Rattle.placement.specs.File.{File}
 use Rattle.placement.specs.Hash.{lent}
 use Rattle.placement.specs.Ready.{Pooled}
-use Rattle.starfile.specs.Answers.{Pool, placed, checked, refusedBy, numberOf, pageOf, pooled, cleared}
+use Rattle.starfile.specs.Answers.{Pool, placed, refusedBy, pooled, cleared}
 use Rattle.starfile.specs.Lent.{Admitted}
-use Rattle.starfile.specs.Calls.{unlent, removeOf, fileFits, poolFits, named}
+use Rattle.starfile.specs.Calls.{unlent, removeOf, fileFits, poolFits}
 use Rattle.starfile.proofs.Refusals.{turned-away-first, refusal-is, none-is, admitted-pool, leaves}
 use Rattle.starfile.proofs.Pools.{cleared-is, leaves-cleared, remove-pool}
 use borrow.Author.Needs.{needs}
 use Rattle.starfile.proofs.removal.remove.Statement.{statement}
 use Rattle.starfile.proofs.removal.remove.Tie as tie
-use Rattle.starfile.proofs.removal.remove.Reads as reads
-use Rattle.starfile.proofs.removal.remove.Lts as lts
-use Rattle.pages.proofs.position.number_valid.Reads as number-valid-reads
-use Rattle.planning.proofs.clear.Reads as clear-reads
-use Rattle.starfile.proofs.lending.all_fit.Reads as all-fit-reads
-use Rattle.starfile.proofs.lending.guard.Reads as guard-reads
-use Rattle.starfile.proofs.removal.remove_held.Reads as remove-held-reads
 
 abbrev fileOf : tie.Start → File
 fileOf s = lent (now (s .args .separators)) (now (s .args .numbers)) (now (s .args .words))
@@ -65,7 +53,7 @@ number-valid-requires : tie.Need-number-valid-requires
 number-valid-requires c κs = search needs
 
 returns-2 : tie.Need-returns-2
-unfolding removeOf placed refusedBy numberOf pageOf
+unfolding removeOf placed refusedBy
 returns-2 c =
     leaves _ _ (c .before .before .before .before .before .before .before .before .before .before .before .args .growth) _ _
     (rw (

@@ -1,31 +1,18 @@
 -- `starfile::removal::remove_held` meets its contract.
-use mathlib.Core.Path.{_≡_, refl, sym, ap, _∙_}
-use mathlib.Core.Bool.{true, false, _&&_}
-use Prim.Native.Nat.{_+_, _-_, _*_, _≤_, _<_}
+use mathlib.Core.Path.{sym, ap, _∙_}
 use native.Mathlib.Omega.{arith}
-use lib.ListN.{length}
-use borrow.Author.Tests.{not-true, not-false, eq-eqb, ne-eqb}
+use borrow.Author.Tests.{not-true, not-false}
 use denote.Ref.{now}
-use Rattle.hashing.specs.Limits.{validParameters, validGrowth}
-use Rattle.hashing.proofs.Bounds.{limits, both, passed, failed, growth-within, spread}
-use Rattle.pages.specs.Position.{validNumber, validPosition}
+use Rattle.hashing.proofs.Bounds.{limits}
 use Rattle.placement.specs.File.{File}
 use Rattle.placement.specs.Hash.{lent}
-use Rattle.starfile.specs.Answers.{Pool, placed, checked, refusedBy, numberOf, pageOf, pooled, cleared}
-use Rattle.starfile.specs.Calls.{removeOn, named, readable, holds, placeFor}
-use Rattle.starfile.specs.Outcomes.{replacedPlaced}
-use Rattle.replacing.specs.Calls.{removalAnswer}
+use Rattle.starfile.specs.Answers.{Pool, placed, refusedBy, pooled, cleared}
+use Rattle.starfile.specs.Calls.{removeOn, named, placeFor}
 use Rattle.starfile.proofs.Outcomes.{removal-small, removed-is}
 use Rattle.starfile.proofs.Pools.{prepared}
 use borrow.Author.Needs.{needs}
 use Rattle.starfile.proofs.removal.remove_held.Statement.{statement}
 use Rattle.starfile.proofs.removal.remove_held.Tie as tie
-use Rattle.starfile.proofs.removal.remove_held.Reads as reads
-use Rattle.starfile.proofs.removal.remove_held.Lts as lts
-use Rattle.hashing.proofs.multipliers.Reads as multipliers-reads
-use Rattle.replacing.proofs.remove_star.Reads as remove-star-reads
-use Rattle.starfile.proofs.naming.find.Reads as find-reads
-use Rattle.starfile.proofs.removal.replaced_placed.Reads as replaced-placed-reads
 
 abbrev fileOf : tie.Start → File
 fileOf s = lent (now (s .args .separators)) (now (s .args .numbers)) (now (s .args .words))
@@ -54,7 +41,7 @@ same-length-3 : tie.Need-same-length-3
 same-length-3 c = search needs
 
 returns : tie.Need-returns
-unfolding removeOn placed refusedBy numberOf pageOf
+unfolding removeOn placed refusedBy
 returns c =
     let found = c .before .before .before .find .ensures in
     let unread = sym (found .readableIs) ∙ not-true _ (c .if1 .taken) in
@@ -70,7 +57,7 @@ same-length-6 : tie.Need-same-length-6
 same-length-6 c = search needs
 
 returns-2 : tie.Need-returns-2
-unfolding removeOn placed refusedBy numberOf pageOf
+unfolding removeOn placed refusedBy
 returns-2 c =
     let found = c .before .before .before .before .before .find .ensures in
     let opened = not-false _ (c .before .before .if1 .left) in

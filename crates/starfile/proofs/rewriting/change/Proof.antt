@@ -1,33 +1,22 @@
 -- `starfile::change` meets its contract.
 use mathlib.Core.Path.{_≡_, sym, _∙_}
-use mathlib.Core.Bool.{true, false, _&&_}
-use Prim.Native.Nat.{_*_, _≤_, _<_}
+use mathlib.Core.Bool.{true}
+use Prim.Native.Nat.{_*_, _<_}
 use native.Mathlib.Omega.{arith}
-use lib.ListN.{length-set}
 use borrow.Author.Tests.{not-true, not-false}
 use denote.Ref.{now}
-use Rattle.hashing.specs.Limits.{validParameters, validGrowth}
-use Rattle.hashing.proofs.Bounds.{limits, both, passed, failed}
+use Rattle.hashing.proofs.Bounds.{limits, passed, failed}
 use Rattle.pages.specs.Position.{validNumber, validPosition}
 use Rattle.placement.specs.File.{File}
 use Rattle.placement.specs.Hash.{lent}
-use Rattle.starfile.specs.Answers.{placed, refusedBy, numberOf, pageOf}
+use Rattle.starfile.specs.Answers.{placed, refusedBy}
 use Rattle.starfile.specs.Lent.{Admitted}
-use Rattle.starfile.specs.Calls.{unlent, changeOf, changeOn, fileFits, named, readable, holds}
+use Rattle.starfile.specs.Calls.{unlent, changeOf, changeOn, fileFits}
 use Rattle.starfile.proofs.Refusals.{turned-away-first, refusal-is, none-is, admitted, items-most, leaves}
 use Rattle.starfile.proofs.Pools.{prepared}
 use borrow.Author.Needs.{needs}
 use Rattle.starfile.proofs.rewriting.change.Statement.{statement}
 use Rattle.starfile.proofs.rewriting.change.Tie as tie
-use Rattle.starfile.proofs.rewriting.change.Reads as reads
-use Rattle.starfile.proofs.rewriting.change.Lts as lts
-use Rattle.hashing.proofs.multipliers.Reads as multipliers-reads
-use Rattle.pages.proofs.position.number_valid.Reads as number-valid-reads
-use Rattle.pages.proofs.position.pack.Reads as pack-reads
-use Rattle.pages.proofs.position.position_valid.Reads as position-valid-reads
-use Rattle.starfile.proofs.lending.file_fits.Reads as file-fits-reads
-use Rattle.starfile.proofs.lending.guard.Reads as guard-reads
-use Rattle.starfile.proofs.naming.find.Reads as find-reads
 
 abbrev fileOf : tie.Start → File
 fileOf s = lent (now (s .args .separators)) (now (s .args .numbers)) (now (s .args .words))
@@ -63,7 +52,7 @@ number-valid-requires : tie.Need-number-valid-requires
 number-valid-requires c κs = search needs
 
 returns-2 : tie.Need-returns-2
-unfolding changeOf placed refusedBy numberOf pageOf
+unfolding changeOf placed refusedBy
 returns-2 c =
     leaves _ _ (c .before .before .before .before .before .before .before .before .before .args .growth) _ _
     (rw (
@@ -75,7 +64,7 @@ position-valid-requires : tie.Need-position-valid-requires
 position-valid-requires c κs = search needs
 
 returns-3 : tie.Need-returns-3
-unfolding changeOf placed refusedBy numberOf pageOf
+unfolding changeOf placed refusedBy
 returns-3 c =
     leaves _ _ (c .before .before .before .before .before .before .before .before .before .before .before .args .growth) _ _
     (rw (
@@ -108,7 +97,7 @@ same-length : tie.Need-same-length
 same-length c = search needs
 
 returns-4 : tie.Need-returns-4
-unfolding changeOf placed refusedBy numberOf pageOf changeOn
+unfolding changeOf placed refusedBy changeOn
 returns-4 c =
     let found = c .before .before .before .find .ensures in
     let d = c .before .before .before .before .before .before .before in
@@ -119,7 +108,7 @@ same-length-2 : tie.Need-same-length-2
 same-length-2 c = search needs
 
 returns-5 : tie.Need-returns-5
-unfolding changeOf placed refusedBy numberOf pageOf changeOn
+unfolding changeOf placed refusedBy changeOn
 returns-5 c =
     let found = c .before .before .before .before .before .find .ensures in
     let read = not-false _ (c .before .before .if3 .left) in
