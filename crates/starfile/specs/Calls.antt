@@ -47,10 +47,11 @@ hash p g = hashOf p g
 
 -- Refusals 1 to 4, of which the first is met
 
--- M separators, M·b numbers and M·b words
+-- M·b numbers and M·b words
 abbrev pub poolLengths : Parameters → ℕ → ℕ → Bool
 poolLengths p numbers words = eqb numbers (p .pages * p .places) && eqb words (p .pages * p .places)
 
+-- M separators and the same
 abbrev pub fileLengths : Parameters → ℕ → ℕ → ℕ → Bool
 fileLengths p separators numbers words = eqb separators (p .pages) && poolLengths p numbers words
 

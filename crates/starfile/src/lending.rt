@@ -13,7 +13,7 @@ pub enum Admission {
     Refused(Refusal),
 }
 
-// Every call begins with it; `fits` is whether what is lent is as long as the parameters say.
+// What every call begins with. `fits`: what is lent is as long as the parameters say.
 pub fn guard(parameters: Parameters, growth: Growth, fits: bool) -> Admission
     ensures { λ r. ⌜ admissionNumber r ≡ unlent parameters growth fits ⌝ }
 {
@@ -45,7 +45,7 @@ pub fn file_fits(parameters: Parameters, separators: usize, numbers: usize, word
     pool_fits(parameters, numbers, words)
 }
 
-pub fn pool_fits(parameters: Parameters, numbers: usize, words: usize) -> bool
+fn pool_fits(parameters: Parameters, numbers: usize, words: usize) -> bool
     ensures { λ r. ⌜ r ≡ poolLengths parameters numbers words ⌝ }
 {
     let items = parameters.pages as usize * parameters.places as usize;

@@ -1,5 +1,4 @@
 -- `starfile::due` meets its contract.
-use Rattle.placement.specs.File.{File}
 use mathlib.Core.Path.{_≡_, sym, ap, _∙_}
 use Prim.Native.Nat.{ℕ, _*_, _+_, _-_, _/_, _≤_, max}
 use native.Mathlib.Omega.{arith}
@@ -9,6 +8,7 @@ use borrow.Author.Tests.{lt-ltb, le-ltb}
 use native.Mathlib.Nat.{mul-le-mul}
 use Rattle.hashing.specs.Geometry.{pageCount, highest}
 use Rattle.hashing.proofs.Bounds.{limits, growth-within, spread}
+use Rattle.placement.specs.File.{File}
 use Rattle.starfile.specs.Answers.{After, lent, dueSaid}
 use Rattle.starfile.specs.Lent.{Admitted}
 use Rattle.starfile.specs.Calls.{unlent, dueOf, fileFits}

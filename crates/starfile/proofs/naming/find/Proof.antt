@@ -20,25 +20,20 @@ use Rattle.starfile.proofs.naming.find.Tie as tie
 abbrev fileOf : tie.Start → File
 fileOf s = lent (now (s .args .separators)) (now (s .args .numbers)) (now (s .args .words))
 
--- src/naming.rt:31:18
 cast-places : tie.Need-cast-places
 cast-places c = search needs
 
--- src/naming.rt:32:9
 named-page-requires : tie.Need-named-page-requires
 named-page-requires c κs =
     let pre = c .before .before .before .before .pre in
     (pre .0 .homing, pre .0 .sized .ofSeparators)
 
--- src/naming.rt:33:16
 cast-if1 : tie.Need-cast-if1
 cast-if1 c = search needs
 
--- src/naming.rt:34:9
 unread-requires : tie.Need-unread-requires
 unread-requires c κs = search needs
 
--- src/naming.rt:34:9
 returns : tie.Need-returns
 returns c =
     let s = c .before .before .before .before .before .before .before .before in
@@ -46,7 +41,6 @@ returns c =
     (unread-as (s .args .geometry .parameters) (s .args .geometry .growth) (fileOf s) (s .args .number) _ (s .pre .0 .sized) (c .before .before .before .named-page .ensures)
     (past-file _ _ _ _ (c .before .if1 .taken)))
 
--- src/naming.rt:36:17
 -- past the first test, the page is one of the file
 abbrev begun : tie.Else1 → tie.Start
 begun c = c .before .before .before .before .before .before .before
@@ -65,13 +59,11 @@ fits-words c = page-fits _ _ _ (inside c) (begun c .pre .0 .sized .ofWords)
 load-requires : tie.Need-load-requires
 load-requires c κs = (limits _ (begun c .pre .0 .homing .signing .valid) .places-most, (fits c, fits-words c))
 
--- src/naming.rt:37:9
 page-sound-requires : tie.Need-page-sound-requires
 page-sound-requires c κs =
     let pre = begun (c .before) .pre in
     (pre .0 .homing, (pre .0 .sized .ofSeparators, inside (c .before)))
 
--- src/naming.rt:38:9
 -- the value tested is the page's
 told : (c : tie.After-page-sound) → c .page-sound .result .sound ≡ soundAt (begun (c .before .before) .args .geometry .parameters) (begun (c .before .before) .args .geometry .growth) (fileOf (begun (c .before .before))) (c .before .before .before .before .named-page .result)
 told c = c .page-sound .ensures .sound ∙ sound-loaded _ _ (fileOf (begun (c .before .before))) _ _ (fits (c .before .before)) (fits-words (c .before .before)) (c .before .load .ensures)
@@ -79,7 +71,6 @@ told c = c .page-sound .ensures .sound ∙ sound-loaded _ _ (fileOf (begun (c .b
 unread-requires-2 : tie.Need-unread-requires-2
 unread-requires-2 c κs = search needs
 
--- src/naming.rt:38:9
 returns-2 : tie.Need-returns-2
 returns-2 c =
     let s = c .before .before .before .before .before .before .before .before .before .before .before .before in
@@ -87,11 +78,9 @@ returns-2 c =
     (unread-as (s .args .geometry .parameters) (s .args .geometry .growth) (fileOf s) (s .args .number) _ (s .pre .0 .sized) (c .before .before .before .before .before .before .before .named-page .ensures)
     (in-file _ _ _ _ _ (inside (c .before .before .before .before .before)) (sym (told (c .before .before .before)) ∙ not-true _ (c .before .if2 .taken))))
 
--- src/naming.rt:40:9
 search-requires : tie.Need-search-requires
 search-requires c κs = limits _ (c .before .before .before .before .before .before .before .before .before .before .before .pre .0 .homing .signing .valid) .places-most
 
--- src/naming.rt:43:9
 -- what the search of the page tells of the lent lists
 abbrev tested : tie.After-search → tie.After-page-sound
 tested c = c .before .before .before
@@ -117,7 +106,6 @@ returns-3 c =
     (sym (held-is (s .args .geometry .parameters) (fileOf s) _ _ _ _ (fits e) (c .before .before .before .before .before .before .load .ensures) (d .search .ensures)) ∙ not-true _ (c .if3 .taken))
     (place-is (s .args .geometry .parameters) (fileOf s) _ _ _ _ (fits e) (c .before .before .before .before .before .before .load .ensures) (d .search .ensures))
 
--- src/naming.rt:55:15
 -- the number is held
 held : (c : tie.Else3) → c .before .before .search .result .held ≡ true
 held c = not-false _ (c .if3 .left)
@@ -130,19 +118,15 @@ within c =
 mul-t13 : tie.Need-mul-t13
 mul-t13 c = omega (arith, fits (tested (c .before .before) .before .before), items-most _ (c .before .before .before .before .before .before .before .before .before .before .before .before .before .before .pre .0 .homing .signing .valid), c .before .before .before .before .before .before .before .before .before .before .before .before .before .before .pre .0 .sized .ofNumbers)
 
--- src/naming.rt:55:15
 add-t17 : tie.Need-add-t17
 add-t17 c = omega (arith, fits (tested (c .before .before) .before .before), items-most _ (c .before .before .before .before .before .before .before .before .before .before .before .before .before .before .pre .0 .homing .signing .valid), c .before .before .before .before .before .before .before .before .before .before .before .before .before .before .pre .0 .sized .ofNumbers, within c)
 
--- src/naming.rt:56:15
 mul-t18 : tie.Need-mul-t18
 mul-t18 c = omega (arith, within c, limits _ (c .before .before .before .before .before .before .before .before .before .before .before .before .before .before .pre .0 .homing .signing .valid) .places-most)
 
--- src/naming.rt:56:15
 element-copy-out-t21 : tie.Need-element-copy-out-t21
 element-copy-out-t21 c = omega (arith, within c, limits _ (c .before .before .before .before .before .before .before .before .before .before .before .before .before .before .pre .0 .homing .signing .valid) .places-most)
 
--- src/naming.rt:23:1
 returns-4 : tie.Need-returns-4
 returns-4 c =
     let d = c .before .before .before in
