@@ -1,8 +1,9 @@
 // Growth for a caller who lends the growth record.
 ghost use mathlib.Core.Path.{_≡_};
-ghost use Rattle.placement.specs.Hash.{lent};
-ghost use Rattle.starfile.specs.Answers.{Leaves, pooled, placed};
+ghost use Rattle.placement.specs.Lent.{before, after};
+ghost use Rattle.starfile.specs.Answers.{Leaves, placed};
 ghost use Rattle.starfile.specs.Calls.{growOf};
+ghost use Rattle.starfile.specs.Lent.{poolBefore, poolAfter};
 ghost use Rattle.growth_record.specs.Record.{keptBy};
 use hashing::Growth;
 use hashing::Parameters;
@@ -19,8 +20,9 @@ pub fn grow(
     poolnumbers: &mut [u32],
     poolwords: &mut [u64],
 ) -> Placed
-    ensures { λ r. ⌜ Leaves (growOf parameters (now (growth .entry)) (lent (now (separators .entry)) (now (numbers .entry)) (now (words .entry))) (pooled (now (poolnumbers .entry)) (now (poolwords .entry)))) (placed r) (lent (now (separators .exit)) (now (numbers .exit)) (now (words .exit))) (pooled (now (poolnumbers .exit)) (now (poolwords .exit))) ⌝ }
-    ensures { λ _. ⌜ now (growth .exit) ≡ growOf parameters (now (growth .entry)) (lent (now (separators .entry)) (now (numbers .entry)) (now (words .entry))) (pooled (now (poolnumbers .entry)) (now (poolwords .entry))) .growth ⌝ }
+    ensures { λ r. ⌜ Leaves (growOf parameters (now (growth .entry)) (before separators numbers words) (poolBefore poolnumbers poolwords))
+        (placed r) (after separators numbers words) (poolAfter poolnumbers poolwords) ⌝ }
+    ensures { λ _. ⌜ now (growth .exit) ≡ growOf parameters (now (growth .entry)) (before separators numbers words) (poolBefore poolnumbers poolwords) .growth ⌝ }
 {
     let old = *growth;
     let grown = starfile::grow(

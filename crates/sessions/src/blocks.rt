@@ -71,7 +71,8 @@ fn take_byte(session: Session, byte: u8, out: &mut [u8], at: usize) -> Answered
 // The answers to all lines that end in a block. An answer has at most 37 bytes, so that 37 for each byte of the block and 64 are enough.
 pub fn answer_block(session: Session, block: &[u8], out: &mut [u8]) -> Answered
     requires { ⌜ 37 * length (now block) + 64 ≤ length (now out) ⌝ }
-    ensures { λ r. ⌜ (Stands (runs (runOf session) (now (block .entry))) 0 (now (out .entry)) (now (out .exit)) (r .session) (r .at)) × (r .at ≤ 37 * length (now (block .entry))) ⌝ }
+    ensures { λ r. ⌜ (Stands (runs (runOf session) (now (block .entry))) 0 (now (out .entry)) (now (out .exit)) (r .session) (r .at))
+        × (r .at ≤ 37 * length (now (block .entry))) ⌝ }
 {
     let mut state = session;
     let mut at = 0;

@@ -1,31 +1,40 @@
 -- Making an empty file, by the definitions.
-use mathlib.Core.Path.{_≡_, refl, sym, ap, _∙_}
-use mathlib.Core.Bool.{true, false, _&&_}
+use mathlib.Core.Path.{_≡_, refl, sym, ap}
+use mathlib.Core.Bool.{Bool, true, false, _&&_}
 use mathlib.Core.List.{List}
-use Prim.Native.Nat.{ℕ, _*_}
+use Prim.Native.Nat.{ℕ}
 use lib.ListN.{length, replicate}
 use Rattle.hashing.specs.declared.Parameters.{Parameters}
 use Rattle.hashing.specs.declared.Growth.{Growth}
 use Rattle.hashing.specs.Generator.{topOf}
 use Rattle.hashing.specs.Geometry.{ungrown}
-use Rattle.hashing.specs.Limits.{validParameters}
+use Rattle.hashing.specs.Limits.{validParameters, validGrowth}
+use Rattle.hashing.proofs.Laws.{start-valid}
 use Rattle.placement.specs.File.{File}
 use Rattle.placement.specs.Hash.{lent}
-use Rattle.starfile.specs.Answers.{Answer, After, Pool, Leaves, accepted, refused}
-use Rattle.starfile.specs.Calls.{makeOf, fileFits, emptyFile}
-use Rattle.starfile.proofs.Refusals.{leaves, sized}
+use Rattle.starfile.specs.declared.answers.Refusal.{Refusal}
+use Rattle.starfile.specs.Answers.{Answer, After, Pool, Leaves, accepted, numberOf, refusedBy}
+use Rattle.starfile.specs.Calls.{unless, orElse, unlent, makeOf, fileFits, emptyFile}
+use Rattle.starfile.proofs.Refusals.{leaves, sized, turned-away}
 
 pub made-by : (after : After) (a : Answer) (g : Growth) (f : File) (pool : Pool) → after ≡ record { answer = a; growth = g; file = f; pool = pool } → Leaves after a f pool × (g ≡ after .growth)
 made-by after a g f pool e = (leaves after a g f pool e, sym (ap (λ (x : After). x .growth) e))
 
-module _ (p : Parameters) (f : File) (pool : Pool) where
-  pub make-unfit : validParameters p ≡ false → Leaves (makeOf p f pool) (refused 1 0) f pool × (ungrown ≡ makeOf p f pool .growth)
-  unfolding makeOf
-  make-unfit e = made-by (makeOf p f pool) (refused 1 0) ungrown f pool (rw e)
+-- a new file's growth state is valid, so the guard of the other calls is make's too
+new-guard : (p : Parameters) (lengths : Bool) → orElse (unless (validParameters p) 1) (unless lengths 2) ≡ unlent p ungrown lengths
+unfolding unlent
+new-guard p lengths = go (validParameters p) refl
+  where
+    go : (t : Bool) → validParameters p ≡ t → orElse (unless t 1) (unless lengths 2) ≡ orElse (unless (t && validGrowth p ungrown) 1) (unless lengths 2)
+    go true e = rw (start-valid p e)
+    go false e = refl
 
-  pub make-short : validParameters p ≡ true → fileFits p f ≡ false → Leaves (makeOf p f pool) (refused 2 0) f pool × (ungrown ≡ makeOf p f pool .growth)
+module _ (p : Parameters) (f : File) (pool : Pool) where
+  pub make-refused : (r : Refusal) → numberOf r ≡ unlent p ungrown (fileFits p f) → Leaves (makeOf p f pool) (refusedBy r 0) f pool × (ungrown ≡ makeOf p f pool .growth)
   unfolding makeOf
-  make-short e l = made-by (makeOf p f pool) (refused 2 0) ungrown f pool (rw (e, l))
+  make-refused r e =
+      made-by (makeOf p f pool) (refusedBy r 0) ungrown f pool
+      (rw (new-guard p (fileFits p f)) (turned-away ungrown f pool _ p (fileFits p f) r e))
 
   pub make-empty : (separators numbers words : List ℕ) → validParameters p ≡ true → fileFits p f ≡ true → separators ≡ replicate (length (f .separators)) (topOf (p .bits))
       → numbers ≡ replicate (length (f .numbers)) 0 → words ≡ replicate (length (f .words)) 0

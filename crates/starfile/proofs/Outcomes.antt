@@ -1,11 +1,11 @@
 -- The answers and files of the crates below are those of the calls' definitions, and their pages are small.
-use mathlib.Core.Path.{_≡_, refl, sym, ap, _∙_}
+use mathlib.Core.Path.{_≡_, refl}
 use mathlib.Core.Bool.{Bool, true, false, not, cond}
 use mathlib.Core.List.{List, [], _∷_}
-use Prim.Native.Nat.{ℕ, zero, suc, _+_, _-_, _*_, _/_, _%_, _^_, _≤_, _<_}
+use Prim.Native.Nat.{ℕ, suc, _+_, _-_, _*_, _/_, _%_, _^_, _≤_, _<_}
 use native.Mathlib.Nat.{add-suc, suc-add, mod-lt, div-lt-iff-lt-mul}
 use native.Mathlib.Omega.{arith}
-use lib.Dec.{eqb, ltb}
+use lib.Dec.{ltb}
 use lib.ListN.{length}
 use borrow.Author.Tests.{ltb-true}
 use Rattle.hashing.specs.declared.Parameters.{Parameters}
@@ -15,7 +15,7 @@ use Rattle.hashing.specs.Limits.{validParameters, validGrowth}
 use Rattle.hashing.specs.Generator.{multiplier}
 use Rattle.hashing.proofs.Bounds.{limits}
 use Rattle.hashing.proofs.Laws.{home-pages}
-use Rattle.placement.specs.Rule.{Star, Hash, Contents, pages, left, without}
+use Rattle.placement.specs.Rule.{Contents, pages, left, without}
 use Rattle.placement.specs.File.{File, gathered, replaced}
 use Rattle.placement.specs.Hash.{hashOf, soundAt}
 use Rattle.placement.proofs.Composition.{length-pages}
@@ -29,7 +29,7 @@ use Rattle.replacing.specs.Calls.{removalAnswer, removalFile, growthAnswer, gro
 use Rattle.replacing.specs.Calls as removal
 use Rattle.comparing.specs.declared.checking.Verdict.the-variants.{Clean, Differs, Unsound as verdict·Unsound}
 use Rattle.comparing.specs.Verdicts.{verdictOf}
-use Rattle.starfile.specs.Answers.{Answer, After, Pool, placed, checked, refusedBy, accepted, refused, acceptedAt, refusedAt, spotted}
+use Rattle.starfile.specs.Answers.{Pool, placed, checked, refusedBy, accepted, refused, acceptedAt, refusedAt, spotted}
 use Rattle.starfile.specs.Calls.{hash, unchanged, enterTo, removeTo, growTo, checkedAt, allStars}
 use Rattle.starfile.specs.Outcomes.{EntrySmall, entryPlaced, ReplacedSmall, replacedPlaced, replacedGrown, VerdictSmall, verdictChecked}
 

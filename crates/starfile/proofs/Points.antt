@@ -1,5 +1,6 @@
 -- The proved points, one theorem.
-use mathlib.Core.Path.{_≡_, refl}
+use mathlib.Core.Path.{refl}
+use Rattle.hashing.specs.Generator.{topOf}
 use Rattle.placement.specs.Rule.{filter, below, staying, separatorFrom, separatorOf}
 use Rattle.hashing.proofs.Points.{
   scrambled-3-1,
@@ -18,7 +19,7 @@ use Rattle.pages.proofs.Points.{word-of-one}
 use Rattle.starfile.specs.Points.{Points}
 
 pub points : Points
-unfolding separatorOf separatorFrom staying below filter
+unfolding topOf separatorOf separatorFrom staying below filter
 points =
     record {
       third = scrambled-3-1;

@@ -1,28 +1,30 @@
 -- The pool after a call that uses it, and the lengths that a passed test gives.
-use mathlib.Core.Path.{_≡_, refl, sym, ap, _∙_}
-use mathlib.Core.Bool.{Bool, true, false, cond, _&&_}
+use mathlib.Core.Path.{_≡_, refl, sym, _∙_}
+use mathlib.Core.Bool.{Bool, true, false, cond}
 use mathlib.Core.List.{List}
-use Prim.Native.Nat.{ℕ, _-_, _+_, _*_, _<_}
+use Prim.Native.Nat.{ℕ, _-_, _+_, _<_}
 use lib.Dec.{eqb, ltb}
 use lib.ListN.{length, replicate}
-use borrow.Author.Tests.{eqb-true, ltb-true}
+use borrow.Author.Tests.{ltb-true}
 use Rattle.hashing.specs.declared.Parameters.{Parameters}
 use Rattle.hashing.specs.declared.Growth.{Growth}
+use Rattle.hashing.specs.declared.Geometry.{Geometry}
 use Rattle.hashing.specs.Geometry.{highest, grown}
 use Rattle.hashing.proofs.Bounds.{both}
 use Rattle.placement.specs.Rule.{Star, left}
 use Rattle.placement.specs.File.{File}
 use Rattle.placement.specs.Hash.{soundAt}
+use Rattle.placement.specs.Ready.{Ready, multipliersOf}
+use Rattle.placement.proofs.Prepared.{ready}
 use Rattle.entering.specs.Entry.{Unheld}
 use Rattle.reach.specs.Reach.{pagesTo, entryEnd, removalEnd, entersWithin, firstUnsound, isEmpty}
 use Rattle.starfile.specs.Answers.{Answer, After, Pool, Leaves, Stores, pooled, cleared, zeros}
-use Rattle.starfile.specs.Calls.{hash, named, readable, holds, poolFits, enterOn, enterTo, removeOn, removeTo, growOn, growTo, allStars}
+use Rattle.starfile.specs.Lent.{Admitted}
+use Rattle.starfile.specs.Calls.{hash, named, readable, holds, enterOn, enterTo, removeOn, removeTo, growOn, growTo, allStars}
 
-pub pool-sized : (p : Parameters) (pool : Pool) → poolFits p pool ≡ true → (length (pool .numbers) ≡ p .pages * p .places) × (length (pool .words) ≡ p .pages * p .places)
-unfolding poolFits
-pool-sized p pool e =
-    let t = both _ _ e in
-    (eqb-true _ _ (t .0), eqb-true _ _ (t .1))
+-- what the calls below need, with the table that the call made
+pub prepared : {g : Geometry} {t : List ℕ} {f : File} → t ≡ multipliersOf (g .parameters) → Admitted (g .parameters) (g .growth) f → Ready g t f
+prepared table a = ready table (a .homing .signing .valid) (a .homing .growth) (a .sized)
 
 pub readable-facts : (p : Parameters) (g : Growth) (f : File) (page : ℕ) → readable p g f page ≡ true → (page < p .pages) × (soundAt p g f page ≡ true)
 unfolding readable

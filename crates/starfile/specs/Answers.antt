@@ -21,6 +21,8 @@ use Rattle.starfile.specs.declared.answers.Refusal.the-variants.{
   NotHeld,
   Full,
 }
+use Rattle.starfile.specs.declared.lending.Admission.{Admission}
+use Rattle.starfile.specs.declared.lending.Admission.the-variants.{Passed, Refused as TurnedAway}
 use Rattle.starfile.specs.declared.answers.Placed.{Placed}
 use Rattle.starfile.specs.declared.answers.Placed.the-variants.{On, Refused as NotPlaced}
 use Rattle.starfile.specs.declared.answers.Found.{Found}
@@ -90,6 +92,11 @@ pageOf (Damaged page) = page
 pageOf Held = 0
 pageOf NotHeld = 0
 pageOf Full = 0
+
+-- 0 if the test that a call begins with is passed
+abbrev pub admissionNumber : Admission → ℕ
+admissionNumber Passed = 0
+admissionNumber (TurnedAway r) = numberOf r
 
 -- refused, with a place
 unfoldable pub refusedBy : Refusal → ℕ → Answer

@@ -47,15 +47,19 @@ hash p g = hashOf p g
 
 -- Refusals 1 to 4, of which the first is met
 
--- M separators, M·b numbers and M·b words
+-- M·b numbers and M·b words
+abbrev pub poolLengths : Parameters → ℕ → ℕ → Bool
+poolLengths p numbers words = eqb numbers (p .pages * p .places) && eqb words (p .pages * p .places)
+
+-- M separators and the same
+abbrev pub fileLengths : Parameters → ℕ → ℕ → ℕ → Bool
+fileLengths p separators numbers words = eqb separators (p .pages) && poolLengths p numbers words
+
 unfoldable pub fileFits : Parameters → File → Bool
-fileFits p f =
-    eqb (length (f .separators)) (p .pages)
-    && (eqb (length (f .numbers)) (p .pages * p .places) && eqb (length (f .words)) (p .pages * p .places))
+fileFits p f = fileLengths p (length (f .separators)) (length (f .numbers)) (length (f .words))
 
 unfoldable pub poolFits : Parameters → Pool → Bool
-poolFits p pool =
-    eqb (length (pool .numbers)) (p .pages * p .places) && eqb (length (pool .words)) (p .pages * p .places)
+poolFits p pool = poolLengths p (length (pool .numbers)) (length (pool .words))
 
 -- n, unless the fact holds
 abbrev pub unless : Bool → ℕ → ℕ

@@ -1,4 +1,5 @@
 pub mod Answers
+pub mod Lent
 pub mod Reach
 pub mod Due
 pub mod Used

@@ -6,7 +6,7 @@ use Prim.Native.Nat.{ℕ}
 use lib.IntN.{pos}
 use lib.ListN.{length, getD}
 use Rattle.hashing.specs.declared.Parameters.{Parameters}
-use Rattle.hashing.specs.Generator.{multiplier, scrambled, signature}
+use Rattle.hashing.specs.Generator.{multiplier, scrambled, signature, topOf}
 use Rattle.hashing.specs.Geometry.{grown, ungrown, rank}
 use Rattle.hashing.specs.Home.{home}
 use Rattle.pages.specs.Position.{packed}
@@ -18,7 +18,7 @@ small = record { places = 2; groups = 2; width = 2; step = 1; bits = 8; load = 8
 
 -- k = 4, b places, all stars at home on page 0; star i has the i-th of the given signatures, counted from 0
 abbrev pub given : ℕ → List ℕ → Hash
-given b signatures = record { home = λ k. 0; signature = λ k page. getD signatures k 0; top = 15; room = b }
+given b signatures = record { home = λ k. 0; signature = λ k page. getD signatures k 0; top = topOf 4; room = b }
 
 abbrev pub star : ℕ → Star
 star k = record { number = k; word = 0 }

@@ -1,14 +1,16 @@
 // The check of a file.
 ghost use mathlib.Core.Path.{_≡_};
 ghost use mathlib.Core.Bool.{true};
-ghost use Rattle.placement.specs.Hash.{lent};
-ghost use Rattle.starfile.specs.Answers.{Leaves, pooled, checked};
+ghost use Rattle.placement.specs.Lent.{before};
+ghost use Rattle.starfile.specs.Answers.{Leaves, checked};
 ghost use Rattle.starfile.specs.Calls.{checkOf};
 ghost use Rattle.starfile.specs.Outcomes.{VerdictSmall, verdictChecked};
+ghost use Rattle.starfile.specs.Lent.{poolBefore, poolAfter};
 use crate::answers::Checked;
 use crate::answers::Refusal;
+use crate::lending::Admission;
 use crate::lending::all_fit;
-use crate::lending::state_valid;
+use crate::lending::guard;
 use comparing::Verdict;
 use hashing::Geometry;
 use hashing::Growth;
@@ -24,20 +26,19 @@ pub fn check(
     poolnumbers: &mut [u32],
     poolwords: &mut [u64],
 ) -> Checked
-    ensures { λ r. ⌜ Leaves (checkOf parameters growth (lent (now (separators .entry)) (now (numbers .entry)) (now (words .entry))) (pooled (now (poolnumbers .entry)) (now (poolwords .entry)))) (checked r) (lent (now (separators .entry)) (now (numbers .entry)) (now (words .entry))) (pooled (now (poolnumbers .exit)) (now (poolwords .exit))) ⌝ }
+    ensures { λ r. ⌜ Leaves (checkOf parameters growth (before separators numbers words) (poolBefore poolnumbers poolwords))
+        (checked r) (before separators numbers words) (poolAfter poolnumbers poolwords) ⌝ }
 {
-    if !state_valid(parameters, growth) {
-        return Checked::Refused(Refusal::BadParameters, 0);
-    }
-    if !all_fit(
+    let fits = all_fit(
         parameters,
         separators.len(),
         numbers.len(),
         words.len(),
         poolnumbers.len(),
         poolwords.len(),
-    ) {
-        return Checked::Refused(Refusal::BadLength, 0);
+    );
+    if let Admission::Refused(refusal) = guard(parameters, growth, fits) {
+        return Checked::Refused(refusal, 0);
     }
     let table = hashing::multipliers();
     let verdict = comparing::check_file(

@@ -2,14 +2,15 @@
 ghost use mathlib.Core.Path.{_≡_};
 ghost use Prim.Native.Nat.{_+_, _-_, _/_, _≤_, _<_, max};
 ghost use lib.ListN.{length};
-ghost use Rattle.starfile.specs.Answers.{lent, unpooled, dueSaid};
+ghost use Rattle.placement.specs.Lent.{before};
+ghost use Rattle.starfile.specs.Answers.{unpooled, dueSaid};
 ghost use Rattle.starfile.specs.Calls.{dueOf};
 ghost use Rattle.starfile.specs.Due.{stars};
 ghost use Rattle.starfile.specs.Used.{Blank, Used};
 use crate::answers::Due;
-use crate::answers::Refusal;
+use crate::lending::Admission;
 use crate::lending::file_fits;
-use crate::lending::state_valid;
+use crate::lending::guard;
 use hashing::Geometry;
 use hashing::Growth;
 use hashing::Parameters;
@@ -21,13 +22,11 @@ pub fn due(
     numbers: &[u32],
     words: &[u64],
 ) -> Due
-    ensures { λ r. ⌜ dueSaid r ≡ dueOf parameters growth (lent (now (separators .entry)) (now (numbers .entry)) (now (words .entry))) unpooled .answer ⌝ }
+    ensures { λ r. ⌜ dueSaid r ≡ dueOf parameters growth (before separators numbers words) unpooled .answer ⌝ }
 {
-    if !state_valid(parameters, growth) {
-        return Due::Refused(Refusal::BadParameters);
-    }
-    if !file_fits(parameters, separators.len(), numbers.len(), words.len()) {
-        return Due::Refused(Refusal::BadLength);
+    let fits = file_fits(parameters, separators.len(), numbers.len(), words.len());
+    if let Admission::Refused(refusal) = guard(parameters, growth, fits) {
+        return Due::Refused(refusal);
     }
     let geometry = Geometry { parameters, growth };
     let end = used(numbers);

@@ -1,12 +1,14 @@
 // Making an empty file.
 ghost use mathlib.Core.Path.{_≡_};
 ghost use lib.ListN.{length, replicate};
-ghost use Rattle.starfile.specs.Answers.{Leaves, lent, unpooled, placed};
+ghost use Rattle.placement.specs.Lent.{before, after};
+ghost use Rattle.starfile.specs.Answers.{Leaves, unpooled, placed};
 ghost use Rattle.starfile.specs.Calls.{makeOf};
 use crate::answers::Grown;
 use crate::answers::Placed;
-use crate::answers::Refusal;
+use crate::lending::Admission;
 use crate::lending::file_fits;
+use crate::lending::guard;
 use hashing::Growth;
 use hashing::Parameters;
 
@@ -17,22 +19,18 @@ pub fn make(
     numbers: &mut [u32],
     words: &mut [u64],
 ) -> Grown
-    ensures { λ r. ⌜ Leaves (makeOf parameters (lent (now (separators .entry)) (now (numbers .entry)) (now (words .entry))) unpooled) (placed (r .answer)) (lent (now (separators .exit)) (now (numbers .exit)) (now (words .exit))) unpooled ⌝ }
-    ensures { λ r. ⌜ r .growth ≡ makeOf parameters (lent (now (separators .entry)) (now (numbers .entry)) (now (words .entry))) unpooled .growth ⌝ }
+    ensures { λ r. ⌜ Leaves (makeOf parameters (before separators numbers words) unpooled)
+        (placed (r .answer)) (after separators numbers words) unpooled ⌝ }
+    ensures { λ r. ⌜ r .growth ≡ makeOf parameters (before separators numbers words) unpooled .growth ⌝ }
 {
     let growth = Growth {
         expansions: 0,
         expanded: 0,
     };
-    if !hashing::parameters_valid(parameters) {
+    let fits = file_fits(parameters, separators.len(), numbers.len(), words.len());
+    if let Admission::Refused(refusal) = guard(parameters, growth, fits) {
         return Grown {
-            answer: Placed::Refused(Refusal::BadParameters, 0),
-            growth,
-        };
-    }
-    if !file_fits(parameters, separators.len(), numbers.len(), words.len()) {
-        return Grown {
-            answer: Placed::Refused(Refusal::BadLength, 0),
+            answer: Placed::Refused(refusal, 0),
             growth,
         };
     }

@@ -1,17 +1,18 @@
 // The entry of a star.
 ghost use mathlib.Core.Path.{_≡_};
 ghost use mathlib.Core.Bool.{true};
-ghost use Rattle.hashing.specs.Limits.{validParameters, validGrowth};
 ghost use Rattle.pages.specs.Position.{validNumber};
-ghost use Rattle.placement.specs.File.{Sized};
-ghost use Rattle.placement.specs.Hash.{lent};
-ghost use Rattle.starfile.specs.Answers.{Leaves, Stores, pooled, cleared, placed};
-ghost use Rattle.starfile.specs.Calls.{enterOf, enterOn, named, poolFits};
+ghost use Rattle.placement.specs.Lent.{held, before, after};
+ghost use Rattle.placement.specs.Ready.{Pooled};
+ghost use Rattle.starfile.specs.Answers.{Leaves, Stores, cleared, placed};
+ghost use Rattle.starfile.specs.Calls.{enterOf, enterOn, named};
 ghost use Rattle.starfile.specs.Outcomes.{EntrySmall, entryPlaced};
+ghost use Rattle.starfile.specs.Lent.{Admitted, poolBefore, poolAfter};
 use crate::answers::Placed;
 use crate::answers::Refusal;
+use crate::lending::Admission;
 use crate::lending::all_fit;
-use crate::lending::state_valid;
+use crate::lending::guard;
 use crate::naming::find;
 use entering::Entered;
 use hashing::Geometry;
@@ -31,20 +32,19 @@ pub fn enter(
     number: u32,
     position: Position,
 ) -> Placed
-    ensures { λ r. ⌜ Leaves (enterOf parameters growth (lent (now (separators .entry)) (now (numbers .entry)) (now (words .entry))) (pooled (now (poolnumbers .entry)) (now (poolwords .entry))) number position) (placed r) (lent (now (separators .exit)) (now (numbers .exit)) (now (words .exit))) (pooled (now (poolnumbers .exit)) (now (poolwords .exit))) ⌝ }
+    ensures { λ r. ⌜ Leaves (enterOf parameters growth (before separators numbers words) (poolBefore poolnumbers poolwords) number position)
+        (placed r) (after separators numbers words) (poolAfter poolnumbers poolwords) ⌝ }
 {
-    if !state_valid(parameters, growth) {
-        return Placed::Refused(Refusal::BadParameters, 0);
-    }
-    if !all_fit(
+    let fits = all_fit(
         parameters,
         separators.len(),
         numbers.len(),
         words.len(),
         poolnumbers.len(),
         poolwords.len(),
-    ) {
-        return Placed::Refused(Refusal::BadLength, 0);
+    );
+    if let Admission::Refused(refusal) = guard(parameters, growth, fits) {
+        return Placed::Refused(refusal, 0);
     }
     if !pages::position::number_valid(number) {
         return Placed::Refused(Refusal::BadNumber, 0);
@@ -80,12 +80,12 @@ fn enter_star(
     number: u32,
     word: u64,
 ) -> Placed
-    requires { ⌜ validParameters parameters ≡ true ⌝ }
-    requires { ⌜ validGrowth parameters growth ≡ true ⌝ }
-    requires { ⌜ Sized (parameters .places) (parameters .pages) (lent (now separators) (now numbers) (now words)) ⌝ }
-    requires { ⌜ poolFits parameters (pooled (now poolnumbers) (now poolwords)) ≡ true ⌝ }
+    requires { ⌜ Admitted parameters growth (held separators numbers words) ⌝ }
+    requires { ⌜ Pooled parameters (now poolnumbers) (now poolwords) ⌝ }
     requires { ⌜ validNumber number ≡ true ⌝ }
-    ensures { λ r. ⌜ Stores (enterOn parameters growth (lent (now (separators .entry)) (now (numbers .entry)) (now (words .entry))) (cleared (pooled (now (poolnumbers .entry)) (now (poolwords .entry)))) (named parameters growth (lent (now (separators .entry)) (now (numbers .entry)) (now (words .entry))) number) (record { number = number; word = word })) (placed r) (lent (now (separators .exit)) (now (numbers .exit)) (now (words .exit))) ⌝ }
+    ensures { λ r. ⌜ Stores (enterOn parameters growth (before separators numbers words) (cleared (poolBefore poolnumbers poolwords))
+        (named parameters growth (before separators numbers words) number) (record { number = number; word = word }))
+        (placed r) (after separators numbers words) ⌝ }
 {
     let table = hashing::multipliers();
     let geometry = Geometry { parameters, growth };

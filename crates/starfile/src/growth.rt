@@ -1,17 +1,17 @@
 // Growth by one page.
 ghost use mathlib.Core.Path.{_≡_};
-ghost use mathlib.Core.Bool.{true};
-ghost use Rattle.hashing.specs.Limits.{validParameters, validGrowth};
-ghost use Rattle.placement.specs.File.{Sized};
-ghost use Rattle.placement.specs.Hash.{lent};
-ghost use Rattle.starfile.specs.Answers.{Leaves, Stores, pooled, cleared, placed};
-ghost use Rattle.starfile.specs.Calls.{growOf, growOn, poolFits};
+ghost use Rattle.placement.specs.Lent.{held, before, after};
+ghost use Rattle.placement.specs.Ready.{Pooled};
+ghost use Rattle.starfile.specs.Answers.{Leaves, Stores, cleared, placed};
+ghost use Rattle.starfile.specs.Calls.{growOf, growOn};
 ghost use Rattle.starfile.specs.Outcomes.{ReplacedSmall, replacedGrown, unmovedBy};
+ghost use Rattle.starfile.specs.Lent.{Admitted, poolBefore, poolAfter};
 use crate::answers::Grown;
 use crate::answers::Placed;
 use crate::answers::Refusal;
+use crate::lending::Admission;
 use crate::lending::all_fit;
-use crate::lending::state_valid;
+use crate::lending::guard;
 use hashing::Geometry;
 use hashing::Growth;
 use hashing::Parameters;
@@ -27,21 +27,20 @@ pub fn grow(
     poolnumbers: &mut [u32],
     poolwords: &mut [u64],
 ) -> Grown
-    ensures { λ r. ⌜ Leaves (growOf parameters growth (lent (now (separators .entry)) (now (numbers .entry)) (now (words .entry))) (pooled (now (poolnumbers .entry)) (now (poolwords .entry)))) (placed (r .answer)) (lent (now (separators .exit)) (now (numbers .exit)) (now (words .exit))) (pooled (now (poolnumbers .exit)) (now (poolwords .exit))) ⌝ }
-    ensures { λ r. ⌜ r .growth ≡ growOf parameters growth (lent (now (separators .entry)) (now (numbers .entry)) (now (words .entry))) (pooled (now (poolnumbers .entry)) (now (poolwords .entry))) .growth ⌝ }
+    ensures { λ r. ⌜ Leaves (growOf parameters growth (before separators numbers words) (poolBefore poolnumbers poolwords))
+        (placed (r .answer)) (after separators numbers words) (poolAfter poolnumbers poolwords) ⌝ }
+    ensures { λ r. ⌜ r .growth ≡ growOf parameters growth (before separators numbers words) (poolBefore poolnumbers poolwords) .growth ⌝ }
 {
-    if !state_valid(parameters, growth) {
-        return unmoved(growth, Refusal::BadParameters);
-    }
-    if !all_fit(
+    let fits = all_fit(
         parameters,
         separators.len(),
         numbers.len(),
         words.len(),
         poolnumbers.len(),
         poolwords.len(),
-    ) {
-        return unmoved(growth, Refusal::BadLength);
+    );
+    if let Admission::Refused(refusal) = guard(parameters, growth, fits) {
+        return unmoved(growth, refusal);
     }
     let answer = grow_file(
         parameters,
@@ -66,12 +65,11 @@ fn grow_file(
     poolnumbers: &mut [u32],
     poolwords: &mut [u64],
 ) -> Grown
-    requires { ⌜ validParameters parameters ≡ true ⌝ }
-    requires { ⌜ validGrowth parameters growth ≡ true ⌝ }
-    requires { ⌜ Sized (parameters .places) (parameters .pages) (lent (now separators) (now numbers) (now words)) ⌝ }
-    requires { ⌜ poolFits parameters (pooled (now poolnumbers) (now poolwords)) ≡ true ⌝ }
-    ensures { λ r. ⌜ Stores (growOn parameters growth (lent (now (separators .entry)) (now (numbers .entry)) (now (words .entry))) (cleared (pooled (now (poolnumbers .entry)) (now (poolwords .entry))))) (placed (r .answer)) (lent (now (separators .exit)) (now (numbers .exit)) (now (words .exit))) ⌝ }
-    ensures { λ r. ⌜ r .growth ≡ growOn parameters growth (lent (now (separators .entry)) (now (numbers .entry)) (now (words .entry))) (cleared (pooled (now (poolnumbers .entry)) (now (poolwords .entry)))) .growth ⌝ }
+    requires { ⌜ Admitted parameters growth (held separators numbers words) ⌝ }
+    requires { ⌜ Pooled parameters (now poolnumbers) (now poolwords) ⌝ }
+    ensures { λ r. ⌜ Stores (growOn parameters growth (before separators numbers words) (cleared (poolBefore poolnumbers poolwords)))
+        (placed (r .answer)) (after separators numbers words) ⌝ }
+    ensures { λ r. ⌜ r .growth ≡ growOn parameters growth (before separators numbers words) (cleared (poolBefore poolnumbers poolwords)) .growth ⌝ }
 {
     let geometry = Geometry { parameters, growth };
     let page = geometry.highest_address() + 1;

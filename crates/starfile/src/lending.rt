@@ -1,13 +1,32 @@
 // Refusals 1 and 2: parameters, growth state and the lengths of what is lent.
 ghost use mathlib.Core.Path.{_≡_};
-ghost use mathlib.Core.Bool.{true, _&&_};
-ghost use Prim.Native.Nat.{_*_};
-ghost use lib.Dec.{eqb};
+ghost use mathlib.Core.Bool.{_&&_};
 ghost use Rattle.hashing.specs.Limits.{validParameters, validGrowth};
+ghost use Rattle.starfile.specs.Answers.{admissionNumber};
+ghost use Rattle.starfile.specs.Calls.{fileLengths, poolLengths, unlent};
+use crate::answers::Refusal;
 use hashing::Growth;
 use hashing::Parameters;
 
-pub fn state_valid(parameters: Parameters, growth: Growth) -> bool
+pub enum Admission {
+    Passed,
+    Refused(Refusal),
+}
+
+// What every call begins with. `fits`: what is lent is as long as the parameters say.
+pub fn guard(parameters: Parameters, growth: Growth, fits: bool) -> Admission
+    ensures { λ r. ⌜ admissionNumber r ≡ unlent parameters growth fits ⌝ }
+{
+    if !state_valid(parameters, growth) {
+        return Admission::Refused(Refusal::BadParameters);
+    }
+    if !fits {
+        return Admission::Refused(Refusal::BadLength);
+    }
+    Admission::Passed
+}
+
+fn state_valid(parameters: Parameters, growth: Growth) -> bool
     ensures { λ r. ⌜ r ≡ (validParameters parameters && validGrowth parameters growth) ⌝ }
 {
     if !hashing::parameters_valid(parameters) {
@@ -18,8 +37,7 @@ pub fn state_valid(parameters: Parameters, growth: Growth) -> bool
 
 // M separators, M·b numbers and M·b words.
 pub fn file_fits(parameters: Parameters, separators: usize, numbers: usize, words: usize) -> bool
-    requires { ⌜ validParameters parameters ≡ true ⌝ }
-    ensures { λ r. ⌜ r ≡ (eqb separators (parameters .pages) && (eqb numbers (parameters .pages * parameters .places) && eqb words (parameters .pages * parameters .places))) ⌝ }
+    ensures { λ r. ⌜ r ≡ fileLengths parameters separators numbers words ⌝ }
 {
     if separators != parameters.pages as usize {
         return false;
@@ -27,9 +45,8 @@ pub fn file_fits(parameters: Parameters, separators: usize, numbers: usize, word
     pool_fits(parameters, numbers, words)
 }
 
-pub fn pool_fits(parameters: Parameters, numbers: usize, words: usize) -> bool
-    requires { ⌜ validParameters parameters ≡ true ⌝ }
-    ensures { λ r. ⌜ r ≡ (eqb numbers (parameters .pages * parameters .places) && eqb words (parameters .pages * parameters .places)) ⌝ }
+fn pool_fits(parameters: Parameters, numbers: usize, words: usize) -> bool
+    ensures { λ r. ⌜ r ≡ poolLengths parameters numbers words ⌝ }
 {
     let items = parameters.pages as usize * parameters.places as usize;
     if numbers != items {
@@ -47,8 +64,7 @@ pub fn all_fit(
     poolnumbers: usize,
     poolwords: usize,
 ) -> bool
-    requires { ⌜ validParameters parameters ≡ true ⌝ }
-    ensures { λ r. ⌜ r ≡ ((eqb separators (parameters .pages) && (eqb numbers (parameters .pages * parameters .places) && eqb words (parameters .pages * parameters .places))) && (eqb poolnumbers (parameters .pages * parameters .places) && eqb poolwords (parameters .pages * parameters .places))) ⌝ }
+    ensures { λ r. ⌜ r ≡ (fileLengths parameters separators numbers words && poolLengths parameters poolnumbers poolwords) ⌝ }
 {
     if !file_fits(parameters, separators, numbers, words) {
         return false;

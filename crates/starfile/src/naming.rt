@@ -1,11 +1,9 @@
 // The page that the separators name for a number, and what it holds of it.
 ghost use mathlib.Core.Path.{_≡_};
 ghost use mathlib.Core.Bool.{true, false};
-ghost use Rattle.hashing.specs.Generator.{multipliers};
-ghost use Rattle.hashing.specs.Limits.{validParameters, validGrowth};
 ghost use Rattle.pages.specs.Position.{validNumber};
-ghost use Rattle.placement.specs.File.{Sized};
-ghost use Rattle.placement.specs.Hash.{lent};
+ghost use Rattle.placement.specs.Lent.{held, before};
+ghost use Rattle.placement.specs.Ready.{Ready};
 ghost use Rattle.starfile.specs.Named.{NamedAs};
 use hashing::Geometry;
 
@@ -30,12 +28,9 @@ pub fn find(
     words: &[u64],
     number: u32,
 ) -> Named
-    requires { ⌜ now table ≡ multipliers ⌝ }
-    requires { ⌜ validParameters (geometry .parameters) ≡ true ⌝ }
-    requires { ⌜ validGrowth (geometry .parameters) (geometry .growth) ≡ true ⌝ }
-    requires { ⌜ Sized (geometry .parameters .places) (geometry .parameters .pages) (lent (now separators) (now numbers) (now words)) ⌝ }
+    requires { ⌜ Ready geometry (now table) (held separators numbers words) ⌝ }
     requires { ⌜ validNumber number ≡ true ⌝ }
-    ensures { λ r. ⌜ NamedAs (geometry .parameters) (geometry .growth) (lent (now (separators .entry)) (now (numbers .entry)) (now (words .entry))) number r ⌝ }
+    ensures { λ r. ⌜ NamedAs (geometry .parameters) (geometry .growth) (before separators numbers words) number r ⌝ }
 {
     let places = geometry.parameters.places as usize;
     let page = placement::named_page(table, geometry, separators, number);

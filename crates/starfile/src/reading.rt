@@ -1,11 +1,13 @@
 // The look-up.
 ghost use mathlib.Core.Path.{_≡_};
-ghost use Rattle.starfile.specs.Answers.{lent, unpooled, sought};
+ghost use Rattle.placement.specs.Lent.{before};
+ghost use Rattle.starfile.specs.Answers.{unpooled, sought};
 ghost use Rattle.starfile.specs.Calls.{lookUpOf};
 use crate::answers::Found;
 use crate::answers::Refusal;
+use crate::lending::Admission;
 use crate::lending::file_fits;
-use crate::lending::state_valid;
+use crate::lending::guard;
 use crate::naming::find;
 use hashing::Geometry;
 use hashing::Growth;
@@ -20,13 +22,11 @@ pub fn look_up(
     words: &[u64],
     number: u32,
 ) -> Found
-    ensures { λ r. ⌜ sought r ≡ lookUpOf parameters growth (lent (now (separators .entry)) (now (numbers .entry)) (now (words .entry))) unpooled number .answer ⌝ }
+    ensures { λ r. ⌜ sought r ≡ lookUpOf parameters growth (before separators numbers words) unpooled number .answer ⌝ }
 {
-    if !state_valid(parameters, growth) {
-        return Found::Refused(Refusal::BadParameters, 0);
-    }
-    if !file_fits(parameters, separators.len(), numbers.len(), words.len()) {
-        return Found::Refused(Refusal::BadLength, 0);
+    let fits = file_fits(parameters, separators.len(), numbers.len(), words.len());
+    if let Admission::Refused(refusal) = guard(parameters, growth, fits) {
+        return Found::Refused(refusal, 0);
     }
     if !pages::position::number_valid(number) {
         return Found::Refused(Refusal::BadNumber, 0);

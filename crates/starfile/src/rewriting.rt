@@ -1,11 +1,13 @@
 // The change of a position.
 ghost use mathlib.Core.Path.{_≡_};
-ghost use Rattle.starfile.specs.Answers.{Leaves, lent, unpooled, placed};
+ghost use Rattle.placement.specs.Lent.{held, before};
+ghost use Rattle.starfile.specs.Answers.{Leaves, unpooled, placed};
 ghost use Rattle.starfile.specs.Calls.{changeOf};
 use crate::answers::Placed;
 use crate::answers::Refusal;
+use crate::lending::Admission;
 use crate::lending::file_fits;
-use crate::lending::state_valid;
+use crate::lending::guard;
 use crate::naming::find;
 use hashing::Geometry;
 use hashing::Growth;
@@ -22,13 +24,12 @@ pub fn change(
     number: u32,
     position: Position,
 ) -> Placed
-    ensures { λ r. ⌜ Leaves (changeOf parameters growth (lent (now (separators .entry)) (now (numbers .entry)) (now (words .entry))) unpooled number position) (placed r) (lent (now (separators .entry)) (now (numbers .entry)) (now (words .exit))) unpooled ⌝ }
+    ensures { λ r. ⌜ Leaves (changeOf parameters growth (before separators numbers words) unpooled number position)
+        (placed r) (held (separators .entry) (numbers .entry) (words .exit)) unpooled ⌝ }
 {
-    if !state_valid(parameters, growth) {
-        return Placed::Refused(Refusal::BadParameters, 0);
-    }
-    if !file_fits(parameters, separators.len(), numbers.len(), words.len()) {
-        return Placed::Refused(Refusal::BadLength, 0);
+    let fits = file_fits(parameters, separators.len(), numbers.len(), words.len());
+    if let Admission::Refused(refusal) = guard(parameters, growth, fits) {
+        return Placed::Refused(refusal, 0);
     }
     if !pages::position::number_valid(number) {
         return Placed::Refused(Refusal::BadNumber, 0);

@@ -1,8 +1,10 @@
 // The look-up, the entry and the removal for C programs, on numbers and slices. include/starfile.h declares them.
 // Each refuses every bad length and value itself. A contract gives the reply and every lent item at exit by starfile's definitions.
 ghost use mathlib.Core.Path.{_≡_};
-ghost use Rattle.starfile.specs.Answers.{lent, pooled, unpooled};
+ghost use Rattle.placement.specs.Lent.{before, after};
+ghost use Rattle.starfile.specs.Answers.{unpooled};
 ghost use Rattle.starfile.specs.Calls.{lookUpOf, enterOf, removeOf};
+ghost use Rattle.starfile.specs.Lent.{poolBefore, poolAfter};
 ghost use Rattle.starfile_c.specs.Reply.{Replies, replyOf, parametersOf, growthOf, positionOf};
 use hashing::Growth;
 use hashing::Parameters;
@@ -38,7 +40,8 @@ pub extern "C" fn heatherplane_look_up(
     words: &[u64],
     number: u32,
 ) -> Reply
-    ensures { λ r. ⌜ r ≡ replyOf (lookUpOf (parametersOf places groups width step bits load pages) (growthOf expansions expanded) (lent (now (separators .entry)) (now (numbers .entry)) (now (words .entry))) unpooled number .answer) ⌝ }
+    ensures { λ r. ⌜ r ≡ replyOf (lookUpOf (parametersOf places groups width step bits load pages) (growthOf expansions expanded)
+        (before separators numbers words) unpooled number .answer) ⌝ }
 {
     let parameters = Parameters {
         places,
@@ -77,7 +80,9 @@ pub extern "C" fn heatherplane_enter(
     ra: u32,
     dec: i32,
 ) -> Reply
-    ensures { λ r. ⌜ Replies (enterOf (parametersOf places groups width step bits load pages) (growthOf expansions expanded) (lent (now (separators .entry)) (now (numbers .entry)) (now (words .entry))) (pooled (now (poolnumbers .entry)) (now (poolwords .entry))) number (positionOf ra dec)) r (lent (now (separators .exit)) (now (numbers .exit)) (now (words .exit))) (pooled (now (poolnumbers .exit)) (now (poolwords .exit))) ⌝ }
+    ensures { λ r. ⌜ Replies (enterOf (parametersOf places groups width step bits load pages) (growthOf expansions expanded)
+        (before separators numbers words) (poolBefore poolnumbers poolwords) number (positionOf ra dec))
+        r (after separators numbers words) (poolAfter poolnumbers poolwords) ⌝ }
 {
     let parameters = Parameters {
         places,
@@ -124,7 +129,9 @@ pub extern "C" fn heatherplane_remove(
     poolwords: &mut [u64],
     number: u32,
 ) -> Reply
-    ensures { λ r. ⌜ Replies (removeOf (parametersOf places groups width step bits load pages) (growthOf expansions expanded) (lent (now (separators .entry)) (now (numbers .entry)) (now (words .entry))) (pooled (now (poolnumbers .entry)) (now (poolwords .entry))) number) r (lent (now (separators .exit)) (now (numbers .exit)) (now (words .exit))) (pooled (now (poolnumbers .exit)) (now (poolwords .exit))) ⌝ }
+    ensures { λ r. ⌜ Replies (removeOf (parametersOf places groups width step bits load pages) (growthOf expansions expanded)
+        (before separators numbers words) (poolBefore poolnumbers poolwords) number)
+        r (after separators numbers words) (poolAfter poolnumbers poolwords) ⌝ }
 {
     let parameters = Parameters {
         places,

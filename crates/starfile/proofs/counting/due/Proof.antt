@@ -1,6 +1,5 @@
 -- `starfile::due` meets its contract.
 use mathlib.Core.Path.{_≡_, sym, ap, _∙_}
-use mathlib.Core.Bool.{true, _&&_}
 use Prim.Native.Nat.{ℕ, _*_, _+_, _-_, _/_, _≤_, max}
 use native.Mathlib.Omega.{arith}
 use lib.ListN.{length}
@@ -8,12 +7,13 @@ use lib.Seq.{length-take-le}
 use borrow.Author.Tests.{lt-ltb, le-ltb}
 use native.Mathlib.Nat.{mul-le-mul}
 use Rattle.hashing.specs.Geometry.{pageCount, highest}
-use Rattle.hashing.proofs.Bounds.{limits, both, passed, failed, growth-within, spread}
-use Rattle.hashing.specs.Limits.{validParameters, validGrowth}
-use Rattle.starfile.specs.Answers.{lent, dueSaid, refusedBy, numberOf, pageOf}
-use Rattle.starfile.specs.Calls.{dueOf, fileFits}
+use Rattle.hashing.proofs.Bounds.{limits, growth-within, spread}
+use Rattle.placement.specs.File.{File}
+use Rattle.starfile.specs.Answers.{After, lent, dueSaid}
+use Rattle.starfile.specs.Lent.{Admitted}
+use Rattle.starfile.specs.Calls.{unlent, dueOf, fileFits}
 use Rattle.starfile.specs.Due.{stars, pagesInUse, exceeds, isDue}
-use Rattle.starfile.proofs.Refusals.{bad-state, bad-lengths, well-lent, items-most, sized}
+use Rattle.starfile.proofs.Refusals.{turned-away, refusal-is, none-is, admitted, items-most}
 use Rattle.starfile.proofs.Tallies.{stars-most, blank-stars}
 use Rattle.starfile.proofs.InUse.{in-use-is, in-use-most}
 use denote.Ref.{now}
@@ -21,40 +21,45 @@ use borrow.Author.Needs.{needs}
 use Rattle.starfile.proofs.counting.due.Statement.{statement}
 use Rattle.starfile.proofs.counting.due.Tie as tie
 
-state-valid-requires : tie.Need-state-valid-requires
-state-valid-requires c κs = search needs
-
-returns : tie.Need-returns
-unfolding dueOf dueSaid refusedBy numberOf pageOf
-returns c = rw (bad-state _ _ _ (failed _ _ (c .before .state-valid .ensures) (c .if1 .taken)))
+abbrev fileOf : tie.Start → File
+fileOf s = lent (now (s .args .separators)) (now (s .args .numbers)) (now (s .args .words))
 
 file-fits-requires : tie.Need-file-fits-requires
-file-fits-requires c κs = both _ _ (passed _ _ (c .before .state-valid .ensures) (c .if1 .left)) .0
+file-fits-requires c κs = search needs
 
-returns-2 : tie.Need-returns-2
-unfolding dueOf dueSaid refusedBy numberOf pageOf fileFits
-returns-2 c = rw (bad-lengths _ _ _ (passed _ _ (c .before .before .before .state-valid .ensures) (c .before .before .if1 .left)) (failed _ _ (c .before .file-fits .ensures) (c .if2 .taken)))
+guard-requires : tie.Need-guard-requires
+guard-requires c κs = search needs
 
--- what is known past the refusals
-abbrev start : tie.Else2 → tie.Start
+enum-known-refusal : tie.Need-enum-known-refusal
+enum-known-refusal c = search needs
+
+returns : tie.Need-returns
+unfolding dueOf dueSaid fileFits
+returns c = sym (ap (λ (x : After). x .answer) (turned-away _ _ _ _ _ _ _ (refusal-is _ _ (c .before .before .before .guard .ensures) (c .before .before .before .before .file-fits .ensures) (c .before .refusal .given .1))))
+
+enum-told : tie.Need-enum-told
+enum-told c = search needs
+
+-- what is known past the guard
+abbrev start : tie.After-enum-told → tie.Start
 start c = c .before .before .before .before .before .before .before
 
-state : (c : tie.Else2) → validParameters (start c .args .parameters) && validGrowth (start c .args .parameters) (start c .args .growth) ≡ true
-state c = passed _ _ (c .before .before .before .state-valid .ensures) (c .before .before .if1 .left)
-
-fits : (c : tie.Else2) → fileFits (start c .args .parameters) (lent (now (start c .args .separators)) (now (start c .args .numbers)) (now (start c .args .words))) ≡ true
+none : (c : tie.After-enum-told) → unlent (start c .args .parameters) (start c .args .growth) (fileFits (start c .args .parameters) (fileOf (start c))) ≡ 0
 unfolding fileFits
-fits c = passed _ _ (c .before .file-fits .ensures) (c .if2 .left)
+none c = none-is _ _ (c .before .before .guard .ensures) (c .before .before .before .file-fits .ensures) (c .enum-told .given .1)
 
-few : (c : tie.Else2) → length (now (start c .args .numbers)) ≤ 32768
-few c = omega (arith, sized _ _ (fits c) .ofNumbers, items-most _ (both _ _ (state c) .0))
+lent-well : (c : tie.After-enum-told) → Admitted (start c .args .parameters) (start c .args .growth) (fileOf (start c))
+lent-well c = admitted _ _ _ (none c)
 
-highest-most : (c : tie.Else2) → highest (start c .args .parameters) (start c .args .growth) + 1 ≤ start c .args .parameters .pages
+few : (c : tie.After-enum-told) → length (now (start c .args .numbers)) ≤ 32768
+few c = omega (arith, lent-well c .sized .ofNumbers, items-most _ (lent-well c .homing .signing .valid))
+
+highest-most : (c : tie.After-enum-told) → highest (start c .args .parameters) (start c .args .growth) + 1 ≤ start c .args .parameters .pages
 unfolding highest
 highest-most c =
-    let v = both _ _ (state c) in
-    let w = growth-within (start c .args .parameters) (start c .args .growth) (v .1) in
-    let least : 1 ≤ pageCount (start c .args .parameters) (start c .args .growth) = spread _ _ (limits _ (v .0)) w .pages-low in
+    let v = lent-well c .homing in
+    let w = growth-within (start c .args .parameters) (start c .args .growth) (v .growth) in
+    let least : 1 ≤ pageCount (start c .args .parameters) (start c .args .growth) = spread _ _ (limits _ (v .signing .valid)) w .pages-low in
     omega (arith, w .pages-fit)
 
 -- the stars, and the pages in use that are compared with them
@@ -74,8 +79,8 @@ pages-are c =
     ∙ (ap (λ (n : ℕ). max (n + 1) ((sought c .used .result + p .places - 1) / p .places)) (c .before .highest-address .ensures)
     ∙ sym
     (in-use-is p (begun c .args .growth) (now (begun c .args .numbers)) _
-    (limits _ (both _ _ (state (sought c .before)) .0) .places-least)
-    (sized _ _ (fits (sought c .before)) .ofNumbers)
+    (limits _ (lent-well (sought c .before) .homing .signing .valid) .places-least)
+    (lent-well (sought c .before) .sized .ofNumbers)
     (sought c .used .ensures)))
 
 pages-most : (c : tie.After-in-use) → c .in-use .result ≤ 1024
@@ -84,7 +89,7 @@ pages-most c =
       arith,
       pages-are c,
       in-use-most _ _ (now (begun c .args .numbers)) (highest-most (sought c .before)),
-      limits _ (both _ _ (state (sought c .before)) .0) .pages-most,
+      limits _ (lent-well (sought c .before) .homing .signing .valid) .pages-most,
     )
 
 used-requires : tie.Need-used-requires
@@ -97,11 +102,11 @@ occupied-requires : tie.Need-occupied-requires
 occupied-requires c κs = rw (length-take-le _ _ (c .before .used .ensures .blank .within)) (omega (arith, few (c .before .before), c .before .used .ensures .blank .within))
 
 highest-address-requires : tie.Need-highest-address-requires
-highest-address-requires c κs = both _ _ (state (c .before .before .before))
+highest-address-requires c κs = (lent-well (c .before .before .before) .homing .signing .valid, lent-well (c .before .before .before) .homing .growth)
 
 in-use-requires : tie.Need-in-use-requires
 in-use-requires c κs =
-    let l = limits _ (both _ _ (state (c .before .before .before .before)) .0) in (
+    let l = limits _ (lent-well (c .before .before .before .before) .homing .signing .valid) in (
       l .places-least,
       l .places-most,
       omega (arith, c .highest-address .ensures, highest-most (c .before .before .before .before), l .pages-most),
@@ -110,18 +115,18 @@ in-use-requires c κs =
 
 mul-room : tie.Need-mul-room
 mul-room c =
-    let l = limits _ (both _ _ (state (sought (c .before) .before)) .0) in
+    let l = limits _ (lent-well (sought (c .before) .before) .homing .signing .valid) in
     let m : begun (c .before) .args .parameters .load * begun (c .before) .args .parameters .places ≤ 99 * 32 = mul-le-mul (l .load-most) (l .places-most) in
     omega arith
 
 mul-room-2 : tie.Need-mul-room-2
 mul-room-2 c =
-    let l = limits _ (both _ _ (state (sought (c .before) .before)) .0) in
+    let l = limits _ (lent-well (sought (c .before) .before) .homing .signing .valid) in
     let m : begun (c .before) .args .parameters .load * begun (c .before) .args .parameters .places * c .before .in-use .result ≤ 99 * 32 * 1024 = mul-le-mul (mul-le-mul (l .load-most) (l .places-most)) (pages-most (c .before)) in
     omega arith
 
-mul-if3 : tie.Need-mul-if3
-mul-if3 c =
+mul-if1 : tie.Need-mul-if1
+mul-if1 c =
     omega (
       arith,
       few (sought (c .before) .before),
@@ -129,28 +134,29 @@ mul-if3 c =
       count-is (c .before .before .before),
     )
 
+returns-2 : tie.Need-returns-2
+unfolding dueOf dueSaid isDue exceeds
+returns-2 c =
+    let made = c .before .before in
+    rw (none (sought made .before))
+    (rw (← count-is (made .before .before), ← pages-are made, lt-ltb _ _ (c .if1 .taken)))
+
 returns-3 : tie.Need-returns-3
 unfolding dueOf dueSaid isDue exceeds
 returns-3 c =
     let made = c .before .before in
-    rw (well-lent _ _ _ (state (sought made .before)) (fits (sought made .before)))
-    (rw (← count-is (made .before .before), ← pages-are made, lt-ltb _ _ (c .if3 .taken)))
-
-returns-4 : tie.Need-returns-4
-unfolding dueOf dueSaid isDue exceeds
-returns-4 c =
-    let made = c .before .before in
-    rw (well-lent _ _ _ (state (sought made .before)) (fits (sought made .before)))
-    (rw (← count-is (made .before .before), ← pages-are made, le-ltb _ _ (c .if3 .left)))
+    rw (none (sought made .before))
+    (rw (← count-is (made .before .before), ← pages-are made, le-ltb _ _ (c .if1 .left)))
 
 pub due-spec : {M : Type 1} → statement M
 due-spec =
     tie.close
     (tie.spec
-    state-valid-requires
-    returns
     file-fits-requires
-    returns-2
+    guard-requires
+    enum-known-refusal
+    returns
+    enum-told
     used-requires
     slice-aggregate-occupied
     occupied-requires
@@ -158,6 +164,6 @@ due-spec =
     in-use-requires
     mul-room
     mul-room-2
-    mul-if3
-    returns-3
-    returns-4)
+    mul-if1
+    returns-2
+    returns-3)

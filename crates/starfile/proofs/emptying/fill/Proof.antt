@@ -1,4 +1,4 @@
-use mathlib.Core.Path.{_≡_, refl, _∙_}
+use mathlib.Core.Path.{_≡_, refl}
 use mathlib.Core.List.{_++_}
 use Prim.Native.Nat.{_≤_, _-_}
 use native.Mathlib.Omega.{arith}
@@ -7,8 +7,6 @@ use borrow.Author.Fill.{fill-more}
 use Rattle.starfile.proofs.Tallies.{filled-all}
 use Rattle.starfile.proofs.emptying.fill.Statement.{statement}
 use Rattle.starfile.proofs.emptying.fill.Tie as tie
-use Rattle.starfile.proofs.emptying.fill.Reads as reads
-use Rattle.starfile.proofs.emptying.fill.Lts as lts
 
 abbrev Inv-loop : tie.InvT-loop
 Inv-loop separators₀ top i₀ separators i =
@@ -17,23 +15,18 @@ Inv-loop separators₀ top i₀ separators i =
 abbrev μ-loop : tie.MeasureT-loop
 μ-loop separators₀ top i₀ separators i = length separators₀ - i
 
--- src/emptying.rt:11:5
 loop-holds : tie.Need-loop-holds Inv-loop μ-loop
 loop-holds c = (omega arith, (refl, refl))
 
--- src/emptying.rt:12:9
 slice-write-separators : tie.Need-slice-write-separators Inv-loop μ-loop
 slice-write-separators c = omega arith
 
--- src/emptying.rt:13:9
 add-i : tie.Need-add-i Inv-loop μ-loop
 add-i c = omega arith
 
--- src/emptying.rt:11:5
 loop-less : tie.Need-loop-less Inv-loop μ-loop
 loop-less c = omega arith
 
--- src/emptying.rt:11:5
 loop-again : tie.Need-loop-again Inv-loop μ-loop
 loop-again c = (
   omega arith,
@@ -43,11 +36,9 @@ loop-again c = (
   ),
 )
 
--- src/emptying.rt:7:1
 same-length : tie.Need-same-length Inv-loop μ-loop
 same-length c = c .before .loop .inv .1 .0
 
--- src/emptying.rt:7:1
 returns : tie.Need-returns Inv-loop μ-loop
 returns c = filled-all (c .before .before .args .separators .now) _ _ (c .before .loop .i) (c .before .loop .inv .1 .1) (omega arith)
 

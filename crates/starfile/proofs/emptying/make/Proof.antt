@@ -1,81 +1,79 @@
 -- `starfile::make` meets its contract.
-use mathlib.Core.Path.{_≡_, sym, _∙_, ap}
+use mathlib.Core.Path.{_≡_, _∙_, ap}
 use lib.ListN.{length, replicate}
 use Prim.Native.Nat.{ℕ}
 use denote.Ref.{now}
-use Rattle.hashing.proofs.Bounds.{passed, failed}
+use Rattle.hashing.specs.Geometry.{ungrown}
 use Rattle.placement.specs.File.{File}
 use Rattle.placement.specs.Hash.{lent}
-use Rattle.starfile.specs.Answers.{placed, refusedBy, numberOf, pageOf, unpooled}
-use Rattle.starfile.specs.Calls.{fileFits}
-use Rattle.starfile.proofs.Making.{make-unfit, make-short, make-empty}
+use Rattle.starfile.specs.Answers.{placed, unpooled}
+use Rattle.starfile.specs.Calls.{fileFits, unlent}
+use Rattle.starfile.specs.Lent.{Admitted}
+use Rattle.starfile.proofs.Making.{make-refused, make-empty}
+use Rattle.starfile.proofs.Refusals.{unlent-facts, refusal-is, none-is, admitted}
 use borrow.Author.Needs.{needs}
 use Rattle.starfile.proofs.emptying.make.Statement.{statement}
 use Rattle.starfile.proofs.emptying.make.Tie as tie
-use Rattle.starfile.proofs.emptying.make.Reads as reads
-use Rattle.starfile.proofs.emptying.make.Lts as lts
-use Rattle.hashing.proofs.parameters_valid.Reads as parameters-valid-reads
-use Rattle.planning.proofs.clear.Reads as clear-reads
-use Rattle.starfile.proofs.emptying.fill.Reads as fill-reads
-use Rattle.starfile.proofs.lending.file_fits.Reads as file-fits-reads
 
--- src/emptying.rt:24:9
 abbrev fileOf : tie.Start → File
 fileOf s = lent (now (s .args .separators)) (now (s .args .numbers)) (now (s .args .words))
 
-parameters-valid-requires : tie.Need-parameters-valid-requires
-parameters-valid-requires c κs = search needs
-
--- src/emptying.rt:25:9
-returns : tie.Need-returns
-unfolding placed refusedBy numberOf pageOf
-returns c =
-    let s = c .before .before .before .before .before in
-    make-unfit (s .args .parameters) (fileOf s) unpooled (failed _ _ (c .before .parameters-valid .ensures) (c .if1 .taken))
-
--- src/emptying.rt:30:9
 file-fits-requires : tie.Need-file-fits-requires
-file-fits-requires c κs = passed _ _ (c .before .parameters-valid .ensures) (c .if1 .left)
+file-fits-requires c κs = search needs
 
--- src/emptying.rt:31:9
-returns-2 : tie.Need-returns-2
-unfolding placed refusedBy numberOf pageOf fileFits
-returns-2 c =
-    let s = c .before .before .before .before .before .before .before in
-    make-short (s .args .parameters) (fileOf s) unpooled (passed _ _ (c .before .before .before .parameters-valid .ensures) (c .before .before .if1 .left)) (failed _ _ (c .before .file-fits .ensures) (c .if2 .taken))
+guard-requires : tie.Need-guard-requires
+guard-requires c κs = search needs
 
--- src/emptying.rt:36:22
+enum-known-refusal : tie.Need-enum-known-refusal
+enum-known-refusal c = search needs
+
+returns : tie.Need-returns
+unfolding placed fileFits
+returns c =
+    let s = c .before .before .before .before .before .before .before .before in
+    make-refused (s .args .parameters) (fileOf s) unpooled _
+    (refusal-is _ _ (c .before .before .before .guard .ensures) (c .before .before .before .before .file-fits .ensures) (c .before .refusal .given .1))
+
+enum-told : tie.Need-enum-told
+enum-told c = search needs
+
+-- what is known past the guard
+abbrev begun : tie.After-enum-told → tie.Start
+begun c = c .before .before .before .before .before .before .before
+
+none : (c : tie.After-enum-told) → unlent (begun c .args .parameters) ungrown (fileFits (begun c .args .parameters) (fileOf (begun c))) ≡ 0
+unfolding fileFits
+none c = none-is _ _ (c .before .before .guard .ensures) (c .before .before .before .file-fits .ensures) (c .enum-told .given .1)
+
+lent-well : (c : tie.After-enum-told) → Admitted (begun c .args .parameters) ungrown (fileOf (begun c))
+lent-well c = admitted _ _ _ (none c)
+
 top-of-requires : tie.Need-top-of-requires
-top-of-requires c κs = passed _ _ (c .before .before .before .before .parameters-valid .ensures) (c .before .before .before .if1 .left)
+top-of-requires c κs = lent-well (c .before) .homing .signing .valid
 
--- src/emptying.rt:36:5
 fill-requires : tie.Need-fill-requires
 fill-requires c κs = search needs
 
--- src/emptying.rt:37:5
 clear-requires : tie.Need-clear-requires
 clear-requires c κs = search needs
 
--- src/emptying.rt:16:1
 same-length : tie.Need-same-length
 same-length c = search needs
 
--- src/emptying.rt:16:1
 same-length-2 : tie.Need-same-length-2
 same-length-2 c = search needs
 
--- src/emptying.rt:16:1
 same-length-3 : tie.Need-same-length-3
 same-length-3 c = search needs
 
--- src/emptying.rt:16:1
-returns-3 : tie.Need-returns-3
-unfolding placed fileFits
-returns-3 c =
-    let s = c .before .before .before .before .before .before .before .before .before .before .before .before .before .before .before .before .before .before .before in
+returns-2 : tie.Need-returns-2
+unfolding placed
+returns-2 c =
+    let d = c .before .before .before .before .before .before .before .before .before .before .before .before in
+    let s = begun d in
     make-empty (s .args .parameters) (fileOf s) unpooled _ _ _
-    (passed _ _ (c .before .before .before .before .before .before .before .before .before .before .before .before .before .before .before .parameters-valid .ensures) (c .before .before .before .before .before .before .before .before .before .before .before .before .before .before .if1 .left))
-    (passed _ _ (c .before .before .before .before .before .before .before .before .before .before .before .before .before .file-fits .ensures) (c .before .before .before .before .before .before .before .before .before .before .before .before .if2 .left))
+    (lent-well d .homing .signing .valid)
+    (unlent-facts _ _ _ (none d) .1)
     (c .before .before .before .before .before .before .before .before .before .fill .ensures ∙ ap (replicate {A = ℕ} (length (now (s .args .separators)))) (c .before .before .before .before .before .before .before .before .before .before .top-of .ensures))
     (c .before .before .before .before .clear .ensures .0)
     (c .before .before .before .before .clear .ensures .1)
@@ -84,14 +82,15 @@ pub make-spec : {M : Type 1} → statement M
 make-spec =
     tie.close
     (tie.spec
-    parameters-valid-requires
-    returns
     file-fits-requires
-    returns-2
+    guard-requires
+    enum-known-refusal
+    returns
+    enum-told
     top-of-requires
     fill-requires
     clear-requires
     same-length
     same-length-2
     same-length-3
-    returns-3)
+    returns-2)

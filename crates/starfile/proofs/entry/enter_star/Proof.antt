@@ -1,30 +1,18 @@
 -- `starfile::entry::enter_star` meets its contract.
-use mathlib.Core.Path.{_≡_, refl, sym, ap, _∙_}
-use mathlib.Core.Bool.{true, false, _&&_}
-use Prim.Native.Nat.{_+_, _-_, _*_, _≤_, _<_}
+use mathlib.Core.Path.{sym, ap, _∙_}
 use native.Mathlib.Omega.{arith}
-use lib.ListN.{length}
 use borrow.Author.Tests.{not-true, not-false, eq-eqb, ne-eqb}
 use denote.Ref.{now}
-use Rattle.hashing.specs.Limits.{validParameters, validGrowth}
-use Rattle.hashing.proofs.Bounds.{limits, both, passed, failed, growth-within, spread}
-use Rattle.pages.specs.Position.{validNumber, validPosition}
+use Rattle.hashing.proofs.Bounds.{limits}
 use Rattle.placement.specs.File.{File}
 use Rattle.placement.specs.Hash.{lent}
-use Rattle.placement.proofs.Prepared.{ready, pool-ready}
-use Rattle.starfile.specs.Answers.{Pool, placed, checked, refusedBy, numberOf, pageOf, pooled, cleared}
-use Rattle.starfile.specs.Calls.{enterOn, enteredAgain, named, readable, holds, placeFor}
+use Rattle.starfile.specs.Answers.{Pool, placed, refusedBy, pooled, cleared}
+use Rattle.starfile.specs.Calls.{enterOn, enteredAgain, named, placeFor}
 use Rattle.starfile.proofs.Outcomes.{entry-small, entered-is}
-use Rattle.starfile.proofs.Pools.{pool-sized, unheld}
+use Rattle.starfile.proofs.Pools.{prepared, unheld}
 use borrow.Author.Needs.{needs}
 use Rattle.starfile.proofs.entry.enter_star.Statement.{statement}
 use Rattle.starfile.proofs.entry.enter_star.Tie as tie
-use Rattle.starfile.proofs.entry.enter_star.Reads as reads
-use Rattle.starfile.proofs.entry.enter_star.Lts as lts
-use Rattle.entering.proofs.enter_stretch.Reads as enter-stretch-reads
-use Rattle.hashing.proofs.multipliers.Reads as multipliers-reads
-use Rattle.starfile.proofs.entry.entry_placed.Reads as entry-placed-reads
-use Rattle.starfile.proofs.naming.find.Reads as find-reads
 
 abbrev fileOf : tie.Start → File
 fileOf s = lent (now (s .args .separators)) (now (s .args .numbers)) (now (s .args .words))
@@ -38,10 +26,10 @@ multipliers-requires c κs = search needs
 find-requires : tie.Need-find-requires
 find-requires c κs =
     let pre = c .before .before .before .before .before .before .before .before .before .before .pre in
-    (c .before .before .before .before .multipliers .ensures, (pre .0, (pre .1 .0, (pre .1 .1 .0, pre .1 .1 .1 .1))))
+    (prepared (c .before .before .before .before .multipliers .ensures) (pre .0), pre .1 .1)
 
 cast-page : tie.Need-cast-page
-cast-page c = omega (arith, c .before .find .ensures .pageMost, limits _ (c .before .before .before .before .before .before .before .before .before .before .before .before .pre .0) .pages-most)
+cast-page c = omega (arith, c .before .find .ensures .pageMost, limits _ (c .before .before .before .before .before .before .before .before .before .before .before .before .pre .0 .homing .signing .valid) .pages-most)
 
 same-length : tie.Need-same-length
 same-length c = search needs
@@ -53,7 +41,7 @@ same-length-3 : tie.Need-same-length-3
 same-length-3 c = search needs
 
 returns : tie.Need-returns
-unfolding enterOn placed refusedBy numberOf pageOf
+unfolding enterOn placed refusedBy
 returns c =
     let found = c .before .before .before .find .ensures in
     let unread = sym (found .readableIs) ∙ not-true _ (c .if1 .taken) in
@@ -89,7 +77,7 @@ same-length-9 : tie.Need-same-length-9
 same-length-9 c = search needs
 
 returns-3 : tie.Need-returns-3
-unfolding enterOn enteredAgain placed refusedBy numberOf pageOf
+unfolding enterOn enteredAgain placed refusedBy
 returns-3 c =
     let found = c .before .before .before .before .before .before .find .ensures in
     let opened = not-false _ (c .before .before .before .if1 .left) in
@@ -104,11 +92,11 @@ enter-stretch-requires c κs =
     let s = c .before .before .before .before .before .before .before .before .before .before .before .before .before .before .before .before .before .before .before .before .before in
     let found = c .before .before .before .before .before .before .before .before .before .before .find .ensures in
     let opened = not-false _ (c .before .before .before .before .before .before .before .if1 .left) in (
-      ready (c .before .before .before .before .before .before .before .before .before .before .before .before .before .before .before .multipliers .ensures) (s .pre .0) (s .pre .1 .0) (s .pre .1 .1 .0),
+      prepared (c .before .before .before .before .before .before .before .before .before .before .before .before .before .before .before .multipliers .ensures) (s .pre .0),
       (
-        pool-ready (pool-sized (s .args .parameters) (poolOf s) (s .pre .1 .1 .1 .0)),
+        s .pre .1 .0,
         (
-          s .pre .1 .1 .1 .1,
+          s .pre .1 .1,
           unheld (s .args .parameters) (s .args .growth) (fileOf s) (s .args .number) (sym (found .readableIs) ∙ opened) (sym (found .heldIs opened) ∙ c .before .before .before .before .before .before .if2 .left),
         ),
       ),
@@ -118,7 +106,7 @@ entry-placed-requires : tie.Need-entry-placed-requires
 entry-placed-requires c κs =
     let s = c .before .before .before .before .before .before .before .before .before .before .before .before .before .before .before .before .before .before .before .before .before .before .before .before .before .before .before .before .before .before .before .before in
     rw (c .before .before .before .before .before .before .before .before .before .before .enter-stretch .ensures .0)
-    (entry-small (s .args .parameters) (s .args .growth) (fileOf s) (s .pre .0) (s .pre .1 .0) (s .args .number) (s .args .word))
+    (entry-small (s .args .parameters) (s .args .growth) (fileOf s) (s .pre .0 .homing .signing .valid) (s .pre .0 .homing .growth) (s .args .number) (s .args .word))
 
 same-length-10 : tie.Need-same-length-10
 same-length-10 c = search needs

@@ -3,8 +3,6 @@ use native.Mathlib.Omega.{arith}
 use borrow.Author.Needs.{needs}
 use Rattle.starfile.proofs.entry.entry_placed.Statement.{statement}
 use Rattle.starfile.proofs.entry.entry_placed.Tie as tie
-use Rattle.starfile.proofs.entry.entry_placed.Reads as reads
-use Rattle.starfile.proofs.entry.entry_placed.Lts as lts
 
 enum-known-entered : tie.Need-enum-known-entered
 enum-known-entered c = search needs

@@ -1,31 +1,19 @@
 -- `starfile::grow` meets its contract.
-use mathlib.Core.Path.{_≡_, refl, sym, ap, _∙_}
-use mathlib.Core.Bool.{true, false, _&&_}
-use Prim.Native.Nat.{_+_, _-_, _*_, _≤_, _<_}
-use native.Mathlib.Omega.{arith}
-use lib.ListN.{length}
-use borrow.Author.Tests.{not-true, not-false, eq-eqb, ne-eqb}
+use mathlib.Core.Path.{_≡_}
+use mathlib.Core.Bool.{_&&_}
 use denote.Ref.{now}
-use Rattle.hashing.specs.Limits.{validParameters, validGrowth}
-use Rattle.hashing.proofs.Bounds.{limits, both, passed, failed, growth-within, spread}
-use Rattle.pages.specs.Position.{validNumber, validPosition}
 use Rattle.placement.specs.File.{File}
 use Rattle.placement.specs.Hash.{lent}
-use Rattle.starfile.specs.Answers.{Pool, placed, checked, refusedBy, numberOf, pageOf, pooled, cleared}
-use Rattle.starfile.specs.Calls.{growOf, fileFits, poolFits}
+use Rattle.placement.specs.Ready.{Pooled}
+use Rattle.starfile.specs.Answers.{Pool, placed, pooled, cleared}
+use Rattle.starfile.specs.Lent.{Admitted}
+use Rattle.starfile.specs.Calls.{unlent, growOf, fileFits, poolFits}
 use Rattle.starfile.proofs.Making.{made-by}
-use Rattle.starfile.proofs.Refusals.{bad-state, bad-lengths, well-lent, sized}
+use Rattle.starfile.proofs.Refusals.{turned-away, refusal-is, none-is, admitted-pool}
 use Rattle.starfile.proofs.Pools.{cleared-is, leaves-cleared, grow-pool}
 use borrow.Author.Needs.{needs}
 use Rattle.starfile.proofs.growth.grow.Statement.{statement}
 use Rattle.starfile.proofs.growth.grow.Tie as tie
-use Rattle.starfile.proofs.growth.grow.Reads as reads
-use Rattle.starfile.proofs.growth.grow.Lts as lts
-use Rattle.planning.proofs.clear.Reads as clear-reads
-use Rattle.starfile.proofs.growth.grow_file.Reads as grow-file-reads
-use Rattle.starfile.proofs.growth.unmoved.Reads as unmoved-reads
-use Rattle.starfile.proofs.lending.all_fit.Reads as all-fit-reads
-use Rattle.starfile.proofs.lending.state_valid.Reads as state-valid-reads
 
 abbrev fileOf : tie.Start → File
 fileOf s = lent (now (s .args .separators)) (now (s .args .numbers)) (now (s .args .words))
@@ -33,50 +21,40 @@ fileOf s = lent (now (s .args .separators)) (now (s .args .numbers)) (now (s .ar
 abbrev poolOf : tie.Start → Pool
 poolOf s = pooled (now (s .args .poolnumbers)) (now (s .args .poolwords))
 
-state-valid-requires : tie.Need-state-valid-requires
-state-valid-requires c κs = search needs
+all-fit-requires : tie.Need-all-fit-requires
+all-fit-requires c κs = search needs
+
+guard-requires : tie.Need-guard-requires
+guard-requires c κs = search needs
+
+enum-known-refusal : tie.Need-enum-known-refusal
+enum-known-refusal c = search needs
 
 unmoved-requires : tie.Need-unmoved-requires
 unmoved-requires c κs = search needs
 
 returns : tie.Need-returns
-unfolding growOf placed refusedBy numberOf pageOf
-returns c = rw (c .unmoved .ensures) (made-by _ _ _ _ _ (rw (bad-state _ _ _ (failed _ _ (c .before .before .state-valid .ensures) (c .before .if1 .taken)))))
+unfolding growOf placed fileFits poolFits
+returns c = rw (c .unmoved .ensures) (made-by _ _ _ _ _ (turned-away _ _ _ _ _ _ _ (refusal-is _ _ (c .before .before .before .before .guard .ensures) (c .before .before .before .before .before .all-fit .ensures) (c .before .before .refusal .given .1))))
 
-all-fit-requires : tie.Need-all-fit-requires
-all-fit-requires c κs = both _ _ (passed _ _ (c .before .state-valid .ensures) (c .if1 .left)) .0
+enum-told : tie.Need-enum-told
+enum-told c = search needs
 
-unmoved-requires-2 : tie.Need-unmoved-requires-2
-unmoved-requires-2 c κs = search needs
-
-returns-2 : tie.Need-returns-2
-unfolding growOf placed refusedBy numberOf pageOf fileFits poolFits
-returns-2 c =
-    rw (c .unmoved2 .ensures)
-    (made-by _ _ _ _ _
-    (rw (bad-lengths _ _ _ (passed _ _ (c .before .before .before .before .state-valid .ensures) (c .before .before .before .if1 .left)) (failed _ _ (c .before .before .all-fit .ensures) (c .before .if2 .taken)))))
-
--- what is known past the refusals
-abbrev begun : tie.Else2 → tie.Start
+-- what is known past the guard
+abbrev begun : tie.After-enum-told → tie.Start
 begun c = c .before .before .before .before .before .before .before .before .before
 
-state : (c : tie.Else2) → validParameters (begun c .args .parameters) && validGrowth (begun c .args .parameters) (begun c .args .growth) ≡ true
-state c = passed _ _ (c .before .before .before .state-valid .ensures) (c .before .before .if1 .left)
-
-valid : (c : tie.Else2) → (validParameters (begun c .args .parameters) ≡ true) × (validGrowth (begun c .args .parameters) (begun c .args .growth) ≡ true)
-valid c = both _ _ (state c)
-
-fit : (c : tie.Else2) → fileFits (begun c .args .parameters) (fileOf (begun c)) && poolFits (begun c .args .parameters) (poolOf (begun c)) ≡ true
+none : (c : tie.After-enum-told) → unlent (begun c .args .parameters) (begun c .args .growth) (fileFits (begun c .args .parameters) (fileOf (begun c)) && poolFits (begun c .args .parameters) (poolOf (begun c))) ≡ 0
 unfolding fileFits poolFits
-fit c = passed _ _ (c .before .all-fit .ensures) (c .if2 .left)
+none c = none-is _ _ (c .before .before .guard .ensures) (c .before .before .before .all-fit .ensures) (c .enum-told .given .1)
 
-fits : (c : tie.Else2) → (fileFits (begun c .args .parameters) (fileOf (begun c)) ≡ true) × (poolFits (begun c .args .parameters) (poolOf (begun c)) ≡ true)
-fits c = both _ _ (fit c)
+lent-well : (c : tie.After-enum-told) → Admitted (begun c .args .parameters) (begun c .args .growth) (fileOf (begun c)) × Pooled (begun c .args .parameters) (poolOf (begun c) .numbers) (poolOf (begun c) .words)
+lent-well c = admitted-pool _ _ _ (poolOf (begun c)) (none c)
 
 grow-file-requires : tie.Need-grow-file-requires
 grow-file-requires c κs =
     let d = c .before .before .before .before .before in
-    (valid d .0, (valid d .1, (sized _ _ (fits d .0), fits d .1)))
+    lent-well d
 
 clear-requires : tie.Need-clear-requires
 clear-requires c κs = search needs
@@ -96,13 +74,13 @@ same-length-4 c = search needs
 same-length-5 : tie.Need-same-length-5
 same-length-5 c = search needs
 
-returns-3 : tie.Need-returns-3
+returns-2 : tie.Need-returns-2
 unfolding growOf
-returns-3 c =
+returns-2 c =
     let d = c .before .before .before .before .before .before .before .before .before .before .before .before .before .before .before .before .before .before .before .before .before .before .before in
     let s = begun d in
     let done = c .before .before .before .before .before .before .before .before .before .before .before .before .before .before .before .before .before .grow-file in
-    rw (well-lent _ _ _ (state d) (fit d)) (
+    rw (none d) (
       leaves-cleared _ _ _ (poolOf s) _ (done .ensures .0)
           (grow-pool (s .args .parameters) (s .args .growth) (fileOf s) (cleared (poolOf s)))
           (cleared-is _ _ _ _ _ _ (c .before .before .before .before .clear .ensures .0) (c .before .before .before .before .clear .ensures .1) (done .kept .1 .1 .1 .1 .1 .0) (done .kept .1 .1 .1 .1 .1 .1 .0)),
@@ -113,12 +91,12 @@ pub grow-spec : {M : Type 1} → statement M
 grow-spec =
     tie.close
     (tie.spec
-    state-valid-requires
+    all-fit-requires
+    guard-requires
+    enum-known-refusal
     unmoved-requires
     returns
-    all-fit-requires
-    unmoved-requires-2
-    returns-2
+    enum-told
     grow-file-requires
     clear-requires
     same-length
@@ -126,4 +104,4 @@ grow-spec =
     same-length-3
     same-length-4
     same-length-5
-    returns-3)
+    returns-2)

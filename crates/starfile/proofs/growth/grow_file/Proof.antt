@@ -1,33 +1,19 @@
 -- `starfile::growth::grow_file` meets its contract.
-use mathlib.Core.Path.{_≡_, refl, sym, ap, _∙_}
-use mathlib.Core.Bool.{true, false, _&&_}
-use Prim.Native.Nat.{_+_, _-_, _*_, _≤_, _<_}
+use mathlib.Core.Path.{_≡_, _∙_}
+use Prim.Native.Nat.{_+_, _-_, _≤_, _<_}
 use native.Mathlib.Omega.{arith}
-use lib.ListN.{length}
-use borrow.Author.Tests.{not-true, not-false, eq-eqb, ne-eqb}
+use borrow.Author.Tests.{eq-eqb, ne-eqb}
 use denote.Ref.{now}
-use Rattle.hashing.specs.Limits.{validParameters, validGrowth}
-use Rattle.hashing.proofs.Bounds.{limits, both, passed, failed, growth-within, spread}
-use Rattle.pages.specs.Position.{validNumber, validPosition}
+use Rattle.hashing.proofs.Bounds.{limits, growth-within, spread}
 use Rattle.placement.specs.File.{File}
 use Rattle.placement.specs.Hash.{lent}
-use Rattle.placement.proofs.Prepared.{ready, pool-ready}
-use Rattle.starfile.specs.Answers.{Pool, placed, checked, refusedBy, numberOf, pageOf, pooled, cleared}
+use Rattle.starfile.specs.Answers.{Pool, placed, refusedBy, pooled, cleared}
 use Rattle.hashing.specs.Geometry.{highest, pageCount, grown}
-use Rattle.starfile.specs.Calls.{growOn}
 use Rattle.starfile.proofs.Outcomes.{growth-small, grown-is}
-use Rattle.starfile.proofs.Pools.{pool-sized}
+use Rattle.starfile.proofs.Pools.{prepared}
 use borrow.Author.Needs.{needs}
 use Rattle.starfile.proofs.growth.grow_file.Statement.{statement}
 use Rattle.starfile.proofs.growth.grow_file.Tie as tie
-use Rattle.starfile.proofs.growth.grow_file.Reads as reads
-use Rattle.starfile.proofs.growth.grow_file.Lts as lts
-use Rattle.hashing.proofs.Geometry.highest_address.Reads as highest-address-reads
-use Rattle.hashing.proofs.multipliers.Reads as multipliers-reads
-use Rattle.hashing.proofs.grown.Reads as grown-reads
-use Rattle.replacing.proofs.regrow.Reads as regrow-reads
-use Rattle.starfile.proofs.growth.grown_by.Reads as grown-by-reads
-use Rattle.starfile.proofs.growth.unmoved.Reads as unmoved-reads
 
 abbrev fileOf : tie.Start → File
 fileOf s = lent (now (s .args .separators)) (now (s .args .numbers)) (now (s .args .words))
@@ -43,13 +29,13 @@ page-is : (c : tie.After-highest-address) → c .highest-address .result + 1 ≡
 unfolding highest
 page-is c =
     let s = c .before .before .before .before .before .before in
-    let w = growth-within (s .args .parameters) (s .args .growth) (s .pre .1 .0) in
-    omega (arith, c .highest-address .ensures, spread _ _ (limits _ (s .pre .0)) w .pages-low)
+    let w = growth-within (s .args .parameters) (s .args .growth) (s .pre .0 .homing .growth) in
+    omega (arith, c .highest-address .ensures, spread _ _ (limits _ (s .pre .0 .homing .signing .valid)) w .pages-low)
 
 pages-most : (c : tie.After-highest-address) → pageCount (c .before .before .before .before .before .before .args .parameters) (c .before .before .before .before .before .before .args .growth) ≤ 1024
 pages-most c =
     let s = c .before .before .before .before .before .before in
-    omega (arith, growth-within (s .args .parameters) (s .args .growth) (s .pre .1 .0) .pages-fit, limits _ (s .pre .0) .pages-most)
+    omega (arith, growth-within (s .args .parameters) (s .args .growth) (s .pre .0 .homing .growth) .pages-fit, limits _ (s .pre .0 .homing .signing .valid) .pages-most)
 
 add-page : tie.Need-add-page
 add-page c = omega (arith, page-is c, pages-most c)
@@ -58,7 +44,7 @@ unmoved-requires : tie.Need-unmoved-requires
 unmoved-requires c κs = search needs
 
 returns : tie.Need-returns
-unfolding placed refusedBy numberOf pageOf highest
+unfolding placed refusedBy highest
 returns c =
     let s = c .before .before .before .before .before .before .before .before .before in
     let last : highest (s .args .parameters) (s .args .growth) ≡ s .args .parameters .pages - 1 = omega (arith, c .before .if1 .taken, c .before .before .before .highest-address .ensures) in
@@ -72,25 +58,25 @@ multipliers-requires c κs = search needs
 room : (c : tie.Else1) → pageCount (c .before .before .before .before .before .before .before .before .args .parameters) (c .before .before .before .before .before .before .before .before .args .growth) < c .before .before .before .before .before .before .before .before .args .parameters .pages
 room c =
     let s = c .before .before .before .before .before .before .before .before in
-    omega (arith, c .if1 .left, page-is (c .before .before), growth-within (s .args .parameters) (s .args .growth) (s .pre .1 .0) .pages-fit)
+    omega (arith, c .if1 .left, page-is (c .before .before), growth-within (s .args .parameters) (s .args .growth) (s .pre .0 .homing .growth) .pages-fit)
 
 grown-requires : tie.Need-grown-requires
 grown-requires c κs =
     let s = c .before .before .before .before .before .before .before .before .before in
-    (s .pre .0, (s .pre .1 .0, room (c .before)))
+    (s .pre .0 .homing .signing .valid, (s .pre .0 .homing .growth, room (c .before)))
 
 regrow-requires : tie.Need-regrow-requires
 regrow-requires c κs =
     let s = c .before .before .before .before .before .before .before .before .before .before .before .before .before .before .before .before in (
-      ready (c .before .before .before .before .before .before .before .multipliers .ensures) (s .pre .0) (s .pre .1 .0) (s .pre .1 .1 .0),
-      (pool-ready (pool-sized (s .args .parameters) (poolOf s) (s .pre .1 .1 .1)), room (c .before .before .before .before .before .before .before .before)),
+      prepared (c .before .before .before .before .before .before .before .multipliers .ensures) (s .pre .0),
+      (s .pre .1, room (c .before .before .before .before .before .before .before .before)),
     )
 
 grown-by-requires : tie.Need-grown-by-requires
 grown-by-requires c κs =
     let s = c .before .before .before .before .before .before .before .before .before .before .before .before .before .before .before .before .before .before .before .before .before .before .before .before .before .before .before in
     rw (c .before .before .before .before .before .before .before .before .before .before .regrow .ensures .0)
-    (growth-small (s .args .parameters) (s .args .growth) (fileOf s) (s .pre .0) (s .pre .1 .0) (grown (s .args .parameters) (s .args .growth)))
+    (growth-small (s .args .parameters) (s .args .growth) (fileOf s) (s .pre .0 .homing .signing .valid) (s .pre .0 .homing .growth) (grown (s .args .parameters) (s .args .growth)))
 
 same-length : tie.Need-same-length
 same-length c = search needs

@@ -3,9 +3,6 @@ use native.Mathlib.Omega.{arith}
 use borrow.Author.Needs.{needs}
 use Rattle.starfile.proofs.growth.grown_by.Statement.{statement}
 use Rattle.starfile.proofs.growth.grown_by.Tie as tie
-use Rattle.starfile.proofs.growth.grown_by.Reads as reads
-use Rattle.starfile.proofs.growth.grown_by.Lts as lts
-use Rattle.starfile.proofs.growth.unmoved.Reads as unmoved-reads
 
 enum-told : tie.Need-enum-told
 enum-told c = search needs

@@ -3,10 +3,6 @@ use Rattle.hashing.proofs.Bounds.{passed, failed}
 use borrow.Author.Needs.{needs}
 use Rattle.starfile.proofs.lending.all_fit.Statement.{statement}
 use Rattle.starfile.proofs.lending.all_fit.Tie as tie
-use Rattle.starfile.proofs.lending.all_fit.Reads as reads
-use Rattle.starfile.proofs.lending.all_fit.Lts as lts
-use Rattle.starfile.proofs.lending.file_fits.Reads as file-fits-reads
-use Rattle.starfile.proofs.lending.pool_fits.Reads as pool-fits-reads
 
 file-fits-requires : tie.Need-file-fits-requires
 file-fits-requires c κs = search needs

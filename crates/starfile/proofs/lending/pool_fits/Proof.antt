@@ -1,9 +1,8 @@
 -- `starfile::lending::pool_fits` meets its contract.
-use mathlib.Core.Bool.{false}
-use Prim.Native.Nat.{_*_, _≤_}
+use Prim.Native.Nat.{_≤_}
 use native.Mathlib.Omega.{arith}
 use borrow.Author.Tests.{eq-eqb, ne-eqb}
-use Rattle.starfile.proofs.Refusals.{items-most}
+use native.Mathlib.Nat.{mul-le-mul}
 use borrow.Author.Needs.{needs}
 use Rattle.starfile.proofs.lending.pool_fits.Statement.{statement}
 use Rattle.starfile.proofs.lending.pool_fits.Tie as tie
@@ -15,7 +14,11 @@ cast-items-2 : tie.Need-cast-items-2
 cast-items-2 c = search needs
 
 mul-items : tie.Need-mul-items
-mul-items c = omega (arith, items-most (c .before .before .args .parameters) (c .before .before .pre))
+mul-items c =
+    let p = c .before .before .args .parameters in
+    let wide : p .pages ≤ 4294967295 = omega arith in
+    let deep : p .places ≤ 4294967295 = omega arith in
+    omega (arith, mul-le-mul wide deep)
 
 returns : tie.Need-returns
 returns c = rw (ne-eqb _ _ (c .if1 .taken))

@@ -11,73 +11,59 @@ use Rattle.pages.proofs.Parts.{page-fits}
 use Rattle.placement.specs.File.{File}
 use Rattle.placement.specs.Hash.{lent, soundAt}
 use Rattle.placement.proofs.Items.{sound-loaded}
-use Rattle.placement.proofs.Prepared.{homing}
 use Rattle.starfile.proofs.Refusals.{items-most}
 use Rattle.starfile.proofs.Finding.{named-most, past-file, in-file, unread-as, absent-as, held-as, held-is, place-is, place-most, at-is, at-below, word-is, item-below, word-valid, one-least}
 use borrow.Author.Needs.{needs}
 use Rattle.starfile.proofs.naming.find.Statement.{statement}
 use Rattle.starfile.proofs.naming.find.Tie as tie
-use Rattle.starfile.proofs.naming.find.Reads as reads
-use Rattle.starfile.proofs.naming.find.Lts as lts
-use Rattle.pages.proofs.page.load.Reads as load-reads
-use Rattle.pages.proofs.page.search.Reads as search-reads
-use Rattle.placement.proofs.named_page.Reads as named-page-reads
-use Rattle.placement.proofs.page_sound.Reads as page-sound-reads
-use Rattle.starfile.proofs.naming.unread.Reads as unread-reads
 
 abbrev fileOf : tie.Start → File
 fileOf s = lent (now (s .args .separators)) (now (s .args .numbers)) (now (s .args .words))
 
--- src/naming.rt:31:18
 cast-places : tie.Need-cast-places
 cast-places c = search needs
 
--- src/naming.rt:32:9
 named-page-requires : tie.Need-named-page-requires
-named-page-requires c κs = search needs
+named-page-requires c κs =
+    let pre = c .before .before .before .before .pre in
+    (pre .0 .homing, pre .0 .sized .ofSeparators)
 
--- src/naming.rt:33:16
 cast-if1 : tie.Need-cast-if1
 cast-if1 c = search needs
 
--- src/naming.rt:34:9
 unread-requires : tie.Need-unread-requires
 unread-requires c κs = search needs
 
--- src/naming.rt:34:9
 returns : tie.Need-returns
 returns c =
     let s = c .before .before .before .before .before .before .before .before in
     rw (c .unread .ensures)
-    (unread-as (s .args .geometry .parameters) (s .args .geometry .growth) (fileOf s) (s .args .number) _ (s .pre .1 .1 .1 .0) (c .before .before .before .named-page .ensures)
+    (unread-as (s .args .geometry .parameters) (s .args .geometry .growth) (fileOf s) (s .args .number) _ (s .pre .0 .sized) (c .before .before .before .named-page .ensures)
     (past-file _ _ _ _ (c .before .if1 .taken)))
 
--- src/naming.rt:36:17
 -- past the first test, the page is one of the file
 abbrev begun : tie.Else1 → tie.Start
 begun c = c .before .before .before .before .before .before .before
 
 inside : (c : tie.Else1) → c .before .before .named-page .result < begun c .args .geometry .parameters .pages
 inside c =
-    let most = named-most (begun c .args .geometry .parameters) (begun c .args .geometry .growth) (fileOf (begun c)) (begun c .args .number) (begun c .pre .1 .1 .1 .0) in
+    let most = named-most (begun c .args .geometry .parameters) (begun c .args .geometry .growth) (fileOf (begun c)) (begun c .args .number) (begun c .pre .0 .sized) in
     omega (arith, c .if1 .left, c .before .before .named-page .ensures)
 
 fits : (c : tie.Else1) → c .before .before .named-page .result * begun c .args .geometry .parameters .places + begun c .args .geometry .parameters .places ≤ length (now (begun c .args .numbers))
-fits c = page-fits _ _ _ (inside c) (begun c .pre .1 .1 .1 .0 .ofNumbers)
+fits c = page-fits _ _ _ (inside c) (begun c .pre .0 .sized .ofNumbers)
 
 fits-words : (c : tie.Else1) → c .before .before .named-page .result * begun c .args .geometry .parameters .places + begun c .args .geometry .parameters .places ≤ length (now (begun c .args .words))
-fits-words c = page-fits _ _ _ (inside c) (begun c .pre .1 .1 .1 .0 .ofWords)
+fits-words c = page-fits _ _ _ (inside c) (begun c .pre .0 .sized .ofWords)
 
 load-requires : tie.Need-load-requires
-load-requires c κs = (limits _ (begun c .pre .1 .0) .places-most, (fits c, fits-words c))
+load-requires c κs = (limits _ (begun c .pre .0 .homing .signing .valid) .places-most, (fits c, fits-words c))
 
--- src/naming.rt:37:9
 page-sound-requires : tie.Need-page-sound-requires
 page-sound-requires c κs =
     let pre = begun (c .before) .pre in
-    (homing (pre .0) (pre .1 .0) (pre .1 .1 .0), (pre .1 .1 .1 .0 .ofSeparators, inside (c .before)))
+    (pre .0 .homing, (pre .0 .sized .ofSeparators, inside (c .before)))
 
--- src/naming.rt:38:9
 -- the value tested is the page's
 told : (c : tie.After-page-sound) → c .page-sound .result .sound ≡ soundAt (begun (c .before .before) .args .geometry .parameters) (begun (c .before .before) .args .geometry .growth) (fileOf (begun (c .before .before))) (c .before .before .before .before .named-page .result)
 told c = c .page-sound .ensures .sound ∙ sound-loaded _ _ (fileOf (begun (c .before .before))) _ _ (fits (c .before .before)) (fits-words (c .before .before)) (c .before .load .ensures)
@@ -85,19 +71,16 @@ told c = c .page-sound .ensures .sound ∙ sound-loaded _ _ (fileOf (begun (c .b
 unread-requires-2 : tie.Need-unread-requires-2
 unread-requires-2 c κs = search needs
 
--- src/naming.rt:38:9
 returns-2 : tie.Need-returns-2
 returns-2 c =
     let s = c .before .before .before .before .before .before .before .before .before .before .before .before in
     rw (c .unread2 .ensures)
-    (unread-as (s .args .geometry .parameters) (s .args .geometry .growth) (fileOf s) (s .args .number) _ (s .pre .1 .1 .1 .0) (c .before .before .before .before .before .before .before .named-page .ensures)
+    (unread-as (s .args .geometry .parameters) (s .args .geometry .growth) (fileOf s) (s .args .number) _ (s .pre .0 .sized) (c .before .before .before .before .before .before .before .named-page .ensures)
     (in-file _ _ _ _ _ (inside (c .before .before .before .before .before)) (sym (told (c .before .before .before)) ∙ not-true _ (c .before .if2 .taken))))
 
--- src/naming.rt:40:9
 search-requires : tie.Need-search-requires
-search-requires c κs = limits _ (c .before .before .before .before .before .before .before .before .before .before .before .pre .1 .0) .places-most
+search-requires c κs = limits _ (c .before .before .before .before .before .before .before .before .before .before .before .pre .0 .homing .signing .valid) .places-most
 
--- src/naming.rt:43:9
 -- what the search of the page tells of the lent lists
 abbrev tested : tie.After-search → tie.After-page-sound
 tested c = c .before .before .before
@@ -111,19 +94,18 @@ place-below c =
     place-most (begun e .args .geometry .parameters) (fileOf (begun e)) (begun e .args .number) _ _ _ (fits e) (c .before .before .before .before .load .ensures) (c .search .ensures)
 
 cast-place : tie.Need-cast-place
-cast-place c = omega (arith, place-below c, limits _ (begun (tested c .before .before) .pre .1 .0) .places-most)
+cast-place c = omega (arith, place-below c, limits _ (begun (tested c .before .before) .pre .0 .homing .signing .valid) .places-most)
 
 returns-3 : tie.Need-returns-3
 returns-3 c =
     let d = c .before .before in
     let e = tested d .before .before in
     let s = begun e in
-    absent-as (s .args .geometry .parameters) (s .args .geometry .growth) (fileOf s) (s .args .number) _ (s .pre .1 .1 .1 .0) (c .before .before .before .before .before .before .before .before .before .named-page .ensures) _
+    absent-as (s .args .geometry .parameters) (s .args .geometry .growth) (fileOf s) (s .args .number) _ (s .pre .0 .sized) (c .before .before .before .before .before .before .before .before .before .named-page .ensures) _
     (in-file _ _ _ _ _ (inside e) (sound d))
     (sym (held-is (s .args .geometry .parameters) (fileOf s) _ _ _ _ (fits e) (c .before .before .before .before .before .before .load .ensures) (d .search .ensures)) ∙ not-true _ (c .if3 .taken))
     (place-is (s .args .geometry .parameters) (fileOf s) _ _ _ _ (fits e) (c .before .before .before .before .before .before .load .ensures) (d .search .ensures))
 
--- src/naming.rt:55:15
 -- the number is held
 held : (c : tie.Else3) → c .before .before .search .result .held ≡ true
 held c = not-false _ (c .if3 .left)
@@ -134,35 +116,31 @@ within c =
     at-below (begun e .args .geometry .parameters) (fileOf (begun e)) (begun e .args .number) _ _ _ (fits e) (c .before .before .before .before .before .before .load .ensures) (c .before .before .search .ensures) (held c)
 
 mul-t13 : tie.Need-mul-t13
-mul-t13 c = omega (arith, fits (tested (c .before .before) .before .before), items-most _ (c .before .before .before .before .before .before .before .before .before .before .before .before .before .before .pre .1 .0), c .before .before .before .before .before .before .before .before .before .before .before .before .before .before .pre .1 .1 .1 .0 .ofNumbers)
+mul-t13 c = omega (arith, fits (tested (c .before .before) .before .before), items-most _ (c .before .before .before .before .before .before .before .before .before .before .before .before .before .before .pre .0 .homing .signing .valid), c .before .before .before .before .before .before .before .before .before .before .before .before .before .before .pre .0 .sized .ofNumbers)
 
--- src/naming.rt:55:15
 add-t17 : tie.Need-add-t17
-add-t17 c = omega (arith, fits (tested (c .before .before) .before .before), items-most _ (c .before .before .before .before .before .before .before .before .before .before .before .before .before .before .pre .1 .0), c .before .before .before .before .before .before .before .before .before .before .before .before .before .before .pre .1 .1 .1 .0 .ofNumbers, within c)
+add-t17 c = omega (arith, fits (tested (c .before .before) .before .before), items-most _ (c .before .before .before .before .before .before .before .before .before .before .before .before .before .before .pre .0 .homing .signing .valid), c .before .before .before .before .before .before .before .before .before .before .before .before .before .before .pre .0 .sized .ofNumbers, within c)
 
--- src/naming.rt:56:15
 mul-t18 : tie.Need-mul-t18
-mul-t18 c = omega (arith, within c, limits _ (c .before .before .before .before .before .before .before .before .before .before .before .before .before .before .pre .1 .0) .places-most)
+mul-t18 c = omega (arith, within c, limits _ (c .before .before .before .before .before .before .before .before .before .before .before .before .before .before .pre .0 .homing .signing .valid) .places-most)
 
--- src/naming.rt:56:15
 element-copy-out-t21 : tie.Need-element-copy-out-t21
-element-copy-out-t21 c = omega (arith, within c, limits _ (c .before .before .before .before .before .before .before .before .before .before .before .before .before .before .pre .1 .0) .places-most)
+element-copy-out-t21 c = omega (arith, within c, limits _ (c .before .before .before .before .before .before .before .before .before .before .before .before .before .before .pre .0 .homing .signing .valid) .places-most)
 
--- src/naming.rt:23:1
 returns-4 : tie.Need-returns-4
 returns-4 c =
     let d = c .before .before .before in
     let e = tested d .before .before in
     let s = begun e in
-    held-as (s .args .geometry .parameters) (s .args .geometry .growth) (fileOf s) (s .args .number) _ (s .pre .1 .1 .1 .0) (c .before .before .before .before .before .before .before .before .before .before .named-page .ensures) _ _ _
+    held-as (s .args .geometry .parameters) (s .args .geometry .growth) (fileOf s) (s .args .number) _ (s .pre .0 .sized) (c .before .before .before .before .before .before .before .before .before .before .named-page .ensures) _ _ _
     (in-file _ _ _ _ _ (inside e) (sound d))
     (sym (held-is (s .args .geometry .parameters) (fileOf s) _ _ _ _ (fits e) (c .before .before .before .before .before .before .before .load .ensures) (d .search .ensures)) ∙ held (c .before))
     (place-is (s .args .geometry .parameters) (fileOf s) _ _ _ _ (fits e) (c .before .before .before .before .before .before .before .load .ensures) (d .search .ensures))
     (at-is (s .args .geometry .parameters) (fileOf s) _ _ _ _ (fits e) (c .before .before .before .before .before .before .before .load .ensures) (d .search .ensures))
     (word-is (s .args .geometry .parameters) (fileOf s) _ _ _ _ (fits e) (c .before .before .before .before .before .before .before .load .ensures) (d .search .ensures) (held (c .before)))
-    (item-below (s .args .geometry .parameters) (fileOf s) (s .args .number) _ _ _ (fits e) (c .before .before .before .before .before .before .before .load .ensures) (d .search .ensures) (held (c .before)) (sym (s .pre .1 .1 .1 .0 .ofNumbers)))
+    (item-below (s .args .geometry .parameters) (fileOf s) (s .args .number) _ _ _ (fits e) (c .before .before .before .before .before .before .before .load .ensures) (d .search .ensures) (held (c .before)) (sym (s .pre .0 .sized .ofNumbers)))
     (rw (word-is (s .args .geometry .parameters) (fileOf s) (s .args .number) _ _ _ (fits e) (c .before .before .before .before .before .before .before .load .ensures) (d .search .ensures) (held (c .before)))
-    (word-valid (s .args .geometry .parameters) (s .args .geometry .growth) (fileOf s) _ _ (s .pre .1 .1 .1 .0) (inside e) (one-least _ (s .pre .1 .1 .1 .1)) (sound d)
+    (word-valid (s .args .geometry .parameters) (s .args .geometry .growth) (fileOf s) _ _ (s .pre .0 .sized) (inside e) (one-least _ (s .pre .1)) (sound d)
     (sym (held-is (s .args .geometry .parameters) (fileOf s) _ _ _ _ (fits e) (c .before .before .before .before .before .before .before .load .ensures) (d .search .ensures)) ∙ held (c .before))))
 
 pub find-spec : {M : Type 1} → statement M

@@ -1,30 +1,20 @@
 -- `starfile::remove` meets its contract.
-use mathlib.Core.Path.{_≡_, refl, sym, ap, _∙_}
-use mathlib.Core.Bool.{true, false, _&&_}
-use Prim.Native.Nat.{_+_, _-_, _*_, _≤_, _<_}
-use native.Mathlib.Omega.{arith}
-use lib.ListN.{length}
-use borrow.Author.Tests.{not-true, not-false, eq-eqb, ne-eqb}
+use mathlib.Core.Path.{_≡_}
+use mathlib.Core.Bool.{true, _&&_}
 use denote.Ref.{now}
-use Rattle.hashing.specs.Limits.{validParameters, validGrowth}
-use Rattle.hashing.proofs.Bounds.{limits, both, passed, failed, growth-within, spread}
-use Rattle.pages.specs.Position.{validNumber, validPosition}
+use Rattle.hashing.proofs.Bounds.{passed, failed}
+use Rattle.pages.specs.Position.{validNumber}
 use Rattle.placement.specs.File.{File}
 use Rattle.placement.specs.Hash.{lent}
-use Rattle.starfile.specs.Answers.{Pool, placed, checked, refusedBy, numberOf, pageOf, pooled, cleared}
-use Rattle.starfile.specs.Calls.{removeOf, fileFits, poolFits, named}
-use Rattle.starfile.proofs.Refusals.{bad-state, bad-lengths, well-lent, sized, leaves}
+use Rattle.placement.specs.Ready.{Pooled}
+use Rattle.starfile.specs.Answers.{Pool, placed, refusedBy, pooled, cleared}
+use Rattle.starfile.specs.Lent.{Admitted}
+use Rattle.starfile.specs.Calls.{unlent, removeOf, fileFits, poolFits}
+use Rattle.starfile.proofs.Refusals.{turned-away-first, refusal-is, none-is, admitted-pool, leaves}
 use Rattle.starfile.proofs.Pools.{cleared-is, leaves-cleared, remove-pool}
 use borrow.Author.Needs.{needs}
 use Rattle.starfile.proofs.removal.remove.Statement.{statement}
 use Rattle.starfile.proofs.removal.remove.Tie as tie
-use Rattle.starfile.proofs.removal.remove.Reads as reads
-use Rattle.starfile.proofs.removal.remove.Lts as lts
-use Rattle.pages.proofs.position.number_valid.Reads as number-valid-reads
-use Rattle.planning.proofs.clear.Reads as clear-reads
-use Rattle.starfile.proofs.lending.all_fit.Reads as all-fit-reads
-use Rattle.starfile.proofs.lending.state_valid.Reads as state-valid-reads
-use Rattle.starfile.proofs.removal.remove_held.Reads as remove-held-reads
 
 abbrev fileOf : tie.Start → File
 fileOf s = lent (now (s .args .separators)) (now (s .args .numbers)) (now (s .args .words))
@@ -32,58 +22,55 @@ fileOf s = lent (now (s .args .separators)) (now (s .args .numbers)) (now (s .ar
 abbrev poolOf : tie.Start → Pool
 poolOf s = pooled (now (s .args .poolnumbers)) (now (s .args .poolwords))
 
-state-valid-requires : tie.Need-state-valid-requires
-state-valid-requires c κs = search needs
+all-fit-requires : tie.Need-all-fit-requires
+all-fit-requires c κs = search needs
+
+guard-requires : tie.Need-guard-requires
+guard-requires c κs = search needs
+
+enum-known-refusal : tie.Need-enum-known-refusal
+enum-known-refusal c = search needs
 
 returns : tie.Need-returns
-unfolding removeOf placed refusedBy numberOf pageOf
-returns c = leaves _ _ (c .before .before .before .before .before .before .before .args .growth) _ _ (rw (bad-state _ _ _ (failed _ _ (c .before .state-valid .ensures) (c .if1 .taken))))
+unfolding removeOf placed fileFits poolFits
+returns c = leaves _ _ _ _ _ (turned-away-first _ _ _ _ _ _ _ _ (refusal-is _ _ (c .before .before .before .guard .ensures) (c .before .before .before .before .all-fit .ensures) (c .before .refusal .given .1)))
 
-all-fit-requires : tie.Need-all-fit-requires
-all-fit-requires c κs = both _ _ (passed _ _ (c .before .state-valid .ensures) (c .if1 .left)) .0
+enum-told : tie.Need-enum-told
+enum-told c = search needs
 
-returns-2 : tie.Need-returns-2
-unfolding removeOf placed refusedBy numberOf pageOf fileFits poolFits
-returns-2 c =
-    leaves _ _ (c .before .before .before .before .before .before .before .before .before .args .growth) _ _
-    (rw (bad-lengths _ _ _ (passed _ _ (c .before .before .before .state-valid .ensures) (c .before .before .if1 .left)) (failed _ _ (c .before .all-fit .ensures) (c .if2 .taken))))
+-- what is known past the guard
+abbrev begun : tie.After-enum-told → tie.Start
+begun c = c .before .before .before .before .before .before .before .before .before
+
+none : (c : tie.After-enum-told) → unlent (begun c .args .parameters) (begun c .args .growth) (fileFits (begun c .args .parameters) (fileOf (begun c)) && poolFits (begun c .args .parameters) (poolOf (begun c))) ≡ 0
+unfolding fileFits poolFits
+none c = none-is _ _ (c .before .before .guard .ensures) (c .before .before .before .all-fit .ensures) (c .enum-told .given .1)
+
+lent-well : (c : tie.After-enum-told) → Admitted (begun c .args .parameters) (begun c .args .growth) (fileOf (begun c)) × Pooled (begun c .args .parameters) (poolOf (begun c) .numbers) (poolOf (begun c) .words)
+lent-well c = admitted-pool _ _ _ (poolOf (begun c)) (none c)
 
 number-valid-requires : tie.Need-number-valid-requires
 number-valid-requires c κs = search needs
 
-returns-3 : tie.Need-returns-3
-unfolding removeOf placed refusedBy numberOf pageOf fileFits poolFits
-returns-3 c =
+returns-2 : tie.Need-returns-2
+unfolding removeOf placed refusedBy
+returns-2 c =
     leaves _ _ (c .before .before .before .before .before .before .before .before .before .before .before .args .growth) _ _
     (rw (
-      well-lent _ _ _ (passed _ _ (c .before .before .before .before .before .state-valid .ensures) (c .before .before .before .before .if1 .left)) (passed _ _ (c .before .before .before .all-fit .ensures) (c .before .before .if2 .left)),
-      failed _ _ (c .before .number-valid .ensures) (c .if3 .taken),
+      none (c .before .before),
+      failed _ _ (c .before .number-valid .ensures) (c .if1 .taken),
     ))
 
--- what is known past the refusals
-abbrev begun : tie.Else3 → tie.Start
-begun c = c .before .before .before .before .before .before .before .before .before .before .before
+abbrev told : tie.Else1 → tie.After-enum-told
+told c = c .before .before
 
-state : (c : tie.Else3) → validParameters (begun c .args .parameters) && validGrowth (begun c .args .parameters) (begun c .args .growth) ≡ true
-state c = passed _ _ (c .before .before .before .before .before .state-valid .ensures) (c .before .before .before .before .if1 .left)
-
-valid : (c : tie.Else3) → (validParameters (begun c .args .parameters) ≡ true) × (validGrowth (begun c .args .parameters) (begun c .args .growth) ≡ true)
-valid c = both _ _ (state c)
-
-fit : (c : tie.Else3) → fileFits (begun c .args .parameters) (fileOf (begun c)) && poolFits (begun c .args .parameters) (poolOf (begun c)) ≡ true
-unfolding fileFits poolFits
-fit c = passed _ _ (c .before .before .before .all-fit .ensures) (c .before .before .if2 .left)
-
-fits : (c : tie.Else3) → (fileFits (begun c .args .parameters) (fileOf (begun c)) ≡ true) × (poolFits (begun c .args .parameters) (poolOf (begun c)) ≡ true)
-fits c = both _ _ (fit c)
-
-numbered : (c : tie.Else3) → validNumber (begun c .args .number) ≡ true
-numbered c = passed _ _ (c .before .number-valid .ensures) (c .if3 .left)
+numbered : (c : tie.Else1) → validNumber (begun (told c) .args .number) ≡ true
+numbered c = passed _ _ (c .before .number-valid .ensures) (c .if1 .left)
 
 remove-held-requires : tie.Need-remove-held-requires
 remove-held-requires c κs =
     let d = c .before .before .before .before .before in
-    (valid d .0, (valid d .1, (sized _ _ (fits d .0), (fits d .1, numbered d))))
+    (lent-well (told d) .0, (lent-well (told d) .1, numbered d))
 
 clear-requires : tie.Need-clear-requires
 clear-requires c κs = search needs
@@ -103,13 +90,13 @@ same-length-4 c = search needs
 same-length-5 : tie.Need-same-length-5
 same-length-5 c = search needs
 
-returns-4 : tie.Need-returns-4
+returns-3 : tie.Need-returns-3
 unfolding removeOf
-returns-4 c =
+returns-3 c =
     let d = c .before .before .before .before .before .before .before .before .before .before .before .before .before .before .before .before .before .before .before .before .before .before .before in
-    let s = begun d in
+    let s = begun (told d) in
     let done = c .before .before .before .before .before .before .before .before .before .before .before .before .before .before .before .before .before .remove-held in
-    rw (well-lent _ _ _ (state d) (fit d), numbered d)
+    rw (none (told d), numbered d)
     (leaves-cleared _ _ _ (poolOf s) _ (done .ensures)
     (remove-pool (s .args .parameters) (s .args .growth) (fileOf s) (cleared (poolOf s)) _ _)
     (cleared-is _ _ _ _ _ _ (c .before .before .before .before .clear .ensures .0) (c .before .before .before .before .clear .ensures .1) (done .kept .1 .1 .1 .1 .1 .0) (done .kept .1 .1 .1 .1 .1 .1 .0)))
@@ -118,12 +105,13 @@ pub remove-spec : {M : Type 1} → statement M
 remove-spec =
     tie.close
     (tie.spec
-    state-valid-requires
-    returns
     all-fit-requires
-    returns-2
+    guard-requires
+    enum-known-refusal
+    returns
+    enum-told
     number-valid-requires
-    returns-3
+    returns-2
     remove-held-requires
     clear-requires
     same-length
@@ -131,4 +119,4 @@ remove-spec =
     same-length-3
     same-length-4
     same-length-5
-    returns-4)
+    returns-3)

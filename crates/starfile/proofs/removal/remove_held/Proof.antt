@@ -1,32 +1,18 @@
 -- `starfile::removal::remove_held` meets its contract.
-use mathlib.Core.Path.{_≡_, refl, sym, ap, _∙_}
-use mathlib.Core.Bool.{true, false, _&&_}
-use Prim.Native.Nat.{_+_, _-_, _*_, _≤_, _<_}
+use mathlib.Core.Path.{sym, ap, _∙_}
 use native.Mathlib.Omega.{arith}
-use lib.ListN.{length}
-use borrow.Author.Tests.{not-true, not-false, eq-eqb, ne-eqb}
+use borrow.Author.Tests.{not-true, not-false}
 use denote.Ref.{now}
-use Rattle.hashing.specs.Limits.{validParameters, validGrowth}
-use Rattle.hashing.proofs.Bounds.{limits, both, passed, failed, growth-within, spread}
-use Rattle.pages.specs.Position.{validNumber, validPosition}
+use Rattle.hashing.proofs.Bounds.{limits}
 use Rattle.placement.specs.File.{File}
 use Rattle.placement.specs.Hash.{lent}
-use Rattle.placement.proofs.Prepared.{ready, pool-ready}
-use Rattle.starfile.specs.Answers.{Pool, placed, checked, refusedBy, numberOf, pageOf, pooled, cleared}
-use Rattle.starfile.specs.Calls.{removeOn, named, readable, holds, placeFor}
-use Rattle.starfile.specs.Outcomes.{replacedPlaced}
-use Rattle.replacing.specs.Calls.{removalAnswer}
+use Rattle.starfile.specs.Answers.{Pool, placed, refusedBy, pooled, cleared}
+use Rattle.starfile.specs.Calls.{removeOn, named, placeFor}
 use Rattle.starfile.proofs.Outcomes.{removal-small, removed-is}
-use Rattle.starfile.proofs.Pools.{pool-sized}
+use Rattle.starfile.proofs.Pools.{prepared}
 use borrow.Author.Needs.{needs}
 use Rattle.starfile.proofs.removal.remove_held.Statement.{statement}
 use Rattle.starfile.proofs.removal.remove_held.Tie as tie
-use Rattle.starfile.proofs.removal.remove_held.Reads as reads
-use Rattle.starfile.proofs.removal.remove_held.Lts as lts
-use Rattle.hashing.proofs.multipliers.Reads as multipliers-reads
-use Rattle.replacing.proofs.remove_star.Reads as remove-star-reads
-use Rattle.starfile.proofs.naming.find.Reads as find-reads
-use Rattle.starfile.proofs.removal.replaced_placed.Reads as replaced-placed-reads
 
 abbrev fileOf : tie.Start → File
 fileOf s = lent (now (s .args .separators)) (now (s .args .numbers)) (now (s .args .words))
@@ -40,10 +26,10 @@ multipliers-requires c κs = search needs
 find-requires : tie.Need-find-requires
 find-requires c κs =
     let pre = c .before .before .before .before .before .before .before .before .before .before .pre in
-    (c .before .before .before .before .multipliers .ensures, (pre .0, (pre .1 .0, (pre .1 .1 .0, pre .1 .1 .1 .1))))
+    (prepared (c .before .before .before .before .multipliers .ensures) (pre .0), pre .1 .1)
 
 cast-page : tie.Need-cast-page
-cast-page c = omega (arith, c .before .find .ensures .pageMost, limits _ (c .before .before .before .before .before .before .before .before .before .before .before .before .pre .0) .pages-most)
+cast-page c = omega (arith, c .before .find .ensures .pageMost, limits _ (c .before .before .before .before .before .before .before .before .before .before .before .before .pre .0 .homing .signing .valid) .pages-most)
 
 same-length : tie.Need-same-length
 same-length c = search needs
@@ -55,7 +41,7 @@ same-length-3 : tie.Need-same-length-3
 same-length-3 c = search needs
 
 returns : tie.Need-returns
-unfolding removeOn placed refusedBy numberOf pageOf
+unfolding removeOn placed refusedBy
 returns c =
     let found = c .before .before .before .find .ensures in
     let unread = sym (found .readableIs) ∙ not-true _ (c .if1 .taken) in
@@ -71,7 +57,7 @@ same-length-6 : tie.Need-same-length-6
 same-length-6 c = search needs
 
 returns-2 : tie.Need-returns-2
-unfolding removeOn placed refusedBy numberOf pageOf
+unfolding removeOn placed refusedBy
 returns-2 c =
     let found = c .before .before .before .before .before .find .ensures in
     let opened = not-false _ (c .before .before .if1 .left) in
@@ -82,15 +68,15 @@ returns-2 c =
 remove-star-requires : tie.Need-remove-star-requires
 remove-star-requires c κs =
     let s = c .before .before .before .before .before .before .before .before .before .before .before .before .before .before .before .before .before .before .before .before .before .before in (
-      ready (c .before .before .before .before .before .before .before .before .before .before .before .before .before .before .before .before .multipliers .ensures) (s .pre .0) (s .pre .1 .0) (s .pre .1 .1 .0),
-      pool-ready (pool-sized (s .args .parameters) (poolOf s) (s .pre .1 .1 .1 .0)),
+      prepared (c .before .before .before .before .before .before .before .before .before .before .before .before .before .before .before .before .multipliers .ensures) (s .pre .0),
+      s .pre .1 .0,
     )
 
 replaced-placed-requires : tie.Need-replaced-placed-requires
 replaced-placed-requires c κs =
     let s = c .before .before .before .before .before .before .before .before .before .before .before .before .before .before .before .before .before .before .before .before .before .before .before .before .before .before .before .before .before .before .before .before .before in
     rw (c .before .before .before .before .before .before .before .before .before .before .remove-star .ensures .0)
-    (removal-small (s .args .parameters) (s .args .growth) (fileOf s) (s .pre .0) (s .pre .1 .0) (s .args .number))
+    (removal-small (s .args .parameters) (s .args .growth) (fileOf s) (s .pre .0 .homing .signing .valid) (s .pre .0 .homing .growth) (s .args .number))
 
 same-length-7 : tie.Need-same-length-7
 same-length-7 c = search needs

@@ -3,8 +3,6 @@ use native.Mathlib.Omega.{arith}
 use borrow.Author.Needs.{needs}
 use Rattle.starfile.proofs.removal.replaced_placed.Statement.{statement}
 use Rattle.starfile.proofs.removal.replaced_placed.Tie as tie
-use Rattle.starfile.proofs.removal.replaced_placed.Reads as reads
-use Rattle.starfile.proofs.removal.replaced_placed.Lts as lts
 
 enum-told : tie.Need-enum-told
 enum-told c = search needs
