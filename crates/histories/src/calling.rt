@@ -4,7 +4,7 @@ ghost use Prim.Native.Nat.{_+_, _≤_};
 ghost use lib.ListN.{length};
 ghost use Rattle.placement.specs.Lent.{before, after};
 ghost use Rattle.histories.specs.Call.{step};
-ghost use Rattle.histories.specs.Lent.{poolBefore, poolAfter};
+ghost use Rattle.starfile.specs.Lent.{poolBefore, poolAfter};
 ghost use Rattle.histories.specs.Replay.{requestOf};
 ghost use Rattle.histories.specs.Steps.{Steps, Recorded};
 use hashing::Growth;
