@@ -1,7 +1,6 @@
 // The homes of eight numbers, step by step.
 ghost use mathlib.Core.Path.{_≡_};
 ghost use mathlib.Core.Bool.{true};
-ghost use mathlib.Core.List.{map};
 ghost use Prim.Native.Nat.{_+_, _*_, _%_, _≤_, _<_};
 ghost use lib.ListN.{length, getD};
 ghost use Rattle.hashing.specs.Generator.{modulus, multiplierOf};
@@ -22,7 +21,6 @@ use crate::stages::first_stage;
 use crate::stages::limit;
 use crate::stages::most_chosen;
 use crate::stages::next_stage;
-use crate::stages::sweep_by;
 use hashing::Geometry;
 
 // One step of groups and pages.
@@ -134,20 +132,4 @@ pub fn homes(
     let span = geometry.parameters.width * geometry.parameters.groups;
     starts(powers[0], span, numbers, pages);
     steps(powers, geometry, sweep, numbers, pages);
-}
-
-pub fn of_block(powers: &[u32; 90], geometry: Geometry, numbers: &[u32; 8], pages: &mut [u16; 8])
-    requires { ⌜ now powers ≡ firstMultipliers (multiplierOf (geometry .parameters)) ⌝ }
-    requires { ⌜ validParameters (geometry .parameters) ≡ true ⌝ }
-    requires { ⌜ validGrowth (geometry .parameters) (geometry .growth) ≡ true ⌝ }
-    requires { ⌜ (length (now numbers) ≡ 8) × (length (now pages) ≡ 8) ⌝ }
-    ensures { λ _. ⌜ now (pages .exit) ≡ map (home (multiplierOf (geometry .parameters)) (geometry .parameters) (geometry .growth)) (now (numbers .entry)) ⌝ }
-{
-    homes(
-        powers,
-        geometry,
-        sweep_by(geometry.parameters.step as u16),
-        numbers,
-        pages,
-    );
 }

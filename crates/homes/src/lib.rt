@@ -6,6 +6,5 @@ mod powers;
 mod scalars;
 mod stages;
 
-pub use blocks::of_block;
 pub use page::of_page;
 pub use powers::first_multipliers;

@@ -1,3 +1,3 @@
-// Position words, and a page of the star file as one value of 32 places: load, search and store.
+// Position words, and a page of the star file as one value of 32 places: load and search.
 pub mod page;
 pub mod position;

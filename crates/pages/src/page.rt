@@ -1,8 +1,7 @@
-// A page as one value of 32 places, copied from the lent lists and back, and the search of one.
+// A page as one value of 32 places, copied from the lent lists, and the search of one.
 ghost use mathlib.Core.Path.{_≡_};
 ghost use Prim.Native.Nat.{_+_, _*_, _≤_};
 ghost use lib.ListN.{length, take};
-ghost use lib.Seq.{paste};
 ghost use Rattle.pages.specs.Page.{pageAt, placeIn};
 
 // Unused places are empty: number 0, word 0.
@@ -37,25 +36,6 @@ pub fn load(numbers: &[u32], words: &[u64], places: usize, page: usize) -> Page
     value
 }
 
-// Everything but the page's items keeps its contents.
-pub fn store(numbers: &mut [u32], words: &mut [u64], places: usize, page: usize, value: Page)
-    requires { ⌜ places ≤ 32 ⌝ }
-    requires { ⌜ page * places + places ≤ length (now numbers) ⌝ }
-    requires { ⌜ page * places + places ≤ length (now words) ⌝ }
-    ensures { λ _. ⌜ now (numbers .exit) ≡ paste (now (numbers .entry)) (page * places) (value .numbers) places ⌝ }
-    ensures { λ _. ⌜ now (words .exit) ≡ paste (now (words .entry)) (page * places) (value .words) places ⌝ }
-{
-    let first = page * places;
-    let mut i = 0;
-    while i < places {
-        numbers[first + i] = value.numbers[i];
-        words[first + i] = value.words[i];
-        i += 1;
-    }
-}
-
-// "the first place that is empty or holds a number not below the one sought, or b if there is none, besides whether it is held":
-// of the b places in use, so that a number above all those of a full page is told b, and not 32.
 pub fn search(value: Page, places: usize, number: u32) -> Place
     requires { ⌜ places ≤ 32 ⌝ }
     ensures { λ r. ⌜ r ≡ placeIn number (take places (value .numbers)) ⌝ }
