@@ -51,29 +51,12 @@ fn in_use(places: u32, highest: u32, end: usize) -> u32
     highest + 1
 }
 
-// The items up to the last number that is not 0. A file in use ends in few empty places: small blocks first, then large ones.
+// The items up to the last number that is not 0.
 fn used(numbers: &[u32]) -> usize
     requires { ⌜ length (now numbers) ≤ 32768 ⌝ }
     ensures { λ r. ⌜ Used (now (numbers .entry)) r ⌝ }
 {
-    let all = numbers.len();
-    if all < 128 {
-        return scan(numbers, trimmed(numbers, all, 16, 0));
-    }
-    let near = trimmed(numbers, all, 16, all - 128);
-    if all < near + 128 {
-        return scan(numbers, near);
-    }
-    let far = trimmed(numbers, near, 128, 0);
-    scan(numbers, trimmed(numbers, far, 16, 0))
-}
-
-// The same, where no number from item `from` on is other than 0.
-fn scan(numbers: &[u32], from: usize) -> usize
-    requires { ⌜ Blank (now numbers) from ⌝ }
-    ensures { λ r. ⌜ Used (now (numbers .entry)) r ⌝ }
-{
-    let mut end = from;
+    let mut end = trimmed(numbers);
     while 0 < end {
         if numbers[end - 1] != 0 {
             return end;
@@ -83,15 +66,14 @@ fn scan(numbers: &[u32], from: usize) -> usize
     0
 }
 
-// The items up to `from` without the blocks of zeros at their end, down to `stop`: `occupied` takes many numbers at a time.
-fn trimmed(numbers: &[u32], from: usize, block: usize, stop: usize) -> usize
-    requires { ⌜ Blank (now numbers) from × (length (now numbers) ≤ 32768) ⌝ }
-    requires { ⌜ (1 ≤ block) × (block ≤ 128) × (stop ≤ 32768) ⌝ }
+// The items without the blocks of zeros at their end: `occupied` takes many numbers at a time, the scan in `used` one.
+fn trimmed(numbers: &[u32]) -> usize
+    requires { ⌜ length (now numbers) ≤ 32768 ⌝ }
     ensures { λ r. ⌜ Blank (now (numbers .entry)) r ⌝ }
 {
-    let mut end = from;
-    while stop + block <= end {
-        let start = end - block;
+    let mut end = numbers.len();
+    while 128 <= end {
+        let start = end - 128;
         if occupied(&numbers[start..end]) != 0 {
             return end;
         }

@@ -3,24 +3,18 @@ use mathlib.Core.Path.{_∙_, sym}
 use native.Mathlib.Omega.{arith}
 use lib.ListN.{length-take, length-drop}
 use Rattle.starfile.specs.Used.{Blank}
-use Rattle.starfile.proofs.Tallies.{blank-block}
+use Rattle.starfile.proofs.Tallies.{blank-all, blank-block}
 use Rattle.starfile.proofs.counting.trimmed.Statement.{statement}
 use Rattle.starfile.proofs.counting.trimmed.Tie as tie
 
 abbrev Inv-loop : tie.InvT-loop
-Inv-loop numbers from block stop end₀ end = Blank numbers end
+Inv-loop numbers end₀ end = Blank numbers end
 
 abbrev μ-loop : tie.MeasureT-loop
-μ-loop numbers from block stop end₀ end = end
+μ-loop numbers end₀ end = end
 
 loop-holds : tie.Need-loop-holds Inv-loop μ-loop
-loop-holds c = c .before .pre .0 .0
-
-add-loop : tie.Need-add-loop Inv-loop μ-loop
-add-loop c = omega arith
-
-sub-start : tie.Need-sub-start Inv-loop μ-loop
-sub-start c = omega arith
+loop-holds c = blank-all _
 
 mul-occupied : tie.Need-mul-occupied Inv-loop μ-loop
 mul-occupied c = omega arith
@@ -56,8 +50,6 @@ trimmed-spec =
     Inv-loop
     μ-loop
     loop-holds
-    add-loop
-    sub-start
     mul-occupied
     sub-occupied
     part-occupied-start

@@ -1,55 +1,63 @@
 -- `starfile::used` meets its contract.
+use mathlib.Core.Path.{_≡_}
 use native.Mathlib.Omega.{arith}
 use borrow.Author.Needs.{needs}
-use Rattle.starfile.proofs.Tallies.{blank-all}
+use Rattle.starfile.specs.Used.{Blank}
+use Rattle.starfile.proofs.Tallies.{blank-item}
 use Rattle.starfile.proofs.counting.used.Statement.{statement}
 use Rattle.starfile.proofs.counting.used.Tie as tie
 
-trimmed-requires : tie.Need-trimmed-requires
-trimmed-requires c κs = ((blank-all _, search needs), (omega arith, omega arith, omega arith))
+abbrev Inv-loop : tie.InvT-loop
+Inv-loop numbers end₀ end = Blank numbers end
 
-scan-requires : tie.Need-scan-requires
-scan-requires c κs = search needs
+abbrev μ-loop : tie.MeasureT-loop
+μ-loop numbers end₀ end = end
 
-returns : tie.Need-returns
-returns c = search needs
+trimmed-requires : tie.Need-trimmed-requires Inv-loop μ-loop
+trimmed-requires c κs = search needs
 
-trimmed-requires-2 : tie.Need-trimmed-requires-2
-trimmed-requires-2 c κs = ((blank-all _, search needs), (omega arith, omega arith, omega arith))
+loop-holds : tie.Need-loop-holds Inv-loop μ-loop
+loop-holds c = c .trimmed .ensures
 
-add-if2 : tie.Need-add-if2
-add-if2 c = search needs
+sub-if1 : tie.Need-sub-if1 Inv-loop μ-loop
+sub-if1 c = omega arith
 
-scan-requires-2 : tie.Need-scan-requires-2
-scan-requires-2 c κs = search needs
+mul-if1 : tie.Need-mul-if1 Inv-loop μ-loop
+mul-if1 c = omega arith
 
-returns-2 : tie.Need-returns-2
-returns-2 c = search needs
+shared-slice-read-if1 : tie.Need-shared-slice-read-if1 Inv-loop μ-loop
+shared-slice-read-if1 c = omega arith
 
-trimmed-requires-3 : tie.Need-trimmed-requires-3
-trimmed-requires-3 c κs = search needs
+returns : tie.Need-returns Inv-loop μ-loop
+returns c = record { blank = c .before .before .before .loop .inv; last = λ h. c .if1 .taken }
 
-trimmed-requires-4 : tie.Need-trimmed-requires-4
-trimmed-requires-4 c κs = search needs
+sub-end : tie.Need-sub-end Inv-loop μ-loop
+sub-end c = omega arith
 
-scan-requires-3 : tie.Need-scan-requires-3
-scan-requires-3 c κs = search needs
+loop-less : tie.Need-loop-less Inv-loop μ-loop
+loop-less c = omega arith
 
-returns-3 : tie.Need-returns-3
-returns-3 c = search needs
+loop-again : tie.Need-loop-again Inv-loop μ-loop
+loop-again c = blank-item _ _ (c .before .before .before .loop .inv) (omega arith) (c .if1 .left)
+
+returns-2 : tie.Need-returns-2 Inv-loop μ-loop
+returns-2 c =
+    let none : c .before .loop .end ≡ 0 = omega arith in
+    record { blank = rw none at (c .before .loop .inv); last = λ h. omega arith }
 
 pub used-spec : {M : Type 1} → statement M
 used-spec =
     tie.close
     (tie.spec
+    Inv-loop
+    μ-loop
     trimmed-requires
-    scan-requires
+    loop-holds
+    sub-if1
+    mul-if1
+    shared-slice-read-if1
     returns
-    trimmed-requires-2
-    add-if2
-    scan-requires-2
-    returns-2
-    trimmed-requires-3
-    trimmed-requires-4
-    scan-requires-3
-    returns-3)
+    sub-end
+    loop-less
+    loop-again
+    returns-2)
