@@ -5,17 +5,18 @@ use native.Mathlib.Omega.{arith}
 use lib.ListN.{length}
 use lib.Seq.{length-take-le}
 use borrow.Author.Tests.{lt-ltb, le-ltb}
-use native.Mathlib.Nat.{mul-le-mul}
+use native.Mathlib.Nat.{mul-le-mul, mul-le-mul-right}
 use Rattle.hashing.specs.Geometry.{pageCount, highest}
 use Rattle.hashing.proofs.Bounds.{limits, growth-within, spread}
 use Rattle.placement.specs.File.{File}
 use Rattle.starfile.specs.Answers.{After, lent, dueSaid}
 use Rattle.starfile.specs.Lent.{Admitted}
 use Rattle.starfile.specs.Calls.{unlent, dueOf, fileFits}
+use Rattle.starfile.specs.Used.{Reaches}
 use Rattle.starfile.specs.Due.{stars, pagesInUse, exceeds, isDue}
 use Rattle.starfile.proofs.Refusals.{turned-away, refusal-is, none-is, admitted, items-most}
 use Rattle.starfile.proofs.Tallies.{stars-most, blank-stars}
-use Rattle.starfile.proofs.InUse.{in-use-is, in-use-most}
+use Rattle.starfile.proofs.InUse.{in-use-reached, in-use-most}
 use denote.Ref.{now}
 use borrow.Author.Needs.{needs}
 use Rattle.starfile.proofs.counting.due.Statement.{statement}
@@ -62,66 +63,88 @@ highest-most c =
     let least : 1 ≤ pageCount (start c .args .parameters) (start c .args .growth) = spread _ _ (limits _ (v .signing .valid)) w .pages-low in
     omega (arith, w .pages-fit)
 
--- the stars, and the pages in use that are compared with them
-count-is : (c : tie.After-occupied) → c .occupied .result ≡ stars (now (start (c .before .before .before) .args .numbers))
-count-is c = c .occupied .ensures ∙ sym (blank-stars _ _ (c .before .before .used .ensures .blank))
+-- the addressed items are some of all
+split-most : (c : tie.After-struct-known) → (c .before .highest-address .result + 1) * start (c .before .before) .args .parameters .places ≤ length (now (start (c .before .before) .args .numbers))
+split-most c =
+    let within : (c .before .highest-address .result + 1) * start (c .before .before) .args .parameters .places ≤ start (c .before .before) .args .parameters .pages * start (c .before .before) .args .parameters .places =
+    mul-le-mul-right _ (omega (arith, c .before .highest-address .ensures, highest-most (c .before .before))) in
+    omega (arith, lent-well (c .before .before) .sized .ofNumbers)
 
-abbrev sought : tie.After-in-use → tie.After-used
-sought c = c .before .before .before .before
+highest-address-requires : tie.Need-highest-address-requires
+highest-address-requires c κs = (lent-well c .homing .signing .valid, lent-well c .homing .growth)
+
+cast-split : tie.Need-cast-split
+cast-split c = search needs
+
+add-split : tie.Need-add-split
+add-split c = search needs
+
+cast-split-2 : tie.Need-cast-split-2
+cast-split-2 c = search needs
+
+mul-split : tie.Need-mul-split
+mul-split c = omega (arith, split-most c, few (c .before .before))
+
+end-of-use-requires : tie.Need-end-of-use-requires
+end-of-use-requires c κs = (split-most c, few (c .before .before))
+
+-- the stars, and the pages in use that are compared with them
+abbrev told : tie.After-occupied → tie.After-enum-told
+told c = c .before .before .before .before .before
+
+count-is : (c : tie.After-occupied) → c .occupied .result ≡ stars (now (start (told c) .args .numbers))
+count-is c = c .occupied .ensures ∙ sym (blank-stars _ _ (c .before .before .end-of-use .ensures .blank))
 
 abbrev begun : tie.After-in-use → tie.Start
-begun c = start (sought c .before)
+begun c = start (told (c .before))
+
+reached : (c : tie.After-in-use) → Reaches (now (begun c .args .numbers)) ((highest (begun c .args .parameters) (begun c .args .growth) + 1) * begun c .args .parameters .places) (c .before .before .before .end-of-use .result)
+reached c = rw (c .before .before .before .before .before .highest-address .ensures) at (c .before .before .before .end-of-use .ensures)
 
 pages-are : (c : tie.After-in-use) → c .in-use .result ≡ pagesInUse (begun c .args .parameters) (begun c .args .growth) (now (begun c .args .numbers))
 pages-are c =
     let p = begun c .args .parameters in
     c .in-use .ensures
-    ∙ (ap (λ (n : ℕ). max (n + 1) ((sought c .used .result + p .places - 1) / p .places)) (c .before .highest-address .ensures)
+    ∙ (ap (λ (n : ℕ). max (n + 1) ((c .before .before .before .end-of-use .result + p .places - 1) / p .places)) (c .before .before .before .before .before .highest-address .ensures)
     ∙ sym
-    (in-use-is p (begun c .args .growth) (now (begun c .args .numbers)) _
-    (limits _ (lent-well (sought c .before) .homing .signing .valid) .places-least)
-    (lent-well (sought c .before) .sized .ofNumbers)
-    (sought c .used .ensures)))
+    (in-use-reached p (begun c .args .growth) (now (begun c .args .numbers)) _
+    (limits _ (lent-well (told (c .before)) .homing .signing .valid) .places-least)
+    (lent-well (told (c .before)) .sized .ofNumbers)
+    (reached c)))
 
 pages-most : (c : tie.After-in-use) → c .in-use .result ≤ 1024
 pages-most c =
     omega (
       arith,
       pages-are c,
-      in-use-most _ _ (now (begun c .args .numbers)) (highest-most (sought c .before)),
-      limits _ (lent-well (sought c .before) .homing .signing .valid) .pages-most,
+      in-use-most _ _ (now (begun c .args .numbers)) (highest-most (told (c .before))),
+      limits _ (lent-well (told (c .before)) .homing .signing .valid) .pages-most,
     )
 
-used-requires : tie.Need-used-requires
-used-requires c κs = few c
-
 slice-aggregate-occupied : tie.Need-slice-aggregate-occupied
-slice-aggregate-occupied c = sym (length-take-le _ _ (c .before .used .ensures .blank .within))
+slice-aggregate-occupied c = sym (length-take-le _ _ (c .before .end-of-use .ensures .blank .within))
 
 occupied-requires : tie.Need-occupied-requires
-occupied-requires c κs = rw (length-take-le _ _ (c .before .used .ensures .blank .within)) (omega (arith, few (c .before .before), c .before .used .ensures .blank .within))
-
-highest-address-requires : tie.Need-highest-address-requires
-highest-address-requires c κs = (lent-well (c .before .before .before) .homing .signing .valid, lent-well (c .before .before .before) .homing .growth)
+occupied-requires c κs = rw (length-take-le _ _ (c .before .end-of-use .ensures .blank .within)) (omega (arith, few (c .before .before .before .before), c .before .end-of-use .ensures .blank .within))
 
 in-use-requires : tie.Need-in-use-requires
 in-use-requires c κs =
-    let l = limits _ (lent-well (c .before .before .before .before) .homing .signing .valid) in (
+    let l = limits _ (lent-well (told c) .homing .signing .valid) in (
       l .places-least,
       l .places-most,
-      omega (arith, c .highest-address .ensures, highest-most (c .before .before .before .before), l .pages-most),
-      omega (arith, few (c .before .before .before .before), c .before .before .before .used .ensures .blank .within),
+      omega (arith, c .before .before .before .before .highest-address .ensures, highest-most (told c), l .pages-most),
+      omega (arith, few (told c), c .before .before .end-of-use .ensures .blank .within),
     )
 
 mul-room : tie.Need-mul-room
 mul-room c =
-    let l = limits _ (lent-well (sought (c .before) .before) .homing .signing .valid) in
+    let l = limits _ (lent-well (told (c .before .before)) .homing .signing .valid) in
     let m : begun (c .before) .args .parameters .load * begun (c .before) .args .parameters .places ≤ 99 * 32 = mul-le-mul (l .load-most) (l .places-most) in
     omega arith
 
 mul-room-2 : tie.Need-mul-room-2
 mul-room-2 c =
-    let l = limits _ (lent-well (sought (c .before) .before) .homing .signing .valid) in
+    let l = limits _ (lent-well (told (c .before .before)) .homing .signing .valid) in
     let m : begun (c .before) .args .parameters .load * begun (c .before) .args .parameters .places * c .before .in-use .result ≤ 99 * 32 * 1024 = mul-le-mul (mul-le-mul (l .load-most) (l .places-most)) (pages-most (c .before)) in
     omega arith
 
@@ -129,24 +152,24 @@ mul-if1 : tie.Need-mul-if1
 mul-if1 c =
     omega (
       arith,
-      few (sought (c .before) .before),
+      few (told (c .before .before)),
       stars-most (now (begun (c .before) .args .numbers)),
-      count-is (c .before .before .before),
+      count-is (c .before .before),
     )
 
 returns-2 : tie.Need-returns-2
 unfolding dueOf dueSaid isDue exceeds
 returns-2 c =
     let made = c .before .before in
-    rw (none (sought made .before))
-    (rw (← count-is (made .before .before), ← pages-are made, lt-ltb _ _ (c .if1 .taken)))
+    rw (none (told (made .before)))
+    (rw (← count-is (made .before), ← pages-are made, lt-ltb _ _ (c .if1 .taken)))
 
 returns-3 : tie.Need-returns-3
 unfolding dueOf dueSaid isDue exceeds
 returns-3 c =
     let made = c .before .before in
-    rw (none (sought made .before))
-    (rw (← count-is (made .before .before), ← pages-are made, le-ltb _ _ (c .if1 .left)))
+    rw (none (told (made .before)))
+    (rw (← count-is (made .before), ← pages-are made, le-ltb _ _ (c .if1 .left)))
 
 pub due-spec : {M : Type 1} → statement M
 due-spec =
@@ -157,10 +180,14 @@ due-spec =
     enum-known-refusal
     returns
     enum-told
-    used-requires
+    highest-address-requires
+    cast-split
+    add-split
+    cast-split-2
+    mul-split
+    end-of-use-requires
     slice-aggregate-occupied
     occupied-requires
-    highest-address-requires
     in-use-requires
     mul-room
     mul-room-2
