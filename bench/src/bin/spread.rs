@@ -52,7 +52,8 @@ fn fill(parameters: [u32; 7], short: usize, kind: Kind, random: &mut Random) -> 
         match library.enter(kind.1(first, i, random)).refusal {
             // A random number may come twice.
             0 | 6 => {}
-            8 => return (grown.unwrap_or(state), library.file(), false),
+            // Before the last growth, both are the file as it is.
+            8 => return (grown.unwrap_or_else(|| library.file()), library.file(), false),
             other => panic!("an entry was refused with {other}"),
         }
         if state.addressed() < last && library.due().due {
