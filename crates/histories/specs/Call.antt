@@ -4,9 +4,9 @@ use lib.Dec.{eqb}
 use Rattle.hashing.specs.declared.Parameters.{Parameters}
 use Rattle.hashing.specs.declared.Growth.{Growth}
 use Rattle.placement.specs.File.{File}
-use Rattle.starfile.specs.declared.answers.Answer.{Answer}
-use Rattle.starfile.specs.Answers.{Pool, After}
-use Rattle.starfile.specs.Calls.{lookUpOf, enterOf, changeOf, removeOf, growOf, dueOf, checkOf}
+use Rattle.calls.specs.declared.answers.Answer.{Answer}
+use Rattle.calls.specs.Answers.{Pool, After}
+use Rattle.calls.specs.Calls.{lookUpOf, enterOf, changeOf, removeOf, growOf, dueOf, checkOf}
 use Rattle.histories.specs.Model.{Request, lookUp, enter, change, remove, grow, due, check}
 
 -- "any number, position and pool": look-ups, changes and Dues leave the pool alone

@@ -1,11 +1,11 @@
 // The change of a position.
 ghost use mathlib.Core.Path.{_≡_};
 ghost use Rattle.placement.specs.Lent.{held, before};
-ghost use Rattle.starfile.specs.Answers.{Leaves, unpooled, placed};
-ghost use Rattle.starfile.specs.Calls.{changeOf};
-use crate::answers::Placed;
-use crate::answers::Refusal;
-use crate::lending::Admission;
+ghost use Rattle.calls.specs.Answers.{Leaves, unpooled, placed};
+ghost use Rattle.calls.specs.Calls.{changeOf};
+use calls::answers::Placed;
+use calls::answers::Refusal;
+use calls::answers::Admission;
 use crate::lending::file_fits;
 use crate::lending::guard;
 use crate::naming::find;
