@@ -7,4 +7,5 @@ pub mod Accepting
 pub mod Separators
 pub mod Resending
 pub mod InUse
+pub mod Telling
 pub mod Points

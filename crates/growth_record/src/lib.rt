@@ -5,10 +5,10 @@ ghost use Rattle.calls.specs.Answers.{Leaves, placed};
 ghost use Rattle.calls.specs.Calls.{growOf};
 ghost use Rattle.calls.specs.Lent.{poolBefore, poolAfter};
 ghost use Rattle.growth_record.specs.Record.{keptBy};
-use hashing::Growth;
-use hashing::Parameters;
 use calls::answers::Grown;
 use calls::answers::Placed;
+use hashing::Growth;
+use hashing::Parameters;
 
 // "The pair (e, x) is one record that growth updates for its caller": stored if growth was accepted.
 pub fn grow(

@@ -7,14 +7,14 @@ ghost use Rattle.histories.specs.Call.{step};
 ghost use Rattle.calls.specs.Lent.{poolBefore, poolAfter};
 ghost use Rattle.replaying.specs.Replay.{requestOf};
 ghost use Rattle.replaying.specs.Steps.{Steps, Recorded};
-use hashing::Growth;
-use hashing::Parameters;
-use pages::position::Position;
 use calls::answers::Answer;
 use calls::answers::checked_answer;
 use calls::answers::due_answer;
 use calls::answers::placed_answer;
 use calls::answers::sought_answer;
+use hashing::Growth;
+use hashing::Parameters;
+use pages::position::Position;
 
 // What a call answered, and the growth state after it.
 pub struct Stepped {

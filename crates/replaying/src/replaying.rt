@@ -8,11 +8,11 @@ ghost use Rattle.replaying.specs.Lent.{historyBefore};
 ghost use Rattle.replaying.specs.Replay.{lentHistory, allKinds, evenLengths, evenPool, requestsOf, replayOf, Replays};
 ghost use Rattle.replaying.specs.Steps.{Even, Runs};
 use crate::calling::replay_step;
+use calls::answers::Placed;
+use calls::answers::Refusal;
 use hashing::Growth;
 use hashing::Parameters;
 use pages::position::Position;
-use calls::answers::Placed;
-use calls::answers::Refusal;
 
 pub enum Replayed {
     // with the growth state after the last call

@@ -4,11 +4,11 @@ ghost use lib.ListN.{length, replicate};
 ghost use Rattle.placement.specs.Lent.{before, after};
 ghost use Rattle.calls.specs.Answers.{Leaves, unpooled, placed};
 ghost use Rattle.calls.specs.Calls.{makeOf};
-use calls::answers::Grown;
-use calls::answers::Placed;
-use calls::answers::Admission;
 use crate::lending::file_fits;
 use crate::lending::guard;
+use calls::answers::Admission;
+use calls::answers::Grown;
+use calls::answers::Placed;
 use hashing::Growth;
 use hashing::Parameters;
 

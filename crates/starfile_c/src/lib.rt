@@ -6,12 +6,12 @@ ghost use Rattle.calls.specs.Answers.{unpooled};
 ghost use Rattle.calls.specs.Calls.{lookUpOf, enterOf, removeOf};
 ghost use Rattle.calls.specs.Lent.{poolBefore, poolAfter};
 ghost use Rattle.starfile_c.specs.Reply.{Replies, replyOf, parametersOf, growthOf, positionOf};
-use hashing::Growth;
-use hashing::Parameters;
-use pages::position::Position;
 use calls::answers::Answer;
 use calls::answers::placed_answer;
 use calls::answers::sought_answer;
+use hashing::Growth;
+use hashing::Parameters;
+use pages::position::Position;
 
 // Document 01's refusal number, 0 if accepted, and its values; a value that a call does not name is 0 or false.
 #[repr(C)]

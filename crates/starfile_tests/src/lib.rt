@@ -1,11 +1,11 @@
 // The eight calls as exported functions, and two of hashing's, for the Rust tests alone. C programs have the three of starfile_c.
-use pages::position::Position;
 use calls::answers::Answer;
 use calls::answers::Grown;
 use calls::answers::checked_answer;
 use calls::answers::due_answer;
 use calls::answers::placed_answer;
 use calls::answers::sought_answer;
+use pages::position::Position;
 
 #[repr(C)]
 pub struct Parameters {
