@@ -17,7 +17,7 @@ pub record Call : Type 0 where
 abbrev pub callOf : Pool → Request → Call
 callOf pool r = record { request = r; pool = pool }
 
--- "Each call has that file's parameters, .. and the file buffers and (e, x) as the call before left them": the calls of starfile
+-- "Each call has that file's parameters, .. and the file buffers and (e, x) as the call before left them", by the definitions of crate calls
 unfoldable pub step : Parameters → Growth → File → Pool → Request → After
 step p g f pool (lookUp k) = lookUpOf p g f pool k
 step p g f pool (enter k q) = enterOf p g f pool k q

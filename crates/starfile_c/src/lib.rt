@@ -1,5 +1,5 @@
 // The look-up, the entry and the removal for C programs, on numbers and slices. include/starfile.h declares them.
-// Each refuses every bad length and value itself. A contract gives the reply and every lent item at exit by starfile's definitions.
+// Each refuses every bad length and value itself. A contract gives the reply and every lent item at exit by the definitions of crate calls.
 ghost use mathlib.Core.Path.{_≡_};
 ghost use Rattle.placement.specs.Lent.{before, after};
 ghost use Rattle.calls.specs.Answers.{unpooled};

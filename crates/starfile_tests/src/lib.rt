@@ -24,7 +24,7 @@ pub struct Growth {
     pub expanded: u32,
 }
 
-// The numbers and values of starfile's specs/Answers.antt, with the growth state after the call.
+// The numbers and values of calls' specs/Answers.antt, with the growth state after the call.
 #[repr(C)]
 pub struct Outcome {
     pub refusal: u32,
