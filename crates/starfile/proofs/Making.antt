@@ -13,7 +13,8 @@ use Rattle.hashing.proofs.Laws.{start-valid}
 use Rattle.placement.specs.File.{File}
 use Rattle.placement.specs.Hash.{lent}
 use Rattle.calls.specs.declared.answers.Refusal.{Refusal}
-use Rattle.calls.specs.Answers.{Answer, After, Pool, Leaves, accepted, numberOf, refusedBy}
+use Rattle.calls.specs.declared.answers.Answer.{Answer}
+use Rattle.calls.specs.Answers.{After, Pool, Leaves, accepted, numberOf, refusedBy}
 use Rattle.calls.specs.Calls.{unless, orElse, unlent, makeOf, fileFits, emptyFile}
 use Rattle.calls.proofs.Refusals.{leaves, sized, turned-away}
 

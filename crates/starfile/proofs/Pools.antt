@@ -18,7 +18,8 @@ use Rattle.placement.specs.Ready.{Ready, multipliersOf}
 use Rattle.placement.proofs.Prepared.{ready}
 use Rattle.entering.specs.Entry.{Unheld}
 use Rattle.reach.specs.Reach.{pagesTo, entryEnd, removalEnd, entersWithin, firstUnsound, isEmpty}
-use Rattle.calls.specs.Answers.{Answer, After, Pool, Leaves, Stores, pooled, cleared, zeros}
+use Rattle.calls.specs.declared.answers.Answer.{Answer}
+use Rattle.calls.specs.Answers.{After, Pool, Leaves, Stores, pooled, cleared, zeros}
 use Rattle.calls.specs.Lent.{Admitted}
 use Rattle.calls.specs.Calls.{hash, named, readable, holds, enterOn, enterTo, removeOn, removeTo, growOn, growTo, allStars}
 
