@@ -1,17 +1,17 @@
 -- The search of the first spot at which two files differ: what is known at a place of a page.
 use mathlib.Core.Path.{_≡_, refl, ap}
 use mathlib.Core.Bool.{Bool, true, false, not, _||_}
-use Prim.Native.Nat.{ℕ, suc, _+_, _*_, _/_, _%_, _≤_, _<_}
+use Prim.Native.Nat.{ℕ, suc, _+_, _*_, _≤_, _<_}
 use native.Mathlib.Nat.{zero-mul, zero-add, add-suc, suc-mul, mul-le-mul-right}
 use native.Mathlib.Numerals.{add-one}
 use native.Mathlib.Omega.{arith}
-use lib.Arith.{digits-div, digits-mod}
 use lib.Dec.{eqb}
 use lib.ListN.{getD}
 use borrow.Author.Tests.{lt-ltb, le-ltb, eq-eqb, ne-eqb}
 use Rattle.placement.specs.File.{File}
 use Rattle.reach.proofs.Search.{Sought, sought-none, sought-next, sought-found, sought-all}
-use Rattle.comparing.specs.Spots.{differ, differAt, spotIn}
+use Rattle.calls.specs.Spots.{differ, differAt, spotIn}
+use Rattle.calls.proofs.Spots.{spot-page, spot-place, spot-within}
 
 or-true : (t : Bool) → t || true ≡ true
 or-true true = refl
@@ -48,19 +48,6 @@ module _ (places : ℕ) (f l : File) (page place : ℕ) where
   pub separator-same : places ≤ place → getD (f .separators) page 0 ≡ getD (l .separators) page 0 → differ places f l page place ≡ false
   unfolding differ
   separator-same h e = rw (le-ltb place places h, eq-eqb (getD (f .separators) page 0) (getD (l .separators) page 0) e)
-
--- a spot's page and place
-pub spot-page : (places page place : ℕ) → place ≤ places → (page * suc places + place) / suc places ≡ page
-spot-page places page place h = digits-div page (omega arith)
-
-pub spot-place : (places page place : ℕ) → place ≤ places → (page * suc places + place) % suc places ≡ place
-spot-place places page place h = digits-mod page (omega arith)
-
-pub item-within : (count places page place : ℕ) → page < count → place < places → page * places + place < count * places
-item-within count places page place h k = omega (arith, suc-mul page places, mul-le-mul-right places h)
-
-pub spot-within : (count places page place : ℕ) → page < count → place ≤ places → page * suc places + place < count * suc places
-spot-within count places page place h k = omega (arith, suc-mul page (suc places), mul-le-mul-right (suc places) h)
 
 -- nothing differs before this spot
 pub record Compared (count places : ℕ) (f l : File) (page place : ℕ) : Type 0 where

@@ -1,5 +1,3 @@
 pub mod Differences
-pub mod Alike
 pub mod Planned
-pub mod Accepting
 pub mod Verdicts

@@ -1,14 +1,14 @@
 -- The plan over all pages of a sound file, fetched: the file that the rule over the whole file gives.
 use mathlib.Core.Path.{_≡_, refl, sym, ap, _∙_}
 use mathlib.Core.Bool.{Bool, true, false, not, cond}
-use mathlib.Core.List.{List, [], _∷_, map, append-nil}
+use mathlib.Core.List.{List, [], _∷_, map}
 use Prim.Native.Nat.{ℕ, suc, _+_, _-_, _*_, _/_, _%_, _^_, _≤_, _<_}
 use native.Mathlib.Nat.{zero-add, zero-mul, mod-lt, div-add-mod', div-lt-iff-lt-mul, mul-le-mul}
 use native.Mathlib.Omega.{arith}
 use lib.Dec.{eqb, ltb}
 use lib.ListN.{length, take, drop, getD, length-map}
-use lib.Seq.{paste, take-all, drop-length, length-take-le, getD-take}
-use borrow.Author.Tests.{lt-ltb, ne-eqb, not-false}
+use lib.Seq.{paste, take-all, length-take-le, getD-take}
+use borrow.Author.Tests.{lt-ltb, ne-eqb}
 use Rattle.hashing.specs.declared.Parameters.{Parameters}
 use Rattle.hashing.specs.declared.Growth.{Growth}
 use Rattle.hashing.specs.Generator.{multiplierOf}
@@ -18,7 +18,7 @@ use Rattle.hashing.proofs.Laws.{home-pages}
 use Rattle.pages.specs.Position.{validWord}
 use Rattle.placement.specs.Rule.{Star, pages, without}
 use Rattle.placement.specs.File.{File, Sized, greatest, gathered, replaced, written}
-use Rattle.placement.specs.Hash.{hashOf, soundAt, homeIn, homesOf, lent}
+use Rattle.placement.specs.Hash.{hashOf, homeIn, homesOf, lent}
 use Rattle.placement.proofs.Filters.{filter-all-on}
 use Rattle.placement.proofs.Sound.{gathered-proper}
 use Rattle.placement.proofs.Tested.{item-on, real-facts}
@@ -32,26 +32,13 @@ use Rattle.planning.proofs.Applying.{applied}
 use Rattle.planning.proofs.Sourcing.{itemHome}
 use Rattle.planning.proofs.Placed.{Gatherable, probes-real, homes-real, stretch-sourced, placed, layout, applied-layout}
 use Rattle.reach.specs.Reach.{firstUnsound}
-use Rattle.reach.proofs.Search.{such}
-use Rattle.comparing.specs.Spots.{spotIn, firstSpot, ruled}
-use Rattle.comparing.proofs.Alike.{Alike, spot-alike}
-
--- no page is unsound
-pub all-sound : (p : Parameters) (g : Growth) (f : File) → firstUnsound p g f 0 (p .pages) ≡ p .pages → (q : ℕ) → q < p .pages → soundAt p g f q ≡ true
-unfolding firstUnsound
-all-sound p g f e q h =
-    not-false (soundAt p g f q)
-    (such (λ (r : ℕ). not (soundAt p g f r)) 0 (p .pages) .before q (omega arith) (rw e h))
+use Rattle.calls.specs.Spots.{spotIn, firstSpot, ruled}
+use Rattle.calls.proofs.Alike.{Alike, spot-alike}
+use Rattle.calls.proofs.Ruled.{all-sound, written-whole}
 
 -- a list of all pages' items is their stretch
 pub whole : (b n : ℕ) (l : List ℕ) → length l ≡ n * b → stretch b 0 n l ≡ l
 whole b n l e = rw (zero-mul b) (take-all (n * b) l (omega (arith, e)))
-
-pub written-whole : (s d : List ℕ) → length s ≡ length d → written 0 s d ≡ s
-unfolding written
-written-whole s d e =
-    let all-of : 0 + length s ≡ length d = zero-add (length s) ∙ e in
-    rw (all-of, drop-length d) (append-nil s)
 
 pub pasted-whole : (d s : List ℕ) (n : ℕ) → length d ≡ n → length s ≡ n → paste d 0 s n ≡ s
 pasted-whole d s n ed es =

@@ -13,7 +13,7 @@ use Rattle.reach.specs.Reach.{firstUnsound}
 use Rattle.reach.proofs.Search.{such}
 use Rattle.comparing.specs.declared.checking.Verdict.the-variants.{Clean, Differs, Unsound}
 use Rattle.comparing.specs.Verdicts.{verdictOf}
-use Rattle.comparing.proofs.Differences.{spot-page, spot-place, spot-within}
+use Rattle.calls.proofs.Spots.{spot-page, spot-place, spot-within}
 
 -- the survey of all pages
 pub surveyed : (p : Parameters) (g : Growth) (f : File) (r : ℕ) → r ≡ firstUnsound p g f 0 (p .pages - 0) → firstUnsound p g f 0 (p .pages) ≡ r

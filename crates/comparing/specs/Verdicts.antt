@@ -6,7 +6,7 @@ use Rattle.hashing.specs.declared.Parameters.{Parameters}
 use Rattle.hashing.specs.declared.Growth.{Growth}
 use Rattle.placement.specs.File.{File}
 use Rattle.reach.specs.Reach.{firstUnsound}
-use Rattle.comparing.specs.Spots.{spotOf}
+use Rattle.calls.specs.Spots.{spotOf}
 use Rattle.comparing.specs.declared.checking.Verdict.{Verdict}
 use Rattle.comparing.specs.declared.checking.Verdict.the-variants.{Clean, Differs, Unsound}
 

@@ -6,7 +6,7 @@ ghost use Rattle.placement.specs.Hash.{homesOf};
 ghost use Rattle.placement.specs.Lent.{held, before};
 ghost use Rattle.placement.specs.Ready.{Ready, Pooled};
 ghost use Rattle.reach.specs.Reach.{firstUnsound};
-ghost use Rattle.comparing.specs.Spots.{spotOf};
+ghost use Rattle.calls.specs.Spots.{spotOf};
 ghost use Rattle.comparing.specs.Verdicts.{verdictFor};
 use crate::search::Spot;
 use crate::search::compare;

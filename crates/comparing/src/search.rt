@@ -3,7 +3,7 @@ ghost use mathlib.Core.Path.{_≡_};
 ghost use Prim.Native.Nat.{suc, _+_, _*_, _≤_};
 ghost use lib.ListN.{length};
 ghost use Rattle.placement.specs.Lent.{before};
-ghost use Rattle.comparing.specs.Spots.{spotIn};
+ghost use Rattle.calls.specs.Spots.{spotIn};
 
 // A place of a page; the place past the last one is the page's separator.
 pub struct Spot {

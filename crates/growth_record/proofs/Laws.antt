@@ -11,12 +11,12 @@ use Rattle.hashing.specs.Geometry.{pageCount, highest, grown}
 use Rattle.placement.specs.Rule.{Star, pages, left}
 use Rattle.placement.specs.File.{File, replaced}
 use Rattle.reach.specs.Reach.{firstUnsound, isEmpty}
-use Rattle.starfile.specs.declared.answers.Placed.{Placed}
-use Rattle.starfile.specs.declared.answers.Placed.the-variants.{On, Refused}
-use Rattle.starfile.proofs.Numbers.{numbered}
-use Rattle.starfile.specs.declared.answers.Answer.{Answer}
-use Rattle.starfile.specs.Answers.{After, Pool, accepted, refused, spotted, placed, refusedBy, numberOf, cleared}
-use Rattle.starfile.specs.Calls.{hash, fileFits, poolFits, unlent, guarded, unchanged, allStars, growTo, growOn, growOf}
+use Rattle.calls.specs.declared.answers.Placed.{Placed}
+use Rattle.calls.specs.declared.answers.Placed.the-variants.{On, Refused}
+use Rattle.calls.proofs.Numbers.{numbered}
+use Rattle.calls.specs.declared.answers.Answer.{Answer}
+use Rattle.calls.specs.Answers.{After, Pool, accepted, refused, spotted, placed, refusedBy, numberOf, cleared}
+use Rattle.calls.specs.Calls.{hash, fileFits, poolFits, unlent, guarded, unchanged, allStars, growTo, growOn, growOf}
 use Rattle.growth_record.specs.Record.{keptBy}
 
 -- refused, a call left the growth state g

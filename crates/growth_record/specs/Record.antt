@@ -1,8 +1,8 @@
 -- The growth state that a caller keeps after growth.
 use Rattle.hashing.specs.declared.Growth.{Growth}
-use Rattle.starfile.specs.declared.answers.Grown.{Grown}
-use Rattle.starfile.specs.declared.answers.Placed.{Placed}
-use Rattle.starfile.specs.declared.answers.Placed.the-variants.{On, Refused}
+use Rattle.calls.specs.declared.answers.Grown.{Grown}
+use Rattle.calls.specs.declared.answers.Placed.{Placed}
+use Rattle.calls.specs.declared.answers.Placed.the-variants.{On, Refused}
 
 -- "File buffers and (e, x) keep their contents" after a refusal
 abbrev pub keptBy : Placed → Growth → Growth → Growth

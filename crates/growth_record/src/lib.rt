@@ -1,14 +1,14 @@
 // Growth for a caller who lends the growth record.
 ghost use mathlib.Core.Path.{_≡_};
 ghost use Rattle.placement.specs.Lent.{before, after};
-ghost use Rattle.starfile.specs.Answers.{Leaves, placed};
-ghost use Rattle.starfile.specs.Calls.{growOf};
-ghost use Rattle.starfile.specs.Lent.{poolBefore, poolAfter};
+ghost use Rattle.calls.specs.Answers.{Leaves, placed};
+ghost use Rattle.calls.specs.Calls.{growOf};
+ghost use Rattle.calls.specs.Lent.{poolBefore, poolAfter};
 ghost use Rattle.growth_record.specs.Record.{keptBy};
+use calls::answers::Grown;
+use calls::answers::Placed;
 use hashing::Growth;
 use hashing::Parameters;
-use starfile::answers::Grown;
-use starfile::answers::Placed;
 
 // "The pair (e, x) is one record that growth updates for its caller": stored if growth was accepted.
 pub fn grow(

@@ -13,9 +13,9 @@ use Rattle.pages.proofs.Parts.{part-item}
 use Rattle.pages.proofs.Places.{held-there}
 use Rattle.placement.specs.File.{File, starsAt, sound}
 use Rattle.placement.specs.Hash.{hashOf, soundAt, namedPage}
-use Rattle.starfile.specs.declared.answers.Answer.{Answer}
-use Rattle.starfile.specs.Answers.{Pool, After, acceptedAt, refused, foundAt}
-use Rattle.starfile.specs.Calls.{named, fileFits, unless, orElse, unlent, unchanged, guarded, readable, holds, itemOf, lookedUp, lookUpOf}
+use Rattle.calls.specs.declared.answers.Answer.{Answer}
+use Rattle.calls.specs.Answers.{Pool, After, acceptedAt, refused, foundAt}
+use Rattle.calls.specs.Calls.{named, fileFits, unless, orElse, unlent, unchanged, guarded, readable, holds, itemOf, lookedUp, lookUpOf}
 use Rattle.histories.specs.Alike.{Alike, LookUpsAlike}
 
 -- an item of a page, by the page's items

@@ -15,8 +15,8 @@ use Rattle.placement.specs.File.{File, laid}
 use Rattle.placement.specs.Hash.{hashOf, namedPage}
 use Rattle.placement.proofs.Mapping.{left-map}
 use Rattle.placement.proofs.Change.{reworded-keeps, changed-laid}
-use Rattle.starfile.specs.Answers.{Pool, spotted, acceptedAt, refused, refusedAt}
-use Rattle.starfile.specs.Calls.{unless, orElse, guarded, unchanged, holds, itemOf, changeOn, changeOf}
+use Rattle.calls.specs.Answers.{Pool, spotted, acceptedAt, refused, refusedAt}
+use Rattle.calls.specs.Calls.{unless, orElse, guarded, unchanged, holds, itemOf, changeOn, changeOf}
 use Rattle.histories.specs.Model.{Model, change, updated, setPosition, heldPosition, modelFile, pageFor, placeOn}
 use Rattle.histories.proofs.Entries.{ValidEntry, ordered-set}
 use Rattle.histories.proofs.Stars.{stars-change}

@@ -16,10 +16,10 @@ use Rattle.placement.specs.Hash.{hashOf}
 use Rattle.placement.proofs.Composition.{length-pages}
 use Rattle.placement.proofs.Writing.{Roomy}
 use Rattle.placement.proofs.Files.{gathered-laid, replaced-of, roomy-pages}
-use Rattle.starfile.specs.Answers.{Pool, spotted, refused, cleared, accepted}
+use Rattle.calls.specs.Answers.{Pool, spotted, refused, cleared, accepted}
 use Rattle.reach.specs.Reach.{firstUnsound}
-use Rattle.comparing.specs.Spots.{firstSpot, ruled}
-use Rattle.starfile.specs.Calls.{hash, poolFits, unless, guarded, unchanged, allStars, checkedAt, checkOf}
+use Rattle.calls.specs.Spots.{firstSpot, ruled}
+use Rattle.calls.specs.Calls.{hash, poolFits, unless, guarded, unchanged, allStars, checkedAt, checkOf}
 use Rattle.histories.specs.Model.{Model, check, updated, modelFile}
 use Rattle.histories.proofs.Fitting.{Fitting, hashFor, starsFor, rising, proper}
 use Rattle.histories.proofs.Guards.{lent-pool}

@@ -4,9 +4,9 @@ use Prim.Native.Nat.{ℕ}
 use native.Mathlib.Omega.{arith}
 use borrow.Author.Tests.{eq-eqb, ne-eqb}
 use Rattle.hashing.specs.declared.Parameters.{Parameters}
-use Rattle.starfile.specs.declared.answers.Answer.{Answer}
-use Rattle.starfile.specs.Answers.{Pool, After}
-use Rattle.starfile.specs.Calls.{unchanged}
+use Rattle.calls.specs.declared.answers.Answer.{Answer}
+use Rattle.calls.specs.Answers.{Pool, After}
+use Rattle.calls.specs.Calls.{unchanged}
 use Rattle.histories.specs.Model.{Model, Request, lookUp, updated, fed, modelFile, answered}
 use Rattle.histories.specs.Call.{isAccepted}
 use Rattle.histories.proofs.Fitting.{Fitting}

@@ -1,9 +1,9 @@
 -- Dues.
 use mathlib.Core.Path.{refl}
 use Rattle.hashing.specs.declared.Parameters.{Parameters}
-use Rattle.starfile.specs.Answers.{Pool, counted}
-use Rattle.starfile.specs.Calls.{unchanged, dueOf}
-use Rattle.starfile.specs.Due.{stars, isDue}
+use Rattle.calls.specs.Answers.{Pool, counted}
+use Rattle.calls.specs.Calls.{unchanged, dueOf}
+use Rattle.calls.specs.Due.{stars, isDue}
 use Rattle.histories.specs.Model.{Model, due, updated, modelFile}
 use Rattle.histories.proofs.Fitting.{Fitting}
 use Rattle.histories.proofs.Guards.{lent}

@@ -15,8 +15,8 @@ use Rattle.pages.specs.Position.{validWord}
 use Rattle.placement.specs.File.{File, Clean, laid}
 use Rattle.placement.specs.Hash.{hashOf}
 use Rattle.placement.proofs.Sound.{clean-laid}
-use Rattle.starfile.specs.Answers.{Pool, After, accepted, refused, cleared}
-use Rattle.starfile.specs.Calls.{hash, fileFits, poolFits, unless, orElse, unlent, guarded, unchanged, emptyFile, growTo, growOf, checkOf}
+use Rattle.calls.specs.Answers.{Pool, After, accepted, refused, cleared}
+use Rattle.calls.specs.Calls.{hash, fileFits, poolFits, unless, orElse, unlent, guarded, unchanged, emptyFile, growTo, growOf, checkOf}
 use Rattle.histories.specs.Model.{Model, entryStars, modelFile}
 use Rattle.histories.proofs.Fitting.{Fitting, bounded, rising-from, proper, lengths}
 use Rattle.histories.proofs.Guards.{lent-pool}

@@ -21,9 +21,9 @@ use Rattle.placement.specs.Hash.{hashOf, namedPage}
 use Rattle.placement.proofs.Entry.{entered, entry-refused}
 use Rattle.reach.specs.Reach.{isEmpty, entering, entersWithin, entryEnd, storedTop, pagesTo, holding}
 use Rattle.reach.proofs.Search.{Such, such}
-use Rattle.starfile.specs.Answers.{Pool, spotted, acceptedAt, refused, refusedAt, cleared}
-use Rattle.starfile.specs.Calls.{poolFits, unless, orElse, guarded, unchanged, holds, itemOf, enterTo, enteredAgain, enterOn, enterOf}
-use Rattle.starfile.proofs.Resending.{HeldEntry, resend-leaves, other-refused}
+use Rattle.calls.specs.Answers.{Pool, spotted, acceptedAt, refused, refusedAt, cleared}
+use Rattle.calls.specs.Calls.{poolFits, unless, orElse, guarded, unchanged, holds, itemOf, enterTo, enteredAgain, enterOn, enterOf}
+use Rattle.calls.proofs.Resending.{HeldEntry, resend-leaves, other-refused}
 use Rattle.histories.specs.Model.{Model, enter, updated, setPosition, heldPosition, entryStars, modelFile, pageFor, placeOn}
 use Rattle.histories.proofs.Entries.{ValidEntry, ordered-set, position-valid, set-same}
 use Rattle.histories.proofs.Stars.{starOf, stars-enter}

@@ -9,9 +9,9 @@ use Rattle.pages.specs.Position.{validNumber, validPosition, validWord}
 use Rattle.placement.specs.File.{File, Clean}
 use Rattle.placement.specs.Hash.{hashOf, namedPage}
 use Rattle.placement.proofs.Sound.{clean-laid}
-use Rattle.starfile.specs.declared.answers.Answer.{Answer}
-use Rattle.starfile.specs.Answers.{Pool, After, spotted, acceptedAt, refusedAt, cleared}
-use Rattle.starfile.specs.Calls.{poolFits, unchanged, lookUpOf, enterOf, checkOf}
+use Rattle.calls.specs.declared.answers.Answer.{Answer}
+use Rattle.calls.specs.Answers.{Pool, After, spotted, acceptedAt, refusedAt, cleared}
+use Rattle.calls.specs.Calls.{poolFits, unchanged, lookUpOf, enterOf, checkOf}
 use Rattle.histories.specs.Model.{Model, lookUp, enter, change, remove, grow, due, check, fed, heldPosition, modelFile, pageFor, placeOn, answered}
 use Rattle.histories.specs.Call.{Call, callOf, step, isAccepted}
 use Rattle.histories.specs.Run.{HistoryState, Event, initial, outcome, next, end}

@@ -21,7 +21,7 @@ use Rattle.placement.proofs.Order.{Rising, rising-less}
 use Rattle.placement.proofs.Pages.{Proper}
 use Rattle.placement.proofs.Files.{sized-laid}
 use Rattle.placement.proofs.Sound.{sound-laid, facts-sound}
-use Rattle.starfile.specs.Calls.{hash, fileFits, readable}
+use Rattle.calls.specs.Calls.{hash, fileFits, readable}
 use Rattle.histories.specs.Model.{Model, entryStars, modelFile, pageFor}
 use Rattle.histories.proofs.Entries.{Ordered}
 use Rattle.histories.proofs.Stars.{stars-rise, stars-valid}

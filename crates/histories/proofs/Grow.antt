@@ -14,8 +14,8 @@ use Rattle.hashing.proofs.Laws.{grown-valid}
 use Rattle.placement.specs.Rule.{Star, pages, left}
 use Rattle.placement.specs.File.{replaced}
 use Rattle.reach.specs.Reach.{isEmpty}
-use Rattle.starfile.specs.Answers.{Pool, spotted, accepted, refused, cleared}
-use Rattle.starfile.specs.Calls.{hash, poolFits, unless, guarded, unchanged, growTo, growOf}
+use Rattle.calls.specs.Answers.{Pool, spotted, accepted, refused, cleared}
+use Rattle.calls.specs.Calls.{hash, poolFits, unless, guarded, unchanged, growTo, growOf}
 use Rattle.histories.specs.Model.{Model, grow, updated, modelFile}
 use Rattle.histories.proofs.Fitting.{Fitting, starsFor}
 use Rattle.histories.proofs.Guards.{lent-pool}

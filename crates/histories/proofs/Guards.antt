@@ -2,7 +2,7 @@
 use mathlib.Core.Path.{_≡_}
 use mathlib.Core.Bool.{Bool, _&&_}
 use Rattle.hashing.specs.declared.Parameters.{Parameters}
-use Rattle.starfile.specs.Calls.{fileFits, unless, unlent}
+use Rattle.calls.specs.Calls.{fileFits, unless, unlent}
 use Rattle.histories.specs.Model.{Model, modelFile}
 use Rattle.histories.proofs.Fitting.{Fitting, lengths}
 

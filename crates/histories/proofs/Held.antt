@@ -11,7 +11,7 @@ use Rattle.pages.specs.Page.{part, placeOf, heldAt}
 use Rattle.pages.proofs.Parts.{part-item}
 use Rattle.placement.specs.Hash.{hashOf}
 use Rattle.placement.proofs.Search.{found, missing}
-use Rattle.starfile.specs.Calls.{holds, itemOf}
+use Rattle.calls.specs.Calls.{holds, itemOf}
 use Rattle.histories.specs.Model.{Model, heldPosition, modelFile, pageFor}
 use Rattle.histories.proofs.Stars.{starOf, held-star, no-star}
 use Rattle.histories.proofs.Alike.{place-below}

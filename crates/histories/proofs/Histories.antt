@@ -5,7 +5,7 @@ use mathlib.Core.Logic.{⊎-elim}
 use Prim.Native.Nat.{ℕ}
 use Rattle.hashing.specs.declared.Parameters.{Parameters}
 use Rattle.placement.specs.File.{File}
-use Rattle.starfile.specs.Answers.{Pool}
+use Rattle.calls.specs.Answers.{Pool}
 use Rattle.histories.specs.Model.{Model, Request, lookUp, modelFile, answered}
 use Rattle.histories.specs.Call.{Call, step}
 use Rattle.histories.specs.Run.{HistoryState, Event, outcome, next, events, end}

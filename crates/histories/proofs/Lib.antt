@@ -21,8 +21,3 @@ pub mod Enter
 pub mod Change
 pub mod Every
 pub mod Demand3
-pub mod Signed
-pub mod Known
-pub mod Stepping
-pub mod Running
-pub mod Replays

@@ -10,8 +10,8 @@ use Rattle.pages.specs.declared.position.Position.{Position}
 use Rattle.pages.specs.Position.{validNumber, unpacked}
 use Rattle.pages.proofs.Words.{unpack-pack}
 use Rattle.placement.specs.Hash.{namedPage}
-use Rattle.starfile.specs.Answers.{Pool, spotted, acceptedAt, refused, foundAt}
-use Rattle.starfile.specs.Calls.{unless, guarded, unchanged, holds, itemOf, lookedUp, lookUpOf}
+use Rattle.calls.specs.Answers.{Pool, spotted, acceptedAt, refused, foundAt}
+use Rattle.calls.specs.Calls.{unless, guarded, unchanged, holds, itemOf, lookedUp, lookUpOf}
 use Rattle.histories.specs.Model.{Model, lookUp, updated, heldPosition, modelFile, pageFor, placeOn, answerWith, answered}
 use Rattle.histories.proofs.Entries.{position-valid}
 use Rattle.histories.proofs.Fitting.{Fitting, in-range, named-readable}

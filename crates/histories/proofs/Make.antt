@@ -14,8 +14,8 @@ use Rattle.placement.specs.Rule.{Star, Hash, Contents, filter, passing, content
 use Rattle.placement.specs.File.{File, padded, column, laid, fileOf}
 use Rattle.placement.specs.Hash.{hashOf}
 use Rattle.placement.proofs.Separator.{Bounded, probing-top}
-use Rattle.starfile.specs.Answers.{Pool, spotted}
-use Rattle.starfile.specs.Calls.{hash, fileFits, unless, orElse, guarded, emptyFile, makeOf}
+use Rattle.calls.specs.Answers.{Pool, spotted}
+use Rattle.calls.specs.Calls.{hash, fileFits, unless, orElse, guarded, emptyFile, makeOf}
 use Rattle.histories.specs.Model.{emptyModel, entryStars, modelFile}
 use Rattle.histories.specs.Run.{initial}
 use Rattle.histories.proofs.Fitting.{bounded}

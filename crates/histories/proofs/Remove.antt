@@ -16,8 +16,8 @@ use Rattle.placement.specs.File.{gathered, replaced, laid}
 use Rattle.placement.specs.Hash.{hashOf, namedPage}
 use Rattle.placement.proofs.Entry.{removed}
 use Rattle.reach.specs.Reach.{removalEnd, storedTop, pagesTo}
-use Rattle.starfile.specs.Answers.{Pool, spotted, refused, refusedAt, cleared}
-use Rattle.starfile.specs.Calls.{poolFits, unless, orElse, guarded, unchanged, holds, removeTo, removeOn, removeOf}
+use Rattle.calls.specs.Answers.{Pool, spotted, refused, refusedAt, cleared}
+use Rattle.calls.specs.Calls.{poolFits, unless, orElse, guarded, unchanged, holds, removeTo, removeOn, removeOf}
 use Rattle.histories.specs.Model.{Model, remove, updated, heldPosition, modelFile, pageFor, placeOn}
 use Rattle.histories.proofs.Entries.{ordered-strike}
 use Rattle.histories.proofs.Stars.{stars-strike}

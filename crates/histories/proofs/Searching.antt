@@ -13,7 +13,7 @@ use Rattle.placement.specs.File.{File}
 use Rattle.placement.specs.Hash.{soundAt}
 use Rattle.reach.specs.Reach.{firstSuch, firstUnsound}
 use Rattle.reach.proofs.Search.{Such, such}
-use Rattle.comparing.specs.Spots.{differ, firstSpot}
+use Rattle.calls.specs.Spots.{differ, firstSpot}
 use Rattle.histories.specs.Model.{Model, modelFile}
 use Rattle.histories.proofs.Fitting.{Fitting, all-sound}
 

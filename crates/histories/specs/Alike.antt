@@ -6,8 +6,8 @@ use Rattle.hashing.specs.declared.Parameters.{Parameters}
 use Rattle.hashing.specs.declared.Growth.{Growth}
 use Rattle.pages.specs.Page.{part}
 use Rattle.placement.specs.File.{File}
-use Rattle.starfile.specs.Answers.{Pool}
-use Rattle.starfile.specs.Calls.{named, lookUpOf}
+use Rattle.calls.specs.Answers.{Pool}
+use Rattle.calls.specs.Calls.{named, lookUpOf}
 
 -- two files with the same separators, buffer lengths and items of the page that these separators name for k
 pub record Alike (p : Parameters) (g : Growth) (k : ℕ) (f h : File) : Type 0 where

@@ -4,9 +4,9 @@ use lib.Dec.{eqb}
 use Rattle.hashing.specs.declared.Parameters.{Parameters}
 use Rattle.hashing.specs.declared.Growth.{Growth}
 use Rattle.placement.specs.File.{File}
-use Rattle.starfile.specs.declared.answers.Answer.{Answer}
-use Rattle.starfile.specs.Answers.{Pool, After}
-use Rattle.starfile.specs.Calls.{lookUpOf, enterOf, changeOf, removeOf, growOf, dueOf, checkOf}
+use Rattle.calls.specs.declared.answers.Answer.{Answer}
+use Rattle.calls.specs.Answers.{Pool, After}
+use Rattle.calls.specs.Calls.{lookUpOf, enterOf, changeOf, removeOf, growOf, dueOf, checkOf}
 use Rattle.histories.specs.Model.{Request, lookUp, enter, change, remove, grow, due, check}
 
 -- "any number, position and pool": look-ups, changes and Dues leave the pool alone
@@ -17,7 +17,7 @@ pub record Call : Type 0 where
 abbrev pub callOf : Pool → Request → Call
 callOf pool r = record { request = r; pool = pool }
 
--- "Each call has that file's parameters, .. and the file buffers and (e, x) as the call before left them": the calls of starfile
+-- "Each call has that file's parameters, .. and the file buffers and (e, x) as the call before left them", by the definitions of crate calls
 unfoldable pub step : Parameters → Growth → File → Pool → Request → After
 step p g f pool (lookUp k) = lookUpOf p g f pool k
 step p g f pool (enter k q) = enterOf p g f pool k q

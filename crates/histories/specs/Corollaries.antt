@@ -10,8 +10,8 @@ use Rattle.pages.specs.declared.position.Position.{Position}
 use Rattle.pages.specs.Position.{validNumber, validPosition, validWord}
 use Rattle.placement.specs.Rule.{left}
 use Rattle.placement.specs.File.{File, Clean}
-use Rattle.starfile.specs.Answers.{Pool, acceptedAt, refusedAt}
-use Rattle.starfile.specs.Calls.{hash, poolFits, makeOf}
+use Rattle.calls.specs.Answers.{Pool, acceptedAt, refusedAt}
+use Rattle.calls.specs.Calls.{hash, poolFits, makeOf}
 use Rattle.histories.specs.Model.{lookUp, enter, check, setPosition, heldPosition, entryStars, pageFor, placeOn, answered}
 use Rattle.histories.specs.Call.{Call, callOf}
 use Rattle.histories.specs.Run.{HistoryState, Event, initial, outcome, next, events, end}

@@ -5,6 +5,3 @@ pub mod Theorem
 pub mod Corollaries
 pub mod Alike
 pub mod Demand3
-pub mod Replay
-pub mod Lent
-pub mod Steps

@@ -11,9 +11,9 @@ use Rattle.pages.specs.declared.position.Position.{Position}
 use Rattle.pages.specs.Position.{packed}
 use Rattle.placement.specs.Rule.{Star, first, filter}
 use Rattle.placement.specs.File.{File, laid}
-use Rattle.starfile.specs.declared.answers.Answer.{Answer}
-use Rattle.starfile.specs.Answers.{acceptedAt, foundAt}
-use Rattle.starfile.specs.Calls.{hash, placeFor}
+use Rattle.calls.specs.declared.answers.Answer.{Answer}
+use Rattle.calls.specs.Answers.{acceptedAt, foundAt}
+use Rattle.calls.specs.Calls.{hash, placeFor}
 
 pub record Entry : Type 0 where
   pub number : ℕ

@@ -3,9 +3,9 @@ use mathlib.Core.List.{List, [], _∷_}
 use Rattle.hashing.specs.declared.Parameters.{Parameters}
 use Rattle.hashing.specs.declared.Growth.{Growth}
 use Rattle.placement.specs.File.{File}
-use Rattle.starfile.specs.declared.answers.Answer.{Answer}
-use Rattle.starfile.specs.Answers.{Pool, After}
-use Rattle.starfile.specs.Calls.{makeOf}
+use Rattle.calls.specs.declared.answers.Answer.{Answer}
+use Rattle.calls.specs.Answers.{Pool, After}
+use Rattle.calls.specs.Calls.{makeOf}
 use Rattle.histories.specs.Model.{Model, emptyModel, fed}
 use Rattle.histories.specs.Call.{Call, step, isAccepted}
 

@@ -4,8 +4,8 @@ use mathlib.Core.List.{List, List·Memᴰ}
 use Prim.Native.Nat.{ℕ}
 use Rattle.hashing.specs.declared.Parameters.{Parameters}
 use Rattle.placement.specs.File.{File}
-use Rattle.starfile.specs.Answers.{Pool}
-use Rattle.starfile.specs.Calls.{makeOf}
+use Rattle.calls.specs.Answers.{Pool}
+use Rattle.calls.specs.Calls.{makeOf}
 use Rattle.histories.specs.Model.{lookUp, modelFile, answered}
 use Rattle.histories.specs.Call.{Call}
 use Rattle.histories.specs.Run.{HistoryState, Event, initial, events, end}

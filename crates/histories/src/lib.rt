@@ -1,7 +1,1 @@
-// Histories of calls on one file. What holds of every one of them is stated in specs/ and proved in proofs/; `replay` runs one.
-mod answering;
-mod calling;
-mod replaying;
-
-pub use replaying::Replayed;
-pub use replaying::replay;
+// Histories of calls on one file: what holds of every one of them is stated in specs/ and proved in proofs/. There is no code.

@@ -12,9 +12,9 @@ use Rattle.pages.specs.Position.{validNumber, validPosition, packed}
 use Rattle.pages.specs.declared.position.Position.{Position}
 use Rattle.placement.specs.File.{File}
 use Rattle.placement.specs.Rule.{Star}
-use Rattle.starfile.specs.declared.answers.Answer.{Answer}
-use Rattle.starfile.specs.Answers.{After, Pool, cleared, Leaves, lent, unpooled}
-use Rattle.starfile.specs.Calls.{
+use Rattle.calls.specs.declared.answers.Answer.{Answer}
+use Rattle.calls.specs.Answers.{After, Pool, cleared, Leaves, lent, unpooled}
+use Rattle.calls.specs.Calls.{
   fileFits,
   poolFits,
   unless,

@@ -11,9 +11,9 @@ use Rattle.lines.specs.declared.Command.the-variants.{Enter, LookUp, Remove, Gr
 use Rattle.lines.specs.declared.Reply.{Reply}
 use Rattle.lines.specs.declared.Reply.the-variants.{Accepted, Found, Missing, Refused, Malformed}
 use Rattle.placement.specs.File.{File}
-use Rattle.starfile.specs.declared.answers.Answer.{Answer}
-use Rattle.starfile.specs.Answers.{After, Pool, lent, pooled, unpooled, accepted}
-use Rattle.starfile.specs.Calls.{unchanged, emptyFile, enterOf, lookUpOf, removeOf, growOf}
+use Rattle.calls.specs.declared.answers.Answer.{Answer}
+use Rattle.calls.specs.Answers.{After, Pool, lent, pooled, unpooled, accepted}
+use Rattle.calls.specs.Calls.{unchanged, emptyFile, enterOf, lookUpOf, removeOf, growOf}
 use Rattle.sessions.specs.declared.commands.StarFile.{StarFile}
 use Rattle.sessions.specs.declared.commands.Replied.{Replied}
 

@@ -2,14 +2,14 @@
 ghost use mathlib.Core.Path.{_≡_};
 ghost use Rattle.lines.specs.declared.Command.the-variants.{Enter, LookUp, Remove, Grow};
 ghost use Rattle.sessions.specs.Commands.{starline, newFile, stateOf, unlessRefused, placedReply, foundReply, replyOf, Follows};
+use calls::answers::Answer;
+use calls::answers::placed_answer;
+use calls::answers::sought_answer;
 use hashing::Growth;
 use hashing::Parameters;
 use lines::Command;
 use lines::Reply;
 use pages::position::Position;
-use starfile::answers::Answer;
-use starfile::answers::placed_answer;
-use starfile::answers::sought_answer;
 
 // M = 8 pages of b = 2 places. The pool of a call is made for that call.
 pub struct StarFile {

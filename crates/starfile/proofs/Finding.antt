@@ -20,7 +20,7 @@ use Rattle.placement.specs.Hash.{hashOf, soundAt, namedPage}
 use Rattle.placement.proofs.Standing.{first-le}
 use Rattle.placement.proofs.Search.{held-star}
 use Rattle.placement.proofs.Sound.{sound-facts, sound-proper}
-use Rattle.starfile.specs.Calls.{named, readable, holds, placeFor, itemOf}
+use Rattle.calls.specs.Calls.{named, readable, holds, placeFor, itemOf}
 use Rattle.starfile.specs.Named.{NamedAs}
 
 pub named-most : (p : Parameters) (g : Growth) (f : File) (k : ℕ) → Sized (p .places) (p .pages) f → named p g f k ≤ p .pages

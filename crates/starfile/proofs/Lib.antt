@@ -1,12 +1,6 @@
-pub mod Accepting
 pub mod Finding
-pub mod InUse
 pub mod Making
-pub mod Numbers
 pub mod Outcomes
-pub mod Points
 pub mod Pools
-pub mod Refusals
-pub mod Resending
-pub mod Separators
 pub mod Tallies
+pub mod Reached

@@ -12,10 +12,11 @@ use Rattle.hashing.specs.Limits.{validParameters, validGrowth}
 use Rattle.hashing.proofs.Laws.{start-valid}
 use Rattle.placement.specs.File.{File}
 use Rattle.placement.specs.Hash.{lent}
-use Rattle.starfile.specs.declared.answers.Refusal.{Refusal}
-use Rattle.starfile.specs.Answers.{Answer, After, Pool, Leaves, accepted, numberOf, refusedBy}
-use Rattle.starfile.specs.Calls.{unless, orElse, unlent, makeOf, fileFits, emptyFile}
-use Rattle.starfile.proofs.Refusals.{leaves, sized, turned-away}
+use Rattle.calls.specs.declared.answers.Refusal.{Refusal}
+use Rattle.calls.specs.declared.answers.Answer.{Answer}
+use Rattle.calls.specs.Answers.{After, Pool, Leaves, accepted, numberOf, refusedBy}
+use Rattle.calls.specs.Calls.{unless, orElse, unlent, makeOf, fileFits, emptyFile}
+use Rattle.calls.proofs.Refusals.{leaves, sized, turned-away}
 
 pub made-by : (after : After) (a : Answer) (g : Growth) (f : File) (pool : Pool) → after ≡ record { answer = a; growth = g; file = f; pool = pool } → Leaves after a f pool × (g ≡ after .growth)
 made-by after a g f pool e = (leaves after a g f pool e, sym (ap (λ (x : After). x .growth) e))

@@ -29,8 +29,8 @@ use Rattle.replacing.specs.Calls.{removalAnswer, removalFile, growthAnswer, gro
 use Rattle.replacing.specs.Calls as removal
 use Rattle.comparing.specs.declared.checking.Verdict.the-variants.{Clean, Differs, Unsound as verdict·Unsound}
 use Rattle.comparing.specs.Verdicts.{verdictOf}
-use Rattle.starfile.specs.Answers.{Pool, placed, checked, refusedBy, accepted, refused, acceptedAt, refusedAt, spotted}
-use Rattle.starfile.specs.Calls.{hash, unchanged, enterTo, removeTo, growTo, checkedAt, allStars}
+use Rattle.calls.specs.Answers.{Pool, placed, checked, refusedBy, accepted, refused, acceptedAt, refusedAt, spotted}
+use Rattle.calls.specs.Calls.{hash, unchanged, enterTo, removeTo, growTo, checkedAt, allStars}
 use Rattle.starfile.specs.Outcomes.{EntrySmall, entryPlaced, ReplacedSmall, replacedPlaced, replacedGrown, VerdictSmall, verdictChecked}
 
 holding-most : (k from : ℕ) (cs : List Contents) → holding k from cs ≤ from + length cs

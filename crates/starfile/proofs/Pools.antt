@@ -18,9 +18,10 @@ use Rattle.placement.specs.Ready.{Ready, multipliersOf}
 use Rattle.placement.proofs.Prepared.{ready}
 use Rattle.entering.specs.Entry.{Unheld}
 use Rattle.reach.specs.Reach.{pagesTo, entryEnd, removalEnd, entersWithin, firstUnsound, isEmpty}
-use Rattle.starfile.specs.Answers.{Answer, After, Pool, Leaves, Stores, pooled, cleared, zeros}
-use Rattle.starfile.specs.Lent.{Admitted}
-use Rattle.starfile.specs.Calls.{hash, named, readable, holds, enterOn, enterTo, removeOn, removeTo, growOn, growTo, allStars}
+use Rattle.calls.specs.declared.answers.Answer.{Answer}
+use Rattle.calls.specs.Answers.{After, Pool, Leaves, Stores, pooled, cleared, zeros}
+use Rattle.calls.specs.Lent.{Admitted}
+use Rattle.calls.specs.Calls.{hash, named, readable, holds, enterOn, enterTo, removeOn, removeTo, growOn, growTo, allStars}
 
 -- what the calls below need, with the table that the call made
 pub prepared : {g : Geometry} {t : List ℕ} {f : File} → t ≡ multipliersOf (g .parameters) → Admitted (g .parameters) (g .growth) f → Ready g t f

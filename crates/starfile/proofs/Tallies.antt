@@ -10,7 +10,7 @@ use lib.Dec.{eqb}
 use lib.ListN.{length, getD, take, drop, replicate, drop-of-length-le}
 use lib.Seq.{drop-cons, drop-drop, drop-length}
 use borrow.Author.Tests.{eqb-true, eq-eqb, ne-eqb}
-use Rattle.starfile.specs.Due.{stars}
+use Rattle.calls.specs.Due.{stars}
 use Rattle.starfile.specs.Used.{Blank}
 
 -- count stars were met in the first i of the list

@@ -1,9 +1,3 @@
-pub mod Answers
-pub mod Lent
-pub mod Reach
-pub mod Due
 pub mod Used
-pub mod Calls
 pub mod Named
 pub mod Outcomes
-pub mod Points

@@ -7,7 +7,7 @@ use Rattle.hashing.specs.declared.Parameters.{Parameters}
 use Rattle.hashing.specs.declared.Growth.{Growth}
 use Rattle.pages.specs.Position.{validWord}
 use Rattle.placement.specs.File.{File}
-use Rattle.starfile.specs.Calls.{named, readable, holds, placeFor, itemOf}
+use Rattle.calls.specs.Calls.{named, readable, holds, placeFor, itemOf}
 use Rattle.starfile.specs.declared.naming.Named.{Named}
 
 pub record NamedAs (p : Parameters) (g : Growth) (f : File) (k : ℕ) (r : Named) : Type 0 where

@@ -7,13 +7,13 @@ use Rattle.replacing.specs.declared.Replaced.{Replaced}
 use Rattle.replacing.specs.declared.Replaced.the-variants.{Done, Unsound as replaced·Unsound, Overflows as replaced·Overflows}
 use Rattle.comparing.specs.declared.checking.Verdict.{Verdict}
 use Rattle.comparing.specs.declared.checking.Verdict.the-variants.{Clean, Differs, Unsound as verdict·Unsound}
-use Rattle.starfile.specs.declared.answers.Refusal.{Refusal}
-use Rattle.starfile.specs.declared.answers.Refusal.the-variants.{Damaged, Full}
-use Rattle.starfile.specs.declared.answers.Placed.{Placed}
-use Rattle.starfile.specs.declared.answers.Placed.the-variants.{On as placed·On, Refused}
-use Rattle.starfile.specs.declared.answers.Grown.{Grown}
-use Rattle.starfile.specs.declared.answers.Checked.{Checked}
-use Rattle.starfile.specs.declared.answers.Checked.the-variants.{Clean as checked·Clean, Refused as checked·Refused}
+use Rattle.calls.specs.declared.answers.Refusal.{Refusal}
+use Rattle.calls.specs.declared.answers.Refusal.the-variants.{Damaged, Full}
+use Rattle.calls.specs.declared.answers.Placed.{Placed}
+use Rattle.calls.specs.declared.answers.Placed.the-variants.{On as placed·On, Refused}
+use Rattle.calls.specs.declared.answers.Grown.{Grown}
+use Rattle.calls.specs.declared.answers.Checked.{Checked}
+use Rattle.calls.specs.declared.answers.Checked.the-variants.{Clean as checked·Clean, Refused as checked·Refused}
 
 abbrev pub EntrySmall : Entered → Type 0
 EntrySmall (On page) = page < 2 ^ 32

@@ -3,7 +3,7 @@ use mathlib.Core.Path.{_≡_}
 use mathlib.Core.List.{List}
 use Prim.Native.Nat.{ℕ, _-_, _≤_, _<_}
 use lib.ListN.{length, getD, drop}
-use Rattle.starfile.specs.Due.{stars}
+use Rattle.calls.specs.Due.{stars}
 
 -- from item n on every number is 0
 pub record Blank (l : List ℕ) (n : ℕ) : Type 0 where

@@ -2,13 +2,13 @@
 ghost use mathlib.Core.Path.{_≡_};
 ghost use lib.ListN.{length, replicate};
 ghost use Rattle.placement.specs.Lent.{before, after};
-ghost use Rattle.starfile.specs.Answers.{Leaves, unpooled, placed};
-ghost use Rattle.starfile.specs.Calls.{makeOf};
-use crate::answers::Grown;
-use crate::answers::Placed;
-use crate::lending::Admission;
+ghost use Rattle.calls.specs.Answers.{Leaves, unpooled, placed};
+ghost use Rattle.calls.specs.Calls.{makeOf};
 use crate::lending::file_fits;
 use crate::lending::guard;
+use calls::answers::Admission;
+use calls::answers::Grown;
+use calls::answers::Placed;
 use hashing::Growth;
 use hashing::Parameters;
 

@@ -2,16 +2,12 @@
 ghost use mathlib.Core.Path.{_≡_};
 ghost use mathlib.Core.Bool.{_&&_};
 ghost use Rattle.hashing.specs.Limits.{validParameters, validGrowth};
-ghost use Rattle.starfile.specs.Answers.{admissionNumber};
-ghost use Rattle.starfile.specs.Calls.{fileLengths, poolLengths, unlent};
-use crate::answers::Refusal;
+ghost use Rattle.calls.specs.Answers.{admissionNumber};
+ghost use Rattle.calls.specs.Calls.{fileLengths, poolLengths, unlent};
+use calls::answers::Admission;
+use calls::answers::Refusal;
 use hashing::Growth;
 use hashing::Parameters;
-
-pub enum Admission {
-    Passed,
-    Refused(Refusal),
-}
 
 // What every call begins with. `fits`: what is lent is as long as the parameters say.
 pub fn guard(parameters: Parameters, growth: Growth, fits: bool) -> Admission

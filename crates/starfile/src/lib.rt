@@ -1,6 +1,5 @@
 // The calls on a lent star file. Each contract gives the answer, the growth state and every lent item at exit, refusals too,
-// by the definitions of specs/Calls.antt.
-pub mod answers;
+// by the definitions of crate calls.
 mod checking;
 mod counting;
 mod emptying;

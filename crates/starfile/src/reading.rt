@@ -1,14 +1,14 @@
 // The look-up.
 ghost use mathlib.Core.Path.{_≡_};
 ghost use Rattle.placement.specs.Lent.{before};
-ghost use Rattle.starfile.specs.Answers.{unpooled, sought};
-ghost use Rattle.starfile.specs.Calls.{lookUpOf};
-use crate::answers::Found;
-use crate::answers::Refusal;
-use crate::lending::Admission;
+ghost use Rattle.calls.specs.Answers.{unpooled, sought};
+ghost use Rattle.calls.specs.Calls.{lookUpOf};
 use crate::lending::file_fits;
 use crate::lending::guard;
 use crate::naming::find;
+use calls::answers::Admission;
+use calls::answers::Found;
+use calls::answers::Refusal;
 use hashing::Geometry;
 use hashing::Growth;
 use hashing::Parameters;

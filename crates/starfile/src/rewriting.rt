@@ -1,14 +1,14 @@
 // The change of a position.
 ghost use mathlib.Core.Path.{_≡_};
 ghost use Rattle.placement.specs.Lent.{held, before};
-ghost use Rattle.starfile.specs.Answers.{Leaves, unpooled, placed};
-ghost use Rattle.starfile.specs.Calls.{changeOf};
-use crate::answers::Placed;
-use crate::answers::Refusal;
-use crate::lending::Admission;
+ghost use Rattle.calls.specs.Answers.{Leaves, unpooled, placed};
+ghost use Rattle.calls.specs.Calls.{changeOf};
 use crate::lending::file_fits;
 use crate::lending::guard;
 use crate::naming::find;
+use calls::answers::Admission;
+use calls::answers::Placed;
+use calls::answers::Refusal;
 use hashing::Geometry;
 use hashing::Growth;
 use hashing::Parameters;

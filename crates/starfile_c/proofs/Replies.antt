@@ -1,8 +1,8 @@
 -- What a call leaves, told by its reply.
 use mathlib.Core.Path.{_≡_, ap, _∙_}
 use Rattle.placement.specs.File.{File}
-use Rattle.starfile.specs.declared.answers.Answer.{Answer}
-use Rattle.starfile.specs.Answers.{Pool, After, Leaves}
+use Rattle.calls.specs.declared.answers.Answer.{Answer}
+use Rattle.calls.specs.Answers.{Pool, After, Leaves}
 use Rattle.starfile_c.specs.declared.Reply.{Reply}
 use Rattle.starfile_c.specs.Reply.{Replies, replyOf}
 

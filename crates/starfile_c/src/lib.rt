@@ -1,17 +1,17 @@
 // The look-up, the entry and the removal for C programs, on numbers and slices. include/starfile.h declares them.
-// Each refuses every bad length and value itself. A contract gives the reply and every lent item at exit by starfile's definitions.
+// Each refuses every bad length and value itself. A contract gives the reply and every lent item at exit by the definitions of crate calls.
 ghost use mathlib.Core.Path.{_≡_};
 ghost use Rattle.placement.specs.Lent.{before, after};
-ghost use Rattle.starfile.specs.Answers.{unpooled};
-ghost use Rattle.starfile.specs.Calls.{lookUpOf, enterOf, removeOf};
-ghost use Rattle.starfile.specs.Lent.{poolBefore, poolAfter};
+ghost use Rattle.calls.specs.Answers.{unpooled};
+ghost use Rattle.calls.specs.Calls.{lookUpOf, enterOf, removeOf};
+ghost use Rattle.calls.specs.Lent.{poolBefore, poolAfter};
 ghost use Rattle.starfile_c.specs.Reply.{Replies, replyOf, parametersOf, growthOf, positionOf};
+use calls::answers::Answer;
+use calls::answers::placed_answer;
+use calls::answers::sought_answer;
 use hashing::Growth;
 use hashing::Parameters;
 use pages::position::Position;
-use starfile::answers::Answer;
-use starfile::answers::placed_answer;
-use starfile::answers::sought_answer;
 
 // Document 01's refusal number, 0 if accepted, and its values; a value that a call does not name is 0 or false.
 #[repr(C)]

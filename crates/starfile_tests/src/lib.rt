@@ -1,11 +1,11 @@
 // The eight calls as exported functions, and two of hashing's, for the Rust tests alone. C programs have the three of starfile_c.
+use calls::answers::Answer;
+use calls::answers::Grown;
+use calls::answers::checked_answer;
+use calls::answers::due_answer;
+use calls::answers::placed_answer;
+use calls::answers::sought_answer;
 use pages::position::Position;
-use starfile::answers::Answer;
-use starfile::answers::Grown;
-use starfile::answers::checked_answer;
-use starfile::answers::due_answer;
-use starfile::answers::placed_answer;
-use starfile::answers::sought_answer;
 
 #[repr(C)]
 pub struct Parameters {
@@ -24,7 +24,7 @@ pub struct Growth {
     pub expanded: u32,
 }
 
-// The numbers and values of starfile's specs/Answers.antt, with the growth state after the call.
+// The numbers and values of calls' specs/Answers.antt, with the growth state after the call.
 #[repr(C)]
 pub struct Outcome {
     pub refusal: u32,

@@ -50,13 +50,13 @@ use Rattle.hashing.proofs.Parameters.Laws as P′
 use Rattle.hashing.proofs.Growth as G
 use Rattle.hashing.proofs.Growth.Laws as G′
 use Rattle.placement.specs.Hash.{lent}
-use Rattle.starfile.specs.declared.answers.Grown.{Grown}
-use Rattle.starfile.specs.Answers.{After, Leaves, pooled, placed}
-use Rattle.starfile.specs.Calls.{growOf}
-use Rattle.starfile.proofs.answers.Grown as R
-use Rattle.starfile.proofs.answers.Grown.Laws as R′
-use Rattle.starfile.proofs.answers.Placed as Q
-use Rattle.starfile.proofs.answers.Placed.Laws as Q′
+use Rattle.calls.specs.declared.answers.Grown.{Grown}
+use Rattle.calls.specs.Answers.{After, Leaves, pooled, placed}
+use Rattle.calls.specs.Calls.{growOf}
+use Rattle.calls.proofs.answers.Grown as R
+use Rattle.calls.proofs.answers.Grown.Laws as R′
+use Rattle.calls.proofs.answers.Placed as Q
+use Rattle.calls.proofs.answers.Placed.Laws as Q′
 use Rattle.starfile.proofs.grow as grow
 use Rattle.starfile.proofs.grow.Symbol as grow-def
 use Rattle.starfile.proofs.grow.Symbol.{name as #starfile·grow}

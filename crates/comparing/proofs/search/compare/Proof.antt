@@ -2,7 +2,8 @@ use mathlib.Core.Path.{_≡_, refl}
 use Prim.Native.Nat.{_+_, _-_, _*_, _<_}
 use native.Mathlib.Omega.{arith}
 use Rattle.placement.specs.Hash.{lent}
-use Rattle.comparing.proofs.Differences.{Compared, item-within, number-differs, word-differs, place-same, separator-differs, separator-same, compared-none, compared-found, compared-place, compared-page, compared-all}
+use Rattle.calls.proofs.Spots.{item-within}
+use Rattle.comparing.proofs.Differences.{Compared, number-differs, word-differs, place-same, separator-differs, separator-same, compared-none, compared-found, compared-place, compared-page, compared-all}
 use Rattle.comparing.proofs.search.compare.Statement.{statement}
 use Rattle.comparing.proofs.search.compare.Tie as tie
 

@@ -1,5 +1,5 @@
 use Rattle.hashing.specs.Limits.{validParameters, within}
-use Rattle.starfile.specs.Calls.{makeOf, fileFits}
+use Rattle.calls.specs.Calls.{makeOf, fileFits}
 use Rattle.sessions.specs.Commands.{starline, newFile, stateOf}
 use borrow.Author.Needs.{needs}
 use Rattle.sessions.proofs.commands.empty_file.Statement.{statement}

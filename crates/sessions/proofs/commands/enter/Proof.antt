@@ -1,5 +1,5 @@
 use mathlib.Core.Path.{sym, ap, _∙_}
-use Rattle.starfile.specs.Answers.{placed}
+use Rattle.calls.specs.Answers.{placed}
 use Rattle.sessions.specs.Commands.{stateOf, pool, called, placedReply, replyWith}
 use Rattle.sessions.proofs.Replying.{enter-keeps, follows}
 use borrow.Author.Needs.{needs}

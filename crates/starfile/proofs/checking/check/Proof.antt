@@ -5,12 +5,12 @@ use denote.Ref.{now}
 use Rattle.placement.specs.File.{File}
 use Rattle.placement.specs.Hash.{lent}
 use Rattle.placement.specs.Ready.{Pooled}
-use Rattle.starfile.specs.Answers.{Pool, checked, pooled}
-use Rattle.starfile.specs.Lent.{Admitted}
-use Rattle.starfile.specs.Calls.{unlent, checkOf, fileFits, poolFits}
+use Rattle.calls.specs.Answers.{Pool, checked, pooled}
+use Rattle.calls.specs.Lent.{Admitted}
+use Rattle.calls.specs.Calls.{unlent, checkOf, fileFits, poolFits}
 use Rattle.starfile.specs.Outcomes.{verdictChecked}
 use Rattle.starfile.proofs.Outcomes.{verdict-is, verdict-small}
-use Rattle.starfile.proofs.Refusals.{turned-away, refusal-is, none-is, admitted-pool, leaves}
+use Rattle.calls.proofs.Refusals.{turned-away, refusal-is, none-is, admitted-pool, leaves}
 use Rattle.starfile.proofs.Pools.{prepared, cleared-is}
 use borrow.Author.Needs.{needs}
 use Rattle.starfile.proofs.checking.check.Statement.{statement}

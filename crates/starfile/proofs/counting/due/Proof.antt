@@ -9,14 +9,15 @@ use native.Mathlib.Nat.{mul-le-mul, mul-le-mul-right}
 use Rattle.hashing.specs.Geometry.{pageCount, highest}
 use Rattle.hashing.proofs.Bounds.{limits, growth-within, spread}
 use Rattle.placement.specs.File.{File}
-use Rattle.starfile.specs.Answers.{After, lent, dueSaid}
-use Rattle.starfile.specs.Lent.{Admitted}
-use Rattle.starfile.specs.Calls.{unlent, dueOf, fileFits}
+use Rattle.calls.specs.Answers.{After, lent, dueSaid}
+use Rattle.calls.specs.Lent.{Admitted}
+use Rattle.calls.specs.Calls.{unlent, dueOf, fileFits}
 use Rattle.starfile.specs.Used.{Reaches}
-use Rattle.starfile.specs.Due.{stars, pagesInUse, exceeds, isDue}
-use Rattle.starfile.proofs.Refusals.{turned-away, refusal-is, none-is, admitted, items-most}
+use Rattle.calls.specs.Due.{stars, pagesInUse, exceeds, isDue}
+use Rattle.calls.proofs.Refusals.{turned-away, refusal-is, none-is, admitted, items-most}
 use Rattle.starfile.proofs.Tallies.{stars-most, blank-stars}
-use Rattle.starfile.proofs.InUse.{in-use-reached, in-use-most}
+use Rattle.calls.proofs.InUse.{in-use-most}
+use Rattle.starfile.proofs.Reached.{in-use-reached}
 use denote.Ref.{now}
 use borrow.Author.Needs.{needs}
 use Rattle.starfile.proofs.counting.due.Statement.{statement}

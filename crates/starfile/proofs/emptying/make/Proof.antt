@@ -6,11 +6,11 @@ use denote.Ref.{now}
 use Rattle.hashing.specs.Geometry.{ungrown}
 use Rattle.placement.specs.File.{File}
 use Rattle.placement.specs.Hash.{lent}
-use Rattle.starfile.specs.Answers.{placed, unpooled}
-use Rattle.starfile.specs.Calls.{fileFits, unlent}
-use Rattle.starfile.specs.Lent.{Admitted}
+use Rattle.calls.specs.Answers.{placed, unpooled}
+use Rattle.calls.specs.Calls.{fileFits, unlent}
+use Rattle.calls.specs.Lent.{Admitted}
 use Rattle.starfile.proofs.Making.{make-refused, make-empty}
-use Rattle.starfile.proofs.Refusals.{unlent-facts, refusal-is, none-is, admitted}
+use Rattle.calls.proofs.Refusals.{unlent-facts, refusal-is, none-is, admitted}
 use borrow.Author.Needs.{needs}
 use Rattle.starfile.proofs.emptying.make.Statement.{statement}
 use Rattle.starfile.proofs.emptying.make.Tie as tie

@@ -5,11 +5,11 @@ use denote.Ref.{now}
 use Rattle.placement.specs.File.{File}
 use Rattle.placement.specs.Hash.{lent}
 use Rattle.placement.specs.Ready.{Pooled}
-use Rattle.starfile.specs.Answers.{Pool, placed, pooled, cleared}
-use Rattle.starfile.specs.Lent.{Admitted}
-use Rattle.starfile.specs.Calls.{unlent, growOf, fileFits, poolFits}
+use Rattle.calls.specs.Answers.{Pool, placed, pooled, cleared}
+use Rattle.calls.specs.Lent.{Admitted}
+use Rattle.calls.specs.Calls.{unlent, growOf, fileFits, poolFits}
 use Rattle.starfile.proofs.Making.{made-by}
-use Rattle.starfile.proofs.Refusals.{turned-away, refusal-is, none-is, admitted-pool}
+use Rattle.calls.proofs.Refusals.{turned-away, refusal-is, none-is, admitted-pool}
 use Rattle.starfile.proofs.Pools.{cleared-is, leaves-cleared, grow-pool}
 use borrow.Author.Needs.{needs}
 use Rattle.starfile.proofs.growth.grow.Statement.{statement}

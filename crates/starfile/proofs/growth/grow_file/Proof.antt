@@ -7,7 +7,7 @@ use denote.Ref.{now}
 use Rattle.hashing.proofs.Bounds.{limits, growth-within, spread}
 use Rattle.placement.specs.File.{File}
 use Rattle.placement.specs.Hash.{lent}
-use Rattle.starfile.specs.Answers.{Pool, placed, refusedBy, pooled, cleared}
+use Rattle.calls.specs.Answers.{Pool, placed, refusedBy, pooled, cleared}
 use Rattle.hashing.specs.Geometry.{highest, pageCount, grown}
 use Rattle.starfile.proofs.Outcomes.{growth-small, grown-is}
 use Rattle.starfile.proofs.Pools.{prepared}

@@ -2,7 +2,7 @@
 use mathlib.Core.Path.{sym}
 use borrow.Author.Tests.{not-true, not-false}
 use Rattle.hashing.proofs.Bounds.{passed, failed}
-use Rattle.starfile.proofs.Refusals.{bad-state, bad-lengths, well-lent}
+use Rattle.calls.proofs.Refusals.{bad-state, bad-lengths, well-lent}
 use borrow.Author.Needs.{needs}
 use Rattle.starfile.proofs.lending.guard.Statement.{statement}
 use Rattle.starfile.proofs.lending.guard.Tie as tie

@@ -11,7 +11,7 @@ use Rattle.pages.proofs.Parts.{page-fits}
 use Rattle.placement.specs.File.{File}
 use Rattle.placement.specs.Hash.{lent, soundAt}
 use Rattle.placement.proofs.Items.{sound-loaded}
-use Rattle.starfile.proofs.Refusals.{items-most}
+use Rattle.calls.proofs.Refusals.{items-most}
 use Rattle.starfile.proofs.Finding.{named-most, past-file, in-file, unread-as, absent-as, held-as, held-is, place-is, place-most, at-is, at-below, word-is, item-below, word-valid, one-least}
 use borrow.Author.Needs.{needs}
 use Rattle.starfile.proofs.naming.find.Statement.{statement}

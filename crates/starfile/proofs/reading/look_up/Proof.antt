@@ -8,10 +8,10 @@ use Rattle.hashing.proofs.Bounds.{limits, passed, failed}
 use Rattle.pages.specs.Position.{validNumber}
 use Rattle.placement.specs.File.{File}
 use Rattle.placement.specs.Hash.{lent}
-use Rattle.starfile.specs.Answers.{After, sought, refusedBy}
-use Rattle.starfile.specs.Lent.{Admitted}
-use Rattle.starfile.specs.Calls.{unlent, lookUpOf, lookedUp, fileFits}
-use Rattle.starfile.proofs.Refusals.{turned-away-first, refusal-is, none-is, admitted}
+use Rattle.calls.specs.Answers.{After, sought, refusedBy}
+use Rattle.calls.specs.Lent.{Admitted}
+use Rattle.calls.specs.Calls.{unlent, lookUpOf, lookedUp, fileFits}
+use Rattle.calls.proofs.Refusals.{turned-away-first, refusal-is, none-is, admitted}
 use Rattle.starfile.proofs.Pools.{prepared}
 use borrow.Author.Needs.{needs}
 use Rattle.starfile.proofs.reading.look_up.Statement.{statement}

@@ -7,10 +7,10 @@ use Rattle.pages.specs.Position.{validNumber}
 use Rattle.placement.specs.File.{File}
 use Rattle.placement.specs.Hash.{lent}
 use Rattle.placement.specs.Ready.{Pooled}
-use Rattle.starfile.specs.Answers.{Pool, placed, refusedBy, pooled, cleared}
-use Rattle.starfile.specs.Lent.{Admitted}
-use Rattle.starfile.specs.Calls.{unlent, removeOf, fileFits, poolFits}
-use Rattle.starfile.proofs.Refusals.{turned-away-first, refusal-is, none-is, admitted-pool, leaves}
+use Rattle.calls.specs.Answers.{Pool, placed, refusedBy, pooled, cleared}
+use Rattle.calls.specs.Lent.{Admitted}
+use Rattle.calls.specs.Calls.{unlent, removeOf, fileFits, poolFits}
+use Rattle.calls.proofs.Refusals.{turned-away-first, refusal-is, none-is, admitted-pool, leaves}
 use Rattle.starfile.proofs.Pools.{cleared-is, leaves-cleared, remove-pool}
 use borrow.Author.Needs.{needs}
 use Rattle.starfile.proofs.removal.remove.Statement.{statement}

@@ -6,8 +6,8 @@ use denote.Ref.{now}
 use Rattle.hashing.proofs.Bounds.{limits}
 use Rattle.placement.specs.File.{File}
 use Rattle.placement.specs.Hash.{lent}
-use Rattle.starfile.specs.Answers.{Pool, placed, refusedBy, pooled, cleared}
-use Rattle.starfile.specs.Calls.{removeOn, named, placeFor}
+use Rattle.calls.specs.Answers.{Pool, placed, refusedBy, pooled, cleared}
+use Rattle.calls.specs.Calls.{removeOn, named, placeFor}
 use Rattle.starfile.proofs.Outcomes.{removal-small, removed-is}
 use Rattle.starfile.proofs.Pools.{prepared}
 use borrow.Author.Needs.{needs}

@@ -9,10 +9,10 @@ use Rattle.hashing.proofs.Bounds.{limits, passed, failed}
 use Rattle.pages.specs.Position.{validNumber, validPosition}
 use Rattle.placement.specs.File.{File}
 use Rattle.placement.specs.Hash.{lent}
-use Rattle.starfile.specs.Answers.{placed, refusedBy}
-use Rattle.starfile.specs.Lent.{Admitted}
-use Rattle.starfile.specs.Calls.{unlent, changeOf, changeOn, fileFits}
-use Rattle.starfile.proofs.Refusals.{turned-away-first, refusal-is, none-is, admitted, items-most, leaves}
+use Rattle.calls.specs.Answers.{placed, refusedBy}
+use Rattle.calls.specs.Lent.{Admitted}
+use Rattle.calls.specs.Calls.{unlent, changeOf, changeOn, fileFits}
+use Rattle.calls.proofs.Refusals.{turned-away-first, refusal-is, none-is, admitted, items-most, leaves}
 use Rattle.starfile.proofs.Pools.{prepared}
 use borrow.Author.Needs.{needs}
 use Rattle.starfile.proofs.rewriting.change.Statement.{statement}

@@ -1,0 +1,11 @@
+pub mod Spots
+pub mod Alike
+pub mod Ruled
+pub mod Refusals
+pub mod Numbers
+pub mod Accepting
+pub mod Separators
+pub mod Resending
+pub mod InUse
+pub mod Telling
+pub mod Points

@@ -1,0 +1,160 @@
+-- What a call answers and leaves: document 01, "Where each refusal is met".
+use mathlib.Core.Path.{_≡_}
+use mathlib.Core.Bool.{Bool, true, false}
+use mathlib.Core.List.{List, []}
+use Prim.Native.Nat.{ℕ}
+use lib.IntN.{pos}
+use lib.ListN.{length, replicate}
+use Rattle.hashing.specs.declared.Growth.{Growth}
+use Rattle.pages.specs.declared.position.Position.{Position}
+use Rattle.placement.specs.File.{File}
+pub use Rattle.placement.specs.Hash.{lent}
+pub use Rattle.calls.specs.declared.answers.Answer.{Answer}
+use Rattle.calls.specs.declared.answers.Refusal.{Refusal}
+use Rattle.calls.specs.declared.answers.Refusal.the-variants.{
+  BadParameters,
+  BadLength,
+  BadNumber,
+  BadPosition,
+  Damaged,
+  Held,
+  NotHeld,
+  Full,
+}
+use Rattle.calls.specs.declared.answers.Admission.{Admission}
+use Rattle.calls.specs.declared.answers.Admission.the-variants.{Passed, Refused as TurnedAway}
+use Rattle.calls.specs.declared.answers.Placed.{Placed}
+use Rattle.calls.specs.declared.answers.Placed.the-variants.{On, Refused as NotPlaced}
+use Rattle.calls.specs.declared.answers.Found.{Found}
+use Rattle.calls.specs.declared.answers.Found.the-variants.{At, Absent, Refused as NotSought}
+use Rattle.calls.specs.declared.answers.Due.{Due}
+use Rattle.calls.specs.declared.answers.Due.the-variants.{Yes, No, Refused as NotCounted}
+use Rattle.calls.specs.declared.answers.Checked.{Checked}
+use Rattle.calls.specs.declared.answers.Checked.the-variants.{Clean, Refused as NotChecked}
+
+abbrev pub origin : Position
+origin = record { ra = 0; dec = pos 0 }
+
+-- a refusal number, 0 for none, with a page and a place
+unfoldable pub spotted : ℕ → ℕ → ℕ → Answer
+spotted refusal page place =
+    record {
+      refusal = refusal;
+      page = page;
+      place = place;
+      found = false;
+      position = origin;
+      due = false;
+      stars = 0;
+    }
+
+-- accepted, with a page
+abbrev pub accepted : ℕ → Answer
+accepted page = spotted 0 page 0
+
+-- "A refusal gives its number and, for 5, the page; otherwise page 0."
+abbrev pub refused : ℕ → ℕ → Answer
+refused n page = spotted n page 0
+
+-- the same with "the place found on the page first named": document 02 (ii)
+abbrev pub acceptedAt : ℕ → ℕ → Answer
+acceptedAt page place = spotted 0 page place
+
+abbrev pub refusedAt : ℕ → ℕ → ℕ → Answer
+refusedAt n page place = spotted n page place
+
+unfoldable pub foundAt : ℕ → ℕ → Position → Answer
+foundAt page place position =
+    record { refusal = 0; page = page; place = place; found = true; position = position; due = false; stars = 0 }
+
+unfoldable pub counted : Bool → ℕ → Answer
+counted due stars =
+    record { refusal = 0; page = 0; place = 0; found = false; position = origin; due = due; stars = stars }
+
+-- the papers' number of each refusal
+abbrev pub numberOf : Refusal → ℕ
+numberOf BadParameters = 1
+numberOf BadLength = 2
+numberOf BadNumber = 3
+numberOf BadPosition = 4
+numberOf (Damaged page) = 5
+numberOf Held = 6
+numberOf NotHeld = 7
+numberOf Full = 8
+
+-- the page that goes with it
+abbrev pub pageOf : Refusal → ℕ
+pageOf BadParameters = 0
+pageOf BadLength = 0
+pageOf BadNumber = 0
+pageOf BadPosition = 0
+pageOf (Damaged page) = page
+pageOf Held = 0
+pageOf NotHeld = 0
+pageOf Full = 0
+
+-- 0 if the test that a call begins with is passed
+abbrev pub admissionNumber : Admission → ℕ
+admissionNumber Passed = 0
+admissionNumber (TurnedAway r) = numberOf r
+
+-- refused, with a place
+unfoldable pub refusedBy : Refusal → ℕ → Answer
+refusedBy r place = spotted (numberOf r) (pageOf r) place
+
+-- the papers' number and values for each case of an answer
+unfoldable pub placed : Placed → Answer
+placed (On page place) = acceptedAt page place
+placed (NotPlaced r place) = refusedBy r place
+
+unfoldable pub sought : Found → Answer
+sought (At page place position) = foundAt page place position
+sought (Absent page place) = acceptedAt page place
+sought (NotSought r place) = refusedBy r place
+
+unfoldable pub dueSaid : Due → Answer
+dueSaid (Yes stars) = counted true stars
+dueSaid (No stars) = counted false stars
+dueSaid (NotCounted r) = refusedBy r 0
+
+unfoldable pub checked : Checked → Answer
+checked Clean = accepted 0
+checked (NotChecked r place) = refusedBy r place
+
+-- the lent pool
+pub record Pool : Type 0 where
+  pub numbers : List ℕ
+  pub words : List ℕ
+
+unfoldable pub zeros : List ℕ → List ℕ
+zeros l = replicate (length l) 0
+
+-- the pool after every call that uses it, but for refusals 1 to 4
+unfoldable pub cleared : Pool → Pool
+cleared pool = record { numbers = zeros (pool .numbers); words = zeros (pool .words) }
+
+-- the answer, and the growth state and the lent buffers after a call
+pub record After : Type 0 where
+  pub answer : Answer
+  pub growth : Growth
+  pub file : File
+  pub pool : Pool
+
+-- the lent pool by its contents
+abbrev pub pooled : List ℕ → List ℕ → Pool
+pooled numbers words = record { numbers = numbers; words = words }
+
+-- for the calls that take none
+abbrev pub unpooled : Pool
+unpooled = pooled [] []
+
+-- the answer and the buffers at exit are those of the definition
+pub record Leaves (after : After) (answer : Answer) (file : File) (pool : Pool) : Type 0 where
+  pub answers : answer ≡ after .answer
+  pub files : file ≡ after .file
+  pub pools : pool ≡ after .pool
+
+-- the same of the answer and the file alone
+pub record Stores (after : After) (answer : Answer) (file : File) : Type 0 where
+  pub answers : answer ≡ after .answer
+  pub files : file ≡ after .file

@@ -1,0 +1,300 @@
+-- The eight calls, each as what it answers and leaves of the lent buffers: document 01, "The cut" and "Where each refusal is met".
+use mathlib.Core.Bool.{Bool, true, false, not, cond, _&&_, _||_}
+use mathlib.Core.List.{List}
+use Prim.Native.Nat.{ℕ, zero, suc, _+_, _-_, _*_, _/_, _%_}
+use lib.Dec.{eqb, ltb}
+use lib.ListN.{length, getD, set, replicate}
+use Rattle.hashing.specs.declared.Parameters.{Parameters}
+use Rattle.hashing.specs.declared.Growth.{Growth}
+use Rattle.hashing.specs.Generator.{topOf}
+use Rattle.hashing.specs.Limits.{validParameters, validGrowth}
+use Rattle.hashing.specs.Geometry.{pageCount, highest, grown, ungrown}
+use Rattle.pages.specs.declared.position.Position.{Position}
+use Rattle.pages.specs.Position.{validNumber, validPosition, packed, unpacked}
+use Rattle.pages.specs.Page.{part, placeOf, heldAt}
+use Rattle.placement.specs.Rule.{Star, Hash, pages, left, without}
+use Rattle.placement.specs.File.{File, gathered, replaced}
+use Rattle.placement.specs.Hash.{hashOf, soundAt, namedPage}
+pub use Rattle.calls.specs.Spots.{firstSpot, ruled}
+use Rattle.calls.specs.Answers.{
+  Answer,
+  accepted,
+  refused,
+  acceptedAt,
+  refusedAt,
+  spotted,
+  foundAt,
+  counted,
+  Pool,
+  cleared,
+  After,
+}
+use Rattle.calls.specs.Due.{stars, isDue}
+use Rattle.calls.specs.Reach.{
+  firstSuch,
+  isEmpty,
+  pagesTo,
+  removalEnd,
+  entering,
+  entersWithin,
+  entryEnd,
+  firstUnsound,
+  holding,
+}
+
+abbrev pub hash : Parameters → Growth → Hash
+hash p g = hashOf p g
+
+-- Refusals 1 to 4, of which the first is met
+
+-- M·b numbers and M·b words
+abbrev pub poolLengths : Parameters → ℕ → ℕ → Bool
+poolLengths p numbers words = eqb numbers (p .pages * p .places) && eqb words (p .pages * p .places)
+
+-- M separators and the same
+abbrev pub fileLengths : Parameters → ℕ → ℕ → ℕ → Bool
+fileLengths p separators numbers words = eqb separators (p .pages) && poolLengths p numbers words
+
+unfoldable pub fileFits : Parameters → File → Bool
+fileFits p f = fileLengths p (length (f .separators)) (length (f .numbers)) (length (f .words))
+
+unfoldable pub poolFits : Parameters → Pool → Bool
+poolFits p pool = poolLengths p (length (pool .numbers)) (length (pool .words))
+
+-- n, unless the fact holds
+abbrev pub unless : Bool → ℕ → ℕ
+unless fact n = cond fact 0 n
+
+-- the first of two refusals, 0 being none
+abbrev pub orElse : ℕ → ℕ → ℕ
+orElse zero n = n
+orElse (suc m) n = suc m
+
+-- "a parameter, or (e, x)" is 1, "a buffer length, pool included where used" 2
+unfoldable pub unlent : Parameters → Growth → Bool → ℕ
+unlent p g lengths = orElse (unless (validParameters p && validGrowth p g) 1) (unless lengths 2)
+
+-- a call that was refused before anything was read
+abbrev pub untouched : Growth → File → Pool → ℕ → After
+untouched g f pool n = record { answer = refused n 0; growth = g; file = f; pool = pool }
+
+-- a call that left growth state and file as they were
+abbrev pub unchanged : Growth → File → Pool → Answer → After
+unchanged g f pool answer = record { answer = answer; growth = g; file = f; pool = pool }
+
+-- refused with n, or what else the call does
+abbrev pub guarded : Growth → File → Pool → ℕ → After → After
+guarded g f pool zero after = after
+guarded g f pool (suc n) after = untouched g f pool (suc n)
+
+-- The named page. Past its refusal 5 an answer has the place found on it, whatever the call does then: document 02 (ii)
+
+-- "the page the separators name is unsound, or none is named (page given as M)"
+unfoldable pub readable : Parameters → Growth → File → ℕ → Bool
+readable p g f page = ltb page (p .pages) && soundAt p g f page
+
+abbrev pub named : Parameters → Growth → File → ℕ → ℕ
+named p g f k = namedPage p g (f .separators) k
+
+unfoldable pub holds : Parameters → File → ℕ → ℕ → Bool
+holds p f page k = heldAt k (part (p .places) page (f .numbers))
+
+-- where k stands on a page or would stand: the place at which the page's search ends
+abbrev pub placeFor : Parameters → File → ℕ → ℕ → ℕ
+placeFor p f page k = placeOf k (part (p .places) page (f .numbers))
+
+-- the item of that place
+unfoldable pub itemOf : Parameters → File → ℕ → ℕ → ℕ
+itemOf p f page k = page * p .places + placeFor p f page k
+
+-- Make
+
+-- "An empty file is separators 2^k − 1, all else 0"
+unfoldable pub emptyFile : Parameters → File
+emptyFile p =
+    record {
+      separators = replicate (p .pages) (topOf (p .bits));
+      numbers = replicate (p .pages * p .places) 0;
+      words = replicate (p .pages * p .places) 0;
+    }
+
+unfoldable pub makeOf : Parameters → File → Pool → After
+makeOf p f pool =
+    guarded ungrown f pool
+    (orElse (unless (validParameters p) 1) (unless (fileFits p f) 2))
+    (record { answer = accepted 0; growth = ungrown; file = emptyFile p; pool = pool })
+
+-- Look-up
+
+-- "It answers the position or "none", with the page."
+unfoldable pub lookedUp : Parameters → Growth → File → ℕ → ℕ → Answer
+lookedUp p g f page k =
+    let place = placeFor p f page k in
+    cond (readable p g f page)
+    (cond (holds p f page k)
+    (foundAt page place (unpacked (getD (f .words) (itemOf p f page k) 0)))
+    (acceptedAt page place))
+    (refused 5 page)
+
+unfoldable pub lookUpOf : Parameters → Growth → File → Pool → ℕ → After
+lookUpOf p g f pool k =
+    guarded g f pool
+    (orElse (unlent p g (fileFits p f)) (unless (validNumber k) 3))
+    (unchanged g f pool (lookedUp p g f (named p g f k) k))
+
+-- Enter
+
+-- the rule applied to the reach that ends at page `to`; `place` is where the star was sought
+unfoldable pub enterTo : Parameters → Growth → File → Pool → Star → ℕ → ℕ → After
+enterTo p g f pool s place to =
+    let H = hash p g in
+    let from = H .home (s .number) in
+    let n = pagesTo from to in
+    let bad = firstUnsound p g f from n in
+    let cs = pages H from n (entering H f s to) in
+    cond (ltb bad (from + n))
+    (unchanged g f pool (refusedAt 5 bad place))
+    (cond (entersWithin H f s to)
+    (record {
+      answer = acceptedAt (holding (s .number) from cs) place;
+      growth = g;
+      file = replaced (p .places) f from cs;
+      pool = pool;
+    })
+    (unchanged g f pool (refusedAt 8 0 place)))
+
+-- "a held star with exactly its stored position is now accepted, answers its page", "Any other position is 6": document 02 (v)
+unfoldable pub enteredAgain : Parameters → File → ℕ → Star → Answer
+enteredAgain p f page s =
+    let place = placeFor p f page (s .number) in
+    cond (eqb (getD (f .words) (itemOf p f page (s .number)) 0) (s .word)) (acceptedAt page place) (refusedAt 6 0 place)
+
+unfoldable pub enterOn : Parameters → Growth → File → Pool → ℕ → Star → After
+enterOn p g f pool page s =
+    cond (readable p g f page)
+    (cond (holds p f page (s .number))
+    (unchanged g f pool (enteredAgain p f page s))
+    (enterTo p g f pool s (placeFor p f page (s .number)) (entryEnd (hash p g) (p .pages) f s)))
+    (unchanged g f pool (refused 5 page))
+
+unfoldable pub enterOf : Parameters → Growth → File → Pool → ℕ → Position → After
+enterOf p g f pool k position =
+    guarded g f pool
+    (orElse (unlent p g (fileFits p f && poolFits p pool))
+    (orElse (unless (validNumber k) 3) (unless (validPosition position) 4)))
+    (enterOn p g f (cleared pool) (named p g f k) (record { number = k; word = packed position }))
+
+-- Change
+
+-- "A change writes one word."
+unfoldable pub changeOn : Parameters → Growth → File → Pool → ℕ → ℕ → ℕ → After
+changeOn p g f pool page k word =
+    let place = placeFor p f page k in
+    cond (readable p g f page)
+    (cond (holds p f page k)
+    (record {
+      answer = acceptedAt page place;
+      growth = g;
+      file =
+          record {
+            separators = f .separators;
+            numbers = f .numbers;
+            words = set (f .words) (itemOf p f page k) word;
+          };
+      pool = pool;
+    })
+    (unchanged g f pool (refusedAt 7 0 place)))
+    (unchanged g f pool (refused 5 page))
+
+unfoldable pub changeOf : Parameters → Growth → File → Pool → ℕ → Position → After
+changeOf p g f pool k position =
+    guarded g f pool
+    (orElse (unlent p g (fileFits p f)) (orElse (unless (validNumber k) 3) (unless (validPosition position) 4)))
+    (changeOn p g f pool (named p g f k) k (packed position))
+
+-- Remove
+
+unfoldable pub removeTo : Parameters → Growth → File → Pool → ℕ → ℕ → ℕ → ℕ → After
+removeTo p g f pool page k place to =
+    let H = hash p g in
+    let from = H .home k in
+    let n = pagesTo from to in
+    let bad = firstUnsound p g f from n in
+    cond (ltb bad (from + n))
+    (unchanged g f pool (refusedAt 5 bad place))
+    (record {
+      answer = acceptedAt page place;
+      growth = g;
+      file = replaced (p .places) f from (pages H from n (without k (gathered (p .places) f from n)));
+      pool = pool;
+    })
+
+unfoldable pub removeOn : Parameters → Growth → File → Pool → ℕ → ℕ → After
+removeOn p g f pool page k =
+    let place = placeFor p f page k in
+    cond (readable p g f page)
+    (cond (holds p f page k)
+    (removeTo p g f pool page k place (removalEnd (hash p g) (p .pages) f (hash p g .home k)))
+    (unchanged g f pool (refusedAt 7 0 place)))
+    (unchanged g f pool (refused 5 page))
+
+unfoldable pub removeOf : Parameters → Growth → File → Pool → ℕ → After
+removeOf p g f pool k =
+    guarded g f pool
+    (orElse (unlent p g (fileFits p f && poolFits p pool)) (unless (validNumber k) 3))
+    (removeOn p g f (cleared pool) (named p g f k) k)
+
+-- Grow
+
+-- the stars of the whole file, by number
+abbrev pub allStars : Parameters → File → List Star
+allStars p f = gathered (p .places) f 0 (p .pages)
+
+-- all stars placed anew under the growth state `next`
+unfoldable pub growTo : Parameters → Growth → File → Pool → Growth → After
+growTo p g f pool next =
+    let bad = firstUnsound p g f 0 (p .pages) in
+    let w = allStars p f in
+    cond (ltb bad (p .pages))
+    (unchanged g f pool (refused 5 bad))
+    (cond (isEmpty (left (hash p next) 0 (p .pages) w))
+    (record {
+      answer = accepted (pageCount p g);
+      growth = next;
+      file = replaced (p .places) f 0 (pages (hash p next) 0 (p .pages) w);
+      pool = pool;
+    })
+    (unchanged g f pool (refused 8 0)))
+
+-- "highest address is M−1" is 8
+abbrev pub growOn : Parameters → Growth → File → Pool → After
+growOn p g f pool = cond (eqb (highest p g) (p .pages - 1)) (unchanged g f pool (refused 8 0)) (growTo p g f pool (grown p g))
+
+unfoldable pub growOf : Parameters → Growth → File → Pool → After
+growOf p g f pool =
+    guarded g f pool (unlent p g (fileFits p f && poolFits p pool)) (growOn p g f (cleared pool))
+
+-- Due
+
+unfoldable pub dueOf : Parameters → Growth → File → Pool → After
+dueOf p g f pool =
+    guarded g f pool
+    (unlent p g (fileFits p f))
+    (unchanged g f pool (counted (isDue p g (f .numbers)) (stars (f .numbers))))
+
+-- Check
+
+unfoldable pub checkedAt : Parameters → ℕ → ℕ → Answer
+checkedAt p bad spot =
+    cond (ltb bad (p .pages))
+    (spotted 5 bad (p .places))
+    (cond (ltb spot (p .pages * suc (p .places)))
+    (spotted 5 (spot / suc (p .places)) (spot % suc (p .places)))
+    (accepted 0))
+
+unfoldable pub checkOf : Parameters → Growth → File → Pool → After
+checkOf p g f pool =
+    guarded g f pool
+    (unlent p g (fileFits p f && poolFits p pool))
+    (unchanged g f (cleared pool)
+    (checkedAt p (firstUnsound p g f 0 (p .pages)) (firstSpot p f (ruled p g f))))

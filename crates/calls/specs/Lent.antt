@@ -1,0 +1,18 @@
+-- The lent pool of a call by its contents, as placement's `held`, `before` and `after` give the lent file; and what the work past refusals 1 and 2 needs.
+use denote.Ref.{now}
+use Rattle.hashing.specs.declared.Parameters.{Parameters}
+use Rattle.hashing.specs.declared.Growth.{Growth}
+use Rattle.placement.specs.File.{File}
+use Rattle.placement.specs.Lent.{Lent}
+use Rattle.placement.specs.Ready.{Ready, multipliersOf}
+use Rattle.calls.specs.Answers.{Pool, pooled}
+
+abbrev pub poolBefore : Lent → Lent → Pool
+poolBefore numbers words = pooled (now (numbers .entry)) (now (words .entry))
+
+abbrev pub poolAfter : Lent → Lent → Pool
+poolAfter numbers words = pooled (now (numbers .exit)) (now (words .exit))
+
+-- placement's `Ready`, for a call that makes the table itself
+abbrev pub Admitted : Parameters → Growth → File → Type 0
+Admitted p g f = Ready (record { parameters = p; growth = g }) (multipliersOf p) f

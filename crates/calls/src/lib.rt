@@ -1,0 +1,2 @@
+// What each call answers and leaves, by the definitions of specs/Calls.antt; the laws about them are in proofs/.
+pub mod answers;

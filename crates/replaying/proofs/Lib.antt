@@ -1,0 +1,5 @@
+pub mod Signed
+pub mod Known
+pub mod Stepping
+pub mod Running
+pub mod Replays

@@ -1,0 +1,149 @@
+-- Several steps of a replay: what a history of one call more answers and leaves.
+use mathlib.Core.Path.{_≡_, refl, sym, ap, _∙_}
+use mathlib.Core.List.{List, [], _∷_, _++_, append-assoc, append-nil}
+use Prim.Native.Nat.{ℕ, _+_, _*_, _≤_, _<_}
+use native.Mathlib.Nat.{suc-mul, zero-mul}
+use native.Mathlib.Numerals.{add-one}
+use native.Mathlib.Omega.{arith}
+use lib.ListN.{length, take, drop, length-append, drop-of-length-le}
+use lib.Seq.{paste, take-at, drop-at, drop-drop}
+use Rattle.hashing.specs.declared.Parameters.{Parameters}
+use Rattle.hashing.specs.declared.Growth.{Growth}
+use Rattle.placement.specs.File.{File}
+use Rattle.calls.specs.declared.answers.Answer.{Answer}
+use Rattle.calls.specs.Answers.{Pool, After}
+use Rattle.histories.specs.Model.{Request}
+use Rattle.histories.specs.Call.{callOf, step}
+use Rattle.histories.specs.Run.{HistoryState, fresh, outcome, next, events, end}
+use Rattle.replaying.specs.Replay.{LentHistory, requestAt, requestsTo, requestsOf, historyFrom, lastPool, encoded, eventAnswers}
+use Rattle.replaying.specs.Steps.{Recorded, Even, Runs}
+use Rattle.histories.proofs.Histories.{end-keeps}
+
+-- the state after the requests, and the call of one more
+abbrev after : HistoryState → Pool → List Request → HistoryState
+after s pool rs = end s (historyFrom s pool rs)
+
+abbrev more : HistoryState → Pool → List Request → Request → HistoryState
+more s pool rs r = next (after s pool rs) (callOf (lastPool s pool rs) r)
+
+end-snoc : (s : HistoryState) (pool : Pool) (rs : List Request) (r : Request) → after s pool (rs ++ r ∷ []) ≡ more s pool rs r
+unfolding historyFrom end lastPool
+end-snoc s pool [] r = refl
+end-snoc s pool (x ∷ rs) r = end-snoc (next s (callOf pool x)) (outcome s (callOf pool x) .pool) rs r
+
+pool-snoc : (s : HistoryState) (pool : Pool) (rs : List Request) (r : Request)
+    → lastPool s pool (rs ++ r ∷ []) ≡ outcome (after s pool rs) (callOf (lastPool s pool rs) r) .pool
+unfolding historyFrom end lastPool
+pool-snoc s pool [] r = refl
+pool-snoc s pool (x ∷ rs) r = pool-snoc (next s (callOf pool x)) (outcome s (callOf pool x) .pool) rs r
+
+answers-snoc : (s : HistoryState) (pool : Pool) (rs : List Request) (r : Request)
+    → eventAnswers (events s (historyFrom s pool (rs ++ r ∷ [])))
+    ≡ eventAnswers (events s (historyFrom s pool rs)) ++ encoded (outcome (after s pool rs) (callOf (lastPool s pool rs) r) .answer)
+unfolding historyFrom end lastPool events eventAnswers
+answers-snoc s pool [] r = append-nil (encoded (outcome s (callOf pool r) .answer))
+answers-snoc s pool (x ∷ rs) r =
+    rw (answers-snoc (next s (callOf pool x)) (outcome s (callOf pool x) .pool) rs r)
+    (sym (append-assoc (encoded (outcome s (callOf pool x) .answer)) _ _))
+
+-- eight answers more, written behind those of the calls before
+written-behind : (done whole before row : List ℕ) (at : ℕ) → length done ≡ at → before ≡ done ++ drop at whole
+    → paste before at row 8 ≡ (done ++ take 8 row) ++ drop (at + 8) whole
+written-behind done whole before row at l e =
+    rw (e, take-at done (drop at whole) at l, ← drop-drop 8 at (done ++ drop at whole), drop-at done (drop at whole) at l, drop-drop 8 at whole)
+
+eight : (a : Answer) → take 8 (encoded a) ≡ encoded a
+unfolding encoded
+eight a = refl
+
+pub eight-long : (a : Answer) → length (encoded a) ≡ 8
+unfolding encoded
+eight-long a = refl
+
+-- the first i calls of a lent history, run from a state whose model is the empty one
+pub record Ongoing (p : Parameters) (h : LentHistory) (growth₀ : Growth) (file₀ : File) (pool₀ : Pool) (answers₀ : List ℕ)
+    (i : ℕ) (growth : Growth) (answers : List ℕ) (file : File) (pool : Pool) : Type 0 where
+  pub most : i ≤ length (h .kinds)
+  pub counted : length (eventAnswers (events (fresh p growth₀ file₀) (historyFrom (fresh p growth₀ file₀) pool₀ (requestsTo h i)))) ≡ i * 8
+  pub runs : Runs (fresh p growth₀ file₀) pool₀ (requestsTo h i) (drop (i * 8) answers₀) growth answers file pool
+
+-- the lent slices keep their lengths
+pub record SameLengths (file₀ : File) (pool₀ : Pool) (answers₀ : List ℕ) (file : File) (pool : Pool) (answers : List ℕ) : Type 0 where
+  pub ofSeparators : length (file .separators) ≡ length (file₀ .separators)
+  pub ofNumbers : length (file .numbers) ≡ length (file₀ .numbers)
+  pub ofWords : length (file .words) ≡ length (file₀ .words)
+  pub ofPoolnumbers : length (pool .numbers) ≡ length (pool₀ .numbers)
+  pub ofPoolwords : length (pool .words) ≡ length (pool₀ .words)
+  pub ofAnswers : length answers ≡ length answers₀
+
+pub same-lengths : (file : File) (pool : Pool) (answers : List ℕ) → SameLengths file pool answers file pool answers
+same-lengths file pool answers =
+    record {
+      ofSeparators = refl;
+      ofNumbers = refl;
+      ofWords = refl;
+      ofPoolnumbers = refl;
+      ofPoolwords = refl;
+      ofAnswers = refl;
+    }
+
+module _ (p : Parameters) (h : LentHistory) (growth₀ : Growth) (file₀ : File) (pool₀ : Pool) (answers₀ : List ℕ) where
+  abbrev so-far : ℕ → List ℕ
+  so-far i = eventAnswers (events (fresh p growth₀ file₀) (historyFrom (fresh p growth₀ file₀) pool₀ (requestsTo h i)))
+
+  pub ongoing-none : Ongoing p h growth₀ file₀ pool₀ answers₀ 0 growth₀ answers₀ file₀ pool₀
+  unfolding requestsTo historyFrom events end lastPool eventAnswers
+  ongoing-none =
+      rw (zero-mul 8)
+      (record {
+        most = omega arith;
+        counted = refl;
+        runs = record { answersAre = refl; growths = refl; files = refl; pools = refl };
+      })
+
+  module _ (i : ℕ) (growth : Growth) (answers : List ℕ) (file : File) (pool : Pool)
+      (t : Ongoing p h growth₀ file₀ pool₀ answers₀ i growth answers file pool) where
+    -- what the call of one more answers and leaves
+    abbrev this : After
+    this =
+        outcome (after (fresh p growth₀ file₀) pool₀ (requestsTo h i))
+        (callOf (lastPool (fresh p growth₀ file₀) pool₀ (requestsTo h i)) (requestAt h i))
+
+    same-step : step p growth file pool (requestAt h i) ≡ this
+    unfolding outcome
+    same-step = rw (end-keeps (fresh p growth₀ file₀) (historyFrom (fresh p growth₀ file₀) pool₀ (requestsTo h i)), t .runs .growths, t .runs .files, t .runs .pools)
+
+    pub ongoing-more : i < length (h .kinds) → (growth′ : Growth) (answers′ : List ℕ) (file′ : File) (pool′ : Pool)
+        → Recorded (step p growth file pool (requestAt h i)) answers (i * 8) growth′ answers′ file′ pool′
+        → Ongoing p h growth₀ file₀ pool₀ answers₀ (i + 1) growth′ answers′ file′ pool′
+    unfolding requestsTo next
+    ongoing-more l growth′ answers′ file′ pool′ w =
+        let s = fresh p growth₀ file₀ in
+        let rs = requestsTo h i in
+        let r = requestAt h i in
+        let v : Recorded this answers (i * 8) growth′ answers′ file′ pool′ = rw same-step at w in
+        rw (add-one i)
+        (record {
+          most = omega arith;
+          counted =
+              rw (answers-snoc s pool₀ rs r, length-append (so-far i) (encoded (this .answer)), t .counted, eight-long (this .answer))
+              (sym (suc-mul i 8));
+          runs =
+              record {
+                answersAre =
+                    v .answersAre
+                    ∙ written-behind (so-far i) answers₀ answers (encoded (this .answer)) (i * 8) (t .counted) (t .runs .answersAre)
+                    ∙ rw (eight (this .answer), answers-snoc s pool₀ rs r, suc-mul i 8);
+                growths = v .growths ∙ sym (ap (λ (x : HistoryState). x .growth) (end-snoc s pool₀ rs r));
+                files = v .files ∙ sym (ap (λ (x : HistoryState). x .file) (end-snoc s pool₀ rs r));
+                pools = v .pools ∙ sym (pool-snoc s pool₀ rs r);
+              };
+        })
+
+    pub ongoing-all : length (h .kinds) ≤ i → Even h answers₀
+        → Runs (fresh p growth₀ file₀) pool₀ (requestsOf h) [] growth answers file pool
+    ongoing-all l even =
+        let e : i ≡ length (h .kinds) = omega (arith, t .most) in
+        let n : drop (length (h .kinds) * 8) answers₀ ≡ [] =
+        drop-of-length-le answers₀ {i = length (h .kinds) * 8} (omega (arith, even .eight)) in
+        rw (e, n) at (t .runs)

@@ -1,0 +1,180 @@
+-- One step of a replay: each kind's call, at the pool lent to all of them.
+use mathlib.Core.Path.{_≡_, refl, sym, ap, _∙_}
+use mathlib.Core.Bool.{Bool, true, false, cond, _&&_}
+use mathlib.Core.List.{List}
+use Prim.Native.Nat.{ℕ, zero, suc, _+_}
+use lib.Dec.{ltb}
+use lib.Seq.{paste}
+use borrow.Author.Tests.{ne-eqb}
+use Rattle.hashing.specs.declared.Parameters.{Parameters}
+use Rattle.hashing.specs.declared.Growth.{Growth}
+use Rattle.pages.specs.declared.position.Position.{Position}
+use Rattle.pages.specs.Position.{validNumber, validPosition, packed}
+use Rattle.placement.specs.Rule.{Star}
+use Rattle.placement.specs.File.{File}
+use Rattle.reach.specs.Reach.{pagesTo, entryEnd, removalEnd, entersWithin, firstUnsound}
+use Rattle.calls.specs.declared.answers.Answer.{Answer}
+use Rattle.calls.specs.Answers.{Pool, After, Leaves, unpooled}
+use Rattle.calls.specs.Calls.{
+  hash,
+  fileFits,
+  poolFits,
+  unless,
+  orElse,
+  unlent,
+  unchanged,
+  guarded,
+  readable,
+  named,
+  holds,
+  lookedUp,
+  lookUpOf,
+  enterTo,
+  enterOn,
+  enterOf,
+  changeOn,
+  changeOf,
+  removeTo,
+  removeOn,
+  removeOf,
+  growOf,
+  dueOf,
+  checkOf,
+}
+use Rattle.replaying.specs.declared.calling.Stepped.{Stepped}
+use Rattle.histories.specs.Call.{step}
+use Rattle.replaying.specs.Replay.{requestOf, encoded}
+use Rattle.replaying.specs.Steps.{Steps, Recorded}
+
+-- A call that only answers leaves every pool as it was.
+only-answers : (g : Growth) (f : File) (pool : Pool) (n : ℕ) (a : Answer)
+    → guarded g f pool n (unchanged g f pool a)
+    ≡ unchanged g f pool (guarded g f unpooled n (unchanged g f unpooled a) .answer)
+only-answers g f pool zero a = refl
+only-answers g f pool (suc n) a = refl
+
+-- after a call that was lent no pool, at the growth state g
+abbrev over : Growth → Pool → After → After
+over g pool a = record { answer = a .answer; growth = g; file = a .file; pool = pool }
+
+guarded-over : (g : Growth) (f : File) (pool : Pool) (n : ℕ) (a b : After) → a ≡ over g pool b
+    → guarded g f pool n a ≡ over g pool (guarded g f unpooled n b)
+guarded-over g f pool zero a b e = e
+guarded-over g f pool (suc n) a b e = refl
+
+cases-over : (g : Growth) (f h : File) (pool : Pool) (t u : Bool) (x y z : Answer)
+    → cond t (cond u (record { answer = x; growth = g; file = h; pool = pool }) (unchanged g f pool y)) (unchanged g f pool z)
+    ≡ over g pool
+    (cond t (cond u (record { answer = x; growth = g; file = h; pool = unpooled }) (unchanged g f unpooled y)) (unchanged g f unpooled z))
+cases-over g f h pool true true x y z = refl
+cases-over g f h pool true false x y z = refl
+cases-over g f h pool false u x y z = refl
+
+-- A call that does not grow keeps the growth state.
+guarded-growth : (g : Growth) (f : File) (pool : Pool) (n : ℕ) (a : After) → a .growth ≡ g → guarded g f pool n a .growth ≡ g
+guarded-growth g f pool zero a e = e
+guarded-growth g f pool (suc n) a e = refl
+
+cond-growth : (t : Bool) (a b : After) (g : Growth) → a .growth ≡ g → b .growth ≡ g → cond t a b .growth ≡ g
+cond-growth true a b g ea eb = ea
+cond-growth false a b g ea eb = eb
+
+module _ (p : Parameters) (g : Growth) (f : File) (pool : Pool) where
+  look-up-over : (k : ℕ) → lookUpOf p g f pool k ≡ unchanged g f pool (lookUpOf p g f unpooled k .answer)
+  unfolding lookUpOf
+  look-up-over k = only-answers g f pool (orElse (unlent p g (fileFits p f)) (unless (validNumber k) 3)) (lookedUp p g f (named p g f k) k)
+
+  due-over : dueOf p g f pool ≡ unchanged g f pool (dueOf p g f unpooled .answer)
+  unfolding dueOf
+  due-over = only-answers g f pool (unlent p g (fileFits p f)) _
+
+  change-over : (k : ℕ) (q : Position) → changeOf p g f pool k q ≡ over g pool (changeOf p g f unpooled k q)
+  unfolding changeOf changeOn
+  change-over k q =
+      guarded-over g f pool (orElse (unlent p g (fileFits p f)) (orElse (unless (validNumber k) 3) (unless (validPosition q) 4))) _ _
+      (cases-over g f _ pool (readable p g f (named p g f k)) (holds p f (named p g f k) k) _ _ _)
+
+  enter-growth : (k : ℕ) (q : Position) → enterOf p g f pool k q .growth ≡ g
+  unfolding enterOf enterOn enterTo
+  enter-growth k q =
+      let s : Star = record { number = k; word = packed q } in
+      let from = hash p g .home k in
+      let to = entryEnd (hash p g) (p .pages) f s in
+      guarded-growth g f pool
+      (orElse (unlent p g (fileFits p f && poolFits p pool)) (orElse (unless (validNumber k) 3) (unless (validPosition q) 4))) _
+      (cond-growth (readable p g f (named p g f k)) _ _ g
+      (cond-growth (holds p f (named p g f k) k) _ _ g refl
+      (cond-growth (ltb (firstUnsound p g f from (pagesTo from to)) (from + pagesTo from to)) _ _ g refl
+      (cond-growth (entersWithin (hash p g) f s to) _ _ g refl refl)))
+      refl)
+
+  remove-growth : (k : ℕ) → removeOf p g f pool k .growth ≡ g
+  unfolding removeOf removeOn removeTo
+  remove-growth k =
+      let from = hash p g .home k in
+      let to = removalEnd (hash p g) (p .pages) f from in
+      guarded-growth g f pool (orElse (unlent p g (fileFits p f && poolFits p pool)) (unless (validNumber k) 3)) _
+      (cond-growth (readable p g f (named p g f k)) _ _ g
+      (cond-growth (holds p f (named p g f k) k) _ _ g
+      (cond-growth (ltb (firstUnsound p g f from (pagesTo from to)) (from + pagesTo from to)) _ _ g refl refl)
+      refl)
+      refl)
+
+  check-growth : checkOf p g f pool .growth ≡ g
+  unfolding checkOf
+  check-growth = guarded-growth g f pool (unlent p g (fileFits p f && poolFits p pool)) _ refl
+
+  -- The step of each kind, from what its call ensures.
+  module _ (kind k : ℕ) (q : Position) (a : Answer) where
+    pub look-up-steps : kind ≡ 0 → a ≡ lookUpOf p g f unpooled k .answer
+        → Steps (step p g f pool (requestOf kind k q)) (record { answer = a; growth = g }) f pool
+    unfolding step requestOf
+    look-up-steps e h = rw (e, look-up-over k) (record { answers = h; growths = refl; files = refl; pools = refl })
+
+    pub due-steps : kind ≡ 5 → a ≡ dueOf p g f unpooled .answer
+        → Steps (step p g f pool (requestOf kind k q)) (record { answer = a; growth = g }) f pool
+    unfolding step requestOf
+    due-steps e h = rw (e, due-over) (record { answers = h; growths = refl; files = refl; pools = refl })
+
+    module _ (said-so : Answer) (h : a ≡ said-so) where
+      pub change-steps : (file : File) → kind ≡ 2 → Leaves (changeOf p g f unpooled k q) said-so file unpooled
+          → Steps (step p g f pool (requestOf kind k q)) (record { answer = a; growth = g }) file pool
+      unfolding step requestOf
+      change-steps file e l = rw (e, change-over k q) (record { answers = h ∙ l .answers; growths = refl; files = l .files; pools = refl })
+
+      pub enter-steps : (file : File) (left : Pool) → kind ≡ 1 → Leaves (enterOf p g f pool k q) said-so file left
+          → Steps (step p g f pool (requestOf kind k q)) (record { answer = a; growth = g }) file left
+      unfolding step requestOf
+      enter-steps file left e l = rw e (record { answers = h ∙ l .answers; growths = sym (enter-growth k q); files = l .files; pools = l .pools })
+
+      pub remove-steps : (file : File) (left : Pool) → kind ≡ 3 → Leaves (removeOf p g f pool k) said-so file left
+          → Steps (step p g f pool (requestOf kind k q)) (record { answer = a; growth = g }) file left
+      unfolding step requestOf
+      remove-steps file left e l = rw e (record { answers = h ∙ l .answers; growths = sym (remove-growth k); files = l .files; pools = l .pools })
+
+      pub grow-steps : (file : File) (left : Pool) → kind ≡ 4 → (next : Growth) → next ≡ growOf p g f pool .growth
+          → Leaves (growOf p g f pool) said-so file left
+          → Steps (step p g f pool (requestOf kind k q)) (record { answer = a; growth = next }) file left
+      unfolding step requestOf
+      grow-steps file left e next n l = rw e (record { answers = h ∙ l .answers; growths = n; files = l .files; pools = l .pools })
+
+      pub check-steps : (left : Pool) → (kind ≡ 0 → ⊥) → (kind ≡ 1 → ⊥) → (kind ≡ 2 → ⊥)
+          → (kind ≡ 3 → ⊥) → (kind ≡ 4 → ⊥) → (kind ≡ 5 → ⊥)
+          → Leaves (checkOf p g f pool) said-so f left
+          → Steps (step p g f pool (requestOf kind k q)) (record { answer = a; growth = g }) f left
+      unfolding step requestOf
+      check-steps left e0 e1 e2 e3 e4 e5 l =
+          rw (ne-eqb _ _ e0, ne-eqb _ _ e1, ne-eqb _ _ e2, ne-eqb _ _ e3, ne-eqb _ _ e4, ne-eqb _ _ e5)
+          (record { answers = h ∙ l .answers; growths = sym check-growth; files = l .files; pools = l .pools })
+
+-- the answers of a step, recorded
+pub recorded : (after : After) (r : Stepped) (file : File) (pool : Pool) (before answers : List ℕ) (at : ℕ)
+    → Steps after r file pool → answers ≡ paste before at (encoded (r .answer)) 8
+    → Recorded after before at (r .growth) answers file pool
+recorded after r file pool before answers at s w =
+    record {
+      answersAre = w ∙ ap (λ (a : Answer). paste before at (encoded a) 8) (s .answers);
+      growths = s .growths;
+      files = s .files;
+      pools = s .pools;
+    }

@@ -1,0 +1,50 @@
+-- `replaying::calling::replay_step` meets its contract.
+use Rattle.replaying.proofs.Stepping.{recorded}
+use borrow.Author.Needs.{needs}
+use Rattle.replaying.proofs.calling.replay_step.Statement.{statement}
+use Rattle.replaying.proofs.calling.replay_step.Tie as tie
+
+run-call-requires : tie.Need-run-call-requires
+run-call-requires c κs = search needs
+
+write-requires : tie.Need-write-requires
+write-requires c κs = search needs
+
+same-length : tie.Need-same-length
+same-length c = search needs
+
+same-length-2 : tie.Need-same-length-2
+same-length-2 c = search needs
+
+same-length-3 : tie.Need-same-length-3
+same-length-3 c = search needs
+
+same-length-4 : tie.Need-same-length-4
+same-length-4 c = search needs
+
+same-length-5 : tie.Need-same-length-5
+same-length-5 c = search needs
+
+same-length-6 : tie.Need-same-length-6
+same-length-6 c = search needs
+
+returns : tie.Need-returns
+returns c =
+    let written-at = c .before .before .before in
+    recorded _ _ _ _ _ _ _
+    (written-at .before .before .before .before .before .before .before .before .before .before .before .before .before .run-call .ensures)
+    (written-at .write .ensures)
+
+pub replay-step-spec : {M : Type 1} → statement M
+replay-step-spec =
+    tie.close
+    (tie.spec
+    run-call-requires
+    write-requires
+    same-length
+    same-length-2
+    same-length-3
+    same-length-4
+    same-length-5
+    same-length-6
+    returns)

@@ -1,0 +1,271 @@
+-- `replaying::calling::run_call` meets its contract. Each kind's call, by the law of its step.
+use mathlib.Core.Path.{_∙_}
+use Rattle.replaying.proofs.Stepping.{look-up-steps, enter-steps, change-steps, remove-steps, grow-steps, due-steps, check-steps}
+use borrow.Author.Needs.{needs}
+use Rattle.replaying.proofs.calling.run_call.Statement.{statement}
+use Rattle.replaying.proofs.calling.run_call.Tie as tie
+
+look-up-requires : tie.Need-look-up-requires
+look-up-requires c κs = search needs
+
+sought-answer-requires : tie.Need-sought-answer-requires
+sought-answer-requires c κs = search needs
+
+unmoved-requires : tie.Need-unmoved-requires
+unmoved-requires c κs = search needs
+
+same-length : tie.Need-same-length
+same-length c = search needs
+
+same-length-2 : tie.Need-same-length-2
+same-length-2 c = search needs
+
+same-length-3 : tie.Need-same-length-3
+same-length-3 c = search needs
+
+returns : tie.Need-returns
+returns c =
+    let called = c .before .before in
+    rw (c .unmoved .ensures)
+    (look-up-steps _ _ _ _ _ _ _ _ (called .before .before .before .before .if1 .taken) (c .before .sought-answer .ensures ∙ called .look-up .ensures))
+
+enter-requires : tie.Need-enter-requires
+enter-requires c κs = search needs
+
+placed-answer-requires : tie.Need-placed-answer-requires
+placed-answer-requires c κs = search needs
+
+unmoved-requires-2 : tie.Need-unmoved-requires-2
+unmoved-requires-2 c κs = search needs
+
+same-length-4 : tie.Need-same-length-4
+same-length-4 c = search needs
+
+same-length-5 : tie.Need-same-length-5
+same-length-5 c = search needs
+
+same-length-6 : tie.Need-same-length-6
+same-length-6 c = search needs
+
+same-length-7 : tie.Need-same-length-7
+same-length-7 c = search needs
+
+same-length-8 : tie.Need-same-length-8
+same-length-8 c = search needs
+
+returns-2 : tie.Need-returns-2
+returns-2 c =
+    let called = c .before .before .before .before .before .before .before .before .before .before .before .before in
+    rw (c .unmoved2 .ensures)
+    (enter-steps _ _ _ _ _ _ _ _ _ (c .before .placed-answer .ensures) _ _ (called .before .before .before .before .before .before .if2 .taken) (called .enter .ensures))
+
+change-requires : tie.Need-change-requires
+change-requires c κs = search needs
+
+placed-answer-requires-2 : tie.Need-placed-answer-requires-2
+placed-answer-requires-2 c κs = search needs
+
+unmoved-requires-3 : tie.Need-unmoved-requires-3
+unmoved-requires-3 c κs = search needs
+
+same-length-9 : tie.Need-same-length-9
+same-length-9 c = search needs
+
+same-length-10 : tie.Need-same-length-10
+same-length-10 c = search needs
+
+same-length-11 : tie.Need-same-length-11
+same-length-11 c = search needs
+
+returns-3 : tie.Need-returns-3
+returns-3 c =
+    let called = c .before .before .before .before in
+    rw (c .unmoved3 .ensures)
+    (change-steps _ _ _ _ _ _ _ _ _ (c .before .placed-answer2 .ensures) _ (called .before .before .before .before .if3 .taken) (called .change .ensures))
+
+remove-requires : tie.Need-remove-requires
+remove-requires c κs = search needs
+
+placed-answer-requires-3 : tie.Need-placed-answer-requires-3
+placed-answer-requires-3 c κs = search needs
+
+unmoved-requires-4 : tie.Need-unmoved-requires-4
+unmoved-requires-4 c κs = search needs
+
+same-length-12 : tie.Need-same-length-12
+same-length-12 c = search needs
+
+same-length-13 : tie.Need-same-length-13
+same-length-13 c = search needs
+
+same-length-14 : tie.Need-same-length-14
+same-length-14 c = search needs
+
+same-length-15 : tie.Need-same-length-15
+same-length-15 c = search needs
+
+same-length-16 : tie.Need-same-length-16
+same-length-16 c = search needs
+
+returns-4 : tie.Need-returns-4
+returns-4 c =
+    let called = c .before .before .before .before .before .before .before .before .before .before .before .before in
+    rw (c .unmoved4 .ensures)
+    (remove-steps _ _ _ _ _ _ _ _ _ (c .before .placed-answer3 .ensures) _ _ (called .before .before .before .before .before .before .if4 .taken) (called .remove .ensures))
+
+grow-requires : tie.Need-grow-requires
+grow-requires c κs = search needs
+
+placed-answer-requires-4 : tie.Need-placed-answer-requires-4
+placed-answer-requires-4 c κs = search needs
+
+unmoved-requires-5 : tie.Need-unmoved-requires-5
+unmoved-requires-5 c κs = search needs
+
+same-length-17 : tie.Need-same-length-17
+same-length-17 c = search needs
+
+same-length-18 : tie.Need-same-length-18
+same-length-18 c = search needs
+
+same-length-19 : tie.Need-same-length-19
+same-length-19 c = search needs
+
+same-length-20 : tie.Need-same-length-20
+same-length-20 c = search needs
+
+same-length-21 : tie.Need-same-length-21
+same-length-21 c = search needs
+
+returns-5 : tie.Need-returns-5
+returns-5 c =
+    let called = c .before .before .before .before .before .before .before .before .before .before .before .before in
+    rw (c .unmoved5 .ensures)
+    (grow-steps _ _ _ _ _ _ _ _ _ (c .before .placed-answer4 .ensures) _ _ (called .before .before .before .before .before .before .if5 .taken) _
+    (called .grow .ensures .1)
+    (called .grow .ensures .0))
+
+due-requires : tie.Need-due-requires
+due-requires c κs = search needs
+
+due-answer-requires : tie.Need-due-answer-requires
+due-answer-requires c κs = search needs
+
+unmoved-requires-6 : tie.Need-unmoved-requires-6
+unmoved-requires-6 c κs = search needs
+
+same-length-22 : tie.Need-same-length-22
+same-length-22 c = search needs
+
+same-length-23 : tie.Need-same-length-23
+same-length-23 c = search needs
+
+same-length-24 : tie.Need-same-length-24
+same-length-24 c = search needs
+
+returns-6 : tie.Need-returns-6
+returns-6 c =
+    let called = c .before .before in
+    rw (c .unmoved6 .ensures)
+    (due-steps _ _ _ _ _ _ _ _ (called .before .before .before .before .if6 .taken) (c .before .due-answer .ensures ∙ called .due .ensures))
+
+check-requires : tie.Need-check-requires
+check-requires c κs = search needs
+
+checked-answer-requires : tie.Need-checked-answer-requires
+checked-answer-requires c κs = search needs
+
+unmoved-requires-7 : tie.Need-unmoved-requires-7
+unmoved-requires-7 c κs = search needs
+
+same-length-25 : tie.Need-same-length-25
+same-length-25 c = search needs
+
+same-length-26 : tie.Need-same-length-26
+same-length-26 c = search needs
+
+same-length-27 : tie.Need-same-length-27
+same-length-27 c = search needs
+
+same-length-28 : tie.Need-same-length-28
+same-length-28 c = search needs
+
+same-length-29 : tie.Need-same-length-29
+same-length-29 c = search needs
+
+returns-7 : tie.Need-returns-7
+returns-7 c =
+    let called = c .before .before .before .before .before .before in
+    let six = called .before .before .before .before .before .before in
+    let three = six .before .before .before in
+    rw (c .unmoved7 .ensures)
+    (check-steps _ _ _ _ _ _ _ _ _ (c .before .checked-answer .ensures) _
+    (three .before .before .if1 .left)
+    (three .before .if2 .left)
+    (three .if3 .left)
+    (six .before .before .if4 .left)
+    (six .before .if5 .left)
+    (six .if6 .left)
+    (called .check .ensures))
+
+pub run-call-spec : {M : Type 1} → statement M
+run-call-spec =
+    tie.close
+    (tie.spec
+    look-up-requires
+    sought-answer-requires
+    unmoved-requires
+    same-length
+    same-length-2
+    same-length-3
+    returns
+    enter-requires
+    placed-answer-requires
+    unmoved-requires-2
+    same-length-4
+    same-length-5
+    same-length-6
+    same-length-7
+    same-length-8
+    returns-2
+    change-requires
+    placed-answer-requires-2
+    unmoved-requires-3
+    same-length-9
+    same-length-10
+    same-length-11
+    returns-3
+    remove-requires
+    placed-answer-requires-3
+    unmoved-requires-4
+    same-length-12
+    same-length-13
+    same-length-14
+    same-length-15
+    same-length-16
+    returns-4
+    grow-requires
+    placed-answer-requires-4
+    unmoved-requires-5
+    same-length-17
+    same-length-18
+    same-length-19
+    same-length-20
+    same-length-21
+    returns-5
+    due-requires
+    due-answer-requires
+    unmoved-requires-6
+    same-length-22
+    same-length-23
+    same-length-24
+    returns-6
+    check-requires
+    checked-answer-requires
+    unmoved-requires-7
+    same-length-25
+    same-length-26
+    same-length-27
+    same-length-28
+    same-length-29
+    returns-7)

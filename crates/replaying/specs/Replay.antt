@@ -1,0 +1,182 @@
+-- A replay: a lent history, run through the calls from a file made for it.
+use mathlib.Core.Path.{_≡_}
+use mathlib.Core.Bool.{Bool, true, false, cond, _&&_}
+use mathlib.Core.List.{List, [], _∷_, _++_}
+use Prim.Native.Nat.{ℕ, zero, suc, _*_}
+use lib.Dec.{eqb, ltb}
+use lib.IntN.{ℤ, pos, natAbs, _+ℤ_}
+use lib.ListN.{length, getD}
+use Rattle.hashing.specs.declared.Parameters.{Parameters}
+use Rattle.hashing.specs.declared.Growth.{Growth}
+use Rattle.hashing.specs.Geometry.{ungrown}
+use Rattle.pages.specs.declared.position.Position.{Position}
+use Rattle.placement.specs.File.{File}
+use Rattle.calls.specs.declared.answers.Answer.{Answer}
+use Rattle.calls.specs.Answers.{Pool, numberOf, unpooled}
+use Rattle.calls.specs.Calls.{unless, orElse, makeOf}
+use Rattle.replaying.specs.declared.replaying.Replayed.{Replayed}
+use Rattle.replaying.specs.declared.replaying.Replayed.the-variants.{Done, BadKind, Refused}
+use Rattle.histories.specs.Model.{modelFile, Request, lookUp, enter, change, remove, grow, due, check}
+use Rattle.histories.specs.Call.{Call, callOf}
+use Rattle.histories.specs.Run.{HistoryState, Event, initial, outcome, next, events, end}
+use Rattle.histories.specs.Theorem.{AsModel}
+
+-- the lent slices of a history: the kind, number, right ascension and declination of each call
+pub record LentHistory : Type 0 where
+  pub kinds : List ℕ
+  pub stars : List ℕ
+  pub ras : List ℕ
+  pub decs : List ℤ
+
+abbrev pub lentHistory : List ℕ → List ℕ → List ℕ → List ℤ → LentHistory
+lentHistory kinds stars ras decs = record { kinds = kinds; stars = stars; ras = ras; decs = decs }
+
+-- every kind is one of the seven
+unfoldable pub allKinds : List ℕ → Bool
+allKinds [] = true
+allKinds (kind ∷ kinds) = ltb kind 7 && allKinds kinds
+
+-- kinds: 0 look-up, 1 enter, 2 change, 3 remove, 4 grow, 5 due, 6 check
+unfoldable pub requestOf : ℕ → ℕ → Position → Request
+requestOf kind k q =
+    cond (eqb kind 0)
+    (lookUp k)
+    (cond (eqb kind 1)
+    (enter k q)
+    (cond (eqb kind 2)
+    (change k q)
+    (cond (eqb kind 3) (remove k) (cond (eqb kind 4) grow (cond (eqb kind 5) due check)))))
+
+abbrev pub requestAt : LentHistory → ℕ → Request
+requestAt h i =
+    requestOf (getD (h .kinds) i 0) (getD (h .stars) i 0)
+    (record { ra = getD (h .ras) i 0; dec = getD (h .decs) i (pos 0) })
+
+-- the first n requests
+unfoldable pub requestsTo : LentHistory → ℕ → List Request
+requestsTo h zero = []
+requestsTo h (suc i) = requestsTo h i ++ requestAt h i ∷ []
+
+abbrev pub requestsOf : LentHistory → List Request
+requestsOf h = requestsTo h (length (h .kinds))
+
+-- The calls: each has the pool as the call before left it.
+
+unfoldable pub historyFrom : HistoryState → Pool → List Request → List Call
+historyFrom s pool [] = []
+historyFrom s pool (r ∷ rs) = callOf pool r ∷ historyFrom (next s (callOf pool r)) (outcome s (callOf pool r) .pool) rs
+
+-- the pool after the last call
+unfoldable pub lastPool : HistoryState → Pool → List Request → Pool
+lastPool s pool [] = pool
+lastPool s pool (r ∷ rs) = lastPool (next s (callOf pool r)) (outcome s (callOf pool r) .pool) rs
+
+-- Eight numbers for each answer.
+
+unfoldable pub bit : Bool → ℕ
+bit true = 1
+bit false = 0
+
+-- a signed number of 32 bits, raised by 2^31
+unfoldable pub shifted : ℤ → ℕ
+shifted dec = natAbs (dec +ℤ pos 2147483648)
+
+-- refusal, page, place, found, right ascension, declination, due, stars
+unfoldable pub encoded : Answer → List ℕ
+encoded a =
+    a .refusal
+    ∷ a .page
+    ∷ a .place
+    ∷ bit (a .found)
+    ∷ a .position .ra
+    ∷ shifted (a .position .dec)
+    ∷ bit (a .due)
+    ∷ a .stars
+    ∷ []
+
+unfoldable pub eventAnswers : List Event → List ℕ
+eventAnswers [] = []
+eventAnswers (t ∷ ts) = encoded (t .answer) ++ eventAnswers ts
+
+-- What a replay answers and leaves.
+
+pub record Replay : Type 0 where
+  -- 0 if it was run
+  pub refusal : ℕ
+  pub growth : Growth
+  pub answers : List ℕ
+  pub file : File
+  pub pool : Pool
+
+-- a star, a right ascension and a declination for each kind, and eight answers
+abbrev pub evenLengths : ℕ → ℕ → ℕ → ℕ → ℕ → Bool
+evenLengths kinds stars ras decs answers =
+    eqb stars kinds && (eqb ras kinds && (eqb decs kinds && eqb answers (kinds * 8)))
+
+-- a pool as long as the file's numbers and words
+abbrev pub evenPool : ℕ → ℕ → ℕ → ℕ → Bool
+evenPool numbers words poolnumbers poolwords = eqb poolnumbers numbers && eqb poolwords words
+
+unfoldable pub agreeing : File → Pool → LentHistory → List ℕ → Bool
+agreeing f pool h answers =
+    evenLengths (length (h .kinds)) (length (h .stars)) (length (h .ras)) (length (h .decs)) (length answers)
+    && evenPool (length (f .numbers)) (length (f .words)) (length (pool .numbers)) (length (pool .words))
+
+-- an unknown kind: a number that no paper uses
+abbrev pub unknownKind : ℕ
+unknownKind = 256
+
+-- lengths that do not agree are 2, then an unknown kind, else it is what make says of parameters and lengths
+unfoldable pub refusalOf : Parameters → File → Pool → LentHistory → List ℕ → ℕ
+refusalOf p f pool h answers =
+    orElse (unless (agreeing f pool h answers) 2)
+    (orElse (unless (allKinds (h .kinds)) unknownKind) (makeOf p f unpooled .answer .refusal))
+
+-- the history of a replay, from the file that make left
+abbrev pub historyOf : Parameters → File → Pool → LentHistory → List Call
+historyOf p f pool h = historyFrom (initial p f unpooled) pool (requestsOf h)
+
+-- refused, with everything as it was, or run
+unfoldable pub replayedWith : ℕ → Parameters → File → Pool → LentHistory → List ℕ → Replay
+replayedWith (suc n) p f pool h answers = record { refusal = suc n; growth = ungrown; answers = answers; file = f; pool = pool }
+replayedWith zero p f pool h answers =
+    record {
+      refusal = 0;
+      growth = end (initial p f unpooled) (historyOf p f pool h) .growth;
+      answers = eventAnswers (events (initial p f unpooled) (historyOf p f pool h));
+      file = end (initial p f unpooled) (historyOf p f pool h) .file;
+      pool = lastPool (initial p f unpooled) pool (requestsOf h);
+    }
+
+unfoldable pub replayOf : Parameters → File → Pool → LentHistory → List ℕ → Replay
+replayOf p f pool h answers = replayedWith (refusalOf p f pool h answers) p f pool h answers
+
+-- the number of each case of the answer
+unfoldable pub refusalSaid : Replayed → ℕ
+refusalSaid (Done growth) = 0
+refusalSaid BadKind = unknownKind
+refusalSaid (Refused r) = numberOf r
+
+unfoldable pub growthSaid : Replayed → Growth
+growthSaid (Done growth) = growth
+growthSaid BadKind = ungrown
+growthSaid (Refused r) = ungrown
+
+-- the answer and the lent slices at exit are those of the definition
+pub record Replays (replay : Replay) (r : Replayed) (answers : List ℕ) (file : File) (pool : Pool) : Type 0 where
+  pub refusals : refusalSaid r ≡ replay .refusal
+  pub growths : growthSaid r ≡ replay .growth
+  pub answersAre : answers ≡ replay .answers
+  pub files : file ≡ replay .file
+  pub pools : pool ≡ replay .pool
+
+-- An accepted replay leaves the model's file: every history, said of the one that the slices hold.
+pub record AsReplayed (p : Parameters) (f : File) (pool : Pool) (h : LentHistory) (answers : List ℕ) : Type 0 where
+  pub asModel : AsModel (initial p f unpooled) (historyOf p f pool h)
+  pub fileIs : replayOf p f pool h answers .file ≡ modelFile p (end (initial p f unpooled) (historyOf p f pool h) .model)
+  pub growthIs : replayOf p f pool h answers .growth ≡ end (initial p f unpooled) (historyOf p f pool h) .model .growth
+
+abbrev pub EveryReplay : Type 0
+EveryReplay =
+    (p : Parameters) (f : File) (pool : Pool) (h : LentHistory) (answers : List ℕ)
+    → replayOf p f pool h answers .refusal ≡ 0 → AsReplayed p f pool h answers

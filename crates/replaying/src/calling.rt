@@ -1,0 +1,153 @@
+// One call of a lent history.
+ghost use mathlib.Core.Path.{_≡_};
+ghost use Prim.Native.Nat.{_+_, _≤_};
+ghost use lib.ListN.{length};
+ghost use Rattle.placement.specs.Lent.{before, after};
+ghost use Rattle.histories.specs.Call.{step};
+ghost use Rattle.calls.specs.Lent.{poolBefore, poolAfter};
+ghost use Rattle.replaying.specs.Replay.{requestOf};
+ghost use Rattle.replaying.specs.Steps.{Steps, Recorded};
+use calls::answers::Answer;
+use calls::answers::checked_answer;
+use calls::answers::due_answer;
+use calls::answers::placed_answer;
+use calls::answers::sought_answer;
+use hashing::Growth;
+use hashing::Parameters;
+use pages::position::Position;
+
+// What a call answered, and the growth state after it.
+pub struct Stepped {
+    pub answer: Answer,
+    pub growth: Growth,
+}
+
+// Runs the call of a kind: 0 look-up, 1 enter, 2 change, 3 remove, 4 grow, 5 due, 6 check.
+fn run_call(
+    parameters: Parameters,
+    growth: Growth,
+    separators: &mut [u8],
+    numbers: &mut [u32],
+    words: &mut [u64],
+    poolnumbers: &mut [u32],
+    poolwords: &mut [u64],
+    kind: u8,
+    star: u32,
+    position: Position,
+) -> Stepped
+    ensures { λ r. ⌜ Steps (step parameters growth (before separators numbers words) (poolBefore poolnumbers poolwords) (requestOf kind star position))
+        r (after separators numbers words) (poolAfter poolnumbers poolwords) ⌝ }
+{
+    if kind == 0 {
+        let found = starfile::look_up(parameters, growth, separators, numbers, words, star);
+        return unmoved(sought_answer(found), growth);
+    }
+    if kind == 1 {
+        let entered = starfile::enter(
+            parameters,
+            growth,
+            separators,
+            numbers,
+            words,
+            poolnumbers,
+            poolwords,
+            star,
+            position,
+        );
+        return unmoved(placed_answer(entered), growth);
+    }
+    if kind == 2 {
+        let changed = starfile::change(
+            parameters,
+            growth,
+            separators,
+            numbers,
+            words,
+            star,
+            position,
+        );
+        return unmoved(placed_answer(changed), growth);
+    }
+    if kind == 3 {
+        let removed = starfile::remove(
+            parameters,
+            growth,
+            separators,
+            numbers,
+            words,
+            poolnumbers,
+            poolwords,
+            star,
+        );
+        return unmoved(placed_answer(removed), growth);
+    }
+    if kind == 4 {
+        let grown = starfile::grow(
+            parameters,
+            growth,
+            separators,
+            numbers,
+            words,
+            poolnumbers,
+            poolwords,
+        );
+        let answer = grown.answer;
+        return unmoved(placed_answer(answer), grown.growth);
+    }
+    if kind == 5 {
+        let due = starfile::due(parameters, growth, separators, numbers, words);
+        return unmoved(due_answer(due), growth);
+    }
+    let checked = starfile::check(
+        parameters,
+        growth,
+        separators,
+        numbers,
+        words,
+        poolnumbers,
+        poolwords,
+    );
+    unmoved(checked_answer(checked), growth)
+}
+
+fn unmoved(answer: Answer, growth: Growth) -> Stepped
+    ensures { λ r. ⌜ r ≡ record { answer = answer; growth = growth } ⌝ }
+{
+    Stepped { answer, growth }
+}
+
+// Runs one call, writes its eight answers from item `at` on and returns the growth state after it.
+pub fn replay_step(
+    parameters: Parameters,
+    growth: Growth,
+    separators: &mut [u8],
+    numbers: &mut [u32],
+    words: &mut [u64],
+    poolnumbers: &mut [u32],
+    poolwords: &mut [u64],
+    kind: u8,
+    star: u32,
+    position: Position,
+    answers: &mut [u32],
+    at: usize,
+) -> Growth
+    requires { ⌜ at + 8 ≤ length (now answers) ⌝ }
+    ensures { λ r. ⌜ Recorded (step parameters growth (before separators numbers words) (poolBefore poolnumbers poolwords) (requestOf kind star position))
+        (now (answers .entry)) at r (now (answers .exit)) (after separators numbers words) (poolAfter poolnumbers poolwords) ⌝ }
+{
+    let stepped = run_call(
+        parameters,
+        growth,
+        separators,
+        numbers,
+        words,
+        poolnumbers,
+        poolwords,
+        kind,
+        star,
+        position,
+    );
+    let answer = stepped.answer;
+    crate::answering::write(answers, at, answer);
+    stepped.growth
+}

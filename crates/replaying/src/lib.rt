@@ -1,0 +1,7 @@
+// A lent history, run through the calls: `replay`.
+mod answering;
+mod calling;
+mod replaying;
+
+pub use replaying::Replayed;
+pub use replaying::replay;
