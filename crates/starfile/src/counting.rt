@@ -6,7 +6,7 @@ ghost use Rattle.placement.specs.Lent.{before};
 ghost use Rattle.starfile.specs.Answers.{unpooled, dueSaid};
 ghost use Rattle.starfile.specs.Calls.{dueOf};
 ghost use Rattle.starfile.specs.Due.{stars};
-ghost use Rattle.starfile.specs.Used.{Blank, Reaches, Used};
+ghost use Rattle.starfile.specs.Used.{Blank, Used};
 use crate::answers::Due;
 use crate::lending::Admission;
 use crate::lending::file_fits;
@@ -30,18 +30,21 @@ pub fn due(
     }
     let geometry = Geometry { parameters, growth };
     let highest = geometry.highest_address();
-    let split = (highest as usize + 1) * parameters.places as usize;
-    let end = end_of_use(numbers, split);
-    let count = occupied(&numbers[..end]);
-    let pages = in_use(parameters.places, highest, end);
-    let room = parameters.load * parameters.places * pages;
+    let count = occupied(numbers);
+    let share = parameters.load * parameters.places;
+    // The pages in use are no fewer than the addressed ones: where those have room the last number is not sought.
+    if 100 * count <= share * (highest + 1) {
+        return Due::No(count);
+    }
+    let pages = in_use(parameters.places, highest, used(numbers));
+    let room = share * pages;
     if room < 100 * count {
         return Due::Yes(count);
     }
     Due::No(count)
 }
 
-// The pages in use, by where the search for the last number that is not 0 ended.
+// The pages in use, where the last number that is not 0 is the one before item `end`.
 fn in_use(places: u32, highest: u32, end: usize) -> u32
     requires { ⌜ (1 ≤ places) × (places ≤ 32) × (highest < 1024) × (end ≤ 32768) ⌝ }
     ensures { λ r. ⌜ r ≡ max (highest + 1) ((end + places - 1) / places) ⌝ }
@@ -51,17 +54,6 @@ fn in_use(places: u32, highest: u32, end: usize) -> u32
         return holding;
     }
     highest + 1
-}
-
-// The addressed items, up to `split`, or those up to the last number that is not 0 where one stands above.
-fn end_of_use(numbers: &[u32], split: usize) -> usize
-    requires { ⌜ (split ≤ length (now numbers)) × (length (now numbers) ≤ 32768) ⌝ }
-    ensures { λ r. ⌜ Reaches (now (numbers .entry)) split r ⌝ }
-{
-    if occupied(&numbers[split..]) == 0 {
-        return split;
-    }
-    used(numbers)
 }
 
 // The items up to the last number that is not 0.
