@@ -1,9 +1,9 @@
 -- The pages in use: from the last non-zero number; and when growth is due beside document 01's rule.
 use mathlib.Core.Path.{_≡_, refl, sym, ap, _∙_}
-use mathlib.Core.Bool.{Bool, true, false, cond, true≢false}
+use mathlib.Core.Bool.{Bool, true, false, cond}
 use mathlib.Core.List.{List}
 use Prim.Native.Nat.{ℕ, zero, suc, _+_, _-_, _*_, _/_, _%_, _≤_, _<_, max}
-use native.Mathlib.Nat.{mod-lt, div-add-mod', add-div-right, div-eq-of-lt, div-lt-iff-lt-mul, lt-div-mul-add, mul-le-mul-left, mul-le-mul-right, max-eq-left, le-max-left, max-le}
+use native.Mathlib.Nat.{mod-lt, suc-mul, div-add-mod', add-div-right, div-eq-of-lt, div-lt-iff-lt-mul, lt-div-mul-add, mul-le-mul-left, mul-le-mul-right, max-eq-left, le-max-left, max-le}
 use native.Mathlib.Decide.{decLe, decLt}
 use native.Mathlib.Omega.{arith}
 use lib.Dec.{eqb}
@@ -16,7 +16,7 @@ use Rattle.hashing.specs.Geometry.{highest}
 use Rattle.pages.specs.Page.{part}
 use Rattle.pages.proofs.Parts.{part-item}
 use Rattle.starfile.specs.Due.{stars, pagesHolding, pagesInUse, exceeds, isDue, isDueAddressed}
-use Rattle.starfile.specs.Used.{Used}
+use Rattle.starfile.specs.Used.{Blank, Reaches, Used}
 use Rattle.starfile.proofs.Tallies.{stars-split, stars-none}
 
 module _ (places : ℕ) (numbers : List ℕ) where
@@ -52,20 +52,20 @@ pub needed-none : (places end : ℕ) → 1 ≤ places → end ≡ 0 → (end + p
 needed-none places end least z = div-eq-of-lt (omega arith)
 
 -- the pages to the last non-zero number are as many as its items need
-module _ (places pages end : ℕ) (numbers : List ℕ) (least : 1 ≤ places) (sized : length numbers ≡ pages * places) (u : Used numbers end) where
-  blank-pages : (page : ℕ) → (end + places - 1) / places ≤ page → stars (part places page numbers) ≡ 0
-  unfolding part
-  blank-pages page h =
-      let near : end + places - 1 < (end + places - 1) / places * places + places = lt-div-mul-add least in
-      let far : (end + places - 1) / places * places ≤ page * places = mul-le-mul-right places h in
-      let past : end + (page * places - end) ≡ page * places = omega arith in
-      omega (
-        arith,
-        stars-split places (drop (page * places) numbers),
-        rw (drop-drop (page * places - end) end numbers, past) at (stars-split (page * places - end) (drop end numbers)),
-        u .blank .rest,
-      )
+blank-pages : (places end : ℕ) (numbers : List ℕ) → 1 ≤ places → Blank numbers end → (page : ℕ) → (end + places - 1) / places ≤ page → stars (part places page numbers) ≡ 0
+unfolding part
+blank-pages places end numbers least b page h =
+    let near : end + places - 1 < (end + places - 1) / places * places + places = lt-div-mul-add least in
+    let far : (end + places - 1) / places * places ≤ page * places = mul-le-mul-right places h in
+    let past : end + (page * places - end) ≡ page * places = omega arith in
+    omega (
+      arith,
+      stars-split places (drop (page * places) numbers),
+      rw (drop-drop (page * places - end) end numbers, past) at (stars-split (page * places - end) (drop end numbers)),
+      b .rest,
+    )
 
+module _ (places pages end : ℕ) (numbers : List ℕ) (least : 1 ≤ places) (sized : length numbers ≡ pages * places) (u : Used numbers end) where
   last-page : 0 < end → stars (part places ((end - 1) / places) numbers) ≡ 0 → ⊥
   last-page h e =
       u .last h
@@ -77,7 +77,7 @@ module _ (places pages end : ℕ) (numbers : List ℕ) (least : 1 ≤ places) (s
   holding-is = go (decLe end 0)
     where
       most : pagesHolding places numbers pages ≤ (end + places - 1) / places
-      most = holding-most places numbers pages _ (λ page h b. blank-pages page h)
+      most = holding-most places numbers pages _ (λ page h b. blank-pages places end numbers least (u .blank) page h)
 
       go : Dec (end ≤ 0) → pagesHolding places numbers pages ≡ (end + places - 1) / places
       go (yes z) = omega (arith, most, needed-none places end least (omega arith))
@@ -90,15 +90,28 @@ module _ (places pages end : ℕ) (numbers : List ℕ) (least : 1 ≤ places) (s
             holding-least places numbers pages ((end - 1) / places) (div-lt-iff-lt-mul least .1 inside) (last-page (omega arith)),
           )
 
+-- as many pages as some items need are no more than hold them
+div-most : (n places end : ℕ) → 1 ≤ places → end ≤ n * places → (end + places - 1) / places ≤ n
+div-most n places end least h =
+    let near : (end + places - 1) / places < suc n = div-lt-iff-lt-mul least .1 (rw (suc-mul n places) (omega arith)) in
+    omega arith
+
 module _ (p : Parameters) (g : Growth) (numbers : List ℕ) where
-  pub in-use-is : (end : ℕ) → 1 ≤ p .places → length numbers ≡ p .pages * p .places → Used numbers end
+  -- from where the search for the last number ends: at it, or at the last addressed item
+  pub in-use-reached : (end : ℕ) → 1 ≤ p .places → length numbers ≡ p .pages * p .places → Reaches numbers ((highest p g + 1) * p .places) end
       → pagesInUse p g numbers ≡ max (highest p g + 1) ((end + p .places - 1) / p .places)
   unfolding pagesInUse
-  in-use-is end least sized u = rw (holding-is (p .places) (p .pages) end numbers least sized u)
+  in-use-reached end least sized r = go (decLt ((highest p g + 1) * p .places) end)
+    where
+      low : end ≤ (highest p g + 1) * p .places → (end + p .places - 1) / p .places ≤ highest p g + 1
+      low h = div-most (highest p g + 1) (p .places) end least h
 
-  pub in-use-least : highest p g + 1 ≤ pagesInUse p g numbers
-  unfolding pagesInUse
-  in-use-least = le-max-left (highest p g + 1) (pagesHolding (p .places) numbers (p .pages))
+      go : Dec ((highest p g + 1) * p .places < end) → max (highest p g + 1) (pagesHolding (p .places) numbers (p .pages)) ≡ max (highest p g + 1) ((end + p .places - 1) / p .places)
+      go (yes h) = ap (λ (n : ℕ). max (highest p g + 1) n) (holding-is (p .places) (p .pages) end numbers least sized (record { blank = r .blank; last = λ z. r .last h }))
+      go (no h) =
+          let few : (end + p .places - 1) / p .places ≤ highest p g + 1 = low (omega arith) in
+          max-eq-left (holding-most (p .places) numbers (p .pages) (highest p g + 1) (λ page a b. blank-pages (p .places) end numbers least (r .blank) page (omega (arith, few))))
+          ∙ sym (max-eq-left few)
 
   pub in-use-most : highest p g + 1 ≤ p .pages → pagesInUse p g numbers ≤ p .pages
   unfolding pagesInUse
@@ -106,21 +119,15 @@ module _ (p : Parameters) (g : Growth) (numbers : List ℕ) where
 
   -- growth is due no earlier than by document 01
   pub due-no-earlier : isDue p g numbers ≡ true → isDueAddressed p g numbers ≡ true
-  unfolding isDue isDueAddressed exceeds
+  unfolding isDue isDueAddressed exceeds pagesInUse
   due-no-earlier e =
+      let held = pagesHolding (p .places) numbers (p .pages) in
       lt-ltb (p .load * p .places * (highest p g + 1)) (100 * stars numbers)
       (omega (
         arith,
-        ltb-true (p .load * p .places * pagesInUse p g numbers) (100 * stars numbers) e,
-        mul-le-mul-left (p .load * p .places) in-use-least,
+        ltb-true (p .load * p .places * max (highest p g + 1) held) (100 * stars numbers) e,
+        mul-le-mul-left (p .load * p .places) (le-max-left (highest p g + 1) held),
       ))
-
-  pub not-due : isDueAddressed p g numbers ≡ false → isDue p g numbers ≡ false
-  not-due e = go (isDue p g numbers) due-no-earlier
-    where
-      go : (t : Bool) → (t ≡ true → isDueAddressed p g numbers ≡ true) → t ≡ false
-      go true h = absurd (true≢false (sym (h refl) ∙ e))
-      go false h = refl
 
   -- where every star stands at or below the highest address, growth is due as by document 01
   pub due-as-addressed : ((page : ℕ) → highest p g < page → page < p .pages → stars (part (p .places) page numbers) ≡ 0) → isDue p g numbers ≡ isDueAddressed p g numbers

@@ -1,21 +1,22 @@
 -- `starfile::due` meets its contract.
 use mathlib.Core.Path.{_≡_, sym, ap, _∙_}
-use mathlib.Core.Bool.{false}
 use Prim.Native.Nat.{ℕ, _*_, _+_, _-_, _/_, _≤_, max}
 use native.Mathlib.Omega.{arith}
 use lib.ListN.{length}
+use lib.Seq.{length-take-le}
 use borrow.Author.Tests.{lt-ltb, le-ltb}
-use native.Mathlib.Nat.{mul-le-mul}
+use native.Mathlib.Nat.{mul-le-mul, mul-le-mul-right}
 use Rattle.hashing.specs.Geometry.{pageCount, highest}
 use Rattle.hashing.proofs.Bounds.{limits, growth-within, spread}
 use Rattle.placement.specs.File.{File}
 use Rattle.starfile.specs.Answers.{After, lent, dueSaid}
 use Rattle.starfile.specs.Lent.{Admitted}
 use Rattle.starfile.specs.Calls.{unlent, dueOf, fileFits}
-use Rattle.starfile.specs.Due.{stars, pagesInUse, exceeds, isDue, isDueAddressed}
+use Rattle.starfile.specs.Used.{Reaches}
+use Rattle.starfile.specs.Due.{stars, pagesInUse, exceeds, isDue}
 use Rattle.starfile.proofs.Refusals.{turned-away, refusal-is, none-is, admitted, items-most}
-use Rattle.starfile.proofs.Tallies.{stars-most}
-use Rattle.starfile.proofs.InUse.{in-use-is, in-use-most, not-due}
+use Rattle.starfile.proofs.Tallies.{stars-most, blank-stars}
+use Rattle.starfile.proofs.InUse.{in-use-reached, in-use-most}
 use denote.Ref.{now}
 use borrow.Author.Needs.{needs}
 use Rattle.starfile.proofs.counting.due.Statement.{statement}
@@ -62,111 +63,113 @@ highest-most c =
     let least : 1 ≤ pageCount (start c .args .parameters) (start c .args .growth) = spread _ _ (limits _ (v .signing .valid)) w .pages-low in
     omega (arith, w .pages-fit)
 
+-- the addressed items are some of all
+split-most : (c : tie.After-struct-known) → (c .before .highest-address .result + 1) * start (c .before .before) .args .parameters .places ≤ length (now (start (c .before .before) .args .numbers))
+split-most c =
+    let within : (c .before .highest-address .result + 1) * start (c .before .before) .args .parameters .places ≤ start (c .before .before) .args .parameters .pages * start (c .before .before) .args .parameters .places =
+    mul-le-mul-right _ (omega (arith, c .before .highest-address .ensures, highest-most (c .before .before))) in
+    omega (arith, lent-well (c .before .before) .sized .ofNumbers)
+
 highest-address-requires : tie.Need-highest-address-requires
 highest-address-requires c κs = (lent-well c .homing .signing .valid, lent-well c .homing .growth)
 
-occupied-requires : tie.Need-occupied-requires
-occupied-requires c κs = few (c .before)
+cast-split : tie.Need-cast-split
+cast-split c = search needs
+
+add-split : tie.Need-add-split
+add-split c = search needs
+
+cast-split-2 : tie.Need-cast-split-2
+cast-split-2 c = search needs
+
+mul-split : tie.Need-mul-split
+mul-split c = omega (arith, split-most c, few (c .before .before))
+
+end-of-use-requires : tie.Need-end-of-use-requires
+end-of-use-requires c κs = (split-most c, few (c .before .before))
 
 -- the stars, and the pages in use that are compared with them
 abbrev told : tie.After-occupied → tie.After-enum-told
-told c = c .before .before
+told c = c .before .before .before .before .before
 
-share-most : (c : tie.After-enum-told) → start c .args .parameters .load * start c .args .parameters .places ≤ 99 * 32
-share-most c =
-    let l = limits _ (lent-well c .homing .signing .valid) in
-    mul-le-mul (l .load-most) (l .places-most)
-
-hundred : (c : tie.After-occupied) → 100 * c .occupied .result ≤ 3276800
-hundred c = omega (arith, few (told c), stars-most (now (start (told c) .args .numbers)), c .occupied .ensures)
-
-mul-share : tie.Need-mul-share
-mul-share c = omega (arith, share-most (told (c .before)))
-
-mul-if1 : tie.Need-mul-if1
-mul-if1 c = omega (arith, hundred (c .before))
-
--- the addressed pages, and the room that they or the pages in use have
-addressed : (c : tie.After-occupied) → c .before .highest-address .result + 1 ≤ 1024
-addressed c = omega (arith, c .before .highest-address .ensures, highest-most (told c), limits _ (lent-well (told c) .homing .signing .valid) .pages-most)
-
-room-most : (c : tie.After-enum-told) (pages : ℕ) → pages ≤ 1024 → start c .args .parameters .load * start c .args .parameters .places * pages ≤ 99 * 32 * 1024
-room-most c pages h = mul-le-mul (share-most c) h
-
-add-if1 : tie.Need-add-if1
-add-if1 c = omega (arith, addressed (c .before))
-
-mul-if1-2 : tie.Need-mul-if1-2
-mul-if1-2 c = omega (arith, room-most (told (c .before)) _ (addressed (c .before)))
-
-returns-2 : tie.Need-returns-2
-unfolding dueOf dueSaid isDueAddressed exceeds
-returns-2 c =
-    let counted = c .before .before in
-    let p = start (told counted) .args .parameters in
-    let g = start (told counted) .args .growth in
-    let roomy : isDueAddressed p g (now (start (told counted) .args .numbers)) ≡ false =
-    rw (← counted .occupied .ensures, ← counted .before .highest-address .ensures, le-ltb _ _ (c .if1 .taken)) in
-    rw (none (told counted), not-due p g (now (start (told counted) .args .numbers)) roomy, counted .occupied .ensures)
-
-used-requires : tie.Need-used-requires
-used-requires c κs = few (told (c .before .before))
-
-in-use-requires : tie.Need-in-use-requires
-in-use-requires c κs =
-    let counted = c .before .before .before in
-    let l = limits _ (lent-well (told counted) .homing .signing .valid) in (
-      l .places-least,
-      l .places-most,
-      omega (arith, addressed counted),
-      omega (arith, few (told counted), c .used .ensures .blank .within),
-    )
-
-abbrev tallied : tie.After-in-use → tie.After-occupied
-tallied c = c .before .before .before .before
+count-is : (c : tie.After-occupied) → c .occupied .result ≡ stars (now (start (told c) .args .numbers))
+count-is c = c .occupied .ensures ∙ sym (blank-stars _ _ (c .before .before .end-of-use .ensures .blank))
 
 abbrev begun : tie.After-in-use → tie.Start
-begun c = start (told (tallied c))
+begun c = start (told (c .before))
+
+reached : (c : tie.After-in-use) → Reaches (now (begun c .args .numbers)) ((highest (begun c .args .parameters) (begun c .args .growth) + 1) * begun c .args .parameters .places) (c .before .before .before .end-of-use .result)
+reached c = rw (c .before .before .before .before .before .highest-address .ensures) at (c .before .before .before .end-of-use .ensures)
 
 pages-are : (c : tie.After-in-use) → c .in-use .result ≡ pagesInUse (begun c .args .parameters) (begun c .args .growth) (now (begun c .args .numbers))
 pages-are c =
     let p = begun c .args .parameters in
     c .in-use .ensures
-    ∙ (ap (λ (n : ℕ). max (n + 1) ((c .before .used .result + p .places - 1) / p .places)) (tallied c .before .highest-address .ensures)
+    ∙ (ap (λ (n : ℕ). max (n + 1) ((c .before .before .before .end-of-use .result + p .places - 1) / p .places)) (c .before .before .before .before .before .highest-address .ensures)
     ∙ sym
-    (in-use-is p (begun c .args .growth) (now (begun c .args .numbers)) _
-    (limits _ (lent-well (told (tallied c)) .homing .signing .valid) .places-least)
-    (lent-well (told (tallied c)) .sized .ofNumbers)
-    (c .before .used .ensures)))
+    (in-use-reached p (begun c .args .growth) (now (begun c .args .numbers)) _
+    (limits _ (lent-well (told (c .before)) .homing .signing .valid) .places-least)
+    (lent-well (told (c .before)) .sized .ofNumbers)
+    (reached c)))
 
 pages-most : (c : tie.After-in-use) → c .in-use .result ≤ 1024
 pages-most c =
     omega (
       arith,
       pages-are c,
-      in-use-most _ _ (now (begun c .args .numbers)) (highest-most (told (tallied c))),
-      limits _ (lent-well (told (tallied c)) .homing .signing .valid) .pages-most,
+      in-use-most _ _ (now (begun c .args .numbers)) (highest-most (told (c .before))),
+      limits _ (lent-well (told (c .before)) .homing .signing .valid) .pages-most,
+    )
+
+slice-aggregate-occupied : tie.Need-slice-aggregate-occupied
+slice-aggregate-occupied c = sym (length-take-le _ _ (c .before .end-of-use .ensures .blank .within))
+
+occupied-requires : tie.Need-occupied-requires
+occupied-requires c κs = rw (length-take-le _ _ (c .before .end-of-use .ensures .blank .within)) (omega (arith, few (c .before .before .before .before), c .before .end-of-use .ensures .blank .within))
+
+in-use-requires : tie.Need-in-use-requires
+in-use-requires c κs =
+    let l = limits _ (lent-well (told c) .homing .signing .valid) in (
+      l .places-least,
+      l .places-most,
+      omega (arith, c .before .before .before .before .highest-address .ensures, highest-most (told c), l .pages-most),
+      omega (arith, few (told c), c .before .before .end-of-use .ensures .blank .within),
     )
 
 mul-room : tie.Need-mul-room
-mul-room c = omega (arith, room-most (told (tallied c)) _ (pages-most c))
+mul-room c =
+    let l = limits _ (lent-well (told (c .before .before)) .homing .signing .valid) in
+    let m : begun (c .before) .args .parameters .load * begun (c .before) .args .parameters .places ≤ 99 * 32 = mul-le-mul (l .load-most) (l .places-most) in
+    omega arith
 
-mul-if2 : tie.Need-mul-if2
-mul-if2 c = omega (arith, hundred (tallied c))
+mul-room-2 : tie.Need-mul-room-2
+mul-room-2 c =
+    let l = limits _ (lent-well (told (c .before .before)) .homing .signing .valid) in
+    let m : begun (c .before) .args .parameters .load * begun (c .before) .args .parameters .places * c .before .in-use .result ≤ 99 * 32 * 1024 = mul-le-mul (mul-le-mul (l .load-most) (l .places-most)) (pages-most (c .before)) in
+    omega arith
+
+mul-if1 : tie.Need-mul-if1
+mul-if1 c =
+    omega (
+      arith,
+      few (told (c .before .before)),
+      stars-most (now (begun (c .before) .args .numbers)),
+      count-is (c .before .before),
+    )
+
+returns-2 : tie.Need-returns-2
+unfolding dueOf dueSaid isDue exceeds
+returns-2 c =
+    let made = c .before .before in
+    rw (none (told (made .before)))
+    (rw (← count-is (made .before), ← pages-are made, lt-ltb _ _ (c .if1 .taken)))
 
 returns-3 : tie.Need-returns-3
 unfolding dueOf dueSaid isDue exceeds
 returns-3 c =
-    let made = c .before in
-    rw (none (told (tallied made)))
-    (rw (← tallied made .occupied .ensures, ← pages-are made, lt-ltb _ _ (c .if2 .taken)))
-
-returns-4 : tie.Need-returns-4
-unfolding dueOf dueSaid isDue exceeds
-returns-4 c =
-    let made = c .before in
-    rw (none (told (tallied made)))
-    (rw (← tallied made .occupied .ensures, ← pages-are made, le-ltb _ _ (c .if2 .left)))
+    let made = c .before .before in
+    rw (none (told (made .before)))
+    (rw (← count-is (made .before), ← pages-are made, le-ltb _ _ (c .if1 .left)))
 
 pub due-spec : {M : Type 1} → statement M
 due-spec =
@@ -178,15 +181,16 @@ due-spec =
     returns
     enum-told
     highest-address-requires
+    cast-split
+    add-split
+    cast-split-2
+    mul-split
+    end-of-use-requires
+    slice-aggregate-occupied
     occupied-requires
-    mul-share
-    mul-if1
-    add-if1
-    mul-if1-2
-    returns-2
-    used-requires
     in-use-requires
     mul-room
-    mul-if2
-    returns-3
-    returns-4)
+    mul-room-2
+    mul-if1
+    returns-2
+    returns-3)
