@@ -17,6 +17,15 @@ use Rattle.starfile.specs.Used.{Blank, Reaches, Used}
 use Rattle.calls.proofs.InUse.{holding-most, holding-least}
 use Rattle.starfile.proofs.Tallies.{stars-split, stars-none}
 
+-- as many pages as some items need: one more than the page of the last item
+pub needed-pages : (places end : ℕ) → 1 ≤ places → 0 < end → (end + places - 1) / places ≡ (end - 1) / places + 1
+needed-pages places end least h =
+    let next : end + places - 1 ≡ end - 1 + places = omega arith in
+    ap (λ (n : ℕ). n / places) next ∙ add-div-right (end - 1) least
+
+pub needed-none : (places end : ℕ) → 1 ≤ places → end ≡ 0 → (end + places - 1) / places ≡ 0
+needed-none places end least z = div-eq-of-lt (omega arith)
+
 -- the pages to the last non-zero number are as many as its items need
 blank-pages : (places end : ℕ) (numbers : List ℕ) → 1 ≤ places → Blank numbers end → (page : ℕ) → (end + places - 1) / places ≤ page → stars (part places page numbers) ≡ 0
 unfolding part
@@ -46,16 +55,13 @@ module _ (places pages end : ℕ) (numbers : List ℕ) (least : 1 ≤ places) (s
       most = holding-most places numbers pages _ (λ page h b. blank-pages places end numbers least (u .blank) page h)
 
       go : Dec (end ≤ 0) → pagesHolding places numbers pages ≡ (end + places - 1) / places
-      go (yes z) =
-          let none : (end + places - 1) / places ≡ 0 = div-eq-of-lt (omega arith) in
-          omega (arith, most)
+      go (yes z) = omega (arith, most, needed-none places end least (omega arith))
       go (no z) =
-          let next : end + places - 1 ≡ end - 1 + places = omega arith in
           let inside : end - 1 < pages * places = omega (arith, u .blank .within) in
           omega (
             arith,
             most,
-            ap (λ (n : ℕ). n / places) next ∙ add-div-right (end - 1) least,
+            needed-pages places end least (omega arith),
             holding-least places numbers pages ((end - 1) / places) (div-lt-iff-lt-mul least .1 inside) (last-page (omega arith)),
           )
 

@@ -41,14 +41,18 @@ pub fn due(
     Due::No(count)
 }
 
-// The pages in use, by where the search for the last number that is not 0 ended.
+// The pages in use, by where the search for the last number that is not 0 ended. Without `places - 1`: shared with the test of the
+// limits, it has the compiler read the parameters across two of the caller's stores, which costs a small file a sixth more.
 fn in_use(places: u32, highest: u32, end: usize) -> u32
     requires { ⌜ (1 ≤ places) × (places ≤ 32) × (highest < 1024) × (end ≤ 32768) ⌝ }
     ensures { λ r. ⌜ r ≡ max (highest + 1) ((end + places - 1) / places) ⌝ }
 {
-    let holding = (end as u32 + places - 1) / places;
-    if highest < holding {
-        return holding;
+    if end == 0 {
+        return highest + 1;
+    }
+    let last = (end as u32 - 1) / places;
+    if highest < last {
+        return last + 1;
     }
     highest + 1
 }
