@@ -1,13 +1,15 @@
--- The table of multipliers: one test over the whole table, lifted to the powers of any multiplier.
-use mathlib.Core.Path.{_≡_, _∙_, refl}
-use mathlib.Core.Bool.{Bool, true, false, _&&_}
+-- The tables of multipliers: one test over a whole table, lifted to the powers of any multiplier.
+use mathlib.Core.Path.{_≡_, _∙_, refl, ap}
+use mathlib.Core.Bool.{Bool, true, false, _&&_, _||_, false≢true}
 use mathlib.Core.List.{List, [], _∷_}
-use Prim.Native.Nat.{ℕ, zero, suc, _-_, _*_, _%_, _^_, _≤_, _<_}
+use Prim.Native.Nat.{ℕ, zero, suc, _+_, _-_, _*_, _%_, _^_, _≤_, _<_}
 use native.Mathlib.Nat.{pow-zero, pow-suc, pow-succ', one-mul, mul-assoc, not-suc-le-zero, le-of-suc-le-suc}
 use native.Mathlib.Omega.{arith}
 use lib.Dec.{T, eqb, eqb→eq}
 use lib.ListN.{getD}
-use Rattle.hashing.specs.Generator.{modulus, power, chain, multiplier, multipliers}
+use borrow.Author.Tests.{eqb-true}
+use Rattle.hashing.specs.Generator.{modulus, power, scrambled, chain, multipliers}
+use Rattle.hashing.specs.Limits.{validMultiplier}
 use Rattle.hashing.proofs.Numbers.{mul-mod}
 
 -- n entries, each being the one before times a mod m
@@ -35,10 +37,19 @@ chained-is a p (suc n) (x ∷ xs) t = go (eqb→eq x (p * a % modulus) (both-lef
     go : x ≡ p * a % modulus → xs ≡ chain a x n → x ∷ xs ≡ p * a % modulus ∷ chain a (p * a % modulus) n
     go e f = rw (f, e)
 
--- a list that passes the test is the table: at a constant, `is-table _ tt`
-pub is-table : (xs : List ℕ) → T (chained multiplier 1 2049 xs) → xs ≡ multipliers
-unfolding multipliers
-is-table xs t = chained-is multiplier 1 2049 xs t
+-- a list that passes the test for a is the chain of every multiplier that equals a: at a constant, `is-chain a n _ tt _ e`
+pub is-chain : (a n : ℕ) (xs : List ℕ) → T (chained a 1 n xs) → (b : ℕ) → b ≡ a → xs ≡ chain b 1 n
+is-chain a n xs t b e = rw e (chained-is a 1 n xs t)
+
+-- a valid multiplier that is not the one is the other
+pub the-other : (a : ℕ) → validMultiplier a ≡ true → (a ≡ 48271 → ⊥) → a ≡ 16807
+unfolding validMultiplier
+the-other a v f = go (eqb a 16807) (eqb a 48271) refl refl v
+  where
+    go : (s t : Bool) → eqb a 16807 ≡ s → eqb a 48271 ≡ t → s || t ≡ true → a ≡ 16807
+    go true t e e′ v = eqb-true a 16807 e
+    go false true e e′ v = absurd (f (eqb-true a 48271 e′))
+    go false false e e′ v = absurd (false≢true v)
 
 chain-at : (a p n j : ℕ) → j < n → getD (chain a p n) j 0 ≡ p * a ^ suc j % modulus
 unfolding chain
@@ -58,10 +69,25 @@ entry a n (suc j) h l = rw (sub-suc j) (chain-at a 1 n j l ∙ rw one-mul)
     sub-suc : (j : ℕ) → suc j - 1 ≡ j
     sub-suc j = omega arith
 
-pub table-entry : (j : ℕ) → 1 ≤ j → j ≤ 2049 → getD multipliers (j - 1) 0 ≡ power multiplier j
+-- the same of the table, and counted from 0
+pub table-entry : (a i : ℕ) → i < 2049 → getD (multipliers a) i 0 ≡ power a (i + 1)
 unfolding multipliers
-table-entry j h l = entry multiplier 2049 j h l
+table-entry a i h = let e : i ≡ i + 1 - 1 = omega arith in ap (λ (n : ℕ). getD (chain a 1 2049) n 0) e ∙ entry a 2049 (i + 1) (omega arith) (omega arith)
 
-pub entry-below : (j : ℕ) → 1 ≤ j → j ≤ 2049 → getD multipliers (j - 1) 0 < modulus
+pub power-below : (a j : ℕ) → power a j < modulus
 unfolding power
-entry-below j h l = rw (table-entry j h l) (omega arith)
+power-below a j = omega arith
+
+pub table-below : (a i : ℕ) → i < 2049 → getD (multipliers a) i 0 < modulus
+table-below a i h = rw (table-entry a i h) (power-below a (i + 1))
+
+-- a product by an entry is Xj
+pub times-entry : (a i k : ℕ) → i < 2049 → getD (multipliers a) i 0 * k % modulus ≡ scrambled a (i + 1) k
+unfolding scrambled power
+times-entry a i k h = rw (table-entry a i h) (mul-mod (a ^ (i + 1)) modulus k)
+
+-- the multiplier of step i + 1
+pub times-step : (a i k : ℕ) → i ≤ 32 → getD (multipliers a) (2 * i + 1) 0 * k % modulus ≡ scrambled a (2 * suc i) k
+times-step a i k h =
+    let e : 2 * i + 1 + 1 ≡ 2 * suc i = omega arith in
+    times-entry a (2 * i + 1) k (omega arith) ∙ ap (λ (j : ℕ). scrambled a j k) e

@@ -6,13 +6,13 @@ use Prim.Native.Nat.{ℕ, _*_}
 use lib.ListN.{length}
 use Rattle.hashing.specs.declared.Parameters.{Parameters}
 use Rattle.hashing.specs.declared.Geometry.{Geometry}
-use Rattle.hashing.specs.Generator.{multipliers}
+use Rattle.hashing.specs.Generator.{multiplierOf, multipliers}
 use Rattle.hashing.specs.Limits.{validParameters, validGrowth}
 use Rattle.placement.specs.File.{File, Sized}
 
 -- the table that the parameters' multiplier makes
 abbrev pub multipliersOf : Parameters → List ℕ
-multipliersOf p = multipliers
+multipliersOf p = multipliers (multiplierOf p)
 
 -- for signatures: the table is the parameters' own, and these are valid
 pub record Signing (p : Parameters) (t : List ℕ) : Type 0 where

@@ -58,7 +58,7 @@ fn probe(
 {
     let mut page = home;
     while page < stop {
-        if hashing::signature(table, parameters.bits, number, page - home + 1)
+        if hashing::signature(table, parameters, number, page - home + 1)
             < separators[page] as u32
         {
             return page;

@@ -88,7 +88,7 @@ fn homes_of(geometry: Geometry, value: Page) -> [u16; 32]
     requires { ⌜ validGrowth (geometry .parameters) (geometry .growth) ≡ true ⌝ }
     ensures { λ r. ⌜ Homes geometry (value .numbers) r ⌝ }
 {
-    let powers = homes::first_multipliers();
+    let powers = hashing::first_multipliers(geometry.parameters.multiplier);
     let numbers = value.numbers;
     let places = geometry.parameters.places as usize;
     let mut pages = [0u16; 32];

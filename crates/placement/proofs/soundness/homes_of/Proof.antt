@@ -7,7 +7,7 @@ use Rattle.placement.proofs.soundness.homes_of.Statement.{statement}
 use Rattle.placement.proofs.soundness.homes_of.Tie as tie
 
 first-multipliers-requires : tie.Need-first-multipliers-requires
-first-multipliers-requires c κs = search needs
+first-multipliers-requires c κs = limits (c .args .geometry .parameters) (c .pre .0) .multiplier-valid
 
 cast-places : tie.Need-cast-places
 cast-places c = search needs

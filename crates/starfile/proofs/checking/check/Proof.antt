@@ -11,7 +11,7 @@ use Rattle.starfile.specs.Calls.{unlent, checkOf, fileFits, poolFits}
 use Rattle.starfile.specs.Outcomes.{verdictChecked}
 use Rattle.starfile.proofs.Outcomes.{verdict-is, verdict-small}
 use Rattle.starfile.proofs.Refusals.{turned-away, refusal-is, none-is, admitted-pool, leaves}
-use Rattle.starfile.proofs.Pools.{prepared, cleared-is}
+use Rattle.starfile.proofs.Pools.{prepared, tabled, cleared-is}
 use borrow.Author.Needs.{needs}
 use Rattle.starfile.proofs.checking.check.Statement.{statement}
 use Rattle.starfile.proofs.checking.check.Tie as tie
@@ -50,7 +50,7 @@ lent-well : (c : tie.After-enum-told) → Admitted (begun c .args .parameters) (
 lent-well c = admitted-pool _ _ _ (poolOf (begun c)) (none c)
 
 multipliers-requires : tie.Need-multipliers-requires
-multipliers-requires c κs = search needs
+multipliers-requires c κs = tabled (lent-well c .0)
 
 check-file-requires : tie.Need-check-file-requires
 check-file-requires c κs =

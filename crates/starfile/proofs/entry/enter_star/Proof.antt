@@ -9,7 +9,7 @@ use Rattle.placement.specs.Hash.{lent}
 use Rattle.starfile.specs.Answers.{Pool, placed, refusedBy, pooled, cleared}
 use Rattle.starfile.specs.Calls.{enterOn, enteredAgain, named, placeFor}
 use Rattle.starfile.proofs.Outcomes.{entry-small, entered-is}
-use Rattle.starfile.proofs.Pools.{prepared, unheld}
+use Rattle.starfile.proofs.Pools.{prepared, tabled, unheld}
 use borrow.Author.Needs.{needs}
 use Rattle.starfile.proofs.entry.enter_star.Statement.{statement}
 use Rattle.starfile.proofs.entry.enter_star.Tie as tie
@@ -21,7 +21,7 @@ abbrev poolOf : tie.Start → Pool
 poolOf s = pooled (now (s .args .poolnumbers)) (now (s .args .poolwords))
 
 multipliers-requires : tie.Need-multipliers-requires
-multipliers-requires c κs = search needs
+multipliers-requires c κs = tabled (c .before .before .before .before .before .pre .0)
 
 find-requires : tie.Need-find-requires
 find-requires c κs =

@@ -10,7 +10,7 @@ use Rattle.placement.specs.Hash.{lent}
 use Rattle.starfile.specs.Answers.{Pool, placed, refusedBy, pooled, cleared}
 use Rattle.hashing.specs.Geometry.{highest, pageCount, grown}
 use Rattle.starfile.proofs.Outcomes.{growth-small, grown-is}
-use Rattle.starfile.proofs.Pools.{prepared}
+use Rattle.starfile.proofs.Pools.{prepared, tabled}
 use borrow.Author.Needs.{needs}
 use Rattle.starfile.proofs.growth.grow_file.Statement.{statement}
 use Rattle.starfile.proofs.growth.grow_file.Tie as tie
@@ -52,7 +52,7 @@ returns c =
     rw (c .unmoved .ensures) (record { answers = rw full; files = rw full }, rw full)
 
 multipliers-requires : tie.Need-multipliers-requires
-multipliers-requires c κs = search needs
+multipliers-requires c κs = tabled (c .before .before .before .before .before .before .before .before .pre .0)
 
 -- past the first test there is a further page
 room : (c : tie.Else1) → pageCount (c .before .before .before .before .before .before .before .before .args .parameters) (c .before .before .before .before .before .before .before .before .args .growth) < c .before .before .before .before .before .before .before .before .args .parameters .pages

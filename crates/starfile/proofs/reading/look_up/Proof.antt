@@ -12,7 +12,7 @@ use Rattle.starfile.specs.Answers.{After, sought, refusedBy}
 use Rattle.starfile.specs.Lent.{Admitted}
 use Rattle.starfile.specs.Calls.{unlent, lookUpOf, lookedUp, fileFits}
 use Rattle.starfile.proofs.Refusals.{turned-away-first, refusal-is, none-is, admitted}
-use Rattle.starfile.proofs.Pools.{prepared}
+use Rattle.starfile.proofs.Pools.{prepared, tabled}
 use borrow.Author.Needs.{needs}
 use Rattle.starfile.proofs.reading.look_up.Statement.{statement}
 use Rattle.starfile.proofs.reading.look_up.Tie as tie
@@ -65,7 +65,7 @@ numbered : (c : tie.Else1) → validNumber (begun (told c) .args .number) ≡ tr
 numbered c = passed _ _ (c .before .number-valid .ensures) (c .if1 .left)
 
 multipliers-requires : tie.Need-multipliers-requires
-multipliers-requires c κs = search needs
+multipliers-requires c κs = tabled (lent-well (told c))
 
 find-requires : tie.Need-find-requires
 find-requires c κs =

@@ -13,7 +13,7 @@ use Rattle.starfile.specs.Answers.{placed, refusedBy}
 use Rattle.starfile.specs.Lent.{Admitted}
 use Rattle.starfile.specs.Calls.{unlent, changeOf, changeOn, fileFits}
 use Rattle.starfile.proofs.Refusals.{turned-away-first, refusal-is, none-is, admitted, items-most, leaves}
-use Rattle.starfile.proofs.Pools.{prepared}
+use Rattle.starfile.proofs.Pools.{prepared, tabled}
 use borrow.Author.Needs.{needs}
 use Rattle.starfile.proofs.rewriting.change.Statement.{statement}
 use Rattle.starfile.proofs.rewriting.change.Tie as tie
@@ -83,7 +83,7 @@ positioned : (c : tie.Else2) → validPosition (begun (told c) .args .position) 
 positioned c = passed _ _ (c .before .position-valid .ensures) (c .if2 .left)
 
 multipliers-requires : tie.Need-multipliers-requires
-multipliers-requires c κs = search needs
+multipliers-requires c κs = tabled (lent-well (told c))
 
 find-requires : tie.Need-find-requires
 find-requires c κs =
