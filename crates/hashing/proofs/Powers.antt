@@ -3,14 +3,15 @@ use mathlib.Core.Path.{_≡_, _∙_, refl, ap}
 use mathlib.Core.Bool.{Bool, true, false, _&&_, _||_, false≢true}
 use mathlib.Core.List.{List, [], _∷_}
 use Prim.Native.Nat.{ℕ, zero, suc, _+_, _-_, _*_, _%_, _^_, _≤_, _<_}
-use native.Mathlib.Nat.{pow-zero, pow-suc, pow-succ', one-mul, mul-assoc, not-suc-le-zero, le-of-suc-le-suc}
+use native.Mathlib.Nat.{add-comm, pow-zero, pow-suc, pow-succ', one-mul, mul-assoc, not-suc-le-zero, le-of-suc-le-suc}
 use native.Mathlib.Omega.{arith}
 use lib.Dec.{T, eqb, eqb→eq}
 use lib.ListN.{getD}
+use lib.Pow.{pow-add}
 use borrow.Author.Tests.{eqb-true}
-use Rattle.hashing.specs.Generator.{modulus, power, scrambled, chain, multipliers}
+use Rattle.hashing.specs.Generator.{modulus, power, scrambled, chain, firstMultipliers}
 use Rattle.hashing.specs.Limits.{validMultiplier}
-use Rattle.hashing.proofs.Numbers.{mul-mod}
+use Rattle.hashing.proofs.Numbers.{mul-mod, mul-mod-right}
 
 -- n entries, each being the one before times a mod m
 abbrev pub chained : ℕ → ℕ → ℕ → List ℕ → Bool
@@ -69,25 +70,41 @@ entry a n (suc j) h l = rw (sub-suc j) (chain-at a 1 n j l ∙ rw one-mul)
     sub-suc : (j : ℕ) → suc j - 1 ≡ j
     sub-suc j = omega arith
 
--- the same of the table, and counted from 0
-pub table-entry : (a i : ℕ) → i < 2049 → getD (multipliers a) i 0 ≡ power a (i + 1)
-unfolding multipliers
-table-entry a i h = let e : i ≡ i + 1 - 1 = omega arith in ap (λ (n : ℕ). getD (chain a 1 2049) n 0) e ∙ entry a 2049 (i + 1) (omega arith) (omega arith)
+-- the same counted from 0
+pub entry-at : (a n i : ℕ) → i < n → getD (chain a 1 n) i 0 ≡ power a (i + 1)
+entry-at a n i h = let e : i ≡ i + 1 - 1 = omega arith in ap (λ (j : ℕ). getD (chain a 1 n) j 0) e ∙ entry a n (i + 1) (omega arith) (omega arith)
 
 pub power-below : (a j : ℕ) → power a j < modulus
 unfolding power
 power-below a j = omega arith
 
-pub table-below : (a i : ℕ) → i < 2049 → getD (multipliers a) i 0 < modulus
-table-below a i h = rw (table-entry a i h) (power-below a (i + 1))
+pub entry-below : (a n i : ℕ) → i < n → getD (chain a 1 n) i 0 < modulus
+entry-below a n i h = rw (entry-at a n i h) (power-below a (i + 1))
 
 -- a product by an entry is Xj
-pub times-entry : (a i k : ℕ) → i < 2049 → getD (multipliers a) i 0 * k % modulus ≡ scrambled a (i + 1) k
+pub times-entry : (a n i k : ℕ) → i < n → getD (chain a 1 n) i 0 * k % modulus ≡ scrambled a (i + 1) k
 unfolding scrambled power
-times-entry a i k h = rw (table-entry a i h) (mul-mod (a ^ (i + 1)) modulus k)
+times-entry a n i k h = rw (entry-at a n i h) (mul-mod (a ^ (i + 1)) modulus k)
 
--- the multiplier of step i + 1
-pub times-step : (a i k : ℕ) → i ≤ 32 → getD (multipliers a) (2 * i + 1) 0 * k % modulus ≡ scrambled a (2 * suc i) k
+-- the first ninety: each is below the modulus, X1, and the multiplier of step i + 1
+
+pub first-below : (a i : ℕ) → i < 90 → getD (firstMultipliers a) i 0 < modulus
+unfolding firstMultipliers
+first-below a i h = entry-below a 90 i h
+
+pub times-first : (a i k : ℕ) → i < 90 → getD (firstMultipliers a) i 0 * k % modulus ≡ scrambled a (i + 1) k
+unfolding firstMultipliers
+times-first a i k h = times-entry a 90 i k h
+
+pub times-step : (a i k : ℕ) → i ≤ 32 → getD (firstMultipliers a) (2 * i + 1) 0 * k % modulus ≡ scrambled a (2 * suc i) k
 times-step a i k h =
     let e : 2 * i + 1 + 1 ≡ 2 * suc i = omega arith in
-    times-entry a (2 * i + 1) k (omega arith) ∙ ap (λ (j : ℕ). scrambled a j k) e
+    times-first a (2 * i + 1) k (omega arith) ∙ ap (λ (j : ℕ). scrambled a j k) e
+
+-- X(j+2) is X2 times Xj
+pub times-second : (a j k : ℕ) → getD (firstMultipliers a) 1 0 * scrambled a j k % modulus ≡ scrambled a (j + 2) k
+unfolding scrambled
+times-second a j k =
+    times-first a 1 (a ^ j * k % modulus) (omega arith)
+    ∙ mul-mod-right (a ^ 2) modulus (a ^ j * k)
+    ∙ rw (← mul-assoc (a ^ 2) (a ^ j) k, ← pow-add a 2 j, add-comm 2 j)

@@ -2,7 +2,7 @@
 ghost use mathlib.Core.Path.{_≡_};
 ghost use mathlib.Core.Bool.{true};
 ghost use Prim.Native.Nat.{_*_, _/_, _%_, _<_, _≤_};
-ghost use Rattle.hashing.specs.Generator.{modulus, multiplierOf, multipliers, scrambled};
+ghost use Rattle.hashing.specs.Generator.{modulus, multiplierOf, firstMultipliers, scrambled};
 ghost use Rattle.hashing.specs.Geometry.{grown};
 ghost use Rattle.hashing.specs.Limits.{validParameters, validGrowth};
 ghost use Rattle.hashing.specs.Home.{rankAt, stepFrom, chosen as Home·chosen, home as Home·home};
@@ -19,8 +19,8 @@ use crate::moves::moved;
 use crate::moves::page_of;
 use crate::moves::ranked;
 
-pub fn home(table: &[u32; 2049], geometry: Geometry, number: u32) -> u32
-    requires { ⌜ now table ≡ multipliers (multiplierOf (geometry .parameters)) ⌝ }
+pub fn home(table: &[u32; 90], geometry: Geometry, number: u32) -> u32
+    requires { ⌜ now table ≡ firstMultipliers (multiplierOf (geometry .parameters)) ⌝ }
     requires { ⌜ validParameters (geometry .parameters) ≡ true ⌝ }
     requires { ⌜ validGrowth (geometry .parameters) (geometry .growth) ≡ true ⌝ }
     ensures { λ r. ⌜ r ≡ Home·home (multiplierOf (geometry .parameters)) (geometry .parameters) (geometry .growth) number ⌝ }
@@ -49,8 +49,8 @@ fn inverse_of(parameters: Parameters) -> u32
 }
 
 // The home in a new file.
-fn first_page(table: &[u32; 2049], parameters: Parameters, key: u32) -> u16
-    requires { ⌜ now table ≡ multipliers (multiplierOf parameters) ⌝ }
+fn first_page(table: &[u32; 90], parameters: Parameters, key: u32) -> u16
+    requires { ⌜ now table ≡ firstMultipliers (multiplierOf parameters) ⌝ }
     requires { ⌜ validParameters parameters ≡ true ⌝ }
     requires { ⌜ key < modulus ⌝ }
     ensures { λ r. ⌜ r ≡ scrambled (multiplierOf parameters) 1 key % (parameters .width * parameters .groups) ⌝ }
@@ -59,8 +59,8 @@ fn first_page(table: &[u32; 2049], parameters: Parameters, key: u32) -> u16
 }
 
 // Whether the last step, of that code, chooses the number.
-fn chosen_last(table: &[u32; 2049], geometry: Geometry, key: u32, last: u16) -> bool
-    requires { ⌜ now table ≡ multipliers (multiplierOf (geometry .parameters)) ⌝ }
+fn chosen_last(table: &[u32; 90], geometry: Geometry, key: u32, last: u16) -> bool
+    requires { ⌜ now table ≡ firstMultipliers (multiplierOf (geometry .parameters)) ⌝ }
     requires { ⌜ validParameters (geometry .parameters) ≡ true ⌝ }
     requires { ⌜ validGrowth (geometry .parameters) (geometry .growth) ≡ true ⌝ }
     requires { ⌜ key < modulus ⌝ }
@@ -73,14 +73,14 @@ fn chosen_last(table: &[u32; 2049], geometry: Geometry, key: u32, last: u16) -> 
 
 // The last step, in the present partial expansion, which has reached the groups of a rank below x.
 fn last_step(
-    table: &[u32; 2049],
+    table: &[u32; 90],
     geometry: Geometry,
     inverse: u32,
     key: u32,
     last: u16,
     landing: Landing,
 ) -> u16
-    requires { ⌜ now table ≡ multipliers (multiplierOf (geometry .parameters)) ⌝ }
+    requires { ⌜ now table ≡ firstMultipliers (multiplierOf (geometry .parameters)) ⌝ }
     requires { ⌜ validParameters (geometry .parameters) ≡ true ⌝ }
     requires { ⌜ validGrowth (geometry .parameters) (geometry .growth) ≡ true ⌝ }
     requires { ⌜ inverse ≡ inverseOf (geometry .parameters .step) ⌝ }
@@ -128,8 +128,8 @@ fn last_rank(geometry: Geometry, last: u16, page: u16) -> u16
 }
 
 // The home under the next growth state, from the home under this one.
-pub fn home_grown(table: &[u32; 2049], geometry: Geometry, number: u32, old: u32) -> u32
-    requires { ⌜ now table ≡ multipliers (multiplierOf (geometry .parameters)) ⌝ }
+pub fn home_grown(table: &[u32; 90], geometry: Geometry, number: u32, old: u32) -> u32
+    requires { ⌜ now table ≡ firstMultipliers (multiplierOf (geometry .parameters)) ⌝ }
     requires { ⌜ validParameters (geometry .parameters) ≡ true ⌝ }
     requires { ⌜ validGrowth (geometry .parameters) (geometry .growth) ≡ true ⌝ }
     requires { ⌜ old ≡ Home·home (multiplierOf (geometry .parameters)) (geometry .parameters) (geometry .growth) number ⌝ }

@@ -57,7 +57,7 @@ pub fn scrambled(multiplier: u32, j: usize, number: u32) -> u32
 }
 
 // A remainder by 2^bits − 1: a divisor that is known when the code is compiled costs a product, and no division.
-fn below_top(number: u32, bits: u32) -> u32
+pub fn below_top(number: u32, bits: u32) -> u32
     requires { ⌜ (1 ≤ bits) × (bits ≤ 8) ⌝ }
     ensures { λ r. ⌜ r ≡ number % topOf bits ⌝ }
 {

@@ -11,8 +11,10 @@ mod table;
 
 pub use address::home;
 pub use address::home_grown;
+pub use generator::below_top;
 pub use generator::first_multipliers;
 pub use generator::multipliers;
+pub use generator::residue;
 pub use generator::scrambled;
 pub use generator::signature;
 pub use groups::grown;

@@ -4,7 +4,7 @@ ghost use mathlib.Core.Bool.{true};
 ghost use Prim.Native.Nat.{_+_, _*_, _/_, _%_, _≤_, _<_};
 ghost use lib.ListN.{length, take};
 ghost use lib.Dec.{leb};
-ghost use Rattle.hashing.specs.Generator.{modulus, multiplierOf, multipliers};
+ghost use Rattle.hashing.specs.Generator.{modulus, multiplierOf, firstMultipliers};
 ghost use Rattle.hashing.specs.Geometry.{rank};
 ghost use Rattle.hashing.specs.Limits.{validParameters};
 ghost use Rattle.hashing.specs.Moves.{codeAt, moves, countOf, pageOf, inverseOf, landing, Landed, Rising};
@@ -50,13 +50,13 @@ fn next_code(parameters: Parameters, i: u32, code: u16) -> u16
 
 // Puts the codes of the steps that choose the number at the start of steps.
 pub fn choose(
-    table: &[u32; 2049],
+    table: &[u32; 90],
     parameters: Parameters,
     expansions: u32,
     key: u32,
     steps: &mut [u16; 32],
 ) -> Choice
-    requires { ⌜ now table ≡ multipliers (multiplierOf parameters) ⌝ }
+    requires { ⌜ now table ≡ firstMultipliers (multiplierOf parameters) ⌝ }
     requires { ⌜ validParameters parameters ≡ true ⌝ }
     requires { ⌜ expansions ≤ 32 ⌝ }
     requires { ⌜ key < modulus ⌝ }

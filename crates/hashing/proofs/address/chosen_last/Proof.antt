@@ -6,7 +6,7 @@ use Rattle.hashing.specs.Generator.{multiplierOf}
 use Rattle.hashing.specs.Home.{chosen}
 use Rattle.hashing.proofs.Bounds.{limits, growth-within, spread}
 use Rattle.hashing.proofs.Codes.{code-size}
-use Rattle.hashing.proofs.Powers.{table-below, times-step}
+use Rattle.hashing.proofs.Powers.{first-below, times-step}
 use Rattle.hashing.proofs.address.chosen_last.Statement.{statement}
 use Rattle.hashing.proofs.address.chosen_last.Tie as tie
 
@@ -31,7 +31,7 @@ element-copy-out-chosen c = omega (arith, state (c .before))
 chosen-requires : tie.Need-chosen-requires
 chosen-requires c κs =
     let s = c .before .before in
-    ((rw (s .pre .0) (table-below (multiplierOf (s .args .geometry .parameters)) (2 * s .args .geometry .growth .expansions + 1) (omega (arith, state s))), s .pre .1 .1 .1 .0), omega arith)
+    ((rw (s .pre .0) (first-below (multiplierOf (s .args .geometry .parameters)) (2 * s .args .geometry .growth .expansions + 1) (omega (arith, state s))), s .pre .1 .1 .1 .0), omega arith)
 
 returns : tie.Need-returns
 unfolding chosen

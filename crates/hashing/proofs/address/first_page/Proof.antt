@@ -5,7 +5,7 @@ use native.Mathlib.Omega.{arith}
 use borrow.Author.Needs.{needs}
 use Rattle.hashing.specs.Generator.{multiplierOf}
 use Rattle.hashing.proofs.Bounds.{Limits, limits}
-use Rattle.hashing.proofs.Powers.{table-below, times-entry}
+use Rattle.hashing.proofs.Powers.{first-below, times-first}
 use Rattle.hashing.proofs.address.first_page.Statement.{statement}
 use Rattle.hashing.proofs.address.first_page.Tie as tie
 
@@ -21,7 +21,7 @@ element-copy-out-residue c = search needs
 residue-requires : tie.Need-residue-requires
 residue-requires c κs =
     let s = c .before in
-    (rw (s .pre .0) (table-below (multiplierOf (s .args .parameters)) 0 (omega arith)), s .pre .1 .1)
+    (rw (s .pre .0) (first-below (multiplierOf (s .args .parameters)) 0 (omega arith)), s .pre .1 .1)
 
 mul-result : tie.Need-mul-result
 mul-result c = let l = bounds (c .before .before .before) in omega (arith, mul-le-mul (l .width-most) (l .groups-most))
@@ -38,7 +38,7 @@ cast-result c =
 returns : tie.Need-returns
 returns c =
     let s = c .before .before .before in
-    rw (c .before .residue .ensures, s .pre .0, times-entry (multiplierOf (s .args .parameters)) 0 (s .args .key) (omega arith))
+    rw (c .before .residue .ensures, s .pre .0, times-first (multiplierOf (s .args .parameters)) 0 (s .args .key) (omega arith))
 
 pub first-page-spec : {M : Type 1} → statement M
 first-page-spec = tie.close (tie.spec element-copy-out-residue residue-requires mul-result rem-result cast-result returns)

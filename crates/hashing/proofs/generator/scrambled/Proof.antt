@@ -3,8 +3,8 @@ use mathlib.Core.Path.{_≡_, _∙_}
 use Prim.Native.Nat.{_+_, _-_, _%_}
 use native.Mathlib.Omega.{arith}
 use borrow.Author.Needs.{needs}
-use Rattle.hashing.specs.Generator.{modulus}
-use Rattle.hashing.proofs.Powers.{table-below, times-entry}
+use Rattle.hashing.specs.Generator.{modulus, multipliers}
+use Rattle.hashing.proofs.Powers.{entry-below, times-entry}
 use Rattle.hashing.proofs.Codes.{scrambled-key}
 use Rattle.hashing.proofs.generator.scrambled.Statement.{statement}
 use Rattle.hashing.proofs.generator.scrambled.Tie as tie
@@ -22,15 +22,17 @@ array-read-residue : tie.Need-array-read-residue
 array-read-residue c = search needs
 
 residue-requires : tie.Need-residue-requires
+unfolding multipliers
 residue-requires c κs =
-    (rw (c .multipliers .ensures) (table-below (c .before .args .multiplier) (c .before .args .j - 1) (omega arith)), omega arith)
+    (rw (c .multipliers .ensures) (entry-below (c .before .args .multiplier) 2049 (c .before .args .j - 1) (omega arith)), omega arith)
 
 returns : tie.Need-returns
+unfolding multipliers
 returns c =
     let s = c .before .before in
     let e : s .args .j - 1 + 1 ≡ s .args .j = omega (arith, s .pre .1 .0) in
     c .residue .ensures
-    ∙ rw (c .before .multipliers .ensures, times-entry (s .args .multiplier) (s .args .j - 1) (s .args .number % modulus) (omega arith), e, scrambled-key (s .args .multiplier) (s .args .j) (s .args .number))
+    ∙ rw (c .before .multipliers .ensures, times-entry (s .args .multiplier) 2049 (s .args .j - 1) (s .args .number % modulus) (omega arith), e, scrambled-key (s .args .multiplier) (s .args .j) (s .args .number))
 
 pub scrambled-spec : {M : Type 1} → statement M
 scrambled-spec = tie.close (tie.spec multipliers-requires sub-residue mul-residue array-read-residue residue-requires returns)

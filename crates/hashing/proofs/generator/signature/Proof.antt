@@ -3,8 +3,8 @@ use mathlib.Core.Path.{_∙_}
 use Prim.Native.Nat.{_+_, _*_, _%_}
 use native.Mathlib.Omega.{arith}
 use borrow.Author.Needs.{needs}
-use Rattle.hashing.specs.Generator.{modulus, multiplierOf, signature}
-use Rattle.hashing.proofs.Powers.{table-below, times-entry}
+use Rattle.hashing.specs.Generator.{modulus, multiplierOf, multipliers, signature}
+use Rattle.hashing.proofs.Powers.{entry-below, times-entry}
 use Rattle.hashing.proofs.Codes.{scrambled-key}
 use Rattle.hashing.proofs.generator.signature.Statement.{statement}
 use Rattle.hashing.proofs.generator.signature.Tie as tie
@@ -19,20 +19,21 @@ element-copy-out-residue : tie.Need-element-copy-out-residue
 element-copy-out-residue c = search needs
 
 residue-requires : tie.Need-residue-requires
+unfolding multipliers
 residue-requires c κs =
     let s = c .before in
-    (rw (s .pre .0) (table-below (multiplierOf (s .args .parameters)) (2 * s .args .probe) (omega arith)), omega arith)
+    (rw (s .pre .0) (entry-below (multiplierOf (s .args .parameters)) 2049 (2 * s .args .probe) (omega arith)), omega arith)
 
 below-top-requires : tie.Need-below-top-requires
 below-top-requires c κs = search needs
 
 returns : tie.Need-returns
-unfolding signature
+unfolding signature multipliers
 returns c =
     let s = c .before .before .before in
     let a = multiplierOf (s .args .parameters) in
     c .below-top .ensures
-    ∙ rw (c .before .residue .ensures, s .pre .0, times-entry a (2 * s .args .probe) (s .args .number % modulus) (omega arith), scrambled-key a (2 * s .args .probe + 1) (s .args .number))
+    ∙ rw (c .before .residue .ensures, s .pre .0, times-entry a 2049 (2 * s .args .probe) (s .args .number % modulus) (omega arith), scrambled-key a (2 * s .args .probe + 1) (s .args .number))
 
 pub signature-spec : {M : Type 1} → statement M
 signature-spec =

@@ -9,7 +9,7 @@ use Rattle.hashing.specs.Home.{chosen}
 use Rattle.hashing.specs.Moves.{codeAt, moves}
 use Rattle.hashing.proofs.Bounds.{limits}
 use Rattle.hashing.proofs.Codes.{code-size, code-start, moves-taken, moves-passed}
-use Rattle.hashing.proofs.Powers.{table-below, times-step}
+use Rattle.hashing.proofs.Powers.{first-below, times-step}
 use Rattle.hashing.proofs.moves.choose.Statement.{statement}
 use Rattle.hashing.proofs.moves.choose.Tie as tie
 
@@ -74,7 +74,7 @@ element-copy-out-chosen c = omega (arith, c .before .before .before .pre .1 .1 .
 chosen-requires : tie.Need-chosen-requires Inv-loop μ-loop
 chosen-requires c κs =
     let start = c .before .before .before .before in
-    ((rw (start .pre .0) (table-below (multiplierOf (start .args .parameters)) (2 * c .before .before .loop .i + 1) (omega (arith, few c))), start .pre .1 .1 .1 .0), omega arith)
+    ((rw (start .pre .0) (first-below (multiplierOf (start .args .parameters)) (2 * c .before .before .loop .i + 1) (omega (arith, few c))), start .pre .1 .1 .1 .0), omega arith)
 
 next-code-requires : tie.Need-next-code-requires Inv-loop μ-loop
 next-code-requires c κs = let start = c .before .before .before .before .before in (start .pre .1 .0, (omega (arith, start .pre .1 .1 .0), c .before .before .before .loop .inv .1 .1 .1 .0))
