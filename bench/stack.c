@@ -17,7 +17,7 @@ static uint32_t numbers[PAGES * PLACES], pool_numbers[PAGES * PLACES];
 static uint64_t words[PAGES * PLACES], pool_words[PAGES * PLACES];
 
 static const struct heatherplane_file file = {
-    {PLACES, 2, 1, 1, 8, 80, PAGES}, {0, 0},
+    {PLACES, 2, 1, 1, 8, 80, PAGES, HEATHERPLANE_MULTIPLIER_1988}, {0, 0},
     separators, PAGES, numbers, PAGES * PLACES, words, PAGES * PLACES,
     pool_numbers, PAGES * PLACES, pool_words, PAGES * PLACES,
 };

@@ -37,7 +37,7 @@ extern "C" {
 /* Why a call was refused. Of several reasons the first that the call's comment lists is told. */
 enum heatherplane_refusal {
     HEATHERPLANE_ACCEPTED = 0,
-    HEATHERPLANE_BAD_PARAMETERS = 1, /* a parameter or the growth state */
+    HEATHERPLANE_BAD_PARAMETERS = 1, /* a parameter, the multiplier among them, or the growth state */
     HEATHERPLANE_BAD_LENGTH = 2,     /* the length of a buffer */
     HEATHERPLANE_BAD_NUMBER = 3,     /* the star number: 1 to 2147483646 */
     HEATHERPLANE_BAD_POSITION = 4,   /* ra: 0 to 1295999999, dec: -324000000 to 324000000, in milliarcseconds */
@@ -84,14 +84,23 @@ static inline const char *heatherplane_refusal_name(uint32_t refusal)
     }
 }
 
+/* The multiplier of Park and Miller's number generator, from which homes and signatures are made. A file is made under one of them
+ * and stays under it: called with the other, its pages are DAMAGED, or stars that it holds are not found. Files made before there
+ * was a choice have that of 1988. Any other number is refused with BAD_PARAMETERS, also the 0 of a field that was not set. */
+enum heatherplane_multiplier {
+    HEATHERPLANE_MULTIPLIER_1988 = 16807,
+    HEATHERPLANE_MULTIPLIER_1993 = 48271 /* recommended since */
+};
+
 struct heatherplane_parameters {
-    uint32_t places; /* b, places of a page: 1 to 32 */
-    uint32_t groups; /* N, first groups: 1 to 256 */
-    uint32_t width;  /* n0, first pages of a group: 1 to 4 */
-    uint32_t step;   /* s, step of a sweep: 1 to groups */
-    uint32_t bits;   /* k, bits of a separator: 1 to 8 */
-    uint32_t load;   /* A, load in per cent: 1 to 99; tested, though the three calls below do not use it */
-    uint32_t pages;  /* M: width * groups to 1024 */
+    uint32_t places;     /* b, places of a page: 1 to 32 */
+    uint32_t groups;     /* N, first groups: 1 to 256 */
+    uint32_t width;      /* n0, first pages of a group: 1 to 4 */
+    uint32_t step;       /* s, step of a sweep: 1 to groups */
+    uint32_t bits;       /* k, bits of a separator: 1 to 8 */
+    uint32_t load;       /* A, load in per cent: 1 to 99; tested, though the three calls below do not use it */
+    uint32_t pages;      /* M: width * groups to 1024 */
+    uint32_t multiplier; /* an enum heatherplane_multiplier */
 };
 
 /* How many pages are addressed: with n = width + expansions % width and G = groups * 2^(expansions / width), n * G + expanded of
@@ -116,7 +125,7 @@ struct heatherplane_growth {
  * Afterwards: nothing was written. */
 struct heatherplane_reply heatherplane_look_up(
     uint32_t places, uint32_t groups, uint32_t width, uint32_t step, uint32_t bits, uint32_t load, uint32_t pages,
-    uint32_t expansions, uint32_t expanded,
+    uint32_t multiplier, uint32_t expansions, uint32_t expanded,
     const uint8_t *separators, size_t separators_length,
     const uint32_t *numbers, size_t numbers_length,
     const uint64_t *words, size_t words_length,
@@ -134,7 +143,7 @@ struct heatherplane_reply heatherplane_look_up(
  * else holds zeros. */
 struct heatherplane_reply heatherplane_enter(
     uint32_t places, uint32_t groups, uint32_t width, uint32_t step, uint32_t bits, uint32_t load, uint32_t pages,
-    uint32_t expansions, uint32_t expanded,
+    uint32_t multiplier, uint32_t expansions, uint32_t expanded,
     uint8_t *separators, size_t separators_length,
     uint32_t *numbers, size_t numbers_length,
     uint64_t *words, size_t words_length,
@@ -152,7 +161,7 @@ struct heatherplane_reply heatherplane_enter(
  * refused, the file is as it was. The pool is untouched with BAD_PARAMETERS, BAD_LENGTH and BAD_NUMBER, and else holds zeros. */
 struct heatherplane_reply heatherplane_remove(
     uint32_t places, uint32_t groups, uint32_t width, uint32_t step, uint32_t bits, uint32_t load, uint32_t pages,
-    uint32_t expansions, uint32_t expanded,
+    uint32_t multiplier, uint32_t expansions, uint32_t expanded,
     uint8_t *separators, size_t separators_length,
     uint32_t *numbers, size_t numbers_length,
     uint64_t *words, size_t words_length,
@@ -205,7 +214,7 @@ static inline struct heatherplane_reply heatherplane_look_up_in(const struct hea
 {
     const struct heatherplane_parameters *p = &file->parameters;
     return heatherplane_look_up(
-        p->places, p->groups, p->width, p->step, p->bits, p->load, p->pages,
+        p->places, p->groups, p->width, p->step, p->bits, p->load, p->pages, p->multiplier,
         file->growth.expansions, file->growth.expanded,
         file->separators, file->separators_length, file->numbers, file->numbers_length, file->words, file->words_length,
         number);
@@ -216,7 +225,7 @@ static inline struct heatherplane_reply heatherplane_enter_in(
 {
     const struct heatherplane_parameters *p = &file->parameters;
     return heatherplane_enter(
-        p->places, p->groups, p->width, p->step, p->bits, p->load, p->pages,
+        p->places, p->groups, p->width, p->step, p->bits, p->load, p->pages, p->multiplier,
         file->growth.expansions, file->growth.expanded,
         file->separators, file->separators_length, file->numbers, file->numbers_length, file->words, file->words_length,
         file->pool_numbers, file->pool_numbers_length, file->pool_words, file->pool_words_length,
@@ -227,7 +236,7 @@ static inline struct heatherplane_reply heatherplane_remove_in(const struct heat
 {
     const struct heatherplane_parameters *p = &file->parameters;
     return heatherplane_remove(
-        p->places, p->groups, p->width, p->step, p->bits, p->load, p->pages,
+        p->places, p->groups, p->width, p->step, p->bits, p->load, p->pages, p->multiplier,
         file->growth.expansions, file->growth.expanded,
         file->separators, file->separators_length, file->numbers, file->numbers_length, file->words, file->words_length,
         file->pool_numbers, file->pool_numbers_length, file->pool_words, file->pool_words_length,

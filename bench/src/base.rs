@@ -4,6 +4,9 @@ use crate::files::File;
 use crate::{Answer, Library};
 use model::Kind;
 
+/// The only one that it has.
+pub const MULTIPLIER: u32 = 16_807;
+
 /// b, N, n0, s, k, A, M.
 #[repr(C)]
 #[derive(Clone, Copy)]

@@ -2,6 +2,7 @@
 
 use crate::floors::Homes;
 use crate::present;
+use model::hashing::MULTIPLIERS;
 use model::random::Random;
 
 /// M=64 b=8, M=256 b=16 and M=1024 b=32: b, N, n0, s, k, A, M.
@@ -13,6 +14,7 @@ pub const ONE_HOME: [u32; 7] = [32, 1, 1, 1, 8, 80, 1_024];
 #[derive(Clone, Debug, PartialEq, Eq)]
 pub struct File {
     pub parameters: [u32; 7],
+    pub multiplier: u32,
     pub growth: [u32; 2],
     pub separators: Vec<u8>,
     pub numbers: Vec<u32>,
@@ -20,11 +22,16 @@ pub struct File {
 }
 
 impl File {
+    /// Under document 01's multiplier.
     pub fn empty(parameters: [u32; 7]) -> File {
+        File::under(MULTIPLIERS[0], parameters)
+    }
+
+    pub fn under(multiplier: u32, parameters: [u32; 7]) -> File {
         let [places, .., bits, _, pages] = parameters;
         let items = (pages * places) as usize;
         let separators = vec![((1_u32 << bits) - 1) as u8; pages as usize];
-        File { parameters, growth: [0, 0], separators, numbers: vec![0; items], words: vec![0; items] }
+        File { parameters, multiplier, growth: [0, 0], separators, numbers: vec![0; items], words: vec![0; items] }
     }
 
     pub fn places(&self) -> usize {
@@ -46,8 +53,11 @@ impl File {
         self.numbers.iter().copied().filter(|&number| number != 0).collect()
     }
 
+    /// With the multiplier where it is not document 01's.
     pub fn size(&self) -> String {
-        format!("M={} b={}", self.pages(), self.places())
+        let multiplier =
+            if self.multiplier == MULTIPLIERS[0] { String::new() } else { format!(", {}", self.multiplier) };
+        format!("M={} b={}{multiplier}", self.pages(), self.places())
     }
 
     /// How many pages have passed a star on.
@@ -63,9 +73,8 @@ impl File {
     }
 }
 
-/// A file filled by entries, which grows when growth is due, until all but one in 32 pages are addressed.
-pub fn filled(random: &mut Random, parameters: [u32; 7]) -> File {
-    let mut file = File::empty(parameters);
+/// An empty file filled by entries, which grows when growth is due, until all but one in 32 pages are addressed.
+pub fn filled(random: &mut Random, mut file: File) -> File {
     let mut library = present::library(&file);
     let last = file.pages() - file.pages() / 32;
     while file.addressed() < last {

@@ -3,7 +3,6 @@
 use crate::files::File;
 
 const MODULUS: u64 = 2_147_483_647;
-const MULTIPLIER: u64 = 16_807;
 
 /// One expansion: the power of the generator, the greatest value that moves a star, G, G div s and G mod s,
 /// the ranks that are open, and the address of rank 0.
@@ -19,6 +18,7 @@ struct Level {
 
 /// Home addresses under one growth state, with everything that does not depend on the star taken out.
 pub struct Homes {
+    multiplier: u64,
     first: u32,
     step: u32,
     levels: Vec<Level>,
@@ -28,7 +28,8 @@ impl Homes {
     pub fn new(file: &File) -> Homes {
         let [_, groups, width, step, ..] = file.parameters;
         let [expansions, expanded] = file.growth;
-        let square = MULTIPLIER * MULTIPLIER % MODULUS;
+        let multiplier = u64::from(file.multiplier);
+        let square = multiplier * multiplier % MODULUS;
         let mut power = 1;
         let level = |i: u32| {
             let (n, groups) = (width + i % width, groups << (i / width));
@@ -38,12 +39,12 @@ impl Homes {
             Level { power, limit, groups, quotient, remainder, open, address }
         };
         let levels = (0..=expansions).map(level).collect();
-        Homes { first: width * groups, step, levels }
+        Homes { multiplier, first: width * groups, step, levels }
     }
 
     /// First which expansions choose the star, without a branch, then the few moves.
     pub fn home(&self, star: u32) -> u32 {
-        let mut address = (reduce(MULTIPLIER * u64::from(star)) % u64::from(self.first)) as u32;
+        let mut address = (reduce(self.multiplier * u64::from(star)) % u64::from(self.first)) as u32;
         let mut chosen = 0_u64;
         for (i, level) in self.levels.iter().enumerate() {
             chosen |= u64::from(reduce(level.power * u64::from(star)) <= level.limit) << i;

@@ -58,11 +58,13 @@ pub trait Library {
     }
 }
 
-/// Today's library first, then the older one if there is one, each with its own copy of the file.
+/// Today's library first, then the older one if there is one that has the file's multiplier, each with its own copy of the
+/// file.
 pub fn libraries(file: &File) -> Vec<Box<dyn Library>> {
-    vec![
-        present::library(file),
-        #[cfg(feature = "base")]
-        base::library(file),
-    ]
+    let today = present::library(file);
+    #[cfg(feature = "base")]
+    if file.multiplier == base::MULTIPLIER {
+        return vec![today, base::library(file)];
+    }
+    vec![today]
 }

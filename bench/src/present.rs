@@ -7,14 +7,13 @@ use model::{Buffers, Call, Growth, Kind, Parameters};
 
 #[derive(Clone)]
 struct Present {
-    parameters: [u32; 7],
     /// The last call; the next one has its parameters and growth state.
     call: Call,
     lent: Buffers,
 }
 
 pub fn library(file: &File) -> Box<dyn Library> {
-    let parameters = Parameters::new(file.parameters);
+    let parameters = Parameters::new(file.parameters).under(file.multiplier);
     let [expansions, expanded] = file.growth;
     let growth = Growth { expansions, expanded };
     let call = Call { kind: Kind::Due, parameters, growth, number: 0, ra: 0, dec: 0 };
@@ -24,14 +23,14 @@ pub fn library(file: &File) -> Box<dyn Library> {
         words: file.words.clone(),
         ..Buffers::zeros(&parameters)
     };
-    Box::new(Present { parameters: file.parameters, call, lent })
+    Box::new(Present { call, lent })
 }
 
 /// The file that the model's rule gives these stars without a growth; none if a star is carried past the end.
 pub fn laid_out(parameters: [u32; 7], stars: &[u32]) -> Option<File> {
     let stars = stars.iter().map(|&number| Star { number, word: pack(1, 0) }).collect();
     let Buffers { separators, numbers, words, .. } = lay_out(&Parameters::new(parameters), &Growth::default(), stars)?;
-    Some(File { parameters, growth: [0, 0], separators, numbers, words })
+    Some(File { separators, numbers, words, ..File::empty(parameters) })
 }
 
 impl Library for Present {
@@ -55,8 +54,10 @@ impl Library for Present {
     }
 
     fn file(&self) -> File {
+        let [parameters @ .., multiplier] = self.call.parameters.list();
         File {
-            parameters: self.parameters,
+            parameters,
+            multiplier,
             growth: self.growth(),
             separators: self.lent.separators.clone(),
             numbers: self.lent.numbers.clone(),

@@ -14,7 +14,7 @@ static uint32_t pool_numbers[PAGES * PLACES];
 static uint64_t pool_words[PAGES * PLACES];
 
 /* An empty file: every separator 2^k - 1, all else 0, the growth state (0, 0). */
-static struct heatherplane_file empty_file(void)
+static struct heatherplane_file empty_file(enum heatherplane_multiplier multiplier)
 {
     for (size_t page = 0; page < PAGES; page++)
         separators[page] = (1u << BITS) - 1;
@@ -23,7 +23,8 @@ static struct heatherplane_file empty_file(void)
         words[item] = 0;
     }
     const struct heatherplane_parameters parameters = {
-        .places = PLACES, .groups = 2, .width = 2, .step = 1, .bits = BITS, .load = 80, .pages = PAGES};
+        .places = PLACES, .groups = 2, .width = 2, .step = 1, .bits = BITS, .load = 80, .pages = PAGES,
+        .multiplier = multiplier};
     const struct heatherplane_growth growth = {.expansions = 0, .expanded = 0};
     return heatherplane_file_of(parameters, growth, separators, numbers, words, pool_numbers, pool_words);
 }
@@ -83,7 +84,7 @@ static void remove_star(const struct heatherplane_file *file, uint32_t number)
 
 int main(void)
 {
-    struct heatherplane_file file = empty_file();
+    struct heatherplane_file file = empty_file(HEATHERPLANE_MULTIPLIER_1988);
 
     enter(&file, 1, 10, -5);
     enter(&file, 2, 1295999999, 324000000);
@@ -117,5 +118,14 @@ int main(void)
     /* damage is found on the page that a star leads to, and told by its page */
     words[2 * PLACES] = UINT64_MAX;
     look_up(&file, 2);
+
+    /* a new file under the other multiplier; called with one that is not its own, it answers wrongly or refuses */
+    file = empty_file(HEATHERPLANE_MULTIPLIER_1993);
+    enter(&file, 91262, 1005289000, 139622000);
+    look_up(&file, 91262);
+    file.parameters.multiplier = HEATHERPLANE_MULTIPLIER_1988;
+    look_up(&file, 91262);
+    file.parameters.multiplier = 0;
+    look_up(&file, 91262);
     return 0;
 }

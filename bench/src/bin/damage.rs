@@ -1,9 +1,10 @@
-//! Flips single bits of a clean file and counts what notices them, and tries a growth state that does not belong to the
-//! buffers. Prints plain tables.
+//! Flips single bits of a clean file and counts what notices them, and tries a growth state or a multiplier that does not
+//! belong to the buffers. Prints plain tables.
 
 use bench::files::{self, File, SIZES};
 use bench::floors::Homes;
 use bench::{libraries, Answer, Library};
+use model::hashing::MULTIPLIERS;
 use model::random::Random;
 
 const DAMAGED: u32 = 5;
@@ -118,7 +119,7 @@ fn try_bit(counts: &mut Counts, file: &File, pages: &[Named], buffer: Buffer, bi
 
 /// Every bit, or as many as `sample` of each buffer.
 fn single_bits(random: &mut Random, parameters: [u32; 7], sample: Option<usize>) {
-    let file = files::filled(random, parameters);
+    let file = files::filled(random, File::empty(parameters));
     let pages = named(random, &file, libraries(&file)[0].as_mut());
     let how = if sample.is_some() { "sampled bits" } else { "every bit" };
     println!("{}, {} stars, {how}", file.size(), file.stars().len());
@@ -195,11 +196,30 @@ fn growth_states(random: &mut Random, parameters: [u32; 7]) {
         parameters[0],
         growths / sample
     );
+    answer_table(&rows);
+}
+
+fn answer_table(rows: &[(&str, [usize; 3], usize)]) {
     println!("{:>24} {:>10} {:>8} {:>14} {:>16}", "", "right", "5", "none or wrong", "check answers 5");
     for (name, [right, refused, none], checked) in rows {
         println!("{name:>24} {right:>10} {refused:>8} {none:>14} {checked:>16}");
     }
     println!();
+}
+
+/// A file of one multiplier called under the other.
+fn other_multiplier(random: &mut Random, parameters: [u32; 7]) {
+    let [first, second] = MULTIPLIERS;
+    let row = |random: &mut Random, name, own, other| {
+        let clean = files::filled(random, File::under(own, parameters));
+        let called = File { multiplier: other, ..clean.clone() };
+        (name, answers(&called, &clean), usize::from(libraries(&called)[0].check().refusal == DAMAGED))
+    };
+    println!("M={} b={}, look-ups of all held stars under the other multiplier", parameters[6], parameters[0]);
+    answer_table(&[
+        row(random, "16807 called by 48271", first, second),
+        row(random, "48271 called by 16807", second, first),
+    ]);
 }
 
 fn main() {
@@ -208,4 +228,6 @@ fn main() {
     single_bits(&mut random, SIZES[2], Some(2_000));
     growth_states(&mut random, SIZES[0]);
     growth_states(&mut random, SIZES[2]);
+    other_multiplier(&mut random, SIZES[0]);
+    other_multiplier(&mut random, SIZES[2]);
 }

@@ -5,6 +5,7 @@ use bench::files::{self, File, SIZES};
 use bench::floors::Homes;
 use bench::timing::{alone, in_turn, many, nanoseconds, restored, Report, Runs, Table, FEW_RUNS, RUNS};
 use bench::{libraries, Answer, Library};
+use model::hashing::MULTIPLIERS;
 use model::random::Random;
 use std::hint::black_box;
 
@@ -58,8 +59,8 @@ fn entered(libraries: &Libraries, stars: &[u32], count: usize) -> Vec<u32> {
     stars.iter().copied().filter(|&number| library.enter(number).refusal == 0).take(count).collect()
 }
 
-fn calls(report: &mut Report, random: &mut Random, parameters: [u32; 7]) {
-    let file = files::filled(random, parameters);
+fn calls(report: &mut Report, random: &mut Random, empty: File) {
+    let file = files::filled(random, empty);
     let mut libraries = libraries(&file);
     let [clearing, every, one] = floors(&file);
     let table = Table::new(file.size(), &clearing);
@@ -145,12 +146,16 @@ fn one_home(report: &mut Report, random: &mut Random) {
 }
 
 fn main() {
-    let mut random = Random(1);
     let mut report = Report::begin();
-    for parameters in SIZES {
-        calls(&mut report, &mut random, parameters);
+    for multiplier in MULTIPLIERS {
+        let mut random = Random(1);
+        for parameters in SIZES {
+            calls(&mut report, &mut random, File::under(multiplier, parameters));
+        }
+        if multiplier == MULTIPLIERS[0] {
+            long_calls(&mut report, &mut random);
+            one_home(&mut report, &mut random);
+        }
     }
-    long_calls(&mut report, &mut random);
-    one_home(&mut report, &mut random);
     report.end();
 }

@@ -2,9 +2,10 @@
 use denote.Ref.{now}
 use Rattle.hashing.specs.declared.Parameters.{Parameters}
 use Rattle.hashing.specs.declared.Growth.{Growth}
+use Rattle.hashing.specs.Generator.{multiplierOf, firstMultipliers}
 use Rattle.placement.specs.File.{File}
 use Rattle.placement.specs.Lent.{Lent}
-use Rattle.placement.specs.Ready.{Ready, multipliersOf}
+use Rattle.placement.specs.Ready.{Ready}
 use Rattle.calls.specs.Answers.{Pool, pooled}
 
 abbrev pub poolBefore : Lent → Lent → Pool
@@ -13,6 +14,6 @@ poolBefore numbers words = pooled (now (numbers .entry)) (now (words .entry))
 abbrev pub poolAfter : Lent → Lent → Pool
 poolAfter numbers words = pooled (now (numbers .exit)) (now (words .exit))
 
--- placement's `Ready`, for a call that makes the table itself
+-- placement's `Ready`, for a call that makes its table itself
 abbrev pub Admitted : Parameters → Growth → File → Type 0
-Admitted p g f = Ready (record { parameters = p; growth = g }) (multipliersOf p) f
+Admitted p g f = Ready (record { parameters = p; growth = g }) (firstMultipliers (multiplierOf p)) f

@@ -6,7 +6,7 @@ use Prim.Native.Nat.{ℕ}
 use lib.IntN.{pos}
 use lib.ListN.{length, getD}
 use Rattle.hashing.specs.declared.Parameters.{Parameters}
-use Rattle.hashing.specs.Generator.{multiplier, scrambled, signature, topOf}
+use Rattle.hashing.specs.Generator.{scrambled, signature, topOf}
 use Rattle.hashing.specs.Geometry.{grown, ungrown, rank}
 use Rattle.hashing.specs.Home.{home}
 use Rattle.pages.specs.Position.{packed}
@@ -14,7 +14,7 @@ use Rattle.placement.specs.Rule.{Star, Hash, separatorOf, staying}
 
 -- starline's file: N = n0 = 2, s = 1
 abbrev pub small : Parameters
-small = record { places = 2; groups = 2; width = 2; step = 1; bits = 8; load = 80; pages = 8 }
+small = record { places = 2; groups = 2; width = 2; step = 1; bits = 8; load = 80; pages = 8; multiplier = 16807 }
 
 -- k = 4, b places, all stars at home on page 0; star i has the i-th of the given signatures, counted from 0
 abbrev pub given : ℕ → List ℕ → Hash
@@ -41,17 +41,17 @@ abbrev pub twoStars : List ℕ
 twoStars = 0 ∷ 1 ∷ []
 
 pub record Points : Type 0 where
-  pub third : scrambled multiplier 3 1 ≡ 1622650073
-  pub firstOfLast : scrambled multiplier 1 2147483646 ≡ 2147466840
-  pub signature1Of1 : signature multiplier 8 1 1 ≡ 158
-  pub signature2Of1 : signature multiplier 8 1 2 ≡ 175
-  pub signature1Of2 : signature multiplier 8 2 1 ≡ 189
+  pub third : scrambled 16807 3 1 ≡ 1622650073
+  pub firstOfLast : scrambled 16807 1 2147483646 ≡ 2147466840
+  pub signature1Of1 : signature 16807 8 1 1 ≡ 158
+  pub signature2Of1 : signature 16807 8 1 2 ≡ 175
+  pub signature1Of2 : signature 16807 8 2 1 ≡ 189
   pub rankOf7 : rank 3 10 7 ≡ 7
   pub rankOf1 : rank 3 10 1 ≡ 9
-  pub homeOf1 : home multiplier small ungrown 1 ≡ 3
-  pub homeOf1Grown : home multiplier small (grown small ungrown) 1 ≡ 4
-  pub homeOf2 : home multiplier small ungrown 2 ≡ 2
-  pub homeOf2GrownTwice : home multiplier small (grown small (grown small ungrown)) 2 ≡ 5
+  pub homeOf1 : home 16807 small ungrown 1 ≡ 3
+  pub homeOf1Grown : home 16807 small (grown small ungrown) 1 ≡ 4
+  pub homeOf2 : home 16807 small ungrown 2 ≡ 2
+  pub homeOf2GrownTwice : home 16807 small (grown small (grown small ungrown)) 2 ≡ 5
   pub fourKept : length (stayingFor 4 five fiveStars) ≡ 4
   pub fourSeparator : separatorFor 4 five fiveStars ≡ 8
   pub twoKept : length (stayingFor 3 five fiveStars) ≡ 2

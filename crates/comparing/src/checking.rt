@@ -2,6 +2,7 @@
 ghost use mathlib.Core.Path.{_≡_};
 ghost use Prim.Native.Nat.{suc, _+_, _*_, _≤_};
 ghost use lib.ListN.{length};
+ghost use Rattle.hashing.specs.Generator.{multiplierOf, firstMultipliers};
 ghost use Rattle.placement.specs.Hash.{homesOf};
 ghost use Rattle.placement.specs.Lent.{held, before};
 ghost use Rattle.placement.specs.Ready.{Ready, Pooled};
@@ -21,7 +22,6 @@ pub enum Verdict {
 
 // The first spot at which a file of sound pages differs from the rule. The pool holds the homes of the items.
 fn compare_planned(
-    table: &[u32; 2049],
     geometry: Geometry,
     separators: &[u8],
     numbers: &[u32],
@@ -29,7 +29,7 @@ fn compare_planned(
     pool: &mut [u32],
     waiting: &mut [u64],
 ) -> Spot
-    requires { ⌜ Ready geometry (now table) (held separators numbers words) ⌝ }
+    requires { ⌜ Ready geometry (firstMultipliers (multiplierOf (geometry .parameters))) (held separators numbers words) ⌝ }
     requires { ⌜ firstUnsound (geometry .parameters) (geometry .growth) (held separators numbers words) 0 (geometry .parameters .pages) ≡ geometry .parameters .pages ⌝ }
     requires { ⌜ now pool ≡ homesOf (geometry .parameters) (geometry .growth) (now numbers) ⌝ }
     requires { ⌜ length (now waiting) ≡ geometry .parameters .pages * geometry .parameters .places ⌝ }
@@ -40,7 +40,6 @@ fn compare_planned(
     let pages = geometry.parameters.pages as usize;
     let mut planned = [0u8; 1024];
     planning::plan(
-        table,
         geometry.parameters,
         numbers,
         pool,
@@ -66,7 +65,7 @@ fn compare_planned(
 
 // The file is only read. The pool's contents are free afterwards.
 pub fn check_file(
-    table: &[u32; 2049],
+    table: &[u32; 90],
     geometry: Geometry,
     separators: &[u8],
     numbers: &[u32],
@@ -83,7 +82,7 @@ pub fn check_file(
     if unsound < pages {
         return Verdict::Unsound(unsound);
     }
-    let spot = compare_planned(table, geometry, separators, numbers, words, pool, waiting);
+    let spot = compare_planned(geometry, separators, numbers, words, pool, waiting);
     if spot.page < pages {
         return Verdict::Differs {
             page: spot.page,

@@ -27,7 +27,7 @@ pub enum Block {
 
 // The block from page lo on, with the `incoming` words at the front of `waiting`.
 fn plan_block(
-    table: &[u32; 2049],
+    table: &[u32; 90],
     geometry: Geometry,
     separators: &[u8],
     numbers: &[u32],
@@ -56,7 +56,6 @@ fn plan_block(
         return Block::Crowded;
     }
     let left = planning::plan(
-        table,
         parameters,
         numbers,
         pool,
@@ -73,7 +72,7 @@ fn plan_block(
 // Plans the reach, from its home on, of the entry of a number that the file does not hold. The pool gets the sources of the reach's places and `planned` its separators;
 // the new star's source is the one past the items.
 pub fn plan_entry(
-    table: &[u32; 2049],
+    table: &[u32; 90],
     geometry: Geometry,
     separators: &[u8],
     numbers: &[u32],

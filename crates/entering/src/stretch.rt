@@ -18,7 +18,7 @@ pub enum Entered {
 
 // The entry of a number that the file does not hold. A refusal leaves the file as it was.
 pub fn enter_stretch(
-    table: &[u32; 2049],
+    table: &[u32; 90],
     geometry: Geometry,
     separators: &mut [u8],
     numbers: &mut [u32],

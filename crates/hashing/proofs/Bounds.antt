@@ -11,7 +11,7 @@ use borrow.Author.Tests.{not-true, not-false, leb-true, ltb-true, le-leb, lt-ltb
 use Rattle.hashing.specs.declared.Parameters.{Parameters}
 use Rattle.hashing.specs.declared.Growth.{Growth}
 use Rattle.hashing.specs.Geometry.{sizeAt, countAt, groupSize, groupCount, pageCount}
-use Rattle.hashing.specs.Limits.{within, validParameters, validGrowth}
+use Rattle.hashing.specs.Limits.{within, validMultiplier, validParameters, validGrowth}
 
 pub record Limits (p : Parameters) : Type 0 where
   pub places-least : 1 ≤ p .places
@@ -28,6 +28,7 @@ pub record Limits (p : Parameters) : Type 0 where
   pub load-most : p .load ≤ 99
   pub pages-least : p .width * p .groups ≤ p .pages
   pub pages-most : p .pages ≤ 1024
+  pub multiplier-valid : validMultiplier (p .multiplier) ≡ true
 
 pub record Within (p : Parameters) (g : Growth) : Type 0 where
   pub expanded-below : g .expanded < groupCount p g
@@ -67,6 +68,7 @@ limits p e =
     let step = both (within 1 (p .step) (p .groups)) _ (width .1) in
     let bits = both (within 1 (p .bits) 8) _ (step .1) in
     let load = both (within 1 (p .load) 99) _ (bits .1) in
+    let pages = both (within (p .width * p .groups) (p .pages) 1024) _ (load .1) in
     record {
       places-least = within-bounds _ _ _ (places .0) .0;
       places-most = within-bounds _ _ _ (places .0) .1;
@@ -80,8 +82,9 @@ limits p e =
       bits-most = within-bounds _ _ _ (bits .0) .1;
       load-least = within-bounds _ _ _ (load .0) .0;
       load-most = within-bounds _ _ _ (load .0) .1;
-      pages-least = within-bounds _ _ _ (load .1) .0;
-      pages-most = within-bounds _ _ _ (load .1) .1;
+      pages-least = within-bounds _ _ _ (pages .0) .0;
+      pages-most = within-bounds _ _ _ (pages .0) .1;
+      multiplier-valid = pages .1;
     }
 
 pub limits-valid : (p : Parameters) → Limits p → validParameters p ≡ true
@@ -95,6 +98,7 @@ limits-valid p l =
       bounds-within 1 (p .bits) 8 (l .bits-least) (l .bits-most),
       bounds-within 1 (p .load) 99 (l .load-least) (l .load-most),
       bounds-within (p .width * p .groups) (p .pages) 1024 (l .pages-least) (l .pages-most),
+      l .multiplier-valid,
     )
 
 pub growth-within : (p : Parameters) (g : Growth) → validGrowth p g ≡ true → Within p g

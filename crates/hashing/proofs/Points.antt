@@ -2,13 +2,13 @@
 use mathlib.Core.Path.{_≡_, refl}
 use Rattle.hashing.specs.declared.Parameters.{Parameters}
 use Rattle.hashing.specs.declared.Growth.{Growth}
-use Rattle.hashing.specs.Generator.{multiplier, scrambled, topOf, signature}
+use Rattle.hashing.specs.Generator.{scrambled, topOf, signature}
 use Rattle.hashing.specs.Geometry.{sizeAt, countAt, grown, grownBy, ungrown, rank, swept}
 use Rattle.hashing.specs.Home.{rankAt, chosen, expandedAt, stepFrom, afterSteps, home}
 
 -- N = n0 = 2, s = 1; the other parameters are those of starline
 abbrev pub small : Parameters
-small = record { places = 2; groups = 2; width = 2; step = 1; bits = 8; load = 80; pages = 8 }
+small = record { places = 2; groups = 2; width = 2; step = 1; bits = 8; load = 80; pages = 8; multiplier = 16807 }
 
 abbrev pub grownOnce : Growth
 grownOnce = grown small ungrown
@@ -16,23 +16,23 @@ grownOnce = grown small ungrown
 abbrev pub grownTwice : Growth
 grownTwice = grown small grownOnce
 
-pub scrambled-3-1 : scrambled multiplier 3 1 ≡ 1622650073
+pub scrambled-3-1 : scrambled 16807 3 1 ≡ 1622650073
 unfolding scrambled
 scrambled-3-1 = refl
 
-pub scrambled-1-last : scrambled multiplier 1 2147483646 ≡ 2147466840
+pub scrambled-1-last : scrambled 16807 1 2147483646 ≡ 2147466840
 unfolding scrambled
 scrambled-1-last = refl
 
-pub signature-1-of-1 : signature multiplier 8 1 1 ≡ 158
+pub signature-1-of-1 : signature 16807 8 1 1 ≡ 158
 unfolding signature scrambled topOf
 signature-1-of-1 = refl
 
-pub signature-2-of-1 : signature multiplier 8 1 2 ≡ 175
+pub signature-2-of-1 : signature 16807 8 1 2 ≡ 175
 unfolding signature scrambled topOf
 signature-2-of-1 = refl
 
-pub signature-1-of-2 : signature multiplier 8 2 1 ≡ 189
+pub signature-1-of-2 : signature 16807 8 2 1 ≡ 189
 unfolding signature scrambled topOf
 signature-1-of-2 = refl
 
@@ -44,18 +44,18 @@ pub rank-of-1 : rank 3 10 1 ≡ 9
 unfolding rank swept
 rank-of-1 = refl
 
-pub home-of-1 : home multiplier small ungrown 1 ≡ 3
+pub home-of-1 : home 16807 small ungrown 1 ≡ 3
 unfolding home afterSteps stepFrom expandedAt chosen rankAt rank swept sizeAt countAt scrambled
 home-of-1 = refl
 
-pub home-of-1-grown : home multiplier small grownOnce 1 ≡ 4
+pub home-of-1-grown : home 16807 small grownOnce 1 ≡ 4
 unfolding grown grownBy home afterSteps stepFrom expandedAt chosen rankAt rank swept sizeAt countAt scrambled
 home-of-1-grown = refl
 
-pub home-of-2 : home multiplier small ungrown 2 ≡ 2
+pub home-of-2 : home 16807 small ungrown 2 ≡ 2
 unfolding home afterSteps stepFrom expandedAt chosen rankAt rank swept sizeAt countAt scrambled
 home-of-2 = refl
 
-pub home-of-2-grown : home multiplier small grownTwice 2 ≡ 5
+pub home-of-2-grown : home 16807 small grownTwice 2 ≡ 5
 unfolding grown grownBy home afterSteps stepFrom expandedAt chosen rankAt rank swept sizeAt countAt scrambled
 home-of-2-grown = refl

@@ -1,14 +1,17 @@
--- The table of multipliers: one test over the whole table, lifted to the powers of any multiplier.
-use mathlib.Core.Path.{_≡_, _∙_, refl}
-use mathlib.Core.Bool.{Bool, true, false, _&&_}
+-- The tables of multipliers: one test over a whole table, lifted to the powers of any multiplier.
+use mathlib.Core.Path.{_≡_, _∙_, refl, ap}
+use mathlib.Core.Bool.{Bool, true, false, _&&_, _||_, false≢true}
 use mathlib.Core.List.{List, [], _∷_}
-use Prim.Native.Nat.{ℕ, zero, suc, _-_, _*_, _%_, _^_, _≤_, _<_}
-use native.Mathlib.Nat.{pow-zero, pow-suc, pow-succ', one-mul, mul-assoc, not-suc-le-zero, le-of-suc-le-suc}
+use Prim.Native.Nat.{ℕ, zero, suc, _+_, _-_, _*_, _%_, _^_, _≤_, _<_}
+use native.Mathlib.Nat.{add-comm, pow-zero, pow-suc, pow-succ', one-mul, mul-assoc, not-suc-le-zero, le-of-suc-le-suc}
 use native.Mathlib.Omega.{arith}
 use lib.Dec.{T, eqb, eqb→eq}
 use lib.ListN.{getD}
-use Rattle.hashing.specs.Generator.{modulus, power, chain, multiplier, multipliers}
-use Rattle.hashing.proofs.Numbers.{mul-mod}
+use lib.Pow.{pow-add}
+use borrow.Author.Tests.{eqb-true}
+use Rattle.hashing.specs.Generator.{modulus, power, scrambled, chain, firstMultipliers}
+use Rattle.hashing.specs.Limits.{validMultiplier}
+use Rattle.hashing.proofs.Numbers.{mul-mod, mul-mod-right}
 
 -- n entries, each being the one before times a mod m
 abbrev pub chained : ℕ → ℕ → ℕ → List ℕ → Bool
@@ -35,10 +38,19 @@ chained-is a p (suc n) (x ∷ xs) t = go (eqb→eq x (p * a % modulus) (both-lef
     go : x ≡ p * a % modulus → xs ≡ chain a x n → x ∷ xs ≡ p * a % modulus ∷ chain a (p * a % modulus) n
     go e f = rw (f, e)
 
--- a list that passes the test is the table: at a constant, `is-table _ tt`
-pub is-table : (xs : List ℕ) → T (chained multiplier 1 2049 xs) → xs ≡ multipliers
-unfolding multipliers
-is-table xs t = chained-is multiplier 1 2049 xs t
+-- a list that passes the test for a is the chain of every multiplier that equals a: at a constant, `is-chain a n _ tt _ e`
+pub is-chain : (a n : ℕ) (xs : List ℕ) → T (chained a 1 n xs) → (b : ℕ) → b ≡ a → xs ≡ chain b 1 n
+is-chain a n xs t b e = rw e (chained-is a 1 n xs t)
+
+-- a valid multiplier that is not the one is the other
+pub the-other : (a : ℕ) → validMultiplier a ≡ true → (a ≡ 48271 → ⊥) → a ≡ 16807
+unfolding validMultiplier
+the-other a v f = go (eqb a 16807) (eqb a 48271) refl refl v
+  where
+    go : (s t : Bool) → eqb a 16807 ≡ s → eqb a 48271 ≡ t → s || t ≡ true → a ≡ 16807
+    go true t e e′ v = eqb-true a 16807 e
+    go false true e e′ v = absurd (f (eqb-true a 48271 e′))
+    go false false e e′ v = absurd (false≢true v)
 
 chain-at : (a p n j : ℕ) → j < n → getD (chain a p n) j 0 ≡ p * a ^ suc j % modulus
 unfolding chain
@@ -58,10 +70,41 @@ entry a n (suc j) h l = rw (sub-suc j) (chain-at a 1 n j l ∙ rw one-mul)
     sub-suc : (j : ℕ) → suc j - 1 ≡ j
     sub-suc j = omega arith
 
-pub table-entry : (j : ℕ) → 1 ≤ j → j ≤ 2049 → getD multipliers (j - 1) 0 ≡ power multiplier j
-unfolding multipliers
-table-entry j h l = entry multiplier 2049 j h l
+-- the same counted from 0
+pub entry-at : (a n i : ℕ) → i < n → getD (chain a 1 n) i 0 ≡ power a (i + 1)
+entry-at a n i h = let e : i ≡ i + 1 - 1 = omega arith in ap (λ (j : ℕ). getD (chain a 1 n) j 0) e ∙ entry a n (i + 1) (omega arith) (omega arith)
 
-pub entry-below : (j : ℕ) → 1 ≤ j → j ≤ 2049 → getD multipliers (j - 1) 0 < modulus
+pub power-below : (a j : ℕ) → power a j < modulus
 unfolding power
-entry-below j h l = rw (table-entry j h l) (omega arith)
+power-below a j = omega arith
+
+pub entry-below : (a n i : ℕ) → i < n → getD (chain a 1 n) i 0 < modulus
+entry-below a n i h = rw (entry-at a n i h) (power-below a (i + 1))
+
+-- a product by an entry is Xj
+pub times-entry : (a n i k : ℕ) → i < n → getD (chain a 1 n) i 0 * k % modulus ≡ scrambled a (i + 1) k
+unfolding scrambled power
+times-entry a n i k h = rw (entry-at a n i h) (mul-mod (a ^ (i + 1)) modulus k)
+
+-- the first ninety: each is below the modulus, X1, and the multiplier of step i + 1
+
+pub first-below : (a i : ℕ) → i < 90 → getD (firstMultipliers a) i 0 < modulus
+unfolding firstMultipliers
+first-below a i h = entry-below a 90 i h
+
+pub times-first : (a i k : ℕ) → i < 90 → getD (firstMultipliers a) i 0 * k % modulus ≡ scrambled a (i + 1) k
+unfolding firstMultipliers
+times-first a i k h = times-entry a 90 i k h
+
+pub times-step : (a i k : ℕ) → i ≤ 32 → getD (firstMultipliers a) (2 * i + 1) 0 * k % modulus ≡ scrambled a (2 * suc i) k
+times-step a i k h =
+    let e : 2 * i + 1 + 1 ≡ 2 * suc i = omega arith in
+    times-first a (2 * i + 1) k (omega arith) ∙ ap (λ (j : ℕ). scrambled a j k) e
+
+-- X(j+2) is X2 times Xj
+pub times-second : (a j k : ℕ) → getD (firstMultipliers a) 1 0 * scrambled a j k % modulus ≡ scrambled a (j + 2) k
+unfolding scrambled
+times-second a j k =
+    times-first a 1 (a ^ j * k % modulus) (omega arith)
+    ∙ mul-mod-right (a ^ 2) modulus (a ^ j * k)
+    ∙ rw (← mul-assoc (a ^ 2) (a ^ j) k, ← pow-add a 2 j, add-comm 2 j)

@@ -7,13 +7,9 @@ use Rattle.hashing.specs.declared.Parameters.{Parameters}
 abbrev pub modulus : ℕ
 modulus = 2147483647
 
--- 16,807, the multiplier of the file's own table
-abbrev pub multiplier : ℕ
-multiplier = 16807
-
 -- the multiplier that a file's parameters name
 abbrev pub multiplierOf : Parameters → ℕ
-multiplierOf p = multiplier
+multiplierOf p = p .multiplier
 
 -- the j-th multiplier of the table: a^j mod m
 unfoldable pub power : ℕ → ℕ → ℕ
@@ -36,6 +32,10 @@ unfoldable pub chain : ℕ → ℕ → ℕ → List ℕ
 chain a p zero = []
 chain a p (suc n) = p * a % modulus ∷ chain a (p * a % modulus) n
 
--- the 2,049 multipliers, the first 16,807
-unfoldable pub multipliers : List ℕ
-multipliers = chain multiplier 1 2049
+-- the table of 2,049 multipliers
+unfoldable pub multipliers : ℕ → List ℕ
+multipliers a = chain a 1 2049
+
+-- its first ninety, which homes need: X1, and X(2i) for up to 33 steps
+unfoldable pub firstMultipliers : ℕ → List ℕ
+firstMultipliers a = chain a 1 90

@@ -1,7 +1,7 @@
 -- Which parameters and growth states are valid: document 01, "The lent buffers".
-use mathlib.Core.Bool.{Bool, _&&_}
+use mathlib.Core.Bool.{Bool, _&&_, _||_}
 use Prim.Native.Nat.{ℕ, _*_}
-use lib.Dec.{leb, ltb}
+use lib.Dec.{leb, ltb, eqb}
 use Rattle.hashing.specs.declared.Parameters.{Parameters}
 use Rattle.hashing.specs.declared.Growth.{Growth}
 use Rattle.hashing.specs.Geometry.{groupCount, pageCount}
@@ -9,7 +9,11 @@ use Rattle.hashing.specs.Geometry.{groupCount, pageCount}
 unfoldable pub within : ℕ → ℕ → ℕ → Bool
 within low n high = leb low n && leb n high
 
--- b 1 to 32; N 1 to 256; n0 1 to 4; s 1 to N; k 1 to 8; A 1 to 99; M from n0·N to 1,024
+-- Park and Miller's of 1988 or of 1993
+unfoldable pub validMultiplier : ℕ → Bool
+validMultiplier a = eqb a 16807 || eqb a 48271
+
+-- b 1 to 32; N 1 to 256; n0 1 to 4; s 1 to N; k 1 to 8; A 1 to 99; M from n0·N to 1,024; the multiplier is one of the two
 unfoldable pub validParameters : Parameters → Bool
 validParameters p =
     within 1 (p .places) 32
@@ -18,7 +22,8 @@ validParameters p =
     && (within 1 (p .step) (p .groups)
     && (within 1 (p .bits) 8
     && (within 1 (p .load) 99
-    && within (p .width * p .groups) (p .pages) 1024)))))
+    && (within (p .width * p .groups) (p .pages) 1024
+    && validMultiplier (p .multiplier)))))))
 
 -- x is below G and n·G + x is at most M
 unfoldable pub validGrowth : Parameters → Growth → Bool

@@ -2,7 +2,7 @@
 ghost use mathlib.Core.Path.{_≡_};
 ghost use mathlib.Core.Bool.{true};
 ghost use Prim.Native.Nat.{_*_, _/_, _%_, _<_, _≤_};
-ghost use Rattle.hashing.specs.Generator.{modulus, multiplier, multipliers, scrambled};
+ghost use Rattle.hashing.specs.Generator.{modulus, multiplierOf, firstMultipliers, scrambled};
 ghost use Rattle.hashing.specs.Geometry.{grown};
 ghost use Rattle.hashing.specs.Limits.{validParameters, validGrowth};
 ghost use Rattle.hashing.specs.Home.{rankAt, stepFrom, chosen as Home·chosen, home as Home·home};
@@ -19,11 +19,11 @@ use crate::moves::moved;
 use crate::moves::page_of;
 use crate::moves::ranked;
 
-pub fn home(table: &[u32; 2049], geometry: Geometry, number: u32) -> u32
-    requires { ⌜ now table ≡ multipliers ⌝ }
+pub fn home(table: &[u32; 90], geometry: Geometry, number: u32) -> u32
+    requires { ⌜ now table ≡ firstMultipliers (multiplierOf (geometry .parameters)) ⌝ }
     requires { ⌜ validParameters (geometry .parameters) ≡ true ⌝ }
     requires { ⌜ validGrowth (geometry .parameters) (geometry .growth) ≡ true ⌝ }
-    ensures { λ r. ⌜ r ≡ Home·home multiplier (geometry .parameters) (geometry .growth) number ⌝ }
+    ensures { λ r. ⌜ r ≡ Home·home (multiplierOf (geometry .parameters)) (geometry .parameters) (geometry .growth) number ⌝ }
 {
     let parameters = geometry.parameters;
     let key = number % 2147483647;
@@ -49,37 +49,38 @@ fn inverse_of(parameters: Parameters) -> u32
 }
 
 // The home in a new file.
-fn first_page(table: &[u32; 2049], parameters: Parameters, key: u32) -> u16
-    requires { ⌜ now table ≡ multipliers ⌝ }
+fn first_page(table: &[u32; 90], parameters: Parameters, key: u32) -> u16
+    requires { ⌜ now table ≡ firstMultipliers (multiplierOf parameters) ⌝ }
     requires { ⌜ validParameters parameters ≡ true ⌝ }
     requires { ⌜ key < modulus ⌝ }
-    ensures { λ r. ⌜ r ≡ scrambled multiplier 1 key % (parameters .width * parameters .groups) ⌝ }
+    ensures { λ r. ⌜ r ≡ scrambled (multiplierOf parameters) 1 key % (parameters .width * parameters .groups) ⌝ }
 {
-    (residue(table, 1, key) % (parameters.width * parameters.groups)) as u16
+    (residue(table[0], key) % (parameters.width * parameters.groups)) as u16
 }
 
 // Whether the last step, of that code, chooses the number.
-fn chosen_last(table: &[u32; 2049], geometry: Geometry, key: u32, last: u16) -> bool
-    requires { ⌜ now table ≡ multipliers ⌝ }
+fn chosen_last(table: &[u32; 90], geometry: Geometry, key: u32, last: u16) -> bool
+    requires { ⌜ now table ≡ firstMultipliers (multiplierOf (geometry .parameters)) ⌝ }
     requires { ⌜ validParameters (geometry .parameters) ≡ true ⌝ }
     requires { ⌜ validGrowth (geometry .parameters) (geometry .growth) ≡ true ⌝ }
     requires { ⌜ key < modulus ⌝ }
     requires { ⌜ last ≡ codeAt (geometry .parameters) (geometry .growth .expansions) ⌝ }
-    ensures { λ r. ⌜ r ≡ Home·chosen multiplier (geometry .parameters) key (geometry .growth .expansions) ⌝ }
+    ensures { λ r. ⌜ r ≡ Home·chosen (multiplierOf (geometry .parameters)) (geometry .parameters) key (geometry .growth .expansions) ⌝ }
 {
-    chosen(table, key, geometry.growth.expansions, last % 8)
+    let i = geometry.growth.expansions as usize;
+    chosen(table[2 * i + 1], key, last % 8)
 }
 
 // The last step, in the present partial expansion, which has reached the groups of a rank below x.
 fn last_step(
-    table: &[u32; 2049],
+    table: &[u32; 90],
     geometry: Geometry,
     inverse: u32,
     key: u32,
     last: u16,
     landing: Landing,
 ) -> u16
-    requires { ⌜ now table ≡ multipliers ⌝ }
+    requires { ⌜ now table ≡ firstMultipliers (multiplierOf (geometry .parameters)) ⌝ }
     requires { ⌜ validParameters (geometry .parameters) ≡ true ⌝ }
     requires { ⌜ validGrowth (geometry .parameters) (geometry .growth) ≡ true ⌝ }
     requires { ⌜ inverse ≡ inverseOf (geometry .parameters .step) ⌝ }
@@ -87,7 +88,8 @@ fn last_step(
     requires { ⌜ last ≡ codeAt (geometry .parameters) (geometry .growth .expansions) ⌝ }
     requires { ⌜ Landed (geometry .parameters) (landing .code) (landing .order) ⌝ }
     requires { ⌜ landing .code / 8 ≤ last / 8 ⌝ }
-    ensures { λ r. ⌜ r ≡ stepFrom multiplier (geometry .parameters) (geometry .growth) key (geometry .growth .expansions) (pageOf (geometry .parameters) (landing .code) (landing .order)) ⌝ }
+    ensures { λ r. ⌜ r ≡ stepFrom (multiplierOf (geometry .parameters)) (geometry .parameters) (geometry .growth) key (geometry .growth .expansions)
+        (pageOf (geometry .parameters) (landing .code) (landing .order)) ⌝ }
 {
     let parameters = geometry.parameters;
     let page = page_of(parameters, landing.code, landing.order);
@@ -126,12 +128,12 @@ fn last_rank(geometry: Geometry, last: u16, page: u16) -> u16
 }
 
 // The home under the next growth state, from the home under this one.
-pub fn home_grown(table: &[u32; 2049], geometry: Geometry, number: u32, old: u32) -> u32
-    requires { ⌜ now table ≡ multipliers ⌝ }
+pub fn home_grown(table: &[u32; 90], geometry: Geometry, number: u32, old: u32) -> u32
+    requires { ⌜ now table ≡ firstMultipliers (multiplierOf (geometry .parameters)) ⌝ }
     requires { ⌜ validParameters (geometry .parameters) ≡ true ⌝ }
     requires { ⌜ validGrowth (geometry .parameters) (geometry .growth) ≡ true ⌝ }
-    requires { ⌜ old ≡ Home·home multiplier (geometry .parameters) (geometry .growth) number ⌝ }
-    ensures { λ r. ⌜ r ≡ Home·home multiplier (geometry .parameters) (grown (geometry .parameters) (geometry .growth)) number ⌝ }
+    requires { ⌜ old ≡ Home·home (multiplierOf (geometry .parameters)) (geometry .parameters) (geometry .growth) number ⌝ }
+    ensures { λ r. ⌜ r ≡ Home·home (multiplierOf (geometry .parameters)) (geometry .parameters) (grown (geometry .parameters) (geometry .growth)) number ⌝ }
 {
     let last = last_code(geometry);
     let page = old as u16;

@@ -1,25 +1,44 @@
-// Scrambled star numbers and signatures, over the table of multipliers.
+// The tables of multipliers, and scrambled star numbers and signatures over them.
 ghost use mathlib.Core.Path.{_≡_};
-ghost use Prim.Native.Nat.{_%_, _≤_, _<_};
-ghost use Rattle.hashing.specs.Generator.{modulus, multiplier, topOf};
+ghost use mathlib.Core.Bool.{true};
+ghost use Prim.Native.Nat.{_*_, _%_, _≤_, _<_};
+ghost use Rattle.hashing.specs.Generator.{modulus, multiplierOf, topOf, firstMultipliers};
 ghost use Rattle.hashing.specs.Generator.{multipliers as Generator·multipliers, scrambled as Generator·scrambled, signature as Generator·signature};
-use crate::MULTIPLIERS;
+ghost use Rattle.hashing.specs.Limits.{validMultiplier};
+use crate::Parameters;
+use crate::firsts::FIRST_16807;
+use crate::firsts::FIRST_48271;
+use crate::table::MULTIPLIERS_16807;
+use crate::table::MULTIPLIERS_48271;
 
-// A copy of the table, for a caller that must know no more of it than that it is the table.
-pub fn multipliers() -> [u32; 2049]
-    ensures { λ r. ⌜ r ≡ Generator·multipliers ⌝ }
+// A copy of the multiplier's table, for a caller that must know no more of it than that it is the table.
+pub fn multipliers(multiplier: u32) -> [u32; 2049]
+    requires { ⌜ validMultiplier multiplier ≡ true ⌝ }
+    ensures { λ r. ⌜ r ≡ Generator·multipliers multiplier ⌝ }
 {
-    MULTIPLIERS
+    if multiplier == 48271 {
+        return MULTIPLIERS_48271;
+    }
+    MULTIPLIERS_16807
 }
 
-// Xj of a number below the modulus. As 2^31 is 1 mod m, the product's two halves are added in place of a division.
-pub fn residue(table: &[u32; 2049], j: usize, key: u32) -> u32
-    requires { ⌜ now table ≡ Generator·multipliers ⌝ }
-    requires { ⌜ (1 ≤ j) × (j ≤ 2049) ⌝ }
-    requires { ⌜ key < modulus ⌝ }
-    ensures { λ r. ⌜ r ≡ Generator·scrambled multiplier j key ⌝ }
+// The same of its first ninety.
+pub fn first_multipliers(multiplier: u32) -> [u32; 90]
+    requires { ⌜ validMultiplier multiplier ≡ true ⌝ }
+    ensures { λ r. ⌜ r ≡ firstMultipliers multiplier ⌝ }
 {
-    let product = table[j - 1] as u64 * key as u64;
+    if multiplier == 48271 {
+        return FIRST_48271;
+    }
+    FIRST_16807
+}
+
+// A product mod m. As 2^31 is 1 mod m, the product's two halves are added in place of a division.
+pub fn residue(factor: u32, key: u32) -> u32
+    requires { ⌜ (factor < modulus) × (key < modulus) ⌝ }
+    ensures { λ r. ⌜ r ≡ factor * key % modulus ⌝ }
+{
+    let product = factor as u64 * key as u64;
     let sum = product / 2147483648 + product % 2147483648;
     if sum < 2147483647 {
         return sum as u32;
@@ -27,17 +46,18 @@ pub fn residue(table: &[u32; 2049], j: usize, key: u32) -> u32
     (sum - 2147483647) as u32
 }
 
-// Xj of a number.
-pub fn scrambled(table: &[u32; 2049], j: usize, number: u32) -> u32
-    requires { ⌜ now table ≡ Generator·multipliers ⌝ }
+// Xj of a number, for a caller that asks once.
+pub fn scrambled(multiplier: u32, j: usize, number: u32) -> u32
+    requires { ⌜ validMultiplier multiplier ≡ true ⌝ }
     requires { ⌜ (1 ≤ j) × (j ≤ 2049) ⌝ }
     ensures { λ r. ⌜ r ≡ Generator·scrambled multiplier j number ⌝ }
 {
-    residue(table, j, number % 2147483647)
+    let table = multipliers(multiplier);
+    residue(table[j - 1], number % 2147483647)
 }
 
 // A remainder by 2^bits − 1: a divisor that is known when the code is compiled costs a product, and no division.
-fn below_top(number: u32, bits: u32) -> u32
+pub fn below_top(number: u32, bits: u32) -> u32
     requires { ⌜ (1 ≤ bits) × (bits ≤ 8) ⌝ }
     ensures { λ r. ⌜ r ≡ number % topOf bits ⌝ }
 {
@@ -66,12 +86,12 @@ fn below_top(number: u32, bits: u32) -> u32
 }
 
 // The signature of a number on the probe-th page probed.
-pub fn signature(table: &[u32; 2049], bits: u32, number: u32, probe: usize) -> u32
-    requires { ⌜ now table ≡ Generator·multipliers ⌝ }
-    requires { ⌜ (1 ≤ bits) × (bits ≤ 8) ⌝ }
+pub fn signature(table: &[u32; 2049], parameters: Parameters, number: u32, probe: usize) -> u32
+    requires { ⌜ now table ≡ Generator·multipliers (multiplierOf parameters) ⌝ }
+    requires { ⌜ (1 ≤ parameters .bits) × (parameters .bits ≤ 8) ⌝ }
     requires { ⌜ (1 ≤ probe) × (probe ≤ 1024) ⌝ }
-    ensures { λ r. ⌜ r ≡ Generator·signature multiplier bits number probe ⌝ }
+    ensures { λ r. ⌜ r ≡ Generator·signature (multiplierOf parameters) (parameters .bits) number probe ⌝ }
 {
-    let x = scrambled(table, 2 * probe + 1, number);
-    below_top(x, bits)
+    let x = residue(table[2 * probe], number % 2147483647);
+    below_top(x, parameters.bits)
 }

@@ -1,6 +1,7 @@
 // Where a star's home page is and which signatures it has: the number generator, the geometry of a linear hashing file with
 // partial expansions, and the growth step.
 mod address;
+mod firsts;
 mod generator;
 mod groups;
 mod limits;
@@ -10,14 +11,17 @@ mod table;
 
 pub use address::home;
 pub use address::home_grown;
+pub use generator::below_top;
+pub use generator::first_multipliers;
 pub use generator::multipliers;
+pub use generator::residue;
 pub use generator::scrambled;
 pub use generator::signature;
 pub use groups::grown;
 pub use limits::growth_valid;
+pub use limits::multiplier_valid;
 pub use limits::parameters_valid;
 pub use ranks::rank;
-pub use table::MULTIPLIERS;
 
 // A file's parameters, with document 01's letters.
 pub struct Parameters {
@@ -28,6 +32,7 @@ pub struct Parameters {
     pub bits: u32, // k, bits of a separator
     pub load: u32, // A, per cent
     pub pages: u32, // M
+    pub multiplier: u32, // of the number generator: 16,807 or 48,271
 }
 
 // The growth state.

@@ -4,7 +4,7 @@ ghost use mathlib.Core.Bool.{true};
 ghost use Prim.Native.Nat.{_+_, _*_, _/_, _%_, _≤_, _<_};
 ghost use lib.ListN.{length, take};
 ghost use lib.Dec.{leb};
-ghost use Rattle.hashing.specs.Generator.{modulus, multiplier, multipliers, scrambled};
+ghost use Rattle.hashing.specs.Generator.{modulus, multiplierOf, firstMultipliers};
 ghost use Rattle.hashing.specs.Geometry.{rank};
 ghost use Rattle.hashing.specs.Limits.{validParameters};
 ghost use Rattle.hashing.specs.Moves.{codeAt, moves, countOf, pageOf, inverseOf, landing, Landed, Rising};
@@ -24,15 +24,13 @@ pub struct Landing {
     pub order: u16,
 }
 
-// Whether step i + 1 chooses the number, with groups of that size.
-pub fn chosen(table: &[u32; 2049], key: u32, i: u32, size: u16) -> bool
-    requires { ⌜ now table ≡ multipliers ⌝ }
-    requires { ⌜ key < modulus ⌝ }
-    requires { ⌜ i ≤ 32 ⌝ }
+// Whether the step of that multiplier chooses the number, with groups of that size.
+pub fn chosen(factor: u32, key: u32, size: u16) -> bool
+    requires { ⌜ (factor < modulus) × (key < modulus) ⌝ }
     requires { ⌜ size ≤ 7 ⌝ }
-    ensures { λ r. ⌜ r ≡ leb (scrambled multiplier (2 * (i + 1)) key * (size + 1)) modulus ⌝ }
+    ensures { λ r. ⌜ r ≡ leb (factor * key % modulus * (size + 1)) modulus ⌝ }
 {
-    residue(table, 2 * (i as usize + 1), key) as u64 * (size as u64 + 1) <= 2147483647
+    residue(factor, key) as u64 * (size as u64 + 1) <= 2147483647
 }
 
 // The code of the step after the one with that code.
@@ -52,20 +50,20 @@ fn next_code(parameters: Parameters, i: u32, code: u16) -> u16
 
 // Puts the codes of the steps that choose the number at the start of steps.
 pub fn choose(
-    table: &[u32; 2049],
+    table: &[u32; 90],
     parameters: Parameters,
     expansions: u32,
     key: u32,
     steps: &mut [u16; 32],
 ) -> Choice
-    requires { ⌜ now table ≡ multipliers ⌝ }
+    requires { ⌜ now table ≡ firstMultipliers (multiplierOf parameters) ⌝ }
     requires { ⌜ validParameters parameters ≡ true ⌝ }
     requires { ⌜ expansions ≤ 32 ⌝ }
     requires { ⌜ key < modulus ⌝ }
     requires { ⌜ length (now steps) ≡ 32 ⌝ }
     ensures { λ r. ⌜ r .count ≤ expansions ⌝ }
     ensures { λ r. ⌜ length (now (steps .exit)) ≡ 32 ⌝ }
-    ensures { λ r. ⌜ take (r .count) (now (steps .exit)) ≡ moves multiplier parameters key expansions ⌝ }
+    ensures { λ r. ⌜ take (r .count) (now (steps .exit)) ≡ moves (multiplierOf parameters) parameters key expansions ⌝ }
     ensures { λ r. ⌜ r .last ≡ codeAt parameters expansions ⌝ }
 {
     let mut count: usize = 0;
@@ -73,7 +71,7 @@ pub fn choose(
     let mut i: u32 = 0;
     while i < expansions {
         steps[count] = code;
-        let taken = chosen(table, key, i, code % 8);
+        let taken = chosen(table[2 * i as usize + 1], key, code % 8);
         code = next_code(parameters, i, code);
         i += 1;
         if taken {

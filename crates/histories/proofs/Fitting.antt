@@ -8,7 +8,7 @@ use lib.Dec.{leb}
 use borrow.Author.Tests.{leb-true, lt-ltb, eq-eqb}
 use Rattle.hashing.specs.declared.Parameters.{Parameters}
 use Rattle.hashing.specs.declared.Growth.{Growth}
-use Rattle.hashing.specs.Generator.{multiplier}
+use Rattle.hashing.specs.Generator.{multiplierOf}
 use Rattle.hashing.specs.Limits.{validParameters, validGrowth}
 use Rattle.hashing.proofs.Laws.{signature-below, home-pages}
 use Rattle.hashing.proofs.Bounds.{limits}
@@ -30,11 +30,11 @@ use Rattle.histories.proofs.Naming.{page-named}
 -- Signatures are below the top, and homes are pages.
 pub bounded : (p : Parameters) (g : Growth) → validParameters p ≡ true → Bounded (hash p g)
 unfolding hashOf
-bounded p g v k page = signature-below multiplier (p .bits) k _ (limits p v .bits-least)
+bounded p g v k page = signature-below (multiplierOf p) (p .bits) k _ (limits p v .bits-least)
 
 pub homed : (p : Parameters) (g : Growth) (k : ℕ) → validParameters p ≡ true → validGrowth p g ≡ true → hash p g .home k < p .pages
 unfolding hashOf
-homed p g k v w = home-pages multiplier p g k v w
+homed p g k v w = home-pages (multiplierOf p) p g k v w
 
 -- Valid, and its stars fit the pages.
 pub record Fitting (p : Parameters) (m : Model) : Type 0 where

@@ -14,7 +14,7 @@ use lib.Pow.{pow-mono}
 use borrow.Author.Tests.{leb-true, leb-false}
 use Rattle.hashing.specs.declared.Parameters.{Parameters}
 use Rattle.hashing.specs.declared.Growth.{Growth}
-use Rattle.hashing.specs.Generator.{modulus, power}
+use Rattle.hashing.specs.Generator.{modulus, power, firstMultipliers}
 use Rattle.hashing.specs.Geometry.{sizeAt, countAt}
 use Rattle.hashing.specs.Limits.{validParameters, validGrowth}
 use Rattle.hashing.proofs.Numbers.{next, Next, div-mono}
@@ -22,7 +22,6 @@ use Rattle.hashing.proofs.Bounds.{Limits, limits, growth-within, spread, size-m
 use Rattle.hashing.proofs.Powers.{entry}
 use Rattle.homes.specs.declared.stages.Stage.{Stage}
 use Rattle.homes.specs.declared.stages.Sweep.{Sweep}
-use Rattle.homes.specs.Powers.{firstMultipliers}
 use Rattle.homes.specs.Stages.{stageAt, sweepBy, sweepOf, Ready}
 use Rattle.homes.proofs.Numbers.{inverse-down}
 
@@ -198,7 +197,3 @@ factor-is a i h =
 pub first-factor : (a : ℕ) → getD (firstMultipliers a) 0 0 ≡ power a 1
 unfolding firstMultipliers
 first-factor a = entry a 90 1 (omega arith) (omega arith)
-
-pub power-below : (a j : ℕ) → power a j < modulus
-unfolding power
-power-below a j = omega arith

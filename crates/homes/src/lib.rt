@@ -2,9 +2,7 @@
 mod blocks;
 mod lanes;
 mod page;
-mod powers;
 mod scalars;
 mod stages;
 
 pub use page::of_page;
-pub use powers::first_multipliers;

@@ -6,15 +6,16 @@ use Prim.Native.Nat.{ℕ, _*_}
 use lib.ListN.{length}
 use Rattle.hashing.specs.declared.Parameters.{Parameters}
 use Rattle.hashing.specs.declared.Geometry.{Geometry}
+use Rattle.hashing.specs.Generator.{multiplierOf, firstMultipliers}
 use Rattle.hashing.specs.Limits.{validParameters, validGrowth}
 use Rattle.placement.specs.File.{File, Sized}
-use Rattle.placement.specs.Ready.{multipliersOf, Homing, Ready, Pooled}
+use Rattle.placement.specs.Ready.{Homing, Ready, Pooled}
 
-pub homing : {g : Geometry} {t : List ℕ} → t ≡ multipliersOf (g .parameters) → validParameters (g .parameters) ≡ true
+pub homing : {g : Geometry} {t : List ℕ} → t ≡ firstMultipliers (multiplierOf (g .parameters)) → validParameters (g .parameters) ≡ true
     → validGrowth (g .parameters) (g .growth) ≡ true → Homing g t
-homing table valid growth = record { signing = record { table = table; valid = valid }; growth = growth }
+homing table valid growth = record { table = table; valid = valid; growth = growth }
 
-pub ready : {g : Geometry} {t : List ℕ} {f : File} → t ≡ multipliersOf (g .parameters) → validParameters (g .parameters) ≡ true
+pub ready : {g : Geometry} {t : List ℕ} {f : File} → t ≡ firstMultipliers (multiplierOf (g .parameters)) → validParameters (g .parameters) ≡ true
     → validGrowth (g .parameters) (g .growth) ≡ true → Sized (g .parameters .places) (g .parameters .pages) f → Ready g t f
 ready table valid growth sized = record { homing = homing table valid growth; sized = sized }
 

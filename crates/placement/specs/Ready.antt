@@ -6,22 +6,19 @@ use Prim.Native.Nat.{ℕ, _*_}
 use lib.ListN.{length}
 use Rattle.hashing.specs.declared.Parameters.{Parameters}
 use Rattle.hashing.specs.declared.Geometry.{Geometry}
-use Rattle.hashing.specs.Generator.{multipliers}
+use Rattle.hashing.specs.Generator.{multiplierOf, multipliers, firstMultipliers}
 use Rattle.hashing.specs.Limits.{validParameters, validGrowth}
 use Rattle.placement.specs.File.{File, Sized}
 
--- the table that the parameters' multiplier makes
-abbrev pub multipliersOf : Parameters → List ℕ
-multipliersOf p = multipliers
-
 -- for signatures: the table is the parameters' own, and these are valid
 pub record Signing (p : Parameters) (t : List ℕ) : Type 0 where
-  pub table : t ≡ multipliersOf p
+  pub table : t ≡ multipliers (multiplierOf p)
   pub valid : validParameters p ≡ true
 
--- for homes: the growth state is valid too
+-- for homes and the naming of pages, which need the table's first ninety: the growth state is valid too
 pub record Homing (g : Geometry) (t : List ℕ) : Type 0 where
-  pub signing : Signing (g .parameters) t
+  pub table : t ≡ firstMultipliers (multiplierOf (g .parameters))
+  pub valid : validParameters (g .parameters) ≡ true
   pub growth : validGrowth (g .parameters) (g .growth) ≡ true
 
 -- for pages: the file is as long as the parameters say

@@ -1,16 +1,19 @@
 // The page that the separators name for a number.
 ghost use mathlib.Core.Path.{_≡_};
+ghost use mathlib.Core.Bool.{true};
 ghost use Prim.Native.Nat.{_≤_, _<_};
 ghost use lib.Dec.{eqb};
 ghost use lib.ListN.{length, take};
+ghost use Rattle.hashing.specs.Generator.{multiplierOf, firstMultipliers};
+ghost use Rattle.hashing.specs.Limits.{validParameters};
 ghost use Rattle.placement.specs.Rule.{first};
 ghost use Rattle.placement.specs.Hash.{hashFrom, namedPage, homeUnder};
-ghost use Rattle.placement.specs.Ready.{Signing, Homing};
+ghost use Rattle.placement.specs.Ready.{Homing};
 use crate::soundness::top_of;
 use hashing::Geometry;
 use hashing::Parameters;
 
-pub fn named_page(table: &[u32; 2049], geometry: Geometry, separators: &[u8], number: u32) -> usize
+pub fn named_page(table: &[u32; 90], geometry: Geometry, separators: &[u8], number: u32) -> usize
     requires { ⌜ Homing geometry (now table) ⌝ }
     requires { ⌜ length (now separators) ≡ geometry .parameters .pages ⌝ }
     ensures { λ r. ⌜ r ≡ namedPage (geometry .parameters) (geometry .growth) (now (separators .entry)) number ⌝ }
@@ -21,7 +24,7 @@ pub fn named_page(table: &[u32; 2049], geometry: Geometry, separators: &[u8], nu
 
 // The same, for a number whose home is known.
 pub fn named_from(
-    table: &[u32; 2049],
+    table: &[u32; 90],
     geometry: Geometry,
     separators: &[u8],
     number: u32,
@@ -42,27 +45,28 @@ pub fn named_from(
     )
 }
 
-// Probes the pages from home upward to the one before `stop`: one signature for each.
+// Probes the pages from home upward to the one before `stop`. X(2t+3) is X2·X(2t+1) mod m: one product for each signature.
 fn probe(
-    table: &[u32; 2049],
+    table: &[u32; 90],
     parameters: Parameters,
     separators: &[u8],
     number: u32,
     home: usize,
     stop: usize,
 ) -> usize
-    requires { ⌜ Signing parameters (now table) ⌝ }
+    requires { ⌜ (now table ≡ firstMultipliers (multiplierOf parameters)) × (validParameters parameters ≡ true) ⌝ }
     requires { ⌜ (home ≤ stop) × (stop ≤ 1024) ⌝ }
     requires { ⌜ stop ≤ length (now separators) ⌝ }
     ensures { λ r. ⌜ r ≡ first (hashFrom parameters home) 0 (take stop (now (separators .entry))) number ⌝ }
 {
+    let second = table[1];
+    let mut x = hashing::residue(table[2], number % 2147483647);
     let mut page = home;
     while page < stop {
-        if hashing::signature(table, parameters.bits, number, page - home + 1)
-            < separators[page] as u32
-        {
+        if hashing::below_top(x, parameters.bits) < separators[page] as u32 {
             return page;
         }
+        x = hashing::residue(second, x);
         page += 1;
     }
     page
@@ -71,7 +75,7 @@ fn probe(
 // Whether the page is the one that the separators name, by the number's home: no page above it is probed, and not the page itself
 // where every signature is below its separator.
 pub fn stands_on(
-    table: &[u32; 2049],
+    table: &[u32; 90],
     geometry: Geometry,
     separators: &[u8],
     number: u32,

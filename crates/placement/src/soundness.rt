@@ -5,7 +5,7 @@ ghost use Prim.Native.Nat.{_+_, _*_, _≤_, _<_};
 ghost use lib.Dec.{leb, ltb};
 ghost use lib.ListN.{length};
 ghost use lib.Seq.{paste};
-ghost use Rattle.hashing.specs.Generator.{multiplierOf, topOf};
+ghost use Rattle.hashing.specs.Generator.{multiplierOf, firstMultipliers, topOf};
 ghost use Rattle.hashing.specs.Home.{home as Home·home};
 ghost use Rattle.hashing.specs.Limits.{validParameters, validGrowth};
 ghost use Rattle.pages.specs.Position.{validWord};
@@ -36,7 +36,7 @@ pub struct Item {
 
 // The value is that of the page as loaded.
 pub fn page_sound(
-    table: &[u32; 2049],
+    table: &[u32; 90],
     geometry: Geometry,
     separators: &[u8],
     value: Page,
@@ -55,7 +55,7 @@ pub fn page_sound(
             homes,
         };
     }
-    let found = homes_of(geometry, value);
+    let found = homes_of(table, geometry, value);
     let mut last: u32 = 0;
     let mut i = 0;
     while i < places {
@@ -83,16 +83,16 @@ pub fn page_sound(
 }
 
 // The homes of the page's numbers.
-fn homes_of(geometry: Geometry, value: Page) -> [u16; 32]
+fn homes_of(table: &[u32; 90], geometry: Geometry, value: Page) -> [u16; 32]
+    requires { ⌜ now table ≡ firstMultipliers (multiplierOf (geometry .parameters)) ⌝ }
     requires { ⌜ validParameters (geometry .parameters) ≡ true ⌝ }
     requires { ⌜ validGrowth (geometry .parameters) (geometry .growth) ≡ true ⌝ }
     ensures { λ r. ⌜ Homes geometry (value .numbers) r ⌝ }
 {
-    let powers = homes::first_multipliers();
     let numbers = value.numbers;
     let places = geometry.parameters.places as usize;
     let mut pages = [0u16; 32];
-    homes::of_page(&powers, geometry, &numbers, places, &mut pages);
+    homes::of_page(table, geometry, &numbers, places, &mut pages);
     pages
 }
 
@@ -105,7 +105,7 @@ pub fn top_of(parameters: Parameters) -> u8
 }
 
 fn admitted(
-    table: &[u32; 2049],
+    table: &[u32; 90],
     geometry: Geometry,
     separators: &[u8],
     page: usize,
@@ -155,7 +155,7 @@ fn ordered(last: u32, number: u32, word: u64) -> bool
 
 // Loads a page and tests it. If it is sound, its homes stand at its items of `homes`.
 pub fn survey(
-    table: &[u32; 2049],
+    table: &[u32; 90],
     geometry: Geometry,
     separators: &[u8],
     numbers: &[u32],

@@ -5,6 +5,7 @@ ghost use mathlib.Core.List.{map};
 ghost use Prim.Native.Nat.{_+_, _-_, _*_, _^_, _≤_, _<_};
 ghost use lib.ListN.{length, take};
 ghost use lib.Seq.{slice};
+ghost use Rattle.hashing.specs.Limits.{validParameters};
 ghost use Rattle.placement.specs.File.{padded, written};
 ghost use Rattle.placement.specs.Ready.{Signing};
 ghost use Rattle.waiting.specs.Words.{sourceOf};
@@ -82,7 +83,6 @@ fn settle_page(
 // Plans the stretch of `count` pages from page lo, with the words carried in at the front of `waiting` and the stars of the stretch but `without`.
 // The pool holds the homes of the stretch's items, and sources afterwards. The words carried past the stretch are left at the front; the answer is their count.
 pub fn plan(
-    table: &[u32; 2049],
     parameters: Parameters,
     numbers: &[u32],
     pool: &mut [u32],
@@ -93,7 +93,7 @@ pub fn plan(
     without: u32,
     carried: usize,
 ) -> usize
-    requires { ⌜ Signing parameters (now table) ⌝ }
+    requires { ⌜ validParameters parameters ≡ true ⌝ }
     requires { ⌜ (0 < count) × ((lo + count ≤ 1024) × (lo + count ≤ length (now planned))) ⌝ }
     requires { ⌜ ((lo + count) * parameters .places ≤ length (now numbers)) × ((lo + count) * parameters .places ≤ length (now pool)) ⌝ }
     requires { ⌜ allBelow (2 ^ 31) (stretch (parameters .places) lo count (now numbers)) ≡ true ⌝ }
@@ -102,6 +102,7 @@ pub fn plan(
     requires { ⌜ homesUpTo lo (take carried (now waiting)) ≡ true ⌝ }
     ensures { λ r. ⌜ PlansStretch parameters lo count without carried numbers pool waiting planned r ⌝ }
 {
+    let table = hashing::multipliers(parameters.multiplier);
     let places = parameters.places as usize;
     let mut ends = [0u32; 1024];
     let end = gather(
@@ -120,7 +121,7 @@ pub fn plan(
     while v < count {
         let reach = ends[v] as usize;
         from = settle_page(
-            table,
+            &table,
             parameters,
             pool,
             waiting,

@@ -9,7 +9,7 @@ use hashing::Geometry;
 
 // The first unsound page from `from` up to the one before `stop`, or `stop`.
 pub fn survey_pages(
-    table: &[u32; 2049],
+    table: &[u32; 90],
     geometry: Geometry,
     separators: &[u8],
     numbers: &[u32],

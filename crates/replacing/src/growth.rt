@@ -11,7 +11,7 @@ use crate::stretch::replace_stretch;
 use hashing::Geometry;
 
 // An item's home under the next growth state, from its home under this one; 0 for an empty place.
-fn next_home(table: &[u32; 2049], geometry: Geometry, number: u32, old: u32) -> u32
+fn next_home(table: &[u32; 90], geometry: Geometry, number: u32, old: u32) -> u32
     requires { ⌜ Homing geometry (now table) ⌝ }
     requires { ⌜ old ≡ homeIn (geometry .parameters) (geometry .growth) number ⌝ }
     ensures { λ r. ⌜ r ≡ homeIn (geometry .parameters) (grown (geometry .parameters) (geometry .growth)) number ⌝ }
@@ -22,7 +22,7 @@ fn next_home(table: &[u32; 2049], geometry: Geometry, number: u32, old: u32) -> 
     hashing::home_grown(table, geometry, number, old)
 }
 
-fn rehome(table: &[u32; 2049], geometry: Geometry, numbers: &[u32], homes: &mut [u32])
+fn rehome(table: &[u32; 90], geometry: Geometry, numbers: &[u32], homes: &mut [u32])
     requires { ⌜ Homing geometry (now table) ⌝ }
     requires { ⌜ now homes ≡ homesOf (geometry .parameters) (geometry .growth) (now numbers) ⌝ }
     ensures { λ _. ⌜ now (homes .exit) ≡ homesOf (geometry .parameters) (grown (geometry .parameters) (geometry .growth)) (now (numbers .entry)) ⌝ }
@@ -38,7 +38,7 @@ fn rehome(table: &[u32; 2049], geometry: Geometry, numbers: &[u32], homes: &mut 
 
 // The stars of all pages, placed anew under the next growth state.
 pub fn regrow(
-    table: &[u32; 2049],
+    table: &[u32; 90],
     geometry: Geometry,
     separators: &mut [u8],
     numbers: &mut [u32],
@@ -59,7 +59,6 @@ pub fn regrow(
     }
     rehome(table, geometry, numbers, pool);
     if !replace_stretch(
-        table,
         geometry.parameters,
         separators,
         numbers,

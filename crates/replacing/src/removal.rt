@@ -9,7 +9,7 @@ use hashing::Geometry;
 
 // The stars from home to the first page whose separator is 2^k − 1, placed anew without the star. Sound pages hold them all.
 pub fn remove_star(
-    table: &[u32; 2049],
+    table: &[u32; 90],
     geometry: Geometry,
     separators: &mut [u8],
     numbers: &mut [u32],
@@ -41,7 +41,6 @@ pub fn remove_star(
         return Replaced::Unsound(bad);
     }
     replace_stretch(
-        table,
         parameters,
         separators,
         numbers,

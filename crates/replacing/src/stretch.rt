@@ -1,14 +1,14 @@
 // The plan of a stretch over its own stars, applied where they fit.
 ghost use mathlib.Core.Path.{_≡_};
+ghost use mathlib.Core.Bool.{true};
+ghost use Rattle.hashing.specs.Limits.{validParameters};
 ghost use Rattle.placement.specs.Lent.{held, before, after};
-ghost use Rattle.placement.specs.Ready.{Signing};
 ghost use Rattle.replacing.specs.Stretch.{Plannable, fitting, restretched};
 use hashing::Parameters;
 
 // Places the stars of `count` pages from page lo anew, `without` left out; the pool holds the homes of their items.
 // The answer is whether nothing is carried past these pages. If something is, the file stays.
 pub fn replace_stretch(
-    table: &[u32; 2049],
     parameters: Parameters,
     separators: &mut [u8],
     numbers: &mut [u32],
@@ -19,14 +19,13 @@ pub fn replace_stretch(
     count: usize,
     without: u32,
 ) -> bool
-    requires { ⌜ Signing parameters (now table) ⌝ }
+    requires { ⌜ validParameters parameters ≡ true ⌝ }
     requires { ⌜ Plannable parameters lo count (held separators numbers words) (now pool) (now waiting) ⌝ }
     ensures { λ r. ⌜ r ≡ fitting parameters lo count without (before separators numbers words) (now (pool .entry)) ⌝ }
     ensures { λ r. ⌜ after separators numbers words ≡ restretched parameters lo count without (before separators numbers words) (now (pool .entry)) ⌝ }
 {
     let mut planned = [0u8; 1024];
     let left = planning::plan(
-        table,
         parameters,
         numbers,
         pool,

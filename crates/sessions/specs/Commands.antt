@@ -17,9 +17,9 @@ use Rattle.calls.specs.Calls.{unchanged, emptyFile, enterOf, lookUpOf, removeOf
 use Rattle.sessions.specs.declared.commands.StarFile.{StarFile}
 use Rattle.sessions.specs.declared.commands.Replied.{Replied}
 
--- "N=2, n0=2, s=1, b=2, k=8, A=80, M=8"
+-- "N=2, n0=2, s=1, b=2, k=8, A=80, M=8", and 16,807
 unfoldable pub starline : Parameters
-starline = record { places = 2; groups = 2; width = 2; step = 1; bits = 8; load = 80; pages = 8 }
+starline = record { places = 2; groups = 2; width = 2; step = 1; bits = 8; load = 80; pages = 8; multiplier = 16807 }
 
 -- the growth state and the file buffers
 pub record State : Type 0 where

@@ -35,6 +35,7 @@ fn parameters() -> Parameters
         bits: 8,
         load: 80,
         pages: 8,
+        multiplier: 16807,
     }
 }
 

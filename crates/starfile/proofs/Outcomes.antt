@@ -12,7 +12,7 @@ use Rattle.hashing.specs.declared.Parameters.{Parameters}
 use Rattle.hashing.specs.declared.Growth.{Growth}
 use Rattle.hashing.specs.Geometry.{pageCount}
 use Rattle.hashing.specs.Limits.{validParameters, validGrowth}
-use Rattle.hashing.specs.Generator.{multiplier}
+use Rattle.hashing.specs.Generator.{multiplierOf}
 use Rattle.hashing.proofs.Bounds.{limits}
 use Rattle.hashing.proofs.Laws.{home-pages}
 use Rattle.placement.specs.Rule.{Contents, pages, left, without}
@@ -61,7 +61,7 @@ module _ (p : Parameters) (g : Growth) (f : File) (v : validParameters p ≡ tru
   module _ (k word : ℕ) where
     inside : entry.startOf p g k + entry.countOf p g f k word ≤ p .pages
     unfolding entryEnd hashOf
-    inside = stretch-most _ (entry.startOf p g k) (p .pages) (home-pages multiplier p g k v w)
+    inside = stretch-most _ (entry.startOf p g k) (p .pages) (home-pages (multiplierOf p) p g k v w)
 
     bad-small : entry.unsoundOf p g f k word < 2 ^ 32
     bad-small = omega (arith, unsound-most p g f (entry.startOf p g k) (entry.countOf p g f k word), inside, limits p v .pages-most)
@@ -92,7 +92,7 @@ module _ (p : Parameters) (g : Growth) (f : File) (v : validParameters p ≡ tru
     where
       go : (t : Bool) → ReplacedSmall (cond t (replaced·Unsound (removal.unsoundOf p g f k)) Done)
       go true =
-          omega (arith, unsound-most p g f (removal.startOf p g k) (removal.countOf p g f k), removal-most p g f (removal.startOf p g k) (home-pages multiplier p g k v w), limits p v .pages-most)
+          omega (arith, unsound-most p g f (removal.startOf p g k) (removal.countOf p g f k), removal-most p g f (removal.startOf p g k) (home-pages (multiplierOf p) p g k v w), limits p v .pages-most)
       go false = tt
 
   pub growth-small : (next : Growth) → ReplacedSmall (growthAnswer p g f next)

@@ -87,7 +87,7 @@ fn enter_star(
         (named parameters growth (before separators numbers words) number) (record { number = number; word = word }))
         (placed r) (after separators numbers words) ⌝ }
 {
-    let table = hashing::multipliers();
+    let table = hashing::first_multipliers(parameters.multiplier);
     let geometry = Geometry { parameters, growth };
     let named = find(&table, geometry, separators, numbers, words, number);
     let page = named.page as u32;

@@ -76,7 +76,7 @@ fn grow_file(
     if page == parameters.pages {
         return unmoved(growth, Refusal::Full);
     }
-    let table = hashing::multipliers();
+    let table = hashing::first_multipliers(parameters.multiplier);
     let next = hashing::grown(geometry);
     let replaced = replacing::regrow(
         &table,

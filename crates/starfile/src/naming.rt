@@ -21,7 +21,7 @@ pub struct Named {
 
 // Reads the separators and one page, copied as a value before it is searched.
 pub fn find(
-    table: &[u32; 2049],
+    table: &[u32; 90],
     geometry: Geometry,
     separators: &[u8],
     numbers: &[u32],

@@ -31,7 +31,7 @@ pub fn look_up(
     if !pages::position::number_valid(number) {
         return Found::Refused(Refusal::BadNumber, 0);
     }
-    let table = hashing::multipliers();
+    let table = hashing::first_multipliers(parameters.multiplier);
     let named = find(
         &table,
         Geometry { parameters, growth },

@@ -80,7 +80,7 @@ fn remove_held(
         (named parameters growth (before separators numbers words) number) number)
         (placed r) (after separators numbers words) ⌝ }
 {
-    let table = hashing::multipliers();
+    let table = hashing::first_multipliers(parameters.multiplier);
     let geometry = Geometry { parameters, growth };
     let named = find(&table, geometry, separators, numbers, words, number);
     let page = named.page as u32;

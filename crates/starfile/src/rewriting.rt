@@ -37,7 +37,7 @@ pub fn change(
     if !pages::position::position_valid(position) {
         return Placed::Refused(Refusal::BadPosition, 0);
     }
-    let table = hashing::multipliers();
+    let table = hashing::first_multipliers(parameters.multiplier);
     let named = find(
         &table,
         Geometry { parameters, growth },

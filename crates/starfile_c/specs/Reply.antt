@@ -10,9 +10,9 @@ use Rattle.calls.specs.declared.answers.Answer.{Answer}
 use Rattle.calls.specs.Answers.{Pool, After}
 use Rattle.starfile_c.specs.declared.Reply.{Reply}
 
--- b, N, n0, s, k, A, M
-abbrev pub parametersOf : ℕ → ℕ → ℕ → ℕ → ℕ → ℕ → ℕ → Parameters
-parametersOf places groups width step bits load pages =
+-- b, N, n0, s, k, A, M, the multiplier
+abbrev pub parametersOf : ℕ → ℕ → ℕ → ℕ → ℕ → ℕ → ℕ → ℕ → Parameters
+parametersOf places groups width step bits load pages multiplier =
     record {
       places = places;
       groups = groups;
@@ -21,6 +21,7 @@ parametersOf places groups width step bits load pages =
       bits = bits;
       load = load;
       pages = pages;
+      multiplier = multiplier;
     }
 
 -- e, x

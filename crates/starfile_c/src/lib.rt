@@ -33,6 +33,7 @@ pub extern "C" fn heatherplane_look_up(
     bits: u32,
     load: u32,
     pages: u32,
+    multiplier: u32,
     expansions: u32,
     expanded: u32,
     separators: &[u8],
@@ -40,7 +41,7 @@ pub extern "C" fn heatherplane_look_up(
     words: &[u64],
     number: u32,
 ) -> Reply
-    ensures { λ r. ⌜ r ≡ replyOf (lookUpOf (parametersOf places groups width step bits load pages) (growthOf expansions expanded)
+    ensures { λ r. ⌜ r ≡ replyOf (lookUpOf (parametersOf places groups width step bits load pages multiplier) (growthOf expansions expanded)
         (before separators numbers words) unpooled number .answer) ⌝ }
 {
     let parameters = Parameters {
@@ -51,6 +52,7 @@ pub extern "C" fn heatherplane_look_up(
         bits,
         load,
         pages,
+        multiplier,
     };
     let growth = Growth {
         expansions,
@@ -69,6 +71,7 @@ pub extern "C" fn heatherplane_enter(
     bits: u32,
     load: u32,
     pages: u32,
+    multiplier: u32,
     expansions: u32,
     expanded: u32,
     separators: &mut [u8],
@@ -80,7 +83,7 @@ pub extern "C" fn heatherplane_enter(
     ra: u32,
     dec: i32,
 ) -> Reply
-    ensures { λ r. ⌜ Replies (enterOf (parametersOf places groups width step bits load pages) (growthOf expansions expanded)
+    ensures { λ r. ⌜ Replies (enterOf (parametersOf places groups width step bits load pages multiplier) (growthOf expansions expanded)
         (before separators numbers words) (poolBefore poolnumbers poolwords) number (positionOf ra dec))
         r (after separators numbers words) (poolAfter poolnumbers poolwords) ⌝ }
 {
@@ -92,6 +95,7 @@ pub extern "C" fn heatherplane_enter(
         bits,
         load,
         pages,
+        multiplier,
     };
     let growth = Growth {
         expansions,
@@ -120,6 +124,7 @@ pub extern "C" fn heatherplane_remove(
     bits: u32,
     load: u32,
     pages: u32,
+    multiplier: u32,
     expansions: u32,
     expanded: u32,
     separators: &mut [u8],
@@ -129,7 +134,7 @@ pub extern "C" fn heatherplane_remove(
     poolwords: &mut [u64],
     number: u32,
 ) -> Reply
-    ensures { λ r. ⌜ Replies (removeOf (parametersOf places groups width step bits load pages) (growthOf expansions expanded)
+    ensures { λ r. ⌜ Replies (removeOf (parametersOf places groups width step bits load pages multiplier) (growthOf expansions expanded)
         (before separators numbers words) (poolBefore poolnumbers poolwords) number)
         r (after separators numbers words) (poolAfter poolnumbers poolwords) ⌝ }
 {
@@ -141,6 +146,7 @@ pub extern "C" fn heatherplane_remove(
         bits,
         load,
         pages,
+        multiplier,
     };
     let growth = Growth {
         expansions,

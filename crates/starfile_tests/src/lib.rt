@@ -16,6 +16,7 @@ pub struct Parameters {
     pub bits: u32,
     pub load: u32,
     pub pages: u32,
+    pub multiplier: u32,
 }
 
 #[repr(C)]
@@ -48,6 +49,7 @@ fn parameters_from(given: Parameters) -> hashing::Parameters {
         bits: given.bits,
         load: given.load,
         pages: given.pages,
+        multiplier: given.multiplier,
     }
 }
 
@@ -254,14 +256,16 @@ pub extern "C" fn sft_check(
     outcome_of(checked_answer(answer), state)
 }
 
-// Xj of a number; 0 if the table has no j-th multiplier.
+// Xj of a number; 0 if there is no such multiplier or its table has no j-th entry.
 #[no_mangle]
-pub extern "C" fn sft_scrambled(j: usize, number: u32) -> u32 {
+pub extern "C" fn sft_scrambled(multiplier: u32, j: usize, number: u32) -> u32 {
     if j < 1 || j > 2049 {
         return 0;
     }
-    let table = hashing::multipliers();
-    hashing::scrambled(&table, j, number)
+    if !hashing::multiplier_valid(multiplier) {
+        return 0;
+    }
+    hashing::scrambled(multiplier, j, number)
 }
 
 // The rank of a group among count groups; 0 if there is no such group or step.

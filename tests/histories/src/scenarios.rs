@@ -10,7 +10,7 @@ use model::{Buffers, Call, Growth, Kind, Parameters};
 /// Every file of two pages with a place each and a few values for each item, under every call.
 pub fn tiny_files(tester: &mut Tester) {
     let bits = 1 + tester.random.below(3) as u32;
-    let parameters = Parameters::new([1, 1, 1, 1, bits, 50, 2]);
+    let parameters = Parameters::new([1, 1, 1, 1, bits, 50, 2]).under(random_multiplier(&mut tester.random));
     let top = parameters.top() as u8;
     let separators = [0, 1, top / 2 + 1, top, top + 1];
     let first = 1 + tester.random.below(1_000) as u32;
@@ -30,8 +30,9 @@ pub fn tiny_files(tester: &mut Tester) {
 
 /// A history for each of the parameters' edges.
 pub fn edge_histories(tester: &mut Tester) {
+    let multiplier = random_multiplier(&mut tester.random);
     for parameters in edge_parameters() {
-        let mut history = History::new(tester, parameters);
+        let mut history = History::new(tester, parameters.under(multiplier));
         for _ in 0..40 {
             history.step(tester);
         }
@@ -57,7 +58,7 @@ pub fn largest_history(tester: &mut Tester) {
 }
 
 fn large_history_of(tester: &mut Tester, list: [u32; 7]) {
-    let parameters = Parameters::new(list);
+    let parameters = Parameters::new(list).under(random_multiplier(&mut tester.random));
     let growth = random_growth(&mut tester.random, &parameters);
     let percent = tester.random.pick(&[20, 60, 80, 90]);
     let lent = clean_file(&mut tester.random, &parameters, &growth, percent);
@@ -76,7 +77,8 @@ fn small_file(tester: &mut Tester) -> (Parameters, Growth, Buffers) {
         [1, 3, 1, 2, 8, 60, 6],
         [4, 1, 1, 1, 8, 80, 2],
     ];
-    let parameters = Parameters::new(tester.random.pick(&list));
+    let list = tester.random.pick(&list);
+    let parameters = Parameters::new(list).under(random_multiplier(&mut tester.random));
     let growth = random_growth(&mut tester.random, &parameters);
     let lent = match tester.random.below(3) {
         0 => sound_file(&mut tester.random, &parameters, &growth),
@@ -110,10 +112,10 @@ pub fn single_bit_damage(tester: &mut Tester) {
 pub fn single_bit_arguments(tester: &mut Tester) {
     let (parameters, growth, lent) = small_file(tester);
     let numbers = some_numbers(tester, &lent, 1);
-    for bit in 0..7 * 32 {
+    for bit in 0..8 * 32 {
         let mut list = parameters.list();
         list[bit / 32] ^= 1 << (bit % 32);
-        tester.every_call(Parameters::new(list), growth, &lent, &numbers);
+        tester.every_call(Parameters::from_list(list), growth, &lent, &numbers);
     }
     for bit in 0..32 {
         let Growth { expansions, expanded } = growth;
@@ -122,14 +124,18 @@ pub fn single_bit_arguments(tester: &mut Tester) {
     }
 }
 
-/// Random damage of a small file of any parameters, then calls that go on with what the one before left.
+/// Random damage of a small file of any parameters, which may be called under the wrong multiplier, then calls that go on
+/// with what the one before left.
 pub fn damaged_session(tester: &mut Tester) {
-    let parameters = small_parameters(&mut tester.random);
+    let mut parameters = small_parameters(&mut tester.random);
     let growth = random_growth(&mut tester.random, &parameters);
     let mut lent = clean_file(&mut tester.random, &parameters, &growth, 90);
     for _ in 0..1 + tester.random.below(3) {
         let bit = tester.random.below(bits(&lent) as u64) as usize;
         flip(&mut lent, bit);
+    }
+    if tester.random.once_in(8) {
+        parameters.multiplier = random_multiplier(&mut tester.random);
     }
     session(tester, parameters, growth, lent, 20);
 }
@@ -170,6 +176,7 @@ pub fn long_cascade(tester: &mut Tester) {
 }
 
 fn full_entries(tester: &mut Tester, parameters: Parameters) {
+    let parameters = parameters.under(random_multiplier(&mut tester.random));
     let growths = parameters.pages - parameters.width * parameters.groups;
     let growth = growth_after(&parameters, growths.into());
     let with_room = tester.random.below(3) as usize;

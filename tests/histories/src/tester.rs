@@ -89,7 +89,7 @@ impl Tester {
         let small = random.below(40) as u32;
         let value = random.pick(&[0, 1, 8, 9, 32, 33, 99, 100, 256, 257, 1_024, 1_025, u32::MAX, any, small, small]);
         let p = &mut call.parameters;
-        match random.below(16) {
+        match random.below(17) {
             0 => p.places = value,
             1 => p.groups = value,
             2 => p.width = value,
@@ -97,14 +97,15 @@ impl Tester {
             4 => p.bits = value,
             5 => p.load = value,
             6 => p.pages = value,
-            7 => call.growth.expansions = value,
-            8 => call.growth.expanded = value,
-            9 => resize(random, &mut lent.separators),
-            10 => resize(random, &mut lent.numbers),
-            11 => resize(random, &mut lent.words),
-            12 => resize(random, &mut lent.pool_numbers),
-            13 => resize(random, &mut lent.pool_words),
-            14 => call.number = random.pick(&[0, 2_147_483_646, 2_147_483_647, 2_147_483_648, u32::MAX]),
+            7 => p.multiplier = random.pick(&[16_806, 16_807, 16_808, 48_270, 48_271, 48_272, value]),
+            8 => call.growth.expansions = value,
+            9 => call.growth.expanded = value,
+            10 => resize(random, &mut lent.separators),
+            11 => resize(random, &mut lent.numbers),
+            12 => resize(random, &mut lent.words),
+            13 => resize(random, &mut lent.pool_numbers),
+            14 => resize(random, &mut lent.pool_words),
+            15 => call.number = random.pick(&[0, 2_147_483_646, 2_147_483_647, 2_147_483_648, u32::MAX]),
             _ => {
                 call.ra = random.pick(&[0, 1_295_999_999, 1_296_000_000, u32::MAX, any]);
                 call.dec = random.pick(&[-324_000_001, -324_000_000, 324_000_000, 324_000_001, i32::MIN, any as i32]);

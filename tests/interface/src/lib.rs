@@ -3,7 +3,7 @@
 use model::{Buffers, Call, Growth, Kind, Outcome, Parameters};
 
 /// The requests of document 02 that have landed in the library.
-pub const LANDED: &[u32] = &[2, 3, 4, 5];
+pub const LANDED: &[u32] = &[2, 3, 4, 5, 7];
 
 // Each slice is a pointer and a length in items.
 #[rustfmt::skip]
@@ -68,14 +68,14 @@ extern "C" {
         pool_numbers: *mut u32, pool_numbers_length: usize,
         pool_words: *mut u64, pool_words_length: usize,
     ) -> Outcome;
-    fn sft_scrambled(j: usize, number: u32) -> u32;
+    fn sft_scrambled(multiplier: u32, j: usize, number: u32) -> u32;
     fn sft_rank(step: u32, count: u32, group: u32) -> u32;
 }
 
-/// Xj(K), 0 unless j is from 1 to 2,049.
-pub fn x(j: u64, number: u64) -> u64 {
+/// Xj(K) under a multiplier, 0 unless it is one of the two and j is from 1 to 2,049.
+pub fn x(multiplier: u32, j: u64, number: u64) -> u64 {
     // SAFETY: the library takes any numbers.
-    unsafe { sft_scrambled(j as usize, number as u32) }.into()
+    unsafe { sft_scrambled(multiplier, j as usize, number as u32) }.into()
 }
 
 /// The rank of a group among `groups` groups, 0 unless both are possible.

@@ -1,4 +1,4 @@
-//! Document 01's points, against the library.
+//! The documents' points, against the library.
 
 model::point_tests!(interface::run);
 

@@ -1,6 +1,6 @@
 //! The eight calls on any buffers, with the refusals in the order of document 01's table.
 
-use crate::hashing::{grown, highest_address, home, shape, signature};
+use crate::hashing::{grown, highest_address, home, shape, signature, MULTIPLIERS};
 use crate::placement::{pack, position_valid, rule, unpack, word_valid, write, Page, Star};
 use crate::{Buffers, Call, Growth, Kind, Outcome, Parameters};
 
@@ -101,6 +101,7 @@ fn parameters_valid(p: &Parameters) -> bool {
         && (1..=8).contains(&p.bits)
         && (1..=99).contains(&p.load)
         && (p.width * p.groups..=1_024).contains(&p.pages)
+        && MULTIPLIERS.contains(&p.multiplier)
 }
 
 fn growth_valid(p: &Parameters, growth: &Growth) -> bool {

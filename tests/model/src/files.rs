@@ -1,9 +1,14 @@
 //! Random parameters and files.
 
-use crate::hashing::{grown, highest_address, home, signature};
+use crate::hashing::{grown, highest_address, home, signature, MULTIPLIERS};
 use crate::placement::{lay_out, pack, write, Page, Star};
 use crate::random::Random;
 use crate::{Buffers, Growth, Parameters};
+
+/// One of the two multipliers.
+pub fn random_multiplier(random: &mut Random) -> u32 {
+    random.pick(&MULTIPLIERS)
+}
 
 /// The edges of the parameters with few pages: b, N, n0, s, k, A, M.
 pub fn edge_parameters() -> Vec<Parameters> {
@@ -33,7 +38,7 @@ pub fn small_parameters(random: &mut Random) -> Parameters {
     let step = 1 + random.below(groups.into()) as u32;
     let bits = random.pick(&[1, 2, 3, 4, 6, 8, 8]);
     let load = random.pick(&[1, 50, 80, 99]);
-    Parameters::new([places, groups, width, step, bits, load, pages])
+    Parameters::new([places, groups, width, step, bits, load, pages]).under(random_multiplier(random))
 }
 
 /// Up to the largest file.

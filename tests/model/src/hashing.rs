@@ -4,20 +4,23 @@ use crate::{Growth, Parameters};
 use std::sync::OnceLock;
 
 pub const MODULUS: u64 = 2_147_483_647;
-pub const MULTIPLIER: u64 = 16_807;
+/// Park and Miller's of 1988, and the one that they recommended in 1993.
+pub const MULTIPLIERS: [u32; 2] = [16_807, 48_271];
 
-/// Xj(K) = 16,807^j·K mod m for j from 1 to 2,049.
-pub fn x(j: u64, star: u64) -> u64 {
-    static POWERS: OnceLock<Vec<u64>> = OnceLock::new();
-    let powers = POWERS.get_or_init(|| {
-        std::iter::successors(Some(1), |power| Some(power * MULTIPLIER % MODULUS)).take(2_050).collect()
+/// Xj(K) = multiplier^j·K mod m for j from 1 to 2,049.
+pub fn x(multiplier: u32, j: u64, star: u64) -> u64 {
+    static POWERS: [OnceLock<Vec<u64>>; 2] = [const { OnceLock::new() }; 2];
+    let which = MULTIPLIERS.iter().position(|&other| other == multiplier).expect("one of the two multipliers");
+    let powers = POWERS[which].get_or_init(|| {
+        let next = |power: &u64| Some(power * u64::from(multiplier) % MODULUS);
+        std::iter::successors(Some(1), next).take(2_050).collect()
     });
     powers[j as usize] * star % MODULUS
 }
 
 /// The signature on the probe-th page probed, 1 at home.
 pub fn signature(parameters: &Parameters, star: u64, probe: u64) -> u64 {
-    x(2 * probe + 1, star) % parameters.top()
+    x(parameters.multiplier, 2 * probe + 1, star) % parameters.top()
 }
 
 /// Group size n and group count G while `finished` partial expansions are finished.
@@ -49,11 +52,12 @@ pub fn rank(step: u64, groups: u64, group: u64) -> u64 {
 }
 
 pub fn home(parameters: &Parameters, growth: &Growth, star: u64) -> u64 {
-    let mut address = x(1, star) % u64::from(parameters.width * parameters.groups);
+    let x = |j| x(parameters.multiplier, j, star);
+    let mut address = x(1) % u64::from(parameters.width * parameters.groups);
     for i in 1..=growth.expansions + 1 {
         let (n, groups) = shape(parameters, i - 1);
         let rank = rank(parameters.step.into(), groups, address % groups);
-        let chosen = x(2 * u64::from(i), star) * (n + 1) <= MODULUS;
+        let chosen = x(2 * u64::from(i)) * (n + 1) <= MODULUS;
         if chosen && (i <= growth.expansions || rank < growth.expanded.into()) {
             address = n * groups + rank;
         }

@@ -1,4 +1,4 @@
-//! A model of the star file, written from document 01 alone: slow, literal and short.
+//! A model of the star file, written from documents 01 and 02 alone: slow, literal and short.
 
 mod calls;
 pub mod files;
@@ -11,11 +11,12 @@ pub mod starline;
 pub mod vectors;
 
 pub use calls::run;
+use hashing::MULTIPLIERS;
 
 /// The requests of document 02 that the model follows.
-pub const LANDED: &[u32] = &[2, 3, 4, 5];
+pub const LANDED: &[u32] = &[2, 3, 4, 5, 7];
 
-/// The document's b, N, n0, s, k, A and M.
+/// The documents' b, N, n0, s, k, A and M, and the generator's multiplier.
 #[repr(C)]
 #[derive(Clone, Copy, Debug, PartialEq, Eq)]
 pub struct Parameters {
@@ -26,6 +27,7 @@ pub struct Parameters {
     pub bits: u32,
     pub load: u32,
     pub pages: u32,
+    pub multiplier: u32,
 }
 
 /// The document's e and x.
@@ -110,14 +112,25 @@ pub struct Call {
 pub type Run = fn(&Call, &mut Buffers) -> Outcome;
 
 impl Parameters {
-    /// In document 01's order: b, N, n0, s, k, A, M.
+    /// In document 01's order, b, N, n0, s, k, A, M, and with its multiplier.
     pub fn new(list: [u32; 7]) -> Parameters {
         let [places, groups, width, step, bits, load, pages] = list;
-        Parameters { places, groups, width, step, bits, load, pages }
+        Parameters { places, groups, width, step, bits, load, pages, multiplier: MULTIPLIERS[0] }
     }
 
-    pub fn list(&self) -> [u32; 7] {
-        [self.places, self.groups, self.width, self.step, self.bits, self.load, self.pages]
+    /// The same under another multiplier.
+    pub fn under(self, multiplier: u32) -> Parameters {
+        Parameters { multiplier, ..self }
+    }
+
+    /// All eight, the multiplier last.
+    pub fn from_list([first @ .., multiplier]: [u32; 8]) -> Parameters {
+        Parameters::new(first).under(multiplier)
+    }
+
+    pub fn list(&self) -> [u32; 8] {
+        let Parameters { places, groups, width, step, bits, load, pages, multiplier } = *self;
+        [places, groups, width, step, bits, load, pages, multiplier]
     }
 
     /// 2^k − 1, the greatest separator.

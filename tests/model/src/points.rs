@@ -1,6 +1,6 @@
 //! Points of the documents that the model and every other implementation must meet. Each panics where one fails.
 
-use crate::hashing::{MODULUS, MULTIPLIER};
+use crate::hashing::{MODULUS, MULTIPLIERS};
 use crate::placement::{lay_out, pack, Star};
 use crate::session::Session;
 use crate::{Buffers, Growth, Kind, Outcome, Parameters, Run};
@@ -12,14 +12,19 @@ fn answers(outcome: Outcome) -> (u32, u32) {
     (outcome.refusal, outcome.page)
 }
 
-/// The published values of the generator; the 2,049 multipliers, each from the one before.
-pub fn generator(x: fn(u64, u64) -> u64) {
-    assert_eq!((x(2, 1), x(3, 1), x(1, 2_147_483_646)), (282_475_249, 1_622_650_073, 2_147_466_840));
-    assert_eq!((0..10_000).fold(1, |value, _| x(1, value)), 1_043_618_065);
-    assert_eq!(x(1, 1), MULTIPLIER);
-    for j in 2..=2_049 {
-        assert_eq!(x(j, 1), x(j - 1, 1) * MULTIPLIER % MODULUS);
-        assert_eq!(x(j, 2_147_483_646), MODULUS - x(j, 1));
+/// The published values of the generators; each table of 2,049, every entry from the one before.
+pub fn generator(x: fn(u32, u64, u64) -> u64) {
+    let powers = |multiplier| [x(multiplier, 2, 1), x(multiplier, 3, 1), x(multiplier, 1, 2_147_483_646)];
+    assert_eq!(powers(16_807), [282_475_249, 1_622_650_073, 2_147_466_840]);
+    assert_eq!(powers(48_271), [182_605_794, 1_291_394_886, 2_147_435_376]);
+    for (multiplier, published) in [(16_807, 1_043_618_065), (48_271, 399_268_537)] {
+        let x = |j, number| x(multiplier, j, number);
+        assert_eq!((0..10_000).fold(1, |value, _| x(1, value)), published);
+        assert_eq!(x(1, 1), u64::from(multiplier));
+        for j in 2..=2_049 {
+            assert_eq!(x(j, 1), x(j - 1, 1) * u64::from(multiplier) % MODULUS);
+            assert_eq!(x(j, 2_147_483_646), MODULUS - x(j, 1));
+        }
     }
 }
 
@@ -69,7 +74,7 @@ pub fn value_limits(run: Run) {
     assert_eq!((found.found, found.ra, found.dec), (1, 1_295_999_999, 0));
 }
 
-/// The limits of the seven parameters, for every call.
+/// The limits of document 01's seven parameters, for every call.
 pub fn parameter_limits(run: Run) {
     let limits = [(0, 1, 32), (1, 1, 256), (2, 1, 4), (3, 1, 4), (4, 1, 8), (5, 1, 99), (6, 8, 1_024)];
     for kind in Kind::ALL {
@@ -86,6 +91,45 @@ pub fn parameter_limits(run: Run) {
                 let refusal = on_empty_file(run, kind, list, Growth::default());
                 assert_eq!(refusal == 1, refused, "{} {list:?}", kind.name());
             }
+        }
+    }
+}
+
+/// Homes and signatures follow the file's multiplier.
+pub fn multipliers(run: Run) {
+    for (multiplier, page, separator) in [(16_807, 1, 223), (48_271, 4, 254)] {
+        let mut session = Session::with(run, Parameters::new([2, 2, 2, 1, 8, 80, 8]).under(multiplier));
+        assert_eq!((answers(session.look_up(3)), answers(session.grow())), ((0, 1), (0, 4)));
+        assert_eq!(answers(session.look_up(3)), (0, page));
+        let mut session = Session::with(run, Parameters::new(TWO_PAGES).under(multiplier));
+        assert_eq!((answers(session.enter(32)), answers(session.enter(170))), ((0, 0), (0, 0)));
+        assert_eq!((&session.lent.separators[..], &session.lent.numbers[..]), (&[separator, 255][..], &[170, 32][..]));
+        assert_eq!(answers(session.check()), (0, 0));
+        let [first, second] = MULTIPLIERS;
+        session.parameters.multiplier = first + second - multiplier;
+        assert_eq!(session.check().refusal, 5);
+    }
+}
+
+/// A multiplier that is neither is 1 in every call, also in those that never hash, and before every other refusal.
+pub fn multiplier_limits(run: Run) {
+    let [first, second] = MULTIPLIERS;
+    let near = [first - 1, first + 1, second - 1, second + 1, first + second, first * first, first | second];
+    let far = [0, 1, 2_147_483_646, 2_147_483_647, first + 0x8000_0000, second + 0x0001_0000, u32::MAX];
+    for kind in Kind::ALL {
+        for multiplier in near.into_iter().chain(far) {
+            let mut session = Session::new(run, TWO_PAGES);
+            session.parameters.multiplier = multiplier;
+            session.lent.pool_words.fill(7);
+            let before = session.clone();
+            assert_eq!(answers(session.call(kind, 1, 0, 0)), (1, 0), "{} {multiplier}", kind.name());
+            assert!(session.lent == before.lent && session.growth == before.growth);
+            session.lent.words.pop();
+            assert_eq!(answers(session.call(kind, 0, u32::MAX, 0)), (1, 0));
+        }
+        for multiplier in MULTIPLIERS {
+            let mut session = Session::with(run, Parameters::new(TWO_PAGES).under(multiplier));
+            assert_ne!(session.call(kind, 1, 0, 0).refusal, 1);
         }
     }
 }
@@ -118,8 +162,11 @@ pub fn growth_limits(run: Run) {
 
 /// k = 1, b = 1: entering a second star of the same home, into a file that the check accepts, is always 8.
 pub fn second_star_of_a_home(run: Run) {
-    for (list, growths) in [([1, 1, 1, 1, 1, 50, 3], 1), ([1, 2, 2, 1, 1, 50, 9], 3), ([1, 3, 1, 2, 1, 50, 8], 4)] {
-        let mut session = Session::new(run, list);
+    let files = [([1, 1, 1, 1, 1, 50, 3], 1), ([1, 2, 2, 1, 1, 50, 9], 3), ([1, 3, 1, 2, 1, 50, 8], 4)];
+    for ((list, growths), multiplier) in
+        files.into_iter().flat_map(|file| MULTIPLIERS.map(|multiplier| (file, multiplier)))
+    {
+        let mut session = Session::with(run, Parameters::new(list).under(multiplier));
         for _ in 0..growths {
             assert_eq!(session.grow().refusal, 0);
         }
@@ -327,9 +374,10 @@ pub fn pool_contents(run: Run) {
 #[macro_export]
 macro_rules! point_tests {
     ($run:path) => {
-        $crate::point_tests!($run: homes value_limits parameter_limits growth_limits second_star_of_a_home
-            growth_without_room growth_repairs entry_below_named_page removal_raises_separator
-            entry_without_room_in_its_reach entry_into_full_file check_order damaged_values places resends pages_in_use pool_contents);
+        $crate::point_tests!($run: homes multipliers value_limits parameter_limits multiplier_limits growth_limits
+            second_star_of_a_home growth_without_room growth_repairs entry_below_named_page removal_raises_separator
+            entry_without_room_in_its_reach entry_into_full_file check_order damaged_values places resends pages_in_use
+            pool_contents);
     };
     ($run:path: $($name:ident)*) => {
         $(#[test] fn $name() { $crate::points::$name($run) })*

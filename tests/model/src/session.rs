@@ -12,9 +12,13 @@ pub struct Session {
 }
 
 impl Session {
-    /// An empty file; the parameters in the order b, N, n0, s, k, A, M.
+    /// An empty file under document 01's multiplier; the parameters in the order b, N, n0, s, k, A, M.
     pub fn new(run: Run, parameters: [u32; 7]) -> Session {
-        let parameters = Parameters::new(parameters);
+        Session::with(run, Parameters::new(parameters))
+    }
+
+    /// An empty file.
+    pub fn with(run: Run, parameters: Parameters) -> Session {
         let lent = Buffers::zeros(&parameters);
         let mut session = Session { run, parameters, growth: Growth::default(), lent };
         assert_eq!(session.call(Kind::Make, 0, 0, 0).refusal, 0, "making {parameters:?}");

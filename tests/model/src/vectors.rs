@@ -24,9 +24,9 @@ fn value<T: FromStr>(field: &str) -> Result<T, String> {
     field.parse().map_err(|_| format!("bad value '{field}'"))
 }
 
-/// Fields of a request that has not landed have one value.
-fn unused(fields: &[&str], only: &str) -> Result<(), String> {
-    fields.iter().find(|&&field| field != only).map_or(Ok(()), |field| Err(format!("unknown value '{field}'")))
+/// Fields of a request that has not landed are 0.
+fn unused(fields: &[&str]) -> Result<(), String> {
+    fields.iter().find(|&&field| field != "0").map_or(Ok(()), |field| Err(format!("unknown value '{field}'")))
 }
 
 impl<'a> Reader<'a> {
@@ -54,15 +54,17 @@ impl<'a> Reader<'a> {
     }
 
     fn parameters(&mut self) -> Result<Parameters, String> {
-        let fields = self.counted("params", 7, 8)?;
-        unused(&fields[7..], "16807")?;
-        let list: Vec<u32> = fields[..7].iter().map(|field| value(field)).collect::<Result<_, _>>()?;
-        Ok(Parameters::new(list.try_into().unwrap()))
+        // Document 01's form has no multiplier.
+        let mut list = Parameters::new([0; 7]).list();
+        for (parameter, field) in list.iter_mut().zip(self.counted("params", 7, 8)?) {
+            *parameter = value(field)?;
+        }
+        Ok(Parameters::from_list(list))
     }
 
     fn growth(&mut self) -> Result<Growth, String> {
         let fields = self.counted(if self.later { "record" } else { "state" }, 2, 4)?;
-        unused(&fields[2..], "0")?;
+        unused(&fields[2..])?;
         Ok(Growth { expansions: value(fields[0])?, expanded: value(fields[1])? })
     }
 
@@ -97,7 +99,7 @@ impl<'a> Reader<'a> {
         let (number, ra, dec) = (value(args[0])?, value(args[1])?, value(args[2])?);
         let call = Call { kind, parameters, growth, number, ra, dec };
         let answer = self.counted("answer", 8, 13)?;
-        unused(&answer[8..], "0")?;
+        unused(&answer[8..])?;
         if self.later && self.parameters()? != parameters {
             return Err("no call changes the parameters".to_string());
         }
@@ -197,7 +199,7 @@ fn put<T: Display>(text: &mut String, label: &str, values: &[T]) {
 }
 
 fn put_file(text: &mut String, kind: Kind, parameters: &Parameters, growth: Growth, lent: &Buffers) {
-    put(text, "params", &[&parameters.list()[..], &[16_807]].concat());
+    put(text, "params", &parameters.list());
     put(text, "record", &[growth.expansions, growth.expanded, 0, 0]);
     put(text, "seps", &lent.separators);
     put(text, "nums", &lent.numbers);

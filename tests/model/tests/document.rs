@@ -1,4 +1,4 @@
-//! Document 01's points about the definitions, and the given vectors, against the model.
+//! The documents' points about the definitions, and the given vectors, against the model.
 
 use model::hashing::{home, rank, signature, x};
 use model::placement::{pack, separator, unpack, word_valid};
@@ -18,10 +18,12 @@ fn signatures() {
     assert_eq!(signature(&parameters, 1, 1), 158);
     assert_eq!(signature(&parameters, 1, 2), 175);
     assert_eq!(signature(&parameters, 2, 1), 189);
-    assert_eq!(
-        [(32, 1), (32, 2), (170, 1), (170, 2)].map(|(star, t)| signature(&parameters, star, t)),
-        [223, 126, 149, 215]
-    );
+    let pairs = |multiplier| {
+        [(1, 1), (1, 2), (32, 1), (32, 2), (170, 1), (170, 2)]
+            .map(|(star, t)| signature(&parameters.under(multiplier), star, t))
+    };
+    assert_eq!(pairs(16_807), [158, 175, 223, 126, 149, 215]);
+    assert_eq!(pairs(48_271), [171, 76, 254, 152, 51, 252]);
 }
 
 #[test]
@@ -62,7 +64,7 @@ fn position_words() {
 
 #[test]
 fn call_vectors() {
-    let text = fs::read_to_string(format!("{FOLDER}/1-ii-iii-iv-v.txt")).unwrap();
+    let text = fs::read_to_string(format!("{FOLDER}/2-vii.txt")).unwrap();
     let vectors = vectors::parse(&text, LANDED);
     assert_eq!(vectors.len(), 900);
     for (line, vector) in vectors {

@@ -1,3 +1,3 @@
-//! Document 01's points about the calls, against the model.
+//! The documents' points about the calls, against the model.
 
 model::point_tests!(model::run);

@@ -1,9 +1,10 @@
-use mathlib.Core.Path.{_≡_, _∙_}
+use mathlib.Core.Path.{_≡_, _∙_, refl}
 use native.Mathlib.Omega.{arith}
 use native.Mathlib.Nat.{le-refl}
 use denote.Ref.{now}
 use Rattle.placement.specs.File.{File}
 use Rattle.placement.specs.Hash.{lent}
+use Rattle.placement.proofs.Prepared.{ready}
 use Rattle.reach.specs.Reach.{firstUnsound}
 use Rattle.comparing.proofs.Planned.{homes-whole}
 use Rattle.comparing.proofs.Verdicts.{surveyed, surveyed-sound, told-unsound, told-differs, told-clean}
@@ -45,7 +46,7 @@ compare-planned-requires : tie.Need-compare-planned-requires
 compare-planned-requires c κs =
     let pre = start (c .before .before) .pre in
     let a = start (c .before .before) .args in (
-      pre .0,
+      ready refl (pre .0 .homing .valid) (pre .0 .homing .growth) (pre .0 .sized),
       (
         none-unsound (c .before .before),
         (

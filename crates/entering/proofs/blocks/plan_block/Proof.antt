@@ -19,7 +19,7 @@ cast-places c = search needs
 
 -- the parameters' limits, at entry
 bounds : (s : tie.Start) → Limits (s .args .geometry .parameters)
-bounds s = limits (s .args .geometry .parameters) (s .pre .0 .homing .signing .valid)
+bounds s = limits (s .args .geometry .parameters) (s .pre .0 .homing .valid)
 
 abbrev file : tie.Start → File
 file s = lent (now (s .args .separators)) (now (s .args .numbers)) (now (s .args .words))
@@ -37,19 +37,19 @@ entry c = c .before .before .before .before .before .before .before .before .bef
 block-end : (c : tie.After-stretch-end) → c .stretch-end .result ≡ blockEnd (entry c .args .geometry .parameters) (entry c .args .geometry .growth) (file (entry c)) (entry c .args .lo)
 block-end c =
     let s = entry c in
-    end-found (s .args .geometry .parameters) (s .args .geometry .growth) (file s) (s .pre .0 .homing .signing .valid) (s .pre .0 .sized) (s .args .lo) (s .pre .1 .1 .0 .1)
+    end-found (s .args .geometry .parameters) (s .args .geometry .growth) (file s) (s .pre .0 .homing .valid) (s .pre .0 .sized) (s .args .lo) (s .pre .1 .1 .0 .1)
     (c .before .top-of .result) (c .stretch-end .result) (c .before .top-of .ensures) (c .stretch-end .ensures)
 
 low : (c : tie.After-stretch-end) → entry c .args .lo ≤ c .stretch-end .result
 low c =
     let s = entry c in
-    last-low (s .args .geometry .parameters) (s .args .geometry .growth) (file s) (s .pre .0 .homing .signing .valid) (s .pre .0 .sized) (s .args .lo) (s .pre .1 .1 .0 .1)
+    last-low (s .args .geometry .parameters) (s .args .geometry .growth) (file s) (s .pre .0 .homing .valid) (s .pre .0 .sized) (s .args .lo) (s .pre .1 .1 .0 .1)
     (c .stretch-end .result) (block-end c)
 
 high : (c : tie.After-stretch-end) → c .stretch-end .result < entry c .args .geometry .parameters .pages
 high c =
     let s = entry c in
-    last-high (s .args .geometry .parameters) (s .args .geometry .growth) (file s) (s .pre .0 .homing .signing .valid) (s .pre .0 .sized) (s .args .lo) (s .pre .1 .1 .0 .1)
+    last-high (s .args .geometry .parameters) (s .args .geometry .growth) (file s) (s .pre .0 .homing .valid) (s .pre .0 .sized) (s .args .lo) (s .pre .1 .1 .0 .1)
     (c .stretch-end .result) (block-end c)
 
 items : (c : tie.After-stretch-end) → (c .stretch-end .result + 1) * entry c .args .geometry .parameters .places ≤ entry c .args .geometry .parameters .pages * entry c .args .geometry .parameters .places
@@ -82,7 +82,7 @@ returns : tie.Need-returns
 returns c =
     let e = c .before .before .before .before .before in
     let s = entry e in
-    block-unsound (s .args .geometry .parameters) (s .args .geometry .growth) (file s) (s .pre .0 .homing .signing .valid) (s .pre .0 .sized) (s .args .lo) (s .pre .1 .1 .0 .1)
+    block-unsound (s .args .geometry .parameters) (s .args .geometry .growth) (file s) (s .pre .0 .homing .valid) (s .pre .0 .sized) (s .args .lo) (s .pre .1 .1 .0 .1)
     (e .stretch-end .result) (block-end e) (c .before .before .before .survey-pages .result) (c .before .before .before .survey-pages .ensures .0) (c .if1 .taken)
 
 sub-if2 : tie.Need-sub-if2
@@ -109,7 +109,7 @@ same-length-2 c = search needs
 clear : (c : tie.Else1) → BlockSound (from c .args .geometry .parameters) (from c .args .geometry .growth) (file (from c)) (from c .args .lo)
 clear c =
     let s = from c in
-    block-clear (s .args .geometry .parameters) (s .args .geometry .growth) (file s) (s .pre .0 .homing .signing .valid) (s .pre .0 .sized) (s .args .lo) (s .pre .1 .1 .0 .1)
+    block-clear (s .args .geometry .parameters) (s .args .geometry .growth) (file s) (s .pre .0 .homing .valid) (s .pre .0 .sized) (s .args .lo) (s .pre .1 .1 .0 .1)
     (ended c .stretch-end .result) (block-end (ended c)) (c .before .before .before .survey-pages .result) (c .before .before .before .survey-pages .ensures .0) (c .if1 .left)
 
 -- the pool holds the block's homes
@@ -120,14 +120,14 @@ homes : (c : tie.Else1) → c .before .before .before .survey-pages .last .1 .1 
 homes c =
     let s = from c in
     c .before .before .before .survey-pages .ensures .1
-    (bad-none (s .args .geometry .parameters) (s .args .geometry .growth) (file s) (s .pre .0 .homing .signing .valid) (s .pre .0 .sized) (s .args .lo) (s .pre .1 .1 .0 .1)
+    (bad-none (s .args .geometry .parameters) (s .args .geometry .growth) (file s) (s .pre .0 .homing .valid) (s .pre .0 .sized) (s .args .lo) (s .pre .1 .1 .0 .1)
     (ended c .stretch-end .result) (block-end (ended c)) (c .before .before .before .survey-pages .result) (c .before .before .before .survey-pages .ensures .0) (c .if1 .left))
 
 returns-2 : tie.Need-returns-2
 returns-2 c =
     let d = c .before .before in
     let s = from d in
-    block-crowded (s .args .geometry .parameters) (s .args .geometry .growth) (file s) (s .pre .0 .homing .signing .valid) (s .pre .0 .sized) (s .args .lo) (s .pre .1 .1 .0 .1)
+    block-crowded (s .args .geometry .parameters) (s .args .geometry .growth) (file s) (s .pre .0 .homing .valid) (s .pre .0 .sized) (s .args .lo) (s .pre .1 .1 .0 .1)
     (ended d .stretch-end .result) (block-end (ended d)) (clear d) (take (s .args .incoming) (now (s .args .waiting))) (s .args .incoming)
     (length-take-le (s .args .incoming) (now (s .args .waiting)) (s .pre .1 .1 .1 .0))
     (omega (
@@ -136,7 +136,7 @@ returns-2 c =
       c .before .count-stars .ensures,
       s .pre .1 .0 .ofWords,
       s .pre .1 .1 .1 .0,
-      found-count (s .args .geometry .parameters) (s .args .geometry .growth) (file s) (s .pre .0 .homing .signing .valid) (s .pre .0 .sized) (s .args .lo) (s .pre .1 .1 .0 .1) (ended d .stretch-end .result) (block-end (ended d)) (clear d),
+      found-count (s .args .geometry .parameters) (s .args .geometry .growth) (file s) (s .pre .0 .homing .valid) (s .pre .0 .sized) (s .args .lo) (s .pre .1 .1 .0 .1) (ended d .stretch-end .result) (block-end (ended d)) (clear d),
     ))
 
 sub-plan : tie.Need-sub-plan
@@ -151,18 +151,18 @@ plan-requires c κs =
     let y = c .before .before .before .before .before .before .before .before .survey-pages in
     let sum : s .args .lo + (e .stretch-end .result + 1 - s .args .lo) ≡ e .stretch-end .result + 1 = omega (arith, low e) in
     let fits : (s .args .lo + (e .stretch-end .result + 1 - s .args .lo)) * s .args .geometry .parameters .places ≤ s .args .geometry .parameters .pages * s .args .geometry .parameters .places = rw sum (items e) in (
-      s .pre .0 .homing .signing,
+      s .pre .0 .homing .valid,
       (
         (omega (arith, low e), (omega (arith, sum, high e, bounds s .pages-most), omega (arith, sum, high e, s .pre .1 .1 .0 .0))),
         (
           (omega (arith, fits, s .pre .0 .sized .ofNumbers), omega (arith, fits, y .kept .1 .1 .1 .1 .1 .0, s .pre .1 .0 .ofNumbers)),
           (
-            found-numbers (s .args .geometry .parameters) (s .args .geometry .growth) (file s) (s .pre .0 .homing .signing .valid) (s .pre .0 .sized) (s .args .lo) (s .pre .1 .1 .0 .1) (e .stretch-end .result) (block-end e) (clear d),
+            found-numbers (s .args .geometry .parameters) (s .args .geometry .growth) (file s) (s .pre .0 .homing .valid) (s .pre .0 .sized) (s .args .lo) (s .pre .1 .1 .0 .1) (e .stretch-end .result) (block-end e) (clear d),
             (
-              found-below (s .args .geometry .parameters) (s .args .geometry .growth) (file s) (s .pre .0 .homing .signing .valid) (s .pre .0 .sized) (s .args .lo) (s .pre .1 .1 .0 .1) (e .stretch-end .result) (block-end e) (clear d) (now (s .args .pool)) (y .last .1 .1 .1 .1 .1 .0) (s .pre .1 .0 .ofNumbers) (homes d),
+              found-below (s .args .geometry .parameters) (s .args .geometry .growth) (file s) (s .pre .0 .homing .valid) (s .pre .0 .sized) (s .args .lo) (s .pre .1 .1 .0 .1) (e .stretch-end .result) (block-end e) (clear d) (now (s .args .pool)) (y .last .1 .1 .1 .1 .1 .0) (s .pre .1 .0 .ofNumbers) (homes d),
               (
                 (
-                  omega (arith, c .before .before .before .if2 .left, c .before .before .before .before .count-stars .ensures, s .pre .1 .1 .1 .0, found-count (s .args .geometry .parameters) (s .args .geometry .growth) (file s) (s .pre .0 .homing .signing .valid) (s .pre .0 .sized) (s .args .lo) (s .pre .1 .1 .0 .1) (e .stretch-end .result) (block-end e) (clear d)),
+                  omega (arith, c .before .before .before .if2 .left, c .before .before .before .before .count-stars .ensures, s .pre .1 .1 .1 .0, found-count (s .args .geometry .parameters) (s .args .geometry .growth) (file s) (s .pre .0 .homing .valid) (s .pre .0 .sized) (s .args .lo) (s .pre .1 .1 .0 .1) (e .stretch-end .result) (block-end e) (clear d)),
                   omega (arith, few s, s .pre .1 .0 .ofWords),
                 ),
                 s .pre .1 .1 .1 .1,
@@ -187,9 +187,9 @@ returns-3 c =
     let d = c .before .before .before .before .before .before .before .before .before .before .before .before in
     let s = from d in
     let y = c .before .before .before .before .before .before .before .before .before .before .before .before .before .before .before .survey-pages in
-    block-planned (s .args .geometry .parameters) (s .args .geometry .growth) (file s) (s .pre .0 .homing .signing .valid) (s .pre .0 .sized) (s .args .lo) (s .pre .1 .1 .0 .1)
+    block-planned (s .args .geometry .parameters) (s .args .geometry .growth) (file s) (s .pre .0 .homing .valid) (s .pre .0 .sized) (s .args .lo) (s .pre .1 .1 .0 .1)
     (ended d .stretch-end .result) (block-end (ended d)) (clear d) (now (s .args .pool)) (y .last .1 .1 .1 .1 .1 .0) (s .pre .1 .0 .ofNumbers) (homes d)
-    (take (s .args .incoming) (now (s .args .waiting))) (now (s .args .planned)) (c .before .before .before .before .before .before .plan .last .1 .1 .1 .0) (c .before .before .before .before .before .before .plan .last .1 .1 .1 .1 .1 .0) (c .before .before .before .before .before .before .plan .last .1 .1 .1 .1 .0) (c .before .before .before .before .before .before .plan .result)
+    (take (s .args .incoming) (now (s .args .waiting))) (now (s .args .planned)) (c .before .before .before .before .before .before .plan .last .1 .1 .0) (c .before .before .before .before .before .before .plan .last .1 .1 .1 .1 .0) (c .before .before .before .before .before .before .plan .last .1 .1 .1 .0) (c .before .before .before .before .before .before .plan .result)
     (c .before .before .before .before .before .before .plan .ensures)
 
 pub plan-block-spec : {M : Type 1} → statement M

@@ -40,7 +40,7 @@ abbrev file : Start → File
 file s = lent (now (s .args .separators)) (now (s .args .numbers)) (now (s .args .words))
 
 bounds : (s : Start) → Limits (s .args .geometry .parameters)
-bounds s = limits (s .args .geometry .parameters) (s .pre .0 .homing .signing .valid)
+bounds s = limits (s .args .geometry .parameters) (s .pre .0 .homing .valid)
 
 few : (s : Start) → s .args .geometry .parameters .pages * s .args .geometry .parameters .places ≤ 32768
 few s = mul-le-mul (bounds s .pages-most) (bounds s .places-most)
@@ -93,14 +93,14 @@ add-pack c = search needs
 pack-requires : tie.Need-pack-requires Inv-loop μ-loop
 pack-requires c κs =
     let s = c .before .before .before .before .before .before .before in (
-      omega (arith, s .pre .1 .1 .1 .1 .1, home-pages (multiplierOf (s .args .geometry .parameters)) (s .args .geometry .parameters) (s .args .geometry .growth) (s .args .number) (s .pre .0 .homing .signing .valid) (s .pre .0 .homing .growth), bounds s .pages-most),
+      omega (arith, s .pre .1 .1 .1 .1 .1, home-pages (multiplierOf (s .args .geometry .parameters)) (s .args .geometry .parameters) (s .args .geometry .growth) (s .args .number) (s .pre .0 .homing .valid) (s .pre .0 .homing .growth), bounds s .pages-most),
       (omega (arith, valid-most (s .args .number) (s .pre .1 .1 .1 .0)), omega (arith, few s, s .pre .0 .sized .ofNumbers)),
     )
 
 slice-write-waiting : tie.Need-slice-write-waiting Inv-loop μ-loop
 slice-write-waiting c =
     let s = c .before .before .before .before .before .before .before .before in
-    omega (arith, s .pre .1 .0 .ofWords, some-items (s .args .geometry .parameters) (s .args .geometry .growth) (s .pre .0 .homing .signing .valid) (s .pre .0 .homing .growth) (s .args .number))
+    omega (arith, s .pre .1 .0 .ofWords, some-items (s .args .geometry .parameters) (s .args .geometry .growth) (s .pre .0 .homing .valid) (s .pre .0 .homing .growth) (s .args .number))
 
 unfolded : (p : Parameters) (g : Growth) (k : ℕ) → Home·home (multiplierOf p) p g k ≡ startOf p g k
 unfolding hashOf
@@ -117,9 +117,9 @@ loop-holds c =
         (
           refl,
           rw (word, from)
-              (reached-none (s .args .geometry .parameters) (s .args .geometry .growth) (file s) (s .args .number) (s .pre .0 .homing .signing .valid) (s .pre .0 .sized) (s .pre .1 .1 .1 .0) (s .pre .1 .1 .1 .1 .0) (now (s .args .pool)) (now (s .args .planned)) (now (s .args .waiting))
-              (omega (arith, unfolded (s .args .geometry .parameters) (s .args .geometry .growth) (s .args .number), home-pages (multiplierOf (s .args .geometry .parameters)) (s .args .geometry .parameters) (s .args .geometry .growth) (s .args .number) (s .pre .0 .homing .signing .valid) (s .pre .0 .homing .growth)))
-              (omega (arith, s .pre .1 .0 .ofWords, some-items (s .args .geometry .parameters) (s .args .geometry .growth) (s .pre .0 .homing .signing .valid) (s .pre .0 .homing .growth) (s .args .number)))),
+              (reached-none (s .args .geometry .parameters) (s .args .geometry .growth) (file s) (s .args .number) (s .pre .0 .homing .valid) (s .pre .0 .sized) (s .pre .1 .1 .1 .0) (s .pre .1 .1 .1 .1 .0) (now (s .args .pool)) (now (s .args .planned)) (now (s .args .waiting))
+              (omega (arith, unfolded (s .args .geometry .parameters) (s .args .geometry .growth) (s .args .number), home-pages (multiplierOf (s .args .geometry .parameters)) (s .args .geometry .parameters) (s .args .geometry .growth) (s .args .number) (s .pre .0 .homing .valid) (s .pre .0 .homing .growth)))
+              (omega (arith, s .pre .1 .0 .ofWords, some-items (s .args .geometry .parameters) (s .args .geometry .growth) (s .pre .0 .homing .valid) (s .pre .0 .homing .growth) (s .args .number)))),
         ),
       ),
     )
@@ -135,8 +135,8 @@ plan-block-requires c κs =
         (
           (omega (arith, l .inv .1 .1 .0, s .pre .1 .1 .0), r .inside),
           (
-            spanned-few (s .args .geometry .parameters) (s .args .geometry .growth) (file s) (s .args .number) (s .pre .0 .homing .signing .valid) (s .pre .0 .sized) (s .pre .1 .1 .1 .0) (s .pre .1 .1 .1 .1 .0) (l .pool) (l .planned) (l .waiting) (r .done) (l .carried) (r .spanned),
-            rw (r .at) (spanned-near (s .args .geometry .parameters) (s .args .geometry .growth) (file s) (s .args .number) (s .pre .0 .homing .signing .valid) (s .pre .0 .sized) (s .pre .1 .1 .1 .0) (s .pre .1 .1 .1 .1 .0) (l .pool) (l .planned) (l .waiting) (r .done) (l .carried) (r .spanned)),
+            spanned-few (s .args .geometry .parameters) (s .args .geometry .growth) (file s) (s .args .number) (s .pre .0 .homing .valid) (s .pre .0 .sized) (s .pre .1 .1 .1 .0) (s .pre .1 .1 .1 .1 .0) (l .pool) (l .planned) (l .waiting) (r .done) (l .carried) (r .spanned),
+            rw (r .at) (spanned-near (s .args .geometry .parameters) (s .args .geometry .growth) (file s) (s .args .number) (s .pre .0 .homing .valid) (s .pre .0 .sized) (s .pre .1 .1 .1 .0) (s .pre .1 .1 .1 .1 .0) (l .pool) (l .planned) (l .waiting) (r .done) (l .carried) (r .spanned)),
           ),
         ),
       ),
@@ -160,7 +160,7 @@ returns c =
     let x = c .before .before .before .before .before .before .before .before .before in
     let s = start x in
     let page = c .before .page .given .0 .0 in (
-      (λ word. reached-unsound (s .args .geometry .parameters) (s .args .geometry .growth) (file s) (s .args .number) (s .pre .0 .homing .signing .valid) (s .pre .0 .sized) (s .pre .1 .1 .1 .0) (s .pre .1 .1 .1 .1 .0) (head x .loop .pool) (head x .loop .planned) (head x .loop .waiting) (head x .loop .lo) (head x .loop .carried) (reached x) page (known x (block·Unsound page) (c .before .page .given .1)) word),
+      (λ word. reached-unsound (s .args .geometry .parameters) (s .args .geometry .growth) (file s) (s .args .number) (s .pre .0 .homing .valid) (s .pre .0 .sized) (s .pre .1 .1 .1 .0) (s .pre .1 .1 .1 .1 .0) (head x .loop .pool) (head x .loop .planned) (head x .loop .waiting) (head x .loop .lo) (head x .loop .carried) (reached x) page (known x (block·Unsound page) (c .before .page .given .1)) word),
       (λ word last e. absurd (unsound-ends page last e)),
     )
 
@@ -181,7 +181,7 @@ returns-2 : tie.Need-returns-2 Inv-loop μ-loop
 returns-2 c =
     let x = c .before .before .before .before .before .before .before .before in
     let s = start x in (
-      (λ word. reached-crowded (s .args .geometry .parameters) (s .args .geometry .growth) (file s) (s .args .number) (s .pre .0 .homing .signing .valid) (s .pre .0 .sized) (s .pre .1 .1 .1 .0) (s .pre .1 .1 .1 .1 .0) (head x .loop .pool) (head x .loop .planned) (head x .loop .waiting) (head x .loop .lo) (head x .loop .carried) (reached x) (known x Crowded (c .enum-told .given .1)) word),
+      (λ word. reached-crowded (s .args .geometry .parameters) (s .args .geometry .growth) (file s) (s .args .number) (s .pre .0 .homing .valid) (s .pre .0 .sized) (s .pre .1 .1 .1 .0) (s .pre .1 .1 .1 .1 .0) (head x .loop .pool) (head x .loop .planned) (head x .loop .waiting) (head x .loop .lo) (head x .loop .carried) (reached x) (known x Crowded (c .enum-told .given .1)) word),
       (λ word last e. absurd (overflows-ends last e)),
     )
 
@@ -203,8 +203,8 @@ returns-3 c =
     let x = c .before .before .before .before .before .before .before .before .before .before in
     let s = start x in
     let v = c .before .before .last .given in (
-      (λ word. reached-ends (s .args .geometry .parameters) (s .args .geometry .growth) (file s) (s .args .number) (s .pre .0 .homing .signing .valid) (s .pre .0 .sized) (s .pre .1 .1 .1 .0) (s .pre .1 .1 .1 .1 .0) (head x .loop .pool) (head x .loop .planned) (head x .loop .waiting) (head x .loop .lo) (head x .loop .carried) (reached x) (x .plan-block .last .1 .1 .1 .1 .1 .0) (x .plan-block .last .1 .1 .1 .1 .1 .1 .1 .0) (x .plan-block .last .1 .1 .1 .1 .1 .1 .0) (v .0 .0) (v .0 .1 .0) (pool-long x) (planned-long x) (planned x (v .0 .0) (v .0 .1 .0) (v .1)) (c .if1 .taken) word),
-      reached-applies (s .args .geometry .parameters) (s .args .geometry .growth) (file s) (s .args .number) (s .pre .0 .homing .signing .valid) (s .pre .0 .sized) (s .pre .1 .1 .1 .0) (s .pre .1 .1 .1 .1 .0) (head x .loop .pool) (head x .loop .planned) (head x .loop .waiting) (head x .loop .lo) (head x .loop .carried) (reached x) (x .plan-block .last .1 .1 .1 .1 .1 .0) (x .plan-block .last .1 .1 .1 .1 .1 .1 .1 .0) (x .plan-block .last .1 .1 .1 .1 .1 .1 .0) (v .0 .0) (v .0 .1 .0) (pool-long x) (planned-long x) (planned x (v .0 .0) (v .0 .1 .0) (v .1)) (c .if1 .taken),
+      (λ word. reached-ends (s .args .geometry .parameters) (s .args .geometry .growth) (file s) (s .args .number) (s .pre .0 .homing .valid) (s .pre .0 .sized) (s .pre .1 .1 .1 .0) (s .pre .1 .1 .1 .1 .0) (head x .loop .pool) (head x .loop .planned) (head x .loop .waiting) (head x .loop .lo) (head x .loop .carried) (reached x) (x .plan-block .last .1 .1 .1 .1 .1 .0) (x .plan-block .last .1 .1 .1 .1 .1 .1 .1 .0) (x .plan-block .last .1 .1 .1 .1 .1 .1 .0) (v .0 .0) (v .0 .1 .0) (pool-long x) (planned-long x) (planned x (v .0 .0) (v .0 .1 .0) (v .1)) (c .if1 .taken) word),
+      reached-applies (s .args .geometry .parameters) (s .args .geometry .growth) (file s) (s .args .number) (s .pre .0 .homing .valid) (s .pre .0 .sized) (s .pre .1 .1 .1 .0) (s .pre .1 .1 .1 .1 .0) (head x .loop .pool) (head x .loop .planned) (head x .loop .waiting) (head x .loop .lo) (head x .loop .carried) (reached x) (x .plan-block .last .1 .1 .1 .1 .1 .0) (x .plan-block .last .1 .1 .1 .1 .1 .1 .1 .0) (x .plan-block .last .1 .1 .1 .1 .1 .1 .0) (v .0 .0) (v .0 .1 .0) (pool-long x) (planned-long x) (planned x (v .0 .0) (v .0 .1 .0) (v .1)) (c .if1 .taken),
     )
 
 add-lo : tie.Need-add-lo Inv-loop μ-loop
@@ -229,7 +229,7 @@ returns-4 c =
     let x = c .before .before .before .before .before .before .before .before .before .before .before in
     let s = start x in
     let v = c .before .before .before .last .given in (
-      (λ word. reached-overflows (s .args .geometry .parameters) (s .args .geometry .growth) (file s) (s .args .number) (s .pre .0 .homing .signing .valid) (s .pre .0 .sized) (s .pre .1 .1 .1 .0) (s .pre .1 .1 .1 .1 .0) (head x .loop .pool) (head x .loop .planned) (head x .loop .waiting) (head x .loop .lo) (head x .loop .carried) (reached x) (x .plan-block .last .1 .1 .1 .1 .1 .0) (x .plan-block .last .1 .1 .1 .1 .1 .1 .1 .0) (x .plan-block .last .1 .1 .1 .1 .1 .1 .0) (v .0 .0) (v .0 .1 .0) (pool-long x) (planned-long x) (planned x (v .0 .0) (v .0 .1 .0) (v .1)) (c .before .if1 .left) (omega (arith, c .if2 .taken)) word),
+      (λ word. reached-overflows (s .args .geometry .parameters) (s .args .geometry .growth) (file s) (s .args .number) (s .pre .0 .homing .valid) (s .pre .0 .sized) (s .pre .1 .1 .1 .0) (s .pre .1 .1 .1 .1 .0) (head x .loop .pool) (head x .loop .planned) (head x .loop .waiting) (head x .loop .lo) (head x .loop .carried) (reached x) (x .plan-block .last .1 .1 .1 .1 .1 .0) (x .plan-block .last .1 .1 .1 .1 .1 .1 .1 .0) (x .plan-block .last .1 .1 .1 .1 .1 .1 .0) (v .0 .0) (v .0 .1 .0) (pool-long x) (planned-long x) (planned x (v .0 .0) (v .0 .1 .0) (v .1)) (c .before .if1 .left) (omega (arith, c .if2 .taken)) word),
       (λ word last e. absurd (overflows-ends last e)),
     )
 
@@ -251,7 +251,7 @@ loop-again c =
         (
           x .plan-block .kept .1 .1 .1 .1 .1 .1 .1 .0 ∙ head x .loop .inv .1 .1 .0,
           rw (add-one (v .0 .0))
-              (reached-next (s .args .geometry .parameters) (s .args .geometry .growth) (file s) (s .args .number) (s .pre .0 .homing .signing .valid) (s .pre .0 .sized) (s .pre .1 .1 .1 .0) (s .pre .1 .1 .1 .1 .0) (head x .loop .pool) (head x .loop .planned) (head x .loop .waiting) (head x .loop .lo) (head x .loop .carried) (reached x) (x .plan-block .last .1 .1 .1 .1 .1 .0) (x .plan-block .last .1 .1 .1 .1 .1 .1 .1 .0) (x .plan-block .last .1 .1 .1 .1 .1 .1 .0) (v .0 .0) (v .0 .1 .0) (pool-long x) (planned-long x) (planned x (v .0 .0) (v .0 .1 .0) (v .1)) (c .before .if1 .left) (omega (arith, c .if2 .left, planned x (v .0 .0) (v .0 .1 .0) (v .1) .is, block-most (s .args .geometry .parameters) (s .args .geometry .growth) (file s) (head x .loop .lo) (reached x .inside)))),
+              (reached-next (s .args .geometry .parameters) (s .args .geometry .growth) (file s) (s .args .number) (s .pre .0 .homing .valid) (s .pre .0 .sized) (s .pre .1 .1 .1 .0) (s .pre .1 .1 .1 .1 .0) (head x .loop .pool) (head x .loop .planned) (head x .loop .waiting) (head x .loop .lo) (head x .loop .carried) (reached x) (x .plan-block .last .1 .1 .1 .1 .1 .0) (x .plan-block .last .1 .1 .1 .1 .1 .1 .1 .0) (x .plan-block .last .1 .1 .1 .1 .1 .1 .0) (v .0 .0) (v .0 .1 .0) (pool-long x) (planned-long x) (planned x (v .0 .0) (v .0 .1 .0) (v .1)) (c .before .if1 .left) (omega (arith, c .if2 .left, planned x (v .0 .0) (v .0 .1 .0) (v .1) .is, block-most (s .args .geometry .parameters) (s .args .geometry .growth) (file s) (head x .loop .lo) (reached x .inside)))),
         ),
       ),
     )

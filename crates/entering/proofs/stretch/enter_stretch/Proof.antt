@@ -21,7 +21,7 @@ abbrev file : tie.Start → File
 file s = lent (now (s .args .separators)) (now (s .args .numbers)) (now (s .args .words))
 
 bounds : (s : tie.Start) → Limits (s .args .geometry .parameters)
-bounds s = limits (s .args .geometry .parameters) (s .pre .0 .homing .signing .valid)
+bounds s = limits (s .args .geometry .parameters) (s .pre .0 .homing .valid)
 
 -- from the plan on
 abbrev Place : Type 0
@@ -58,7 +58,7 @@ cast-places : tie.Need-cast-places
 cast-places c = search needs
 
 home-requires : tie.Need-home-requires
-home-requires c κs = let ready = c .before .before .before .before .before .before .pre .0 .homing in (ready .signing .table, (ready .signing .valid, ready .growth))
+home-requires c κs = let ready = c .before .before .before .before .before .before .pre .0 .homing in (ready .table, (ready .valid, ready .growth))
 
 cast-from : tie.Need-cast-from
 cast-from c = search needs

@@ -4,7 +4,7 @@ use Prim.Native.Nat.{_*_, _%_, _<_}
 use native.Mathlib.Nat.{mul-le-mul, mod-lt}
 use native.Mathlib.Omega.{arith}
 use borrow.Author.Needs.{needs}
-use Rattle.hashing.specs.Generator.{multiplier, modulus, scrambled}
+use Rattle.hashing.specs.Generator.{multiplierOf, modulus, scrambled}
 use Rattle.hashing.specs.Home.{afterSteps}
 use Rattle.hashing.proofs.Bounds.{Limits, Within, Spread, limits, growth-within, spread}
 use Rattle.hashing.proofs.Codes.{Passed, passed, chosen-rising, home-key}
@@ -27,17 +27,17 @@ low : (c : tie.After-first-page) → c .first-page .result < first c .args .geom
 low c =
     let l = bounds (first c) in
     let p = first c .args .geometry .parameters in
-    let x = scrambled multiplier 1 (first c .args .number % modulus) in
+    let x = scrambled (multiplierOf p) 1 (first c .args .number % modulus) in
     let below : x % (p .width * p .groups) < p .width * p .groups = mod-lt x (mul-le-mul {n₁ = 1} {m₁ = 1} (l .width-least) (l .groups-least)) in
     omega (arith, c .first-page .ensures)
 
 ends :
     (c : tie.After-follow) →
-    Passed multiplier (first (c .before .before) .args .geometry .parameters) (first (c .before .before) .args .geometry .growth) (first (c .before .before) .args .number % modulus) (c .follow .result)
+    Passed (multiplierOf (first (c .before .before) .args .geometry .parameters)) (first (c .before .before) .args .geometry .parameters) (first (c .before .before) .args .geometry .growth) (first (c .before .before) .args .number % modulus) (c .follow .result)
 unfolding afterSteps
 ends c =
     let start = first (c .before .before) in
-    passed multiplier _ _ (start .args .number % modulus) _ _ _ (bounds start) (within start) (low (c .before .before)) (c .before .before .first-page .ensures) (c .before .before .before .before .choose .ensures .1 .1 .0) (c .follow .ensures)
+    passed (multiplierOf (start .args .geometry .parameters)) _ _ (start .args .number % modulus) _ _ _ (bounds start) (within start) (low (c .before .before)) (c .before .before .first-page .ensures) (c .before .before .before .before .choose .ensures .1 .1 .0) (c .follow .ensures)
 
 choose-requires : tie.Need-choose-requires
 choose-requires c κs =
@@ -63,7 +63,7 @@ follow-requires c κs =
           chose .1 .0,
           (
             omega (arith, chose .0, state start .expansions-most),
-            (chosen-rising multiplier _ _ (start .args .number % modulus) 10 _ (bounds start) (within start) (state start .doublings) (chose .1 .1 .0), low (c .before)),
+            (chosen-rising (multiplierOf (start .args .geometry .parameters)) _ _ (start .args .number % modulus) 10 _ (bounds start) (within start) (state start .doublings) (chose .1 .1 .0), low (c .before)),
           ),
         ),
       ),
@@ -83,7 +83,7 @@ returns c =
     let start = first (c .before .before .before) in
     c .last-step .ensures
     ∙ sym (ends (c .before) .same)
-    ∙ home-key multiplier (start .args .geometry .parameters) (start .args .geometry .growth) (start .args .number)
+    ∙ home-key (multiplierOf (start .args .geometry .parameters)) (start .args .geometry .parameters) (start .args .geometry .growth) (start .args .number)
 
 pub home-spec : {M : Type 1} → statement M
 home-spec =

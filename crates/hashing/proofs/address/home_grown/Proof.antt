@@ -7,7 +7,7 @@ use native.Mathlib.Omega.{arith}
 use borrow.Author.Needs.{needs}
 use borrow.Author.Tests.{le-leb, lt-leb, eq-eqb, ne-eqb, not-true, not-false}
 use lib.Dec.{leb, eqb}
-use Rattle.hashing.specs.Generator.{multiplier}
+use Rattle.hashing.specs.Generator.{multiplierOf}
 use Rattle.hashing.specs.Geometry.{pageCount, groupSize, groupCount, grown}
 use Rattle.hashing.specs.Home.{home, chosen, rankAt}
 use Rattle.hashing.specs.Moves.{pageOf}
@@ -34,8 +34,8 @@ state c = growth-within _ _ (c .pre .1 .1 .0)
 
 regrown :
     (c : tie.Start) →
-    home multiplier (c .args .geometry .parameters) (grown (c .args .geometry .parameters) (c .args .geometry .growth)) (c .args .number) ≡ cond (leb (span c) (c .args .old)) (c .args .old) (cond (chosen multiplier (c .args .geometry .parameters) (c .args .number) (c .args .geometry .growth .expansions) && eqb (order c) (expanded c)) (span c + expanded c) (c .args .old))
-regrown c = home-regrown multiplier _ _ _ _ (c .pre .1 .0) (c .pre .1 .1 .0) (c .pre .1 .1 .1)
+    home (multiplierOf (c .args .geometry .parameters)) (c .args .geometry .parameters) (grown (c .args .geometry .parameters) (c .args .geometry .growth)) (c .args .number) ≡ cond (leb (span c) (c .args .old)) (c .args .old) (cond (chosen (multiplierOf (c .args .geometry .parameters)) (c .args .geometry .parameters) (c .args .number) (c .args .geometry .growth .expansions) && eqb (order c) (expanded c)) (span c + expanded c) (c .args .old))
+regrown c = home-regrown (multiplierOf (c .args .geometry .parameters)) _ _ _ _ (c .pre .1 .0) (c .pre .1 .1 .0) (c .pre .1 .1 .1)
 
 first : (c : tie.After-page-of) → c .page-of .result ≡ span (c .before .before .before)
 unfolding pageOf
@@ -53,10 +53,10 @@ lower c = lt-leb (span (c .before .before .before .before)) (c .before .before .
 -- the code's test is that of the last step
 test :
     (c : tie.After-chosen-last) →
-    chosen multiplier (c .before .before .before .before .before .args .geometry .parameters) (c .before .before .before .before .before .args .number) (c .before .before .before .before .before .args .geometry .growth .expansions) ≡ c .chosen-last .result
+    chosen (multiplierOf (c .before .before .before .before .before .args .geometry .parameters)) (c .before .before .before .before .before .args .geometry .parameters) (c .before .before .before .before .before .args .number) (c .before .before .before .before .before .args .geometry .growth .expansions) ≡ c .chosen-last .result
 test c =
     let start = c .before .before .before .before .before in
-    sym (c .chosen-last .ensures ∙ chosen-key multiplier (start .args .geometry .parameters) (start .args .number) (start .args .geometry .growth .expansions))
+    sym (c .chosen-last .ensures ∙ chosen-key (multiplierOf (start .args .geometry .parameters)) (start .args .geometry .parameters) (start .args .number) (start .args .geometry .growth .expansions))
 
 last-code-requires : tie.Need-last-code-requires
 last-code-requires c κs = search needs
@@ -64,7 +64,7 @@ last-code-requires c κs = search needs
 cast-page : tie.Need-cast-page
 cast-page c =
     let start = c .before in
-    omega (arith, start .pre .1 .1 .1, home-pages multiplier _ _ (start .args .number) (start .pre .1 .0) (start .pre .1 .1 .0), bounds start .pages-most)
+    omega (arith, start .pre .1 .1 .1, home-pages (multiplierOf (start .args .geometry .parameters)) _ _ (start .args .number) (start .pre .1 .0) (start .pre .1 .1 .0), bounds start .pages-most)
 
 cast-expanded : tie.Need-cast-expanded
 cast-expanded c =

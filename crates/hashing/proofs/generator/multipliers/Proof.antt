@@ -1,10 +1,16 @@
--- `hashing::multipliers` meets its contract: the table passes the test that each entry is the one before times the multiplier.
-use Rattle.hashing.proofs.Powers.{is-table}
+-- `hashing::multipliers` meets its contract: each table passes the test that each entry is the one before times the multiplier.
+use Rattle.hashing.specs.Generator.{multipliers}
+use Rattle.hashing.proofs.Powers.{is-chain, the-other}
 use Rattle.hashing.proofs.generator.multipliers.Statement.{statement}
 use Rattle.hashing.proofs.generator.multipliers.Tie as tie
 
 returns : tie.Need-returns
-returns c = is-table _ tt
+unfolding multipliers
+returns c = is-chain 48271 2049 _ tt _ (c .if1 .taken)
+
+returns-2 : tie.Need-returns-2
+unfolding multipliers
+returns-2 c = is-chain 16807 2049 _ tt _ (the-other _ (c .before .pre) (c .if1 .left))
 
 pub multipliers-spec : {M : Type 1} → statement M
-multipliers-spec = tie.close (tie.spec returns)
+multipliers-spec = tie.close (tie.spec returns returns-2)

@@ -1,25 +1,40 @@
 -- `hashing::signature` meets its contract.
+use mathlib.Core.Path.{_∙_}
+use Prim.Native.Nat.{_+_, _*_, _%_}
+use native.Mathlib.Omega.{arith}
 use borrow.Author.Needs.{needs}
-use Rattle.hashing.specs.Generator.{signature}
+use Rattle.hashing.specs.Generator.{modulus, multiplierOf, multipliers, signature}
+use Rattle.hashing.proofs.Powers.{entry-below, times-entry}
+use Rattle.hashing.proofs.Codes.{scrambled-key}
 use Rattle.hashing.proofs.generator.signature.Statement.{statement}
 use Rattle.hashing.proofs.generator.signature.Tie as tie
 
-mul-scrambled : tie.Need-mul-scrambled
-mul-scrambled c = search needs
+mul-residue : tie.Need-mul-residue
+mul-residue c = search needs
 
-add-scrambled : tie.Need-add-scrambled
-add-scrambled c = search needs
+mul-residue-2 : tie.Need-mul-residue-2
+mul-residue-2 c = search needs
 
-scrambled-requires : tie.Need-scrambled-requires
-scrambled-requires c κs = search needs
+element-copy-out-residue : tie.Need-element-copy-out-residue
+element-copy-out-residue c = search needs
+
+residue-requires : tie.Need-residue-requires
+unfolding multipliers
+residue-requires c κs =
+    let s = c .before in
+    (rw (s .pre .0) (entry-below (multiplierOf (s .args .parameters)) 2049 (2 * s .args .probe) (omega arith)), omega arith)
 
 below-top-requires : tie.Need-below-top-requires
 below-top-requires c κs = search needs
 
 returns : tie.Need-returns
-unfolding signature
-returns c = rw (c .below-top .ensures, c .before .scrambled .ensures)
+unfolding signature multipliers
+returns c =
+    let s = c .before .before .before in
+    let a = multiplierOf (s .args .parameters) in
+    c .below-top .ensures
+    ∙ rw (c .before .residue .ensures, s .pre .0, times-entry a 2049 (2 * s .args .probe) (s .args .number % modulus) (omega arith), scrambled-key a (2 * s .args .probe + 1) (s .args .number))
 
 pub signature-spec : {M : Type 1} → statement M
 signature-spec =
-    tie.close (tie.spec mul-scrambled add-scrambled scrambled-requires below-top-requires returns)
+    tie.close (tie.spec mul-residue mul-residue-2 element-copy-out-residue residue-requires below-top-requires returns)

@@ -1,6 +1,7 @@
 -- `hashing::parameters_valid` meets its contract, for every content.
 use mathlib.Core.Path.{_≡_}
 use mathlib.Core.Bool.{true}
+use Prim.Native.Nat.{_*_}
 use native.Mathlib.Nat.{mul-le-mul}
 use native.Mathlib.Omega.{arith}
 use borrow.Author.Needs.{needs}
@@ -30,6 +31,9 @@ ok6 :
     (c : tie.Else6) →
     within 1 (c .before .before .before .before .before .before .before .before .before .before .before .before .args .parameters .load) 99 ≡ true
 ok6 c = passed _ _ (c .before .within6 .ensures) (c .if6 .left)
+
+ok7 : (c : tie.Else7) → let p = c .before .before .before .before .before .before .before .before .before .before .before .before .before .before .before .args .parameters in within (p .width * p .groups) (p .pages) 1024 ≡ true
+ok7 c = passed _ _ (c .before .within7 .ensures) (c .if7 .left)
 
 within-requires : tie.Need-within-requires
 within-requires c κs = search needs
@@ -85,7 +89,14 @@ within-requires-7 c κs = search needs
 
 returns-7 : tie.Need-returns-7
 unfolding validParameters
-returns-7 c = rw (ok1 (c .before .before .before .before .before .before .before .before .before .before .before .before), ok2 (c .before .before .before .before .before .before .before .before .before .before), ok3 (c .before .before .before .before .before .before .before .before), ok4 (c .before .before .before .before .before .before), ok5 (c .before .before .before .before), ok6 (c .before .before)) (c .within7 .ensures)
+returns-7 c = rw (ok1 (c .before .before .before .before .before .before .before .before .before .before .before .before .before), ok2 (c .before .before .before .before .before .before .before .before .before .before .before), ok3 (c .before .before .before .before .before .before .before .before .before), ok4 (c .before .before .before .before .before .before .before), ok5 (c .before .before .before .before .before), ok6 (c .before .before .before), failed _ _ (c .before .within7 .ensures) (c .if7 .taken))
+
+multiplier-valid-requires : tie.Need-multiplier-valid-requires
+multiplier-valid-requires c κs = search needs
+
+returns-8 : tie.Need-returns-8
+unfolding validParameters
+returns-8 c = rw (ok1 (c .before .before .before .before .before .before .before .before .before .before .before .before .before .before), ok2 (c .before .before .before .before .before .before .before .before .before .before .before .before), ok3 (c .before .before .before .before .before .before .before .before .before .before), ok4 (c .before .before .before .before .before .before .before .before), ok5 (c .before .before .before .before .before .before), ok6 (c .before .before .before .before), ok7 (c .before)) (c .multiplier-valid .ensures)
 
 pub parameters-valid-spec : {M : Type 1} → statement M
 parameters-valid-spec =
@@ -105,4 +116,6 @@ parameters-valid-spec =
     returns-6
     mul-within
     within-requires-7
-    returns-7)
+    returns-7
+    multiplier-valid-requires
+    returns-8)

@@ -1,18 +1,11 @@
 -- `hashing::chosen` meets its contract.
-use Prim.Native.Nat.{_+_, _*_, _≤_}
+use Prim.Native.Nat.{_+_, _≤_}
 use native.Mathlib.Nat.{mul-le-mul}
 use native.Mathlib.Omega.{arith}
 use borrow.Author.Needs.{needs}
-use Rattle.hashing.specs.Generator.{modulus, multiplier}
-use Rattle.hashing.proofs.Laws.{scrambled-below}
+use Rattle.hashing.specs.Generator.{modulus}
 use Rattle.hashing.proofs.moves.chosen.Statement.{statement}
 use Rattle.hashing.proofs.moves.chosen.Tie as tie
-
-add-residue : tie.Need-add-residue
-add-residue c = search needs
-
-mul-residue : tie.Need-mul-residue
-mul-residue c = search needs
 
 residue-requires : tie.Need-residue-requires
 residue-requires c κs = search needs
@@ -26,8 +19,8 @@ add-result c = search needs
 mul-result : tie.Need-mul-result
 mul-result c =
     let start = c .before in
-    let low : c .residue .result ≤ modulus = rw (c .residue .ensures) (omega (arith, scrambled-below multiplier (2 * (start .args .i + 1)) (start .args .key))) in
-    let few : start .args .size + 1 ≤ 8 = omega (arith, start .pre .1 .1 .1) in
+    let low : c .residue .result ≤ modulus = rw (c .residue .ensures) (omega arith) in
+    let few : start .args .size + 1 ≤ 8 = omega (arith, start .pre .1) in
     omega (arith, mul-le-mul low few)
 
 returns : tie.Need-returns
@@ -36,4 +29,4 @@ returns c = rw (c .residue .ensures)
 pub chosen-spec : {M : Type 1} → statement M
 chosen-spec =
     tie.close
-    (tie.spec add-residue mul-residue residue-requires cast-result add-result mul-result returns)
+    (tie.spec residue-requires cast-result add-result mul-result returns)

@@ -6,7 +6,8 @@ use borrow.Author.Needs.{needs}
 use lib.ListN.{getD}
 use Rattle.hashing.specs.Generator.{multiplierOf, power}
 use Rattle.hashing.proofs.Bounds.{Limits, limits}
-use Rattle.homes.proofs.Prepared.{first-factor, power-below}
+use Rattle.homes.proofs.Prepared.{first-factor}
+use Rattle.hashing.proofs.Powers.{power-below}
 use Rattle.homes.proofs.Steps.{starts-are, homes-are}
 use Rattle.homes.proofs.blocks.homes.Statement.{statement}
 use Rattle.homes.proofs.blocks.homes.Tie as tie

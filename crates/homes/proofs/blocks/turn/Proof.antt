@@ -8,7 +8,8 @@ use Rattle.hashing.specs.Generator.{multiplierOf, power}
 use Rattle.hashing.proofs.Bounds.{Limits, limits}
 use Rattle.homes.specs.Lanes.{pagesAfter}
 use Rattle.homes.proofs.Lists.{lanes-length}
-use Rattle.homes.proofs.Prepared.{Steady, steady, ready, expanded-most, factor-is, power-below, stage-count}
+use Rattle.homes.proofs.Prepared.{Steady, steady, ready, expanded-most, factor-is, stage-count}
+use Rattle.hashing.proofs.Powers.{power-below}
 use Rattle.homes.proofs.Steps.{groups-under, pages-under, groups-known, pages-length, steps-are}
 use Rattle.homes.proofs.blocks.turn.Statement.{statement}
 use Rattle.homes.proofs.blocks.turn.Tie as tie

@@ -14,9 +14,9 @@ probe-requires c κs =
     let s = c .before in
     let g = s .args .geometry in
     let ready = s .pre .0 in
-    let l = limits (g .parameters) (ready .signing .valid) in
-    let low = home-pages (multiplierOf (g .parameters)) (g .parameters) (g .growth) (s .args .number) (ready .signing .valid) (ready .growth) in
-    (ready .signing, (omega (arith, s .pre .1 .1, low, l .pages-most), omega arith))
+    let l = limits (g .parameters) (ready .valid) in
+    let low = home-pages (multiplierOf (g .parameters)) (g .parameters) (g .growth) (s .args .number) (ready .valid) (ready .growth) in
+    ((ready .table, ready .valid), (omega (arith, s .pre .1 .1, low, l .pages-most), omega arith))
 
 returns : tie.Need-returns
 returns c = c .probe .ensures ∙ named-is _ _ _ _ _ (c .before .before .pre .1 .1)

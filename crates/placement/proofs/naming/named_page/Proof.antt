@@ -4,7 +4,7 @@ use Rattle.placement.proofs.naming.named_page.Statement.{statement}
 use Rattle.placement.proofs.naming.named_page.Tie as tie
 
 home-requires : tie.Need-home-requires
-home-requires c κs = let ready = c .before .pre .0 in (ready .signing .table, (ready .signing .valid, ready .growth))
+home-requires c κs = let ready = c .before .pre .0 in (ready .table, (ready .valid, ready .growth))
 
 named-from-requires : tie.Need-named-from-requires
 named-from-requires c κs = let s = c .before .before in (s .pre .0, (s .pre .1, c .home .ensures))

@@ -10,7 +10,7 @@ use Rattle.placement.proofs.naming.stands_on.Statement.{statement}
 use Rattle.placement.proofs.naming.stands_on.Tie as tie
 
 pages-most : (c : tie.Start) → c .args .geometry .parameters .pages ≤ 1024
-pages-most c = limits (c .args .geometry .parameters) (c .pre .0 .signing .valid) .pages-most
+pages-most c = limits (c .args .geometry .parameters) (c .pre .0 .valid) .pages-most
 
 returns : tie.Need-returns
 returns c =
@@ -26,13 +26,13 @@ shared-slice-read-if2 c = search needs
 probe-requires : tie.Need-probe-requires
 probe-requires c κs =
     let s = c .before .before .before .before .before .before in
-    (s .pre .0 .signing, (omega (arith, pages-most s), omega arith))
+    ((s .pre .0 .table, s .pre .0 .valid), (omega (arith, pages-most s), omega arith))
 
 returns-2 : tie.Need-returns-2
 returns-2 c =
     let s = c .before .before .before .before .before .before .before in
     rw (c .probe .ensures)
-    (named-before-top _ _ _ _ _ (s .pre .1 .1 .1) (s .pre .0 .signing .valid) (s .args .page) (omega arith) (omega arith)
+    (named-before-top _ _ _ _ _ (s .pre .1 .1 .1) (s .pre .0 .valid) (s .args .page) (omega arith) (omega arith)
     (rw (c .before .before .before .top-of .ensures) at (c .before .if2 .taken)))
 
 add-probe : tie.Need-add-probe
@@ -41,7 +41,7 @@ add-probe c = search needs
 probe-requires-2 : tie.Need-probe-requires-2
 probe-requires-2 c κs =
     let s = c .before .before .before .before .before .before in
-    (s .pre .0 .signing, (omega (arith, pages-most s), omega arith))
+    ((s .pre .0 .table, s .pre .0 .valid), (omega (arith, pages-most s), omega arith))
 
 returns-3 : tie.Need-returns-3
 returns-3 c =

@@ -6,22 +6,17 @@ use Rattle.hashing.proofs.Bounds.{limits}
 use Rattle.placement.proofs.soundness.homes_of.Statement.{statement}
 use Rattle.placement.proofs.soundness.homes_of.Tie as tie
 
-first-multipliers-requires : tie.Need-first-multipliers-requires
-first-multipliers-requires c κs = search needs
-
 cast-places : tie.Need-cast-places
 cast-places c = search needs
 
 of-page-requires : tie.Need-of-page-requires
 of-page-requires c κs =
-    let s = c .before .before .before .before .before .before in (
-      c .before .before .before .before .before .first-multipliers .ensures,
-      (s .pre .0, (s .pre .1, (limits (s .args .geometry .parameters) (s .pre .0) .places-most, (search needs, refl)))),
-    )
+    let s = c .before .before .before .before in
+    (s .pre .0, (s .pre .1 .0, (s .pre .1 .1, (limits (s .args .geometry .parameters) (s .pre .1 .0) .places-most, (search needs, refl)))))
 
 returns : tie.Need-returns
 returns c = search needs
 
 pub homes-of-spec : {M : Type 1} → statement M
 homes-of-spec =
-    tie.close (tie.spec first-multipliers-requires cast-places of-page-requires returns)
+    tie.close (tie.spec cast-places of-page-requires returns)

@@ -38,12 +38,12 @@ returns c =
     }
 
 homes-of-requires : tie.Need-homes-of-requires Inv-loop μ-loop
-homes-of-requires c κs = let ready = c .before .before .before .before .before .pre .0 in (ready .signing .valid, ready .growth)
+homes-of-requires c κs = let ready = c .before .before .before .before .before .pre .0 in (ready .table, (ready .valid, ready .growth))
 
 loop-holds : tie.Need-loop-holds Inv-loop μ-loop
 loop-holds c =
     let s = c .before .before .before .before .before .before in
-    let l = limits (s .args .geometry .parameters) (s .pre .0 .signing .valid) in
+    let l = limits (s .args .geometry .parameters) (s .pre .0 .valid) in
     let ns : length (s .args .t4 .numbers) ≡ 32 = search needs in
     let ws : length (s .args .t4 .words) ≡ 32 = search needs in
     (search needs, l .places-most, surveyed-none _ _ _ _ _ _ _ (omega (arith, l .places-most)) (omega (arith, l .places-most)))

@@ -18,7 +18,7 @@ cast-places c = search needs
 
 -- a page has at most 32 places
 places-most : (c : tie.Start) → c .args .geometry .parameters .places ≤ 32
-places-most c = limits (c .args .geometry .parameters) (c .pre .0 .homing .signing .valid) .places-most
+places-most c = limits (c .args .geometry .parameters) (c .pre .0 .homing .valid) .places-most
 
 -- .. and lies within the lent lists
 inside : (c : tie.Start) {n : ℕ} → n ≡ c .args .geometry .parameters .pages * c .args .geometry .parameters .places

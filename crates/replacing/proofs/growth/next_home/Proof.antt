@@ -8,7 +8,7 @@ returns c = rw (eq-eqb _ _ (c .if1 .taken))
 home-grown-requires : tie.Need-home-grown-requires
 home-grown-requires c κs =
     let pre = c .before .pre in
-    (pre .0 .signing .table, (pre .0 .signing .valid, (pre .0 .growth, rw (ne-eqb _ _ (c .if1 .left)) at (pre .1))))
+    (pre .0 .table, (pre .0 .valid, (pre .0 .growth, rw (ne-eqb _ _ (c .if1 .left)) at (pre .1))))
 
 returns-2 : tie.Need-returns-2
 returns-2 c = rw (ne-eqb _ _ (c .before .if1 .left)) (c .home-grown .ensures)

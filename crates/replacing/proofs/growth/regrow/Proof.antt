@@ -38,14 +38,14 @@ returns : tie.Need-returns
 returns c =
     let surveyed = c .before .before .before in
     let pre = start surveyed .pre in
-    growth-refused _ _ _ (pre .0 .homing .signing .valid) (pre .0 .sized) _ (surveyed .survey-pages .ensures .0) (c .if1 .taken)
+    growth-refused _ _ _ (pre .0 .homing .valid) (pre .0 .sized) _ (surveyed .survey-pages .ensures .0) (c .if1 .taken)
 
 rehome-requires : tie.Need-rehome-requires
 rehome-requires c κs =
     let sound = c .before .before in
     let surveyed = sound .before .before .before in
     let pre = start surveyed .pre in
-    (pre .0 .homing, surveyed-all _ _ _ (pre .0 .homing .signing .valid) (pre .0 .sized) _ (surveyed .survey-pages .ensures .0) (sound .if1 .left) _ _ (pre .1 .0 .ofNumbers) (surveyed .survey-pages .ensures .1))
+    (pre .0 .homing, surveyed-all _ _ _ (pre .0 .homing .valid) (pre .0 .sized) _ (surveyed .survey-pages .ensures .0) (sound .if1 .left) _ _ (pre .1 .0 .ofNumbers) (surveyed .survey-pages .ensures .1))
 
 replace-stretch-requires : tie.Need-replace-stretch-requires
 replace-stretch-requires c κs =
@@ -53,8 +53,8 @@ replace-stretch-requires c κs =
     let sound = rehomed .before .before .before in
     let surveyed = sound .before .before .before in
     let pre = start surveyed .pre in (
-      pre .0 .homing .signing,
-      growth-plannable _ _ _ (pre .0 .homing .signing .valid) (pre .0 .sized) _ (surveyed .survey-pages .ensures .0) (sound .if1 .left) (pre .0 .homing .growth) (pre .1 .1) _ (rehomed .rehome .ensures)
+      pre .0 .homing .valid,
+      growth-plannable _ _ _ (pre .0 .homing .valid) (pre .0 .sized) _ (surveyed .survey-pages .ensures .0) (sound .if1 .left) (pre .0 .homing .growth) (pre .1 .1) _ (rehomed .rehome .ensures)
           _ (pre .1 .0 .ofWords),
     )
 
@@ -82,14 +82,14 @@ answered : (c : tie.After-replace-stretch) (r : Bool) → c .replace-stretch .re
     let p = a .geometry .parameters in
     let g = a .geometry .growth in
     let f = lent (a .separators .now) (a .numbers .now) (a .words .now) in
-    let exit = c .replace-stretch .last .1 .1 in
+    let exit = c .replace-stretch .last .1 in
     (cond r Done Overflows ≡ growthAnswer p g f (grown p g)) × (lent (exit .0) (exit .1 .0) (exit .1 .1 .0) ≡ growthFile p g f (grown p g))
 answered c r e =
     let rehomed = c .before .before .before .before .before .before .before .before in
     let sound = rehomed .before .before .before in
     let surveyed = sound .before .before .before in
     let pre = start surveyed .pre in
-    growth-done _ _ _ (pre .0 .homing .signing .valid) (pre .0 .sized) _ (surveyed .survey-pages .ensures .0) (sound .if1 .left) (pre .0 .homing .growth) (pre .1 .1) _ (rehomed .rehome .ensures)
+    growth-done _ _ _ (pre .0 .homing .valid) (pre .0 .sized) _ (surveyed .survey-pages .ensures .0) (sound .if1 .left) (pre .0 .homing .growth) (pre .1 .1) _ (rehomed .rehome .ensures)
     r (sym e ∙ c .replace-stretch .ensures .0) _ (c .replace-stretch .ensures .1)
 
 returns-2 : tie.Need-returns-2

@@ -19,10 +19,10 @@ reach : (c : tie.After-stretch-end)
 unfolding hashOf
 reach c =
     let pre = start c .pre in
-    reached _ _ _ _ (pre .0 .homing .signing .valid) (pre .0 .homing .growth) (pre .0 .sized) _ _ _ (c .before .before .before .home .ensures) (c .before .top-of .ensures) (c .stretch-end .ensures)
+    reached _ _ _ _ (pre .0 .homing .valid) (pre .0 .homing .growth) (pre .0 .sized) _ _ _ (c .before .before .before .home .ensures) (c .before .top-of .ensures) (c .stretch-end .ensures)
 
 home-requires : tie.Need-home-requires
-home-requires c κs = let ready = c .before .before .before .before .before .before .pre .0 .homing in (ready .signing .table, (ready .signing .valid, ready .growth))
+home-requires c κs = let ready = c .before .before .before .before .before .before .pre .0 .homing in (ready .table, (ready .valid, ready .growth))
 
 cast-from : tie.Need-cast-from
 cast-from c = search needs
@@ -35,11 +35,11 @@ stretch-end-requires c κs =
     let s = c .before .before .before .before .before .before .before .before .before in
     let p = s .args .geometry .parameters in
     let ready = s .pre .0 in
-    let low = home-pages (multiplierOf p) p (s .args .geometry .growth) (s .args .number) (ready .homing .signing .valid) (ready .homing .growth) in
+    let low = home-pages (multiplierOf p) p (s .args .geometry .growth) (s .args .number) (ready .homing .valid) (ready .homing .growth) in
     omega (arith, c .before .before .home .ensures, low, ready .sized .ofSeparators)
 
 add-stop : tie.Need-add-stop
-add-stop c = omega (arith, reach c .inside, limits _ (start c .pre .0 .homing .signing .valid) .pages-most)
+add-stop c = omega (arith, reach c .inside, limits _ (start c .pre .0 .homing .valid) .pages-most)
 
 survey-pages-requires : tie.Need-survey-pages-requires
 survey-pages-requires c κs =
@@ -75,8 +75,8 @@ replace-stretch-requires c κs =
     let end = surveyed .before .before .before .before .before in
     let pre = start end .pre in
     let lengths = pre .1 in (
-      pre .0 .homing .signing,
-      removal-plannable _ _ _ _ _ _ (reach end) (pre .0 .homing .signing .valid) (pre .0 .sized) _ (surveyed .survey-pages .ensures .0) (sound .if1 .left) _ _ (lengths .ofNumbers)
+      pre .0 .homing .valid,
+      removal-plannable _ _ _ _ _ _ (reach end) (pre .0 .homing .valid) (pre .0 .sized) _ (surveyed .survey-pages .ensures .0) (sound .if1 .left) _ _ (lengths .ofNumbers)
           (surveyed .survey-pages .kept .1 .1 .1 .1 .1 .0 ∙ lengths .ofNumbers) (surveyed .survey-pages .ensures .1) _ (lengths .ofWords),
     )
 
@@ -104,7 +104,7 @@ returns-2 c =
     let pre = start end .pre in
     let lengths = pre .1 in
     let done =
-    removal-done _ _ _ _ _ _ (reach end) (pre .0 .homing .signing .valid) (pre .0 .sized) _ (surveyed .survey-pages .ensures .0) (sound .if1 .left) _ _ (lengths .ofNumbers)
+    removal-done _ _ _ _ _ _ (reach end) (pre .0 .homing .valid) (pre .0 .sized) _ (surveyed .survey-pages .ensures .0) (sound .if1 .left) _ _ (lengths .ofNumbers)
     (surveyed .survey-pages .kept .1 .1 .1 .1 .1 .0 ∙ lengths .ofNumbers) (surveyed .survey-pages .ensures .1) in
     (done .0, placed .replace-stretch .ensures .1 ∙ done .1)
 

@@ -1,4 +1,4 @@
-use Rattle.hashing.specs.Limits.{validParameters, within}
+use Rattle.hashing.specs.Limits.{validMultiplier, validParameters, within}
 use Rattle.calls.specs.Calls.{makeOf, fileFits}
 use Rattle.sessions.specs.Commands.{starline, newFile, stateOf}
 use borrow.Author.Needs.{needs}
@@ -21,7 +21,7 @@ make-requires : tie.Need-make-requires
 make-requires c κs = search needs
 
 returns : tie.Need-returns
-unfolding stateOf newFile makeOf fileFits starline validParameters within
+unfolding stateOf newFile makeOf fileFits starline validParameters validMultiplier within
 returns c =
     let made = rw (c .before .before .before .before .before .before .before .before .parameters .ensures) at (c .before .before .before .before .make .ensures) in
     λ i. record { growth = made .1 i; file = made .0 .files i }

@@ -11,7 +11,7 @@ use Rattle.calls.specs.Calls.{unlent, checkOf, fileFits, poolFits}
 use Rattle.starfile.specs.Outcomes.{verdictChecked}
 use Rattle.starfile.proofs.Outcomes.{verdict-is, verdict-small}
 use Rattle.calls.proofs.Refusals.{turned-away, refusal-is, none-is, admitted-pool, leaves}
-use Rattle.starfile.proofs.Pools.{prepared, cleared-is}
+use Rattle.starfile.proofs.Pools.{prepared, tabled, cleared-is}
 use borrow.Author.Needs.{needs}
 use Rattle.starfile.proofs.checking.check.Statement.{statement}
 use Rattle.starfile.proofs.checking.check.Tie as tie
@@ -49,13 +49,13 @@ none c = none-is _ _ (c .before .before .guard .ensures) (c .before .before .bef
 lent-well : (c : tie.After-enum-told) → Admitted (begun c .args .parameters) (begun c .args .growth) (fileOf (begun c)) × Pooled (begun c .args .parameters) (poolOf (begun c) .numbers) (poolOf (begun c) .words)
 lent-well c = admitted-pool _ _ _ (poolOf (begun c)) (none c)
 
-multipliers-requires : tie.Need-multipliers-requires
-multipliers-requires c κs = search needs
+first-multipliers-requires : tie.Need-first-multipliers-requires
+first-multipliers-requires c κs = tabled (lent-well c .0)
 
 check-file-requires : tie.Need-check-file-requires
 check-file-requires c κs =
     let d = c .before .before .before .before in
-    (prepared (c .before .before .before .multipliers .ensures) (lent-well d .0), lent-well d .1)
+    (prepared (c .before .before .before .first-multipliers .ensures) (lent-well d .0), lent-well d .1)
 
 clear-requires : tie.Need-clear-requires
 clear-requires c κs = search needs
@@ -63,7 +63,7 @@ clear-requires c κs = search needs
 verdict-checked-requires : tie.Need-verdict-checked-requires
 verdict-checked-requires c κs =
     let d = c .before .before .before .before .before .before .before .before .before .before .before .before .before .before .before .before in
-    rw (c .before .before .before .before .before .before .before .before .before .before .before .check-file .ensures) (verdict-small (begun d .args .parameters) (lent-well d .0 .homing .signing .valid) _ _)
+    rw (c .before .before .before .before .before .before .before .before .before .before .before .check-file .ensures) (verdict-small (begun d .args .parameters) (lent-well d .0 .homing .valid) _ _)
 
 same-length : tie.Need-same-length
 same-length c = search needs
@@ -79,7 +79,7 @@ returns-2 c =
     let done = c .before .before .before .before .before .before .before .before .before .before .before .before .check-file in
     rw (none d)
     (record {
-      answers = ap checked (c .verdict-checked .ensures ∙ ap (λ v. verdictChecked v (s .args .parameters .places)) (done .ensures)) ∙ verdict-is (s .args .parameters) (lent-well d .0 .homing .signing .valid) _ _;
+      answers = ap checked (c .verdict-checked .ensures ∙ ap (λ v. verdictChecked v (s .args .parameters .places)) (done .ensures)) ∙ verdict-is (s .args .parameters) (lent-well d .0 .homing .valid) _ _;
       files = refl;
       pools = cleared-is _ _ _ _ _ _ (c .before .before .before .before .before .clear .ensures .0) (c .before .before .before .before .before .clear .ensures .1) (done .kept .1 .1 .1 .1 .1 .0) (done .kept .1 .1 .1 .1 .1 .1 .0);
     })
@@ -93,7 +93,7 @@ check-spec =
     enum-known-refusal
     returns
     enum-told
-    multipliers-requires
+    first-multipliers-requires
     check-file-requires
     clear-requires
     verdict-checked-requires

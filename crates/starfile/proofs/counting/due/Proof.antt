@@ -54,14 +54,14 @@ lent-well : (c : tie.After-enum-told) → Admitted (start c .args .parameters) (
 lent-well c = admitted _ _ _ (none c)
 
 few : (c : tie.After-enum-told) → length (now (start c .args .numbers)) ≤ 32768
-few c = omega (arith, lent-well c .sized .ofNumbers, items-most _ (lent-well c .homing .signing .valid))
+few c = omega (arith, lent-well c .sized .ofNumbers, items-most _ (lent-well c .homing .valid))
 
 highest-most : (c : tie.After-enum-told) → highest (start c .args .parameters) (start c .args .growth) + 1 ≤ start c .args .parameters .pages
 unfolding highest
 highest-most c =
     let v = lent-well c .homing in
     let w = growth-within (start c .args .parameters) (start c .args .growth) (v .growth) in
-    let least : 1 ≤ pageCount (start c .args .parameters) (start c .args .growth) = spread _ _ (limits _ (v .signing .valid)) w .pages-low in
+    let least : 1 ≤ pageCount (start c .args .parameters) (start c .args .growth) = spread _ _ (limits _ (v .valid)) w .pages-low in
     omega (arith, w .pages-fit)
 
 -- the addressed items are some of all
@@ -72,7 +72,7 @@ split-most c =
     omega (arith, lent-well (c .before .before) .sized .ofNumbers)
 
 highest-address-requires : tie.Need-highest-address-requires
-highest-address-requires c κs = (lent-well c .homing .signing .valid, lent-well c .homing .growth)
+highest-address-requires c κs = (lent-well c .homing .valid, lent-well c .homing .growth)
 
 cast-split : tie.Need-cast-split
 cast-split c = search needs
@@ -109,7 +109,7 @@ pages-are c =
     ∙ (ap (λ (n : ℕ). max (n + 1) ((c .before .before .before .end-of-use .result + p .places - 1) / p .places)) (c .before .before .before .before .before .highest-address .ensures)
     ∙ sym
     (in-use-reached p (begun c .args .growth) (now (begun c .args .numbers)) _
-    (limits _ (lent-well (told (c .before)) .homing .signing .valid) .places-least)
+    (limits _ (lent-well (told (c .before)) .homing .valid) .places-least)
     (lent-well (told (c .before)) .sized .ofNumbers)
     (reached c)))
 
@@ -119,7 +119,7 @@ pages-most c =
       arith,
       pages-are c,
       in-use-most _ _ (now (begun c .args .numbers)) (highest-most (told (c .before))),
-      limits _ (lent-well (told (c .before)) .homing .signing .valid) .pages-most,
+      limits _ (lent-well (told (c .before)) .homing .valid) .pages-most,
     )
 
 slice-aggregate-occupied : tie.Need-slice-aggregate-occupied
@@ -130,7 +130,7 @@ occupied-requires c κs = rw (length-take-le _ _ (c .before .end-of-use .ensures
 
 in-use-requires : tie.Need-in-use-requires
 in-use-requires c κs =
-    let l = limits _ (lent-well (told c) .homing .signing .valid) in (
+    let l = limits _ (lent-well (told c) .homing .valid) in (
       l .places-least,
       l .places-most,
       omega (arith, c .before .before .before .before .highest-address .ensures, highest-most (told c), l .pages-most),
@@ -139,13 +139,13 @@ in-use-requires c κs =
 
 mul-room : tie.Need-mul-room
 mul-room c =
-    let l = limits _ (lent-well (told (c .before .before)) .homing .signing .valid) in
+    let l = limits _ (lent-well (told (c .before .before)) .homing .valid) in
     let m : begun (c .before) .args .parameters .load * begun (c .before) .args .parameters .places ≤ 99 * 32 = mul-le-mul (l .load-most) (l .places-most) in
     omega arith
 
 mul-room-2 : tie.Need-mul-room-2
 mul-room-2 c =
-    let l = limits _ (lent-well (told (c .before .before)) .homing .signing .valid) in
+    let l = limits _ (lent-well (told (c .before .before)) .homing .valid) in
     let m : begun (c .before) .args .parameters .load * begun (c .before) .args .parameters .places * c .before .in-use .result ≤ 99 * 32 * 1024 = mul-le-mul (mul-le-mul (l .load-most) (l .places-most)) (pages-most (c .before)) in
     omega arith
 

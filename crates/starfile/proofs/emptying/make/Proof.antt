@@ -49,7 +49,7 @@ lent-well : (c : tie.After-enum-told) → Admitted (begun c .args .parameters) u
 lent-well c = admitted _ _ _ (none c)
 
 top-of-requires : tie.Need-top-of-requires
-top-of-requires c κs = lent-well (c .before) .homing .signing .valid
+top-of-requires c κs = lent-well (c .before) .homing .valid
 
 fill-requires : tie.Need-fill-requires
 fill-requires c κs = search needs
@@ -72,7 +72,7 @@ returns-2 c =
     let d = c .before .before .before .before .before .before .before .before .before .before .before .before in
     let s = begun d in
     make-empty (s .args .parameters) (fileOf s) unpooled _ _ _
-    (lent-well d .homing .signing .valid)
+    (lent-well d .homing .valid)
     (unlent-facts _ _ _ (none d) .1)
     (c .before .before .before .before .before .before .before .before .before .fill .ensures ∙ ap (replicate {A = ℕ} (length (now (s .args .separators)))) (c .before .before .before .before .before .before .before .before .before .before .top-of .ensures))
     (c .before .before .before .before .clear .ensures .0)

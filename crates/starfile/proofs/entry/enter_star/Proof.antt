@@ -9,7 +9,7 @@ use Rattle.placement.specs.Hash.{lent}
 use Rattle.calls.specs.Answers.{Pool, placed, refusedBy, pooled, cleared}
 use Rattle.calls.specs.Calls.{enterOn, enteredAgain, named, placeFor}
 use Rattle.starfile.proofs.Outcomes.{entry-small, entered-is}
-use Rattle.starfile.proofs.Pools.{prepared, unheld}
+use Rattle.starfile.proofs.Pools.{prepared, tabled, unheld}
 use borrow.Author.Needs.{needs}
 use Rattle.starfile.proofs.entry.enter_star.Statement.{statement}
 use Rattle.starfile.proofs.entry.enter_star.Tie as tie
@@ -20,16 +20,16 @@ fileOf s = lent (now (s .args .separators)) (now (s .args .numbers)) (now (s .ar
 abbrev poolOf : tie.Start → Pool
 poolOf s = pooled (now (s .args .poolnumbers)) (now (s .args .poolwords))
 
-multipliers-requires : tie.Need-multipliers-requires
-multipliers-requires c κs = search needs
+first-multipliers-requires : tie.Need-first-multipliers-requires
+first-multipliers-requires c κs = tabled (c .before .before .before .before .before .pre .0)
 
 find-requires : tie.Need-find-requires
 find-requires c κs =
     let pre = c .before .before .before .before .before .before .before .before .before .before .pre in
-    (prepared (c .before .before .before .before .multipliers .ensures) (pre .0), pre .1 .1)
+    (prepared (c .before .before .before .before .first-multipliers .ensures) (pre .0), pre .1 .1)
 
 cast-page : tie.Need-cast-page
-cast-page c = omega (arith, c .before .find .ensures .pageMost, limits _ (c .before .before .before .before .before .before .before .before .before .before .before .before .pre .0 .homing .signing .valid) .pages-most)
+cast-page c = omega (arith, c .before .find .ensures .pageMost, limits _ (c .before .before .before .before .before .before .before .before .before .before .before .before .pre .0 .homing .valid) .pages-most)
 
 same-length : tie.Need-same-length
 same-length c = search needs
@@ -92,7 +92,7 @@ enter-stretch-requires c κs =
     let s = c .before .before .before .before .before .before .before .before .before .before .before .before .before .before .before .before .before .before .before .before .before in
     let found = c .before .before .before .before .before .before .before .before .before .before .find .ensures in
     let opened = not-false _ (c .before .before .before .before .before .before .before .if1 .left) in (
-      prepared (c .before .before .before .before .before .before .before .before .before .before .before .before .before .before .before .multipliers .ensures) (s .pre .0),
+      prepared (c .before .before .before .before .before .before .before .before .before .before .before .before .before .before .before .first-multipliers .ensures) (s .pre .0),
       (
         s .pre .1 .0,
         (
@@ -106,7 +106,7 @@ entry-placed-requires : tie.Need-entry-placed-requires
 entry-placed-requires c κs =
     let s = c .before .before .before .before .before .before .before .before .before .before .before .before .before .before .before .before .before .before .before .before .before .before .before .before .before .before .before .before .before .before .before .before in
     rw (c .before .before .before .before .before .before .before .before .before .before .enter-stretch .ensures .0)
-    (entry-small (s .args .parameters) (s .args .growth) (fileOf s) (s .pre .0 .homing .signing .valid) (s .pre .0 .homing .growth) (s .args .number) (s .args .word))
+    (entry-small (s .args .parameters) (s .args .growth) (fileOf s) (s .pre .0 .homing .valid) (s .pre .0 .homing .growth) (s .args .number) (s .args .word))
 
 same-length-10 : tie.Need-same-length-10
 same-length-10 c = search needs
@@ -142,7 +142,7 @@ pub enter-star-spec : {M : Type 1} → statement M
 enter-star-spec =
     tie.close
     (tie.spec
-    multipliers-requires
+    first-multipliers-requires
     find-requires
     cast-page
     same-length

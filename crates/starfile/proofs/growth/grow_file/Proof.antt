@@ -10,7 +10,7 @@ use Rattle.placement.specs.Hash.{lent}
 use Rattle.calls.specs.Answers.{Pool, placed, refusedBy, pooled, cleared}
 use Rattle.hashing.specs.Geometry.{highest, pageCount, grown}
 use Rattle.starfile.proofs.Outcomes.{growth-small, grown-is}
-use Rattle.starfile.proofs.Pools.{prepared}
+use Rattle.starfile.proofs.Pools.{prepared, tabled}
 use borrow.Author.Needs.{needs}
 use Rattle.starfile.proofs.growth.grow_file.Statement.{statement}
 use Rattle.starfile.proofs.growth.grow_file.Tie as tie
@@ -30,12 +30,12 @@ unfolding highest
 page-is c =
     let s = c .before .before .before .before .before .before in
     let w = growth-within (s .args .parameters) (s .args .growth) (s .pre .0 .homing .growth) in
-    omega (arith, c .highest-address .ensures, spread _ _ (limits _ (s .pre .0 .homing .signing .valid)) w .pages-low)
+    omega (arith, c .highest-address .ensures, spread _ _ (limits _ (s .pre .0 .homing .valid)) w .pages-low)
 
 pages-most : (c : tie.After-highest-address) → pageCount (c .before .before .before .before .before .before .args .parameters) (c .before .before .before .before .before .before .args .growth) ≤ 1024
 pages-most c =
     let s = c .before .before .before .before .before .before in
-    omega (arith, growth-within (s .args .parameters) (s .args .growth) (s .pre .0 .homing .growth) .pages-fit, limits _ (s .pre .0 .homing .signing .valid) .pages-most)
+    omega (arith, growth-within (s .args .parameters) (s .args .growth) (s .pre .0 .homing .growth) .pages-fit, limits _ (s .pre .0 .homing .valid) .pages-most)
 
 add-page : tie.Need-add-page
 add-page c = omega (arith, page-is c, pages-most c)
@@ -51,8 +51,8 @@ returns c =
     let full = eq-eqb _ _ last in
     rw (c .unmoved .ensures) (record { answers = rw full; files = rw full }, rw full)
 
-multipliers-requires : tie.Need-multipliers-requires
-multipliers-requires c κs = search needs
+first-multipliers-requires : tie.Need-first-multipliers-requires
+first-multipliers-requires c κs = tabled (c .before .before .before .before .before .before .before .before .pre .0)
 
 -- past the first test there is a further page
 room : (c : tie.Else1) → pageCount (c .before .before .before .before .before .before .before .before .args .parameters) (c .before .before .before .before .before .before .before .before .args .growth) < c .before .before .before .before .before .before .before .before .args .parameters .pages
@@ -63,12 +63,12 @@ room c =
 grown-requires : tie.Need-grown-requires
 grown-requires c κs =
     let s = c .before .before .before .before .before .before .before .before .before in
-    (s .pre .0 .homing .signing .valid, (s .pre .0 .homing .growth, room (c .before)))
+    (s .pre .0 .homing .valid, (s .pre .0 .homing .growth, room (c .before)))
 
 regrow-requires : tie.Need-regrow-requires
 regrow-requires c κs =
     let s = c .before .before .before .before .before .before .before .before .before .before .before .before .before .before .before .before in (
-      prepared (c .before .before .before .before .before .before .before .multipliers .ensures) (s .pre .0),
+      prepared (c .before .before .before .before .before .before .before .first-multipliers .ensures) (s .pre .0),
       (s .pre .1, room (c .before .before .before .before .before .before .before .before)),
     )
 
@@ -76,7 +76,7 @@ grown-by-requires : tie.Need-grown-by-requires
 grown-by-requires c κs =
     let s = c .before .before .before .before .before .before .before .before .before .before .before .before .before .before .before .before .before .before .before .before .before .before .before .before .before .before .before in
     rw (c .before .before .before .before .before .before .before .before .before .before .regrow .ensures .0)
-    (growth-small (s .args .parameters) (s .args .growth) (fileOf s) (s .pre .0 .homing .signing .valid) (s .pre .0 .homing .growth) (grown (s .args .parameters) (s .args .growth)))
+    (growth-small (s .args .parameters) (s .args .growth) (fileOf s) (s .pre .0 .homing .valid) (s .pre .0 .homing .growth) (grown (s .args .parameters) (s .args .growth)))
 
 same-length : tie.Need-same-length
 same-length c = search needs
@@ -114,7 +114,7 @@ grow-file-spec =
     add-page
     unmoved-requires
     returns
-    multipliers-requires
+    first-multipliers-requires
     grown-requires
     regrow-requires
     grown-by-requires

@@ -57,7 +57,7 @@ fits-words : (c : tie.Else1) → c .before .before .named-page .result * begun c
 fits-words c = page-fits _ _ _ (inside c) (begun c .pre .0 .sized .ofWords)
 
 load-requires : tie.Need-load-requires
-load-requires c κs = (limits _ (begun c .pre .0 .homing .signing .valid) .places-most, (fits c, fits-words c))
+load-requires c κs = (limits _ (begun c .pre .0 .homing .valid) .places-most, (fits c, fits-words c))
 
 page-sound-requires : tie.Need-page-sound-requires
 page-sound-requires c κs =
@@ -79,7 +79,7 @@ returns-2 c =
     (in-file _ _ _ _ _ (inside (c .before .before .before .before .before)) (sym (told (c .before .before .before)) ∙ not-true _ (c .before .if2 .taken))))
 
 search-requires : tie.Need-search-requires
-search-requires c κs = limits _ (c .before .before .before .before .before .before .before .before .before .before .before .pre .0 .homing .signing .valid) .places-most
+search-requires c κs = limits _ (c .before .before .before .before .before .before .before .before .before .before .before .pre .0 .homing .valid) .places-most
 
 -- what the search of the page tells of the lent lists
 abbrev tested : tie.After-search → tie.After-page-sound
@@ -94,7 +94,7 @@ place-below c =
     place-most (begun e .args .geometry .parameters) (fileOf (begun e)) (begun e .args .number) _ _ _ (fits e) (c .before .before .before .before .load .ensures) (c .search .ensures)
 
 cast-place : tie.Need-cast-place
-cast-place c = omega (arith, place-below c, limits _ (begun (tested c .before .before) .pre .0 .homing .signing .valid) .places-most)
+cast-place c = omega (arith, place-below c, limits _ (begun (tested c .before .before) .pre .0 .homing .valid) .places-most)
 
 returns-3 : tie.Need-returns-3
 returns-3 c =
@@ -116,16 +116,16 @@ within c =
     at-below (begun e .args .geometry .parameters) (fileOf (begun e)) (begun e .args .number) _ _ _ (fits e) (c .before .before .before .before .before .before .load .ensures) (c .before .before .search .ensures) (held c)
 
 mul-t13 : tie.Need-mul-t13
-mul-t13 c = omega (arith, fits (tested (c .before .before) .before .before), items-most _ (c .before .before .before .before .before .before .before .before .before .before .before .before .before .before .pre .0 .homing .signing .valid), c .before .before .before .before .before .before .before .before .before .before .before .before .before .before .pre .0 .sized .ofNumbers)
+mul-t13 c = omega (arith, fits (tested (c .before .before) .before .before), items-most _ (c .before .before .before .before .before .before .before .before .before .before .before .before .before .before .pre .0 .homing .valid), c .before .before .before .before .before .before .before .before .before .before .before .before .before .before .pre .0 .sized .ofNumbers)
 
 add-t17 : tie.Need-add-t17
-add-t17 c = omega (arith, fits (tested (c .before .before) .before .before), items-most _ (c .before .before .before .before .before .before .before .before .before .before .before .before .before .before .pre .0 .homing .signing .valid), c .before .before .before .before .before .before .before .before .before .before .before .before .before .before .pre .0 .sized .ofNumbers, within c)
+add-t17 c = omega (arith, fits (tested (c .before .before) .before .before), items-most _ (c .before .before .before .before .before .before .before .before .before .before .before .before .before .before .pre .0 .homing .valid), c .before .before .before .before .before .before .before .before .before .before .before .before .before .before .pre .0 .sized .ofNumbers, within c)
 
 mul-t18 : tie.Need-mul-t18
-mul-t18 c = omega (arith, within c, limits _ (c .before .before .before .before .before .before .before .before .before .before .before .before .before .before .pre .0 .homing .signing .valid) .places-most)
+mul-t18 c = omega (arith, within c, limits _ (c .before .before .before .before .before .before .before .before .before .before .before .before .before .before .pre .0 .homing .valid) .places-most)
 
 element-copy-out-t21 : tie.Need-element-copy-out-t21
-element-copy-out-t21 c = omega (arith, within c, limits _ (c .before .before .before .before .before .before .before .before .before .before .before .before .before .before .pre .0 .homing .signing .valid) .places-most)
+element-copy-out-t21 c = omega (arith, within c, limits _ (c .before .before .before .before .before .before .before .before .before .before .before .before .before .before .pre .0 .homing .valid) .places-most)
 
 returns-4 : tie.Need-returns-4
 returns-4 c =

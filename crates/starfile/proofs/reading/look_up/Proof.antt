@@ -12,7 +12,7 @@ use Rattle.calls.specs.Answers.{After, sought, refusedBy}
 use Rattle.calls.specs.Lent.{Admitted}
 use Rattle.calls.specs.Calls.{unlent, lookUpOf, lookedUp, fileFits}
 use Rattle.calls.proofs.Refusals.{turned-away-first, refusal-is, none-is, admitted}
-use Rattle.starfile.proofs.Pools.{prepared}
+use Rattle.starfile.proofs.Pools.{prepared, tabled}
 use borrow.Author.Needs.{needs}
 use Rattle.starfile.proofs.reading.look_up.Statement.{statement}
 use Rattle.starfile.proofs.reading.look_up.Tie as tie
@@ -64,16 +64,16 @@ told c = c .before .before
 numbered : (c : tie.Else1) → validNumber (begun (told c) .args .number) ≡ true
 numbered c = passed _ _ (c .before .number-valid .ensures) (c .if1 .left)
 
-multipliers-requires : tie.Need-multipliers-requires
-multipliers-requires c κs = search needs
+first-multipliers-requires : tie.Need-first-multipliers-requires
+first-multipliers-requires c κs = tabled (lent-well (told c))
 
 find-requires : tie.Need-find-requires
 find-requires c κs =
     let d = c .before .before in
-    (prepared (c .before .multipliers .ensures) (lent-well (told d)), numbered d)
+    (prepared (c .before .first-multipliers .ensures) (lent-well (told d)), numbered d)
 
 cast-page : tie.Need-cast-page
-cast-page c = omega (arith, c .before .find .ensures .pageMost, limits _ (lent-well (told (c .before .before .before .before)) .homing .signing .valid) .pages-most)
+cast-page c = omega (arith, c .before .find .ensures .pageMost, limits _ (lent-well (told (c .before .before .before .before)) .homing .valid) .pages-most)
 
 returns-3 : tie.Need-returns-3
 unfolding lookUpOf lookedUp sought refusedBy
@@ -113,7 +113,7 @@ look-up-spec =
     enum-told
     number-valid-requires
     returns-2
-    multipliers-requires
+    first-multipliers-requires
     find-requires
     cast-page
     returns-3

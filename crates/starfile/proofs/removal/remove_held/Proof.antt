@@ -9,7 +9,7 @@ use Rattle.placement.specs.Hash.{lent}
 use Rattle.calls.specs.Answers.{Pool, placed, refusedBy, pooled, cleared}
 use Rattle.calls.specs.Calls.{removeOn, named, placeFor}
 use Rattle.starfile.proofs.Outcomes.{removal-small, removed-is}
-use Rattle.starfile.proofs.Pools.{prepared}
+use Rattle.starfile.proofs.Pools.{prepared, tabled}
 use borrow.Author.Needs.{needs}
 use Rattle.starfile.proofs.removal.remove_held.Statement.{statement}
 use Rattle.starfile.proofs.removal.remove_held.Tie as tie
@@ -20,16 +20,16 @@ fileOf s = lent (now (s .args .separators)) (now (s .args .numbers)) (now (s .ar
 abbrev poolOf : tie.Start → Pool
 poolOf s = pooled (now (s .args .poolnumbers)) (now (s .args .poolwords))
 
-multipliers-requires : tie.Need-multipliers-requires
-multipliers-requires c κs = search needs
+first-multipliers-requires : tie.Need-first-multipliers-requires
+first-multipliers-requires c κs = tabled (c .before .before .before .before .before .pre .0)
 
 find-requires : tie.Need-find-requires
 find-requires c κs =
     let pre = c .before .before .before .before .before .before .before .before .before .before .pre in
-    (prepared (c .before .before .before .before .multipliers .ensures) (pre .0), pre .1 .1)
+    (prepared (c .before .before .before .before .first-multipliers .ensures) (pre .0), pre .1 .1)
 
 cast-page : tie.Need-cast-page
-cast-page c = omega (arith, c .before .find .ensures .pageMost, limits _ (c .before .before .before .before .before .before .before .before .before .before .before .before .pre .0 .homing .signing .valid) .pages-most)
+cast-page c = omega (arith, c .before .find .ensures .pageMost, limits _ (c .before .before .before .before .before .before .before .before .before .before .before .before .pre .0 .homing .valid) .pages-most)
 
 same-length : tie.Need-same-length
 same-length c = search needs
@@ -68,7 +68,7 @@ returns-2 c =
 remove-star-requires : tie.Need-remove-star-requires
 remove-star-requires c κs =
     let s = c .before .before .before .before .before .before .before .before .before .before .before .before .before .before .before .before .before .before .before .before .before .before in (
-      prepared (c .before .before .before .before .before .before .before .before .before .before .before .before .before .before .before .before .multipliers .ensures) (s .pre .0),
+      prepared (c .before .before .before .before .before .before .before .before .before .before .before .before .before .before .before .before .first-multipliers .ensures) (s .pre .0),
       s .pre .1 .0,
     )
 
@@ -76,7 +76,7 @@ replaced-placed-requires : tie.Need-replaced-placed-requires
 replaced-placed-requires c κs =
     let s = c .before .before .before .before .before .before .before .before .before .before .before .before .before .before .before .before .before .before .before .before .before .before .before .before .before .before .before .before .before .before .before .before .before in
     rw (c .before .before .before .before .before .before .before .before .before .before .remove-star .ensures .0)
-    (removal-small (s .args .parameters) (s .args .growth) (fileOf s) (s .pre .0 .homing .signing .valid) (s .pre .0 .homing .growth) (s .args .number))
+    (removal-small (s .args .parameters) (s .args .growth) (fileOf s) (s .pre .0 .homing .valid) (s .pre .0 .homing .growth) (s .args .number))
 
 same-length-7 : tie.Need-same-length-7
 same-length-7 c = search needs
@@ -112,7 +112,7 @@ pub remove-held-spec : {M : Type 1} → statement M
 remove-held-spec =
     tie.close
     (tie.spec
-    multipliers-requires
+    first-multipliers-requires
     find-requires
     cast-page
     same-length

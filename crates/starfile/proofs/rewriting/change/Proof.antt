@@ -13,7 +13,7 @@ use Rattle.calls.specs.Answers.{placed, refusedBy}
 use Rattle.calls.specs.Lent.{Admitted}
 use Rattle.calls.specs.Calls.{unlent, changeOf, changeOn, fileFits}
 use Rattle.calls.proofs.Refusals.{turned-away-first, refusal-is, none-is, admitted, items-most, leaves}
-use Rattle.starfile.proofs.Pools.{prepared}
+use Rattle.starfile.proofs.Pools.{prepared, tabled}
 use borrow.Author.Needs.{needs}
 use Rattle.starfile.proofs.rewriting.change.Statement.{statement}
 use Rattle.starfile.proofs.rewriting.change.Tie as tie
@@ -82,16 +82,16 @@ numbered c = passed _ _ (c .before .before .before .number-valid .ensures) (c .b
 positioned : (c : tie.Else2) → validPosition (begun (told c) .args .position) ≡ true
 positioned c = passed _ _ (c .before .position-valid .ensures) (c .if2 .left)
 
-multipliers-requires : tie.Need-multipliers-requires
-multipliers-requires c κs = search needs
+first-multipliers-requires : tie.Need-first-multipliers-requires
+first-multipliers-requires c κs = tabled (lent-well (told c))
 
 find-requires : tie.Need-find-requires
 find-requires c κs =
     let d = c .before .before .before in
-    (prepared (c .before .before .multipliers .ensures) (lent-well (told d)), numbered d)
+    (prepared (c .before .before .first-multipliers .ensures) (lent-well (told d)), numbered d)
 
 cast-page : tie.Need-cast-page
-cast-page c = omega (arith, c .before .find .ensures .pageMost, limits _ (lent-well (told (c .before .before .before .before .before)) .homing .signing .valid) .pages-most)
+cast-page c = omega (arith, c .before .find .ensures .pageMost, limits _ (lent-well (told (c .before .before .before .before .before)) .homing .valid) .pages-most)
 
 same-length : tie.Need-same-length
 same-length c = search needs
@@ -123,7 +123,7 @@ held : (c : tie.After-pack) → c .before .before .before .before .before .befor
 held c = c .before .before .before .before .before .before .find .ensures .itemBelow (not-false _ (c .before .if4 .left))
 
 mul-words : tie.Need-mul-words
-mul-words c = omega (arith, held c, items-most _ (lent-well (told (c .before .before .before .before .before .before .before .before .before .before)) .homing .signing .valid))
+mul-words c = omega (arith, held c, items-most _ (lent-well (told (c .before .before .before .before .before .before .before .before .before .before)) .homing .valid))
 
 slice-write-words : tie.Need-slice-write-words
 slice-write-words c = omega (arith, held c, lent-well (told (c .before .before .before .before .before .before .before .before .before .before)) .sized .ofWords)
@@ -154,7 +154,7 @@ change-spec =
     returns-2
     position-valid-requires
     returns-3
-    multipliers-requires
+    first-multipliers-requires
     find-requires
     cast-page
     same-length
