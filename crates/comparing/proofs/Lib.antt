@@ -3,3 +3,4 @@ pub mod Alike
 pub mod Planned
 pub mod Accepting
 pub mod Verdicts
+pub mod Raising

@@ -1,2 +1,3 @@
 pub mod Spots
 pub mod Verdicts
+pub mod Raising
