@@ -4,3 +4,4 @@ pub mod Planned
 pub mod Accepting
 pub mod Verdicts
 pub mod Raising
+pub mod Counters

@@ -179,7 +179,7 @@ module _ (ok : ℕ → Bool) (H : Hash) (M : ℕ) (f : File) (sized : Sized (H .
   abbrev here : ℕ → Star → Bool
   here p s = counted H (f .separators) p (first H 0 (f .separators) (s .number)) (s .number)
 
-  count-page : (p q : ℕ) → q < M → countOf H f p q ≡ length (filter (here p) (starsAt (H .room) f q))
+  count-page : (p q : ℕ) → q < M → countOf H (f .separators) (f .numbers) p q ≡ length (filter (here p) (starsAt (H .room) f q))
   unfolding countOf starsAt
   count-page p q h =
       count-stars (counted H (f .separators) p q) (part (H .room) q (f .numbers)) (part (H .room) q (f .words))
@@ -188,13 +188,13 @@ module _ (ok : ℕ → Bool) (H : Hash) (M : ℕ) (f : File) (sized : Sized (H .
       (filter-ext-on (λ (s : Star). counted H (f .separators) p q (s .number)) (here p) (starsOf (part (H .room) q (f .numbers)) (part (H .room) q (f .words)))
       (λ s m. ap (λ (r : ℕ). counted H (f .separators) p r (s .number)) (sym (all q (omega arith) (omega arith) .here s m))))
 
-  count-pages : (p n : ℕ) → n ≤ M → countTo H f p n ≡ length (filter (here p) (gathered (H .room) f 0 n))
+  count-pages : (p n : ℕ) → n ≤ M → countTo H (f .separators) (f .numbers) p n ≡ length (filter (here p) (gathered (H .room) f 0 n))
   unfolding countTo gathered filter
   count-pages p zero h = refl
   count-pages p (suc n) h =
       rw (count-pages p n (omega arith), count-page p n h) (sym (count-next (here p) (H .room) f n))
 
-  count-within : (p : ℕ) → p < M → countTo H f p M ≡ length (filter (within H 0 (f .separators) p) G)
+  count-within : (p : ℕ) → p < M → countTo H (f .separators) (f .numbers) p M ≡ length (filter (within H 0 (f .separators) p) G)
   count-within p h =
       count-pages p M (le-refl M)
       ∙ ap length (filter-ext (here p) (within H 0 (f .separators) p) (λ s. sym (within-counted H (f .separators) p (s .number) (omega (arith, sized .ofSeparators)))) G)
@@ -222,22 +222,22 @@ module _ (ok : ℕ → Bool) (H : Hash) (M : ℕ) (f : File) (sized : Sized (H .
       same : (i : ℕ) → i < M → getD (pagesAt (H .room) f 0 M) i blank ≡ getD (pages H 0 M G) i blank
       same i h = getD-pagesAt (H .room) f 0 M i h ∙ rw (zero-add i) (λ j. record { separator = separator-same i j; stars = stars-same i h j })
 
-  none-clean : ((p : ℕ) → p < M → raisable H M f p ≡ false) → Clean ok H M f
+  none-clean : ((p : ℕ) → p < M → raisable H M (f .separators) (f .numbers) p ≡ false) → Clean ok H M f
   unfolding raisable
   none-clean none = clean-said ok H f M sized all (pages-said rule)
     where
       each : AtEach H 0 (f .separators) G
       each i k h =
           let inside : i < M = omega (arith, sized .ofSeparators) in
-          let more : leb (countTo H f i M) (H .room) ≡ false = rw (lt-ltb (getD (f .separators) i 0) (H .top) h) at (none i inside) in
-          rw (← count-within i inside) (leb-false (countTo H f i M) (H .room) more)
+          let more : leb (countTo H (f .separators) (f .numbers) i M) (H .room) ≡ false = rw (lt-ltb (getD (f .separators) i 0) (H .top) h) at (none i inside) in
+          rw (← count-within i inside) (leb-false (countTo H (f .separators) (f .numbers) i M) (H .room) more)
 
       rule : separators (pages H 0 M G) ≡ f .separators
       rule =
           rw (sized .ofSeparators) at
           (unraisable-rule H 0 (f .separators) G (rw whole at (sound-holds ok H f M 0 M sized (omega arith) all)) (each-unraisable H 0 (f .separators) G each))
 
-  clean-none : Clean ok H M f → (p : ℕ) → p < M → raisable H M f p ≡ false
+  clean-none : Clean ok H M f → (p : ℕ) → p < M → raisable H M (f .separators) (f .numbers) p ≡ false
   unfolding raisable laid fileOf
   clean-none c p h = go (decLt (getD (f .separators) p 0) (H .top))
     where
@@ -247,10 +247,10 @@ module _ (ok : ℕ → Bool) (H : Hash) (M : ℕ) (f : File) (sized : Sized (H .
       each : AtEach H 0 (f .separators) G
       each = unraisable-each H 0 (f .separators) G (rw rule at (rule-unraisable H 0 M G))
 
-      go : Dec (getD (f .separators) p 0 < H .top) → ltb (getD (f .separators) p 0) (H .top) && leb (countTo H f p M) (H .room) ≡ false
-      go (yes d) = rw (lt-ltb (getD (f .separators) p 0) (H .top) d) (lt-leb (countTo H f p M) (H .room) (rw (count-within p h) (each p (omega (arith, sized .ofSeparators)) d)))
+      go : Dec (getD (f .separators) p 0 < H .top) → ltb (getD (f .separators) p 0) (H .top) && leb (countTo H (f .separators) (f .numbers) p M) (H .room) ≡ false
+      go (yes d) = rw (lt-ltb (getD (f .separators) p 0) (H .top) d) (lt-leb (countTo H (f .separators) (f .numbers) p M) (H .room) (rw (count-within p h) (each p (omega (arith, sized .ofSeparators)) d)))
       go (no d) = rw (le-ltb (getD (f .separators) p 0) (H .top) (omega arith))
 
   -- "if all pages are sound, the file is clean exactly if .."
-  pub clean-exactly : ((p : ℕ) → p < M → raisable H M f p ≡ false) ↔ Clean ok H M f
+  pub clean-exactly : ((p : ℕ) → p < M → raisable H M (f .separators) (f .numbers) p ≡ false) ↔ Clean ok H M f
   clean-exactly = (none-clean, clean-none)
