@@ -17,10 +17,14 @@ use Rattle.placement.proofs.Composition.{length-pages}
 use Rattle.placement.proofs.Standing.{length-separators}
 use Rattle.placement.proofs.Writing.{Roomy, length-column}
 use Rattle.placement.proofs.Files.{roomy-pages, sized-replaced}
-use Rattle.reach.specs.Reach.{firstUnsound}
+use Rattle.placement.proofs.Sound.{sound-facts}
+use Rattle.reach.specs.Reach.{firstSuch, firstUnsound}
+use Rattle.reach.proofs.Search.{such}
+use Rattle.comparing.specs.Raising.{raisable}
 use Rattle.comparing.specs.Spots.{spotIn, firstSpot, ruled}
 use Rattle.comparing.proofs.Alike.{none-such, no-spot, alike-by-spot, alike-same}
 use Rattle.comparing.proofs.Planned.{all-sound, written-whole}
+use Rattle.comparing.proofs.Raising.{clean-exactly}
 
 module _ (b M : ℕ) (f : File) (cs : List Contents) (sized : Sized b M f) (roomy : Roomy b cs) (count : length cs ≡ M) where
   column-written : (g : Star → ℕ) (l : List ℕ) → length l ≡ M * b → written (0 * b) (column b g cs) l ≡ column b g cs
@@ -77,3 +81,13 @@ module _ (p : Parameters) (g : Growth) (f : File) (sized : Sized (p .places) (p 
   pub accepts-clean : ((firstUnsound p g f 0 (p .pages) ≡ p .pages) × (firstSpot p f (ruled p g f) ≡ p .pages * suc (p .places)))
       ↔ Clean validWord (hashOf p g) (p .pages) f
   accepts-clean = (λ e. accepted-clean (e .0) (e .1), clean-accepted)
+
+  -- nor does one where no separator could be one greater
+  pub none-raisable : firstUnsound p g f 0 (p .pages) ≡ p .pages → firstSuch (raisable (hashOf p g) (p .pages) (f .separators) (f .numbers)) 0 (p .pages) ≡ p .pages
+      → firstSpot p f (ruled p g f) ≡ p .pages * suc (p .places)
+  unfolding hashOf soundAt
+  none-raisable u e =
+      clean-accepted
+      (clean-exactly validWord (hashOf p g) (p .pages) f sized (λ q h k. sound-facts validWord (hashOf p g) f q (all-sound p g f u q (omega arith))) .0
+      (λ q h. such (raisable (hashOf p g) (p .pages) (f .separators) (f .numbers)) 0 (p .pages) .before q (omega arith) (rw e h)))
+      .1

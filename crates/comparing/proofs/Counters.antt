@@ -8,12 +8,16 @@ use native.Mathlib.Numerals.{add-one}
 use native.Mathlib.Decide.{decLe}
 use native.Mathlib.Omega.{arith}
 use lib.Dec.{leb, ltb, eqb}
-use lib.ListN.{length, getD, set, take, drop, length-set, length-drop}
+use lib.ListN.{length, getD, set, take, drop, length-set, length-drop, length-map}
 use lib.Seq.{getD-set-same, getD-set-other, getD-drop}
 use borrow.Author.Tests.{leb-true, le-leb, lt-leb, lt-ltb, le-ltb, eq-eqb, ne-eqb, eqb-true, eqb-false}
+use Rattle.hashing.specs.declared.Geometry.{Geometry}
+use Rattle.hashing.specs.Generator.{topOf}
 use Rattle.pages.specs.Page.{part}
 use Rattle.placement.specs.Rule.{Hash, keep, filter}
-use Rattle.comparing.specs.Raising.{passed, counted, countedItem, countOf, countTo, one, Added}
+use Rattle.placement.specs.Hash.{hashOf, homeIn, homesOf, homeUnder}
+use Rattle.comparing.specs.Raising.{passed, counted, countedItem, countOf, countTo, rises, raisable, hashUnder, firstRaisable, firstRising, one, Counts, Added}
+use Rattle.comparing.proofs.Alike.{such-same}
 
 one-most : (t : Bool) → one t ≤ 1
 one-most true = omega arith
@@ -146,6 +150,17 @@ module _ (H : Hash) (vs : List ℕ) (k : ℕ) where
 
 -- ---- the numbers of a page
 
+-- a star's home among those of a file's numbers
+pub home-item : (g : Geometry) (ns : List ℕ) (j : ℕ) → (getD ns j 0 ≡ 0 → ⊥) → getD (homesOf (g .parameters) (g .growth) ns) j 0 ≡ homeUnder g (getD ns j 0)
+unfolding homesOf
+home-item g [] j h = absurd (h refl)
+home-item g (n ∷ ns) zero h = rw (ne-eqb n 0 h)
+home-item g (n ∷ ns) (suc j) h = home-item g ns j h
+
+pub homes-count : (g : Geometry) (ns : List ℕ) → length (homesOf (g .parameters) (g .growth) ns) ≡ length ns
+unfolding homesOf
+homes-count g ns = length-map ns (homeIn (g .parameters) (g .growth))
+
 count-taken : (q : ℕ → Bool) (l : List ℕ) (i : ℕ) → i < length l → length (filter q (take (suc i) l)) ≡ length (filter q (take i l)) + one (q (getD l i 0))
 unfolding filter
 count-taken q [] i h = absurd (omega arith)
@@ -228,8 +243,44 @@ module _ (H : Hash) (vs ns : List ℕ) (page : ℕ) where
   tallied-fits i n entry exit c most p h =
       omega (arith, c .added .each p h, most p h, taken-most (countedItem H vs p page) (drop (page * H .room) ns) i)
 
+  pub tallied-counts : (i n m : ℕ) (entry exit : List ℕ) → Tallied i entry exit → Counts n entry → page < 1024 → n + i < m → Counts m (set exit page (getD exit page 0 + 1))
+  tallied-counts i n m entry exit c most inside h =
+      let a = added-one exit page (c .added .size) inside in
+      (a .size, λ p k. omega (arith, a .each p k, one-most (eqb page p), tallied-fits i n entry exit c (most .1) p k))
+
   pub tallied-all : (i : ℕ) (entry exit : List ℕ) → Tallied i entry exit → H .room ≤ i → Added (λ p. countOf H vs ns p page) entry exit
   unfolding countOf part
   tallied-all i entry exit c h =
       let e : H .room ≡ i = omega (arith, c .upto) in
       added-same (some i) (some (H .room)) entry exit (c .added) (λ p. ap (λ (j : ℕ). some j p) e)
+
+-- ---- all pages
+
+pub pages-none : (H : Hash) (vs ns l : List ℕ) → length l ≡ 1024 → Added (λ p. countTo H vs ns p 0) l l
+unfolding countTo
+pages-none H vs ns l e = added-none _ l e (λ p. refl)
+
+module _ (H : Hash) (vs ns : List ℕ) (n : ℕ) (entry exit : List ℕ) (c : Added (λ p. countTo H vs ns p n) entry exit) where
+  pub pages-next : (after : List ℕ) → Added (λ p. countOf H vs ns p n) exit after → Added (λ p. countTo H vs ns p (n + 1)) entry after
+  unfolding countTo
+  pages-next after a =
+      added-then (λ p. countTo H vs ns p n) (λ p. countOf H vs ns p n) (λ p. countTo H vs ns p (n + 1)) entry exit after c a (λ p. rw (add-one n))
+
+  pub pages-counts : (m : ℕ) → Counts 0 entry → n * H .room ≤ m → Counts m exit
+  pages-counts m none h = (c .size, λ p k. omega (arith, c .each p k, none .1 p k, count-most H vs ns p n))
+
+  pub pages-all : (m : ℕ) → n ≤ m → m ≤ n → Added (λ p. countTo H vs ns p m) entry exit
+  pages-all m h k =
+      let e : m ≡ n = omega arith in
+      added-same (λ p. countTo H vs ns p n) (λ p. countTo H vs ns p m) entry exit c (λ p. ap (countTo H vs ns p) e)
+
+-- the counters tell which separators could be one greater
+pub rising-raisable : (g : Geometry) (vs ns entry counts : List ℕ) → g .parameters .pages ≤ 1024 → Counts 0 entry
+    → Added (λ p. countTo (hashUnder g) vs ns p (g .parameters .pages)) entry counts → firstRising (g .parameters) vs counts ≡ firstRaisable g vs ns
+unfolding raisable hashOf
+rising-raisable g vs ns entry counts few none c =
+    such-same _ (raisable (hashUnder g) (g .parameters .pages) vs ns) 0 (g .parameters .pages)
+    (λ q h. ap (rises (topOf (g .parameters .bits)) (g .parameters .places) (getD vs q 0)) (counter q (omega arith)))
+  where
+    counter : (q : ℕ) → q < 1024 → getD counts q 0 ≡ countTo (hashUnder g) vs ns q (g .parameters .pages)
+    counter q h = omega (arith, c .each q h, none .1 q h)
