@@ -3,7 +3,7 @@ use mathlib.Core.Path.{_≡_, sym, ap, _∙_}
 use mathlib.Core.Bool.{not}
 use mathlib.Core.List.{List}
 use mathlib.Core.Logic.{_↔_}
-use Prim.Native.Nat.{ℕ, suc, _*_}
+use Prim.Native.Nat.{ℕ, suc, _*_, _≤_}
 use native.Mathlib.Nat.{zero-add, zero-mul}
 use native.Mathlib.Omega.{arith}
 use lib.ListN.{length}
@@ -82,12 +82,13 @@ module _ (p : Parameters) (g : Growth) (f : File) (sized : Sized (p .places) (p 
       ↔ Clean validWord (hashOf p g) (p .pages) f
   accepts-clean = (λ e. accepted-clean (e .0) (e .1), clean-accepted)
 
-  -- nor does one where no separator could be one greater
-  pub none-raisable : firstUnsound p g f 0 (p .pages) ≡ p .pages → firstSuch (raisable (hashOf p g) (p .pages) (f .separators) (f .numbers)) 0 (p .pages) ≡ p .pages
+  -- no spot differs where no separator could be one greater
+  pub none-raisable : firstUnsound p g f 0 (p .pages) ≡ p .pages
+      → (r : ℕ) → r ≡ firstSuch (raisable (hashOf p g) (p .pages) (f .separators) (f .numbers)) 0 (p .pages) → p .pages ≤ r
       → firstSpot p f (ruled p g f) ≡ p .pages * suc (p .places)
   unfolding hashOf soundAt
-  none-raisable u e =
+  none-raisable u r e h =
       clean-accepted
-      (clean-exactly validWord (hashOf p g) (p .pages) f sized (λ q h k. sound-facts validWord (hashOf p g) f q (all-sound p g f u q (omega arith))) .0
-      (λ q h. such (raisable (hashOf p g) (p .pages) (f .separators) (f .numbers)) 0 (p .pages) .before q (omega arith) (rw e h)))
+      (clean-exactly validWord (hashOf p g) (p .pages) f sized (λ q k i. sound-facts validWord (hashOf p g) f q (all-sound p g f u q (omega arith))) .0
+      (λ q k. such (raisable (hashOf p g) (p .pages) (f .separators) (f .numbers)) 0 (p .pages) .before q (omega arith) (omega (arith, e))))
       .1

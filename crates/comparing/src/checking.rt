@@ -8,6 +8,7 @@ ghost use Rattle.placement.specs.Ready.{Ready, Pooled};
 ghost use Rattle.reach.specs.Reach.{firstUnsound};
 ghost use Rattle.comparing.specs.Spots.{spotOf};
 ghost use Rattle.comparing.specs.Verdicts.{verdictFor};
+use crate::counts::first_raisable;
 use crate::search::Spot;
 use crate::search::compare;
 use hashing::Geometry;
@@ -82,6 +83,9 @@ pub fn check_file(
     let unsound = reach::survey_pages(table, geometry, separators, numbers, words, pool, 0, pages);
     if unsound < pages {
         return Verdict::Unsound(unsound);
+    }
+    if pages <= first_raisable(table, geometry, separators, numbers, pool) {
+        return Verdict::Clean;
     }
     let spot = compare_planned(table, geometry, separators, numbers, words, pool, waiting);
     if spot.page < pages {

@@ -30,8 +30,12 @@ fn count_passed(
     while next < page {
         let probed = next;
         next += 1;
-        let signature =
-            hashing::signature(table, geometry.parameters.bits, number, probed - home + 1);
+        let signature = hashing::signature(
+            table,
+            geometry.parameters.bits,
+            number,
+            probed - home + 1,
+        );
         if signature == separators[probed] as u32 {
             counts[probed] += 1;
         }
