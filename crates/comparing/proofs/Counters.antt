@@ -1,16 +1,16 @@
 -- One counter for each page: what the loops over pages, places and passed pages add to them.
 use mathlib.Core.Path.{_≡_, refl, sym, ap, _∙_}
-use mathlib.Core.Bool.{Bool, true, false, not, cond, _&&_, _||_, and-false}
+use mathlib.Core.Bool.{Bool, true, false, not, _&&_, _||_, and-false}
 use mathlib.Core.List.{List, [], _∷_}
 use Prim.Native.Nat.{ℕ, zero, suc, _+_, _-_, _*_, _≤_, _<_}
-use native.Mathlib.Nat.{add-zero, suc-mul, le-refl}
+use native.Mathlib.Nat.{add-zero, suc-mul}
 use native.Mathlib.Numerals.{add-one}
 use native.Mathlib.Decide.{decLe}
 use native.Mathlib.Omega.{arith}
 use lib.Dec.{leb, ltb, eqb}
 use lib.ListN.{length, getD, set, take, drop, length-set, length-drop, length-map}
 use lib.Seq.{getD-set-same, getD-set-other, getD-drop}
-use borrow.Author.Tests.{leb-true, le-leb, lt-leb, lt-ltb, le-ltb, eq-eqb, ne-eqb, eqb-true, eqb-false}
+use borrow.Author.Tests.{le-leb, lt-leb, lt-ltb, le-ltb, eq-eqb, ne-eqb, eqb-true, eqb-false}
 use Rattle.hashing.specs.declared.Geometry.{Geometry}
 use Rattle.hashing.specs.Generator.{topOf}
 use Rattle.pages.specs.Page.{part}
@@ -90,13 +90,13 @@ module _ (H : Hash) (vs : List ℕ) (k : ℕ) where
       go false r = rw (passed-other p q (eqb-false q p r), none t) (omega arith)
 
   -- the pages from home up to the one before `next` are counted; none is where home is not below `page`
-  pub record Probed (page next : ℕ) (entry exit : List ℕ) : Type 0 where
+  pub record ProbesCounted (page next : ℕ) (entry exit : List ℕ) : Type 0 where
     pub low : H .home k ≤ next
     pub high : page < next → next ≡ H .home k
     pub added : Added (λ p. one (passed H vs p next k)) entry exit
 
-  pub probed-none : (page home : ℕ) (l : List ℕ) → home ≡ H .home k → length l ≡ 1024 → Probed page home l l
-  probed-none page home l e size =
+  pub probes-none : (page home : ℕ) (l : List ℕ) → home ≡ H .home k → length l ≡ 1024 → ProbesCounted page home l l
+  probes-none page home l e size =
       record {
         low = omega (arith, e);
         high = λ h. e;
@@ -107,9 +107,9 @@ module _ (H : Hash) (vs : List ℕ) (k : ℕ) where
       go p (yes d) = rw (passed-high p home d)
       go p (no d) = rw (passed-low p home (omega (arith, e)))
 
-  module _ (page next : ℕ) (entry exit : List ℕ) (c : Probed page next entry exit) where
-    pub probed-counted : next < page → page ≤ 1024 → H .signature k next ≡ getD vs next 0 → Probed page (next + 1) entry (set exit next (getD exit next 0 + 1))
-    probed-counted h m e =
+  module _ (page next : ℕ) (entry exit : List ℕ) (c : ProbesCounted page next entry exit) where
+    pub probes-counted : next < page → page ≤ 1024 → H .signature k next ≡ getD vs next 0 → ProbesCounted page (next + 1) entry (set exit next (getD exit next 0 + 1))
+    probes-counted h m e =
         record {
           low = omega (arith, c .low);
           high = λ g. absurd (omega arith);
@@ -119,8 +119,8 @@ module _ (H : Hash) (vs : List ℕ) (k : ℕ) where
               (passed-next next (c .low) true (eq-eqb (H .signature k next) (getD vs next 0) e));
         }
 
-    pub probed-skipped : next < page → (H .signature k next ≡ getD vs next 0 → ⊥) → Probed page (next + 1) entry exit
-    probed-skipped h e =
+    pub probes-skipped : next < page → (H .signature k next ≡ getD vs next 0 → ⊥) → ProbesCounted page (next + 1) entry exit
+    probes-skipped h e =
         record {
           low = omega (arith, c .low);
           high = λ g. absurd (omega arith);
@@ -129,11 +129,11 @@ module _ (H : Hash) (vs : List ℕ) (k : ℕ) where
               (λ p. passed-next next (c .low) false (ne-eqb (H .signature k next) (getD vs next 0) e) p ∙ add-zero (one (passed H vs p next k)));
         }
 
-    pub probed-fits : (n : ℕ) → ((p : ℕ) → p < 1024 → getD entry p 0 ≤ n) → (p : ℕ) → p < 1024 → getD exit p 0 ≤ n + 1
-    probed-fits n most p h = omega (arith, c .added .each p h, most p h, one-most (passed H vs p next k))
+    pub probes-fits : (n : ℕ) → ((p : ℕ) → p < 1024 → getD entry p 0 ≤ n) → (p : ℕ) → p < 1024 → getD exit p 0 ≤ n + 1
+    probes-fits n most p h = omega (arith, c .added .each p h, most p h, one-most (passed H vs p next k))
 
-    pub probed-all : page ≤ next → Added (λ p. one (passed H vs p page k)) entry exit
-    probed-all h =
+    pub probes-all : page ≤ next → Added (λ p. one (passed H vs p page k)) entry exit
+    probes-all h =
         added-same (λ p. one (passed H vs p next k)) (λ p. one (passed H vs p page k)) entry exit (c .added)
         (λ p. go p (decLe next page) (decLe page p))
       where
@@ -197,13 +197,13 @@ module _ (H : Hash) (vs ns : List ℕ) (page : ℕ) where
   some i p = length (filter (countedItem H vs p page) (take i (drop (page * H .room) ns)))
 
   -- the first i numbers of the page are counted
-  pub record Tallied (i : ℕ) (entry exit : List ℕ) : Type 0 where
+  pub record PlacesCounted (i : ℕ) (entry exit : List ℕ) : Type 0 where
     pub upto : i ≤ H .room
     pub added : Added (some i) entry exit
 
-  pub tallied-none : (l : List ℕ) → length l ≡ 1024 → Tallied 0 l l
+  pub places-none : (l : List ℕ) → length l ≡ 1024 → PlacesCounted 0 l l
   unfolding filter
-  tallied-none l e = record { upto = omega arith; added = added-none _ l e (λ p. refl) }
+  places-none l e = record { upto = omega arith; added = added-none _ l e (λ p. refl) }
 
   item-counts : (p n : ℕ) → (n ≡ 0 → ⊥) → one (countedItem H vs p page n) ≡ one (eqb page p) + one (passed H vs p page n)
   unfolding counted
@@ -213,23 +213,23 @@ module _ (H : Hash) (vs ns : List ℕ) (page : ℕ) where
       go true e = rw (passed-high H vs n p page (omega (arith, eqb-true page p e)))
       go false e = omega arith
 
-  module _ (i : ℕ) (entry exit : List ℕ) (c : Tallied i entry exit) (h : i < H .room) (long : page * H .room + i < length ns) where
+  module _ (i : ℕ) (entry exit : List ℕ) (c : PlacesCounted i entry exit) (h : i < H .room) (long : page * H .room + i < length ns) where
     some-next : (p : ℕ) → some (i + 1) p ≡ some i p + one (countedItem H vs p page (getD ns (page * H .room + i) 0))
     some-next p =
         rw (add-one i, ← getD-drop (page * H .room) ns i 0)
         (count-taken (countedItem H vs p page) (drop (page * H .room) ns) i (omega (arith, length-drop (page * H .room) ns)))
 
-    pub tallied-empty : getD ns (page * H .room + i) 0 ≡ 0 → Tallied (i + 1) entry exit
-    tallied-empty e =
+    pub places-empty : getD ns (page * H .room + i) 0 ≡ 0 → PlacesCounted (i + 1) entry exit
+    places-empty e =
         record {
           upto = omega arith;
           added = added-same (some i) (some (i + 1)) entry exit (c .added) (λ p. some-next p ∙ rw e (add-zero (some i p)));
         }
 
     -- a star: it stands on the page, and counts where it passed
-    pub tallied-star : (n : ℕ) (after : List ℕ) → n ≡ getD ns (page * H .room + i) 0 → (n ≡ 0 → ⊥) → page < 1024
-        → Added (λ p. one (passed H vs p page n)) (set exit page (getD exit page 0 + 1)) after → Tallied (i + 1) entry after
-    tallied-star n after e some-number inside a =
+    pub places-star : (n : ℕ) (after : List ℕ) → n ≡ getD ns (page * H .room + i) 0 → (n ≡ 0 → ⊥) → page < 1024
+        → Added (λ p. one (passed H vs p page n)) (set exit page (getD exit page 0 + 1)) after → PlacesCounted (i + 1) entry after
+    places-star n after e some-number inside a =
         record {
           upto = omega arith;
           added =
@@ -239,18 +239,18 @@ module _ (H : Hash) (vs ns : List ℕ) (page : ℕ) where
               (λ p. some-next p ∙ rw e);
         }
 
-  pub tallied-fits : (i n : ℕ) (entry exit : List ℕ) → Tallied i entry exit → ((p : ℕ) → p < 1024 → getD entry p 0 ≤ n) → (p : ℕ) → p < 1024 → getD exit p 0 ≤ n + i
-  tallied-fits i n entry exit c most p h =
+  pub places-fits : (i n : ℕ) (entry exit : List ℕ) → PlacesCounted i entry exit → ((p : ℕ) → p < 1024 → getD entry p 0 ≤ n) → (p : ℕ) → p < 1024 → getD exit p 0 ≤ n + i
+  places-fits i n entry exit c most p h =
       omega (arith, c .added .each p h, most p h, taken-most (countedItem H vs p page) (drop (page * H .room) ns) i)
 
-  pub tallied-counts : (i n m : ℕ) (entry exit : List ℕ) → Tallied i entry exit → Counts n entry → page < 1024 → n + i < m → Counts m (set exit page (getD exit page 0 + 1))
-  tallied-counts i n m entry exit c most inside h =
+  pub places-counts : (i n m : ℕ) (entry exit : List ℕ) → PlacesCounted i entry exit → Counts n entry → page < 1024 → n + i < m → Counts m (set exit page (getD exit page 0 + 1))
+  places-counts i n m entry exit c most inside h =
       let a = added-one exit page (c .added .size) inside in
-      (a .size, λ p k. omega (arith, a .each p k, one-most (eqb page p), tallied-fits i n entry exit c (most .1) p k))
+      (a .size, λ p k. omega (arith, a .each p k, one-most (eqb page p), places-fits i n entry exit c (most .1) p k))
 
-  pub tallied-all : (i : ℕ) (entry exit : List ℕ) → Tallied i entry exit → H .room ≤ i → Added (λ p. countOf H vs ns p page) entry exit
+  pub places-all : (i : ℕ) (entry exit : List ℕ) → PlacesCounted i entry exit → H .room ≤ i → Added (λ p. countOf H vs ns p page) entry exit
   unfolding countOf part
-  tallied-all i entry exit c h =
+  places-all i entry exit c h =
       let e : H .room ≡ i = omega (arith, c .upto) in
       added-same (some i) (some (H .room)) entry exit (c .added) (λ p. ap (λ (j : ℕ). some j p) e)
 

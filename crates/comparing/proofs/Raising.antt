@@ -1,9 +1,9 @@
 -- Sound pages are the rule's exactly if no separator could be one greater.
 use mathlib.Core.Path.{_≡_, refl, sym, ap, _∙_}
-use mathlib.Core.Bool.{Bool, true, false, not, cond, _&&_, _||_, and-false, true≢false}
-use mathlib.Core.List.{List, [], _∷_, List·Memᴰ}
+use mathlib.Core.Bool.{Bool, true, false, not, cond, _&&_, _||_, and-false}
+use mathlib.Core.List.{List, [], _∷_}
 use mathlib.Core.Logic.{_↔_}
-use Prim.Native.Nat.{ℕ, zero, suc, _+_, _*_, _≤_, _<_}
+use Prim.Native.Nat.{ℕ, zero, suc, _+_, _≤_, _<_}
 use native.Mathlib.Nat.{zero-add, add-zero, suc-add, add-suc, le-refl}
 use native.Mathlib.Numerals.{add-one}
 use native.Mathlib.Decide.{decLe, decLt}
@@ -11,20 +11,20 @@ use native.Mathlib.Omega.{arith}
 use lib.Dec.{leb, ltb, eqb}
 use lib.ListN.{length, getD, take, drop}
 use lib.Seq.{ext-getD, take-all}
-use borrow.Author.Tests.{leb-true, leb-false, ltb-true, ltb-false, le-leb, lt-leb, lt-ltb, le-ltb, eq-eqb, ne-eqb, eqb-true, eqb-false}
+use borrow.Author.Tests.{leb-false, ltb-false, le-leb, lt-leb, lt-ltb, le-ltb, eq-eqb, ne-eqb, eqb-true, eqb-false}
 use Rattle.pages.specs.Page.{part}
-use Rattle.placement.specs.Rule.{Star, Hash, Contents, keep, filter, below, staying, passing, separatorOf, contentsOf, onward, pages, first, pour, separators, blank}
+use Rattle.placement.specs.Rule.{Star, Hash, keep, filter, below, staying, passing, separatorOf, contentsOf, onward, pages, first, pour, separators, blank}
 use Rattle.placement.specs.File.{File, starsOf, starsAt, contentsAt, pagesAt, gathered, laid, fileOf, Sized, Clean}
-use Rattle.placement.proofs.Filters.{and-true, filter-ext, filter-ext-on, filter-filter, length-filter}
-use Rattle.placement.proofs.Separator.{stays, below-home, below-signature, below-mono, is-below, sep-great, sep-unique}
-use Rattle.placement.proofs.Standing.{standsAt, first-ge, first-below, first-before, page-first, length-separators}
+use Rattle.placement.proofs.Filters.{filter-ext, filter-ext-on, filter-filter}
+use Rattle.placement.proofs.Separator.{stays, below-mono, sep-great, sep-unique}
+use Rattle.placement.proofs.Standing.{standsAt, first-ge, first-below, first-before, page-first}
 use Rattle.placement.proofs.Composition.{length-pages}
 use Rattle.placement.proofs.Domination.{Holds}
 use Rattle.placement.proofs.Order.{Sorted, filter-pour, length-pour, sorted-pour}
 use Rattle.placement.proofs.Writing.{getD-separators, length-part}
 use Rattle.placement.proofs.Files.{length-pagesAt}
-use Rattle.placement.proofs.Sound.{Sound, AllSound, sound-facts, sorted-gathered, gathered-add, gathered-first, stands-gathered, sound-holds, clean-said}
-use Rattle.comparing.specs.Raising.{passed, counted, countedItem, countOf, countTo, raisable}
+use Rattle.placement.proofs.Sound.{Sound, AllSound, gathered-add, stands-gathered, sound-holds, clean-said}
+use Rattle.comparing.specs.Raising.{passed, counted, countOf, countTo, raisable}
 
 -- ---- the rule's separators are those that hold the stars and could not be one greater
 

@@ -1,4 +1,4 @@
-// A whole file checked: its pages are surveyed, planned anew and compared with the plan.
+// A whole file checked: its pages are surveyed and tested by counts; where these tell of a difference, the file is planned anew and compared.
 ghost use mathlib.Core.Path.{_≡_};
 ghost use Prim.Native.Nat.{suc, _+_, _*_, _≤_};
 ghost use lib.ListN.{length};

@@ -1,5 +1,5 @@
 -- The first i numbers of the page are counted.
-use mathlib.Core.Path.{_≡_, refl, sym, ap, _∙_}
+use mathlib.Core.Path.{refl, ap, _∙_}
 use Prim.Native.Nat.{ℕ, _+_, _-_, _*_, _≤_, _<_}
 use mathlib.Core.List.{List}
 use native.Mathlib.Nat.{suc-mul, mul-le-mul-right}
@@ -10,13 +10,13 @@ use Rattle.placement.specs.Hash.{hashOf}
 use Rattle.comparing.specs.Raising.{hashUnder}
 use Rattle.comparing.proofs.Differences.{item-within}
 use Rattle.comparing.proofs.Planned.{few-items}
-use Rattle.comparing.proofs.Counters.{Tallied, tallied-none, tallied-empty, tallied-star, tallied-fits, tallied-counts, tallied-all, home-item, homes-count}
+use Rattle.comparing.proofs.Counters.{PlacesCounted, places-none, places-empty, places-star, places-fits, places-counts, places-all, home-item, homes-count}
 use Rattle.comparing.proofs.counts.count_page.Statement.{statement}
 use Rattle.comparing.proofs.counts.count_page.Tie as tie
 
 abbrev Inv-loop : tie.InvT-loop
 Inv-loop table geometry separators numbers homes counts₀ page places first i₀ counts i =
-    (i ≤ places) × Tallied (hashUnder geometry) separators numbers page i counts₀ counts
+    (i ≤ places) × PlacesCounted (hashUnder geometry) separators numbers page i counts₀ counts
 
 abbrev μ-loop : tie.MeasureT-loop
 μ-loop table geometry separators numbers homes counts₀ page places first i₀ counts i = places - i
@@ -54,7 +54,7 @@ mul-first c =
     omega (arith, mul-le-mul-right (s .args .geometry .parameters .places) (s .pre .1 .1 .1), suc-mul (s .args .page) (s .args .geometry .parameters .places), few-items _ (s .pre .0 .signing .valid))
 
 loop-holds : tie.Need-loop-holds Inv-loop μ-loop
-loop-holds c = (omega arith, tallied-none _ _ _ _ _ (c .before .before .before .before .pre .1 .1 .0 .0))
+loop-holds c = (omega arith, places-none _ _ _ _ _ (c .before .before .before .before .pre .1 .1 .0 .0))
 
 add-number : tie.Need-add-number Inv-loop μ-loop
 add-number c = omega (arith, few c)
@@ -97,7 +97,7 @@ add-counts c =
     let s = start k in
     omega (
       arith,
-      tallied-fits _ _ _ _ _ 32768 _ _ (k .loop .inv .1) (s .pre .1 .1 .0 .1) (s .args .page) (low-page s),
+      places-fits _ _ _ _ _ 32768 _ _ (k .loop .inv .1) (s .pre .1 .1 .0 .1) (s .args .page) (low-page s),
       limits (s .args .geometry .parameters) (s .pre .0 .signing .valid) .places-most,
     )
 
@@ -113,7 +113,7 @@ count-passed-requires c κs =
       (
         (omega (arith, s .pre .1 .0 .separators, s .pre .1 .1 .1), omega (arith, low-page s)),
         (
-          tallied-counts _ _ _ _ _ 32768 65535 _ _ (k .loop .inv .1) (s .pre .1 .1 .0) (low-page s) (omega (arith, few-places)),
+          places-counts _ _ _ _ _ 32768 65535 _ _ (k .loop .inv .1) (s .pre .1 .1 .0) (low-page s) (omega (arith, few-places)),
           ap (λ (l : List ℕ). getD l (s .args .page * s .args .geometry .parameters .places + k .loop .i) 0) (s .pre .1 .0 .homes)
               ∙ home-item (s .args .geometry) (s .args .numbers .now) (s .args .page * s .args .geometry .parameters .places + k .loop .i) (c .before .before .if1 .taken),
         ),
@@ -129,7 +129,7 @@ loop-again c =
     let k = c .before .before .before .before .before .before .before in
     let s = start k in (
       omega arith,
-      tallied-star _ _ _ _ _ _ _ (k .loop .inv .1) (c .before .before .before .before .before .before .loop-test .taken) (inside (c .before .before .before .before .before .before)) _ _ refl (c .before .before .before .if1 .taken) (low-page s) (c .count-passed .ensures),
+      places-star _ _ _ _ _ _ _ (k .loop .inv .1) (c .before .before .before .before .before .before .loop-test .taken) (inside (c .before .before .before .before .before .before)) _ _ refl (c .before .before .before .if1 .taken) (low-page s) (c .count-passed .ensures),
     )
 
 loop-less-2 : tie.Need-loop-less-2 Inv-loop μ-loop
@@ -139,11 +139,11 @@ loop-again-2 : tie.Need-loop-again-2 Inv-loop μ-loop
 unfolding hashOf
 loop-again-2 c =
     let k = c .before .before .before .before in
-    (omega arith, tallied-empty _ _ _ _ _ _ _ (k .loop .inv .1) (c .before .before .before .loop-test .taken) (inside (c .before .before .before)) (c .if1 .left))
+    (omega arith, places-empty _ _ _ _ _ _ _ (k .loop .inv .1) (c .before .before .before .loop-test .taken) (inside (c .before .before .before)) (c .if1 .left))
 
 returns : tie.Need-returns Inv-loop μ-loop
 unfolding hashOf
-returns c = tallied-all _ _ _ _ _ _ _ (c .before .loop .inv .1) (c .loop-test .left)
+returns c = places-all _ _ _ _ _ _ _ (c .before .loop .inv .1) (c .loop-test .left)
 
 pub count-page-spec : {M : Type 1} → statement M
 count-page-spec =

@@ -1,18 +1,17 @@
 -- The pages from home up to the one before `next` are counted.
 use mathlib.Core.Path.{_≡_, sym, _∙_}
-use Prim.Native.Nat.{_-_, _≤_, _<_}
+use Prim.Native.Nat.{_-_, _≤_}
 use native.Mathlib.Omega.{arith}
-use lib.ListN.{getD}
 use Rattle.hashing.proofs.Bounds.{limits}
 use Rattle.placement.specs.Hash.{hashOf}
 use Rattle.comparing.specs.Raising.{hashUnder}
-use Rattle.comparing.proofs.Counters.{Probed, probed-none, probed-counted, probed-skipped, probed-fits, probed-all}
+use Rattle.comparing.proofs.Counters.{ProbesCounted, probes-none, probes-counted, probes-skipped, probes-fits, probes-all}
 use Rattle.comparing.proofs.counts.count_passed.Statement.{statement}
 use Rattle.comparing.proofs.counts.count_passed.Tie as tie
 
 abbrev Inv-loop : tie.InvT-loop
 Inv-loop table geometry separators counts₀ number home page next₀ counts next =
-    (home ≤ next) × Probed (hashUnder geometry) separators number page next counts₀ counts
+    (home ≤ next) × ProbesCounted (hashUnder geometry) separators number page next counts₀ counts
 
 abbrev μ-loop : tie.MeasureT-loop
 μ-loop table geometry separators counts₀ number home page next₀ counts next = page - next
@@ -30,7 +29,7 @@ loop-holds : tie.Need-loop-holds Inv-loop μ-loop
 unfolding hashOf
 loop-holds c =
     let p = c .before .pre in
-    (omega arith, probed-none _ _ _ _ _ _ (p .1 .1 .1) (p .1 .1 .0 .0))
+    (omega arith, probes-none _ _ _ _ _ _ (p .1 .1 .1) (p .1 .1 .0 .0))
 
 add-next : tie.Need-add-next Inv-loop μ-loop
 add-next c = omega arith
@@ -62,7 +61,7 @@ element-copy-out-counts c = omega arith
 add-counts : tie.Need-add-counts Inv-loop μ-loop
 add-counts c =
     let k = c .before .before .before .before .before in
-    omega (arith, probed-fits _ _ _ _ _ _ _ (k .loop .inv .1) 65535 (k .before .before .pre .1 .1 .0 .1) (k .loop .next) (omega arith))
+    omega (arith, probes-fits _ _ _ _ _ _ _ (k .loop .inv .1) 65535 (k .before .before .pre .1 .1 .0 .1) (k .loop .next) (omega arith))
 
 element-write-counts : tie.Need-element-write-counts Inv-loop μ-loop
 element-write-counts c = omega arith
@@ -73,7 +72,7 @@ loop-less c = omega arith
 loop-again : tie.Need-loop-again Inv-loop μ-loop
 loop-again c =
     let k = c .before .before .before .before .before in
-    (omega arith, probed-counted _ _ _ _ _ _ _ (k .loop .inv .1) (omega arith) (omega arith) (signed (c .before .before .before) ∙ c .before .if1 .taken))
+    (omega arith, probes-counted _ _ _ _ _ _ _ (k .loop .inv .1) (omega arith) (omega arith) (signed (c .before .before .before) ∙ c .before .if1 .taken))
 
 loop-less-2 : tie.Need-loop-less-2 Inv-loop μ-loop
 loop-less-2 c = omega arith
@@ -81,10 +80,10 @@ loop-less-2 c = omega arith
 loop-again-2 : tie.Need-loop-again-2 Inv-loop μ-loop
 loop-again-2 c =
     let k = c .before .before .before .before in
-    (omega arith, probed-skipped _ _ _ _ _ _ _ (k .loop .inv .1) (omega arith) (λ e. c .if1 .left (sym (signed (c .before .before)) ∙ e)))
+    (omega arith, probes-skipped _ _ _ _ _ _ _ (k .loop .inv .1) (omega arith) (λ e. c .if1 .left (sym (signed (c .before .before)) ∙ e)))
 
 returns : tie.Need-returns Inv-loop μ-loop
-returns c = probed-all _ _ _ _ _ _ _ (c .before .loop .inv .1) (c .loop-test .left)
+returns c = probes-all _ _ _ _ _ _ _ (c .before .loop .inv .1) (c .loop-test .left)
 
 pub count-passed-spec : {M : Type 1} → statement M
 count-passed-spec =
