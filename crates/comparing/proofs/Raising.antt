@@ -251,6 +251,6 @@ module _ (ok : ℕ → Bool) (H : Hash) (M : ℕ) (f : File) (sized : Sized (H .
       go (yes d) = rw (lt-ltb (getD (f .separators) p 0) (H .top) d) (lt-leb (countTo H (f .separators) (f .numbers) p M) (H .room) (rw (count-within p h) (each p (omega (arith, sized .ofSeparators)) d)))
       go (no d) = rw (le-ltb (getD (f .separators) p 0) (H .top) (omega arith))
 
-  -- "if all pages are sound, the file is clean exactly if .."
+  -- The file is clean exactly if no separator could be one greater.
   pub clean-exactly : ((p : ℕ) → p < M → raisable H M (f .separators) (f .numbers) p ≡ false) ↔ Clean ok H M f
   clean-exactly = (none-clean, clean-none)
