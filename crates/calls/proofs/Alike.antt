@@ -27,7 +27,7 @@ none-such test from n h = go (decLt (firstSuch test from n) (from + n))
     go (no d) = omega (arith, found .high)
 
 -- a search goes by what the test says of these numbers
-such-same : (t u : ℕ → Bool) (from n : ℕ) → ((q : ℕ) → q < from + n → t q ≡ u q) → firstSuch t from n ≡ firstSuch u from n
+pub such-same : (t u : ℕ → Bool) (from n : ℕ) → ((q : ℕ) → q < from + n → t q ≡ u q) → firstSuch t from n ≡ firstSuch u from n
 unfolding firstSuch
 such-same t u from zero h = refl
 such-same t u from (suc n) h = rw (h from (omega arith), such-same t u (suc from) n (λ q k. h q (omega arith)))

@@ -1,3 +1,5 @@
 pub mod Differences
 pub mod Planned
 pub mod Verdicts
+pub mod Raising
+pub mod Counters

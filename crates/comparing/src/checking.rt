@@ -1,4 +1,4 @@
-// A whole file checked: its pages are surveyed, planned anew and compared with the plan.
+// A whole file checked: its pages are surveyed and tested by counts; where these tell of a difference, the file is planned anew and compared.
 ghost use mathlib.Core.Path.{_≡_};
 ghost use Prim.Native.Nat.{suc, _+_, _*_, _≤_};
 ghost use lib.ListN.{length};
@@ -9,6 +9,7 @@ ghost use Rattle.placement.specs.Ready.{Ready, Pooled};
 ghost use Rattle.reach.specs.Reach.{firstUnsound};
 ghost use Rattle.calls.specs.Spots.{spotOf};
 ghost use Rattle.comparing.specs.Verdicts.{verdictFor};
+use crate::counts::first_raisable;
 use crate::search::Spot;
 use crate::search::compare;
 use hashing::Geometry;
@@ -81,6 +82,9 @@ pub fn check_file(
     let unsound = reach::survey_pages(table, geometry, separators, numbers, words, pool, 0, pages);
     if unsound < pages {
         return Verdict::Unsound(unsound);
+    }
+    if pages <= first_raisable(geometry, separators, numbers, pool) {
+        return Verdict::Clean;
     }
     let spot = compare_planned(geometry, separators, numbers, words, pool, waiting);
     if spot.page < pages {

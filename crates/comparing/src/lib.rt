@@ -1,5 +1,6 @@
 // The work below the call `check`: the first unsound page, or the first page and place that differ from the rule over the whole file.
 mod checking;
+mod counts;
 mod search;
 
 pub use checking::Verdict;

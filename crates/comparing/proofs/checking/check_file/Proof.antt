@@ -1,12 +1,13 @@
-use mathlib.Core.Path.{_≡_, _∙_, refl}
+use mathlib.Core.Path.{_≡_, sym, _∙_, refl}
 use native.Mathlib.Omega.{arith}
-use native.Mathlib.Nat.{le-refl}
+use native.Mathlib.Nat.{le-refl, add-zero}
 use denote.Ref.{now}
 use Rattle.placement.specs.File.{File}
-use Rattle.placement.specs.Hash.{lent}
+use Rattle.placement.specs.Hash.{homesOf, lent}
 use Rattle.placement.proofs.Prepared.{ready}
-use Rattle.reach.specs.Reach.{firstUnsound}
+use Rattle.reach.specs.Reach.{firstUnsound, homesKept}
 use Rattle.comparing.proofs.Planned.{homes-whole}
+use Rattle.comparing.proofs.Unraisable.{none-raisable}
 use Rattle.comparing.proofs.Verdicts.{surveyed, surveyed-sound, told-unsound, told-differs, told-clean}
 use borrow.Author.Needs.{needs}
 use Rattle.comparing.proofs.checking.check_file.Statement.{statement}
@@ -42,41 +43,70 @@ none-unsound : (c : tie.Else1)
     → firstUnsound (start c .args .geometry .parameters) (start c .args .geometry .growth) (file (start c)) 0 (start c .args .geometry .parameters .pages) ≡ start c .args .geometry .parameters .pages
 none-unsound c = surveyed _ _ (file (start c)) _ (c .before .before .before .survey-pages .ensures .0) ∙ all-of c
 
-compare-planned-requires : tie.Need-compare-planned-requires
-compare-planned-requires c κs =
-    let pre = start (c .before .before) .pre in
-    let a = start (c .before .before) .args in (
-      ready refl (pre .0 .homing .valid) (pre .0 .homing .growth) (pre .0 .sized),
-      (
-        none-unsound (c .before .before),
-        (
-          c .before .before .before .before .before .survey-pages .ensures .1 (all-of (c .before .before))
-              ∙ homes-whole (a .geometry .parameters) (a .geometry .growth) (now (a .pool)) (now (a .numbers)) (a .geometry .parameters .pages) (pre .1 .ofNumbers) (pre .0 .sized .ofNumbers),
-          pre .1 .ofWords,
-        ),
-      ),
+-- the pool holds the homes of all items
+homed : (c : tie.Else1) →
+    let a = start c .args in
+    homesKept (a .geometry) 0 (a .geometry .parameters .pages) (now (a .numbers)) (now (a .pool)) ≡ homesOf (a .geometry .parameters) (a .geometry .growth) (now (a .numbers))
+homed c =
+    let a = start c .args in
+    homes-whole (a .geometry .parameters) (a .geometry .growth) (now (a .pool)) (now (a .numbers)) (a .geometry .parameters .pages) (start c .pre .1 .ofNumbers) (start c .pre .0 .sized .ofNumbers)
+
+first-raisable-requires : tie.Need-first-raisable-requires
+first-raisable-requires c κs =
+    let e = c .before in
+    let pre = start e .pre in (
+      pre .0 .homing .valid,
+      record {
+        separators = pre .0 .sized .ofSeparators;
+        numbers = pre .0 .sized .ofNumbers;
+        homes = e .before .before .before .survey-pages .ensures .1 (all-of e) ∙ homed e;
+      },
     )
 
 same-length-2 : tie.Need-same-length-2
 same-length-2 c = search needs
 
-same-length-3 : tie.Need-same-length-3
-same-length-3 c = search needs
-
 returns-2 : tie.Need-returns-2
 returns-2 c =
-    let spot = c .before .before .before .before .before .before .compare-planned in
-    told-differs _ _ _ _ _ (none-unsound (c .before .before .before .before .before .before .before .before .before)) (spot .ensures .0) (c .if2 .taken) (spot .ensures .1)
+    let e = c .before .before .before in
+    let s = start e in
+    told-clean _ _ _ (s .args .geometry .parameters .pages) 0 (none-unsound e)
+    (add-zero _ ∙ sym (none-raisable _ _ (file s) (s .pre .0 .sized) (none-unsound e) _ (c .before .first-raisable .ensures) (c .if2 .taken)))
+    (le-refl _)
+
+compare-planned-requires : tie.Need-compare-planned-requires
+compare-planned-requires c κs =
+    let e = c .before .before .before .before .before in
+    let pre = start e .pre in (
+      ready refl (pre .0 .homing .valid) (pre .0 .homing .growth) (pre .0 .sized),
+      (none-unsound e, (e .before .before .before .survey-pages .ensures .1 (all-of e) ∙ homed e, pre .1 .ofWords)),
+    )
+
+same-length-3 : tie.Need-same-length-3
+same-length-3 c = search needs
 
 same-length-4 : tie.Need-same-length-4
 same-length-4 c = search needs
 
-same-length-5 : tie.Need-same-length-5
-same-length-5 c = search needs
+-- the pages were sound before the comparison
+abbrev surveyed-before : tie.After-compare-planned → tie.Else1
+surveyed-before c = c .before .before .before .before .before .before
 
 returns-3 : tie.Need-returns-3
 returns-3 c =
-    told-clean _ _ _ _ _ (none-unsound (c .before .before .before .before .before .before .before .before .before)) (c .before .before .before .before .before .before .compare-planned .ensures .0) (c .if2 .left)
+    let spot = c .before .before .before .before .before .before in
+    told-differs _ _ _ _ _ (none-unsound (surveyed-before spot)) (spot .compare-planned .ensures .0) (c .if3 .taken) (spot .compare-planned .ensures .1)
+
+same-length-5 : tie.Need-same-length-5
+same-length-5 c = search needs
+
+same-length-6 : tie.Need-same-length-6
+same-length-6 c = search needs
+
+returns-4 : tie.Need-returns-4
+returns-4 c =
+    let spot = c .before .before .before .before .before .before in
+    told-clean _ _ _ _ _ (none-unsound (surveyed-before spot)) (spot .compare-planned .ensures .0) (c .if3 .left)
 
 pub check-file-spec : {M : Type 1} → statement M
 check-file-spec =
@@ -86,10 +116,13 @@ check-file-spec =
     survey-pages-requires
     same-length
     returns
-    compare-planned-requires
+    first-raisable-requires
     same-length-2
-    same-length-3
     returns-2
+    compare-planned-requires
+    same-length-3
     same-length-4
+    returns-3
     same-length-5
-    returns-3)
+    same-length-6
+    returns-4)
