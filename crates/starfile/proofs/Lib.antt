@@ -9,4 +9,5 @@ pub mod Pools
 pub mod Refusals
 pub mod Resending
 pub mod Separators
+pub mod Stepping
 pub mod Tallies
