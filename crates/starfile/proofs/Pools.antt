@@ -2,14 +2,13 @@
 use mathlib.Core.Path.{_≡_, refl, sym, _∙_}
 use mathlib.Core.Bool.{Bool, true, false, cond}
 use mathlib.Core.List.{List}
-use Prim.Native.Nat.{ℕ, _-_, _+_, _<_}
-use lib.Dec.{eqb, ltb}
+use Prim.Native.Nat.{ℕ, _+_, _<_}
+use lib.Dec.{ltb}
 use lib.ListN.{length, replicate}
 use borrow.Author.Tests.{ltb-true}
 use Rattle.hashing.specs.declared.Parameters.{Parameters}
 use Rattle.hashing.specs.declared.Growth.{Growth}
 use Rattle.hashing.specs.declared.Geometry.{Geometry}
-use Rattle.hashing.specs.Geometry.{pageCount, highest, grown, isUngrown, shrunk}
 use Rattle.hashing.proofs.Bounds.{both}
 use Rattle.placement.specs.Rule.{Star, left}
 use Rattle.placement.specs.File.{File}
@@ -20,7 +19,7 @@ use Rattle.entering.specs.Entry.{Unheld}
 use Rattle.reach.specs.Reach.{pagesTo, entryEnd, removalEnd, entersWithin, firstUnsound, isEmpty}
 use Rattle.starfile.specs.Answers.{Answer, After, Pool, Leaves, Stores, pooled, cleared, zeros}
 use Rattle.starfile.specs.Lent.{Admitted}
-use Rattle.starfile.specs.Calls.{hash, named, readable, holds, enterOn, enterTo, removeOn, removeTo, growOn, shrinkOn, regrowTo, allStars}
+use Rattle.starfile.specs.Calls.{hash, named, readable, holds, enterOn, enterTo, removeOn, removeTo, regrowTo, allStars}
 
 -- what the calls below need, with the table that the call made
 pub prepared : {g : Geometry} {t : List ℕ} {f : File} → t ≡ multipliersOf (g .parameters) → Admitted (g .parameters) (g .growth) f → Ready g t f
@@ -82,13 +81,7 @@ module _ (p : Parameters) (g : Growth) (f : File) (pool : Pool) where
       refl
       refl
 
-  regrow-pool : (next : Growth) (page : ℕ) → regrowTo p g f pool next page .pool ≡ pool
+  pub regrow-pool : (next : Growth) (page : ℕ) → regrowTo p g f pool next page .pool ≡ pool
   unfolding regrowTo
   regrow-pool next page =
       cases-pool (ltb (firstUnsound p g f 0 (p .pages)) (p .pages)) (isEmpty (left (hash p next) 0 (p .pages) (allStars p f))) _ _ _ pool refl refl refl
-
-  pub grow-pool : growOn p g f pool .pool ≡ pool
-  grow-pool = removed-pool (eqb (highest p g) (p .pages - 1)) _ _ refl (regrow-pool (grown p g) (pageCount p g))
-
-  pub shrink-pool : shrinkOn p g f pool .pool ≡ pool
-  shrink-pool = removed-pool (isUngrown g) _ _ refl (regrow-pool (shrunk p g) (highest p g))

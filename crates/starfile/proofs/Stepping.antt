@@ -22,17 +22,13 @@ use Rattle.starfile.specs.Answers.{After, Pool, Stores, placed, refusedB
 use Rattle.starfile.specs.Calls.{unlent, guarded, unchanged, fileFits, poolFits, growOf, shrinkOf, regrowTo}
 use Rattle.starfile.specs.Outcomes.{replacedGrown, unmovedBy, stepOf, regrowOn, regrowOf}
 use Rattle.starfile.proofs.Outcomes.{regrown-is}
-use Rattle.starfile.proofs.Pools.{grow-pool, shrink-pool}
+use Rattle.starfile.proofs.Pools.{regrow-pool}
 
 pub regrow-guarded : (back : Bool) (p : Parameters) (g : Growth) (f : File) (pool : Pool)
     → regrowOf back p g f pool ≡ guarded g f pool (unlent p g (fileFits p f && poolFits p pool)) (regrowOn back p g f (cleared pool))
 unfolding growOf shrinkOf
 regrow-guarded true p g f pool = refl
 regrow-guarded false p g f pool = refl
-
-pub regrow-pool : (back : Bool) (p : Parameters) (g : Growth) (f : File) (pool : Pool) → regrowOn back p g f pool .pool ≡ pool
-regrow-pool true p g f pool = shrink-pool p g f pool
-regrow-pool false p g f pool = grow-pool p g f pool
 
 goes : Step → Bool
 goes (To next page) = true
@@ -90,6 +86,14 @@ regrow-steps false p g f pool = go (eqb (highest p g) (p .pages - 1))
     go : (t : Bool) → cond t (unchanged g f pool (refused 8 0)) (regrowTo p g f pool (grown p g) (pageCount p g)) ≡ steppedOn p g f pool (cond t (Not Full) (To (grown p g) (pageCount p g)))
     go true = refl
     go false = refl
+
+stepped-pool : (p : Parameters) (g : Growth) (f : File) (pool : Pool) (step : Step) → steppedOn p g f pool step .pool ≡ pool
+unfolding steppedOn
+stepped-pool p g f pool (To next page) = regrow-pool p g f pool next page
+stepped-pool p g f pool (Not r) = refl
+
+pub regrown-pool : (back : Bool) (p : Parameters) (g : Growth) (f : File) (pool : Pool) → regrowOn back p g f pool .pool ≡ pool
+regrown-pool back p g f pool = rw (regrow-steps back p g f pool) (stepped-pool p g f pool (stepOf back p g))
 
 module _ (back : Bool) (p : Parameters) (g : Growth) where
   pub regrow-refused : (f : File) (pool : Pool) {r : Refusal} {a : Grown} → stepOf back p g ≡ Not r → a ≡ unmovedBy g r

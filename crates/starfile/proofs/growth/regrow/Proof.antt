@@ -11,7 +11,7 @@ use Rattle.starfile.specs.Calls.{unlent, fileFits, poolFits}
 use Rattle.starfile.proofs.Making.{made-by}
 use Rattle.starfile.proofs.Refusals.{turned-away, refusal-is, none-is, admitted-pool}
 use Rattle.starfile.proofs.Pools.{cleared-is, leaves-cleared}
-use Rattle.starfile.proofs.Stepping.{regrow-guarded, regrow-pool}
+use Rattle.starfile.proofs.Stepping.{regrow-guarded, regrown-pool}
 use borrow.Author.Needs.{needs}
 use Rattle.starfile.proofs.growth.regrow.Statement.{statement}
 use Rattle.starfile.proofs.growth.regrow.Tie as tie
@@ -82,7 +82,7 @@ returns-2 c =
     let done = c .before .before .before .before .before .before .before .before .before .before .before .before .before .before .before .before .before .regrow-file in
     rw (regrow-guarded (s .args .back) _ _ _ _, none d) (
       leaves-cleared _ _ _ (poolOf s) _ (done .ensures .0)
-          (regrow-pool (s .args .back) (s .args .parameters) (s .args .growth) (fileOf s) (cleared (poolOf s)))
+          (regrown-pool (s .args .back) (s .args .parameters) (s .args .growth) (fileOf s) (cleared (poolOf s)))
           (cleared-is _ _ _ _ _ _ (c .before .before .before .before .clear .ensures .0) (c .before .before .before .before .clear .ensures .1) (done .kept .1 .1 .1 .1 .1 .1 .0) (done .kept .1 .1 .1 .1 .1 .1 .1 .0)),
       done .ensures .1,
     )
