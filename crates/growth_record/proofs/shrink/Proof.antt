@@ -1,5 +1,4 @@
 -- `growth_record::shrink` meets its contract, by the walk that it has in common with its counterpart.
-use prog.Wp.{Tables}
 use contract.Running.{givenOf, tables, tablesOf}
 use denote.Triple.Spec.{tripleOf}
 use denote.Triple.Table.{entered, cited}
