@@ -16,7 +16,7 @@ use Rattle.calls.specs.declared.answers.Placed.the-variants.{On, Refused}
 use Rattle.calls.proofs.Numbers.{numbered}
 use Rattle.calls.specs.declared.answers.Answer.{Answer}
 use Rattle.calls.specs.Answers.{After, Pool, accepted, refused, spotted, placed, refusedBy, numberOf, cleared}
-use Rattle.calls.specs.Calls.{hash, fileFits, poolFits, unlent, guarded, unchanged, allStars, growTo, growOn, growOf}
+use Rattle.calls.specs.Calls.{hash, fileFits, poolFits, unlent, guarded, unchanged, allStars, regrowTo, growOn, growOf}
 use Rattle.growth_record.specs.Record.{keptBy}
 
 -- refused, a call left the growth state g
@@ -48,13 +48,13 @@ guarded-keeps g f pool zero t kept h = kept h
 guarded-keeps g f pool (suc n) t kept h = refl
 
 refused-keeps : (p : Parameters) (g : Growth) (f : File) (pool : Pool) → Keeps g (growOf p g f pool)
-unfolding growOf growTo
+unfolding growOf regrowTo
 refused-keeps p g f pool =
     let bad : ℕ = firstUnsound p g f 0 (p .pages) in
     let next : Growth = grown p g in
     let stars : List Star = allStars p f in
     guarded-keeps g f pool (unlent p g (fileFits p f && poolFits p pool)) (growOn p g f (cleared pool))
-    (grown-keeps g (eqb (highest p g) (p .pages - 1)) f (cleared pool) (refused 8 0) (growTo p g f (cleared pool) next)
+    (grown-keeps g (eqb (highest p g) (p .pages - 1)) f (cleared pool) (refused 8 0) (regrowTo p g f (cleared pool) next (pageCount p g))
     (replaced-keeps g next (ltb bad (p .pages)) (isEmpty (left (hash p next) 0 (p .pages) stars)) (refused 5 bad) (refused 8 0) (pageCount p g)
     f (replaced (p .places) f 0 (pages (hash p next) 0 (p .pages) stars)) (cleared pool)))
 

@@ -16,7 +16,7 @@ use Rattle.placement.specs.File.{File, Clean, laid}
 use Rattle.placement.specs.Hash.{hashOf}
 use Rattle.placement.proofs.Sound.{clean-laid}
 use Rattle.calls.specs.Answers.{Pool, After, accepted, refused, cleared}
-use Rattle.calls.specs.Calls.{hash, fileFits, poolFits, unless, orElse, unlent, guarded, unchanged, emptyFile, growTo, growOf, checkOf}
+use Rattle.calls.specs.Calls.{hash, fileFits, poolFits, unless, orElse, unlent, guarded, unchanged, emptyFile, regrowTo, growOf, checkOf}
 use Rattle.histories.specs.Model.{Model, entryStars, modelFile}
 use Rattle.histories.proofs.Fitting.{Fitting, bounded, rising-from, proper, lengths}
 use Rattle.histories.proofs.Guards.{lent-pool}
@@ -60,8 +60,8 @@ module _ (p : Parameters) (g : Growth) (valid : validParameters p ≡ true) (sta
   pub empty-checked : (pool : Pool) → poolFits p pool ≡ true → checkOf p g (emptyFile p) pool ≡ unchanged g (emptyFile p) (cleared pool) (accepted 0)
   empty-checked pool fits = subst (λ (f : File). checkOf p g f pool ≡ unchanged g f (cleared pool) (accepted 0)) file-empty (checks pool fits)
 
-  grows-to : (pool : Pool) → growTo p g (modelFile p (starless g)) (cleared pool) (grown p g) ≡ grownEmpty p g pool
-  unfolding growTo entryStars
+  grows-to : (pool : Pool) → regrowTo p g (modelFile p (starless g)) (cleared pool) (grown p g) (pageCount p g) ≡ grownEmpty p g pool
+  unfolding regrowTo entryStars
   grows-to pool =
       rw (
         none-unsound p (starless g) fitting 0 (p .pages) (omega (arith, zero-add (p .pages))),
@@ -73,8 +73,8 @@ module _ (p : Parameters) (g : Growth) (valid : validParameters p ≡ true) (sta
         laid-empty (grown p g),
       )
 
-  grows-from : (pool : Pool) → growTo p g (emptyFile p) (cleared pool) (grown p g) ≡ grownEmpty p g pool
-  grows-from pool = ap (λ (f : File). growTo p g f (cleared pool) (grown p g)) (sym file-empty) ∙ grows-to pool
+  grows-from : (pool : Pool) → regrowTo p g (emptyFile p) (cleared pool) (grown p g) (pageCount p g) ≡ grownEmpty p g pool
+  grows-from pool = ap (λ (f : File). regrowTo p g f (cleared pool) (grown p g) (pageCount p g)) (sym file-empty) ∙ grows-to pool
 
   lengths-fit : fileFits p (emptyFile p) ≡ true
   lengths-fit = subst (λ (f : File). fileFits p f ≡ true) file-empty (lengths p (starless g) fitting)
@@ -91,7 +91,7 @@ empty-kept p g pool = go (validParameters p) refl (validGrowth p g) refl (fileFi
   where
     go : (v : Bool) → validParameters p ≡ v → (w : Bool) → validGrowth p g ≡ w → (l h : Bool)
         → guarded g (emptyFile p) pool (orElse (unless (v && w) 1) (unless l 2))
-        (cond h (unchanged g (emptyFile p) (cleared pool) (refused 8 0)) (growTo p g (emptyFile p) (cleared pool) (grown p g)))
+        (cond h (unchanged g (emptyFile p) (cleared pool) (refused 8 0)) (regrowTo p g (emptyFile p) (cleared pool) (grown p g) (pageCount p g)))
         .file
         ≡ emptyFile p
     go false e w d l h = refl

@@ -15,7 +15,7 @@ use Rattle.placement.specs.Rule.{Star, pages, left}
 use Rattle.placement.specs.File.{replaced}
 use Rattle.reach.specs.Reach.{isEmpty}
 use Rattle.calls.specs.Answers.{Pool, spotted, accepted, refused, cleared}
-use Rattle.calls.specs.Calls.{hash, poolFits, unless, guarded, unchanged, growTo, growOf}
+use Rattle.calls.specs.Calls.{hash, poolFits, unless, guarded, unchanged, regrowTo, growOf}
 use Rattle.histories.specs.Model.{Model, grow, updated, modelFile}
 use Rattle.histories.proofs.Fitting.{Fitting, starsFor}
 use Rattle.histories.proofs.Guards.{lent-pool}
@@ -28,8 +28,8 @@ module _ (p : Parameters) (m : Model) (t : Fitting p m) where
   unfolding highest
   more-pages e = omega (arith, eqb-false (pageCount p (m .growth) - 1) (p .pages - 1) e, growth-within p (m .growth) (t .growth) .pages-fit)
 
-  grows : (pool : Pool) → eqb (highest p (m .growth)) (p .pages - 1) ≡ false → Conforms p m grow (growTo p (m .growth) (modelFile p m) pool (grown p (m .growth)))
-  unfolding growTo updated spotted modelFile
+  grows : (pool : Pool) → eqb (highest p (m .growth)) (p .pages - 1) ≡ false → Conforms p m grow (regrowTo p (m .growth) (modelFile p m) pool (grown p (m .growth)) (pageCount p (m .growth)))
+  unfolding regrowTo updated spotted modelFile
   grows pool e =
       rw (none-unsound p m t 0 (p .pages) (omega (arith, zero-add (p .pages))), zero-add (p .pages), le-ltb (p .pages) (p .pages) (le-refl (p .pages)), all-stars p m t)
       (go (left (hash p (grown p (m .growth))) 0 (p .pages) (starsFor m)) refl)
@@ -62,7 +62,7 @@ module _ (p : Parameters) (m : Model) (t : Fitting p m) where
       go : (v w : Bool) → eqb (highest p (m .growth)) (p .pages - 1) ≡ w
           → Conforms p m grow
           (guarded (m .growth) (modelFile p m) pool (unless v 2)
-          (cond w (unchanged (m .growth) (modelFile p m) (cleared pool) (refused 8 0)) (growTo p (m .growth) (modelFile p m) (cleared pool) (grown p (m .growth)))))
+          (cond w (unchanged (m .growth) (modelFile p m) (cleared pool) (refused 8 0)) (regrowTo p (m .growth) (modelFile p m) (cleared pool) (grown p (m .growth)) (pageCount p (m .growth)))))
       go false w e = refused-conforms p m t grow pool (refused 2 0) (λ d. omega arith) (λ d. omega arith)
       go true true e = refused-conforms p m t grow (cleared pool) (refused 8 0) (λ d. omega arith) (λ d. omega arith)
       go true false e = grows (cleared pool) e

@@ -9,7 +9,7 @@ use borrow.Author.Tests.{ltb-true}
 use Rattle.hashing.specs.declared.Parameters.{Parameters}
 use Rattle.hashing.specs.declared.Growth.{Growth}
 use Rattle.hashing.specs.declared.Geometry.{Geometry}
-use Rattle.hashing.specs.Geometry.{highest, grown}
+use Rattle.hashing.specs.Geometry.{pageCount, highest, grown, isUngrown, shrunk}
 use Rattle.hashing.proofs.Bounds.{both}
 use Rattle.placement.specs.Rule.{Star, left}
 use Rattle.placement.specs.File.{File}
@@ -21,7 +21,7 @@ use Rattle.reach.specs.Reach.{pagesTo, entryEnd, removalEnd, entersWithin, firs
 use Rattle.calls.specs.declared.answers.Answer.{Answer}
 use Rattle.calls.specs.Answers.{After, Pool, Leaves, Stores, pooled, cleared, zeros}
 use Rattle.calls.specs.Lent.{Admitted}
-use Rattle.calls.specs.Calls.{hash, named, readable, holds, enterOn, enterTo, removeOn, removeTo, growOn, growTo, allStars}
+use Rattle.calls.specs.Calls.{hash, named, readable, holds, enterOn, enterTo, removeOn, removeTo, growOn, shrinkOn, regrowTo, allStars}
 
 -- what the calls below need, with the table that the call made
 pub prepared : {g : Geometry} {t : List ℕ} {f : File} → t ≡ multipliersOf (g .parameters) → Admitted (g .parameters) (g .growth) f → Ready g t f
@@ -83,8 +83,13 @@ module _ (p : Parameters) (g : Growth) (f : File) (pool : Pool) where
       refl
       refl
 
+  regrow-pool : (next : Growth) (page : ℕ) → regrowTo p g f pool next page .pool ≡ pool
+  unfolding regrowTo
+  regrow-pool next page =
+      cases-pool (ltb (firstUnsound p g f 0 (p .pages)) (p .pages)) (isEmpty (left (hash p next) 0 (p .pages) (allStars p f))) _ _ _ pool refl refl refl
+
   pub grow-pool : growOn p g f pool .pool ≡ pool
-  unfolding growTo
-  grow-pool =
-      removed-pool (eqb (highest p g) (p .pages - 1)) _ _ refl
-      (cases-pool (ltb (firstUnsound p g f 0 (p .pages)) (p .pages)) (isEmpty (left (hash p (grown p g)) 0 (p .pages) (allStars p f))) _ _ _ pool refl refl refl)
+  grow-pool = removed-pool (eqb (highest p g) (p .pages - 1)) _ _ refl (regrow-pool (grown p g) (pageCount p g))
+
+  pub shrink-pool : shrinkOn p g f pool .pool ≡ pool
+  shrink-pool = removed-pool (isUngrown g) _ _ refl (regrow-pool (shrunk p g) (highest p g))

@@ -9,7 +9,7 @@ use Rattle.placement.specs.File.{File}
 use Rattle.placement.specs.Hash.{lent}
 use Rattle.calls.specs.Answers.{Pool, placed, refusedBy, pooled, cleared}
 use Rattle.hashing.specs.Geometry.{highest, pageCount, grown}
-use Rattle.starfile.proofs.Outcomes.{growth-small, grown-is}
+use Rattle.starfile.proofs.Outcomes.{growth-small, regrown-is}
 use Rattle.starfile.proofs.Pools.{prepared}
 use borrow.Author.Needs.{needs}
 use Rattle.starfile.proofs.growth.grow_file.Statement.{statement}
@@ -102,7 +102,7 @@ returns-2 c =
     let more : highest p g ≡ p .pages - 1 → ⊥ = λ e. omega (arith, room (c .before .before .before .before .before .before .before .before .before .before .before .before .before .before .before .before .before .before .before .before), page-is (c .before .before .before .before .before .before .before .before .before .before .before .before .before .before .before .before .before .before .before .before .before .before)) in
     let free = ne-eqb _ _ more in
     let done = c .before .before .before .before .before .before .before .before .before .before .before .regrow .ensures in
-    let is = grown-is p g (fileOf s) (cleared (poolOf s)) (grown p g) in
+    let is = regrown-is p g (fileOf s) (cleared (poolOf s)) (grown p g) (pageCount p g) in
     let told = rw (done .0, c .before .before .before .before .before .before .before .before .before .before .before .before .before .before .before .before .before .before .grown .ensures, page-is (c .before .before .before .before .before .before .before .before .before .before .before .before .before .before .before .before .before .before .before .before .before .before)) at (c .grown-by .ensures) in
     (record { answers = rw free (rw told (is .0)); files = rw free (done .1 ∙ is .1) }, rw free (rw told (is .2)))
 
