@@ -24,7 +24,7 @@ use Rattle.histories.proofs.LookUp.{looks-up, look-up-conforms}
 use Rattle.histories.proofs.Enter.{enter-conforms, fed-own, resent, other, full}
 use Rattle.histories.proofs.Change.{change-conforms}
 use Rattle.histories.proofs.Remove.{remove-conforms}
-use Rattle.histories.proofs.Grow.{grow-conforms, shrink-conforms}
+use Rattle.histories.proofs.Grow.{grow-conforms, shrink-conforms, shrink-first, shrink-full}
 use Rattle.histories.proofs.Due.{due-conforms}
 use Rattle.histories.proofs.Check.{check-conforms, finds-nothing}
 use Rattle.histories.proofs.Conforms.{fedWith}
@@ -96,6 +96,8 @@ in-history s agrees =
       full = λ pool k q l v w e. rw (agrees .growth, agrees .file) (full (s .parameters) (s .model) (agrees .fitting) k q pool l (record { number = v; position = w }) e);
       resent = λ pool k q l e. (ap (λ (x : After). x .answer) (leaves s agrees pool l k q e), stays s agrees pool l k q e);
       held = λ pool k q r l v e d. refuses s agrees pool l k q r v e d;
+      shrinkFirst = λ pool l. rw (agrees .growth, agrees .file) (shrink-first (s .parameters) (s .model) (agrees .fitting) pool l);
+      shrinkFull = λ pool l d. rw (agrees .growth, agrees .file) (shrink-full (s .parameters) (s .model) (agrees .fitting) pool l d);
     }
 
 pub each-state : EachState

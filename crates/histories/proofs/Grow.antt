@@ -50,6 +50,10 @@ regrowing p m pool fits none n next page =
     guarded (m .growth) (modelFile p m) pool (unless fits 2)
     (cond none (stayed p m (cleared pool) n) (regrowTo p (m .growth) (modelFile p m) (cleared pool) next page))
 
+not-first : (g : Growth) → isUngrown g ≡ false → g ≡ ungrown → ⊥
+unfolding isUngrown
+not-first g e h = true≢false (sym (ap isUngrown h) ∙ e)
+
 module _ (p : Parameters) (m : Model) (t : Fitting p m) where
   pub regrows : (pool : Pool) (next : Growth) (page : ℕ) → regrowTo p (m .growth) (modelFile p m) pool next page ≡ movedIf p m pool next page (carried p m next)
   unfolding regrowTo modelFile
@@ -122,3 +126,29 @@ module _ (p : Parameters) (m : Model) (t : Fitting p m) where
       rw (shrink-is pool)
       (regrowing-conforms shrink (shrunk p (m .growth)) refl (λ k e. let z : _≡_ {A = ℕ} 0 1 = cc in omega arith) pool (poolFits p pool) (isUngrown (m .growth)) 9 (highest p (m .growth))
       (λ d. omega arith) (λ d. omega arith) before-valid)
+
+  -- Where the pool fits, it is refused with 9 exactly at the first state, and else with 8 exactly if the stars do not fit.
+  module _ (pool : Pool) (fits : poolFits p pool ≡ true) where
+    shrinks : shrinkOf p (m .growth) (modelFile p m) pool ≡ cond (isUngrown (m .growth)) (stayed p m (cleared pool) 9)
+        (movedIf p m (cleared pool) (shrunk p (m .growth)) (highest p (m .growth)) (carried p m (shrunk p (m .growth))))
+    shrinks = shrink-is pool ∙ rw (fits, regrows (cleared pool) (shrunk p (m .growth)) (highest p (m .growth)))
+
+    pub shrink-first : (shrinkOf p (m .growth) (modelFile p m) pool .answer .refusal ≡ 9) ↔ (m .growth ≡ ungrown)
+    unfolding spotted
+    shrink-first = rw shrinks (go (isUngrown (m .growth)) refl (carried p m (shrunk p (m .growth))))
+      where
+        go : (b : Bool) → isUngrown (m .growth) ≡ b → (l : List Star)
+            → (cond b (stayed p m (cleared pool) 9) (movedIf p m (cleared pool) (shrunk p (m .growth)) (highest p (m .growth)) l) .answer .refusal ≡ 9) ↔ (m .growth ≡ ungrown)
+        go true e l = ((λ h. new-is (m .growth) e), λ h. refl)
+        go false e [] = ((λ h. absurd (omega arith)), λ h. absurd (not-first (m .growth) e h))
+        go false e (s ∷ l) = ((λ h. absurd (omega arith)), λ h. absurd (not-first (m .growth) e h))
+
+    pub shrink-full : (m .growth ≡ ungrown → ⊥) → (shrinkOf p (m .growth) (modelFile p m) pool .answer .refusal ≡ 8) ↔ (carried p m (shrunk p (m .growth)) ≡ [] → ⊥)
+    unfolding spotted
+    shrink-full old = rw shrinks (go (isUngrown (m .growth)) refl (carried p m (shrunk p (m .growth))))
+      where
+        go : (b : Bool) → isUngrown (m .growth) ≡ b → (l : List Star)
+            → (cond b (stayed p m (cleared pool) 9) (movedIf p m (cleared pool) (shrunk p (m .growth)) (highest p (m .growth)) l) .answer .refusal ≡ 8) ↔ (l ≡ [] → ⊥)
+        go true e l = absurd (old (new-is (m .growth) e))
+        go false e [] = ((λ h. absurd (omega arith)), λ h. absurd (h refl))
+        go false e (s ∷ l) = ((λ h d. let z : _≡_ {A = ℕ} 0 1 = cc in omega arith), λ h. refl)
