@@ -51,10 +51,10 @@ new-is g e =
 
 -- a growth state that a new file does not have
 module _ (p : Parameters) (g : Growth) (valid : validParameters p ≡ true) (old : isUngrown g ≡ false) where
-  some : 1 ≤ countAt p (g .expansions - 1)
+  pub some : 1 ≤ countAt p (g .expansions - 1)
   some = omega (arith, count-least p (g .expansions - 1), limits p valid .groups-least)
 
-  after-first : eqb (g .expanded) 0 ≡ true → 1 ≤ g .expansions
+  pub after-first : eqb (g .expanded) 0 ≡ true → 1 ≤ g .expansions
   unfolding isUngrown
   after-first e =
       let t : eqb (g .expansions) 0 ≡ false = sym (and-true (eqb (g .expansions) 0)) ∙ rw e at old in

@@ -1,4 +1,4 @@
-// The eight calls as exported functions, and two of hashing's, for the Rust tests alone. C programs have the three of starfile_c.
+// The calls as exported functions, and two of hashing's, for the Rust tests alone. C programs have the three of starfile_c.
 use calls::answers::Answer;
 use calls::answers::Grown;
 use calls::answers::checked_answer;
@@ -202,6 +202,27 @@ pub extern "C" fn sft_grow(
     poolwords: &mut [u64],
 ) -> Outcome {
     grown(starfile::grow(
+        parameters_from(parameters),
+        growth_from(growth),
+        separators,
+        numbers,
+        words,
+        poolnumbers,
+        poolwords,
+    ))
+}
+
+#[no_mangle]
+pub extern "C" fn sft_shrink(
+    parameters: Parameters,
+    growth: Growth,
+    separators: &mut [u8],
+    numbers: &mut [u32],
+    words: &mut [u64],
+    poolnumbers: &mut [u32],
+    poolwords: &mut [u64],
+) -> Outcome {
+    grown(starfile::shrink(
         parameters_from(parameters),
         growth_from(growth),
         separators,
