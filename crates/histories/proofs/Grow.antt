@@ -107,7 +107,8 @@ module _ (p : Parameters) (m : Model) (t : Fitting p m) where
   unfolding updated
   grow-conforms pool =
       rw (grow-is pool)
-      (regrowing-conforms grow (grown p (m .growth)) refl (λ k e. let z : _≡_ {A = ℕ} 0 1 = cc in omega arith) pool (poolFits p pool) (eqb (highest p (m .growth)) (p .pages - 1)) 8 (pageCount p (m .growth))
+      (regrowing-conforms grow (grown p (m .growth)) refl (λ k e. let z : _≡_ {A = ℕ} 0 1 = cc in omega arith)
+      pool (poolFits p pool) (eqb (highest p (m .growth)) (p .pages - 1)) 8 (pageCount p (m .growth))
       (λ d. omega arith) (λ d. omega arith) next-valid)
 
   -- Shrinking: there is a state before unless it is the first.
@@ -124,7 +125,8 @@ module _ (p : Parameters) (m : Model) (t : Fitting p m) where
   unfolding updated
   shrink-conforms pool =
       rw (shrink-is pool)
-      (regrowing-conforms shrink (shrunk p (m .growth)) refl (λ k e. let z : _≡_ {A = ℕ} 0 1 = cc in omega arith) pool (poolFits p pool) (isUngrown (m .growth)) 9 (highest p (m .growth))
+      (regrowing-conforms shrink (shrunk p (m .growth)) refl (λ k e. let z : _≡_ {A = ℕ} 0 1 = cc in omega arith)
+      pool (poolFits p pool) (isUngrown (m .growth)) 9 (highest p (m .growth))
       (λ d. omega arith) (λ d. omega arith) before-valid)
 
   -- Where the pool fits, it is refused with 9 exactly at the first state, and else with 8 exactly if the stars do not fit.

@@ -28,7 +28,7 @@ module _ (p : Parameters) (m : Model) (t : Fitting p m) where
   record Went (pool : Pool) (fits none : Bool) (n : ℕ) (next : Growth) (page : ℕ) : Type 0 where
     possible : none ≡ false
     fit : carried p m next ≡ []
-    left : regrowing p m pool fits none n next page ≡ moved p m (cleared pool) next page
+    leaves : regrowing p m pool fits none n next page ≡ moved p m (cleared pool) next page
 
   went : (pool : Pool) (fits none : Bool) (n : ℕ) (next : Growth) (page : ℕ) → (n ≡ 0 → ⊥)
       → regrowing p m pool fits none n next page .answer .refusal ≡ 0 → Went pool fits none n next page
@@ -38,7 +38,7 @@ module _ (p : Parameters) (m : Model) (t : Fitting p m) where
   went pool true false n next page z e = go (carried p m next) refl (ap (λ (a : After). a .answer .refusal) (sym (regrows p m t (cleared pool) next page)) ∙ e)
     where
       go : (l : List Star) → carried p m next ≡ l → movedIf p m (cleared pool) next page l .answer .refusal ≡ 0 → Went pool true false n next page
-      go [] h d = record { possible = refl; fit = h; left = regrows p m t (cleared pool) next page ∙ ap (movedIf p m (cleared pool) next page) h }
+      go [] h d = record { possible = refl; fit = h; leaves = regrows p m t (cleared pool) next page ∙ ap (movedIf p m (cleared pool) next page) h }
       go (s ∷ l) h d = absurd (omega arith)
 
   -- Going back: the stars fit under the model's own state.
@@ -55,7 +55,7 @@ module _ (p : Parameters) (m : Model) (t : Fitting p m) where
   trip first second pool again fits none n other next page z e d v h =
       let w = went pool fits none n next page z (ap (λ (a : After). a .answer .refusal) (sym d) ∙ e) in
       let u = regrown-fits p m t next (v (w .possible)) (w .fit) in
-      rw (d ∙ w .left) (restored (second next (modelFile p (regrown m next))) (h (w .possible) u ∙ back next u (cleared again) page))
+      rw (d ∙ w .leaves) (restored (second next (modelFile p (regrown m next))) (h (w .possible) u ∙ back next u (cleared again) page))
     where
       restored : (after : After) → after ≡ moved p m (cleared again) (m .growth) page → Restores (m .growth) (modelFile p m) (moved p m (cleared pool) next page) after
       restored after c = rw c (record { answer = refl; growth = refl; separators = refl; numbers = refl; words = refl })
