@@ -13,13 +13,13 @@ use Rattle.hashing.proofs.Bounds.{growth-within}
 use Rattle.placement.specs.File.{File}
 use Rattle.replacing.specs.declared.Replaced.{Replaced}
 use Rattle.replacing.specs.Calls.{nextOf, Movable, growthAnswer, growthFile}
-use Rattle.starfile.specs.declared.answers.Refusal.{Refusal}
-use Rattle.starfile.specs.declared.answers.Refusal.the-variants.{Full, Ungrown}
-use Rattle.starfile.specs.declared.answers.Grown.{Grown}
+use Rattle.calls.specs.declared.answers.Refusal.{Refusal}
+use Rattle.calls.specs.declared.answers.Refusal.the-variants.{Full, Ungrown}
+use Rattle.calls.specs.declared.answers.Grown.{Grown}
 use Rattle.starfile.specs.declared.growth.Step.{Step}
 use Rattle.starfile.specs.declared.growth.Step.the-variants.{To, Not}
-use Rattle.starfile.specs.Answers.{After, Pool, Stores, placed, refusedBy, refused, cleared}
-use Rattle.starfile.specs.Calls.{unlent, guarded, unchanged, fileFits, poolFits, growOf, shrinkOf, regrowTo}
+use Rattle.calls.specs.Answers.{After, Pool, Stores, placed, refusedBy, refused, cleared}
+use Rattle.calls.specs.Calls.{unlent, guarded, unchanged, fileFits, poolFits, growOf, shrinkOf, regrowTo}
 use Rattle.starfile.specs.Outcomes.{replacedGrown, unmovedBy, stepOf, regrowOn, regrowOf}
 use Rattle.starfile.proofs.Outcomes.{regrown-is}
 use Rattle.starfile.proofs.Pools.{regrow-pool}

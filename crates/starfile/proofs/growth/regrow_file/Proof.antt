@@ -3,7 +3,7 @@ use mathlib.Core.Path.{_∙_, sym}
 use denote.Ref.{now}
 use Rattle.placement.specs.File.{File}
 use Rattle.placement.specs.Hash.{lent}
-use Rattle.starfile.specs.Answers.{Pool, pooled, cleared}
+use Rattle.calls.specs.Answers.{Pool, pooled, cleared}
 use Rattle.starfile.proofs.Outcomes.{growth-small}
 use Rattle.starfile.proofs.Pools.{prepared}
 use Rattle.starfile.proofs.Stepping.{step-movable, regrow-refused, regrow-stored}
