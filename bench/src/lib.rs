@@ -49,6 +49,11 @@ pub trait Library {
         self.call(Kind::Grow, 0, 0, 0)
     }
 
+    /// Of today's library alone.
+    fn shrink(&mut self) -> Answer {
+        self.call(Kind::Shrink, 0, 0, 0)
+    }
+
     fn due(&mut self) -> Answer {
         self.call(Kind::Due, 0, 0, 0)
     }
@@ -61,10 +66,14 @@ pub trait Library {
 /// Today's library first, then the older one if there is one that has the file's multiplier, each with its own copy of the
 /// file.
 pub fn libraries(file: &File) -> Vec<Box<dyn Library>> {
-    let today = present::library(file);
     #[cfg(feature = "base")]
     if file.multiplier == base::MULTIPLIER {
-        return vec![today, base::library(file)];
+        return vec![present::library(file), base::library(file)];
     }
-    vec![today]
+    today(file)
+}
+
+/// Today's library alone, for calls that the older one has not.
+pub fn today(file: &File) -> Vec<Box<dyn Library>> {
+    vec![present::library(file)]
 }

@@ -44,6 +44,13 @@ fn least(list: &[f64]) -> f64 {
 /// Runs of each library, nanoseconds of one call, so that the runs of equal index are neighbours in time.
 pub struct Runs(Vec<Vec<f64>>);
 
+impl Runs {
+    /// The median, over neighbouring runs of today's library, of this time by another.
+    pub fn by(&self, other: &Runs) -> f64 {
+        median(self.0[0].iter().zip(&other.0[0]).map(|(this, other)| this / other).collect())
+    }
+}
+
 /// Runs the libraries in turn, each of them first in every second pair, and once untold; a run times several things.
 pub fn in_turn<const N: usize>(
     runs: usize,

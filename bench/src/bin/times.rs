@@ -4,7 +4,7 @@
 use bench::files::{self, File, SIZES};
 use bench::floors::Homes;
 use bench::timing::{alone, in_turn, many, nanoseconds, restored, Report, Runs, Table, FEW_RUNS, RUNS};
-use bench::{libraries, Answer, Library};
+use bench::{libraries, today, Answer, Library};
 use model::hashing::MULTIPLIERS;
 use model::random::Random;
 use std::hint::black_box;
@@ -53,6 +53,33 @@ fn entries_and_removals(libraries: &mut Libraries, numbers: &[u32]) -> [Runs; 2]
     })
 }
 
+/// Growths, and the shrinks that give their pages back, in turn, each on a copy of its own.
+fn growths_and_shrinks(runs: usize, file: &File) -> [Runs; 2] {
+    in_turn(runs, &mut today(file), |library| {
+        let mut grown = library.copy();
+        let growth = nanoseconds(|| _ = black_box(grown.grow()));
+        let mut back = grown.copy();
+        let mut refusal = 0;
+        let shrink = nanoseconds(|| refusal = black_box(back.shrink()).refusal);
+        assert_eq!(refusal, 0, "a growth can be undone");
+        [growth, shrink]
+    })
+}
+
+/// A row for shrinking, and a note that compares it with growth.
+fn shrink_row(report: &mut Report, table: &Table, runs: usize, name: &str, file: &File) {
+    let mut library = today(file).remove(0);
+    assert_eq!((library.grow().refusal, library.shrink().refusal), (0, 0));
+    assert!(library.file() == *file, "a growth and a shrink restore the file");
+    let [growths, shrinks] = growths_and_shrinks(runs, file);
+    table.row(name, &shrinks);
+    report.note(format!(
+        "{}: {name} takes {:.2} times as long as the growth before it",
+        file.size(),
+        shrinks.by(&growths)
+    ));
+}
+
 /// Some of the stars that can be entered one after the other.
 fn entered(libraries: &Libraries, stars: &[u32], count: usize) -> Vec<u32> {
     let mut library = libraries[0].copy();
@@ -98,6 +125,7 @@ fn calls(report: &mut Report, random: &mut Random, empty: File) {
     table.row("enter", &entries);
     table.row("remove", &removals);
     table.row("grow", &restored(RUNS, &mut libraries, |library| library.grow().refusal));
+    shrink_row(report, &table, RUNS, "shrink", &file);
     table.row("check", &many(&mut libraries, 1, |library, _| _ = black_box(library.check())));
     table.row("due", &many(&mut libraries, 100, |library, _| _ = black_box(library.due())));
 }
@@ -143,6 +171,7 @@ fn one_home(report: &mut Report, random: &mut Random) {
     row("remove", &after, &|library| library.remove(newcomer));
     row("grow", &file, &|library| library.grow());
     row("check", &file, &|library| library.check());
+    shrink_row(report, &table, FEW_RUNS, "shrink, all stars of one home", &file);
 }
 
 fn main() {

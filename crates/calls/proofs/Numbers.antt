@@ -17,6 +17,7 @@ use Rattle.calls.specs.declared.answers.Refusal.the-variants.{
   Held,
   NotHeld,
   Full,
+  Ungrown,
 }
 use Rattle.calls.specs.declared.answers.Checked.{Checked}
 use Rattle.calls.specs.declared.answers.Checked.the-variants.{Clean, Refused}
@@ -25,7 +26,7 @@ use Rattle.calls.specs.Answers.{numberOf, pageOf, refusedBy, spotted, ch
 
 refusalAt : ℕ → ℕ → Refusal
 refusalAt n page =
-    getD (BadParameters ∷ BadLength ∷ BadNumber ∷ BadPosition ∷ Damaged page ∷ Held ∷ NotHeld ∷ Full ∷ []) (n - 1) Full
+    getD (BadParameters ∷ BadLength ∷ BadNumber ∷ BadPosition ∷ Damaged page ∷ Held ∷ NotHeld ∷ Full ∷ Ungrown ∷ []) (n - 1) Full
 
 told-back : (r : Refusal) → refusalAt (numberOf r) (pageOf r) ≡ r
 unfolding refusalAt
@@ -37,6 +38,7 @@ told-back (Damaged page) = refl
 told-back Held = refl
 told-back NotHeld = refl
 told-back Full = refl
+told-back Ungrown = refl
 
 pub numbered : (r : Refusal) → 1 ≤ numberOf r
 numbered BadParameters = omega arith
@@ -47,6 +49,7 @@ numbered (Damaged page) = omega arith
 numbered Held = omega arith
 numbered NotHeld = omega arith
 numbered Full = omega arith
+numbered Ungrown = omega arith
 
 checkedAs : Answer → Checked
 checkedAs a = cond (eqb (a .refusal) 0) Clean (Refused (refusalAt (a .refusal) (a .page)) (a .place))

@@ -23,6 +23,7 @@ use Rattle.calls.specs.declared.answers.Refusal.the-variants.{
   Held,
   NotHeld,
   Full,
+  Ungrown,
 }
 use Rattle.calls.specs.declared.answers.Admission.{Admission}
 use Rattle.calls.specs.declared.answers.Admission.the-variants.{Passed, Refused}
@@ -110,6 +111,7 @@ module _ (g : Growth) (f : File) (pool : Pool) (after : After) where
   away Held m h = absurd (omega arith)
   away NotHeld m h = absurd (omega arith)
   away Full m h = absurd (omega arith)
+  away Ungrown m h = absurd (omega arith)
 
   pub turned-away : (p : Parameters) (lengths : Bool) (r : Refusal) → numberOf r ≡ unlent p g lengths → guarded g f pool (unlent p g lengths) after ≡ unchanged g f pool (refusedBy r 0)
   turned-away p lengths r e = rw (← e) (away r 0 (rw e (unlent-most p g lengths)) .0)

@@ -20,6 +20,7 @@ use Rattle.calls.specs.declared.answers.Refusal.the-variants.{
   Held,
   NotHeld,
   Full,
+  Ungrown,
 }
 use Rattle.calls.specs.declared.answers.Admission.{Admission}
 use Rattle.calls.specs.declared.answers.Admission.the-variants.{Passed, Refused as TurnedAway}
@@ -81,6 +82,7 @@ numberOf (Damaged page) = 5
 numberOf Held = 6
 numberOf NotHeld = 7
 numberOf Full = 8
+numberOf Ungrown = 9
 
 -- the page that goes with it
 abbrev pub pageOf : Refusal → ℕ
@@ -92,6 +94,7 @@ pageOf (Damaged page) = page
 pageOf Held = 0
 pageOf NotHeld = 0
 pageOf Full = 0
+pageOf Ungrown = 0
 
 -- 0 if the test that a call begins with is passed
 abbrev pub admissionNumber : Admission → ℕ

@@ -1,4 +1,4 @@
--- The eight calls, each as what it answers and leaves of the lent buffers: document 01, "The cut" and "Where each refusal is met".
+-- The calls, each as what it answers and leaves of the lent buffers: document 01, "The cut" and "Where each refusal is met".
 use mathlib.Core.Bool.{Bool, true, false, not, cond, _&&_, _||_}
 use mathlib.Core.List.{List}
 use Prim.Native.Nat.{ℕ, zero, suc, _+_, _-_, _*_, _/_, _%_}
@@ -8,7 +8,7 @@ use Rattle.hashing.specs.declared.Parameters.{Parameters}
 use Rattle.hashing.specs.declared.Growth.{Growth}
 use Rattle.hashing.specs.Generator.{topOf}
 use Rattle.hashing.specs.Limits.{validParameters, validGrowth}
-use Rattle.hashing.specs.Geometry.{pageCount, highest, grown, ungrown}
+use Rattle.hashing.specs.Geometry.{pageCount, highest, grown, ungrown, isUngrown, shrunk}
 use Rattle.pages.specs.declared.position.Position.{Position}
 use Rattle.pages.specs.Position.{validNumber, validPosition, packed, unpacked}
 use Rattle.pages.specs.Page.{part, placeOf, heldAt}
@@ -250,16 +250,16 @@ removeOf p g f pool k =
 abbrev pub allStars : Parameters → File → List Star
 allStars p f = gathered (p .places) f 0 (p .pages)
 
--- all stars placed anew under the growth state `next`
-unfoldable pub growTo : Parameters → Growth → File → Pool → Growth → After
-growTo p g f pool next =
+-- all stars placed anew under the growth state `next`; `page` is the one that comes or goes
+unfoldable pub regrowTo : Parameters → Growth → File → Pool → Growth → ℕ → After
+regrowTo p g f pool next page =
     let bad = firstUnsound p g f 0 (p .pages) in
     let w = allStars p f in
     cond (ltb bad (p .pages))
     (unchanged g f pool (refused 5 bad))
     (cond (isEmpty (left (hash p next) 0 (p .pages) w))
     (record {
-      answer = accepted (pageCount p g);
+      answer = accepted page;
       growth = next;
       file = replaced (p .places) f 0 (pages (hash p next) 0 (p .pages) w);
       pool = pool;
@@ -268,11 +268,27 @@ growTo p g f pool next =
 
 -- "highest address is M−1" is 8
 abbrev pub growOn : Parameters → Growth → File → Pool → After
-growOn p g f pool = cond (eqb (highest p g) (p .pages - 1)) (unchanged g f pool (refused 8 0)) (growTo p g f pool (grown p g))
+growOn p g f pool =
+    cond (eqb (highest p g) (p .pages - 1))
+    (unchanged g f pool (refused 8 0))
+    (regrowTo p g f pool (grown p g) (pageCount p g))
 
 unfoldable pub growOf : Parameters → Growth → File → Pool → After
 growOf p g f pool =
     guarded g f pool (unlent p g (fileFits p f && poolFits p pool)) (growOn p g f (cleared pool))
+
+-- Shrink: document 02 (i)
+
+-- "refuses with 9, right after 2, when (e, x) is (0, 0)"; the page given back is the highest address
+abbrev pub shrinkOn : Parameters → Growth → File → Pool → After
+shrinkOn p g f pool =
+    cond (isUngrown g)
+    (unchanged g f pool (refused 9 0))
+    (regrowTo p g f pool (shrunk p g) (highest p g))
+
+unfoldable pub shrinkOf : Parameters → Growth → File → Pool → After
+shrinkOf p g f pool =
+    guarded g f pool (unlent p g (fileFits p f && poolFits p pool)) (shrinkOn p g f (cleared pool))
 
 -- Due
 

@@ -1,4 +1,4 @@
-// What the calls answer. specs/Answers.antt gives document 01's number and values for each case.
+// What the calls answer. specs/Answers.antt gives the papers' number and values for each case.
 ghost use mathlib.Core.Path.{_≡_};
 ghost use Rattle.calls.specs.Answers.{numberOf, pageOf, spotted, counted, refusedBy, placed, sought, dueSaid, checked};
 use hashing::Growth;
@@ -13,6 +13,7 @@ pub enum Refusal {
     Held,
     NotHeld,
     Full,
+    Ungrown,
 }
 
 // What the test of refusals 1 and 2 says, with which every call begins.
@@ -127,6 +128,7 @@ fn number_of(refusal: Refusal) -> Numbered
         Refusal::Held => Numbered { number: 6, page: 0 },
         Refusal::NotHeld => Numbered { number: 7, page: 0 },
         Refusal::Full => Numbered { number: 8, page: 0 },
+        Refusal::Ungrown => Numbered { number: 9, page: 0 },
     }
 }
 

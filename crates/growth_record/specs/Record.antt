@@ -1,4 +1,4 @@
--- The growth state that a caller keeps after growth.
+-- The growth state that a caller keeps after growth or shrinking.
 use Rattle.hashing.specs.declared.Growth.{Growth}
 use Rattle.calls.specs.declared.answers.Grown.{Grown}
 use Rattle.calls.specs.declared.answers.Placed.{Placed}

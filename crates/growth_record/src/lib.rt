@@ -1,8 +1,8 @@
-// Growth for a caller who lends the growth record.
+// Growth and shrinking for a caller who lends the growth record.
 ghost use mathlib.Core.Path.{_≡_};
 ghost use Rattle.placement.specs.Lent.{before, after};
 ghost use Rattle.calls.specs.Answers.{Leaves, placed};
-ghost use Rattle.calls.specs.Calls.{growOf};
+ghost use Rattle.calls.specs.Calls.{growOf, shrinkOf};
 ghost use Rattle.calls.specs.Lent.{poolBefore, poolAfter};
 ghost use Rattle.growth_record.specs.Record.{keptBy};
 use calls::answers::Grown;
@@ -38,7 +38,35 @@ pub fn grow(
     grown.answer
 }
 
-// The growth state after growth: the new one if it was accepted, the old one if it was refused.
+// The same of shrinking.
+pub fn shrink(
+    parameters: Parameters,
+    growth: &mut Growth,
+    separators: &mut [u8],
+    numbers: &mut [u32],
+    words: &mut [u64],
+    poolnumbers: &mut [u32],
+    poolwords: &mut [u64],
+) -> Placed
+    ensures { λ r. ⌜ Leaves (shrinkOf parameters (now (growth .entry)) (before separators numbers words) (poolBefore poolnumbers poolwords))
+        (placed r) (after separators numbers words) (poolAfter poolnumbers poolwords) ⌝ }
+    ensures { λ _. ⌜ now (growth .exit) ≡ shrinkOf parameters (now (growth .entry)) (before separators numbers words) (poolBefore poolnumbers poolwords) .growth ⌝ }
+{
+    let old = *growth;
+    let shrunk = starfile::shrink(
+        parameters,
+        old,
+        separators,
+        numbers,
+        words,
+        poolnumbers,
+        poolwords,
+    );
+    *growth = kept(old, shrunk);
+    shrunk.answer
+}
+
+// The growth state after the call: the new one if it was accepted, the old one if it was refused.
 fn kept(old: Growth, grown: Grown) -> Growth
     ensures { λ r. ⌜ r ≡ keptBy (grown .answer) old (grown .growth) ⌝ }
 {

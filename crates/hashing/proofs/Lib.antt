@@ -4,3 +4,4 @@ pub mod Laws
 pub mod Numbers
 pub mod Points
 pub mod Powers
+pub mod Shrinking

@@ -1,5 +1,5 @@
 -- Group size, group count and page count: document 01, "The lent buffers"; the growth step: "The cut".
-use mathlib.Core.Bool.{Bool, true, false}
+use mathlib.Core.Bool.{Bool, true, false, _&&_}
 use Prim.Native.Nat.{ℕ, _+_, _-_, _*_, _/_, _%_, _^_, min}
 use lib.Dec.{eqb}
 use Rattle.hashing.specs.declared.Parameters.{Parameters}
@@ -38,6 +38,17 @@ grown p g = grownBy (eqb (g .expanded + 1) (groupCount p g)) g
 -- a new file's growth state
 abbrev pub ungrown : Growth
 ungrown = record { expansions = 0; expanded = 0 }
+
+unfoldable pub isUngrown : Growth → Bool
+isUngrown g = eqb (g .expansions) 0 && eqb (g .expanded) 0
+
+-- "takes (e, x) back to the state before the latest growth": x − 1, or where x is 0, e − 1 and its last group; document 02 (i)
+unfoldable pub shrunkBy : Bool → Parameters → Growth → Growth
+shrunkBy true p g = record { expansions = g .expansions - 1; expanded = countAt p (g .expansions - 1) - 1 }
+shrunkBy false p g = record { expansions = g .expansions; expanded = g .expanded - 1 }
+
+unfoldable pub shrunk : Parameters → Growth → Growth
+shrunk p g = shrunkBy (eqb (g .expanded) 0) p g
 
 -- with t = G − 1 − g and w = t mod s: w·(G div s) + the smaller of w and G mod s + t div s
 unfoldable pub swept : ℕ → ℕ → ℕ → ℕ

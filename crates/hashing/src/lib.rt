@@ -1,5 +1,5 @@
 // Where a star's home page is and which signatures it has: the number generator, the geometry of a linear hashing file with
-// partial expansions, and the growth step.
+// partial expansions, the growth step and its undoing.
 mod address;
 mod firsts;
 mod generator;
@@ -8,6 +8,7 @@ mod limits;
 mod moves;
 mod ranks;
 mod table;
+mod undoing;
 
 pub use address::home;
 pub use address::home_grown;
@@ -22,6 +23,9 @@ pub use limits::growth_valid;
 pub use limits::multiplier_valid;
 pub use limits::parameters_valid;
 pub use ranks::rank;
+pub use undoing::home_shrunk;
+pub use undoing::shrunk;
+pub use undoing::ungrown;
 
 // A file's parameters, with document 01's letters.
 pub struct Parameters {

@@ -3,10 +3,9 @@ use mathlib.Core.Path.{_≡_, refl, sym, ap, _∙_, subst}
 use mathlib.Core.Bool.{Bool, true, false, cond, _&&_}
 use mathlib.Core.List.{[]}
 use Prim.Native.Nat.{_-_, _<_}
-use native.Mathlib.Nat.{zero-add, le-refl}
 use native.Mathlib.Omega.{arith}
 use lib.Dec.{eqb}
-use borrow.Author.Tests.{le-ltb, ne-eqb}
+use borrow.Author.Tests.{ne-eqb}
 use Rattle.hashing.specs.declared.Parameters.{Parameters}
 use Rattle.hashing.specs.declared.Growth.{Growth}
 use Rattle.hashing.specs.Geometry.{pageCount, highest, grown}
@@ -16,13 +15,13 @@ use Rattle.placement.specs.File.{File, Clean, laid}
 use Rattle.placement.specs.Hash.{hashOf}
 use Rattle.placement.proofs.Sound.{clean-laid}
 use Rattle.calls.specs.Answers.{Pool, After, accepted, refused, cleared}
-use Rattle.calls.specs.Calls.{hash, fileFits, poolFits, unless, orElse, unlent, guarded, unchanged, emptyFile, growTo, growOf, checkOf}
+use Rattle.calls.specs.Calls.{hash, fileFits, poolFits, unless, orElse, unlent, guarded, unchanged, emptyFile, regrowTo, growOf, checkOf}
 use Rattle.histories.specs.Model.{Model, entryStars, modelFile}
 use Rattle.histories.proofs.Fitting.{Fitting, bounded, rising-from, proper, lengths}
 use Rattle.histories.proofs.Guards.{lent-pool}
-use Rattle.histories.proofs.Searching.{none-unsound}
 use Rattle.histories.proofs.Make.{left-none, laid-none}
-use Rattle.histories.proofs.Check.{all-stars, placed-anew, finds-nothing}
+use Rattle.histories.proofs.Check.{finds-nothing}
+use Rattle.histories.proofs.Grow.{regrows}
 
 -- the model of no star
 abbrev starless : Growth → Model
@@ -41,9 +40,9 @@ module _ (p : Parameters) (g : Growth) (valid : validParameters p ≡ true) (sta
   unfolding emptyFile hashOf
   laid-empty next = laid-none (p .places) (hash p next) (bounded p next valid) (p .pages)
 
-  file-empty : modelFile p (starless g) ≡ emptyFile p
+  file-empty : (next : Growth) → modelFile p (starless next) ≡ emptyFile p
   unfolding modelFile entryStars
-  file-empty = laid-empty g
+  file-empty next = laid-empty next
 
   pub empty-clean : Clean validWord (hash p g) (p .pages) (emptyFile p)
   unfolding entryStars hashOf
@@ -58,26 +57,19 @@ module _ (p : Parameters) (g : Growth) (valid : validParameters p ≡ true) (sta
 
   -- check accepts it
   pub empty-checked : (pool : Pool) → poolFits p pool ≡ true → checkOf p g (emptyFile p) pool ≡ unchanged g (emptyFile p) (cleared pool) (accepted 0)
-  empty-checked pool fits = subst (λ (f : File). checkOf p g f pool ≡ unchanged g f (cleared pool) (accepted 0)) file-empty (checks pool fits)
+  empty-checked pool fits = subst (λ (f : File). checkOf p g f pool ≡ unchanged g f (cleared pool) (accepted 0)) (file-empty g) (checks pool fits)
 
-  grows-to : (pool : Pool) → growTo p g (modelFile p (starless g)) (cleared pool) (grown p g) ≡ grownEmpty p g pool
-  unfolding growTo entryStars
+  grows-to : (pool : Pool) → regrowTo p g (modelFile p (starless g)) (cleared pool) (grown p g) (pageCount p g) ≡ grownEmpty p g pool
+  unfolding entryStars
   grows-to pool =
-      rw (
-        none-unsound p (starless g) fitting 0 (p .pages) (omega (arith, zero-add (p .pages))),
-        zero-add (p .pages),
-        le-ltb (p .pages) (p .pages) (le-refl (p .pages)),
-        all-stars p (starless g) fitting,
-        left-none (hash p (grown p g)) 0 (p .pages),
-        placed-anew p (starless g) fitting (grown p g),
-        laid-empty (grown p g),
-      )
+      regrows p (starless g) fitting (cleared pool) (grown p g) (pageCount p g)
+      ∙ rw (left-none (hash p (grown p g)) 0 (p .pages), file-empty (grown p g))
 
-  grows-from : (pool : Pool) → growTo p g (emptyFile p) (cleared pool) (grown p g) ≡ grownEmpty p g pool
-  grows-from pool = ap (λ (f : File). growTo p g f (cleared pool) (grown p g)) (sym file-empty) ∙ grows-to pool
+  grows-from : (pool : Pool) → regrowTo p g (emptyFile p) (cleared pool) (grown p g) (pageCount p g) ≡ grownEmpty p g pool
+  grows-from pool = ap (λ (f : File). regrowTo p g f (cleared pool) (grown p g) (pageCount p g)) (sym (file-empty g)) ∙ grows-to pool
 
   lengths-fit : fileFits p (emptyFile p) ≡ true
-  lengths-fit = subst (λ (f : File). fileFits p f ≡ true) file-empty (lengths p (starless g) fitting)
+  lengths-fit = subst (λ (f : File). fileFits p f ≡ true) (file-empty g) (lengths p (starless g) fitting)
 
   -- with the highest address below M − 1 growth accepts it, and leaves the file
   pub empty-grows : (pool : Pool) → poolFits p pool ≡ true → highest p g < p .pages - 1 → growOf p g (emptyFile p) pool ≡ grownEmpty p g pool
@@ -91,7 +83,7 @@ empty-kept p g pool = go (validParameters p) refl (validGrowth p g) refl (fileFi
   where
     go : (v : Bool) → validParameters p ≡ v → (w : Bool) → validGrowth p g ≡ w → (l h : Bool)
         → guarded g (emptyFile p) pool (orElse (unless (v && w) 1) (unless l 2))
-        (cond h (unchanged g (emptyFile p) (cleared pool) (refused 8 0)) (growTo p g (emptyFile p) (cleared pool) (grown p g)))
+        (cond h (unchanged g (emptyFile p) (cleared pool) (refused 8 0)) (regrowTo p g (emptyFile p) (cleared pool) (grown p g) (pageCount p g)))
         .file
         ≡ emptyFile p
     go false e w d l h = refl

@@ -12,7 +12,7 @@ use Rattle.placement.proofs.Sound.{clean-laid}
 use Rattle.calls.specs.declared.answers.Answer.{Answer}
 use Rattle.calls.specs.Answers.{Pool, After, spotted, acceptedAt, refusedAt, cleared}
 use Rattle.calls.specs.Calls.{poolFits, unchanged, lookUpOf, enterOf, checkOf}
-use Rattle.histories.specs.Model.{Model, lookUp, enter, change, remove, grow, due, check, fed, heldPosition, modelFile, pageFor, placeOn, answered}
+use Rattle.histories.specs.Model.{Model, lookUp, enter, change, remove, grow, shrink, due, check, fed, heldPosition, modelFile, pageFor, placeOn, answered}
 use Rattle.histories.specs.Call.{Call, callOf, step, isAccepted}
 use Rattle.histories.specs.Run.{HistoryState, Event, initial, outcome, next, end}
 use Rattle.histories.specs.Theorem.{EveryHistory}
@@ -24,7 +24,7 @@ use Rattle.histories.proofs.LookUp.{looks-up, look-up-conforms}
 use Rattle.histories.proofs.Enter.{enter-conforms, fed-own, resent, other, full}
 use Rattle.histories.proofs.Change.{change-conforms}
 use Rattle.histories.proofs.Remove.{remove-conforms}
-use Rattle.histories.proofs.Grow.{grow-conforms}
+use Rattle.histories.proofs.Grow.{grow-conforms, shrink-conforms, shrink-first, shrink-full}
 use Rattle.histories.proofs.Due.{due-conforms}
 use Rattle.histories.proofs.Check.{check-conforms, finds-nothing}
 use Rattle.histories.proofs.Conforms.{fedWith}
@@ -39,6 +39,7 @@ conforming p m t pool (enter k q) = enter-conforms p m t k q pool
 conforming p m t pool (change k q) = change-conforms p m t k q pool
 conforming p m t pool (remove k) = remove-conforms p m t k pool
 conforming p m t pool grow = grow-conforms p m t pool
+conforming p m t pool shrink = shrink-conforms p m t pool
 conforming p m t pool due = due-conforms p m t pool
 conforming p m t pool check = check-conforms p m t pool
 
@@ -95,6 +96,8 @@ in-history s agrees =
       full = λ pool k q l v w e. rw (agrees .growth, agrees .file) (full (s .parameters) (s .model) (agrees .fitting) k q pool l (record { number = v; position = w }) e);
       resent = λ pool k q l e. (ap (λ (x : After). x .answer) (leaves s agrees pool l k q e), stays s agrees pool l k q e);
       held = λ pool k q r l v e d. refuses s agrees pool l k q r v e d;
+      shrinkFirst = λ pool l. rw (agrees .growth, agrees .file) (shrink-first (s .parameters) (s .model) (agrees .fitting) pool l);
+      shrinkFull = λ pool l d. rw (agrees .growth, agrees .file) (shrink-full (s .parameters) (s .model) (agrees .fitting) pool l d);
     }
 
 pub each-state : EachState

@@ -1,10 +1,21 @@
 -- The refusals before anything is read, on a fitting model's own file: parameters, growth state and file buffers are never at fault.
-use mathlib.Core.Path.{_≡_}
+use mathlib.Core.Path.{_≡_, refl}
 use mathlib.Core.Bool.{Bool, _&&_}
+use Prim.Native.Nat.{ℕ, zero, suc}
+use native.Mathlib.Omega.{arith}
 use Rattle.hashing.specs.declared.Parameters.{Parameters}
-use Rattle.calls.specs.Calls.{fileFits, unless, unlent}
+use Rattle.hashing.specs.declared.Growth.{Growth}
+use Rattle.placement.specs.File.{File}
+use Rattle.calls.specs.Answers.{Pool, After, spotted}
+use Rattle.calls.specs.Calls.{fileFits, unless, unlent, guarded}
 use Rattle.histories.specs.Model.{Model, modelFile}
 use Rattle.histories.proofs.Fitting.{Fitting, lengths}
+
+-- A call that is accepted has passed them, whatever the file.
+pub guard-passed : (g : Growth) (f : File) (pool : Pool) (n : ℕ) (after : After) → guarded g f pool n after .answer .refusal ≡ 0 → n ≡ 0
+unfolding spotted
+guard-passed g f pool zero after e = refl
+guard-passed g f pool (suc n) after e = absurd (omega arith)
 
 module _ (p : Parameters) (m : Model) (t : Fitting p m) where
   pub lent : unlent p (m .growth) (fileFits p (modelFile p m)) ≡ 0

@@ -21,3 +21,5 @@ pub mod Enter
 pub mod Change
 pub mod Every
 pub mod Demand3
+pub mod Cleaned
+pub mod RoundTrips

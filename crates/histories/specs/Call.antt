@@ -6,8 +6,8 @@ use Rattle.hashing.specs.declared.Growth.{Growth}
 use Rattle.placement.specs.File.{File}
 use Rattle.calls.specs.declared.answers.Answer.{Answer}
 use Rattle.calls.specs.Answers.{Pool, After}
-use Rattle.calls.specs.Calls.{lookUpOf, enterOf, changeOf, removeOf, growOf, dueOf, checkOf}
-use Rattle.histories.specs.Model.{Request, lookUp, enter, change, remove, grow, due, check}
+use Rattle.calls.specs.Calls.{lookUpOf, enterOf, changeOf, removeOf, growOf, shrinkOf, dueOf, checkOf}
+use Rattle.histories.specs.Model.{Request, lookUp, enter, change, remove, grow, shrink, due, check}
 
 -- "any number, position and pool": look-ups, changes and Dues leave the pool alone
 pub record Call : Type 0 where
@@ -24,6 +24,7 @@ step p g f pool (enter k q) = enterOf p g f pool k q
 step p g f pool (change k q) = changeOf p g f pool k q
 step p g f pool (remove k) = removeOf p g f pool k
 step p g f pool grow = growOf p g f pool
+step p g f pool shrink = shrinkOf p g f pool
 step p g f pool due = dueOf p g f pool
 step p g f pool check = checkOf p g f pool
 

@@ -6,13 +6,14 @@ use mathlib.Core.Logic.{_↔_}
 use mathlib.Core.Option.{none, some}
 use Prim.Native.Nat.{ℕ}
 use Rattle.hashing.specs.declared.Parameters.{Parameters}
+use Rattle.hashing.specs.Geometry.{ungrown, shrunk}
 use Rattle.pages.specs.declared.position.Position.{Position}
 use Rattle.pages.specs.Position.{validNumber, validPosition, validWord}
 use Rattle.placement.specs.Rule.{left}
 use Rattle.placement.specs.File.{File, Clean}
 use Rattle.calls.specs.Answers.{Pool, acceptedAt, refusedAt}
 use Rattle.calls.specs.Calls.{hash, poolFits, makeOf}
-use Rattle.histories.specs.Model.{lookUp, enter, check, setPosition, heldPosition, entryStars, pageFor, placeOn, answered}
+use Rattle.histories.specs.Model.{lookUp, enter, shrink, check, setPosition, heldPosition, entryStars, pageFor, placeOn, answered}
 use Rattle.histories.specs.Call.{Call, callOf}
 use Rattle.histories.specs.Run.{HistoryState, Event, initial, outcome, next, events, end}
 
@@ -41,6 +42,14 @@ pub record InHistory (now : HistoryState) : Type 0 where
       (pool : Pool) (k : ℕ) (q r : Position) → poolFits (now .parameters) pool ≡ true → validPosition q ≡ true
       → heldPosition k (now .model .entries) ≡ some r → (r ≡ q → ⊥)
       → outcome now (callOf pool (enter k q)) .answer ≡ refusedAt 6 0 (placeOn (now .parameters) (now .model) k)
+  -- a shrink is refused with 9 exactly if the model's (e, x) is (0, 0)
+  pub shrinkFirst :
+      (pool : Pool) → poolFits (now .parameters) pool ≡ true → (outcome now (callOf pool shrink) .answer .refusal ≡ 9) ↔ (now .model .growth ≡ ungrown)
+  -- and else with 8 exactly if the model's stars do not fit under the state before
+  pub shrinkFull :
+      (pool : Pool) → poolFits (now .parameters) pool ≡ true → (now .model .growth ≡ ungrown → ⊥)
+      → (outcome now (callOf pool shrink) .answer .refusal ≡ 8)
+      ↔ (left (hash (now .parameters) (shrunk (now .parameters) (now .model .growth))) 0 (now .parameters .pages) (entryStars (now .model .entries)) ≡ [] → ⊥)
 
 -- so it is before each call of a history, and at its end
 pub record Throughout (start : HistoryState) (history : List Call) : Type 0 where

@@ -5,3 +5,4 @@ pub mod Theorem
 pub mod Corollaries
 pub mod Alike
 pub mod Demand3
+pub mod RoundTrips

@@ -6,7 +6,7 @@ use Prim.Native.Nat.{ℕ}
 use lib.Dec.{eqb, ltb}
 use Rattle.hashing.specs.declared.Parameters.{Parameters}
 use Rattle.hashing.specs.declared.Growth.{Growth}
-use Rattle.hashing.specs.Geometry.{grown, ungrown}
+use Rattle.hashing.specs.Geometry.{grown, ungrown, shrunk}
 use Rattle.pages.specs.declared.position.Position.{Position}
 use Rattle.pages.specs.Position.{packed}
 use Rattle.placement.specs.Rule.{Star, first, filter}
@@ -51,15 +51,16 @@ pub data Request : Type 0 where
   enter : ℕ → Position → Request
   change : ℕ → Position → Request
   remove : ℕ → Request
-  grow due check : Request
+  grow shrink due check : Request
 
--- what an accepted call makes of the model; "Any other call leaves it as it is"
+-- what an accepted call makes of the model; "Any other call leaves it as it is"; a shrink is "taking the book's (e, x) back": document 02 (i)
 unfoldable pub updated : Parameters → Request → Model → Model
 updated p (lookUp k) m = m
 updated p (enter k q) m = record { entries = setPosition k q (m .entries); growth = m .growth }
 updated p (change k q) m = record { entries = setPosition k q (m .entries); growth = m .growth }
 updated p (remove k) m = record { entries = strike k (m .entries); growth = m .growth }
 updated p grow m = record { entries = m .entries; growth = grown p (m .growth) }
+updated p shrink m = record { entries = m .entries; growth = shrunk p (m .growth) }
 updated p due m = m
 updated p check m = m
 

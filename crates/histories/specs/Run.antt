@@ -44,7 +44,8 @@ pub record Event : Type 0 where
   pub call : Call
   pub answer : Answer
 
--- "A history is a list of look-ups, entries, changes, removals, growths, Dues .. and checks on one file, refused ones included"
+-- "A history is a list of look-ups, entries, changes, removals, growths, Dues .. and checks on one file, refused ones included"; "Histories may now
+-- mix both", growths and shrinks: document 02 (i)
 unfoldable pub events : HistoryState → List Call → List Event
 events s [] = []
 events s (c ∷ cs) = record { before = s; call = c; answer = outcome s c .answer } ∷ events (next s c) cs

@@ -1,4 +1,4 @@
--- A growth: the homes under the next growth state, and that the rule over all pages is what the code leaves.
+-- A growth or a shrinking: the homes under the growth state `next`, and that the rule over all pages is what the code leaves.
 use mathlib.Core.Path.{_≡_, refl, sym, ap, _∙_}
 use mathlib.Core.Bool.{Bool, true, false, not, cond}
 use mathlib.Core.List.{List, [], map, append-nil}
@@ -11,9 +11,10 @@ use lib.Seq.{paste, take-all, drop-length}
 use borrow.Author.Tests.{lt-ltb, le-ltb, ne-eqb}
 use Rattle.hashing.specs.declared.Parameters.{Parameters}
 use Rattle.hashing.specs.declared.Growth.{Growth}
-use Rattle.hashing.specs.Geometry.{pageCount, grown}
 use Rattle.hashing.specs.Limits.{validParameters, validGrowth}
+use Rattle.hashing.proofs.Bounds.{limits, growth-within, spread}
 use Rattle.hashing.proofs.Laws.{grown-valid}
+use Rattle.hashing.proofs.Shrinking.{shrunk-valid}
 use Rattle.pages.specs.Position.{validWord}
 use Rattle.placement.specs.Rule.{Star, Hash, left, without}
 use Rattle.placement.specs.File.{File, Sized, gathered}
@@ -32,7 +33,7 @@ use Rattle.planning.proofs.Sourcing.{itemHome}
 use Rattle.planning.proofs.Placed.{Gatherable, probes-real, homes-real}
 use Rattle.replacing.specs.declared.Replaced.the-variants.{Done, Unsound, Overflows}
 use Rattle.replacing.specs.Stretch.{Plannable, fitting, restretched}
-use Rattle.replacing.specs.Calls.{hash, growthAnswer, growthFile}
+use Rattle.replacing.specs.Calls.{hash, nextOf, Movable, growthAnswer, growthFile}
 use Rattle.replacing.proofs.Ruled.{fitting-is, restretched-is}
 use Rattle.replacing.proofs.Items.{all-below, all-sound, real-sound, numbers-below, plannable-stretch, ready-stretch}
 
@@ -76,13 +77,17 @@ module _ (p : Parameters) (g next : Growth) (ns homes : List ℕ) (i : ℕ) (R :
       ∙ whole (homesOf p g ns) (homesOf p next ns) i
       (length-map ns (homeIn p g) ∙ sym e) (length-map ns (homeIn p next) ∙ sym e)
 
+pub next-valid : (back : Bool) (p : Parameters) (g : Growth) → validParameters p ≡ true → validGrowth p g ≡ true → Movable back p g → validGrowth p (nextOf back p g) ≡ true
+next-valid true p g v w m = shrunk-valid p g v m w
+next-valid false p g v w m = grown-valid p g v w m
+
 -- ---- the file
 
 module _ (p : Parameters) (g : Growth) (f : File) (valid : validParameters p ≡ true) (sized : Sized (p .places) (p .pages) f) where
-  pub growth-refused : (bad : ℕ) → bad ≡ firstUnsound p g f 0 (p .pages - 0) → bad < p .pages
-      → (Unsound bad ≡ growthAnswer p g f (grown p g)) × (f ≡ growthFile p g f (grown p g))
+  pub growth-refused : (next : Growth) (bad : ℕ) → bad ≡ firstUnsound p g f 0 (p .pages - 0) → bad < p .pages
+      → (Unsound bad ≡ growthAnswer p g f next) × (f ≡ growthFile p g f next)
   unfolding growthAnswer growthFile
-  growth-refused bad e h =
+  growth-refused next bad e h =
       let is : bad ≡ firstUnsound p g f 0 (p .pages) = rw (sub-zero (p .pages)) at e in
       let t : ltb (firstUnsound p g f 0 (p .pages)) (p .pages) ≡ true = lt-ltb (firstUnsound p g f 0 (p .pages)) (p .pages) (omega arith) in
       rw (t, is) (refl, refl)
@@ -104,36 +109,41 @@ module _ (p : Parameters) (g : Growth) (f : File) (valid : validParameters p ≡
         let is : bad ≡ firstUnsound p g f 0 (p .pages) = rw (sub-zero (p .pages)) at survey in
         omega arith
 
-    module _ (grows : validGrowth p g ≡ true) (more : pageCount p g < p .pages) (pool : List ℕ) (e : pool ≡ homesOf p (grown p g) (f .numbers)) where
+    module _ (next : Growth) (later : validGrowth p next ≡ true) (pool : List ℕ) (e : pool ≡ homesOf p next (f .numbers)) where
+      some-pages : 0 < p .pages
+      some-pages =
+          let state = growth-within p next later in
+          omega (arith, state .pages-fit, spread p next (limits p valid) state .pages-low)
+
       size : length pool ≡ p .pages * p .places
       unfolding homesOf
-      size = ap length e ∙ length-map (f .numbers) (homeIn p (grown p g)) ∙ sized .ofNumbers
+      size = ap length e ∙ length-map (f .numbers) (homeIn p next) ∙ sized .ofNumbers
 
       below : allBelow (2 ^ 31) (stretch (p .places) 0 (p .pages) (f .numbers)) ≡ true
       below = numbers-below p f valid sized 0 (p .pages) (omega arith) g (all-sound p g f 0 (p .pages) sound-pages)
 
-      true-homes : stretch (p .places) 0 (p .pages) pool ≡ map (itemHome (hash p (grown p g))) (stretch (p .places) 0 (p .pages) (f .numbers))
+      true-homes : stretch (p .places) 0 (p .pages) pool ≡ map (itemHome (hash p next)) (stretch (p .places) 0 (p .pages) (f .numbers))
       true-homes =
-          let home : ℕ → ℕ = itemHome (hash p (grown p g)) in
-          ap (stretch (p .places) 0 (p .pages)) (e ∙ homes-real p (grown p g) (f .numbers))
+          let home : ℕ → ℕ = itemHome (hash p next) in
+          ap (stretch (p .places) 0 (p .pages)) (e ∙ homes-real p next (f .numbers))
           ∙ ap (take (p .pages * p .places)) (map-drop home (0 * p .places) (f .numbers))
           ∙ map-take home (p .pages * p .places) (drop (0 * p .places) (f .numbers))
 
-      home-inside : (x : ℕ) → itemHome (hash p (grown p g)) x < 0 + p .pages
+      home-inside : (x : ℕ) → itemHome (hash p next) x < 0 + p .pages
       unfolding itemHome
       home-inside x = go (eqb x 0)
         where
-          go : (t : Bool) → cond t 0 (hash p (grown p g) .home x) < 0 + p .pages
-          go true = omega arith
-          go false = omega (arith, homed-real p (grown p g) valid (grown-valid p g valid grows more) x)
+          go : (t : Bool) → cond t 0 (hash p next .home x) < 0 + p .pages
+          go true = omega (arith, some-pages)
+          go false = omega (arith, homed-real p next valid later x)
 
       within : allBelow (0 + p .pages) (stretch (p .places) 0 (p .pages) pool) ≡ true
       unfolding itemHome
       within =
           let ns : List ℕ = stretch (p .places) 0 (p .pages) (f .numbers) in
           rw true-homes
-          (all-below (0 + p .pages) (map (itemHome (hash p (grown p g))) ns)
-          (λ i h. rw (List·getD-map (itemHome (hash p (grown p g))) ns i 0) (home-inside (getD ns i 0))))
+          (all-below (0 + p .pages) (map (itemHome (hash p next)) ns)
+          (λ i h. rw (List·getD-map (itemHome (hash p next)) ns i 0) (home-inside (getD ns i 0))))
 
       -- no star has the number 0
       none-out : without 0 (gathered (p .places) f 0 (p .pages)) ≡ gathered (p .places) f 0 (p .pages)
@@ -145,21 +155,21 @@ module _ (p : Parameters) (g : Growth) (f : File) (valid : validParameters p ≡
           (ne-eqb (s .number) 0
           (λ z. omega (arith, gathered-proper validWord (hash p g) f 0 (p .pages) (real-sound p g f 0 (p .pages) (all-sound p g f 0 (p .pages) sound-pages)) s m .0))))
 
-      ready : Gatherable (hash p (grown p g)) (p .places) 0 (p .pages) f pool
-      ready = ready-stretch p f valid sized 0 (p .pages) (omega arith) (omega arith) pool size below within (hash p (grown p g)) true-homes
+      ready : Gatherable (hash p next) (p .places) 0 (p .pages) f pool
+      ready = ready-stretch p f valid sized 0 (p .pages) (omega arith) (omega (arith, some-pages)) pool size below within (hash p next) true-homes
 
       all-are-sound : ltb (firstUnsound p g f 0 (p .pages)) (p .pages) ≡ false
       all-are-sound = le-ltb (firstUnsound p g f 0 (p .pages)) (p .pages) (omega (arith, sound-pages))
 
       pub growth-plannable : (waiting : List ℕ) → length waiting ≡ p .pages * p .places → Plannable p 0 (p .pages) f pool waiting
-      growth-plannable waiting ew = plannable-stretch p f valid sized 0 (p .pages) (omega arith) (omega arith) pool size below within waiting ew
+      growth-plannable waiting ew = plannable-stretch p f valid sized 0 (p .pages) (omega arith) (omega (arith, some-pages)) pool size below within waiting ew
 
       pub growth-done : (r : Bool) → r ≡ fitting p 0 (p .pages) 0 f pool → (f′ : File) → f′ ≡ restretched p 0 (p .pages) 0 f pool
-          → (cond r Done Overflows ≡ growthAnswer p g f (grown p g)) × (f′ ≡ growthFile p g f (grown p g))
+          → (cond r Done Overflows ≡ growthAnswer p g f next) × (f′ ≡ growthFile p g f next)
       unfolding growthAnswer growthFile
       growth-done r er f′ ef =
-          let H : Hash = hash p (grown p g) in
+          let H : Hash = hash p next in
           let is : r ≡ isEmpty (left H 0 (p .pages) (gathered (p .places) f 0 (p .pages))) =
-          rw none-out at (er ∙ fitting-is H p (probes-real p (grown p g)) 0 (p .pages) f pool ready 0) in
+          rw none-out at (er ∙ fitting-is H p (probes-real p next) 0 (p .pages) f pool ready 0) in
           rw (all-are-sound, is)
-          (refl, ef ∙ rw none-out at (restretched-is H p (probes-real p (grown p g)) 0 (p .pages) f pool ready 0))
+          (refl, ef ∙ rw none-out at (restretched-is H p (probes-real p next) 0 (p .pages) f pool ready 0))

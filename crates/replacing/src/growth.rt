@@ -1,45 +1,49 @@
-// Growth by one page: all stars placed anew under the next growth state.
+// Growth by one page and its undoing: all stars placed anew under the next growth state, or `back` under the one before.
 ghost use mathlib.Core.Path.{_≡_};
-ghost use Prim.Native.Nat.{_<_};
-ghost use Rattle.hashing.specs.Geometry.{pageCount, grown};
 ghost use Rattle.placement.specs.Hash.{homeIn, homesOf};
 ghost use Rattle.placement.specs.Lent.{held, before, after};
 ghost use Rattle.placement.specs.Ready.{Homing, Ready, Pooled};
-ghost use Rattle.replacing.specs.Calls.{growthAnswer, growthFile};
+ghost use Rattle.replacing.specs.Calls.{nextOf, Movable, growthAnswer, growthFile};
 use crate::Replaced;
 use crate::stretch::replace_stretch;
 use hashing::Geometry;
 
-// An item's home under the next growth state, from its home under this one; 0 for an empty place.
-fn next_home(table: &[u32; 90], geometry: Geometry, number: u32, old: u32) -> u32
+// An item's home under that growth state, from its home under this one; 0 for an empty place.
+fn next_home(table: &[u32; 90], geometry: Geometry, back: bool, number: u32, old: u32) -> u32
     requires { ⌜ Homing geometry (now table) ⌝ }
+    requires { ⌜ Movable back (geometry .parameters) (geometry .growth) ⌝ }
     requires { ⌜ old ≡ homeIn (geometry .parameters) (geometry .growth) number ⌝ }
-    ensures { λ r. ⌜ r ≡ homeIn (geometry .parameters) (grown (geometry .parameters) (geometry .growth)) number ⌝ }
+    ensures { λ r. ⌜ r ≡ homeIn (geometry .parameters) (nextOf back (geometry .parameters) (geometry .growth)) number ⌝ }
 {
     if number == 0 {
         return 0;
     }
+    if back {
+        return hashing::home_shrunk(table, geometry, number, old);
+    }
     hashing::home_grown(table, geometry, number, old)
 }
 
-fn rehome(table: &[u32; 90], geometry: Geometry, numbers: &[u32], homes: &mut [u32])
+fn rehome(table: &[u32; 90], geometry: Geometry, back: bool, numbers: &[u32], homes: &mut [u32])
     requires { ⌜ Homing geometry (now table) ⌝ }
+    requires { ⌜ Movable back (geometry .parameters) (geometry .growth) ⌝ }
     requires { ⌜ now homes ≡ homesOf (geometry .parameters) (geometry .growth) (now numbers) ⌝ }
-    ensures { λ _. ⌜ now (homes .exit) ≡ homesOf (geometry .parameters) (grown (geometry .parameters) (geometry .growth)) (now (numbers .entry)) ⌝ }
+    ensures { λ _. ⌜ now (homes .exit) ≡ homesOf (geometry .parameters) (nextOf back (geometry .parameters) (geometry .growth)) (now (numbers .entry)) ⌝ }
 {
     let mut i = 0;
     while i < numbers.len() {
         let old = homes[i];
-        let next = next_home(table, geometry, numbers[i], old);
+        let next = next_home(table, geometry, back, numbers[i], old);
         homes[i] = next;
         i += 1;
     }
 }
 
-// The stars of all pages, placed anew under the next growth state.
+// The stars of all pages, placed anew under that growth state.
 pub fn regrow(
     table: &[u32; 90],
     geometry: Geometry,
+    back: bool,
     separators: &mut [u8],
     numbers: &mut [u32],
     words: &mut [u64],
@@ -48,16 +52,16 @@ pub fn regrow(
 ) -> Replaced
     requires { ⌜ Ready geometry (now table) (held separators numbers words) ⌝ }
     requires { ⌜ Pooled (geometry .parameters) (now pool) (now waiting) ⌝ }
-    requires { ⌜ pageCount (geometry .parameters) (geometry .growth) < geometry .parameters .pages ⌝ }
-    ensures { λ r. ⌜ r ≡ growthAnswer (geometry .parameters) (geometry .growth) (before separators numbers words) (grown (geometry .parameters) (geometry .growth)) ⌝ }
-    ensures { λ r. ⌜ after separators numbers words ≡ growthFile (geometry .parameters) (geometry .growth) (before separators numbers words) (grown (geometry .parameters) (geometry .growth)) ⌝ }
+    requires { ⌜ Movable back (geometry .parameters) (geometry .growth) ⌝ }
+    ensures { λ r. ⌜ r ≡ growthAnswer (geometry .parameters) (geometry .growth) (before separators numbers words) (nextOf back (geometry .parameters) (geometry .growth)) ⌝ }
+    ensures { λ r. ⌜ after separators numbers words ≡ growthFile (geometry .parameters) (geometry .growth) (before separators numbers words) (nextOf back (geometry .parameters) (geometry .growth)) ⌝ }
 {
     let pages = geometry.parameters.pages as usize;
     let bad = reach::survey_pages(table, geometry, separators, numbers, words, pool, 0, pages);
     if bad < pages {
         return Replaced::Unsound(bad);
     }
-    rehome(table, geometry, numbers, pool);
+    rehome(table, geometry, back, numbers, pool);
     if !replace_stretch(
         geometry.parameters,
         separators,

@@ -1,4 +1,4 @@
-// One stretch of pages placed anew by the rule: the work of a removal over its reach, and of a growth over all pages.
+// One stretch of pages placed anew by the rule: the work of a removal over its reach, and of a growth or a shrinking over all pages.
 mod growth;
 mod removal;
 mod stretch;

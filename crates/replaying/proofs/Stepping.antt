@@ -38,6 +38,7 @@ use Rattle.calls.specs.Calls.{
   removeOn,
   removeOf,
   growOf,
+  shrinkOf,
   dueOf,
   checkOf,
 }
@@ -152,19 +153,31 @@ module _ (p : Parameters) (g : Growth) (f : File) (pool : Pool) where
       unfolding step requestOf
       remove-steps file left e l = rw e (record { answers = h ∙ l .answers; growths = sym (remove-growth k); files = l .files; pools = l .pools })
 
+      -- a call that may move the growth state
+      moving-steps : (after : After) → step p g f pool (requestOf kind k q) ≡ after → (file : File) (left : Pool) (next : Growth) → next ≡ after .growth
+          → Leaves after said-so file left
+          → Steps (step p g f pool (requestOf kind k q)) (record { answer = a; growth = next }) file left
+      moving-steps after e file left next n l = rw e (record { answers = h ∙ l .answers; growths = n; files = l .files; pools = l .pools })
+
       pub grow-steps : (file : File) (left : Pool) → kind ≡ 4 → (next : Growth) → next ≡ growOf p g f pool .growth
           → Leaves (growOf p g f pool) said-so file left
           → Steps (step p g f pool (requestOf kind k q)) (record { answer = a; growth = next }) file left
       unfolding step requestOf
-      grow-steps file left e next n l = rw e (record { answers = h ∙ l .answers; growths = n; files = l .files; pools = l .pools })
+      grow-steps file left e = moving-steps (growOf p g f pool) (rw e) file left
+
+      pub shrink-steps : (file : File) (left : Pool) → kind ≡ 7 → (next : Growth) → next ≡ shrinkOf p g f pool .growth
+          → Leaves (shrinkOf p g f pool) said-so file left
+          → Steps (step p g f pool (requestOf kind k q)) (record { answer = a; growth = next }) file left
+      unfolding step requestOf
+      shrink-steps file left e = moving-steps (shrinkOf p g f pool) (rw e) file left
 
       pub check-steps : (left : Pool) → (kind ≡ 0 → ⊥) → (kind ≡ 1 → ⊥) → (kind ≡ 2 → ⊥)
-          → (kind ≡ 3 → ⊥) → (kind ≡ 4 → ⊥) → (kind ≡ 5 → ⊥)
+          → (kind ≡ 3 → ⊥) → (kind ≡ 4 → ⊥) → (kind ≡ 5 → ⊥) → (kind ≡ 7 → ⊥)
           → Leaves (checkOf p g f pool) said-so f left
           → Steps (step p g f pool (requestOf kind k q)) (record { answer = a; growth = g }) f left
       unfolding step requestOf
-      check-steps left e0 e1 e2 e3 e4 e5 l =
-          rw (ne-eqb _ _ e0, ne-eqb _ _ e1, ne-eqb _ _ e2, ne-eqb _ _ e3, ne-eqb _ _ e4, ne-eqb _ _ e5)
+      check-steps left e0 e1 e2 e3 e4 e5 e7 l =
+          rw (ne-eqb _ _ e0, ne-eqb _ _ e1, ne-eqb _ _ e2, ne-eqb _ _ e3, ne-eqb _ _ e4, ne-eqb _ _ e5, ne-eqb _ _ e7)
           (record { answers = h ∙ l .answers; growths = sym check-growth; files = l .files; pools = l .pools })
 
 -- the answers of a step, recorded

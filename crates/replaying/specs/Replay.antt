@@ -16,7 +16,7 @@ use Rattle.calls.specs.Answers.{Pool, numberOf, unpooled}
 use Rattle.calls.specs.Calls.{unless, orElse, makeOf}
 use Rattle.replaying.specs.declared.replaying.Replayed.{Replayed}
 use Rattle.replaying.specs.declared.replaying.Replayed.the-variants.{Done, BadKind, Refused}
-use Rattle.histories.specs.Model.{modelFile, Request, lookUp, enter, change, remove, grow, due, check}
+use Rattle.histories.specs.Model.{modelFile, Request, lookUp, enter, change, remove, grow, shrink, due, check}
 use Rattle.histories.specs.Call.{Call, callOf}
 use Rattle.histories.specs.Run.{HistoryState, Event, initial, outcome, next, events, end}
 use Rattle.histories.specs.Theorem.{AsModel}
@@ -31,12 +31,12 @@ pub record LentHistory : Type 0 where
 abbrev pub lentHistory : List ℕ → List ℕ → List ℕ → List ℤ → LentHistory
 lentHistory kinds stars ras decs = record { kinds = kinds; stars = stars; ras = ras; decs = decs }
 
--- every kind is one of the seven
+-- every kind is one of the eight
 unfoldable pub allKinds : List ℕ → Bool
 allKinds [] = true
-allKinds (kind ∷ kinds) = ltb kind 7 && allKinds kinds
+allKinds (kind ∷ kinds) = ltb kind 8 && allKinds kinds
 
--- kinds: 0 look-up, 1 enter, 2 change, 3 remove, 4 grow, 5 due, 6 check
+-- kinds: 0 look-up, 1 enter, 2 change, 3 remove, 4 grow, 5 due, 6 check, 7 shrink
 unfoldable pub requestOf : ℕ → ℕ → Position → Request
 requestOf kind k q =
     cond (eqb kind 0)
@@ -45,7 +45,7 @@ requestOf kind k q =
     (enter k q)
     (cond (eqb kind 2)
     (change k q)
-    (cond (eqb kind 3) (remove k) (cond (eqb kind 4) grow (cond (eqb kind 5) due check)))))
+    (cond (eqb kind 3) (remove k) (cond (eqb kind 4) grow (cond (eqb kind 5) due (cond (eqb kind 7) shrink check))))))
 
 abbrev pub requestAt : LentHistory → ℕ → Request
 requestAt h i =

@@ -22,7 +22,7 @@ pub struct Stepped {
     pub growth: Growth,
 }
 
-// Runs the call of a kind: 0 look-up, 1 enter, 2 change, 3 remove, 4 grow, 5 due, 6 check.
+// Runs the call of a kind: 0 look-up, 1 enter, 2 change, 3 remove, 4 grow, 5 due, 6 check, 7 shrink.
 fn run_call(
     parameters: Parameters,
     growth: Growth,
@@ -97,6 +97,19 @@ fn run_call(
     if kind == 5 {
         let due = starfile::due(parameters, growth, separators, numbers, words);
         return unmoved(due_answer(due), growth);
+    }
+    if kind == 7 {
+        let shrunk = starfile::shrink(
+            parameters,
+            growth,
+            separators,
+            numbers,
+            words,
+            poolnumbers,
+            poolwords,
+        );
+        let answer = shrunk.answer;
+        return unmoved(placed_answer(answer), shrunk.growth);
     }
     let checked = starfile::check(
         parameters,

@@ -10,7 +10,6 @@ use lib.ListN.{length}
 use borrow.Author.Tests.{ltb-true}
 use Rattle.hashing.specs.declared.Parameters.{Parameters}
 use Rattle.hashing.specs.declared.Growth.{Growth}
-use Rattle.hashing.specs.Geometry.{pageCount}
 use Rattle.hashing.specs.Limits.{validParameters, validGrowth}
 use Rattle.hashing.specs.Generator.{multiplierOf}
 use Rattle.hashing.proofs.Bounds.{limits}
@@ -30,7 +29,7 @@ use Rattle.replacing.specs.Calls as removal
 use Rattle.comparing.specs.declared.checking.Verdict.the-variants.{Clean, Differs, Unsound as verdict·Unsound}
 use Rattle.comparing.specs.Verdicts.{verdictOf}
 use Rattle.calls.specs.Answers.{Pool, placed, checked, refusedBy, accepted, refused, acceptedAt, refusedAt, spotted}
-use Rattle.calls.specs.Calls.{hash, unchanged, enterTo, removeTo, growTo, checkedAt, allStars}
+use Rattle.calls.specs.Calls.{hash, unchanged, enterTo, removeTo, regrowTo, checkedAt, allStars}
 use Rattle.starfile.specs.Outcomes.{EntrySmall, entryPlaced, ReplacedSmall, replacedPlaced, replacedGrown, VerdictSmall, verdictChecked}
 
 holding-most : (k from : ℕ) (cs : List Contents) → holding k from cs ≤ from + length cs
@@ -163,17 +162,17 @@ module _ (p : Parameters) (g : Growth) (f : File) (pool : Pool) where
   grown-cases false true bad page next to = (refl, refl, refl)
   grown-cases false false bad page next to = (refl, refl, refl)
 
-  pub grown-is : (next : Growth)
-      → (placed (replacedGrown (growthAnswer p g f next) (pageCount p g) g next .answer) ≡ growTo p g f pool next .answer)
-      × (growthFile p g f next ≡ growTo p g f pool next .file)
-      × (replacedGrown (growthAnswer p g f next) (pageCount p g) g next .growth ≡ growTo p g f pool next .growth)
-  unfolding growthAnswer growthFile growTo
-  grown-is next =
+  pub regrown-is : (next : Growth) (page : ℕ)
+      → (placed (replacedGrown (growthAnswer p g f next) page g next .answer) ≡ regrowTo p g f pool next page .answer)
+      × (growthFile p g f next ≡ regrowTo p g f pool next page .file)
+      × (replacedGrown (growthAnswer p g f next) page g next .growth ≡ regrowTo p g f pool next page .growth)
+  unfolding growthAnswer growthFile regrowTo
+  regrown-is next page =
       grown-cases
       (ltb (firstUnsound p g f 0 (p .pages)) (p .pages))
       (isEmpty (left (hash p next) 0 (p .pages) (allStars p f)))
       (firstUnsound p g f 0 (p .pages))
-      (pageCount p g)
+      page
       next
       (replaced (p .places) f 0 (pages (hash p next) 0 (p .pages) (allStars p f)))
 

@@ -2,14 +2,13 @@
 use mathlib.Core.Path.{_≡_, refl, sym, _∙_}
 use mathlib.Core.Bool.{Bool, true, false, cond}
 use mathlib.Core.List.{List}
-use Prim.Native.Nat.{ℕ, _-_, _+_, _<_}
-use lib.Dec.{eqb, ltb}
+use Prim.Native.Nat.{ℕ, _+_, _<_}
+use lib.Dec.{ltb}
 use lib.ListN.{length, replicate}
 use borrow.Author.Tests.{ltb-true}
 use Rattle.hashing.specs.declared.Parameters.{Parameters}
 use Rattle.hashing.specs.declared.Growth.{Growth}
 use Rattle.hashing.specs.declared.Geometry.{Geometry}
-use Rattle.hashing.specs.Geometry.{highest, grown}
 use Rattle.hashing.specs.Generator.{multiplierOf, firstMultipliers}
 use Rattle.hashing.specs.Limits.{validMultiplier}
 use Rattle.hashing.proofs.Bounds.{both, limits}
@@ -23,7 +22,7 @@ use Rattle.reach.specs.Reach.{pagesTo, entryEnd, removalEnd, entersWithin, firs
 use Rattle.calls.specs.declared.answers.Answer.{Answer}
 use Rattle.calls.specs.Answers.{After, Pool, Leaves, Stores, pooled, cleared, zeros}
 use Rattle.calls.specs.Lent.{Admitted}
-use Rattle.calls.specs.Calls.{hash, named, readable, holds, enterOn, enterTo, removeOn, removeTo, growOn, growTo, allStars}
+use Rattle.calls.specs.Calls.{hash, named, readable, holds, enterOn, enterTo, removeOn, removeTo, regrowTo, allStars}
 
 -- what the calls below need, with the table that the call made
 pub prepared : {g : Geometry} {t : List ℕ} {f : File} → t ≡ firstMultipliers (multiplierOf (g .parameters)) → Admitted (g .parameters) (g .growth) f → Ready g t f
@@ -89,8 +88,7 @@ module _ (p : Parameters) (g : Growth) (f : File) (pool : Pool) where
       refl
       refl
 
-  pub grow-pool : growOn p g f pool .pool ≡ pool
-  unfolding growTo
-  grow-pool =
-      removed-pool (eqb (highest p g) (p .pages - 1)) _ _ refl
-      (cases-pool (ltb (firstUnsound p g f 0 (p .pages)) (p .pages)) (isEmpty (left (hash p (grown p g)) 0 (p .pages) (allStars p f))) _ _ _ pool refl refl refl)
+  pub regrow-pool : (next : Growth) (page : ℕ) → regrowTo p g f pool next page .pool ≡ pool
+  unfolding regrowTo
+  regrow-pool next page =
+      cases-pool (ltb (firstUnsound p g f 0 (p .pages)) (p .pages)) (isEmpty (left (hash p next) 0 (p .pages) (allStars p f))) _ _ _ pool refl refl refl

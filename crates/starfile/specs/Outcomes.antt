@@ -1,6 +1,11 @@
 -- The answers of the crates below, as answers of the calls. Their pages are small enough for 32 bits.
-use Prim.Native.Nat.{ℕ, _^_, _<_}
+use mathlib.Core.Bool.{Bool, true, false, cond}
+use Prim.Native.Nat.{ℕ, _-_, _^_, _<_}
+use lib.Dec.{eqb}
+use Rattle.hashing.specs.declared.Parameters.{Parameters}
 use Rattle.hashing.specs.declared.Growth.{Growth}
+use Rattle.hashing.specs.Geometry.{pageCount, highest, grown, isUngrown, shrunk}
+use Rattle.placement.specs.File.{File}
 use Rattle.entering.specs.declared.stretch.Entered.{Entered}
 use Rattle.entering.specs.declared.stretch.Entered.the-variants.{On, Unsound, Overflows}
 use Rattle.replacing.specs.declared.Replaced.{Replaced}
@@ -8,12 +13,16 @@ use Rattle.replacing.specs.declared.Replaced.the-variants.{Done, Unsound as rep
 use Rattle.comparing.specs.declared.checking.Verdict.{Verdict}
 use Rattle.comparing.specs.declared.checking.Verdict.the-variants.{Clean, Differs, Unsound as verdict·Unsound}
 use Rattle.calls.specs.declared.answers.Refusal.{Refusal}
-use Rattle.calls.specs.declared.answers.Refusal.the-variants.{Damaged, Full}
+use Rattle.calls.specs.declared.answers.Refusal.the-variants.{Damaged, Full, Ungrown}
 use Rattle.calls.specs.declared.answers.Placed.{Placed}
 use Rattle.calls.specs.declared.answers.Placed.the-variants.{On as placed·On, Refused}
 use Rattle.calls.specs.declared.answers.Grown.{Grown}
+use Rattle.starfile.specs.declared.growth.Step.{Step}
+use Rattle.starfile.specs.declared.growth.Step.the-variants.{To, Not}
 use Rattle.calls.specs.declared.answers.Checked.{Checked}
 use Rattle.calls.specs.declared.answers.Checked.the-variants.{Clean as checked·Clean, Refused as checked·Refused}
+use Rattle.calls.specs.Answers.{Pool, After}
+use Rattle.calls.specs.Calls.{growOn, growOf, shrinkOn, shrinkOf}
 
 abbrev pub EntrySmall : Entered → Type 0
 EntrySmall (On page) = page < 2 ^ 32
@@ -43,6 +52,18 @@ abbrev pub replacedGrown : Replaced → ℕ → Growth → Growth → Grown
 replacedGrown Done page growth next = record { answer = placed·On page 0; growth = next }
 replacedGrown (replaced·Unsound bad) page growth next = unmovedBy growth (Damaged bad)
 replacedGrown replaced·Overflows page growth next = unmovedBy growth Full
+
+-- the growth state that growth goes to, or that it came from, with the page that comes or goes; or what refuses it
+unfoldable pub stepOf : Bool → Parameters → Growth → Step
+stepOf true p g = cond (isUngrown g) (Not Ungrown) (To (shrunk p g) (highest p g))
+stepOf false p g = cond (eqb (highest p g) (p .pages - 1)) (Not Full) (To (grown p g) (pageCount p g))
+
+-- growth, or `back` shrinking
+abbrev pub regrowOn : Bool → Parameters → Growth → File → Pool → After
+regrowOn back p g f pool = cond back (shrinkOn p g f pool) (growOn p g f pool)
+
+abbrev pub regrowOf : Bool → Parameters → Growth → File → Pool → After
+regrowOf back p g f pool = cond back (shrinkOf p g f pool) (growOf p g f pool)
 
 abbrev pub VerdictSmall : Verdict → Type 0
 VerdictSmall Clean = Unit {0}

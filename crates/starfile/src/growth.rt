@@ -1,10 +1,12 @@
-// Growth by one page.
+// Growth by one page, and giving a page back.
 ghost use mathlib.Core.Path.{_≡_};
+ghost use mathlib.Core.Bool.{true};
+ghost use Rattle.hashing.specs.Limits.{validParameters, validGrowth};
 ghost use Rattle.placement.specs.Lent.{held, before, after};
 ghost use Rattle.placement.specs.Ready.{Pooled};
 ghost use Rattle.calls.specs.Answers.{Leaves, Stores, cleared, placed};
-ghost use Rattle.calls.specs.Calls.{growOf, growOn};
-ghost use Rattle.starfile.specs.Outcomes.{ReplacedSmall, replacedGrown, unmovedBy};
+ghost use Rattle.calls.specs.Calls.{growOf, shrinkOf};
+ghost use Rattle.starfile.specs.Outcomes.{ReplacedSmall, replacedGrown, unmovedBy, stepOf, regrowOn, regrowOf};
 ghost use Rattle.calls.specs.Lent.{Admitted, poolBefore, poolAfter};
 use crate::lending::all_fit;
 use crate::lending::guard;
@@ -31,6 +33,59 @@ pub fn grow(
         (placed (r .answer)) (after separators numbers words) (poolAfter poolnumbers poolwords) ⌝ }
     ensures { λ r. ⌜ r .growth ≡ growOf parameters growth (before separators numbers words) (poolBefore poolnumbers poolwords) .growth ⌝ }
 {
+    regrow(
+        parameters,
+        growth,
+        false,
+        separators,
+        numbers,
+        words,
+        poolnumbers,
+        poolwords,
+    )
+}
+
+// The answer of an accepted shrinking is the page given back, with the growth state before the latest growth.
+pub fn shrink(
+    parameters: Parameters,
+    growth: Growth,
+    separators: &mut [u8],
+    numbers: &mut [u32],
+    words: &mut [u64],
+    poolnumbers: &mut [u32],
+    poolwords: &mut [u64],
+) -> Grown
+    ensures { λ r. ⌜ Leaves (shrinkOf parameters growth (before separators numbers words) (poolBefore poolnumbers poolwords))
+        (placed (r .answer)) (after separators numbers words) (poolAfter poolnumbers poolwords) ⌝ }
+    ensures { λ r. ⌜ r .growth ≡ shrinkOf parameters growth (before separators numbers words) (poolBefore poolnumbers poolwords) .growth ⌝ }
+{
+    regrow(
+        parameters,
+        growth,
+        true,
+        separators,
+        numbers,
+        words,
+        poolnumbers,
+        poolwords,
+    )
+}
+
+// A growth, or `back` from the latest one.
+fn regrow(
+    parameters: Parameters,
+    growth: Growth,
+    back: bool,
+    separators: &mut [u8],
+    numbers: &mut [u32],
+    words: &mut [u64],
+    poolnumbers: &mut [u32],
+    poolwords: &mut [u64],
+) -> Grown
+    ensures { λ r. ⌜ Leaves (regrowOf back parameters growth (before separators numbers words) (poolBefore poolnumbers poolwords))
+        (placed (r .answer)) (after separators numbers words) (poolAfter poolnumbers poolwords) ⌝ }
+    ensures { λ r. ⌜ r .growth ≡ regrowOf back parameters growth (before separators numbers words) (poolBefore poolnumbers poolwords) .growth ⌝ }
+{
     let fits = all_fit(
         parameters,
         separators.len(),
@@ -42,9 +97,10 @@ pub fn grow(
     if let Admission::Refused(refusal) = guard(parameters, growth, fits) {
         return unmoved(growth, refusal);
     }
-    let answer = grow_file(
+    let answer = regrow_file(
         parameters,
         growth,
+        back,
         separators,
         numbers,
         words,
@@ -55,10 +111,35 @@ pub fn grow(
     answer
 }
 
-// A file that has all its pages in use does not grow.
-fn grow_file(
+// The growth state to go to, and the page that comes or goes; or why there is none.
+enum Step {
+    To(Growth, u32),
+    Not(Refusal),
+}
+
+fn step_of(geometry: Geometry, back: bool) -> Step
+    requires { ⌜ validParameters (geometry .parameters) ≡ true ⌝ }
+    requires { ⌜ validGrowth (geometry .parameters) (geometry .growth) ≡ true ⌝ }
+    ensures { λ r. ⌜ r ≡ stepOf back (geometry .parameters) (geometry .growth) ⌝ }
+{
+    let highest = geometry.highest_address();
+    if back {
+        if hashing::ungrown(geometry.growth) {
+            return Step::Not(Refusal::Ungrown);
+        }
+        return Step::To(hashing::shrunk(geometry), highest);
+    }
+    let page = highest + 1;
+    if page == geometry.parameters.pages {
+        return Step::Not(Refusal::Full);
+    }
+    Step::To(hashing::grown(geometry), page)
+}
+
+fn regrow_file(
     parameters: Parameters,
     growth: Growth,
+    back: bool,
     separators: &mut [u8],
     numbers: &mut [u32],
     words: &mut [u64],
@@ -67,27 +148,29 @@ fn grow_file(
 ) -> Grown
     requires { ⌜ Admitted parameters growth (held separators numbers words) ⌝ }
     requires { ⌜ Pooled parameters (now poolnumbers) (now poolwords) ⌝ }
-    ensures { λ r. ⌜ Stores (growOn parameters growth (before separators numbers words) (cleared (poolBefore poolnumbers poolwords)))
+    ensures { λ r. ⌜ Stores (regrowOn back parameters growth (before separators numbers words) (cleared (poolBefore poolnumbers poolwords)))
         (placed (r .answer)) (after separators numbers words) ⌝ }
-    ensures { λ r. ⌜ r .growth ≡ growOn parameters growth (before separators numbers words) (cleared (poolBefore poolnumbers poolwords)) .growth ⌝ }
+    ensures { λ r. ⌜ r .growth ≡ regrowOn back parameters growth (before separators numbers words) (cleared (poolBefore poolnumbers poolwords)) .growth ⌝ }
 {
     let geometry = Geometry { parameters, growth };
-    let page = geometry.highest_address() + 1;
-    if page == parameters.pages {
-        return unmoved(growth, Refusal::Full);
+    let step = step_of(geometry, back);
+    match step {
+        Step::Not(refusal) => unmoved(growth, refusal),
+        Step::To(next, page) => {
+            let table = hashing::first_multipliers(parameters.multiplier);
+            let replaced = replacing::regrow(
+                &table,
+                geometry,
+                back,
+                separators,
+                numbers,
+                words,
+                poolnumbers,
+                poolwords,
+            );
+            grown_by(replaced, page, growth, next)
+        }
     }
-    let table = hashing::first_multipliers(parameters.multiplier);
-    let next = hashing::grown(geometry);
-    let replaced = replacing::regrow(
-        &table,
-        geometry,
-        separators,
-        numbers,
-        words,
-        poolnumbers,
-        poolwords,
-    );
-    grown_by(replaced, page, growth, next)
 }
 
 // The new state only if the stars were placed anew.

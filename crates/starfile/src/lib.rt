@@ -16,6 +16,7 @@ pub use counting::due;
 pub use emptying::make;
 pub use entry::enter;
 pub use growth::grow;
+pub use growth::shrink;
 pub use reading::look_up;
 pub use removal::remove;
 pub use rewriting::change;

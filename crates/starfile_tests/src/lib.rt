@@ -1,4 +1,4 @@
-// The eight calls as exported functions, and two of hashing's, for the Rust tests alone. C programs have the three of starfile_c.
+// The calls as exported functions, backup's and two of hashing's, for the Rust tests alone. C programs have the three of starfile_c.
 use calls::answers::Answer;
 use calls::answers::Grown;
 use calls::answers::checked_answer;
@@ -215,6 +215,27 @@ pub extern "C" fn sft_grow(
 }
 
 #[no_mangle]
+pub extern "C" fn sft_shrink(
+    parameters: Parameters,
+    growth: Growth,
+    separators: &mut [u8],
+    numbers: &mut [u32],
+    words: &mut [u64],
+    poolnumbers: &mut [u32],
+    poolwords: &mut [u64],
+) -> Outcome {
+    grown(starfile::shrink(
+        parameters_from(parameters),
+        growth_from(growth),
+        separators,
+        numbers,
+        words,
+        poolnumbers,
+        poolwords,
+    ))
+}
+
+#[no_mangle]
 pub extern "C" fn sft_due(
     parameters: Parameters,
     growth: Growth,
@@ -254,6 +275,24 @@ pub extern "C" fn sft_check(
         poolwords,
     );
     outcome_of(checked_answer(answer), state)
+}
+
+// backup's marks, with its refusal number; from the growth state before the growth.
+#[no_mangle]
+pub extern "C" fn sft_mark_changed(
+    parameters: Parameters,
+    growth: Growth,
+    old: &[u8],
+    new: &[u8],
+    marks: &mut [u8],
+) -> u32 {
+    backup::mark_changed(
+        parameters_from(parameters),
+        growth_from(growth),
+        old,
+        new,
+        marks,
+    )
 }
 
 // Xj of a number; 0 if there is no such multiplier or its table has no j-th entry.

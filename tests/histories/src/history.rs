@@ -2,7 +2,7 @@
 
 use crate::tester::Tester;
 use model::files::random_pool;
-use model::hashing::{grown, highest_address, home, signature};
+use model::hashing::{grown, highest_address, home, shrunk, signature};
 use model::placement::{lay_out, pack, unpack, Star};
 use model::{Buffers, Call, Growth, Kind, Outcome, Parameters};
 use std::collections::BTreeMap;
@@ -16,6 +16,8 @@ pub struct History {
     book_growth: Growth,
     /// The numbers that calls choose from.
     pub numbers: Vec<u32>,
+    /// Whether growths are more frequent at present than shrinks.
+    rising: bool,
 }
 
 impl History {
@@ -37,18 +39,21 @@ impl History {
         let mut numbers: Vec<u32> = book.keys().copied().collect();
         numbers.extend([1, 2, 2_147_483_645, 2_147_483_646]);
         numbers.extend((0..parameters.items() / 2 + 4).map(|_| tester.random.star_number()));
-        History { parameters, growth, lent, book, book_growth: growth, numbers }
+        History { parameters, growth, lent, book, book_growth: growth, numbers, rising: true }
     }
 
     /// One random call, now and then one with wrong values beside it.
     pub fn step(&mut self, tester: &mut Tester) {
+        self.rising ^= tester.random.once_in(60);
+        let seldom = tester.random.once_in(5);
         let kind = match tester.random.below(100) {
             0..=37 => Kind::Enter,
             38..=57 => Kind::Remove,
             58..=75 => Kind::LookUp,
             76..=82 => Kind::Change,
-            83..=91 => Kind::Grow,
-            92..=95 => Kind::Due,
+            83..=92 if self.rising != seldom => Kind::Grow,
+            83..=92 => Kind::Shrink,
+            93..=95 => Kind::Due,
             _ => Kind::Check,
         };
         let number = tester.random.pick(&self.numbers);
@@ -58,6 +63,13 @@ impl History {
             tester.deviating_call(self.make_call(kind, number, ra, dec), self.lent.clone());
         }
         self.call(tester, kind, number);
+    }
+
+    /// A growth or a shrink, whichever leads to another growth state.
+    pub fn towards(&mut self, tester: &mut Tester, wanted: Growth) -> Outcome {
+        let order = |growth: Growth| (growth.expansions, growth.expanded);
+        let kind = if order(self.growth) < order(wanted) { Kind::Grow } else { Kind::Shrink };
+        self.call(tester, kind, 0)
     }
 
     fn make_call(&self, kind: Kind, number: u32, ra: u32, dec: i32) -> Call {
@@ -83,6 +95,9 @@ impl History {
         if (kind == Kind::LookUp || resend) && outcome.refusal == 0 {
             self.call_alike(tester, &call, &outcome);
         }
+        if outcome.refusal == 0 {
+            self.undo(tester, &call, &outcome, &after);
+        }
         (self.lent, self.growth) = (after, outcome.growth());
         self.check_answer(tester, &call, &outcome);
         if outcome.refusal == 0 {
@@ -101,6 +116,7 @@ impl History {
                 self.book.remove(&call.number);
             }
             Kind::Grow => self.book_growth = grown(&self.parameters, &self.book_growth),
+            Kind::Shrink => self.book_growth = shrunk(&self.parameters, &self.book_growth).unwrap(),
             _ => {}
         }
     }
@@ -125,12 +141,33 @@ impl History {
             Kind::Change | Kind::Remove => {
                 tester.expect((outcome.refusal == 7) == held.is_none(), "a change or removal differs from the book")
             }
+            Kind::Grow => {
+                let next = grown(&self.parameters, &self.book_growth);
+                let page = highest_address(&self.parameters, &next);
+                let fits = page < self.parameters.pages.into() && self.laid_out(&next).is_some();
+                self.check_placed(tester, outcome, if fits { 0 } else { 8 }, page);
+            }
+            Kind::Shrink => {
+                let page = highest_address(&self.parameters, &self.book_growth);
+                let refusal = match shrunk(&self.parameters, &self.book_growth) {
+                    None => 9,
+                    Some(former) if self.laid_out(&former).is_none() => 8,
+                    Some(_) => 0,
+                };
+                self.check_placed(tester, outcome, refusal, page);
+            }
             Kind::Due => {
                 tester.expect(outcome.stars as usize == self.book.len(), "due counts other stars");
                 tester.expect((outcome.due == 1) == self.due(), "due differs from the book");
             }
             _ => {}
         }
+    }
+
+    fn check_placed(&self, tester: &mut Tester, outcome: &Outcome, refusal: u32, page: u64) {
+        let page = if refusal == 0 { page } else { 0 };
+        let as_book = (outcome.refusal, u64::from(outcome.page)) == (refusal, page);
+        tester.expect(as_book, "a growth or shrink differs from the book");
     }
 
     /// Whether the book's stars are more than A per cent of the places on pages in use.
@@ -155,13 +192,33 @@ impl History {
         self.lent.numbers[first..first + places].iter().filter(|&&other| other != 0 && other < number).count()
     }
 
-    fn check_file(&self, tester: &mut Tester) {
+    /// The book's stars by the rule under a growth state.
+    fn laid_out(&self, growth: &Growth) -> Option<Buffers> {
         let stars = self.book.iter().map(|(&number, &word)| Star { number, word }).collect();
-        let same = lay_out(&self.parameters, &self.book_growth, stars).is_some_and(|expected| {
-            (&expected.separators, &expected.numbers, &expected.words)
-                == (&self.lent.separators, &self.lent.numbers, &self.lent.words)
-        });
+        lay_out(&self.parameters, growth, stars)
+    }
+
+    fn check_file(&self, tester: &mut Tester) {
+        let same = self.laid_out(&self.book_growth).is_some_and(|expected| self.same_file(&expected));
         tester.expect(same && self.growth == self.book_growth, "the file is not the book's");
+    }
+
+    /// Whether other buffers hold the same separators and pages.
+    pub fn same_file(&self, other: &Buffers) -> bool {
+        let Buffers { separators, numbers, words, .. } = &self.lent;
+        (separators, numbers, words) == (&other.separators, &other.numbers, &other.words)
+    }
+
+    /// A shrink right after an accepted growth gives back the file from before it, and a growth after an accepted shrink.
+    fn undo(&self, tester: &mut Tester, call: &Call, outcome: &Outcome, after: &Buffers) {
+        let kind = match call.kind {
+            Kind::Grow => Kind::Shrink,
+            Kind::Shrink => Kind::Grow,
+            _ => return,
+        };
+        let (back, restored) = tester.compare(&Call { kind, growth: outcome.growth(), ..*call }, after);
+        let same = back.refusal == 0 && back.page == outcome.page && back.growth() == self.growth;
+        tester.expect(same && self.same_file(&restored), "a growth and a shrink do not undo each other");
     }
 
     /// The same look-up or resend where every other page has other contents gets the same answer.

@@ -13,10 +13,12 @@ use tester::Tester;
 /// A name, how often a quick run repeats it and a round of a soak, and what to do.
 type Scenario = (&'static str, u64, u64, fn(&mut Tester));
 
-const SCENARIOS: [Scenario; 12] = [
+const SCENARIOS: [Scenario; 14] = [
     ("tiny files", 12, 3, scenarios::tiny_files),
     ("edge histories", 20, 10, scenarios::edge_histories),
     ("small histories", 4_000, 1_000, scenarios::small_history),
+    ("every size, edges", 3, 1, scenarios::every_edge_size),
+    ("every size", 500, 150, scenarios::every_size),
     ("single-bit damage", 60, 20, scenarios::single_bit_damage),
     ("single-bit arguments", 40, 10, scenarios::single_bit_arguments),
     ("damaged sessions", 15_000, 4_000, scenarios::damaged_session),
@@ -88,6 +90,8 @@ fn main() {
     match soak {
         None => totals.round(true, seed),
         Some(time) => {
+            totals.run("all 1,024 sizes", scenarios::all_sizes, seed);
+            println!("{:.1} min: all 1,024 sizes", start.elapsed().as_secs_f64() / 60.0);
             for round in 0.. {
                 // Rounds draw on seeds of their own, far from each other.
                 totals.round(false, seed.wrapping_add(round << 40));
@@ -102,7 +106,7 @@ fn main() {
             }
         }
     }
-    println!("calls by refusal    0        1        2        3        4        5        6        7        8");
+    println!("calls by refusal    0        1        2        3        4        5        6        7        8        9");
     for (kind, refusals) in Kind::ALL.iter().zip(totals.tester.refusals) {
         println!("{:<12}{}", kind.name(), refusals.map(|count| format!("{count:>9}")).concat());
     }

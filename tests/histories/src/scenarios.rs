@@ -3,7 +3,7 @@
 use crate::history::History;
 use crate::tester::{stored, Tester};
 use model::files::*;
-use model::hashing::{grown, home};
+use model::hashing::home;
 use model::placement::unpack;
 use model::{Buffers, Call, Growth, Kind, Parameters};
 
@@ -44,6 +44,47 @@ pub fn small_history(tester: &mut Tester) {
     let mut history = History::new(tester, parameters);
     for _ in 0..150 {
         history.step(tester);
+    }
+}
+
+/// Through every size of a file up to M and back.
+pub fn every_size(tester: &mut Tester) {
+    let parameters = small_parameters(&mut tester.random);
+    let calls = tester.random.below(parameters.places.into()) + 1;
+    through_sizes(tester, parameters, calls);
+}
+
+/// The same for each of the parameters' edges.
+pub fn every_edge_size(tester: &mut Tester) {
+    let multiplier = random_multiplier(&mut tester.random);
+    for parameters in edge_parameters() {
+        through_sizes(tester, parameters.under(multiplier), 1);
+    }
+}
+
+/// The same from one page to 1,024.
+pub fn all_sizes(tester: &mut Tester) {
+    let multiplier = random_multiplier(&mut tester.random);
+    through_sizes(tester, Parameters::new([2, 1, 1, 1, 8, 80, 1_024]).under(multiplier), 1);
+}
+
+/// At each size some entries on the way up, some removals on the way down.
+fn through_sizes(tester: &mut Tester, parameters: Parameters, calls: u64) {
+    let mut history = History::new(tester, parameters);
+    for (kind, at_each_size, end) in [(Kind::Grow, Kind::Enter, 8), (Kind::Shrink, Kind::Remove, 9)] {
+        for _ in parameters.width * parameters.groups..parameters.pages {
+            for _ in 0..calls {
+                let number = tester.random.pick(&history.numbers);
+                history.call(tester, at_each_size, number);
+            }
+            // Where the stars do not fit, with fewer of them.
+            while history.call(tester, kind, 0).refusal != 0 {
+                let (&number, _) = history.book.first_key_value().expect("no stars always fit");
+                history.call(tester, Kind::Remove, number);
+            }
+        }
+        let refusal = history.call(tester, kind, 0).refusal;
+        tester.expect(refusal == end, "a file has another number of sizes");
     }
 }
 
@@ -219,13 +260,11 @@ pub fn same_stars(tester: &mut Tester) {
                 second.call(tester, Kind::Remove, passing);
             }
             second.call(tester, Kind::Enter, number);
-            let wanted = (first.growth.expansions, first.growth.expanded);
-            let next = grown(&parameters, &second.growth);
-            if tester.random.once_in(3) && (next.expansions, next.expanded) <= wanted {
+            if tester.random.once_in(3) {
                 second.call(tester, Kind::Grow, 0);
             }
         }
-        while second.growth != first.growth && second.call(tester, Kind::Grow, 0).refusal == 0 {}
+        while second.growth != first.growth && second.towards(tester, first.growth).refusal == 0 {}
     }
     for (&number, &word) in &first.book {
         let (ra, dec) = unpack(word);
@@ -234,9 +273,6 @@ pub fn same_stars(tester: &mut Tester) {
     let ended_alike = (&first.book, first.growth) == (&second.book, second.growth);
     if ended_alike {
         tester.alike += 1;
-        let bytes = |history: &History| {
-            (history.lent.separators.clone(), history.lent.numbers.clone(), history.lent.words.clone())
-        };
-        tester.expect(bytes(&first) == bytes(&second), "histories with the same stars leave different files");
+        tester.expect(first.same_file(&second.lent), "histories with the same stars leave different files");
     }
 }

@@ -14,7 +14,7 @@ pub struct Tester {
     pub random: Random,
     pub calls: u64,
     /// How often each kind of call got each refusal.
-    pub refusals: [[u64; 9]; 8],
+    pub refusals: [[u64; 10]; 9],
     /// How many pairs of histories ended in the same stars, positions and growth state.
     pub alike: u64,
     pub failures: Vec<String>,
@@ -23,7 +23,7 @@ pub struct Tester {
 
 impl Tester {
     pub fn new() -> Tester {
-        Tester { random: Random(0), calls: 0, refusals: [[0; 9]; 8], alike: 0, failures: Vec::new(), saved: 0 }
+        Tester { random: Random(0), calls: 0, refusals: [[0; 10]; 9], alike: 0, failures: Vec::new(), saved: 0 }
     }
 
     /// The outcome, with the growth state after the call, and the buffers that the model leaves.

@@ -3,7 +3,7 @@
 use model::{Buffers, Call, Growth, Kind, Outcome, Parameters};
 
 /// The requests of document 02 that have landed in the library.
-pub const LANDED: &[u32] = &[2, 3, 4, 5, 7];
+pub const LANDED: &[u32] = &[1, 2, 3, 4, 5, 7];
 
 // Each slice is a pointer and a length in items.
 #[rustfmt::skip]
@@ -47,6 +47,14 @@ extern "C" {
         number: u32,
     ) -> Outcome;
     fn sft_grow(
+        parameters: Parameters, growth: Growth,
+        separators: *mut u8, separators_length: usize,
+        numbers: *mut u32, numbers_length: usize,
+        words: *mut u64, words_length: usize,
+        pool_numbers: *mut u32, pool_numbers_length: usize,
+        pool_words: *mut u64, pool_words_length: usize,
+    ) -> Outcome;
+    fn sft_shrink(
         parameters: Parameters, growth: Growth,
         separators: *mut u8, separators_length: usize,
         numbers: *mut u32, numbers_length: usize,
@@ -101,6 +109,7 @@ pub fn run(call: &Call, lent: &mut Buffers) -> Outcome {
             Kind::Change => sft_change(p, g, s, sl, n, nl, w, wl, number, ra, dec),
             Kind::Remove => sft_remove(p, g, s, sl, n, nl, w, wl, pn, pnl, pw, pwl, number),
             Kind::Grow => sft_grow(p, g, s, sl, n, nl, w, wl, pn, pnl, pw, pwl),
+            Kind::Shrink => sft_shrink(p, g, s, sl, n, nl, w, wl, pn, pnl, pw, pwl),
             Kind::Due => sft_due(p, g, s, sl, n, nl, w, wl),
             Kind::Check => sft_check(p, g, s, sl, n, nl, w, wl, pn, pnl, pw, pwl),
         }

@@ -1,6 +1,6 @@
-//! The eight calls on any buffers, with the refusals in the order of document 01's table.
+//! The nine calls on any buffers, with the refusals in the order of document 01's table and document 02.
 
-use crate::hashing::{grown, highest_address, home, shape, signature, MULTIPLIERS};
+use crate::hashing::{grown, highest_address, home, shape, shrunk, signature, MULTIPLIERS};
 use crate::placement::{pack, position_valid, rule, unpack, word_valid, write, Page, Star};
 use crate::{Buffers, Call, Growth, Kind, Outcome, Parameters};
 
@@ -68,6 +68,7 @@ fn attempt(call: &Call, lent: &mut Buffers) -> Result<Outcome, Refusal> {
     match call.kind {
         Kind::Make => file.make(),
         Kind::Grow => return file.grow(),
+        Kind::Shrink => return file.shrink(),
         Kind::Due => return Ok(file.due(unchanged(call))),
         Kind::Check => file.check()?,
         Kind::LookUp | Kind::Enter | Kind::Change | Kind::Remove => return on_a_star(call, &mut file),
@@ -275,17 +276,29 @@ impl File<'_> {
         if highest_address(&self.parameters, &self.growth) as usize == self.last_page() {
             return refuse(8);
         }
+        let next = grown(&self.parameters, &self.growth);
+        self.place_all(next, highest_address(&self.parameters, &next))
+    }
+
+    fn shrink(&mut self) -> Result<Outcome, Refusal> {
+        let Some(former) = shrunk(&self.parameters, &self.growth) else {
+            return refuse(9);
+        };
+        self.place_all(former, highest_address(&self.parameters, &self.growth))
+    }
+
+    /// Places all stars anew under another growth state, and answers a page.
+    fn place_all(&mut self, growth: Growth, page: u64) -> Result<Outcome, Refusal> {
         self.all_sound(0)?;
-        self.growth = grown(&self.parameters, &self.growth);
+        self.growth = growth;
         let all = 0..=self.last_page();
         let (pages, carried) = self.rule(all.clone(), self.stars(all));
         if !carried.is_empty() {
             return refuse(8);
         }
         self.write(0, &pages);
-        let Growth { expansions, expanded } = self.growth;
-        let page = highest_address(&self.parameters, &self.growth) as u32;
-        Ok(Outcome { page, expansions, expanded, ..Outcome::default() })
+        let Growth { expansions, expanded } = growth;
+        Ok(Outcome { page: page as u32, expansions, expanded, ..Outcome::default() })
     }
 
     fn due(&self, no: Outcome) -> Outcome {

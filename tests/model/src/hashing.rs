@@ -44,6 +44,18 @@ pub fn grown(parameters: &Parameters, growth: &Growth) -> Growth {
     }
 }
 
+/// (e, x) before the latest growth; none if there was none.
+pub fn shrunk(parameters: &Parameters, growth: &Growth) -> Option<Growth> {
+    match *growth {
+        Growth { expansions: 0, expanded: 0 } => None,
+        Growth { expansions, expanded: 0 } => {
+            let (_, groups) = shape(parameters, expansions - 1);
+            Some(Growth { expansions: expansions - 1, expanded: groups as u32 - 1 })
+        }
+        Growth { expansions, expanded } => Some(Growth { expansions, expanded: expanded - 1 }),
+    }
+}
+
 /// The backward sweeps: when group g's turn comes among G groups.
 pub fn rank(step: u64, groups: u64, group: u64) -> u64 {
     let t = groups - 1 - group;

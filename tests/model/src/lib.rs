@@ -14,7 +14,7 @@ pub use calls::run;
 use hashing::MULTIPLIERS;
 
 /// The requests of document 02 that the model follows.
-pub const LANDED: &[u32] = &[2, 3, 4, 5, 7];
+pub const LANDED: &[u32] = &[1, 2, 3, 4, 5, 7];
 
 /// The documents' b, N, n0, s, k, A and M, and the generator's multiplier.
 #[repr(C)]
@@ -72,20 +72,30 @@ pub enum Kind {
     Change,
     Remove,
     Grow,
+    Shrink,
     Due,
     Check,
 }
 
 impl Kind {
-    pub const ALL: [Kind; 8] =
-        [Kind::Make, Kind::LookUp, Kind::Enter, Kind::Change, Kind::Remove, Kind::Grow, Kind::Due, Kind::Check];
+    pub const ALL: [Kind; 9] = [
+        Kind::Make,
+        Kind::LookUp,
+        Kind::Enter,
+        Kind::Change,
+        Kind::Remove,
+        Kind::Grow,
+        Kind::Shrink,
+        Kind::Due,
+        Kind::Check,
+    ];
 
     pub fn name(self) -> &'static str {
-        ["make", "look_up", "enter", "change", "remove", "grow", "due", "check"][self as usize]
+        ["make", "look_up", "enter", "change", "remove", "grow", "shrink", "due", "check"][self as usize]
     }
 
     pub fn takes_pool(self) -> bool {
-        matches!(self, Kind::Enter | Kind::Remove | Kind::Grow | Kind::Check)
+        matches!(self, Kind::Enter | Kind::Remove | Kind::Grow | Kind::Shrink | Kind::Check)
     }
 
     pub fn takes_number(self) -> bool {

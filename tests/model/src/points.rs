@@ -192,13 +192,95 @@ pub fn growth_without_room(run: Run) {
     assert!(session.lent == before.lent && session.growth == before.growth);
 }
 
-/// Growth repairs a file that is all sound and that the check refuses.
+/// Shrinking answers the pages in falling order, and takes (e, x) back through the states that the growths left.
+pub fn pages_given_back(run: Run) {
+    for list in [[2, 2, 2, 1, 8, 80, 8], [1, 1, 1, 1, 8, 50, 9], [3, 3, 1, 2, 8, 80, 14], [1, 1, 4, 1, 2, 99, 18]] {
+        for multiplier in MULTIPLIERS {
+            let mut session = Session::with(run, Parameters::new(list).under(multiplier));
+            let first = list[1] * list[2];
+            let mut states = Vec::new();
+            for page in first..list[6] {
+                states.push(session.growth);
+                assert_eq!(answers(session.grow()), (0, page));
+            }
+            assert_eq!(session.enter(1).refusal, 0);
+            for page in (first..list[6]).rev() {
+                assert_eq!(answers(session.shrink()), (0, page));
+                assert_eq!(Some(session.growth), states.pop());
+                assert_eq!((answers(session.check()), session.look_up(1).found), ((0, 0), 1));
+            }
+            assert_eq!(answers(session.shrink()), (9, 0));
+            assert_eq!(session.growth, Growth::default());
+        }
+    }
+}
+
+/// A growth then a shrink leaves a clean file as it was, and so does a shrink then a growth.
+pub fn there_and_back(run: Run) {
+    let mut session = Session::new(run, [2, 2, 2, 1, 8, 80, 16]);
+    let (mut grown, mut number) = (0, 0);
+    while session.growth != (Growth { expansions: 4, expanded: 0 }) {
+        for _ in 0..2 {
+            number += 1;
+            assert_eq!(session.enter(number).refusal, 0);
+        }
+        let before = session.clone();
+        grown += u32::from(session.grow().refusal == 0);
+        let after = session.clone();
+        assert_eq!(answers(session.shrink()), (0, 3 + grown));
+        assert!(session.lent == before.lent && session.growth == before.growth);
+        assert_eq!(answers(session.grow()), (0, 3 + grown));
+        assert!(session.lent == after.lent && session.growth == after.growth);
+    }
+    assert_eq!(grown, 12);
+}
+
+/// Shrinking a clean file is 8 where the rule carries a star past the last page.
+pub fn shrinking_without_room(run: Run) {
+    let mut session = Session::new(run, [1, 1, 1, 1, 1, 50, 2]);
+    assert_eq!(answers(session.grow()), (0, 1));
+    assert_eq!(session.growth, Growth { expansions: 1, expanded: 0 });
+    assert_eq!((session.enter(1).refusal, session.enter(4).refusal), (0, 0));
+    assert_eq!(answers(session.check()), (0, 0));
+    let before = session.clone();
+    assert_eq!(answers(session.shrink()), (8, 0));
+    assert!(session.lent == before.lent && session.growth == before.growth);
+    // Damage is met before that, on the lowest page.
+    session.lent.words[1] = u64::MAX;
+    assert_eq!(answers(session.shrink()), (5, 1));
+    session.lent.separators[0] = 2;
+    assert_eq!(answers(session.shrink()), (5, 0));
+}
+
+/// There is nothing to give back at (0, 0), whatever the pages hold; the pool is zeros after that.
+pub fn nothing_to_give_back(run: Run) {
+    let mut session = Session::new(run, TWO_PAGES);
+    session.lent.words = vec![u64::MAX, 7];
+    session.lent.numbers = vec![u32::MAX, 0];
+    session.lent.pool_numbers.fill(7);
+    session.lent.pool_words.fill(7);
+    let mut expected = session.clone();
+    assert_eq!(answers(session.call(Kind::Shrink, 0, u32::MAX, 0)), (9, 0));
+    expected.lent.pool_numbers.fill(0);
+    expected.lent.pool_words.fill(0);
+    assert!(session.lent == expected.lent && session.growth == expected.growth);
+    session.lent.pool_words.push(0);
+    assert_eq!(answers(session.shrink()), (2, 0));
+    session.parameters.pages = 1_025;
+    assert_eq!(answers(session.shrink()), (1, 0));
+}
+
+/// Growth repairs a file that is all sound and that the check refuses, and so does shrinking.
 pub fn growth_repairs(run: Run) {
     let mut session = Session::new(run, TWO_PAGES);
     session.lent.separators.fill(0);
     let refused = session.check();
     assert_eq!((refused.refusal, refused.page, refused.place), (5, 0, 1));
     assert_eq!(answers(session.grow()), (0, 1));
+    assert_eq!(session.lent.separators, [255, 255]);
+    assert_eq!(answers(session.check()), (0, 0));
+    session.lent.separators.fill(0);
+    assert_eq!(answers(session.shrink()), (0, 1));
     assert_eq!(session.lent.separators, [255, 255]);
     assert_eq!(answers(session.check()), (0, 0));
 }
@@ -375,7 +457,8 @@ pub fn pool_contents(run: Run) {
 macro_rules! point_tests {
     ($run:path) => {
         $crate::point_tests!($run: homes multipliers value_limits parameter_limits multiplier_limits growth_limits
-            second_star_of_a_home growth_without_room growth_repairs entry_below_named_page removal_raises_separator
+            second_star_of_a_home growth_without_room pages_given_back there_and_back shrinking_without_room
+            nothing_to_give_back growth_repairs entry_below_named_page removal_raises_separator
             entry_without_room_in_its_reach entry_into_full_file check_order damaged_values places resends pages_in_use
             pool_contents);
     };

@@ -48,6 +48,10 @@ impl Session {
         self.call(Kind::Grow, 0, 0, 0)
     }
 
+    pub fn shrink(&mut self) -> Outcome {
+        self.call(Kind::Shrink, 0, 0, 0)
+    }
+
     pub fn due(&mut self) -> Outcome {
         self.call(Kind::Due, 0, 0, 0)
     }

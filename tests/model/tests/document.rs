@@ -1,6 +1,7 @@
 //! The documents' points about the definitions, and the given vectors, against the model.
 
-use model::hashing::{home, rank, signature, x};
+use model::files::{edge_parameters, LARGE};
+use model::hashing::{grown, highest_address, home, rank, shrunk, signature, x};
 use model::placement::{pack, separator, unpack, word_valid};
 use model::{points, starline::starline, vectors, Growth, Parameters, LANDED};
 use std::fs;
@@ -38,6 +39,21 @@ fn home_addresses() {
     assert_eq!((home(0, 1), home(1, 1)), (3, 4));
     let after_two = Growth { expansions: 1, expanded: 0 };
     assert_eq!((home(0, 2), model::hashing::home(&parameters, &after_two, 2)), (2, 5));
+}
+
+/// Growths lead through all sizes up to M, and each state back to the one before.
+#[test]
+fn growth_states() {
+    for parameters in edge_parameters().into_iter().chain(LARGE.map(Parameters::new)) {
+        let mut growth = Growth::default();
+        assert_eq!(shrunk(&parameters, &growth), None);
+        for page in parameters.width * parameters.groups..parameters.pages {
+            let next = grown(&parameters, &growth);
+            assert_eq!(highest_address(&parameters, &next), page.into());
+            assert_eq!(shrunk(&parameters, &next), Some(growth));
+            growth = next;
+        }
+    }
 }
 
 #[test]

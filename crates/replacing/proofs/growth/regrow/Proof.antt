@@ -1,12 +1,12 @@
 use mathlib.Core.Bool.{Bool, true, false, cond}
-use Rattle.hashing.specs.Geometry.{grown}
+use Rattle.hashing.specs.Limits.{validGrowth}
 use Rattle.placement.specs.Hash.{lent}
 use Rattle.replacing.specs.declared.Replaced.the-variants.{Done, Overflows}
-use Rattle.replacing.specs.Calls.{growthAnswer, growthFile}
+use Rattle.replacing.specs.Calls.{nextOf, growthAnswer, growthFile}
 use mathlib.Core.Path.{_≡_, _∙_, sym}
 use native.Mathlib.Omega.{arith}
 use borrow.Author.Tests.{not-true, not-false}
-use Rattle.replacing.proofs.Growing.{growth-refused, surveyed-all, growth-plannable, growth-done}
+use Rattle.replacing.proofs.Growing.{next-valid, growth-refused, surveyed-all, growth-plannable, growth-done}
 use borrow.Author.Needs.{needs}
 use Rattle.replacing.proofs.growth.regrow.Statement.{statement}
 use Rattle.replacing.proofs.growth.regrow.Tie as tie
@@ -38,14 +38,19 @@ returns : tie.Need-returns
 returns c =
     let surveyed = c .before .before .before in
     let pre = start surveyed .pre in
-    growth-refused _ _ _ (pre .0 .homing .valid) (pre .0 .sized) _ (surveyed .survey-pages .ensures .0) (c .if1 .taken)
+    growth-refused _ _ _ (pre .0 .homing .valid) (pre .0 .sized) _ _ (surveyed .survey-pages .ensures .0) (c .if1 .taken)
+
+later : (c : tie.After-survey-pages) → validGrowth (start c .args .geometry .parameters) (nextOf (start c .args .back) (start c .args .geometry .parameters) (start c .args .geometry .growth)) ≡ true
+later c =
+    let pre = start c .pre in
+    next-valid (start c .args .back) _ _ (pre .0 .homing .valid) (pre .0 .homing .growth) (pre .1 .1)
 
 rehome-requires : tie.Need-rehome-requires
 rehome-requires c κs =
     let sound = c .before .before in
     let surveyed = sound .before .before .before in
     let pre = start surveyed .pre in
-    (pre .0 .homing, surveyed-all _ _ _ (pre .0 .homing .valid) (pre .0 .sized) _ (surveyed .survey-pages .ensures .0) (sound .if1 .left) _ _ (pre .1 .0 .ofNumbers) (surveyed .survey-pages .ensures .1))
+    (pre .0 .homing, (pre .1 .1, surveyed-all _ _ _ (pre .0 .homing .valid) (pre .0 .sized) _ (surveyed .survey-pages .ensures .0) (sound .if1 .left) _ _ (pre .1 .0 .ofNumbers) (surveyed .survey-pages .ensures .1)))
 
 replace-stretch-requires : tie.Need-replace-stretch-requires
 replace-stretch-requires c κs =
@@ -54,7 +59,7 @@ replace-stretch-requires c κs =
     let surveyed = sound .before .before .before in
     let pre = start surveyed .pre in (
       pre .0 .homing .valid,
-      growth-plannable _ _ _ (pre .0 .homing .valid) (pre .0 .sized) _ (surveyed .survey-pages .ensures .0) (sound .if1 .left) (pre .0 .homing .growth) (pre .1 .1) _ (rehomed .rehome .ensures)
+      growth-plannable _ _ _ (pre .0 .homing .valid) (pre .0 .sized) _ (surveyed .survey-pages .ensures .0) (sound .if1 .left) _ (later surveyed) _ (rehomed .rehome .ensures)
           _ (pre .1 .0 .ofWords),
     )
 
@@ -81,15 +86,16 @@ answered : (c : tie.After-replace-stretch) (r : Bool) → c .replace-stretch .re
     → let a = began c .args in
     let p = a .geometry .parameters in
     let g = a .geometry .growth in
+    let next = nextOf (a .back) p g in
     let f = lent (a .separators .now) (a .numbers .now) (a .words .now) in
     let exit = c .replace-stretch .last .1 in
-    (cond r Done Overflows ≡ growthAnswer p g f (grown p g)) × (lent (exit .0) (exit .1 .0) (exit .1 .1 .0) ≡ growthFile p g f (grown p g))
+    (cond r Done Overflows ≡ growthAnswer p g f next) × (lent (exit .0) (exit .1 .0) (exit .1 .1 .0) ≡ growthFile p g f next)
 answered c r e =
     let rehomed = c .before .before .before .before .before .before .before .before in
     let sound = rehomed .before .before .before in
     let surveyed = sound .before .before .before in
     let pre = start surveyed .pre in
-    growth-done _ _ _ (pre .0 .homing .valid) (pre .0 .sized) _ (surveyed .survey-pages .ensures .0) (sound .if1 .left) (pre .0 .homing .growth) (pre .1 .1) _ (rehomed .rehome .ensures)
+    growth-done _ _ _ (pre .0 .homing .valid) (pre .0 .sized) _ (surveyed .survey-pages .ensures .0) (sound .if1 .left) _ (later surveyed) _ (rehomed .rehome .ensures)
     r (sym e ∙ c .replace-stretch .ensures .0) _ (c .replace-stretch .ensures .1)
 
 returns-2 : tie.Need-returns-2

@@ -3,21 +3,21 @@ use Prim.Native.Nat.{_-_, _≤_}
 use native.Mathlib.Nat.{le-antisymm}
 use native.Mathlib.Omega.{arith}
 use lib.ListN.{length}
-use Rattle.hashing.specs.Geometry.{grown}
 use Rattle.planning.proofs.Copies.{none}
+use Rattle.replacing.specs.Calls.{nextOf}
 use Rattle.replacing.proofs.Growing.{Rehomed, homes-long, home-there, rehomed-next, rehomed-all}
 use Rattle.replacing.proofs.growth.rehome.Statement.{statement}
 use Rattle.replacing.proofs.growth.rehome.Tie as tie
 
 abbrev Inv-loop : tie.InvT-loop
-Inv-loop table geometry numbers homes₀ i₀ homes i =
-    (i ≤ length numbers) × Rehomed (geometry .parameters) (geometry .growth) (grown (geometry .parameters) (geometry .growth)) numbers homes i
+Inv-loop table geometry back numbers homes₀ i₀ homes i =
+    (i ≤ length numbers) × Rehomed (geometry .parameters) (geometry .growth) (nextOf back (geometry .parameters) (geometry .growth)) numbers homes i
 
 abbrev μ-loop : tie.MeasureT-loop
-μ-loop table geometry numbers homes₀ i₀ homes i = length numbers - i
+μ-loop table geometry back numbers homes₀ i₀ homes i = length numbers - i
 
 loop-holds : tie.Need-loop-holds Inv-loop μ-loop
-loop-holds c = (omega arith, rw (c .before .before .pre .1) (none _ _ _))
+loop-holds c = (omega arith, rw (c .before .before .pre .1 .1) (none _ _ _))
 
 mul-old : tie.Need-mul-old Inv-loop μ-loop
 mul-old c = omega arith
@@ -34,7 +34,7 @@ shared-slice-read-next-home c = omega arith
 next-home-requires : tie.Need-next-home-requires Inv-loop μ-loop
 next-home-requires c κs =
     let pre = c .before .before .before .before .before .before .pre in
-    (pre .0, home-there _ _ _ _ _ _ (c .before .before .before .loop .inv .1) (c .before .before .loop-test .taken))
+    (pre .0, (pre .1 .0, home-there _ _ _ _ _ _ (c .before .before .before .loop .inv .1) (c .before .before .loop-test .taken)))
 
 mul-homes : tie.Need-mul-homes Inv-loop μ-loop
 mul-homes c = omega arith
@@ -53,7 +53,7 @@ loop-again c =
     (omega arith, rehomed-next _ _ _ _ _ _ (c .before .before .before .before .loop .inv .1) _ (c .before .before .before .loop-test .taken) (c .next-home .ensures))
 
 same-length : tie.Need-same-length Inv-loop μ-loop
-same-length c = c .before .loop .inv .1 .kept ∙ sym (ap length (c .before .before .before .before .pre .1))
+same-length c = c .before .loop .inv .1 .kept ∙ sym (ap length (c .before .before .before .before .pre .1 .1))
 
 returns : tie.Need-returns Inv-loop μ-loop
 returns c = rehomed-all _ _ _ _ _ _ (c .before .loop .inv .1) (le-antisymm (c .before .loop .inv .0) (c .loop-test .left))

@@ -1,6 +1,6 @@
 -- `replaying::calling::run_call` meets its contract. Each kind's call, by the law of its step.
 use mathlib.Core.Path.{_∙_}
-use Rattle.replaying.proofs.Stepping.{look-up-steps, enter-steps, change-steps, remove-steps, grow-steps, due-steps, check-steps}
+use Rattle.replaying.proofs.Stepping.{look-up-steps, enter-steps, change-steps, remove-steps, grow-steps, shrink-steps, due-steps, check-steps}
 use borrow.Author.Needs.{needs}
 use Rattle.replaying.proofs.calling.run_call.Statement.{statement}
 use Rattle.replaying.proofs.calling.run_call.Tie as tie
@@ -169,11 +169,11 @@ returns-6 c =
     rw (c .unmoved6 .ensures)
     (due-steps _ _ _ _ _ _ _ _ (called .before .before .before .before .if6 .taken) (c .before .due-answer .ensures ∙ called .due .ensures))
 
-check-requires : tie.Need-check-requires
-check-requires c κs = search needs
+shrink-requires : tie.Need-shrink-requires
+shrink-requires c κs = search needs
 
-checked-answer-requires : tie.Need-checked-answer-requires
-checked-answer-requires c κs = search needs
+placed-answer-requires-5 : tie.Need-placed-answer-requires-5
+placed-answer-requires-5 c κs = search needs
 
 unmoved-requires-7 : tie.Need-unmoved-requires-7
 unmoved-requires-7 c κs = search needs
@@ -195,17 +195,50 @@ same-length-29 c = search needs
 
 returns-7 : tie.Need-returns-7
 returns-7 c =
-    let called = c .before .before .before .before .before .before in
-    let six = called .before .before .before .before .before .before in
-    let three = six .before .before .before in
+    let called = c .before .before .before .before .before .before .before .before .before .before .before .before in
     rw (c .unmoved7 .ensures)
+    (shrink-steps _ _ _ _ _ _ _ _ _ (c .before .placed-answer5 .ensures) _ _ (called .before .before .before .before .before .before .if7 .taken) _
+    (called .shrink .ensures .1)
+    (called .shrink .ensures .0))
+
+check-requires : tie.Need-check-requires
+check-requires c κs = search needs
+
+checked-answer-requires : tie.Need-checked-answer-requires
+checked-answer-requires c κs = search needs
+
+unmoved-requires-8 : tie.Need-unmoved-requires-8
+unmoved-requires-8 c κs = search needs
+
+same-length-30 : tie.Need-same-length-30
+same-length-30 c = search needs
+
+same-length-31 : tie.Need-same-length-31
+same-length-31 c = search needs
+
+same-length-32 : tie.Need-same-length-32
+same-length-32 c = search needs
+
+same-length-33 : tie.Need-same-length-33
+same-length-33 c = search needs
+
+same-length-34 : tie.Need-same-length-34
+same-length-34 c = search needs
+
+returns-8 : tie.Need-returns-8
+returns-8 c =
+    let called = c .before .before .before .before .before .before in
+    let seven = called .before .before .before .before .before .before in
+    let three = seven .before .before .before .before in
+    rw (c .unmoved8 .ensures)
     (check-steps _ _ _ _ _ _ _ _ _ (c .before .checked-answer .ensures) _
     (three .before .before .if1 .left)
     (three .before .if2 .left)
     (three .if3 .left)
-    (six .before .before .if4 .left)
-    (six .before .if5 .left)
-    (six .if6 .left)
+    (seven .before .before .before .if4 .left)
+    (seven .before .before .if5 .left)
+    (seven .before .if6 .left)
+    (seven .if7 .left)
     (called .check .ensures))
 
 pub run-call-spec : {M : Type 1} → statement M
@@ -260,12 +293,21 @@ run-call-spec =
     same-length-23
     same-length-24
     returns-6
-    check-requires
-    checked-answer-requires
+    shrink-requires
+    placed-answer-requires-5
     unmoved-requires-7
     same-length-25
     same-length-26
     same-length-27
     same-length-28
     same-length-29
-    returns-7)
+    returns-7
+    check-requires
+    checked-answer-requires
+    unmoved-requires-8
+    same-length-30
+    same-length-31
+    same-length-32
+    same-length-33
+    same-length-34
+    returns-8)

@@ -1,4 +1,4 @@
--- `starfile::grow` meets its contract.
+-- `starfile::growth::regrow` meets its contract.
 use mathlib.Core.Path.{_≡_}
 use mathlib.Core.Bool.{_&&_}
 use denote.Ref.{now}
@@ -7,13 +7,14 @@ use Rattle.placement.specs.Hash.{lent}
 use Rattle.placement.specs.Ready.{Pooled}
 use Rattle.calls.specs.Answers.{Pool, placed, pooled, cleared}
 use Rattle.calls.specs.Lent.{Admitted}
-use Rattle.calls.specs.Calls.{unlent, growOf, fileFits, poolFits}
+use Rattle.calls.specs.Calls.{unlent, fileFits, poolFits}
 use Rattle.starfile.proofs.Making.{made-by}
 use Rattle.calls.proofs.Refusals.{turned-away, refusal-is, none-is, admitted-pool}
-use Rattle.starfile.proofs.Pools.{cleared-is, leaves-cleared, grow-pool}
+use Rattle.starfile.proofs.Pools.{cleared-is, leaves-cleared}
+use Rattle.starfile.proofs.Stepping.{regrow-guarded, regrown-pool}
 use borrow.Author.Needs.{needs}
-use Rattle.starfile.proofs.growth.grow.Statement.{statement}
-use Rattle.starfile.proofs.growth.grow.Tie as tie
+use Rattle.starfile.proofs.growth.regrow.Statement.{statement}
+use Rattle.starfile.proofs.growth.regrow.Tie as tie
 
 abbrev fileOf : tie.Start → File
 fileOf s = lent (now (s .args .separators)) (now (s .args .numbers)) (now (s .args .words))
@@ -34,8 +35,8 @@ unmoved-requires : tie.Need-unmoved-requires
 unmoved-requires c κs = search needs
 
 returns : tie.Need-returns
-unfolding growOf placed fileFits poolFits
-returns c = rw (c .unmoved .ensures) (made-by _ _ _ _ _ (turned-away _ _ _ _ _ _ _ (refusal-is _ _ (c .before .before .before .before .guard .ensures) (c .before .before .before .before .before .all-fit .ensures) (c .before .before .refusal .given .1))))
+unfolding placed fileFits poolFits
+returns c = rw (regrow-guarded (c .before .before .before .before .before .before .before .before .before .before .before .args .back) _ _ _ _, c .unmoved .ensures) (made-by _ _ _ _ _ (turned-away _ _ _ _ _ _ _ (refusal-is _ _ (c .before .before .before .before .guard .ensures) (c .before .before .before .before .before .all-fit .ensures) (c .before .before .refusal .given .1))))
 
 enum-told : tie.Need-enum-told
 enum-told c = search needs
@@ -51,8 +52,8 @@ none c = none-is _ _ (c .before .before .guard .ensures) (c .before .before .bef
 lent-well : (c : tie.After-enum-told) → Admitted (begun c .args .parameters) (begun c .args .growth) (fileOf (begun c)) × Pooled (begun c .args .parameters) (poolOf (begun c) .numbers) (poolOf (begun c) .words)
 lent-well c = admitted-pool _ _ _ (poolOf (begun c)) (none c)
 
-grow-file-requires : tie.Need-grow-file-requires
-grow-file-requires c κs =
+regrow-file-requires : tie.Need-regrow-file-requires
+regrow-file-requires c κs =
     let d = c .before .before .before .before .before in
     lent-well d
 
@@ -75,20 +76,19 @@ same-length-5 : tie.Need-same-length-5
 same-length-5 c = search needs
 
 returns-2 : tie.Need-returns-2
-unfolding growOf
 returns-2 c =
     let d = c .before .before .before .before .before .before .before .before .before .before .before .before .before .before .before .before .before .before .before .before .before .before .before in
     let s = begun d in
-    let done = c .before .before .before .before .before .before .before .before .before .before .before .before .before .before .before .before .before .grow-file in
-    rw (none d) (
+    let done = c .before .before .before .before .before .before .before .before .before .before .before .before .before .before .before .before .before .regrow-file in
+    rw (regrow-guarded (s .args .back) _ _ _ _, none d) (
       leaves-cleared _ _ _ (poolOf s) _ (done .ensures .0)
-          (grow-pool (s .args .parameters) (s .args .growth) (fileOf s) (cleared (poolOf s)))
-          (cleared-is _ _ _ _ _ _ (c .before .before .before .before .clear .ensures .0) (c .before .before .before .before .clear .ensures .1) (done .kept .1 .1 .1 .1 .1 .0) (done .kept .1 .1 .1 .1 .1 .1 .0)),
+          (regrown-pool (s .args .back) (s .args .parameters) (s .args .growth) (fileOf s) (cleared (poolOf s)))
+          (cleared-is _ _ _ _ _ _ (c .before .before .before .before .clear .ensures .0) (c .before .before .before .before .clear .ensures .1) (done .kept .1 .1 .1 .1 .1 .1 .0) (done .kept .1 .1 .1 .1 .1 .1 .1 .0)),
       done .ensures .1,
     )
 
-pub grow-spec : {M : Type 1} → statement M
-grow-spec =
+pub regrow-spec : {M : Type 1} → statement M
+regrow-spec =
     tie.close
     (tie.spec
     all-fit-requires
@@ -97,7 +97,7 @@ grow-spec =
     unmoved-requires
     returns
     enum-told
-    grow-file-requires
+    regrow-file-requires
     clear-requires
     same-length
     same-length-2
