@@ -1,0 +1,1 @@
+// Which pages a growth may have altered: document 02 (xiv).
