@@ -5,17 +5,16 @@ use mathlib.Core.List.{List, [], _∷_}
 use Prim.Native.Nat.{ℕ, zero, suc, _-_, _<_}
 use native.Mathlib.Omega.{arith}
 use lib.Dec.{ltb, eqb}
-use borrow.Author.Tests.{eqb-false}
 use Rattle.hashing.specs.declared.Parameters.{Parameters}
 use Rattle.hashing.specs.declared.Growth.{Growth}
 use Rattle.hashing.specs.Geometry.{pageCount, highest, grown}
 use Rattle.hashing.specs.Limits.{validParameters, validGrowth}
-use Rattle.hashing.proofs.Bounds.{limits, growth-within, spread}
 use Rattle.placement.specs.Rule.{Star, pages, left}
 use Rattle.placement.specs.File.{File, Sized, gathered, replaced}
 use Rattle.placement.specs.Hash.{hashOf}
 use Rattle.placement.specs.Ready.{Ready}
 use Rattle.reach.specs.Reach.{isEmpty, firstUnsound}
+use Rattle.backup.proofs.Ranges.{more-pages}
 use Rattle.starfile.specs.Answers.{Pool, After, accepted, refused, spotted, cleared}
 use Rattle.starfile.specs.Calls.{unlent, unchanged, guarded, fileFits, poolFits, growTo, growOn, growOf}
 use Rattle.starfile.proofs.Refusals.{admitted-pool}
@@ -90,13 +89,7 @@ module _ (p : Parameters) (g : Growth) (f : File) where
         parameters = ready .homing .signing .valid;
         growth = ready .homing .growth;
         sized = ready .sized;
-        more =
-            omega (
-              arith,
-              eqb-false (pageCount p g - 1) (p .pages - 1) (on .0),
-              growth-within p g (ready .homing .growth) .pages-fit,
-              spread p g (limits p (ready .homing .signing .valid)) (growth-within p g (ready .homing .growth)) .pages-low,
-            );
+        more = more-pages p g (ready .homing .signing .valid) (ready .homing .growth) (on .0);
         fits = on .1;
         file = ap (λ (a : After). a .file) (passed .1) ∙ on .2;
       }

@@ -5,3 +5,5 @@ pub mod Moved
 pub mod Last
 pub mod Accepted
 pub mod Local
+pub mod Stepping
+pub mod Refusing

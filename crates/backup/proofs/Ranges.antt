@@ -6,8 +6,13 @@ use Prim.Native.Nat.{ℕ, zero, suc, _+_, _-_, _≤_, _<_}
 use native.Mathlib.Nat.{le-refl}
 use native.Mathlib.Decide.{decLt}
 use native.Mathlib.Omega.{arith}
+use lib.Dec.{eqb}
+use borrow.Author.Tests.{eqb-false}
 use Rattle.hashing.specs.declared.Parameters.{Parameters}
-use Rattle.hashing.proofs.Bounds.{bounds-within}
+use Rattle.hashing.specs.declared.Growth.{Growth}
+use Rattle.hashing.specs.Geometry.{pageCount, highest}
+use Rattle.hashing.specs.Limits.{validParameters, validGrowth}
+use Rattle.hashing.proofs.Bounds.{bounds-within, limits, growth-within, spread}
 use Rattle.reach.specs.Reach.{firstSuch}
 use Rattle.reach.proofs.Search.{Such, such}
 use Rattle.backup.specs.Stretches.{endFrom, inStretch, anyBelow}
@@ -92,3 +97,10 @@ ends-passing p test q h e = go (decLt r (q + (p .pages - 1 - q)))
     go (no d) =
         let same : r ≡ p .pages - 1 = omega (arith, found .high) in
         rw same e
+
+-- Growth has one more page to take.
+pub more-pages : (p : Parameters) (g : Growth) → validParameters p ≡ true → validGrowth p g ≡ true → eqb (highest p g) (p .pages - 1) ≡ false → pageCount p g < p .pages
+unfolding highest
+more-pages p g v w e =
+    let fits = growth-within p g w in
+    omega (arith, eqb-false (pageCount p g - 1) (p .pages - 1) e, fits .pages-fit, spread p g (limits p v) fits .pages-low)

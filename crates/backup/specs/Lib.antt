@@ -1,2 +1,3 @@
 pub mod Stretches
 pub mod Local
+pub mod Marks
