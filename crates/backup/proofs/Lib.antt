@@ -7,3 +7,4 @@ pub mod Accepted
 pub mod Local
 pub mod Stepping
 pub mod Refusing
+pub mod Telling

@@ -15,6 +15,7 @@ use Rattle.placement.specs.Rule.{Star, Contents, pages, left, separators, blank
 use Rattle.placement.specs.File.{File, gathered, written, replaced, fileOf, laid}
 use Rattle.placement.specs.Hash.{hashOf}
 use Rattle.placement.proofs.Composition.{length-pages}
+use Rattle.placement.proofs.Standing.{length-separators}
 use Rattle.placement.proofs.Writing.{Roomy, part-column, getD-separators}
 use Rattle.placement.proofs.Files.{numberOf, wordOf, replaced-of, roomy-pages}
 use Rattle.placement.proofs.Probing.{bounded-real}
@@ -77,6 +78,9 @@ module _ (p : Parameters) (g : Growth) (f : File) (pool : Pool) (grows : Grows p
   separators-after : growOf p g f pool .file .separators ≡ separators after
   unfolding fileOf
   separators-after = ap (λ (h : File). h .separators) is-after
+
+  pub sized-after : length (growOf p g f pool .file .separators) ≡ p .pages
+  sized-after = ap length separators-after ∙ length-separators after ∙ length-pages (hashOf p (grown p g)) 0 (p .pages) stars
 
   local-page : (page : ℕ) → page < p .pages → mayChange p g (f .separators) (growOf p g f pool .file .separators) page ≡ false
       → Untouched (p .places) f (growOf p g f pool .file) page

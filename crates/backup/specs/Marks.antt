@@ -1,15 +1,18 @@
 -- The marks of all pages that a growth may have altered, for a backup.
+use mathlib.Core.Path.{_≡_}
 use mathlib.Core.Bool.{Bool, cond, _&&_}
 use mathlib.Core.List.{List}
-use Prim.Native.Nat.{ℕ, zero, suc, _-_}
+use Prim.Native.Nat.{ℕ, zero, suc, _-_, _<_}
 use lib.Dec.{eqb}
-use lib.ListN.{length}
+use lib.ListN.{length, getD}
 use Rattle.hashing.specs.declared.Parameters.{Parameters}
 use Rattle.hashing.specs.declared.Growth.{Growth}
 use Rattle.hashing.specs.Geometry.{highest}
 use Rattle.hashing.specs.Limits.{validParameters, validGrowth}
 use Rattle.homes.specs.Lanes.{lanes}
+use Rattle.placement.specs.File.{File}
 use Rattle.backup.specs.Stretches.{mayChange}
+use Rattle.backup.specs.Local.{Pool, growOf, Untouched, Grows}
 
 -- a refusal's number, 0 for none, and the lent marks after the call
 pub record Marking : Type 0 where
@@ -42,3 +45,11 @@ markedUnless (suc n) found made = told (suc n) found
 
 unfoldable pub markingOf : Parameters → Growth → List ℕ → List ℕ → List ℕ → Marking
 markingOf p g old new marks = markedUnless (markRefusal p g (length old) (length new) (length marks)) marks (marksOf p g old new)
+
+-- On a clean file, marks of the separators before and after an accepted growth are not refused, and a page without one is as it was
+abbrev pub MarksTell : Type 0
+MarksTell =
+    (p : Parameters) (g : Growth) (f : File) (pool : Pool) → Grows p g f pool → (marks : List ℕ) → length marks ≡ p .pages
+    → (markingOf p g (f .separators) (growOf p g f pool .file .separators) marks .refusal ≡ 0)
+    × ((page : ℕ) → page < p .pages → getD (markingOf p g (f .separators) (growOf p g f pool .file .separators) marks .marks) page 0 ≡ 0
+    → Untouched (p .places) f (growOf p g f pool .file) page)

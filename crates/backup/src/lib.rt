@@ -140,17 +140,27 @@ fn passed(parameters: Parameters, run: Running, old: u8, new: u8) -> Running
         × (r .added ≡ (run .added && not (eqb old (topOf (parameters .bits)) && eqb new (topOf (parameters .bits))))) ⌝ }
 {
     let top = placement::top_of(parameters);
-    if old != top {
-        return run;
+    let ended = old == top;
+    let settled = both(ended, new == top);
+    let group = goes_on(run.group, ended);
+    let added = goes_on(run.added, settled);
+    Running { group, added }
+}
+
+fn both(one: bool, other: bool) -> bool
+    ensures { λ r. ⌜ r ≡ (one && other) ⌝ }
+{
+    if one {
+        return other;
     }
-    if new != top {
-        return Running {
-            group: false,
-            added: run.added,
-        };
+    false
+}
+
+fn goes_on(runs: bool, ends: bool) -> bool
+    ensures { λ r. ⌜ r ≡ (runs && not ends) ⌝ }
+{
+    if runs {
+        return !ends;
     }
-    Running {
-        group: false,
-        added: false,
-    }
+    false
 }
