@@ -1,4 +1,4 @@
-// The eight calls as exported functions, and two of hashing's, for the Rust tests alone. C programs have the three of starfile_c.
+// The eight calls as exported functions, backup's and two of hashing's, for the Rust tests alone. C programs have the three of starfile_c.
 use pages::position::Position;
 use starfile::answers::Answer;
 use starfile::answers::Grown;
@@ -252,6 +252,24 @@ pub extern "C" fn sft_check(
         poolwords,
     );
     outcome_of(checked_answer(answer), state)
+}
+
+// backup's marks, with its refusal number; from the growth state before the growth.
+#[no_mangle]
+pub extern "C" fn sft_mark_changed(
+    parameters: Parameters,
+    growth: Growth,
+    old: &[u8],
+    new: &[u8],
+    marks: &mut [u8],
+) -> u32 {
+    backup::mark_changed(
+        parameters_from(parameters),
+        growth_from(growth),
+        old,
+        new,
+        marks,
+    )
 }
 
 // Xj of a number; 0 if the table has no j-th multiplier.
