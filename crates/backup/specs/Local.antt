@@ -9,7 +9,7 @@ use Rattle.pages.specs.Position.{validWord}
 use Rattle.pages.specs.Page.{part}
 use Rattle.placement.specs.File.{File, Clean}
 use Rattle.placement.specs.Hash.{hashOf}
-pub use Rattle.starfile.specs.Answers.{Pool, After}
+pub use Rattle.starfile.specs.Answers.{Pool}
 pub use Rattle.starfile.specs.Calls.{growOf}
 use Rattle.backup.specs.Stretches.{topAt, topTwice, endFrom, mayChange}
 

@@ -93,7 +93,7 @@ fn on_a_star(call: &Call, file: &mut File) -> Result<Outcome, Refusal> {
     }
 }
 
-fn parameters_valid(p: &Parameters) -> bool {
+pub(crate) fn parameters_valid(p: &Parameters) -> bool {
     (1..=32).contains(&p.places)
         && (1..=256).contains(&p.groups)
         && (1..=4).contains(&p.width)
@@ -103,7 +103,7 @@ fn parameters_valid(p: &Parameters) -> bool {
         && (p.width * p.groups..=1_024).contains(&p.pages)
 }
 
-fn growth_valid(p: &Parameters, growth: &Growth) -> bool {
+pub(crate) fn growth_valid(p: &Parameters, growth: &Growth) -> bool {
     // After more than ten doublings there would be more than 1,024 groups.
     if growth.expansions / p.width > 10 {
         return false;
