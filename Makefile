@@ -1,4 +1,4 @@
-.PHONY: test run try bench damage spread stack soak
+.PHONY: test run try bench damage spread untouched stack soak
 
 # Every test; ends with 'N passed, 0 failed'.
 test:
@@ -23,6 +23,10 @@ damage:
 # Which star numbers spread well, and how full a file gets.
 spread:
 	@bench/spread
+
+# How many pages a growth leaves untouched.
+untouched:
+	@bench/untouched
 
 # The stack that each call from C needs, and the size of the code.
 stack:

@@ -49,6 +49,12 @@ impl File {
         ((width + expansions % width) * (groups << (expansions / width)) + expanded) as usize
     }
 
+    /// Up to the highest address or the last page that holds a star, whichever is higher.
+    pub fn pages_in_use(&self) -> usize {
+        let last = self.numbers.iter().rposition(|&number| number != 0);
+        self.addressed().max(last.map_or(0, |item| item / self.places() + 1))
+    }
+
     pub fn stars(&self) -> Vec<u32> {
         self.numbers.iter().copied().filter(|&number| number != 0).collect()
     }
@@ -70,6 +76,14 @@ impl File {
     pub fn differing(&self, other: &File) -> usize {
         let places = self.places();
         self.numbers.chunks(places).zip(other.numbers.chunks(places)).filter(|(a, b)| a != b).count()
+    }
+
+    /// Whether a page's separator, numbers and words are those of the other file.
+    pub fn same_page(&self, other: &File, page: usize) -> bool {
+        let items = page * self.places()..(page + 1) * self.places();
+        self.separators[page] == other.separators[page]
+            && self.numbers[items.clone()] == other.numbers[items.clone()]
+            && self.words[items.clone()] == other.words[items]
     }
 }
 

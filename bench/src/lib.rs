@@ -9,6 +9,7 @@ pub mod timing;
 
 use files::File;
 use model::Kind;
+pub use present::marked;
 
 /// What all versions of the library answer.
 #[derive(Clone, Copy, Debug, PartialEq, Eq)]

@@ -12,10 +12,13 @@ struct Present {
     lent: Buffers,
 }
 
-pub fn library(file: &File) -> Box<dyn Library> {
-    let parameters = Parameters::new(file.parameters).under(file.multiplier);
+fn parameters_and_growth(file: &File) -> (Parameters, Growth) {
     let [expansions, expanded] = file.growth;
-    let growth = Growth { expansions, expanded };
+    (Parameters::new(file.parameters).under(file.multiplier), Growth { expansions, expanded })
+}
+
+pub fn library(file: &File) -> Box<dyn Library> {
+    let (parameters, growth) = parameters_and_growth(file);
     let call = Call { kind: Kind::Due, parameters, growth, number: 0, ra: 0, dec: 0 };
     let lent = Buffers {
         separators: file.separators.clone(),
@@ -31,6 +34,15 @@ pub fn laid_out(parameters: [u32; 7], stars: &[u32]) -> Option<File> {
     let stars = stars.iter().map(|&number| Star { number, word: pack(1, 0) }).collect();
     let Buffers { separators, numbers, words, .. } = lay_out(&Parameters::new(parameters), &Growth::default(), stars)?;
     Some(File { separators, numbers, words, ..File::empty(parameters) })
+}
+
+/// Which pages the growth that led from one file to the other may have altered.
+pub fn marked(before: &File, after: &File) -> Vec<bool> {
+    let (parameters, growth) = parameters_and_growth(before);
+    let mut marks = vec![0; before.pages()];
+    let refusal = interface::mark_changed(&parameters, &growth, &before.separators, &after.separators, &mut marks);
+    assert_eq!(refusal, 0, "the marks were refused");
+    marks.into_iter().map(|mark| mark != 0).collect()
 }
 
 impl Library for Present {

@@ -40,7 +40,35 @@ impl Tester {
             let kept = self.keep(&vector).map_or(String::new(), |path| format!(" ({})", path.display()));
             self.fail(format!("{}{kept}", differences.join("; ")));
         }
+        if call.kind == Kind::Grow {
+            self.compare_marks(call, outcome.refusal == 0, before, &vector.after);
+        }
         (outcome, vector.after)
+    }
+
+    /// The marks of the pages that a growth may alter; an accepted growth of a clean file leaves the others alone.
+    fn compare_marks(&mut self, call: &Call, accepted: bool, before: &Buffers, after: &Buffers) {
+        let Call { parameters: p, growth, .. } = call;
+        let mut marks: Vec<u8> = before.separators.iter().map(|_| self.random.draw() as u8).collect();
+        let top = u8::MAX >> 8u32.saturating_sub(p.bits).min(7);
+        let random = after.separators.iter().map(|&old| self.random.pick(&[old, top, 0])).collect();
+        for new in [&after.separators, &random] {
+            let mut expected = marks.clone();
+            let refusal = model::backup::mark_changed(p, growth, &before.separators, new, &mut expected);
+            let answer = interface::mark_changed(p, growth, &before.separators, new, &mut marks);
+            self.expect((answer, &marks) == (refusal, &expected), "marks of altered pages differ");
+            let clean = || model::run(&Call { kind: Kind::Check, ..*call }, &mut before.clone()).refusal == 0;
+            if !accepted || new != &after.separators || !clean() {
+                continue;
+            }
+            for page in (0..p.pages as usize).filter(|&page| marks[page] == 0) {
+                let items = page * p.places as usize..(page + 1) * p.places as usize;
+                let same = before.separators[page] == after.separators[page]
+                    && before.numbers[items.clone()] == after.numbers[items.clone()]
+                    && before.words[items.clone()] == after.words[items];
+                self.expect(same, "growth altered a page without a mark");
+            }
+        }
     }
 
     pub fn fail(&mut self, failure: String) {

@@ -76,8 +76,21 @@ extern "C" {
         pool_numbers: *mut u32, pool_numbers_length: usize,
         pool_words: *mut u64, pool_words_length: usize,
     ) -> Outcome;
+    fn sft_mark_changed(
+        parameters: Parameters, growth: Growth,
+        old: *const u8, old_length: usize,
+        new: *const u8, new_length: usize,
+        marks: *mut u8, marks_length: usize,
+    ) -> u32;
     fn sft_scrambled(multiplier: u32, j: usize, number: u32) -> u32;
     fn sft_rank(step: u32, count: u32, group: u32) -> u32;
+}
+
+/// Marks the pages that a growth may have altered; the refusal, if any.
+pub fn mark_changed(p: &Parameters, growth: &Growth, old: &[u8], new: &[u8], marks: &mut [u8]) -> u32 {
+    let (old, old_length, new, new_length) = (old.as_ptr(), old.len(), new.as_ptr(), new.len());
+    // SAFETY: each pointer and length is that of a slice which lives through the call.
+    unsafe { sft_mark_changed(*p, *growth, old, old_length, new, new_length, marks.as_mut_ptr(), marks.len()) }
 }
 
 /// Xj(K) under a multiplier, 0 unless it is one of the two and j is from 1 to 2,049.

@@ -94,7 +94,7 @@ fn on_a_star(call: &Call, file: &mut File) -> Result<Outcome, Refusal> {
     }
 }
 
-fn parameters_valid(p: &Parameters) -> bool {
+pub(crate) fn parameters_valid(p: &Parameters) -> bool {
     (1..=32).contains(&p.places)
         && (1..=256).contains(&p.groups)
         && (1..=4).contains(&p.width)
@@ -105,7 +105,7 @@ fn parameters_valid(p: &Parameters) -> bool {
         && MULTIPLIERS.contains(&p.multiplier)
 }
 
-fn growth_valid(p: &Parameters, growth: &Growth) -> bool {
+pub(crate) fn growth_valid(p: &Parameters, growth: &Growth) -> bool {
     // After more than ten doublings there would be more than 1,024 groups.
     if growth.expansions / p.width > 10 {
         return false;

@@ -1,5 +1,6 @@
 //! A model of the star file, written from documents 01 and 02 alone: slow, literal and short.
 
+pub mod backup;
 mod calls;
 pub mod files;
 pub mod hashing;

@@ -1,0 +1,10 @@
+pub mod Agreeing
+pub mod Settled
+pub mod Ranges
+pub mod Moved
+pub mod Last
+pub mod Accepted
+pub mod Local
+pub mod Stepping
+pub mod Refusing
+pub mod Telling
