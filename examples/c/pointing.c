@@ -13,7 +13,8 @@ static uint64_t words[PAGES * PLACES];
 static uint32_t pool_numbers[PAGES * PLACES];
 static uint64_t pool_words[PAGES * PLACES];
 
-/* An empty file: every separator 2^k - 1, all else 0, the growth state (0, 0). */
+/* An empty file: every separator 2^k - 1, all else 0. As this unit never grows it, the growth state addresses 7 of its 8 pages from
+ * the start, 3 pages for each of 2 groups and one more, and leaves the last page to overflow; include/starfile.h says how to choose. */
 static struct heatherplane_file empty_file(enum heatherplane_multiplier multiplier)
 {
     for (size_t page = 0; page < PAGES; page++)
@@ -25,7 +26,7 @@ static struct heatherplane_file empty_file(enum heatherplane_multiplier multipli
     const struct heatherplane_parameters parameters = {
         .places = PLACES, .groups = 2, .width = 2, .step = 1, .bits = BITS, .load = 80, .pages = PAGES,
         .multiplier = multiplier};
-    const struct heatherplane_growth growth = {.expansions = 0, .expanded = 0};
+    const struct heatherplane_growth growth = {.expansions = 1, .expanded = 1};
     return heatherplane_file_of(parameters, growth, separators, numbers, words, pool_numbers, pool_words);
 }
 
@@ -97,8 +98,8 @@ int main(void)
 
     /* of a held star, of numbers between and above the stars of its page, and on an empty page */
     neighbours(&file, 1);
-    neighbours(&file, 5);
-    neighbours(&file, 32353);
+    neighbours(&file, 9);
+    neighbours(&file, 32357);
     neighbours(&file, 3);
 
     /* a resent entry is accepted */
@@ -116,7 +117,7 @@ int main(void)
     look_up(&file, 1);
 
     /* damage is found on the page that a star leads to, and told by its page */
-    words[2 * PLACES] = UINT64_MAX;
+    words[heatherplane_look_up_in(&file, 2).page * PLACES] = UINT64_MAX;
     look_up(&file, 2);
 
     /* a new file under the other multiplier; called with one that is not its own, it answers wrongly or refuses */
