@@ -2,6 +2,7 @@
 ghost use mathlib.Core.Path.{_≡_};
 ghost use mathlib.Core.Bool.{true};
 ghost use Rattle.pages.specs.Position.{validNumber};
+ghost use Rattle.placement.specs.Hash.{homeUnder};
 ghost use Rattle.placement.specs.Lent.{held, before, after};
 ghost use Rattle.placement.specs.Ready.{Ready, Pooled};
 ghost use Rattle.entering.specs.Entry.{Unheld, entryAnswer, entryFile};
@@ -27,16 +28,17 @@ pub fn enter_stretch(
     waiting: &mut [u64],
     number: u32,
     word: u64,
+    home: u32,
 ) -> Entered
     requires { ⌜ Ready geometry (now table) (held separators numbers words) ⌝ }
     requires { ⌜ Pooled (geometry .parameters) (now pool) (now waiting) ⌝ }
     requires { ⌜ validNumber number ≡ true ⌝ }
     requires { ⌜ Unheld (geometry .parameters) (geometry .growth) (held separators numbers words) number ⌝ }
+    requires { ⌜ home ≡ homeUnder geometry number ⌝ }
     ensures { λ r. ⌜ r ≡ entryAnswer (geometry .parameters) (geometry .growth) (before separators numbers words) number word ⌝ }
     ensures { λ _. ⌜ after separators numbers words ≡ entryFile (geometry .parameters) (geometry .growth) (before separators numbers words) number word ⌝ }
 {
     let places = geometry.parameters.places as usize;
-    let home = hashing::home(table, geometry, number);
     let from = home as usize;
     let mut planned = [0u8; 1024];
     match plan_entry(

@@ -101,10 +101,7 @@ times-step a i k h =
     let e : 2 * i + 1 + 1 ≡ 2 * suc i = omega arith in
     times-first a (2 * i + 1) k (omega arith) ∙ ap (λ (j : ℕ). scrambled a j k) e
 
--- X(j+2) is X2 times Xj
-pub times-second : (a j k : ℕ) → getD (firstMultipliers a) 1 0 * scrambled a j k % modulus ≡ scrambled a (j + 2) k
+-- Xi of Xj is X(i+j)
+pub scrambled-twice : (a i j k : ℕ) → scrambled a i (scrambled a j k) ≡ scrambled a (i + j) k
 unfolding scrambled
-times-second a j k =
-    times-first a 1 (a ^ j * k % modulus) (omega arith)
-    ∙ mul-mod-right (a ^ 2) modulus (a ^ j * k)
-    ∙ rw (← mul-assoc (a ^ 2) (a ^ j) k, ← pow-add a 2 j, add-comm 2 j)
+scrambled-twice a i j k = mul-mod-right (a ^ i) modulus (a ^ j * k) ∙ rw (← mul-assoc (a ^ i) (a ^ j) k, ← pow-add a i j)

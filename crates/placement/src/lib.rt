@@ -3,7 +3,6 @@ mod naming;
 mod soundness;
 
 pub use naming::named_from;
-pub use naming::named_page;
 pub use soundness::page_sound;
 pub use soundness::survey;
 pub use soundness::top_of;

@@ -13,16 +13,7 @@ use crate::soundness::top_of;
 use hashing::Geometry;
 use hashing::Parameters;
 
-pub fn named_page(table: &[u32; 90], geometry: Geometry, separators: &[u8], number: u32) -> usize
-    requires { ⌜ Homing geometry (now table) ⌝ }
-    requires { ⌜ length (now separators) ≡ geometry .parameters .pages ⌝ }
-    ensures { λ r. ⌜ r ≡ namedPage (geometry .parameters) (geometry .growth) (now (separators .entry)) number ⌝ }
-{
-    let home = hashing::home(table, geometry, number);
-    named_from(table, geometry, separators, number, home)
-}
-
-// The same, for a number whose home is known.
+// For a number whose home is known.
 pub fn named_from(
     table: &[u32; 90],
     geometry: Geometry,
@@ -45,7 +36,8 @@ pub fn named_from(
     )
 }
 
-// Probes the pages from home upward to the one before `stop`. X(2t+3) is X2·X(2t+1) mod m: one product for each signature.
+// Probes the pages from home upward to the one before `stop`, with one product for each signature: X(2t+1) by the table, which ends with
+// t = 44, and from there on X(88 + 2t+1) as X(2t+1) of X88.
 fn probe(
     table: &[u32; 90],
     parameters: Parameters,
@@ -59,15 +51,20 @@ fn probe(
     requires { ⌜ stop ≤ length (now separators) ⌝ }
     ensures { λ r. ⌜ r ≡ first (hashFrom parameters home) 0 (take stop (now (separators .entry))) number ⌝ }
 {
-    let second = table[1];
-    let mut x = hashing::residue(table[2], number % 2147483647);
+    let mut key = number % 2147483647;
+    let mut t = 1;
     let mut page = home;
     while page < stop {
+        let x = hashing::residue(table[2 * t], key);
         if hashing::below_top(x, parameters.bits) < separators[page] as u32 {
             return page;
         }
-        x = hashing::residue(second, x);
         page += 1;
+        t += 1;
+        if t == 45 {
+            key = hashing::residue(table[87], key);
+            t = 1;
+        }
     }
     page
 }

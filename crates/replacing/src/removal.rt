@@ -1,5 +1,6 @@
 // The removal of a star over its reach.
 ghost use mathlib.Core.Path.{_≡_};
+ghost use Rattle.placement.specs.Hash.{homeUnder};
 ghost use Rattle.placement.specs.Lent.{held, before, after};
 ghost use Rattle.placement.specs.Ready.{Ready, Pooled};
 ghost use Rattle.replacing.specs.Calls.{removalAnswer, removalFile};
@@ -17,14 +18,16 @@ pub fn remove_star(
     pool: &mut [u32],
     waiting: &mut [u64],
     number: u32,
+    home: u32,
 ) -> Replaced
     requires { ⌜ Ready geometry (now table) (held separators numbers words) ⌝ }
     requires { ⌜ Pooled (geometry .parameters) (now pool) (now waiting) ⌝ }
+    requires { ⌜ home ≡ homeUnder geometry number ⌝ }
     ensures { λ r. ⌜ r ≡ removalAnswer (geometry .parameters) (geometry .growth) (before separators numbers words) number ⌝ }
     ensures { λ r. ⌜ after separators numbers words ≡ removalFile (geometry .parameters) (geometry .growth) (before separators numbers words) number ⌝ }
 {
     let parameters = geometry.parameters;
-    let from = hashing::home(table, geometry, number) as usize;
+    let from = home as usize;
     let last = reach::stretch_end(separators, placement::top_of(parameters), from);
     let stop = last + 1;
     let bad = reach::survey_pages(

@@ -9,6 +9,8 @@ use borrow.Author.Tests.{lt-ltb, le-ltb, leb-true}
 use Rattle.hashing.proofs.Bounds.{both}
 use Rattle.hashing.specs.declared.Parameters.{Parameters}
 use Rattle.hashing.specs.declared.Growth.{Growth}
+use Rattle.hashing.specs.Generator.{multiplierOf}
+use Rattle.hashing.specs.Home.{home}
 use Rattle.pages.specs.Page.{part, placeOf, placeIn, pageAt}
 use Rattle.pages.specs.Position.{validWord, validNumber}
 use Rattle.pages.specs.declared.page.Page.{Page}
@@ -40,10 +42,11 @@ pub in-file : (p : Parameters) (g : Growth) (f : File) (page : ℕ) (t : Bool) �
 unfolding readable
 in-file p g f page t h e = rw (lt-ltb page (p .pages) h, e)
 
-module _ (p : Parameters) (g : Growth) (f : File) (k page : ℕ) (sized : Sized (p .places) (p .pages) f) (is : page ≡ named p g f k) where
-  pub unread-as : readable p g f page ≡ false → NamedAs p g f k (record { page = page; readable = false; held = false; place = 0; item = 0; word = 0 })
+module _ (p : Parameters) (g : Growth) (f : File) (k from page : ℕ) (sized : Sized (p .places) (p .pages) f) (homed : from ≡ home (multiplierOf p) p g k) (is : page ≡ named p g f k) where
+  pub unread-as : readable p g f page ≡ false → NamedAs p g f k (record { home = from; page = page; readable = false; held = false; place = 0; item = 0; word = 0 })
   unread-as e =
       record {
+        homeIs = homed;
         pageMost = rw is (named-most p g f k sized);
         pageIs = is;
         readableIs = sym (rw (← is) e);
@@ -56,9 +59,10 @@ module _ (p : Parameters) (g : Growth) (f : File) (k page : ℕ) (sized : Sized 
       }
 
   pub absent-as : (place : ℕ) → readable p g f page ≡ true → holds p f page k ≡ false → place ≡ placeFor p f page k
-      → NamedAs p g f k (record { page = page; readable = true; held = false; place = place; item = 0; word = 0 })
+      → NamedAs p g f k (record { home = from; page = page; readable = true; held = false; place = place; item = 0; word = 0 })
   absent-as place e h a =
       record {
+        homeIs = homed;
         pageMost = rw is (named-most p g f k sized);
         pageIs = is;
         readableIs = sym (rw (← is) e);
@@ -71,9 +75,10 @@ module _ (p : Parameters) (g : Growth) (f : File) (k page : ℕ) (sized : Sized 
       }
 
   pub held-as : (place item word : ℕ) → readable p g f page ≡ true → holds p f page k ≡ true → place ≡ placeFor p f page k → item ≡ itemOf p f page k → word ≡ getD (f .words) (itemOf p f page k) 0
-      → item < p .pages * p .places → validWord word ≡ true → NamedAs p g f k (record { page = page; readable = true; held = true; place = place; item = item; word = word })
+      → item < p .pages * p .places → validWord word ≡ true → NamedAs p g f k (record { home = from; page = page; readable = true; held = true; place = place; item = item; word = word })
   held-as place item word e h a i w b v =
       record {
+        homeIs = homed;
         pageMost = rw is (named-most p g f k sized);
         pageIs = is;
         readableIs = sym (rw (← is) e);

@@ -5,12 +5,15 @@ use Prim.Native.Nat.{ℕ, _*_, _≤_, _<_}
 use lib.ListN.{getD}
 use Rattle.hashing.specs.declared.Parameters.{Parameters}
 use Rattle.hashing.specs.declared.Growth.{Growth}
+use Rattle.hashing.specs.Generator.{multiplierOf}
+use Rattle.hashing.specs.Home.{home}
 use Rattle.pages.specs.Position.{validWord}
 use Rattle.placement.specs.File.{File}
 use Rattle.calls.specs.Calls.{named, readable, holds, placeFor, itemOf}
 use Rattle.starfile.specs.declared.naming.Named.{Named}
 
 pub record NamedAs (p : Parameters) (g : Growth) (f : File) (k : ℕ) (r : Named) : Type 0 where
+  pub homeIs : r .home ≡ home (multiplierOf p) p g k
   pub pageMost : r .page ≤ p .pages
   pub pageIs : r .page ≡ named p g f k
   pub readableIs : r .readable ≡ readable p g f (named p g f k)

@@ -111,6 +111,7 @@ fn enter_star(
             poolwords,
             number,
             word,
+            named.home,
         ),
         named.place,
     )

@@ -8,6 +8,7 @@ ghost use Rattle.starfile.specs.Named.{NamedAs};
 use hashing::Geometry;
 
 pub struct Named {
+    pub home: u32,
     pub page: usize,
     // the page is below M and sound
     pub readable: bool,
@@ -33,19 +34,21 @@ pub fn find(
     ensures { λ r. ⌜ NamedAs (geometry .parameters) (geometry .growth) (before separators numbers words) number r ⌝ }
 {
     let places = geometry.parameters.places as usize;
-    let page = placement::named_page(table, geometry, separators, number);
+    let home = hashing::home(table, geometry, number);
+    let page = placement::named_from(table, geometry, separators, number, home);
     if page == geometry.parameters.pages as usize {
-        return unread(page);
+        return unread(home, page);
     }
     let value = pages::page::load(numbers, words, places, page);
     if !placement::page_sound(table, geometry, separators, value, page).sound {
-        return unread(page);
+        return unread(home, page);
     }
     let found = pages::page::search(value, places, number);
     let at = found.at;
     let place = at as u32;
     if !found.held {
         return Named {
+            home,
             page,
             readable: true,
             held: false,
@@ -55,6 +58,7 @@ pub fn find(
         };
     }
     Named {
+        home,
         page,
         readable: true,
         held: true,
@@ -64,10 +68,11 @@ pub fn find(
     }
 }
 
-fn unread(page: usize) -> Named
-    ensures { λ r. ⌜ r ≡ record { page = page; readable = false; held = false; place = 0; item = 0; word = 0 } ⌝ }
+fn unread(home: u32, page: usize) -> Named
+    ensures { λ r. ⌜ r ≡ record { home = home; page = page; readable = false; held = false; place = 0; item = 0; word = 0 } ⌝ }
 {
     Named {
+        home,
         page,
         readable: false,
         held: false,

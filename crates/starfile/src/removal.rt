@@ -100,6 +100,7 @@ fn remove_held(
             poolnumbers,
             poolwords,
             number,
+            named.home,
         ),
         page,
         named.place,

@@ -28,48 +28,42 @@ abbrev Place : Type 0
 Place = tie.After-plan-entry
 
 abbrev start : Place → tie.Start
-start x = x .before .before .before .before .before .before .before .before .before .before .before .before .before .before
+start x = x .before .before .before .before .before .before .before .before .before .before .before .before .before
 
 unfolded : (p : Parameters) (g : Growth) (k : ℕ) → Home·home (multiplierOf p) p g k ≡ startOf p g k
 unfolding hashOf
 unfolded p g k = refl
 
-home-is : (x : Place) → x .before .before .before .before .before .before .before .home .result ≡ startOf (start x .args .geometry .parameters) (start x .args .geometry .growth) (start x .args .number)
-home-is x = x .before .before .before .before .before .before .before .home .ensures ∙ unfolded (start x .args .geometry .parameters) (start x .args .geometry .growth) (start x .args .number)
+home-is : (x : Place) → start x .args .home ≡ startOf (start x .args .geometry .parameters) (start x .args .geometry .growth) (start x .args .number)
+home-is x = start x .pre .1 .1 .1 .1 ∙ unfolded (start x .args .geometry .parameters) (start x .args .geometry .growth) (start x .args .number)
 
 -- where the reach ends at `last`
 module _ (x : Place) (last : ℕ) (v : x .plan-entry .result ≡ Ends last) where
   answer : Ends last ≡ reachAnswer (start x .args .geometry .parameters) (start x .args .geometry .growth) (file (start x)) (start x .args .number) (start x .args .word)
   answer = sym v ∙ x .plan-entry .ensures .0 (start x .args .word)
 
-  low : x .before .before .before .before .before .before .before .home .result ≤ last
+  low : start x .args .home ≤ last
   low = let s = start x in rw (home-is x) (last-least (s .args .geometry .parameters) (s .args .geometry .growth) (file s) (s .args .number) (s .args .word) last answer)
 
   high : last < start x .args .geometry .parameters .pages
   high = x .plan-entry .ensures .1 (start x .args .word) last v .0
 
-  stop : x .before .before .before .before .before .before .before .home .result + (last + 1 - x .before .before .before .before .before .before .before .home .result) ≡ last + 1
+  stop : start x .args .home + (last + 1 - start x .args .home) ≡ last + 1
   stop = omega (arith, low)
 
-  items : (x .before .before .before .before .before .before .before .home .result + (last + 1 - x .before .before .before .before .before .before .before .home .result)) * start x .args .geometry .parameters .places ≤ start x .args .geometry .parameters .pages * start x .args .geometry .parameters .places
+  items : (start x .args .home + (last + 1 - start x .args .home)) * start x .args .geometry .parameters .places ≤ start x .args .geometry .parameters .pages * start x .args .geometry .parameters .places
   items = mul-le-mul-right (start x .args .geometry .parameters .places) (omega (arith, stop, high))
 
 cast-places : tie.Need-cast-places
 cast-places c = search needs
-
-home-requires : tie.Need-home-requires
-home-requires c κs = let ready = c .before .before .before .before .before .before .pre .0 .homing in (ready .table, (ready .valid, ready .growth))
-
-cast-from : tie.Need-cast-from
-cast-from c = search needs
 
 slice-aggregate-plan-entry : tie.Need-slice-aggregate-plan-entry
 slice-aggregate-plan-entry c = search needs
 
 plan-entry-requires : tie.Need-plan-entry-requires
 plan-entry-requires c κs =
-    let s = c .before .before .before .before .before .before .before .before .before .before .before .before .before in
-    (s .pre .0, (s .pre .1 .0, (bounds s .pages-most, (s .pre .1 .1 .0, (s .pre .1 .1 .1, c .before .before .before .before .before .before .home .ensures)))))
+    let s = c .before .before .before .before .before .before .before .before .before .before .before .before in
+    (s .pre .0, (s .pre .1 .0, (bounds s .pages-most, s .pre .1 .1)))
 
 enum-known-page : tie.Need-enum-known-page
 enum-known-page c = search needs
@@ -115,7 +109,7 @@ named-from-requires : tie.Need-named-from-requires
 named-from-requires c κs =
     let x = c .before .before .before .before .before .before .before .before .before .before .before .before .before .before .before .before .before .before .before .before .before .before .before .before .before .before in
     let s = start x in
-    (s .pre .0 .homing, (c .before .before .before .before .before .before .before .before .before .before .before .apply .kept .0 ∙ s .pre .0 .sized .ofSeparators, x .before .before .before .before .before .before .before .home .ensures))
+    (s .pre .0 .homing, (c .before .before .before .before .before .before .before .before .before .before .before .apply .kept .0 ∙ s .pre .0 .sized .ofSeparators, s .pre .1 .1 .1 .1))
 
 same-length : tie.Need-same-length
 same-length c = search needs
@@ -198,8 +192,6 @@ enter-stretch-spec =
     tie.close
     (tie.spec
     cast-places
-    home-requires
-    cast-from
     slice-aggregate-plan-entry
     plan-entry-requires
     enum-known-page

@@ -10,33 +10,27 @@ use Rattle.replacing.proofs.removal.remove_star.Statement.{statement}
 use Rattle.replacing.proofs.removal.remove_star.Tie as tie
 
 abbrev start : tie.After-stretch-end → tie.Start
-start c = c .before .before .before .before .before .before .before .before .before .before
+start c = c .before .before .before .before .before .before .before .before .before
 
 -- the reach
 reach : (c : tie.After-stretch-end)
     → Reached (start c .args .geometry .parameters) (start c .args .geometry .growth)
-    (lent (start c .args .separators .now) (start c .args .numbers .now) (start c .args .words .now)) (start c .args .number) (c .before .before .before .home .result) (c .stretch-end .result)
+    (lent (start c .args .separators .now) (start c .args .numbers .now) (start c .args .words .now)) (start c .args .number) (start c .args .home) (c .stretch-end .result)
 unfolding hashOf
 reach c =
     let pre = start c .pre in
-    reached _ _ _ _ (pre .0 .homing .valid) (pre .0 .homing .growth) (pre .0 .sized) _ _ _ (c .before .before .before .home .ensures) (c .before .top-of .ensures) (c .stretch-end .ensures)
-
-home-requires : tie.Need-home-requires
-home-requires c κs = let ready = c .before .before .before .before .before .before .pre .0 .homing in (ready .table, (ready .valid, ready .growth))
-
-cast-from : tie.Need-cast-from
-cast-from c = search needs
+    reached _ _ _ _ (pre .0 .homing .valid) (pre .0 .homing .growth) (pre .0 .sized) _ _ _ (pre .1 .1) (c .before .top-of .ensures) (c .stretch-end .ensures)
 
 top-of-requires : tie.Need-top-of-requires
 top-of-requires c κs = search needs
 
 stretch-end-requires : tie.Need-stretch-end-requires
 stretch-end-requires c κs =
-    let s = c .before .before .before .before .before .before .before .before .before in
+    let s = c .before .before .before .before .before .before .before .before in
     let p = s .args .geometry .parameters in
     let ready = s .pre .0 in
     let low = home-pages (multiplierOf p) p (s .args .geometry .growth) (s .args .number) (ready .homing .valid) (ready .homing .growth) in
-    omega (arith, c .before .before .home .ensures, low, ready .sized .ofSeparators)
+    omega (arith, s .pre .1 .1, low, ready .sized .ofSeparators)
 
 add-stop : tie.Need-add-stop
 add-stop c = omega (arith, reach c .inside, limits _ (start c .pre .0 .homing .valid) .pages-most)
@@ -46,7 +40,7 @@ survey-pages-requires c κs =
     let end = c .before .before .before .before in
     let pre = start end .pre in
     let R = reach end in
-    (pre .0, (pre .1 .ofNumbers, (omega (arith, R .order), omega (arith, R .inside))))
+    (pre .0, (pre .1 .0 .ofNumbers, (omega (arith, R .order), omega (arith, R .inside))))
 
 same-length : tie.Need-same-length
 same-length c = search needs
@@ -74,7 +68,7 @@ replace-stretch-requires c κs =
     let surveyed = sound .before .before .before in
     let end = surveyed .before .before .before .before .before in
     let pre = start end .pre in
-    let lengths = pre .1 in (
+    let lengths = pre .1 .0 in (
       pre .0 .homing .valid,
       removal-plannable _ _ _ _ _ _ (reach end) (pre .0 .homing .valid) (pre .0 .sized) _ (surveyed .survey-pages .ensures .0) (sound .if1 .left) _ _ (lengths .ofNumbers)
           (surveyed .survey-pages .kept .1 .1 .1 .1 .1 .0 ∙ lengths .ofNumbers) (surveyed .survey-pages .ensures .1) _ (lengths .ofWords),
@@ -102,7 +96,7 @@ returns-2 c =
     let surveyed = sound .before .before .before in
     let end = surveyed .before .before .before .before .before in
     let pre = start end .pre in
-    let lengths = pre .1 in
+    let lengths = pre .1 .0 in
     let done =
     removal-done _ _ _ _ _ _ (reach end) (pre .0 .homing .valid) (pre .0 .sized) _ (surveyed .survey-pages .ensures .0) (sound .if1 .left) _ _ (lengths .ofNumbers)
     (surveyed .survey-pages .kept .1 .1 .1 .1 .1 .0 ∙ lengths .ofNumbers) (surveyed .survey-pages .ensures .1) in
@@ -112,8 +106,6 @@ pub remove-star-spec : {M : Type 1} → statement M
 remove-star-spec =
     tie.close
     (tie.spec
-    home-requires
-    cast-from
     top-of-requires
     stretch-end-requires
     add-stop

@@ -97,7 +97,10 @@ enter-stretch-requires c κs =
         s .pre .1 .0,
         (
           s .pre .1 .1,
-          unheld (s .args .parameters) (s .args .growth) (fileOf s) (s .args .number) (sym (found .readableIs) ∙ opened) (sym (found .heldIs opened) ∙ c .before .before .before .before .before .before .if2 .left),
+          (
+            unheld (s .args .parameters) (s .args .growth) (fileOf s) (s .args .number) (sym (found .readableIs) ∙ opened) (sym (found .heldIs opened) ∙ c .before .before .before .before .before .before .if2 .left),
+            found .homeIs,
+          ),
         ),
       ),
     )

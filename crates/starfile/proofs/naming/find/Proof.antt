@@ -23,10 +23,13 @@ fileOf s = lent (now (s .args .separators)) (now (s .args .numbers)) (now (s .ar
 cast-places : tie.Need-cast-places
 cast-places c = search needs
 
-named-page-requires : tie.Need-named-page-requires
-named-page-requires c κs =
-    let pre = c .before .before .before .before .pre in
-    (pre .0 .homing, pre .0 .sized .ofSeparators)
+home-requires : tie.Need-home-requires
+home-requires c κs = let ready = c .before .before .before .before .pre .0 .homing in (ready .table, (ready .valid, ready .growth))
+
+named-from-requires : tie.Need-named-from-requires
+named-from-requires c κs =
+    let pre = c .before .before .before .before .before .pre in
+    (pre .0 .homing, (pre .0 .sized .ofSeparators, c .home .ensures))
 
 cast-if1 : tie.Need-cast-if1
 cast-if1 c = search needs
@@ -36,24 +39,24 @@ unread-requires c κs = search needs
 
 returns : tie.Need-returns
 returns c =
-    let s = c .before .before .before .before .before .before .before .before in
+    let s = c .before .before .before .before .before .before .before .before .before in
     rw (c .unread .ensures)
-    (unread-as (s .args .geometry .parameters) (s .args .geometry .growth) (fileOf s) (s .args .number) _ (s .pre .0 .sized) (c .before .before .before .named-page .ensures)
+    (unread-as (s .args .geometry .parameters) (s .args .geometry .growth) (fileOf s) (s .args .number) _ _ (s .pre .0 .sized) (c .before .before .before .before .home .ensures) (c .before .before .before .named-from .ensures)
     (past-file _ _ _ _ (c .before .if1 .taken)))
 
 -- past the first test, the page is one of the file
 abbrev begun : tie.Else1 → tie.Start
-begun c = c .before .before .before .before .before .before .before
+begun c = c .before .before .before .before .before .before .before .before
 
-inside : (c : tie.Else1) → c .before .before .named-page .result < begun c .args .geometry .parameters .pages
+inside : (c : tie.Else1) → c .before .before .named-from .result < begun c .args .geometry .parameters .pages
 inside c =
     let most = named-most (begun c .args .geometry .parameters) (begun c .args .geometry .growth) (fileOf (begun c)) (begun c .args .number) (begun c .pre .0 .sized) in
-    omega (arith, c .if1 .left, c .before .before .named-page .ensures)
+    omega (arith, c .if1 .left, c .before .before .named-from .ensures)
 
-fits : (c : tie.Else1) → c .before .before .named-page .result * begun c .args .geometry .parameters .places + begun c .args .geometry .parameters .places ≤ length (now (begun c .args .numbers))
+fits : (c : tie.Else1) → c .before .before .named-from .result * begun c .args .geometry .parameters .places + begun c .args .geometry .parameters .places ≤ length (now (begun c .args .numbers))
 fits c = page-fits _ _ _ (inside c) (begun c .pre .0 .sized .ofNumbers)
 
-fits-words : (c : tie.Else1) → c .before .before .named-page .result * begun c .args .geometry .parameters .places + begun c .args .geometry .parameters .places ≤ length (now (begun c .args .words))
+fits-words : (c : tie.Else1) → c .before .before .named-from .result * begun c .args .geometry .parameters .places + begun c .args .geometry .parameters .places ≤ length (now (begun c .args .words))
 fits-words c = page-fits _ _ _ (inside c) (begun c .pre .0 .sized .ofWords)
 
 load-requires : tie.Need-load-requires
@@ -65,7 +68,7 @@ page-sound-requires c κs =
     (pre .0 .homing, (pre .0 .sized .ofSeparators, inside (c .before)))
 
 -- the value tested is the page's
-told : (c : tie.After-page-sound) → c .page-sound .result .sound ≡ soundAt (begun (c .before .before) .args .geometry .parameters) (begun (c .before .before) .args .geometry .growth) (fileOf (begun (c .before .before))) (c .before .before .before .before .named-page .result)
+told : (c : tie.After-page-sound) → c .page-sound .result .sound ≡ soundAt (begun (c .before .before) .args .geometry .parameters) (begun (c .before .before) .args .geometry .growth) (fileOf (begun (c .before .before))) (c .before .before .before .before .named-from .result)
 told c = c .page-sound .ensures .sound ∙ sound-loaded _ _ (fileOf (begun (c .before .before))) _ _ (fits (c .before .before)) (fits-words (c .before .before)) (c .before .load .ensures)
 
 unread-requires-2 : tie.Need-unread-requires-2
@@ -73,19 +76,19 @@ unread-requires-2 c κs = search needs
 
 returns-2 : tie.Need-returns-2
 returns-2 c =
-    let s = c .before .before .before .before .before .before .before .before .before .before .before .before in
+    let s = c .before .before .before .before .before .before .before .before .before .before .before .before .before in
     rw (c .unread2 .ensures)
-    (unread-as (s .args .geometry .parameters) (s .args .geometry .growth) (fileOf s) (s .args .number) _ (s .pre .0 .sized) (c .before .before .before .before .before .before .before .named-page .ensures)
+    (unread-as (s .args .geometry .parameters) (s .args .geometry .growth) (fileOf s) (s .args .number) _ _ (s .pre .0 .sized) (c .before .before .before .before .before .before .before .before .home .ensures) (c .before .before .before .before .before .before .before .named-from .ensures)
     (in-file _ _ _ _ _ (inside (c .before .before .before .before .before)) (sym (told (c .before .before .before)) ∙ not-true _ (c .before .if2 .taken))))
 
 search-requires : tie.Need-search-requires
-search-requires c κs = limits _ (c .before .before .before .before .before .before .before .before .before .before .before .pre .0 .homing .valid) .places-most
+search-requires c κs = limits _ (c .before .before .before .before .before .before .before .before .before .before .before .before .pre .0 .homing .valid) .places-most
 
 -- what the search of the page tells of the lent lists
 abbrev tested : tie.After-search → tie.After-page-sound
 tested c = c .before .before .before
 
-sound : (c : tie.After-search) → soundAt (begun (tested c .before .before) .args .geometry .parameters) (begun (tested c .before .before) .args .geometry .growth) (fileOf (begun (tested c .before .before))) (tested c .before .before .before .before .named-page .result) ≡ true
+sound : (c : tie.After-search) → soundAt (begun (tested c .before .before) .args .geometry .parameters) (begun (tested c .before .before) .args .geometry .growth) (fileOf (begun (tested c .before .before))) (tested c .before .before .before .before .named-from .result) ≡ true
 sound c = sym (told (tested c)) ∙ not-false _ (c .before .if2 .left)
 
 place-below : (c : tie.After-search) → c .search .result .at ≤ begun (tested c .before .before) .args .geometry .parameters .places
@@ -101,7 +104,7 @@ returns-3 c =
     let d = c .before .before in
     let e = tested d .before .before in
     let s = begun e in
-    absent-as (s .args .geometry .parameters) (s .args .geometry .growth) (fileOf s) (s .args .number) _ (s .pre .0 .sized) (c .before .before .before .before .before .before .before .before .before .named-page .ensures) _
+    absent-as (s .args .geometry .parameters) (s .args .geometry .growth) (fileOf s) (s .args .number) _ _ (s .pre .0 .sized) (c .before .before .before .before .before .before .before .before .before .before .home .ensures) (c .before .before .before .before .before .before .before .before .before .named-from .ensures) _
     (in-file _ _ _ _ _ (inside e) (sound d))
     (sym (held-is (s .args .geometry .parameters) (fileOf s) _ _ _ _ (fits e) (c .before .before .before .before .before .before .load .ensures) (d .search .ensures)) ∙ not-true _ (c .if3 .taken))
     (place-is (s .args .geometry .parameters) (fileOf s) _ _ _ _ (fits e) (c .before .before .before .before .before .before .load .ensures) (d .search .ensures))
@@ -110,29 +113,29 @@ returns-3 c =
 held : (c : tie.Else3) → c .before .before .search .result .held ≡ true
 held c = not-false _ (c .if3 .left)
 
-within : (c : tie.Else3) → c .before .before .search .result .at < c .before .before .before .before .before .before .before .before .before .before .before .before .before .before .args .geometry .parameters .places
+within : (c : tie.Else3) → c .before .before .search .result .at < c .before .before .before .before .before .before .before .before .before .before .before .before .before .before .before .args .geometry .parameters .places
 within c =
     let e = tested (c .before .before) .before .before in
     at-below (begun e .args .geometry .parameters) (fileOf (begun e)) (begun e .args .number) _ _ _ (fits e) (c .before .before .before .before .before .before .load .ensures) (c .before .before .search .ensures) (held c)
 
-mul-t13 : tie.Need-mul-t13
-mul-t13 c = omega (arith, fits (tested (c .before .before) .before .before), items-most _ (c .before .before .before .before .before .before .before .before .before .before .before .before .before .before .pre .0 .homing .valid), c .before .before .before .before .before .before .before .before .before .before .before .before .before .before .pre .0 .sized .ofNumbers)
+mul-t14 : tie.Need-mul-t14
+mul-t14 c = omega (arith, fits (tested (c .before .before) .before .before), items-most _ (c .before .before .before .before .before .before .before .before .before .before .before .before .before .before .before .pre .0 .homing .valid), c .before .before .before .before .before .before .before .before .before .before .before .before .before .before .before .pre .0 .sized .ofNumbers)
 
-add-t17 : tie.Need-add-t17
-add-t17 c = omega (arith, fits (tested (c .before .before) .before .before), items-most _ (c .before .before .before .before .before .before .before .before .before .before .before .before .before .before .pre .0 .homing .valid), c .before .before .before .before .before .before .before .before .before .before .before .before .before .before .pre .0 .sized .ofNumbers, within c)
+add-t18 : tie.Need-add-t18
+add-t18 c = omega (arith, fits (tested (c .before .before) .before .before), items-most _ (c .before .before .before .before .before .before .before .before .before .before .before .before .before .before .before .pre .0 .homing .valid), c .before .before .before .before .before .before .before .before .before .before .before .before .before .before .before .pre .0 .sized .ofNumbers, within c)
 
-mul-t18 : tie.Need-mul-t18
-mul-t18 c = omega (arith, within c, limits _ (c .before .before .before .before .before .before .before .before .before .before .before .before .before .before .pre .0 .homing .valid) .places-most)
+mul-t19 : tie.Need-mul-t19
+mul-t19 c = omega (arith, within c, limits _ (c .before .before .before .before .before .before .before .before .before .before .before .before .before .before .before .pre .0 .homing .valid) .places-most)
 
-element-copy-out-t21 : tie.Need-element-copy-out-t21
-element-copy-out-t21 c = omega (arith, within c, limits _ (c .before .before .before .before .before .before .before .before .before .before .before .before .before .before .pre .0 .homing .valid) .places-most)
+element-copy-out-t22 : tie.Need-element-copy-out-t22
+element-copy-out-t22 c = omega (arith, within c, limits _ (c .before .before .before .before .before .before .before .before .before .before .before .before .before .before .before .pre .0 .homing .valid) .places-most)
 
 returns-4 : tie.Need-returns-4
 returns-4 c =
     let d = c .before .before .before in
     let e = tested d .before .before in
     let s = begun e in
-    held-as (s .args .geometry .parameters) (s .args .geometry .growth) (fileOf s) (s .args .number) _ (s .pre .0 .sized) (c .before .before .before .before .before .before .before .before .before .before .named-page .ensures) _ _ _
+    held-as (s .args .geometry .parameters) (s .args .geometry .growth) (fileOf s) (s .args .number) _ _ (s .pre .0 .sized) (c .before .before .before .before .before .before .before .before .before .before .before .home .ensures) (c .before .before .before .before .before .before .before .before .before .before .named-from .ensures) _ _ _
     (in-file _ _ _ _ _ (inside e) (sound d))
     (sym (held-is (s .args .geometry .parameters) (fileOf s) _ _ _ _ (fits e) (c .before .before .before .before .before .before .before .load .ensures) (d .search .ensures)) ∙ held (c .before))
     (place-is (s .args .geometry .parameters) (fileOf s) _ _ _ _ (fits e) (c .before .before .before .before .before .before .before .load .ensures) (d .search .ensures))
@@ -148,7 +151,8 @@ find-spec =
     tie.close
     (tie.spec
     cast-places
-    named-page-requires
+    home-requires
+    named-from-requires
     cast-if1
     unread-requires
     returns
@@ -159,8 +163,8 @@ find-spec =
     search-requires
     cast-place
     returns-3
-    mul-t13
-    add-t17
-    mul-t18
-    element-copy-out-t21
+    mul-t14
+    add-t18
+    mul-t19
+    element-copy-out-t22
     returns-4)

@@ -69,7 +69,7 @@ remove-star-requires : tie.Need-remove-star-requires
 remove-star-requires c κs =
     let s = c .before .before .before .before .before .before .before .before .before .before .before .before .before .before .before .before .before .before .before .before .before .before in (
       prepared (c .before .before .before .before .before .before .before .before .before .before .before .before .before .before .before .before .first-multipliers .ensures) (s .pre .0),
-      s .pre .1 .0,
+      (s .pre .1 .0, c .before .before .before .before .before .before .before .before .before .before .before .find .ensures .homeIs),
     )
 
 replaced-placed-requires : tie.Need-replaced-placed-requires
