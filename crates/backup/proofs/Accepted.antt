@@ -15,9 +15,9 @@ use Rattle.placement.specs.Hash.{hashOf}
 use Rattle.placement.specs.Ready.{Ready}
 use Rattle.reach.specs.Reach.{isEmpty, firstUnsound}
 use Rattle.backup.proofs.Ranges.{more-pages}
-use Rattle.starfile.specs.Answers.{Pool, After, accepted, refused, spotted, cleared}
-use Rattle.starfile.specs.Calls.{unlent, unchanged, guarded, fileFits, poolFits, growTo, growOn, growOf}
-use Rattle.starfile.proofs.Refusals.{admitted-pool}
+use Rattle.calls.specs.Answers.{Pool, After, accepted, refused, spotted, cleared}
+use Rattle.calls.specs.Calls.{unlent, unchanged, guarded, fileFits, poolFits, regrowTo, growOn, growOf}
+use Rattle.calls.proofs.Refusals.{admitted-pool}
 
 pub record Accepted (p : Parameters) (g : Growth) (f f′ : File) : Type 0 where
   pub parameters : validParameters p ≡ true
@@ -40,9 +40,9 @@ module _ (p : Parameters) (g : Growth) (f : File) where
   abbrev grownFile : File
   grownFile = replaced (p .places) f 0 (pages (hashOf p (grown p g)) 0 (p .pages) stars)
 
-  grown-to : (pool : Pool) → growTo p g f pool (grown p g) .answer .refusal ≡ 0
-      → (left (hashOf p (grown p g)) 0 (p .pages) stars ≡ []) × (growTo p g f pool (grown p g) .file ≡ grownFile)
-  unfolding growTo spotted
+  grown-to : (pool : Pool) → regrowTo p g f pool (grown p g) (pageCount p g) .answer .refusal ≡ 0
+      → (left (hashOf p (grown p g)) 0 (p .pages) stars ≡ []) × (regrowTo p g f pool (grown p g) (pageCount p g) .file ≡ grownFile)
+  unfolding regrowTo spotted
   grown-to pool = go (ltb (firstUnsound p g f 0 (p .pages)) (p .pages)) (left (hashOf p (grown p g)) 0 (p .pages) stars)
     where
       go : (t : Bool) (l : List Star)
@@ -70,11 +70,11 @@ module _ (p : Parameters) (g : Growth) (f : File) where
   grown-on pool = go (eqb (highest p g) (p .pages - 1)) (grown-to pool)
     where
       go : (t : Bool)
-          → (growTo p g f pool (grown p g) .answer .refusal ≡ 0 → (left (hashOf p (grown p g)) 0 (p .pages) stars ≡ []) × (growTo p g f pool (grown p g) .file ≡ grownFile))
-          → cond t (unchanged g f pool (refused 8 0)) (growTo p g f pool (grown p g)) .answer .refusal ≡ 0
+          → (regrowTo p g f pool (grown p g) (pageCount p g) .answer .refusal ≡ 0 → (left (hashOf p (grown p g)) 0 (p .pages) stars ≡ []) × (regrowTo p g f pool (grown p g) (pageCount p g) .file ≡ grownFile))
+          → cond t (unchanged g f pool (refused 8 0)) (regrowTo p g f pool (grown p g) (pageCount p g)) .answer .refusal ≡ 0
           → (t ≡ false)
           × (left (hashOf p (grown p g)) 0 (p .pages) stars ≡ [])
-          × (cond t (unchanged g f pool (refused 8 0)) (growTo p g f pool (grown p g)) .file ≡ grownFile)
+          × (cond t (unchanged g f pool (refused 8 0)) (regrowTo p g f pool (grown p g) (pageCount p g)) .file ≡ grownFile)
       go true f e = absurd (omega arith)
       go false f e = (refl, f e .0, f e .1)
 
@@ -86,10 +86,10 @@ module _ (p : Parameters) (g : Growth) (f : File) where
       let ready : Ready (record { parameters = p; growth = g }) _ f = admitted-pool p g f pool (passed .0) .0 in
       let on = grown-on (cleared pool) (sym (ap (λ (a : After). a .answer .refusal) (passed .1)) ∙ e) in
       record {
-        parameters = ready .homing .signing .valid;
+        parameters = ready .homing .valid;
         growth = ready .homing .growth;
         sized = ready .sized;
-        more = more-pages p g (ready .homing .signing .valid) (ready .homing .growth) (on .0);
+        more = more-pages p g (ready .homing .valid) (ready .homing .growth) (on .0);
         fits = on .1;
         file = ap (λ (a : After). a .file) (passed .1) ∙ on .2;
       }

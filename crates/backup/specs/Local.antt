@@ -9,8 +9,8 @@ use Rattle.pages.specs.Position.{validWord}
 use Rattle.pages.specs.Page.{part}
 use Rattle.placement.specs.File.{File, Clean}
 use Rattle.placement.specs.Hash.{hashOf}
-pub use Rattle.starfile.specs.Answers.{Pool}
-pub use Rattle.starfile.specs.Calls.{growOf}
+pub use Rattle.calls.specs.Answers.{Pool}
+pub use Rattle.calls.specs.Calls.{growOf}
 use Rattle.backup.specs.Stretches.{topAt, topTwice, endFrom, mayChange}
 
 -- the separator, numbers and words of a page are the same in two files

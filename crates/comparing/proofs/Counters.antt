@@ -17,7 +17,7 @@ use Rattle.pages.specs.Page.{part}
 use Rattle.placement.specs.Rule.{Hash, keep, filter}
 use Rattle.placement.specs.Hash.{hashOf, homeIn, homesOf, homeUnder}
 use Rattle.comparing.specs.Raising.{passed, counted, countedItem, countOf, countTo, rises, raisable, hashUnder, firstRaisable, firstRising, one, Counts, Added}
-use Rattle.comparing.proofs.Alike.{such-same}
+use Rattle.calls.proofs.Alike.{such-same}
 
 one-most : (t : Bool) → one t ≤ 1
 one-most true = omega arith

@@ -5,7 +5,7 @@ ghost use Prim.Native.Nat.{_≤_, _<_};
 ghost use lib.ListN.{length};
 ghost use Rattle.hashing.specs.Limits.{validParameters};
 ghost use Rattle.placement.specs.Hash.{homeUnder};
-ghost use Rattle.placement.specs.Ready.{Homing};
+ghost use Rattle.placement.specs.Ready.{Signing};
 ghost use Rattle.comparing.specs.Raising.{passed, countOf, countTo, rises, one, Counts, Adds, Homed, hashUnder, firstRaisable, firstRising};
 use hashing::Geometry;
 use hashing::Parameters;
@@ -20,7 +20,7 @@ fn count_passed(
     home: usize,
     page: usize,
 )
-    requires { ⌜ Homing geometry (now table) ⌝ }
+    requires { ⌜ Signing (geometry .parameters) (now table) ⌝ }
     requires { ⌜ (page ≤ length (now separators)) × (page ≤ 1024) ⌝ }
     requires { ⌜ Counts 65535 (now counts) ⌝ }
     requires { ⌜ home ≡ homeUnder geometry number ⌝ }
@@ -30,12 +30,7 @@ fn count_passed(
     while next < page {
         let probed = next;
         next += 1;
-        let signature = hashing::signature(
-            table,
-            geometry.parameters.bits,
-            number,
-            probed - home + 1,
-        );
+        let signature = hashing::signature(table, geometry.parameters, number, probed - home + 1);
         if signature == separators[probed] as u32 {
             counts[probed] += 1;
         }
@@ -52,7 +47,7 @@ fn count_page(
     counts: &mut [u32; 1024],
     page: usize,
 )
-    requires { ⌜ Homing geometry (now table) ⌝ }
+    requires { ⌜ Signing (geometry .parameters) (now table) ⌝ }
     requires { ⌜ Homed geometry (now separators) (now numbers) (now homes) ⌝ }
     requires { ⌜ Counts 32768 (now counts) ⌝ }
     requires { ⌜ page < geometry .parameters .pages ⌝ }
@@ -80,7 +75,7 @@ fn count_pages(
     homes: &[u32],
     counts: &mut [u32; 1024],
 )
-    requires { ⌜ Homing geometry (now table) ⌝ }
+    requires { ⌜ Signing (geometry .parameters) (now table) ⌝ }
     requires { ⌜ Homed geometry (now separators) (now numbers) (now homes) ⌝ }
     requires { ⌜ Counts 0 (now counts) ⌝ }
     ensures { λ _. ⌜ Adds (λ p. countTo (hashUnder geometry) (now (separators .entry)) (now (numbers .entry)) p (geometry .parameters .pages)) counts ⌝ }
@@ -119,17 +114,17 @@ fn first_rising(parameters: Parameters, separators: &[u8], counts: &[u32; 1024])
 
 // The first page whose separator could be one greater, M if there is none.
 pub fn first_raisable(
-    table: &[u32; 2049],
     geometry: Geometry,
     separators: &[u8],
     numbers: &[u32],
     homes: &[u32],
 ) -> usize
-    requires { ⌜ Homing geometry (now table) ⌝ }
+    requires { ⌜ validParameters (geometry .parameters) ≡ true ⌝ }
     requires { ⌜ Homed geometry (now separators) (now numbers) (now homes) ⌝ }
     ensures { λ r. ⌜ r ≡ firstRaisable geometry (now (separators .entry)) (now (numbers .entry)) ⌝ }
 {
+    let table = hashing::multipliers(geometry.parameters.multiplier);
     let mut counts = [0u32; 1024];
-    count_pages(table, geometry, separators, numbers, homes, &mut counts);
+    count_pages(&table, geometry, separators, numbers, homes, &mut counts);
     first_rising(geometry.parameters, separators, &counts)
 }

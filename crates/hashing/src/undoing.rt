@@ -1,7 +1,7 @@
 // Giving a page back: the growth state before the latest growth, and the homes under it.
 ghost use mathlib.Core.Path.{_≡_};
 ghost use mathlib.Core.Bool.{true, false};
-ghost use Rattle.hashing.specs.Generator.{multiplier, multipliers};
+ghost use Rattle.hashing.specs.Generator.{multiplierOf, firstMultipliers};
 ghost use Rattle.hashing.specs.Geometry.{isUngrown};
 ghost use Rattle.hashing.specs.Geometry.{shrunk as Geometry·shrunk};
 ghost use Rattle.hashing.specs.Limits.{validParameters, validGrowth};
@@ -45,13 +45,13 @@ pub fn shrunk(geometry: Geometry) -> Growth
 }
 
 // The home under the growth state before, from the home under this one: only the page given back loses its stars.
-pub fn home_shrunk(table: &[u32; 2049], geometry: Geometry, number: u32, old: u32) -> u32
-    requires { ⌜ now table ≡ multipliers ⌝ }
+pub fn home_shrunk(table: &[u32; 90], geometry: Geometry, number: u32, old: u32) -> u32
+    requires { ⌜ now table ≡ firstMultipliers (multiplierOf (geometry .parameters)) ⌝ }
     requires { ⌜ validParameters (geometry .parameters) ≡ true ⌝ }
     requires { ⌜ validGrowth (geometry .parameters) (geometry .growth) ≡ true ⌝ }
     requires { ⌜ isUngrown (geometry .growth) ≡ false ⌝ }
-    requires { ⌜ old ≡ Home·home multiplier (geometry .parameters) (geometry .growth) number ⌝ }
-    ensures { λ r. ⌜ r ≡ Home·home multiplier (geometry .parameters) (Geometry·shrunk (geometry .parameters) (geometry .growth)) number ⌝ }
+    requires { ⌜ old ≡ Home·home (multiplierOf (geometry .parameters)) (geometry .parameters) (geometry .growth) number ⌝ }
+    ensures { λ r. ⌜ r ≡ Home·home (multiplierOf (geometry .parameters)) (geometry .parameters) (Geometry·shrunk (geometry .parameters) (geometry .growth)) number ⌝ }
 {
     if old != geometry.highest_address() {
         return old;

@@ -2,7 +2,7 @@
 use contract.Running.{givenOf, tables, tablesOf}
 use denote.Triple.Spec.{tripleOf}
 use denote.Triple.Table.{entered, cited}
-use Rattle.starfile.specs.Calls.{shrinkOf}
+use Rattle.calls.specs.Calls.{shrinkOf}
 use Rattle.starfile.proofs.shrink.Symbol as callee-def
 use Rattle.starfile.proofs.shrink.Symbol.{name as #callee}
 use Rattle.starfile.proofs.shrink.Met as callee-thm

@@ -8,7 +8,7 @@ use lib.ListN.{length, getD}
 use Rattle.hashing.proofs.Bounds.{limits}
 use Rattle.placement.specs.Hash.{hashOf}
 use Rattle.comparing.specs.Raising.{hashUnder}
-use Rattle.comparing.proofs.Differences.{item-within}
+use Rattle.calls.proofs.Spots.{item-within}
 use Rattle.comparing.proofs.Planned.{few-items}
 use Rattle.comparing.proofs.Counters.{PlacesCounted, places-none, places-empty, places-star, places-fits, places-counts, places-all, home-item, homes-count}
 use Rattle.comparing.proofs.counts.count_page.Statement.{statement}
@@ -40,18 +40,18 @@ inside c = omega (arith, within c, start (c .before) .pre .1 .0 .numbers)
 few : (c : tie.In-loop Inv-loop μ-loop) →
     let a = start (c .before) .args in
     a .page * a .geometry .parameters .places + c .before .loop .i < 32768
-few c = omega (arith, within c, few-items (start (c .before) .args .geometry .parameters) (start (c .before) .pre .0 .signing .valid))
+few c = omega (arith, within c, few-items (start (c .before) .args .geometry .parameters) (start (c .before) .pre .0 .valid))
 
 low-page : (s : tie.Start Inv-loop μ-loop) → s .args .page < 1024
-low-page s = omega (arith, s .pre .1 .1 .1, limits (s .args .geometry .parameters) (s .pre .0 .signing .valid) .pages-most)
+low-page s = omega (arith, s .pre .1 .1 .1, limits (s .args .geometry .parameters) (s .pre .0 .valid) .pages-most)
 
 cast-places : tie.Need-cast-places Inv-loop μ-loop
-cast-places c = omega (arith, limits _ (c .before .before .before .before .pre .0 .signing .valid) .places-most)
+cast-places c = omega (arith, limits _ (c .before .before .before .before .pre .0 .valid) .places-most)
 
 mul-first : tie.Need-mul-first Inv-loop μ-loop
 mul-first c =
     let s = c .before .before .before .before in
-    omega (arith, mul-le-mul-right (s .args .geometry .parameters .places) (s .pre .1 .1 .1), suc-mul (s .args .page) (s .args .geometry .parameters .places), few-items _ (s .pre .0 .signing .valid))
+    omega (arith, mul-le-mul-right (s .args .geometry .parameters .places) (s .pre .1 .1 .1), suc-mul (s .args .page) (s .args .geometry .parameters .places), few-items _ (s .pre .0 .valid))
 
 loop-holds : tie.Need-loop-holds Inv-loop μ-loop
 loop-holds c = (omega arith, places-none _ _ _ _ _ (c .before .before .before .before .pre .1 .1 .0 .0))
@@ -98,7 +98,7 @@ add-counts c =
     omega (
       arith,
       places-fits _ _ _ _ _ 32768 _ _ (k .loop .inv .1) (s .pre .1 .1 .0 .1) (s .args .page) (low-page s),
-      limits (s .args .geometry .parameters) (s .pre .0 .signing .valid) .places-most,
+      limits (s .args .geometry .parameters) (s .pre .0 .valid) .places-most,
     )
 
 element-write-counts : tie.Need-element-write-counts Inv-loop μ-loop
@@ -108,7 +108,7 @@ count-passed-requires : tie.Need-count-passed-requires Inv-loop μ-loop
 count-passed-requires c κs =
     let k = c .before .before .before .before .before .before in
     let s = start k in
-    let few-places = limits (s .args .geometry .parameters) (s .pre .0 .signing .valid) .places-most in (
+    let few-places = limits (s .args .geometry .parameters) (s .pre .0 .valid) .places-most in (
       s .pre .0,
       (
         (omega (arith, s .pre .1 .0 .separators, s .pre .1 .1 .1), omega (arith, low-page s)),

@@ -18,7 +18,7 @@ abbrev μ-loop : tie.MeasureT-loop
 μ-loop table geometry separators numbers homes counts₀ pages page₀ counts page = pages - page
 
 cast-pages : tie.Need-cast-pages Inv-loop μ-loop
-cast-pages c = omega (arith, limits _ (c .before .before .before .before .pre .0 .signing .valid) .pages-most)
+cast-pages c = omega (arith, limits _ (c .before .before .before .before .pre .0 .valid) .pages-most)
 
 loop-holds : tie.Need-loop-holds Inv-loop μ-loop
 loop-holds c = (omega arith, pages-none _ _ _ _ (c .before .before .before .before .pre .1 .1 .0))
@@ -28,7 +28,7 @@ unfolding hashOf
 count-page-requires c κs =
     let k = c .before .before in
     let s = k .before .before .before .before .before in
-    let few = few-items (s .args .geometry .parameters) (s .pre .0 .signing .valid) in (
+    let few = few-items (s .args .geometry .parameters) (s .pre .0 .valid) in (
       s .pre .0,
       (
         s .pre .1 .0,

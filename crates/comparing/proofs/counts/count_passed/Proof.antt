@@ -43,8 +43,8 @@ add-signature c = omega arith
 signature-requires : tie.Need-signature-requires Inv-loop μ-loop
 signature-requires c κs =
     let s = c .before .before .before in
-    let l = limits (s .args .geometry .parameters) (s .pre .0 .signing .valid) in
-    (s .pre .0 .signing .table, ((l .bits-least, l .bits-most), (omega arith, omega arith)))
+    let l = limits (s .args .geometry .parameters) (s .pre .0 .valid) in
+    (s .pre .0 .table, ((l .bits-least, l .bits-most), (omega arith, omega arith)))
 
 shared-slice-read-if1 : tie.Need-shared-slice-read-if1 Inv-loop μ-loop
 shared-slice-read-if1 c = omega arith

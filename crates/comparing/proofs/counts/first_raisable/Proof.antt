@@ -11,21 +11,24 @@ use Rattle.comparing.proofs.counts.first_raisable.Tie as tie
 none : Counts 0 (replicate {A = ℕ} 1024 0)
 none = (refl, λ p h. omega (arith, getD-replicate {A = ℕ} 1024 p 0 0 h))
 
+multipliers-requires : tie.Need-multipliers-requires
+multipliers-requires c κs = limits _ (c .before .before .before .pre .0) .multiplier-valid
+
 count-pages-requires : tie.Need-count-pages-requires
 count-pages-requires c κs =
-    let s = c .before .before .before .before in
-    (s .pre .0, (s .pre .1, none))
+    let s = c .before .before .before .before .before .before in
+    (record { table = c .before .before .multipliers .ensures; valid = s .pre .0 }, (s .pre .1, none))
 
 first-rising-requires : tie.Need-first-rising-requires
 first-rising-requires c κs =
-    let s = c .before .before .before .before .before .before in
-    (s .pre .0 .signing .valid, (s .pre .1 .separators, c .before .count-pages .ensures .size))
+    let s = c .before .before .before .before .before .before .before .before in
+    (s .pre .0, (s .pre .1 .separators, c .before .count-pages .ensures .size))
 
 returns : tie.Need-returns
 returns c =
-    let s = c .before .before .before .before .before .before .before in
+    let s = c .before .before .before .before .before .before .before .before .before in
     c .first-rising .ensures
-    ∙ rising-raisable (s .args .geometry) _ _ _ _ (limits _ (s .pre .0 .signing .valid) .pages-most) none (c .before .before .count-pages .ensures)
+    ∙ rising-raisable (s .args .geometry) _ _ _ _ (limits _ (s .pre .0) .pages-most) none (c .before .before .count-pages .ensures)
 
 pub first-raisable-spec : {M : Type 1} → statement M
-first-raisable-spec = tie.close (tie.spec count-pages-requires first-rising-requires returns)
+first-raisable-spec = tie.close (tie.spec multipliers-requires count-pages-requires first-rising-requires returns)

@@ -1,7 +1,6 @@
 -- `hashing::home_shrunk` meets its contract, by the law of a home before the latest growth.
 use mathlib.Core.Path.{_∙_, sym}
 use borrow.Author.Needs.{needs}
-use Rattle.hashing.specs.Generator.{multiplier}
 use Rattle.hashing.proofs.Shrinking.{shrunk-valid, home-shrunk}
 use Rattle.hashing.proofs.undoing.home_shrunk.Statement.{statement}
 use Rattle.hashing.proofs.undoing.home_shrunk.Tie as tie
@@ -15,7 +14,7 @@ returns c =
     let p = start .args .geometry .parameters in
     let g = start .args .geometry .growth in
     let old = start .pre .1 .1 .1 .1 in
-    old ∙ sym (home-shrunk p g (start .pre .1 .0) (start .pre .1 .1 .1 .0) (start .pre .1 .1 .0) multiplier (start .args .number) (λ e. c .if1 .taken (old ∙ (e ∙ sym (c .before .highest-address .ensures)))))
+    old ∙ sym (home-shrunk p g (start .pre .1 .0) (start .pre .1 .1 .1 .0) (start .pre .1 .1 .0) (p .multiplier) (start .args .number) (λ e. c .if1 .taken (old ∙ (e ∙ sym (c .before .highest-address .ensures)))))
 
 shrunk-requires : tie.Need-shrunk-requires
 shrunk-requires c κs = search needs

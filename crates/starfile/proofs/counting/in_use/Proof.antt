@@ -3,7 +3,7 @@ use Prim.Native.Nat.{_-_}
 use native.Mathlib.Nat.{div-le-self}
 use native.Mathlib.Omega.{arith}
 use borrow.Author.Needs.{needs}
-use Rattle.starfile.proofs.InUse.{needed-none, needed-pages}
+use Rattle.starfile.proofs.Reached.{needed-none, needed-pages}
 use Rattle.starfile.proofs.counting.in_use.Statement.{statement}
 use Rattle.starfile.proofs.counting.in_use.Tie as tie
 

@@ -5,7 +5,7 @@ use Rattle.placement.specs.File.{File}
 use Rattle.placement.specs.Hash.{lent}
 use Rattle.calls.specs.Answers.{Pool, pooled, cleared}
 use Rattle.starfile.proofs.Outcomes.{growth-small}
-use Rattle.starfile.proofs.Pools.{prepared}
+use Rattle.starfile.proofs.Pools.{prepared, tabled}
 use Rattle.starfile.proofs.Stepping.{step-movable, regrow-refused, regrow-stored}
 use borrow.Author.Needs.{needs}
 use Rattle.starfile.proofs.growth.regrow_file.Statement.{statement}
@@ -32,20 +32,20 @@ unmoved-requires c κs = search needs
 enum-known-step-2 : tie.Need-enum-known-step-2
 enum-known-step-2 c = search needs
 
-multipliers-requires : tie.Need-multipliers-requires
-multipliers-requires c κs = search needs
+first-multipliers-requires : tie.Need-first-multipliers-requires
+first-multipliers-requires c κs = tabled (start (c .before) .pre .0)
 
 regrow-requires : tie.Need-regrow-requires
 regrow-requires c κs =
     let stepped = c .before .before .before .before .before .before .before .before in
     let pre = start stepped .pre in
     let e = sym (stepped .before .before .step-of .ensures) ∙ stepped .step2 .given .1 in
-    (prepared (c .before .before .before .before .before .before .multipliers .ensures) (pre .0), (pre .1, step-movable _ _ _ e (pre .0 .homing .growth)))
+    (prepared (c .before .before .before .before .before .before .first-multipliers .ensures) (pre .0), (pre .1, step-movable _ _ _ e (pre .0 .homing .growth)))
 
 grown-by-requires : tie.Need-grown-by-requires
 grown-by-requires c κs =
     let s = start (c .before .before .before .before .before .before .before .before .before .before .before .before .before .before .before .before .before .before .before) in
-    rw (c .before .before .before .before .before .before .before .before .before .before .regrow .ensures .0) (growth-small (s .args .parameters) (s .args .growth) (fileOf s) (s .pre .0 .homing .signing .valid) (s .pre .0 .homing .growth) _)
+    rw (c .before .before .before .before .before .before .before .before .before .before .regrow .ensures .0) (growth-small (s .args .parameters) (s .args .growth) (fileOf s) (s .pre .0 .homing .valid) (s .pre .0 .homing .growth) _)
 
 returns : tie.Need-returns
 returns c =
@@ -83,7 +83,7 @@ regrow-file-spec =
     enum-known-step
     unmoved-requires
     enum-known-step-2
-    multipliers-requires
+    first-multipliers-requires
     regrow-requires
     grown-by-requires
     returns
