@@ -9,3 +9,4 @@ pub mod Resending
 pub mod InUse
 pub mod Telling
 pub mod Points
+pub mod Shrinking
