@@ -5,13 +5,15 @@
 
 #include "starfile.h"
 
-enum { PLACES = 2, PAGES = 8, BITS = 8 };
+enum { PLACES = 2, PAGES = 8, BITS = 8, INSTITUTE = 0 };
 
 static uint8_t separators[PAGES];
 static uint32_t numbers[PAGES * PLACES];
 static uint64_t words[PAGES * PLACES];
+static uint8_t owners[PAGES * PLACES];
 static uint32_t pool_numbers[PAGES * PLACES];
 static uint64_t pool_words[PAGES * PLACES];
+static uint8_t pool_owners[PAGES * PLACES];
 
 /* An empty file: every separator 2^k - 1, all else 0. As this unit never grows it, the growth state addresses 7 of its 8 pages from
  * the start, 3 pages for each of 2 groups and one more, and leaves the last page to overflow; include/starfile.h says how to choose. */
@@ -22,12 +24,13 @@ static struct heatherplane_file empty_file(enum heatherplane_multiplier multipli
     for (size_t item = 0; item < PAGES * PLACES; item++) {
         numbers[item] = 0;
         words[item] = 0;
+        owners[item] = 0;
     }
     const struct heatherplane_parameters parameters = {
         .places = PLACES, .groups = 2, .width = 2, .step = 1, .bits = BITS, .load = 80, .pages = PAGES,
         .multiplier = multiplier};
     const struct heatherplane_growth growth = {.expansions = 1, .expanded = 1};
-    return heatherplane_file_of(parameters, growth, separators, numbers, words, pool_numbers, pool_words);
+    return heatherplane_file_of(parameters, growth, separators, numbers, words, owners, pool_numbers, pool_words, pool_owners);
 }
 
 static void tell_refusal(const char *call, uint32_t number, struct heatherplane_reply reply)
@@ -38,7 +41,7 @@ static void tell_refusal(const char *call, uint32_t number, struct heatherplane_
 
 static void enter(const struct heatherplane_file *file, uint32_t number, uint32_t ra, int32_t dec)
 {
-    struct heatherplane_reply reply = heatherplane_enter_in(file, number, ra, dec);
+    struct heatherplane_reply reply = heatherplane_enter_in(file, INSTITUTE, number, ra, dec);
     if (reply.refusal)
         tell_refusal("enter", number, reply);
     else
@@ -76,7 +79,7 @@ static void neighbours(const struct heatherplane_file *file, uint32_t number)
 
 static void remove_star(const struct heatherplane_file *file, uint32_t number)
 {
-    struct heatherplane_reply reply = heatherplane_remove_in(file, number);
+    struct heatherplane_reply reply = heatherplane_remove_in(file, INSTITUTE, number);
     if (reply.refusal)
         tell_refusal("remove", number, reply);
     else

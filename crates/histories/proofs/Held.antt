@@ -1,6 +1,7 @@
--- In a fitting model's own file: the page named for a number holds it exactly if the model does, with its position's word.
-use mathlib.Core.Path.{_≡_, refl, sym, _∙_}
+-- In a fitting model's own file: the page named for a number holds it exactly if the model does, with its position's word and its owner.
+use mathlib.Core.Path.{_≡_, refl, sym, ap, _∙_}
 use mathlib.Core.Bool.{true, false}
+use mathlib.Core.List.{List·Memᴰ}
 use mathlib.Core.Option.{none, some}
 use Prim.Native.Nat.{ℕ, _≤_, _<_}
 use lib.ListN.{getD}
@@ -10,21 +11,24 @@ use Rattle.pages.specs.Position.{validWord, packed}
 use Rattle.pages.specs.Page.{part, placeOf, heldAt}
 use Rattle.pages.proofs.Parts.{part-item}
 use Rattle.placement.specs.Hash.{hashOf}
+use Rattle.placement.specs.Rule.{Star}
 use Rattle.placement.proofs.Search.{found, missing}
-use Rattle.calls.specs.Calls.{holds, itemOf}
-use Rattle.histories.specs.Model.{Model, heldPosition, modelFile, pageFor}
+use Rattle.calls.specs.Calls.{holds, itemOf, ownerFor, mayAlter}
+use Rattle.histories.specs.Model.{Model, heldPosition, heldOwner, modelFile, pageFor}
 use Rattle.histories.proofs.Stars.{starOf, held-star, no-star}
 use Rattle.histories.proofs.Alike.{place-below}
+use Rattle.histories.proofs.Others.{owner-held, owns}
 use Rattle.histories.proofs.Fitting.{Fitting, hashFor, starsFor, rising-from, proper, named-inside}
 
 module _ (p : Parameters) (m : Model) (t : Fitting p m) (k : ℕ) where
   module _ (q : Position) (e : heldPosition k (m .entries) ≡ some q) where
     there : (heldAt k (part (p .places) (pageFor p m k) (modelFile p m .numbers)) ≡ true)
         × (getD (part (p .places) (pageFor p m k) (modelFile p m .words)) (placeOf k (part (p .places) (pageFor p m k) (modelFile p m .numbers))) 0 ≡ packed q)
+        × (getD (part (p .places) (pageFor p m k) (modelFile p m .owners)) (placeOf k (part (p .places) (pageFor p m k) (modelFile p m .numbers))) 0 ≡ heldOwner k (m .entries))
     unfolding pageFor modelFile hashOf
     there =
-        let all = found validWord (hashFor p m) (p .pages) (starsFor m) (rising-from p m t) (proper p m t) (t .fits) (starOf k q) (pageFor p m k) (held-star k q (m .entries) e) refl in
-        (all .1, all .2)
+        let all = found validWord (hashFor p m) (p .pages) (starsFor m) (rising-from p m t) (proper p m t) (t .fits) (starOf k q (heldOwner k (m .entries))) (pageFor p m k) (held-star k q (m .entries) e) refl in
+        (all .1, all .2, all .3)
 
     pub held : holds p (modelFile p m) (pageFor p m k) k ≡ true
     unfolding holds
@@ -36,6 +40,16 @@ module _ (p : Parameters) (m : Model) (t : Fitting p m) (k : ℕ) where
     pub held-word : getD (modelFile p m .words) (itemOf p (modelFile p m) (pageFor p m k) k) 0 ≡ packed q
     unfolding itemOf
     held-word = sym (part-item (p .places) (pageFor p m k) (modelFile p m .words) _ place-inside) ∙ there .1
+
+    pub held-owner : ownerFor p (modelFile p m) (pageFor p m k) k ≡ heldOwner k (m .entries)
+    unfolding itemOf
+    held-owner = sym (part-item (p .places) (pageFor p m k) (modelFile p m .owners) _ place-inside) ∙ there .2
+
+    -- its star is the caller's, if he is an observer who may alter it
+    pub held-own : (caller : ℕ) → mayAlter caller (ownerFor p (modelFile p m) (pageFor p m k) k) ≡ true → (caller ≡ 0 → ⊥)
+        → (s : Star) → List·Memᴰ s (starsFor m) → s .number ≡ k → s .owner ≡ caller
+    held-own caller may observer s n d =
+        owner-held 1 k (m .entries) (t .ordered) s n d ∙ owns caller (heldOwner k (m .entries)) observer (sym (ap (mayAlter caller) held-owner) ∙ may)
 
   pub not-held : 1 ≤ k → heldPosition k (m .entries) ≡ none → holds p (modelFile p m) (pageFor p m k) k ≡ false
   unfolding holds modelFile hashOf

@@ -1,5 +1,5 @@
 -- Removals.
-use mathlib.Core.Path.{_≡_, refl, _∙_}
+use mathlib.Core.Path.{_≡_, refl, sym, subst, _∙_}
 use mathlib.Core.Bool.{Bool, true, false, cond}
 use mathlib.Core.List.{[]}
 use mathlib.Core.Option.{Option, none, some}
@@ -17,18 +17,19 @@ use Rattle.placement.specs.Hash.{hashOf, namedPage}
 use Rattle.placement.proofs.Entry.{removed}
 use Rattle.reach.specs.Reach.{removalEnd, storedTop, pagesTo}
 use Rattle.calls.specs.Answers.{Pool, spotted, refused, refusedAt, cleared}
-use Rattle.calls.specs.Calls.{poolFits, unless, orElse, guarded, unchanged, holds, removeTo, removeOn, removeOf}
-use Rattle.histories.specs.Model.{Model, remove, updated, heldPosition, modelFile, pageFor, placeOn}
+use Rattle.calls.specs.Calls.{poolFits, unless, orElse, guarded, unchanged, holds, ownerFor, mayAlter, allowed, removeTo, removeOn, removeOf}
+use Rattle.histories.specs.Model.{Model, remove, callerOf, updated, heldPosition, modelFile, pageFor, placeOn}
 use Rattle.histories.proofs.Entries.{ordered-strike}
 use Rattle.histories.proofs.Stars.{stars-strike}
 use Rattle.histories.proofs.Fitting.{Fitting, hashFor, starsFor, bounded, homed, rising-from, proper, in-range, laid-stars, named-readable}
-use Rattle.histories.proofs.Held.{held, not-held}
+use Rattle.histories.proofs.Held.{held, held-own, not-held}
 use Rattle.histories.proofs.Guards.{lent-pool}
 use Rattle.histories.proofs.Searching.{none-unsound}
 use Rattle.histories.proofs.Reaching.{Reach, reach}
-use Rattle.histories.proofs.Conforms.{Conforms, refused-conforms, accepted-conforms}
+use Rattle.histories.proofs.Conforms.{Conforms, refused-conforms, allowed-conforms, called-conforms}
+use Rattle.histories.proofs.Others.{Keeps, removed-keeps}
 
-module _ (p : Parameters) (m : Model) (t : Fitting p m) (k : ℕ) where
+module _ (p : Parameters) (m : Model) (t : Fitting p m) (caller k : ℕ) where
   abbrev from : ℕ
   from = hashFor p m .home k
 
@@ -52,42 +53,51 @@ module _ (p : Parameters) (m : Model) (t : Fitting p m) (k : ℕ) where
       (rising-from p m t) (proper p m t) (t .fits) (removal .high) k refl (removal .ends) in
       (all .1, all .2)
 
-  removes : (pool : Pool) (page place : ℕ) → Conforms p m (remove k) (removeTo p (m .growth) (modelFile p m) pool page k place to)
+  kept : (q : Position) → heldPosition k (m .entries) ≡ some q → mayAlter caller (ownerFor p (modelFile p m) (pageFor p m k) k) ≡ true
+      → (c : ℕ) → callerOf (remove caller k) ≡ some c → (c ≡ 0 → ⊥) → Keeps c (starsFor m) (starsFor (updated p (remove caller k) m))
+  unfolding callerOf updated
+  kept q e may c d observer =
+      let same : caller ≡ c = cc in
+      subst (Keeps c (starsFor m)) (sym (stars-strike k (m .entries)))
+      (removed-keeps c k (starsFor m) (held-own p m t k q e c (rw same at may) observer))
+
+  removes : (pool : Pool) (page place : ℕ) (q : Position) → heldPosition k (m .entries) ≡ some q → mayAlter caller (ownerFor p (modelFile p m) (pageFor p m k) k) ≡ true → Conforms p m (remove caller k) (removeTo p (m .growth) (modelFile p m) pool page k place to)
   unfolding removeTo updated spotted
-  removes pool page place =
+  removes pool page place q e may =
       rw (none-unsound p m t from (pagesTo from to) (removal .high), le-ltb (from + pagesTo from to) (from + pagesTo from to) (le-refl (from + pagesTo from to)))
-      (accepted-conforms p m t (remove k) _ refl refl same
+      (called-conforms p m t (remove caller k) _ refl refl same
       (record {
         parameters = t .parameters;
         growth = t .growth;
         ordered = ordered-strike 1 k (m .entries) (t .ordered);
         fits = rw (stars-strike k (m .entries)) (struck .1);
       })
-      (λ j d. cc))
+      (λ j d. cc)
+      (kept q e may))
     where
       same : replaced (p .places) (modelFile p m) from (pages (hashFor p m) from (pagesTo from to) (without k (gathered (p .places) (modelFile p m) from (pagesTo from to))))
-          ≡ modelFile p (updated p (remove k) m)
-      same = struck .0 ∙ laid-stars p (updated p (remove k) m) (without k (starsFor m)) (stars-strike k (m .entries))
+          ≡ modelFile p (updated p (remove caller k) m)
+      same = struck .0 ∙ laid-stars p (updated p (remove caller k) m) (without k (starsFor m)) (stars-strike k (m .entries))
 
-  removes-on : (pool : Pool) → 1 ≤ k → Conforms p m (remove k) (removeOn p (m .growth) (modelFile p m) pool (pageFor p m k) k)
+  removes-on : (pool : Pool) → 1 ≤ k → Conforms p m (remove caller k) (removeOn p (m .growth) (modelFile p m) pool (pageFor p m k) caller k)
   unfolding removeOn spotted
   removes-on pool h = rw (named-readable p m t k) (go (heldPosition k (m .entries)) refl)
     where
       go : (o : Option Position) → heldPosition k (m .entries) ≡ o
-          → Conforms p m (remove k)
+          → Conforms p m (remove caller k)
           (cond (holds p (modelFile p m) (pageFor p m k) k)
-          (removeTo p (m .growth) (modelFile p m) pool (pageFor p m k) k (placeOn p m k) to)
+          (allowed p (m .growth) (modelFile p m) pool (pageFor p m k) caller k (removeTo p (m .growth) (modelFile p m) pool (pageFor p m k) k (placeOn p m k) to))
           (unchanged (m .growth) (modelFile p m) pool (refusedAt 7 0 (placeOn p m k))))
-      go none e = rw (not-held p m t k h e) (refused-conforms p m t (remove k) pool (refusedAt 7 0 (placeOn p m k)) (λ d. omega arith) (λ d. omega arith))
-      go (some q) e = rw (held p m t k q e) (removes pool (pageFor p m k) (placeOn p m k))
+      go none e = rw (not-held p m t k h e) (refused-conforms p m t (remove caller k) pool (refusedAt 7 0 (placeOn p m k)) (λ d. omega arith) (λ d. omega arith))
+      go (some q) e = rw (held p m t k q e) (allowed-conforms p m t (remove caller k) pool (pageFor p m k) caller k _ (removes pool (pageFor p m k) (placeOn p m k) q e))
 
-  pub remove-conforms : (pool : Pool) → Conforms p m (remove k) (removeOf p (m .growth) (modelFile p m) pool k)
+  pub remove-conforms : (pool : Pool) → Conforms p m (remove caller k) (removeOf p (m .growth) (modelFile p m) pool caller k)
   unfolding removeOf pageFor namedPage spotted
   remove-conforms pool = rw (lent-pool p m t (poolFits p pool)) (go (poolFits p pool) (validNumber k) refl)
     where
       go : (v w : Bool) → validNumber k ≡ w
-          → Conforms p m (remove k)
-          (guarded (m .growth) (modelFile p m) pool (orElse (unless v 2) (unless w 3)) (removeOn p (m .growth) (modelFile p m) (cleared pool) (pageFor p m k) k))
-      go false w e = refused-conforms p m t (remove k) pool (refused 2 0) (λ d. omega arith) (λ d. omega arith)
-      go true false e = refused-conforms p m t (remove k) pool (refused 3 0) (λ d. omega arith) (λ d. omega arith)
+          → Conforms p m (remove caller k)
+          (guarded (m .growth) (modelFile p m) pool (orElse (unless v 2) (unless w 3)) (removeOn p (m .growth) (modelFile p m) (cleared pool) (pageFor p m k) caller k))
+      go false w e = refused-conforms p m t (remove caller k) pool (refused 2 0) (λ d. omega arith) (λ d. omega arith)
+      go true false e = refused-conforms p m t (remove caller k) pool (refused 3 0) (λ d. omega arith) (λ d. omega arith)
       go true true e = removes-on (cleared pool) (in-range k e .0)

@@ -43,10 +43,13 @@ same-spot places f page place = go (ltb place places)
     go : (t : Bool)
         → cond t
         (not (eqb (getD (f .numbers) (page * places + place) 0) (getD (f .numbers) (page * places + place) 0))
-        || not (eqb (getD (f .words) (page * places + place) 0) (getD (f .words) (page * places + place) 0)))
+        || (not (eqb (getD (f .words) (page * places + place) 0) (getD (f .words) (page * places + place) 0))
+        || not (eqb (getD (f .owners) (page * places + place) 0) (getD (f .owners) (page * places + place) 0))))
         (not (eqb (getD (f .separators) page 0) (getD (f .separators) page 0)))
         ≡ false
-    go true = rw (same (getD (f .numbers) (page * places + place) 0)) (same (getD (f .words) (page * places + place) 0))
+    go true =
+        rw (same (getD (f .numbers) (page * places + place) 0), same (getD (f .words) (page * places + place) 0))
+        (same (getD (f .owners) (page * places + place) 0))
     go false = same (getD (f .separators) page 0)
 
 pub no-spot : (p : Parameters) (f : File) → firstSpot p f f ≡ p .pages * suc (p .places)
