@@ -1,7 +1,6 @@
 -- In a fitting model's own file: the page named for a number holds it exactly if the model does, with its position's word and its owner.
-use mathlib.Core.Path.{_≡_, refl, sym, ap, _∙_}
+use mathlib.Core.Path.{_≡_, refl, sym, _∙_}
 use mathlib.Core.Bool.{true, false}
-use mathlib.Core.List.{List·Memᴰ}
 use mathlib.Core.Option.{none, some}
 use Prim.Native.Nat.{ℕ, _≤_, _<_}
 use lib.ListN.{getD}
@@ -11,13 +10,11 @@ use Rattle.pages.specs.Position.{validWord, packed}
 use Rattle.pages.specs.Page.{part, placeOf, heldAt}
 use Rattle.pages.proofs.Parts.{part-item}
 use Rattle.placement.specs.Hash.{hashOf}
-use Rattle.placement.specs.Rule.{Star}
 use Rattle.placement.proofs.Search.{found, missing}
-use Rattle.calls.specs.Calls.{holds, itemOf, ownerFor, mayAlter}
+use Rattle.calls.specs.Calls.{holds, itemOf, ownerFor}
 use Rattle.histories.specs.Model.{Model, heldPosition, heldOwner, modelFile, pageFor}
 use Rattle.histories.proofs.Stars.{starOf, held-star, no-star}
 use Rattle.histories.proofs.Alike.{place-below}
-use Rattle.histories.proofs.Others.{owner-held, owns}
 use Rattle.histories.proofs.Fitting.{Fitting, hashFor, starsFor, rising-from, proper, named-inside}
 
 module _ (p : Parameters) (m : Model) (t : Fitting p m) (k : ℕ) where
@@ -44,12 +41,6 @@ module _ (p : Parameters) (m : Model) (t : Fitting p m) (k : ℕ) where
     pub held-owner : ownerFor p (modelFile p m) (pageFor p m k) k ≡ heldOwner k (m .entries)
     unfolding itemOf
     held-owner = sym (part-item (p .places) (pageFor p m k) (modelFile p m .owners) _ place-inside) ∙ there .2
-
-    -- its star is the caller's, if he is an observer who may alter it
-    pub held-own : (caller : ℕ) → mayAlter caller (ownerFor p (modelFile p m) (pageFor p m k) k) ≡ true → (caller ≡ 0 → ⊥)
-        → (s : Star) → List·Memᴰ s (starsFor m) → s .number ≡ k → s .owner ≡ caller
-    held-own caller may observer s n d =
-        owner-held 1 k (m .entries) (t .ordered) s n d ∙ owns caller (heldOwner k (m .entries)) observer (sym (ap (mayAlter caller) held-owner) ∙ may)
 
   pub not-held : 1 ≤ k → heldPosition k (m .entries) ≡ none → holds p (modelFile p m) (pageFor p m k) k ≡ false
   unfolding holds modelFile hashOf
