@@ -1,6 +1,7 @@
 -- Changes: one word is written, and the layout of the model with the new position is else the same.
-use mathlib.Core.Path.{_≡_, refl, sym, _∙_}
+use mathlib.Core.Path.{_≡_, refl, sym, ap, _∙_}
 use mathlib.Core.Bool.{Bool, true, false, cond}
+use mathlib.Core.Logic.{_⊎_}
 use mathlib.Core.Option.{Option, none, some}
 use Prim.Native.Nat.{ℕ}
 use native.Mathlib.Omega.{arith}
@@ -15,13 +16,13 @@ use Rattle.placement.specs.File.{File, laid}
 use Rattle.placement.specs.Hash.{hashOf, namedPage}
 use Rattle.placement.proofs.Mapping.{left-map}
 use Rattle.placement.proofs.Change.{reworded-keeps, changed-laid}
-use Rattle.calls.specs.Answers.{Pool, spotted, acceptedAt, refused, refusedAt}
+use Rattle.calls.specs.Answers.{Pool, After, spotted, acceptedAt, refused, refusedAt}
 use Rattle.calls.specs.Calls.{unless, orElse, guarded, unchanged, holds, itemOf, allowed, changeOn, changeOf}
-use Rattle.histories.specs.Model.{Model, change, updated, setPosition, heldPosition, modelFile, pageFor, placeOn}
-use Rattle.histories.proofs.Entries.{ValidEntry, ordered-set}
+use Rattle.histories.specs.Model.{Model, change, updated, setPosition, heldPosition, heldOwner, modelFile, pageFor, placeOn}
+use Rattle.histories.proofs.Entries.{ValidEntry, ordered-set, position-valid}
 use Rattle.histories.proofs.Stars.{stars-change}
 use Rattle.histories.proofs.Fitting.{Fitting, hashFor, starsFor, rising-from, proper, in-range, laid-stars, named-inside, named-readable}
-use Rattle.histories.proofs.Held.{held, place-inside, not-held}
+use Rattle.histories.proofs.Held.{held, place-inside, not-allowed, is-allowed, not-held}
 use Rattle.histories.proofs.Guards.{lent}
 use Rattle.histories.proofs.Conforms.{Conforms, refused-conforms, allowed-conforms, accepted-conforms}
 
@@ -95,3 +96,20 @@ module _ (p : Parameters) (m : Model) (t : Fitting p m) (caller k : ℕ) (q : Po
       go false w e f = refused-conforms p m t (change caller k q) pool (refused 3 0) (λ d. omega arith) (λ d. omega arith)
       go true false e f = refused-conforms p m t (change caller k q) pool (refused 4 0) (λ d. omega arith) (λ d. omega arith)
       go true true e f = changes-on (record { number = e; position = f }) pool
+
+  -- The change of a star that the model holds.
+  module _ (pool : Pool) (r : Position) (e : heldPosition k (m .entries) ≡ some r) (valid : validPosition q ≡ true) where
+    changes-held : changeOf p (m .growth) (modelFile p m) pool caller k q
+        ≡ allowed p (m .growth) (modelFile p m) pool (pageFor p m k) caller k (record { answer = acceptedAt (pageFor p m k) (placeOn p m k); growth = m .growth; file = reworded-file p m k q; pool = pool })
+    unfolding changeOf changeOn pageFor namedPage
+    changes-held = guards ∙ rw (named-readable p m t k, held p m t k r e)
+      where
+        guards : changeOf p (m .growth) (modelFile p m) pool caller k q ≡ changeOn p (m .growth) (modelFile p m) pool (pageFor p m k) caller k (packed q)
+        guards = rw (lent p m t, position-valid 1 k r (m .entries) (t .ordered) e .number, valid)
+
+    pub change-refused : (caller ≡ 0 → ⊥) → (caller ≡ heldOwner k (m .entries) → ⊥)
+        → changeOf p (m .growth) (modelFile p m) pool caller k q ≡ unchanged (m .growth) (modelFile p m) pool (refusedAt 13 0 (placeOn p m k))
+    change-refused h d = changes-held ∙ not-allowed p m t k r e pool caller _ h d
+
+    pub change-accepted : (caller ≡ 0) ⊎ (caller ≡ heldOwner k (m .entries)) → changeOf p (m .growth) (modelFile p m) pool caller k q .answer ≡ acceptedAt (pageFor p m k) (placeOn p m k)
+    change-accepted h = ap (λ (a : After). a .answer) (changes-held ∙ is-allowed p m t k r e pool caller _ h)

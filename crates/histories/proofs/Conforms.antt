@@ -25,7 +25,7 @@ pub record Conforms (p : Parameters) (m : Model) (r : Request) (a : After) : Typ
   pub found : (k : ℕ) → r ≡ lookUp k → a .answer .refusal ≡ 0 → a .answer ≡ answered p m k
 
 module _ (p : Parameters) (m : Model) (fitting : Fitting p m) (r : Request) where
-  fed-refused : (a : Answer) → (a .refusal ≡ 0 → ⊥) → fedWith p r a m ≡ m
+  pub fed-refused : (a : Answer) → (a .refusal ≡ 0 → ⊥) → fedWith p r a m ≡ m
   unfolding fed isAccepted
   fed-refused a h = rw (ne-eqb (a .refusal) 0 h)
 

@@ -1,7 +1,8 @@
 -- Removals.
-use mathlib.Core.Path.{_≡_, refl, _∙_}
+use mathlib.Core.Path.{_≡_, refl, ap, _∙_}
 use mathlib.Core.Bool.{Bool, true, false, cond}
 use mathlib.Core.List.{[]}
+use mathlib.Core.Logic.{_⊎_}
 use mathlib.Core.Option.{Option, none, some}
 use Prim.Native.Nat.{ℕ, _+_, _-_, _≤_}
 use native.Mathlib.Nat.{le-refl}
@@ -15,13 +16,13 @@ use Rattle.placement.specs.File.{gathered, replaced, laid}
 use Rattle.placement.specs.Hash.{hashOf, namedPage}
 use Rattle.placement.proofs.Entry.{removed}
 use Rattle.reach.specs.Reach.{removalEnd, pagesTo}
-use Rattle.calls.specs.Answers.{Pool, spotted, refused, refusedAt, cleared}
+use Rattle.calls.specs.Answers.{Pool, After, spotted, acceptedAt, refused, refusedAt, cleared}
 use Rattle.calls.specs.Calls.{poolFits, unless, orElse, guarded, unchanged, holds, allowed, removeTo, removeOn, removeOf}
-use Rattle.histories.specs.Model.{Model, remove, updated, heldPosition, modelFile, pageFor, placeOn}
-use Rattle.histories.proofs.Entries.{ordered-strike}
+use Rattle.histories.specs.Model.{Model, remove, updated, heldPosition, heldOwner, modelFile, pageFor, placeOn}
+use Rattle.histories.proofs.Entries.{ordered-strike, position-valid}
 use Rattle.histories.proofs.Stars.{stars-strike}
 use Rattle.histories.proofs.Fitting.{Fitting, hashFor, starsFor, bounded, homed, rising-from, proper, in-range, laid-stars, named-readable}
-use Rattle.histories.proofs.Held.{held, not-held}
+use Rattle.histories.proofs.Held.{held, not-allowed, is-allowed, not-held}
 use Rattle.histories.proofs.Guards.{lent-pool}
 use Rattle.histories.proofs.Searching.{none-unsound}
 use Rattle.histories.proofs.Reaching.{Reach, removal-reach}
@@ -86,3 +87,23 @@ module _ (p : Parameters) (m : Model) (t : Fitting p m) (caller k : ℕ) where
       go false w e = refused-conforms p m t (remove caller k) pool (refused 2 0) (λ d. omega arith) (λ d. omega arith)
       go true false e = refused-conforms p m t (remove caller k) pool (refused 3 0) (λ d. omega arith) (λ d. omega arith)
       go true true e = removes-on (cleared pool) (in-range k e .0)
+
+  -- The removal of a star that the model holds.
+  module _ (pool : Pool) (fit : poolFits p pool ≡ true) (q : Position) (e : heldPosition k (m .entries) ≡ some q) where
+    removes-held : removeOf p (m .growth) (modelFile p m) pool caller k
+        ≡ allowed p (m .growth) (modelFile p m) (cleared pool) (pageFor p m k) caller k (removeTo p (m .growth) (modelFile p m) (cleared pool) (pageFor p m k) k (placeOn p m k) to)
+    unfolding removeOf removeOn pageFor namedPage
+    removes-held = guards ∙ rw (named-readable p m t k, held p m t k q e)
+      where
+        guards : removeOf p (m .growth) (modelFile p m) pool caller k ≡ removeOn p (m .growth) (modelFile p m) (cleared pool) (pageFor p m k) caller k
+        guards = rw (lent-pool p m t (poolFits p pool), fit, position-valid 1 k q (m .entries) (t .ordered) e .number)
+
+    pub removal-refused : (caller ≡ 0 → ⊥) → (caller ≡ heldOwner k (m .entries) → ⊥)
+        → removeOf p (m .growth) (modelFile p m) pool caller k ≡ unchanged (m .growth) (modelFile p m) (cleared pool) (refusedAt 13 0 (placeOn p m k))
+    removal-refused h d = removes-held ∙ not-allowed p m t k q e (cleared pool) caller _ h d
+
+    pub removal-accepted : (caller ≡ 0) ⊎ (caller ≡ heldOwner k (m .entries)) → removeOf p (m .growth) (modelFile p m) pool caller k .answer ≡ acceptedAt (pageFor p m k) (placeOn p m k)
+    unfolding removeTo
+    removal-accepted h =
+        ap (λ (a : After). a .answer) (removes-held ∙ is-allowed p m t k q e (cleared pool) caller _ h)
+        ∙ rw (none-unsound p m t from (pagesTo from to) (removal .high), le-ltb (from + pagesTo from to) (from + pagesTo from to) (le-refl (from + pagesTo from to)))
