@@ -54,6 +54,13 @@ starsOf-append (n ∷ ns) (w ∷ ws) (o ∷ os) ns′ ws′ os′ h = go (not (e
     go true ih = ap (λ (l : List Star). record { number = n; word = w; owner = o } ∷ l) ih
     go false ih = ih
 
+-- the same items of the three columns of a file
+pub even : (b M : ℕ) (f : File) → Sized b M f → (g : List ℕ → List ℕ) (n : ℕ) → ((l : List ℕ) → length l ≡ M * b → length (g l) ≡ n)
+    → Even (g (f .numbers)) (g (f .words)) (g (f .owners))
+even b M f z g n h =
+    let e = h (f .numbers) (z .ofNumbers) in
+    (e ∙ sym (h (f .words) (z .ofWords)), e ∙ sym (h (f .owners) (z .ofOwners)))
+
 -- the items of n pages from p
 abbrev stretch : ℕ → ℕ → ℕ → List ℕ → List ℕ
 stretch b p n l = take (n * b) (drop (p * b) l)
@@ -164,11 +171,8 @@ module _ (s : Star) where
         (λ i. count s (starsOf (stretch-suc b p n (f .numbers) i) (stretch-suc b p n (f .words) i) (stretch-suc b p n (f .owners) i)))
         ∙ count-joined (part b p (f .numbers)) (part b p (f .words)) (part b p (f .owners))
         (stretch b (suc p) n (f .numbers)) (stretch b (suc p) n (f .words)) (stretch b (suc p) n (f .owners))
-        (size (f .numbers) (z .ofNumbers) ∙ sym (size (f .words) (z .ofWords)), size (f .numbers) (z .ofNumbers) ∙ sym (size (f .owners) (z .ofOwners)))
+        (even b M f z (part b p) b (λ l e. length-part b p M l e (omega arith)))
         ∙ rw (count-stretch (suc p) n (omega arith)) (sym (count-pour (starsAt b f p) (gathered b f (suc p) n)))
-      where
-        size : (l : List ℕ) → length l ≡ M * b → length (part b p l) ≡ b
-        size l e = length-part b p M l e (omega arith)
 
     -- the stars of all items but m from a
     abbrev around-items : ℕ → ℕ → ℕ
@@ -176,17 +180,14 @@ module _ (s : Star) where
         count s (starsOf (take a (f .numbers)) (take a (f .words)) (take a (f .owners)))
         + count s (starsOf (drop (a + m) (f .numbers)) (drop (a + m) (f .words)) (drop (a + m) (f .owners)))
 
-    -- and of those with m others between them
-    count-around : (a m : ℕ) (ns ws os : List ℕ) → length ns ≡ m → length ws ≡ m → length os ≡ m → a ≤ M * b
+    -- and with others in their place
+    count-around : (a m : ℕ) (ns ws os : List ℕ) → Even ns ws os → a ≤ M * b
         → count s (starsOf (take a (f .numbers) ++ (ns ++ drop (a + m) (f .numbers))) (take a (f .words) ++ (ws ++ drop (a + m) (f .words))) (take a (f .owners) ++ (os ++ drop (a + m) (f .owners))))
         ≡ around-items a m + count s (starsOf ns ws os)
-    count-around a m ns ws os en ew eo h =
+    count-around a m ns ws os h k =
         count-joined (take a (f .numbers)) (take a (f .words)) (take a (f .owners)) (ns ++ drop (a + m) (f .numbers)) (ws ++ drop (a + m) (f .words)) (os ++ drop (a + m) (f .owners))
-        (size (f .numbers) (z .ofNumbers) ∙ sym (size (f .words) (z .ofWords)), size (f .numbers) (z .ofNumbers) ∙ sym (size (f .owners) (z .ofOwners)))
-        ∙ omega (arith, count-joined ns ws os (drop (a + m) (f .numbers)) (drop (a + m) (f .words)) (drop (a + m) (f .owners)) (en ∙ sym ew, en ∙ sym eo))
-      where
-        size : (l : List ℕ) → length l ≡ M * b → length (take a l) ≡ a
-        size l e = length-take-le a l (omega (arith, e))
+        (even b M f z (take a) a (λ l e. length-take-le a l (omega arith)))
+        ∙ omega (arith, count-joined ns ws os (drop (a + m) (f .numbers)) (drop (a + m) (f .words)) (drop (a + m) (f .owners)) h)
 
     -- Of a file with the pages from p on replaced by cs: their stars come for those that stood there.
     pub replaced-copies : (p : ℕ) (cs : List Contents) → Roomy b cs → AllNumbered cs → p + length cs ≤ M
@@ -198,9 +199,6 @@ module _ (s : Star) where
         room : p * b + length cs * b ≤ M * b
         room = omega (arith, add-mul p (length cs) b, mul-le-mul-right b inside)
 
-        there : (l : List ℕ) → length l ≡ M * b → length (stretch b p (length cs) l) ≡ length cs * b
-        there l e = length-take-le (length cs * b) (drop (p * b) l) (omega (arith, room, e, length-drop (p * b) l))
-
         new : (g : Star → ℕ) → length (column b g cs) ≡ length cs * b
         new g = length-column b g cs r
 
@@ -208,7 +206,9 @@ module _ (s : Star) where
             ≡ around-items (p * b) (length cs * b) + count s (starsOf (stretch b p (length cs) (f .numbers)) (stretch b p (length cs) (f .words)) (stretch b p (length cs) (f .owners)))
         before =
             (λ i. count s (starsOf (around (p * b) (length cs * b) (f .numbers) i) (around (p * b) (length cs * b) (f .words) i) (around (p * b) (length cs * b) (f .owners) i)))
-            ∙ count-around (p * b) (length cs * b) _ _ _ (there (f .numbers) (z .ofNumbers)) (there (f .words) (z .ofWords)) (there (f .owners) (z .ofOwners)) (omega (arith, room))
+            ∙ count-around (p * b) (length cs * b) _ _ _
+            (even b M f z (stretch b p (length cs)) (length cs * b) (λ l e. length-take-le (length cs * b) (drop (p * b) l) (omega (arith, room, length-drop (p * b) l))))
+            (omega (arith, room))
 
         after : copies s (replaced b f p cs) ≡ around-items (p * b) (length cs * b) + count s (starsOf (column b numberOf cs) (column b wordOf cs) (column b ownerOf cs))
         after =
@@ -216,7 +216,7 @@ module _ (s : Star) where
             (take (p * b) (f .numbers) ++ (column b numberOf cs ++ drop (p * b + new numberOf i) (f .numbers)))
             (take (p * b) (f .words) ++ (column b wordOf cs ++ drop (p * b + new wordOf i) (f .words)))
             (take (p * b) (f .owners) ++ (column b ownerOf cs ++ drop (p * b + new ownerOf i) (f .owners)))))
-            ∙ count-around (p * b) (length cs * b) _ _ _ (new numberOf) (new wordOf) (new ownerOf) (omega (arith, room))
+            ∙ count-around (p * b) (length cs * b) _ _ _ (new numberOf ∙ sym (new wordOf), new numberOf ∙ sym (new ownerOf)) (omega (arith, room))
 
   -- The rule over n pages, leaving nothing, of a list in which s stands as often as on these pages.
   pub ruled-copies : (H : Hash) (M p n : ℕ) (f : File) (w : List Star) → Sized (H .room) M f → p + n ≤ M → Numbered w → left H p n w ≡ []

@@ -4,10 +4,9 @@ use mathlib.Core.Bool.{Bool, true, false, not, cond, _&&_}
 use mathlib.Core.List.{List, [], List·Memᴰ}
 use mathlib.Core.Logic.{⊎-elim}
 use mathlib.Core.Option.{none, some}
-use Prim.Native.Nat.{ℕ, zero, suc, _+_, _*_, _≤_}
+use Prim.Native.Nat.{ℕ, zero, suc, _+_, _≤_}
 use native.Mathlib.Omega.{arith}
 use lib.Dec.{ltb, eqb}
-use lib.ListN.{length}
 use borrow.Author.Tests.{eqb-true, ne-eqb}
 use Rattle.hashing.specs.declared.Parameters.{Parameters}
 use Rattle.hashing.specs.declared.Growth.{Growth}
@@ -32,7 +31,7 @@ use Rattle.calls.proofs.Refusals.{unlent-facts, sized}
 use Rattle.histories.specs.Model.{lookUp, enter, change, remove, grow, shrink, due, check, callerOf}
 use Rattle.histories.specs.Call.{step}
 use Rattle.histories.specs.Others.{copies, OthersUntouched}
-use Rattle.histories.proofs.Copies.{count, same-owner, count-insert, count-kept, count-other, count-set, ruled-copies}
+use Rattle.histories.proofs.Copies.{count, same-owner, even, count-insert, count-kept, count-other, count-set, ruled-copies}
 use Rattle.histories.proofs.Alike.{place-below}
 use Rattle.histories.proofs.Fitting.{homed, in-range}
 use Rattle.histories.proofs.Searching.{all-sound-before}
@@ -133,10 +132,9 @@ module _ (p : Parameters) (g : Growth) (f : File) (caller : ℕ) (observer : cal
         let page : ℕ = q .0 in
         let c = sounds page (q .1) (q .2) in
         let here : named p g f k ≡ page = ap (first (hash p g) 0 (f .separators)) (sym d) ∙ c .here x (q .3) in
-        let size : (l : List ℕ) → length l ≡ p .pages * p .places → length (part (p .places) page l) ≡ p .places = λ l e. length-part (p .places) page (p .pages) l e (omega (arith, q .2)) in
         let found =
         star-held validWord (part (p .places) page (f .numbers)) (part (p .places) page (f .words)) (part (p .places) page (f .owners)) x
-        (size (f .numbers) (t .sizes .ofNumbers) ∙ sym (size (f .words) (t .sizes .ofWords)), size (f .numbers) (t .sizes .ofNumbers) ∙ sym (size (f .owners) (t .sizes .ofOwners)))
+        (even (p .places) (p .pages) f (t .sizes) (part (p .places) page) (p .places) (λ l e. length-part (p .places) page (p .pages) l e (omega (arith, q .2))))
         (c .inOrder) (q .3) in
         rw (here, ← d)
         (sym (found .2) ∙ part-item (p .places) page (f .owners) _ (place-below (p .places) page (x .number) (f .numbers) (found .0)))
