@@ -3,10 +3,11 @@
 use crate::hashing::{home, signature};
 use crate::{Buffers, Growth, Parameters};
 
-#[derive(Clone, Copy, Debug, PartialEq, Eq, PartialOrd, Ord)]
+#[derive(Clone, Copy, Debug, Default, PartialEq, Eq, PartialOrd, Ord)]
 pub struct Star {
     pub number: u32,
     pub word: u64,
+    pub owner: u8,
 }
 
 #[derive(Clone, Debug, PartialEq, Eq)]
@@ -69,9 +70,9 @@ pub fn write(parameters: &Parameters, lent: &mut Buffers, first: usize, pages: &
     for (page, new) in (first..).zip(pages) {
         lent.separators[page] = new.separator as u8;
         for place in 0..places {
-            let star = new.stars.get(place).copied().unwrap_or(Star { number: 0, word: 0 });
-            lent.numbers[page * places + place] = star.number;
-            lent.words[page * places + place] = star.word;
+            let Star { number, word, owner } = new.stars.get(place).copied().unwrap_or_default();
+            let item = page * places + place;
+            (lent.numbers[item], lent.words[item], lent.owners[item]) = (number, word, owner);
         }
     }
 }

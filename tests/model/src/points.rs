@@ -140,7 +140,7 @@ fn on_empty_file(run: Run, kind: Kind, list: [u32; 7], growth: Growth) -> u32 {
     (sizes.places, sizes.pages) = (sizes.places.min(33), sizes.pages.min(1_025));
     let mut lent = Buffers::zeros(&sizes);
     lent.separators.fill(((1_u32 << list[4].min(8)) - 1) as u8);
-    let mut session = Session { run, parameters: Parameters::new(list), growth, lent };
+    let mut session = Session { run, parameters: Parameters::new(list), growth, lent, caller: 0 };
     session.call(kind, 1, 0, 0).refusal
 }
 
@@ -314,7 +314,7 @@ pub fn entry_without_room_in_its_reach(run: Run) {
     session.lent.words = vec![0, pack(1, 0)];
     assert_eq!(session.check().place, 0);
     assert_eq!(answers(session.enter(upper)), (8, 0));
-    let stars = [lower, upper].map(|number| Star { number, word: pack(1, 0) });
+    let stars = [lower, upper].map(|number| Star { number, word: pack(1, 0), owner: 0 });
     assert!(lay_out(&session.parameters, &session.growth, stars.to_vec()).is_some());
 }
 

@@ -80,14 +80,16 @@ fn position_words() {
 
 #[test]
 fn call_vectors() {
-    let text = fs::read_to_string(format!("{FOLDER}/2-vii.txt")).unwrap();
-    let vectors = vectors::parse(&text, LANDED);
-    assert_eq!(vectors.len(), 900);
-    for (line, vector) in vectors {
-        let vector = vector.unwrap();
-        assert_eq!(vector.differences(model::run), Vec::<String>::new(), "line {line}");
-        let text = vector.text();
-        assert_eq!(vectors::parse(&text, LANDED)[0].1.as_ref().unwrap().text(), text);
+    for name in ["3-x", "4-i"] {
+        let text = fs::read_to_string(format!("{FOLDER}/{name}.txt")).unwrap();
+        let vectors = vectors::parse(&text, LANDED);
+        assert_eq!(vectors.len(), 900);
+        for (line, vector) in vectors {
+            let vector = vector.unwrap();
+            assert_eq!(vector.differences(model::run), Vec::<String>::new(), "{name}, line {line}");
+            let text = vector.text();
+            assert_eq!(vectors::parse(&text, LANDED)[0].1.as_ref().unwrap().text(), text);
+        }
     }
 }
 
