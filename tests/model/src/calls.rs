@@ -1,7 +1,7 @@
-//! The nine calls on any buffers, with the refusals in the order of document 01's table and document 02.
+//! The calls on any buffers, with the refusals in the order of document 01's table and document 02.
 
 use crate::hashing::{grown, highest_address, home, shape, shrunk, signature, MULTIPLIERS};
-use crate::placement::{pack, position_valid, rule, unpack, word_valid, write, Page, Star};
+use crate::placement::{cut, pack, position_valid, rule, unpack, with_homes, word_valid, write, Page, Star};
 use crate::{Buffers, Call, Growth, Kind, Outcome, Parameters};
 
 const HIGHEST_NUMBER: u32 = 2_147_483_646;
@@ -72,7 +72,7 @@ fn attempt(call: &Call, lent: &mut Buffers) -> Result<Outcome, Refusal> {
         Kind::Shrink => return file.shrink(),
         Kind::Due => return Ok(file.due(unchanged(call))),
         Kind::Check => file.check()?,
-        Kind::LookUp | Kind::Enter | Kind::Change | Kind::Remove => return on_a_star(call, &mut file),
+        Kind::LookUp | Kind::Enter | Kind::Change | Kind::Remove | Kind::Cascade => return on_a_star(call, &mut file),
     }
     Ok(unchanged(call))
 }
@@ -84,7 +84,9 @@ fn on_a_star(call: &Call, file: &mut File) -> Result<Outcome, Refusal> {
     let place = file.place(named, number);
     let page = |page: usize| Outcome { page: page as u32, ..unchanged(call) };
     let answer = match call.kind {
-        Kind::Enter => file.enter(named, Star { number, word: pack(ra, dec), owner: caller }).map(page),
+        Kind::Enter | Kind::Cascade => {
+            file.enter(call.kind, named, Star { number, word: pack(ra, dec), owner: caller }).map(page)
+        }
         Kind::Change => file.change(named, caller, number, pack(ra, dec)).map(page),
         Kind::Remove => file.remove(named, caller, number).map(page),
         _ => Ok(file.look_up(named, number, page(named))),
@@ -220,6 +222,12 @@ impl File<'_> {
         write(&self.parameters, self.lent, first, pages);
     }
 
+    /// The same, and the page on which a star stands after it.
+    fn write_with(&mut self, first: usize, pages: &[Page], star: Star) -> usize {
+        self.write(first, pages);
+        first + pages.iter().position(|page| page.stars.contains(&star)).unwrap()
+    }
+
     fn make(&mut self) {
         self.lent.separators.fill(self.parameters.top() as u8);
         self.lent.numbers.fill(0);
@@ -235,11 +243,17 @@ impl File<'_> {
         Outcome { found: 1, ra, dec, ..none }
     }
 
-    fn enter(&mut self, named: usize, new: Star) -> Result<usize, Refusal> {
-        if let Some(item) = self.held(named, new.number) {
+    fn enter(&mut self, kind: Kind, named: usize, new: Star) -> Result<usize, Refusal> {
+        match self.held(named, new.number) {
             // A resend of the stored position is accepted, whoever calls, and reads no other page.
-            return if self.lent.words[item] == new.word { Ok(named) } else { refuse(6) };
+            Some(item) if self.lent.words[item] == new.word => Ok(named),
+            Some(_) => refuse(6),
+            None if kind == Kind::Cascade => self.cascade(named, new),
+            None => self.place_in_reach(new),
         }
+    }
+
+    fn place_in_reach(&mut self, new: Star) -> Result<usize, Refusal> {
         let home = self.home(new.number);
         for last in home..=self.last_page() {
             if !self.sound(last) {
@@ -252,9 +266,28 @@ impl File<'_> {
             stars.push(new);
             let (pages, carried) = self.rule(home..=last, stars);
             if carried.is_empty() {
-                self.write(home, &pages);
-                return Ok(home + pages.iter().position(|page| page.stars.contains(&new)).unwrap());
+                return Ok(self.write_with(home, &pages, new));
             }
+        }
+        refuse(8)
+    }
+
+    /// From the named page upward, until nothing is carried on; no separator rises.
+    fn cascade(&mut self, named: usize, new: Star) -> Result<usize, Refusal> {
+        let with_homes = |stars| with_homes(&self.parameters, &self.growth, stars);
+        let (mut pages, mut waiting) = (Vec::new(), with_homes(vec![new]));
+        for page in named..=self.last_page() {
+            if !self.sound(page) {
+                return damaged(page, 0);
+            }
+            waiting.extend(with_homes(self.stars(page..=page)));
+            waiting.sort_by_key(|&(_, star)| star);
+            let (cut, carried) = cut(&self.parameters, page, self.lent.separators[page].into(), waiting);
+            pages.push(cut);
+            if carried.is_empty() {
+                return Ok(self.write_with(named, &pages, new));
+            }
+            waiting = carried;
         }
         refuse(8)
     }

@@ -16,7 +16,7 @@ use hashing::MULTIPLIERS;
 use placement::Star;
 
 /// The requests of document 02 that the model follows.
-pub const LANDED: &[u32] = &[1, 2, 3, 4, 5, 7, 10, 14];
+pub const LANDED: &[u32] = &[1, 2, 3, 4, 5, 7, 9, 10, 14];
 
 /// The documents' b, N, n0, s, k, A and M, and the generator's multiplier.
 #[repr(C)]
@@ -79,9 +79,11 @@ pub enum Kind {
     Shrink,
     Due,
     Check,
+    Cascade,
 }
 
 impl Kind {
+    /// The calls that the library has; it has no cascading entry yet.
     pub const ALL: [Kind; 9] = [
         Kind::Make,
         Kind::LookUp,
@@ -95,19 +97,19 @@ impl Kind {
     ];
 
     pub fn name(self) -> &'static str {
-        ["make", "look_up", "enter", "change", "remove", "grow", "shrink", "due", "check"][self as usize]
+        ["make", "look_up", "enter", "change", "remove", "grow", "shrink", "due", "check", "cascade"][self as usize]
     }
 
     pub fn takes_pool(self) -> bool {
-        matches!(self, Kind::Enter | Kind::Remove | Kind::Grow | Kind::Shrink | Kind::Check)
+        matches!(self, Kind::Enter | Kind::Remove | Kind::Grow | Kind::Shrink | Kind::Check | Kind::Cascade)
     }
 
     pub fn takes_number(self) -> bool {
-        matches!(self, Kind::LookUp | Kind::Enter | Kind::Change | Kind::Remove)
+        matches!(self, Kind::LookUp | Kind::Enter | Kind::Change | Kind::Remove | Kind::Cascade)
     }
 
     pub fn takes_position(self) -> bool {
-        matches!(self, Kind::Enter | Kind::Change)
+        matches!(self, Kind::Enter | Kind::Change | Kind::Cascade)
     }
 }
 

@@ -424,6 +424,31 @@ pub fn resends(run: Run) {
     assert_eq!(answers(session.enter(170)), (5, 0));
 }
 
+/// A cascading entry is the entry on a clean file; on others it raises no separator and reads no page below the named one.
+pub fn cascades(run: Run) {
+    let cascade = |session: &mut Session, number, ra| {
+        let outcome = session.call(Kind::Cascade, number, ra, 0);
+        (outcome.refusal, outcome.page, outcome.place)
+    };
+    let mut session = Session::new(run, TWO_PAGES);
+    assert_eq!(cascade(&mut session, 32, 1), (0, 0, 0));
+    assert_eq!(cascade(&mut session, 170, 1), (0, 0, 1));
+    assert_eq!((&session.lent.separators[..], &session.lent.numbers[..]), (&[223, 255][..], &[170, 32][..]));
+    assert_eq!(cascade(&mut session, 32, 1), (0, 1, 0));
+    assert_eq!(cascade(&mut session, 32, 2), (6, 0, 0));
+    let before = session.clone();
+    assert_eq!(cascade(&mut session, 1, 1), (8, 0, 0));
+    assert!(session.lent == before.lent);
+    session.lent.words[1] = u64::MAX;
+    assert_eq!(cascade(&mut session, 1, 1), (5, 1, 0));
+    let mut session = Session::new(run, TWO_PAGES);
+    session.lent.separators[0] = 0;
+    session.lent.words[0] = 7;
+    assert_eq!(answers(session.enter(32)), (5, 0));
+    assert_eq!(cascade(&mut session, 32, 1), (0, 1, 0));
+    assert_eq!((&session.lent.separators[..], &session.lent.numbers[..]), (&[0, 255][..], &[0, 32][..]));
+}
+
 /// A star on a page above the highest address makes that page one in use.
 pub fn pages_in_use(run: Run) {
     let mut session = Session::new(run, [2, 1, 1, 1, 8, 99, 3]);

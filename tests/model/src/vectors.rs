@@ -1,7 +1,7 @@
 //! Files of single calls on explicit buffers with everything expected afterwards, in two forms: document 01's, and
 //! document 02's, whose vectors begin with the requests that have landed.
 
-use crate::{Buffers, Call, Growth, Kind, Outcome, Parameters, Run, LANDED};
+use crate::{Buffers, Call, Growth, Kind, Outcome, Parameters, Run};
 use std::fmt::{Display, Write};
 use std::fs;
 use std::str::FromStr;
@@ -97,7 +97,8 @@ impl<'a> Reader<'a> {
             self.owned = needed.contains(&10);
         }
         let name = self.fields("call")?.concat();
-        let kind = Kind::ALL.into_iter().find(|kind| kind.name() == name);
+        let cascade = landed.contains(&9).then_some(Kind::Cascade);
+        let kind = Kind::ALL.into_iter().chain(cascade).find(|kind| kind.name() == name);
         let kind = kind.ok_or_else(|| format!("no call '{name}'"))?;
         let (parameters, growth, before) = (self.parameters()?, self.growth()?, self.buffers(kind)?);
         let args = self.counted("args", 3, 6)?;
@@ -183,11 +184,11 @@ impl Vector {
         list
     }
 
-    /// The vector in document 02's form.
-    pub fn text(&self) -> String {
+    /// The vector in document 02's form, for an implementation with these requests.
+    pub fn text(&self, landed: &[u32]) -> String {
         let Call { kind, parameters, growth, caller, number, ra, dec } = self.call;
         let mut text = String::new();
-        put(&mut text, "landed", LANDED);
+        put(&mut text, "landed", landed);
         put(&mut text, "call", &[kind.name()]);
         put_file(&mut text, kind, &parameters, growth, &self.before);
         writeln!(text, "args {number} {ra} {dec} {caller} 0 0").unwrap();
