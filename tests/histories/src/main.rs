@@ -30,7 +30,7 @@ const SCENARIOS: [Scenario; 14] = [
     ("long cascades", 1, 1, scenarios::long_cascade),
 ];
 
-/// The answers of calls that are counted: 0 is none.
+/// The refusals that calls meet, after 0 for none.
 const REFUSALS: [usize; 11] = [0, 1, 2, 3, 4, 5, 6, 7, 8, 9, 13];
 
 struct Totals {

@@ -44,12 +44,17 @@ impl Tester {
         if call.kind == Kind::Grow {
             self.compare_marks(call, outcome.refusal == 0, before, &vector.after);
         }
-        let alters = matches!(call.kind, Kind::Enter | Kind::Change | Kind::Remove);
-        if alters && call.caller != 0 && outcome.refusal == 0 {
-            let kept = others(call.caller, before) == others(call.caller, &vector.after);
-            self.expect(kept, "an observer altered another's star");
+        if outcome.refusal == 0 {
+            self.check_others(call, before, &vector.after);
         }
         (outcome, vector.after)
+    }
+
+    /// An observer's entry, change or removal leaves the stars of others as they are, on whatever page.
+    fn check_others(&mut self, call: &Call, before: &Buffers, after: &Buffers) {
+        let alters = matches!(call.kind, Kind::Enter | Kind::Change | Kind::Remove);
+        let kept = || others(call.caller, before) == others(call.caller, after);
+        self.expect(!alters || call.caller == 0 || kept(), "an observer altered another's star");
     }
 
     /// The marks of the pages that a growth may alter; an accepted growth of a clean file leaves the others alone.
