@@ -15,11 +15,12 @@ static _Alignas(4096) unsigned char stack[STACK];
 static uint8_t separators[PAGES];
 static uint32_t numbers[PAGES * PLACES], pool_numbers[PAGES * PLACES];
 static uint64_t words[PAGES * PLACES], pool_words[PAGES * PLACES];
+static uint8_t owners[PAGES * PLACES], pool_owners[PAGES * PLACES];
 
 static const struct heatherplane_file file = {
     {PLACES, 2, 1, 1, 8, 80, PAGES, HEATHERPLANE_MULTIPLIER_1988}, {0, 0},
-    separators, PAGES, numbers, PAGES * PLACES, words, PAGES * PLACES,
-    pool_numbers, PAGES * PLACES, pool_words, PAGES * PLACES,
+    separators, PAGES, numbers, PAGES * PLACES, words, PAGES * PLACES, owners, PAGES * PLACES,
+    pool_numbers, PAGES * PLACES, pool_words, PAGES * PLACES, pool_owners, PAGES * PLACES,
 };
 
 enum call { NOTHING, LOOK_UP, ENTER, REMOVE, CALLS };
@@ -37,8 +38,8 @@ static void *run(void *argument)
     struct job *job = argument;
     job->frame = __builtin_frame_address(0);
     job->refusal = job->call == LOOK_UP  ? heatherplane_look_up_in(&file, job->number).refusal
-                   : job->call == ENTER  ? heatherplane_enter_in(&file, job->number, 1, 0).refusal
-                   : job->call == REMOVE ? heatherplane_remove_in(&file, job->number).refusal
+                   : job->call == ENTER  ? heatherplane_enter_in(&file, 0, job->number, 1, 0).refusal
+                   : job->call == REMOVE ? heatherplane_remove_in(&file, 0, job->number).refusal
                                          : 0;
     return NULL;
 }

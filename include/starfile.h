@@ -4,16 +4,18 @@
  * growth state, to each call. Nothing is kept between calls. Calls may run at once in several threads on files that share no buffer;
  * look-ups on one file may too, as they only read, while nothing else writes it.
  *
- * A file of M pages with b places each has three buffers, and entry and removal need a pool besides:
+ * A file of M pages with b places each has four buffers, and entry and removal need a pool besides:
  *
  *     separators      M bytes
  *     numbers         M * b star numbers, 0 marking an empty place
  *     words           M * b position words: ra * 2^32 + (dec + 324000000), 0 in an empty place
+ *     owners          M * b owners: 0 for the institute, 1 to 255 for observers, 0 in an empty place
  *     pool_numbers    M * b numbers, with any contents
  *     pool_words      M * b words, with any contents
+ *     pool_owners     M * b owners, with any contents
  *
- * Place i of page p is item p * b + i. An empty file has every separator 2^bits - 1, all numbers and words 0 and the growth
- * state (0, 0).
+ * Place i of page p is item p * b + i. An empty file has every separator 2^bits - 1, all numbers, words and owners 0 and the
+ * growth state (0, 0).
  *
  * Buffers, parameters and growth state belong together: keep them together between runs. Others that are valid by themselves, but
  * not this file's own, are accepted, and then a star that is held may be answered as not found (docs/DAMAGE.md). A checksum of your
@@ -44,7 +46,8 @@ enum heatherplane_refusal {
     HEATHERPLANE_DAMAGED = 5,        /* the page that the reply names is not sound, or no page is named (page M) */
     HEATHERPLANE_HELD = 6,           /* the star is in the file already, with another position */
     HEATHERPLANE_NOT_HELD = 7,       /* the star is not in the file */
-    HEATHERPLANE_FULL = 8            /* a star would be carried past the last page */
+    HEATHERPLANE_FULL = 8,           /* a star would be carried past the last page */
+    HEATHERPLANE_NOT_OWNER = 13      /* the caller is neither the star's owner nor the institute */
 };
 
 /* What a call answers. A value that a call does not name is 0 or false.
@@ -80,6 +83,7 @@ static inline const char *heatherplane_refusal_name(uint32_t refusal)
     case HEATHERPLANE_HELD: return "held";
     case HEATHERPLANE_NOT_HELD: return "not held";
     case HEATHERPLANE_FULL: return "full";
+    case HEATHERPLANE_NOT_OWNER: return "not owner";
     default: return "unknown";
     }
 }
@@ -118,7 +122,7 @@ struct heatherplane_growth {
 
 /* Looks a star up.
  *
- * Buffers: the file's three, which are only read. Their lengths are pages, pages * places and pages * places.
+ * Buffers: the file's four, which are only read. Their lengths are pages for the separators and pages * places for the others.
  * Refused: BAD_PARAMETERS, BAD_LENGTH, BAD_NUMBER, DAMAGED (the page that the separators name).
  * Accepted: found tells whether the star is held, page is the page that the separators name for it, place its place there or
  * the one where it would stand, and ra and dec are its position if it is held.
@@ -129,15 +133,17 @@ struct heatherplane_reply heatherplane_look_up(
     const uint8_t *separators, size_t separators_length,
     const uint32_t *numbers, size_t numbers_length,
     const uint64_t *words, size_t words_length,
+    const uint8_t *owners, size_t owners_length,
     uint32_t number);
 
 /* Enters a star that the file does not hold. A script may resend an entry after a lost reply: a star that the file holds with
  * exactly this position is accepted again, and the file stays as it was.
  *
- * Buffers: the file's three and the pool's two. Their lengths are pages for the separators and pages * places for the others.
+ * Buffers: the file's four and the pool's three. Their lengths are pages for the separators and pages * places for the others.
  * Refused: BAD_PARAMETERS, BAD_LENGTH, BAD_NUMBER, BAD_POSITION, DAMAGED (the page that the separators name), HELD (with another
  * position), DAMAGED (the lowest unsound page of those that would be placed anew), FULL.
- * Accepted: page is the page where the star now stands.
+ * Accepted: page is the page where the star now stands, and a star that was not held is the caller's: 0 for the institute, 1 to 255
+ * for an observer. Entered again, a star keeps its owner.
  * Afterwards: accepted, the file holds the star, and the pages from its home to the end of its reach are placed anew; refused or
  * entered again, the file is as it was. The pool is untouched with BAD_PARAMETERS, BAD_LENGTH, BAD_NUMBER and BAD_POSITION, and
  * else holds zeros. */
@@ -147,15 +153,17 @@ struct heatherplane_reply heatherplane_enter(
     uint8_t *separators, size_t separators_length,
     uint32_t *numbers, size_t numbers_length,
     uint64_t *words, size_t words_length,
+    uint8_t *owners, size_t owners_length,
     uint32_t *pool_numbers, size_t pool_numbers_length,
     uint64_t *pool_words, size_t pool_words_length,
-    uint32_t number, uint32_t ra, int32_t dec);
+    uint8_t *pool_owners, size_t pool_owners_length,
+    uint8_t caller, uint32_t number, uint32_t ra, int32_t dec);
 
 /* Removes a star that the file holds.
  *
- * Buffers: the file's three and the pool's two. Their lengths are pages for the separators and pages * places for the others.
- * Refused: BAD_PARAMETERS, BAD_LENGTH, BAD_NUMBER, DAMAGED (the page that the separators name), NOT_HELD, DAMAGED (the lowest
- * unsound page of those that would be placed anew).
+ * Buffers: the file's four and the pool's three. Their lengths are pages for the separators and pages * places for the others.
+ * Refused: BAD_PARAMETERS, BAD_LENGTH, BAD_NUMBER, DAMAGED (the page that the separators name), NOT_HELD, NOT_OWNER (the caller is
+ * neither 0 nor the owner), DAMAGED (the lowest unsound page of those that would be placed anew).
  * Accepted: page is the page where the star stood.
  * Afterwards: accepted, the file no longer holds the star, and the pages from its home to the end of its reach are placed anew;
  * refused, the file is as it was. The pool is untouched with BAD_PARAMETERS, BAD_LENGTH and BAD_NUMBER, and else holds zeros. */
@@ -165,9 +173,11 @@ struct heatherplane_reply heatherplane_remove(
     uint8_t *separators, size_t separators_length,
     uint32_t *numbers, size_t numbers_length,
     uint64_t *words, size_t words_length,
+    uint8_t *owners, size_t owners_length,
     uint32_t *pool_numbers, size_t pool_numbers_length,
     uint64_t *pool_words, size_t pool_words_length,
-    uint32_t number);
+    uint8_t *pool_owners, size_t pool_owners_length,
+    uint8_t caller, uint32_t number);
 
 /* A file as one value: its parameters, its growth state and the buffers lent to it. */
 struct heatherplane_file {
@@ -179,16 +189,21 @@ struct heatherplane_file {
     size_t numbers_length;
     uint64_t *words;
     size_t words_length;
+    uint8_t *owners;
+    size_t owners_length;
     uint32_t *pool_numbers;
     size_t pool_numbers_length;
     uint64_t *pool_words;
     size_t pool_words_length;
+    uint8_t *pool_owners;
+    size_t pool_owners_length;
 };
 
 /* Such a value, with the lengths that the parameters ask for. */
 static inline struct heatherplane_file heatherplane_file_of(
     struct heatherplane_parameters parameters, struct heatherplane_growth growth,
-    uint8_t *separators, uint32_t *numbers, uint64_t *words, uint32_t *pool_numbers, uint64_t *pool_words)
+    uint8_t *separators, uint32_t *numbers, uint64_t *words, uint8_t *owners, uint32_t *pool_numbers, uint64_t *pool_words,
+    uint8_t *pool_owners)
 {
     const size_t pages = parameters.pages;
     const size_t items = pages * parameters.places;
@@ -201,10 +216,14 @@ static inline struct heatherplane_file heatherplane_file_of(
     file.numbers_length = items;
     file.words = words;
     file.words_length = items;
+    file.owners = owners;
+    file.owners_length = items;
     file.pool_numbers = pool_numbers;
     file.pool_numbers_length = items;
     file.pool_words = pool_words;
     file.pool_words_length = items;
+    file.pool_owners = pool_owners;
+    file.pool_owners_length = items;
     return file;
 }
 
@@ -217,30 +236,30 @@ static inline struct heatherplane_reply heatherplane_look_up_in(const struct hea
         p->places, p->groups, p->width, p->step, p->bits, p->load, p->pages, p->multiplier,
         file->growth.expansions, file->growth.expanded,
         file->separators, file->separators_length, file->numbers, file->numbers_length, file->words, file->words_length,
-        number);
+        file->owners, file->owners_length, number);
 }
 
 static inline struct heatherplane_reply heatherplane_enter_in(
-    const struct heatherplane_file *file, uint32_t number, uint32_t ra, int32_t dec)
+    const struct heatherplane_file *file, uint8_t caller, uint32_t number, uint32_t ra, int32_t dec)
 {
     const struct heatherplane_parameters *p = &file->parameters;
     return heatherplane_enter(
         p->places, p->groups, p->width, p->step, p->bits, p->load, p->pages, p->multiplier,
         file->growth.expansions, file->growth.expanded,
         file->separators, file->separators_length, file->numbers, file->numbers_length, file->words, file->words_length,
-        file->pool_numbers, file->pool_numbers_length, file->pool_words, file->pool_words_length,
-        number, ra, dec);
+        file->owners, file->owners_length, file->pool_numbers, file->pool_numbers_length, file->pool_words, file->pool_words_length,
+        file->pool_owners, file->pool_owners_length, caller, number, ra, dec);
 }
 
-static inline struct heatherplane_reply heatherplane_remove_in(const struct heatherplane_file *file, uint32_t number)
+static inline struct heatherplane_reply heatherplane_remove_in(const struct heatherplane_file *file, uint8_t caller, uint32_t number)
 {
     const struct heatherplane_parameters *p = &file->parameters;
     return heatherplane_remove(
         p->places, p->groups, p->width, p->step, p->bits, p->load, p->pages, p->multiplier,
         file->growth.expansions, file->growth.expanded,
         file->separators, file->separators_length, file->numbers, file->numbers_length, file->words, file->words_length,
-        file->pool_numbers, file->pool_numbers_length, file->pool_words, file->pool_words_length,
-        number);
+        file->owners, file->owners_length, file->pool_numbers, file->pool_numbers_length, file->pool_words, file->pool_words_length,
+        file->pool_owners, file->pool_owners_length, caller, number);
 }
 
 #ifdef __cplusplus

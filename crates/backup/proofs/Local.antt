@@ -17,7 +17,7 @@ use Rattle.placement.specs.Hash.{hashOf}
 use Rattle.placement.proofs.Composition.{length-pages}
 use Rattle.placement.proofs.Standing.{length-separators}
 use Rattle.placement.proofs.Writing.{Roomy, part-column, getD-separators}
-use Rattle.placement.proofs.Files.{numberOf, wordOf, replaced-of, roomy-pages}
+use Rattle.placement.proofs.Files.{numberOf, wordOf, ownerOf, replaced-of, roomy-pages}
 use Rattle.placement.proofs.Probing.{bounded-real}
 use Rattle.placement.proofs.Sound.{clean-list}
 use Rattle.backup.specs.Stretches.{topAt, topTwice, mayChange}
@@ -44,6 +44,7 @@ same-part b cs ds page rc rd hc hd e =
       separator = rw (getD-separators cs page, getD-separators ds page, e);
       numbers = rw (part-column b numberOf cs page rc hc, part-column b numberOf ds page rd hd, e);
       words = rw (part-column b wordOf cs page rc hc, part-column b wordOf ds page rd hd, e);
+      owners = rw (part-column b ownerOf cs page rc hc, part-column b ownerOf ds page rd hd, e);
     }
 
 module _ (p : Parameters) (g : Growth) (f : File) (pool : Pool) (grows : Grows p g f pool) where

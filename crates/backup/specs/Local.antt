@@ -13,11 +13,12 @@ pub use Rattle.calls.specs.Answers.{Pool}
 pub use Rattle.calls.specs.Calls.{growOf}
 use Rattle.backup.specs.Stretches.{topAt, topTwice, endFrom, mayChange}
 
--- the separator, numbers and words of a page are the same in two files
+-- the separator, numbers, words and owners of a page are the same in two files
 pub record Untouched (places : ℕ) (before after : File) (page : ℕ) : Type 0 where
   pub separator : getD (after .separators) page 0 ≡ getD (before .separators) page 0
   pub numbers : part places page (after .numbers) ≡ part places page (before .numbers)
   pub words : part places page (after .words) ≡ part places page (before .words)
+  pub owners : part places page (after .owners) ≡ part places page (before .owners)
 
 -- a clean file, and a growth of it that is accepted
 pub record Grows (p : Parameters) (g : Growth) (f : File) (pool : Pool) : Type 0 where

@@ -36,9 +36,10 @@ pub record Alike (count places : ℕ) (f l : File) : Type 0 where
   pub separators : (q : ℕ) → q < count → getD (f .separators) q 0 ≡ getD (l .separators) q 0
   pub numbers : (i : ℕ) → i < count * places → getD (f .numbers) i 0 ≡ getD (l .numbers) i 0
   pub words : (i : ℕ) → i < count * places → getD (f .words) i 0 ≡ getD (l .words) i 0
+  pub owners : (i : ℕ) → i < count * places → getD (f .owners) i 0 ≡ getD (l .owners) i 0
 
 pub alike-self : (count places : ℕ) (f : File) → Alike count places f f
-alike-self count places f = record { separators = λ q h. refl; numbers = λ i h. refl; words = λ i h. refl }
+alike-self count places f = record { separators = λ q h. refl; numbers = λ i h. refl; words = λ i h. refl; owners = λ i h. refl }
 
 spot-count : (count places j : ℕ) → j < 0 + count * suc places → j / suc places < count
 spot-count count places j h =
@@ -55,14 +56,16 @@ module _ (count places : ℕ) (f l m : File) (a : Alike count places l m) where
 
       go : (t : Bool) → ltb place places ≡ t
           → cond t
-          (not (eqb (getD (f .numbers) i 0) (getD (l .numbers) i 0)) || not (eqb (getD (f .words) i 0) (getD (l .words) i 0)))
+          (not (eqb (getD (f .numbers) i 0) (getD (l .numbers) i 0))
+          || (not (eqb (getD (f .words) i 0) (getD (l .words) i 0)) || not (eqb (getD (f .owners) i 0) (getD (l .owners) i 0))))
           (not (eqb (getD (f .separators) page 0) (getD (l .separators) page 0)))
           ≡ cond t
-          (not (eqb (getD (f .numbers) i 0) (getD (m .numbers) i 0)) || not (eqb (getD (f .words) i 0) (getD (m .words) i 0)))
+          (not (eqb (getD (f .numbers) i 0) (getD (m .numbers) i 0))
+          || (not (eqb (getD (f .words) i 0) (getD (m .words) i 0)) || not (eqb (getD (f .owners) i 0) (getD (m .owners) i 0))))
           (not (eqb (getD (f .separators) page 0) (getD (m .separators) page 0)))
       go true e =
           let k : i < count * places = item-within count places page place h (ltb-true place places e) in
-          rw (a .numbers i k, a .words i k)
+          rw (a .numbers i k, a .words i k, a .owners i k)
       go false e = rw (a .separators page h)
 
   pub spot-alike : spotIn count places f l ≡ spotIn count places f m
@@ -80,10 +83,13 @@ same-spot places f page place = go (ltb place places)
     go : (t : Bool)
         → cond t
         (not (eqb (getD (f .numbers) (page * places + place) 0) (getD (f .numbers) (page * places + place) 0))
-        || not (eqb (getD (f .words) (page * places + place) 0) (getD (f .words) (page * places + place) 0)))
+        || (not (eqb (getD (f .words) (page * places + place) 0) (getD (f .words) (page * places + place) 0))
+        || not (eqb (getD (f .owners) (page * places + place) 0) (getD (f .owners) (page * places + place) 0))))
         (not (eqb (getD (f .separators) page 0) (getD (f .separators) page 0)))
         ≡ false
-    go true = rw (same (getD (f .numbers) (page * places + place) 0)) (same (getD (f .words) (page * places + place) 0))
+    go true =
+        rw (same (getD (f .numbers) (page * places + place) 0), same (getD (f .words) (page * places + place) 0))
+        (same (getD (f .owners) (page * places + place) 0))
     go false = same (getD (f .separators) page 0)
 
 -- a file does not differ from itself
@@ -111,16 +117,26 @@ module _ (count places : ℕ) (f l : File) (none : spotIn count places f l ≡ c
       (not-false (eqb (getD (f .separators) q 0) (getD (l .separators) q 0))
       (rw (le-ltb places places (le-refl places)) at (same-at q places h (le-refl places))))
 
-  same-place : (page place : ℕ) → page < count → place < places
-      → (getD (f .numbers) (page * places + place) 0 ≡ getD (l .numbers) (page * places + place) 0)
-      × (getD (f .words) (page * places + place) 0 ≡ getD (l .words) (page * places + place) 0)
+  -- two items that do not differ
+  same-items : (x y : ℕ) → not (eqb x y) ≡ false → x ≡ y
+  same-items x y e = eqb-true x y (not-false (eqb x y) e)
+
+  -- number, word and owner of an item
+  abbrev SameItem : ℕ → Type 0
+  SameItem i =
+      (getD (f .numbers) i 0 ≡ getD (l .numbers) i 0) × (getD (f .words) i 0 ≡ getD (l .words) i 0) × (getD (f .owners) i 0 ≡ getD (l .owners) i 0)
+
+  same-place : (page place : ℕ) → page < count → place < places → SameItem (page * places + place)
   unfolding differ
   same-place page place h k =
       let i : ℕ = page * places + place in
-      let both = either-false (not (eqb (getD (f .numbers) i 0) (getD (l .numbers) i 0))) (not (eqb (getD (f .words) i 0) (getD (l .words) i 0)))
-      (rw (lt-ltb place places k) at (same-at page place h (omega arith))) in (
-        eqb-true (getD (f .numbers) i 0) (getD (l .numbers) i 0) (not-false (eqb (getD (f .numbers) i 0) (getD (l .numbers) i 0)) (both .0)),
-        eqb-true (getD (f .words) i 0) (getD (l .words) i 0) (not-false (eqb (getD (f .words) i 0) (getD (l .words) i 0)) (both .1)),
+      let n = either-false (not (eqb (getD (f .numbers) i 0) (getD (l .numbers) i 0)))
+      (not (eqb (getD (f .words) i 0) (getD (l .words) i 0)) || not (eqb (getD (f .owners) i 0) (getD (l .owners) i 0)))
+      (rw (lt-ltb place places k) at (same-at page place h (omega arith))) in
+      let w = either-false (not (eqb (getD (f .words) i 0) (getD (l .words) i 0))) (not (eqb (getD (f .owners) i 0) (getD (l .owners) i 0))) (n .1) in (
+        same-items (getD (f .numbers) i 0) (getD (l .numbers) i 0) (n .0),
+        same-items (getD (f .words) i 0) (getD (l .words) i 0) (w .0),
+        same-items (getD (f .owners) i 0) (getD (l .owners) i 0) (w .1),
       )
 
   some-places : (i : ℕ) → i < count * places → 0 < places
@@ -130,14 +146,14 @@ module _ (count places : ℕ) (f l : File) (none : spotIn count places f l ≡ c
       go zero k = absurd (omega (arith, mul-zero count))
       go (suc b) k = omega arith
 
-  same-item : (i : ℕ) → i < count * places → (getD (f .numbers) i 0 ≡ getD (l .numbers) i 0) × (getD (f .words) i 0 ≡ getD (l .words) i 0)
+  same-item : (i : ℕ) → i < count * places → SameItem i
   same-item i h =
       let some : 0 < places = some-places i h in
       rw (div-add-mod' i places) at
       (same-place (i / places) (i % places) (div-lt-iff-lt-mul some .1 h) (mod-lt i some))
 
   pub alike-by-spot : Alike count places f l
-  alike-by-spot = record { separators = same-separator; numbers = λ i h. same-item i h .0; words = λ i h. same-item i h .1 }
+  alike-by-spot = record { separators = same-separator; numbers = λ i h. same-item i h .0; words = λ i h. same-item i h .1; owners = λ i h. same-item i h .2 }
 
 -- files of one size that are alike are the same
 pub alike-same : (count places : ℕ) (f l : File) → Sized places count f → Sized places count l → Alike count places f l → f ≡ l
@@ -146,4 +162,5 @@ alike-same count places f l zf zl a =
       separators = ext-getD 0 (f .separators) (l .separators) (zf .ofSeparators ∙ sym (zl .ofSeparators)) (λ q h. a .separators q (omega (arith, zf .ofSeparators))) i;
       numbers = ext-getD 0 (f .numbers) (l .numbers) (zf .ofNumbers ∙ sym (zl .ofNumbers)) (λ q h. a .numbers q (omega (arith, zf .ofNumbers))) i;
       words = ext-getD 0 (f .words) (l .words) (zf .ofWords ∙ sym (zl .ofWords)) (λ q h. a .words q (omega (arith, zf .ofWords))) i;
+      owners = ext-getD 0 (f .owners) (l .owners) (zf .ofOwners ∙ sym (zl .ofOwners)) (λ q h. a .owners q (omega (arith, zf .ofOwners))) i;
     }

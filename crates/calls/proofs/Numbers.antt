@@ -18,6 +18,7 @@ use Rattle.calls.specs.declared.answers.Refusal.the-variants.{
   NotHeld,
   Full,
   Ungrown,
+  NotOwner,
 }
 use Rattle.calls.specs.declared.answers.Checked.{Checked}
 use Rattle.calls.specs.declared.answers.Checked.the-variants.{Clean, Refused}
@@ -26,7 +27,7 @@ use Rattle.calls.specs.Answers.{numberOf, pageOf, refusedBy, spotted, ch
 
 refusalAt : ℕ → ℕ → Refusal
 refusalAt n page =
-    getD (BadParameters ∷ BadLength ∷ BadNumber ∷ BadPosition ∷ Damaged page ∷ Held ∷ NotHeld ∷ Full ∷ Ungrown ∷ []) (n - 1) Full
+    getD (BadParameters ∷ BadLength ∷ BadNumber ∷ BadPosition ∷ Damaged page ∷ Held ∷ NotHeld ∷ Full ∷ Ungrown ∷ []) (n - 1) NotOwner
 
 told-back : (r : Refusal) → refusalAt (numberOf r) (pageOf r) ≡ r
 unfolding refusalAt
@@ -39,6 +40,7 @@ told-back Held = refl
 told-back NotHeld = refl
 told-back Full = refl
 told-back Ungrown = refl
+told-back NotOwner = refl
 
 pub numbered : (r : Refusal) → 1 ≤ numberOf r
 numbered BadParameters = omega arith
@@ -50,6 +52,7 @@ numbered Held = omega arith
 numbered NotHeld = omega arith
 numbered Full = omega arith
 numbered Ungrown = omega arith
+numbered NotOwner = omega arith
 
 checkedAs : Answer → Checked
 checkedAs a = cond (eqb (a .refusal) 0) Clean (Refused (refusalAt (a .refusal) (a .page)) (a .place))

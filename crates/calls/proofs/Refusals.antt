@@ -24,6 +24,7 @@ use Rattle.calls.specs.declared.answers.Refusal.the-variants.{
   NotHeld,
   Full,
   Ungrown,
+  NotOwner,
 }
 use Rattle.calls.specs.declared.answers.Admission.{Admission}
 use Rattle.calls.specs.declared.answers.Admission.the-variants.{Passed, Refused}
@@ -52,17 +53,20 @@ unfolding fileFits
 sized p f e =
     let one = both _ _ e in
     let two = both _ _ (one .1) in
+    let three = both _ _ (two .1) in
     record {
       ofSeparators = eqb-true _ _ (one .0);
       ofNumbers = eqb-true _ _ (two .0);
-      ofWords = eqb-true _ _ (two .1);
+      ofWords = eqb-true _ _ (three .0);
+      ofOwners = eqb-true _ _ (three .1);
     }
 
-pub pool-sized : (p : Parameters) (pool : Pool) → poolFits p pool ≡ true → (length (pool .numbers) ≡ p .pages * p .places) × (length (pool .words) ≡ p .pages * p .places)
+pub pool-sized : (p : Parameters) (pool : Pool) → poolFits p pool ≡ true → (length (pool .numbers) ≡ p .pages * p .places) × ((length (pool .words) ≡ p .pages * p .places) × (length (pool .owners) ≡ p .pages * p .places))
 unfolding poolFits
 pool-sized p pool e =
     let t = both _ _ e in
-    (eqb-true _ _ (t .0), eqb-true _ _ (t .1))
+    let u = both _ _ (t .1) in
+    (eqb-true _ _ (t .0), (eqb-true _ _ (u .0), eqb-true _ _ (u .1)))
 
 -- a call that answers a and leaves f and pool
 pub leaves : (after : After) (a : Answer) (g : Growth) (f : File) (pool : Pool) → after ≡ record { answer = a; growth = g; file = f; pool = pool } → Leaves after a f pool
@@ -112,6 +116,7 @@ module _ (g : Growth) (f : File) (pool : Pool) (after : After) where
   away NotHeld m h = absurd (omega arith)
   away Full m h = absurd (omega arith)
   away Ungrown m h = absurd (omega arith)
+  away NotOwner m h = absurd (omega arith)
 
   pub turned-away : (p : Parameters) (lengths : Bool) (r : Refusal) → numberOf r ≡ unlent p g lengths → guarded g f pool (unlent p g lengths) after ≡ unchanged g f pool (refusedBy r 0)
   turned-away p lengths r e = rw (← e) (away r 0 (rw e (unlent-most p g lengths)) .0)
@@ -128,7 +133,7 @@ admitted p g f e =
     let v = both _ _ (t .0) in
     ready refl (v .0) (v .1) (sized p f (t .1))
 
-pub admitted-pool : (p : Parameters) (g : Growth) (f : File) (pool : Pool) → unlent p g (fileFits p f && poolFits p pool) ≡ 0 → Admitted p g f × Pooled p (pool .numbers) (pool .words)
+pub admitted-pool : (p : Parameters) (g : Growth) (f : File) (pool : Pool) → unlent p g (fileFits p f && poolFits p pool) ≡ 0 → Admitted p g f × Pooled p (pool .numbers) (pool .words) (pool .owners)
 admitted-pool p g f pool e =
     let t = unlent-facts p g (fileFits p f && poolFits p pool) e in
     let v = both _ _ (t .0) in

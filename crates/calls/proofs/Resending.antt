@@ -29,20 +29,20 @@ pub record HeldEntry (p : Parameters) (g : Growth) (f : File) (pool : Pool) (k :
   pub read : readable p g f (named p g f k) ≡ true
   pub held : holds p f (named p g f k) k ≡ true
 
-module _ (p : Parameters) (g : Growth) (f : File) (pool : Pool) (k : ℕ) (q : Position) (t : HeldEntry p g f pool k q) where
+module _ (p : Parameters) (g : Growth) (f : File) (pool : Pool) (caller k : ℕ) (q : Position) (t : HeldEntry p g f pool k q) where
   abbrev stored : ℕ
   stored = getD (f .words) (itemOf p f (named p g f k) k) 0
 
-  again : enterOf p g f pool k q ≡ unchanged g f (cleared pool) (enteredAgain p f (named p g f k) (record { number = k; word = packed q }))
+  again : enterOf p g f pool caller k q ≡ unchanged g f (cleared pool) (enteredAgain p f (named p g f k) (record { number = k; word = packed q; owner = caller }))
   unfolding enterOf enterOn
   again = rw (well-lent p g (fileFits p f && poolFits p pool) (t .state) (t .lengths), t .number, t .position, t .read, t .held)
 
   -- with its stored position: accepted, and every lent item and the growth state stay
-  pub resend-leaves : stored ≡ packed q → enterOf p g f pool k q ≡ unchanged g f (cleared pool) (acceptedAt (named p g f k) (placeFor p f (named p g f k) k))
+  pub resend-leaves : stored ≡ packed q → enterOf p g f pool caller k q ≡ unchanged g f (cleared pool) (acceptedAt (named p g f k) (placeFor p f (named p g f k) k))
   unfolding enteredAgain
   resend-leaves e = again ∙ rw (eq-eqb stored (packed q) e)
 
   -- "Any other position is 6."
-  pub other-refused : (stored ≡ packed q → ⊥) → enterOf p g f pool k q ≡ unchanged g f (cleared pool) (refusedAt 6 0 (placeFor p f (named p g f k) k))
+  pub other-refused : (stored ≡ packed q → ⊥) → enterOf p g f pool caller k q ≡ unchanged g f (cleared pool) (refusedAt 6 0 (placeFor p f (named p g f k) k))
   unfolding enteredAgain
   other-refused e = again ∙ rw (ne-eqb stored (packed q) e)

@@ -23,8 +23,8 @@ use Rattle.calls.specs.Calls.{hash, checkOf, checkedAt, fileFits, poolFi
 use Rattle.calls.proofs.Refusals.{well-lent}
 use Rattle.calls.proofs.Accepting.{check-clean}
 
--- a file's stars are those of its numbers and words
-gathered-same : (b : ℕ) (separators : List ℕ) (f : File) (from n : ℕ) → gathered b (lent separators (f .numbers) (f .words)) from n ≡ gathered b f from n
+-- a file's stars are those of its numbers, words and owners
+gathered-same : (b : ℕ) (separators : List ℕ) (f : File) (from n : ℕ) → gathered b (lent separators (f .numbers) (f .words) (f .owners)) from n ≡ gathered b f from n
 unfolding gathered starsAt
 gathered-same b separators f from zero = refl
 gathered-same b separators f from (suc n) = ap (pour (starsAt b f from)) (gathered-same b separators f (suc from) n)
@@ -61,11 +61,11 @@ module _ (p : Parameters) (g : Growth) (f : File) (clean : Clean validWord (hash
   module _ (separators : List ℕ) (count : length separators ≡ length (f .separators)) where
     -- f with other separators
     abbrev other : File
-    other = lent separators (f .numbers) (f .words)
+    other = lent separators (f .numbers) (f .words) (f .owners)
 
     other-fits : fileFits p other ≡ true
     unfolding fileFits
-    other-fits = rw (eq-eqb _ _ (count ∙ clean-sized .ofSeparators), eq-eqb _ _ (clean-sized .ofNumbers), eq-eqb _ _ (clean-sized .ofWords))
+    other-fits = rw (eq-eqb _ _ (count ∙ clean-sized .ofSeparators), eq-eqb _ _ (clean-sized .ofNumbers), eq-eqb _ _ (clean-sized .ofWords), eq-eqb _ _ (clean-sized .ofOwners))
 
     only-one : Clean validWord (hash p g) (p .pages) other → separators ≡ f .separators
     only-one c =
@@ -73,7 +73,7 @@ module _ (p : Parameters) (g : Growth) (f : File) (clean : Clean validWord (hash
         ap (λ (x : File). x .separators) (c .byRule ∙ ap (laid (hash p g .room) (hash p g) (p .pages)) same ∙ sym (clean .byRule))
 
     pub separators-checked : (pool : Pool) → validParameters p && validGrowth p g ≡ true → poolFits p pool ≡ true → (separators ≡ f .separators → ⊥)
-        → checkOf p g (lent separators (f .numbers) (f .words)) pool .answer .refusal ≡ 5
+        → checkOf p g (lent separators (f .numbers) (f .words) (f .owners)) pool .answer .refusal ≡ 5
     separators-checked pool valid fits differs =
         let all-fit : fileFits p other && poolFits p pool ≡ true = rw (other-fits, fits) in
         check-five p g other pool valid all-fit

@@ -21,6 +21,7 @@ use Rattle.calls.specs.declared.answers.Refusal.the-variants.{
   NotHeld,
   Full,
   Ungrown,
+  NotOwner,
 }
 use Rattle.calls.specs.declared.answers.Admission.{Admission}
 use Rattle.calls.specs.declared.answers.Admission.the-variants.{Passed, Refused as TurnedAway}
@@ -83,6 +84,7 @@ numberOf Held = 6
 numberOf NotHeld = 7
 numberOf Full = 8
 numberOf Ungrown = 9
+numberOf NotOwner = 13
 
 -- the page that goes with it
 abbrev pub pageOf : Refusal → ℕ
@@ -95,6 +97,7 @@ pageOf Held = 0
 pageOf NotHeld = 0
 pageOf Full = 0
 pageOf Ungrown = 0
+pageOf NotOwner = 0
 
 -- 0 if the test that a call begins with is passed
 abbrev pub admissionNumber : Admission → ℕ
@@ -128,13 +131,14 @@ checked (NotChecked r place) = refusedBy r place
 pub record Pool : Type 0 where
   pub numbers : List ℕ
   pub words : List ℕ
+  pub owners : List ℕ
 
 unfoldable pub zeros : List ℕ → List ℕ
 zeros l = replicate (length l) 0
 
 -- the pool after every call that uses it, but for refusals 1 to 4
 unfoldable pub cleared : Pool → Pool
-cleared pool = record { numbers = zeros (pool .numbers); words = zeros (pool .words) }
+cleared pool = record { numbers = zeros (pool .numbers); words = zeros (pool .words); owners = zeros (pool .owners) }
 
 -- the answer, and the growth state and the lent buffers after a call
 pub record After : Type 0 where
@@ -144,12 +148,12 @@ pub record After : Type 0 where
   pub pool : Pool
 
 -- the lent pool by its contents
-abbrev pub pooled : List ℕ → List ℕ → Pool
-pooled numbers words = record { numbers = numbers; words = words }
+abbrev pub pooled : List ℕ → List ℕ → List ℕ → Pool
+pooled numbers words owners = record { numbers = numbers; words = words; owners = owners }
 
 -- for the calls that take none
 abbrev pub unpooled : Pool
-unpooled = pooled [] []
+unpooled = pooled [] [] []
 
 -- the answer and the buffers at exit are those of the definition
 pub record Leaves (after : After) (answer : Answer) (file : File) (pool : Pool) : Type 0 where

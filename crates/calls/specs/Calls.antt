@@ -47,19 +47,20 @@ hash p g = hashOf p g
 
 -- Refusals 1 to 4, of which the first is met
 
--- M·b numbers and M·b words
-abbrev pub poolLengths : Parameters → ℕ → ℕ → Bool
-poolLengths p numbers words = eqb numbers (p .pages * p .places) && eqb words (p .pages * p .places)
+-- M·b numbers, M·b words and M·b owners
+abbrev pub poolLengths : Parameters → ℕ → ℕ → ℕ → Bool
+poolLengths p numbers words owners =
+    eqb numbers (p .pages * p .places) && (eqb words (p .pages * p .places) && eqb owners (p .pages * p .places))
 
 -- M separators and the same
-abbrev pub fileLengths : Parameters → ℕ → ℕ → ℕ → Bool
-fileLengths p separators numbers words = eqb separators (p .pages) && poolLengths p numbers words
+abbrev pub fileLengths : Parameters → ℕ → ℕ → ℕ → ℕ → Bool
+fileLengths p separators numbers words owners = eqb separators (p .pages) && poolLengths p numbers words owners
 
 unfoldable pub fileFits : Parameters → File → Bool
-fileFits p f = fileLengths p (length (f .separators)) (length (f .numbers)) (length (f .words))
+fileFits p f = fileLengths p (length (f .separators)) (length (f .numbers)) (length (f .words)) (length (f .owners))
 
 unfoldable pub poolFits : Parameters → Pool → Bool
-poolFits p pool = poolLengths p (length (pool .numbers)) (length (pool .words))
+poolFits p pool = poolLengths p (length (pool .numbers)) (length (pool .words)) (length (pool .owners))
 
 -- n, unless the fact holds
 abbrev pub unless : Bool → ℕ → ℕ
@@ -116,6 +117,7 @@ emptyFile p =
       separators = replicate (p .pages) (topOf (p .bits));
       numbers = replicate (p .pages * p .places) 0;
       words = replicate (p .pages * p .places) 0;
+      owners = replicate (p .pages * p .places) 0;
     }
 
 unfoldable pub makeOf : Parameters → File → Pool → After
@@ -177,21 +179,38 @@ enterOn p g f pool page s =
     (enterTo p g f pool s (placeFor p f page (s .number)) (entryEnd (hash p g) (p .pages) f s)))
     (unchanged g f pool (refused 5 page))
 
-unfoldable pub enterOf : Parameters → Growth → File → Pool → ℕ → Position → After
-enterOf p g f pool k position =
+-- "An entered star is its caller's": document 02 (x)
+unfoldable pub enterOf : Parameters → Growth → File → Pool → ℕ → ℕ → Position → After
+enterOf p g f pool caller k position =
     guarded g f pool
     (orElse (unlent p g (fileFits p f && poolFits p pool))
     (orElse (unless (validNumber k) 3) (unless (validPosition position) 4)))
-    (enterOn p g f (cleared pool) (named p g f k) (record { number = k; word = packed position }))
+    (enterOn p g f (cleared pool) (named p g f k) (record { number = k; word = packed position; owner = caller }))
+
+-- Who may change or remove a star
+
+-- "13, after 7 and before pages of the reach are read, when the caller .. is neither the star's owner nor 0": document 02 (x)
+unfoldable pub mayAlter : ℕ → ℕ → Bool
+mayAlter caller owner = eqb caller 0 || eqb caller owner
+
+-- the owner of the held star k
+abbrev pub ownerFor : Parameters → File → ℕ → ℕ → ℕ
+ownerFor p f page k = getD (f .owners) (itemOf p f page k) 0
+
+-- what the call does to a held star, or its refusal
+unfoldable pub allowed : Parameters → Growth → File → Pool → ℕ → ℕ → ℕ → After → After
+allowed p g f pool page caller k after =
+    cond (mayAlter caller (ownerFor p f page k)) after (unchanged g f pool (refusedAt 13 0 (placeFor p f page k)))
 
 -- Change
 
--- "A change writes one word."
-unfoldable pub changeOn : Parameters → Growth → File → Pool → ℕ → ℕ → ℕ → After
-changeOn p g f pool page k word =
+-- "A change writes one word", "a change leaves the owner".
+unfoldable pub changeOn : Parameters → Growth → File → Pool → ℕ → ℕ → ℕ → ℕ → After
+changeOn p g f pool page caller k word =
     let place = placeFor p f page k in
     cond (readable p g f page)
     (cond (holds p f page k)
+    (allowed p g f pool page caller k
     (record {
       answer = acceptedAt page place;
       growth = g;
@@ -200,17 +219,18 @@ changeOn p g f pool page k word =
             separators = f .separators;
             numbers = f .numbers;
             words = set (f .words) (itemOf p f page k) word;
+            owners = f .owners;
           };
       pool = pool;
-    })
+    }))
     (unchanged g f pool (refusedAt 7 0 place)))
     (unchanged g f pool (refused 5 page))
 
-unfoldable pub changeOf : Parameters → Growth → File → Pool → ℕ → Position → After
-changeOf p g f pool k position =
+unfoldable pub changeOf : Parameters → Growth → File → Pool → ℕ → ℕ → Position → After
+changeOf p g f pool caller k position =
     guarded g f pool
     (orElse (unlent p g (fileFits p f)) (orElse (unless (validNumber k) 3) (unless (validPosition position) 4)))
-    (changeOn p g f pool (named p g f k) k (packed position))
+    (changeOn p g f pool (named p g f k) caller k (packed position))
 
 -- Remove
 
@@ -229,20 +249,20 @@ removeTo p g f pool page k place to =
       pool = pool;
     })
 
-unfoldable pub removeOn : Parameters → Growth → File → Pool → ℕ → ℕ → After
-removeOn p g f pool page k =
+unfoldable pub removeOn : Parameters → Growth → File → Pool → ℕ → ℕ → ℕ → After
+removeOn p g f pool page caller k =
     let place = placeFor p f page k in
     cond (readable p g f page)
     (cond (holds p f page k)
-    (removeTo p g f pool page k place (removalEnd (hash p g) (p .pages) f (hash p g .home k)))
+    (allowed p g f pool page caller k (removeTo p g f pool page k place (removalEnd (hash p g) (p .pages) f (hash p g .home k))))
     (unchanged g f pool (refusedAt 7 0 place)))
     (unchanged g f pool (refused 5 page))
 
-unfoldable pub removeOf : Parameters → Growth → File → Pool → ℕ → After
-removeOf p g f pool k =
+unfoldable pub removeOf : Parameters → Growth → File → Pool → ℕ → ℕ → After
+removeOf p g f pool caller k =
     guarded g f pool
     (orElse (unlent p g (fileFits p f && poolFits p pool)) (unless (validNumber k) 3))
-    (removeOn p g f (cleared pool) (named p g f k) k)
+    (removeOn p g f (cleared pool) (named p g f k) caller k)
 
 -- Grow
 

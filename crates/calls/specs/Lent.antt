@@ -8,11 +8,11 @@ use Rattle.placement.specs.Lent.{Lent}
 use Rattle.placement.specs.Ready.{Ready}
 use Rattle.calls.specs.Answers.{Pool, pooled}
 
-abbrev pub poolBefore : Lent → Lent → Pool
-poolBefore numbers words = pooled (now (numbers .entry)) (now (words .entry))
+abbrev pub poolBefore : Lent → Lent → Lent → Pool
+poolBefore numbers words owners = pooled (now (numbers .entry)) (now (words .entry)) (now (owners .entry))
 
-abbrev pub poolAfter : Lent → Lent → Pool
-poolAfter numbers words = pooled (now (numbers .exit)) (now (words .exit))
+abbrev pub poolAfter : Lent → Lent → Lent → Pool
+poolAfter numbers words owners = pooled (now (numbers .exit)) (now (words .exit)) (now (owners .exit))
 
 -- placement's `Ready`, for a call that makes its table itself
 abbrev pub Admitted : Parameters → Growth → File → Type 0

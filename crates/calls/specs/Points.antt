@@ -21,7 +21,7 @@ abbrev pub given : ℕ → List ℕ → Hash
 given b signatures = record { home = λ k. 0; signature = λ k page. getD signatures k 0; top = topOf 4; room = b }
 
 abbrev pub star : ℕ → Star
-star k = record { number = k; word = 0 }
+star k = record { number = k; word = 0; owner = 0 }
 
 abbrev pub separatorFor : ℕ → List ℕ → List ℕ → ℕ
 separatorFor b signatures stars = separatorOf (given b signatures) 0 (map star stars)

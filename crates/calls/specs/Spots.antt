@@ -10,12 +10,13 @@ use Rattle.placement.specs.File.{File, gathered, replaced}
 use Rattle.placement.specs.Hash.{hashOf}
 use Rattle.reach.specs.Reach.{firstSuch}
 
--- two files differ at a place of a page; place b is its separator
+-- two files differ at a place of a page, in number, word or owner; place b is its separator
 unfoldable pub differ : ℕ → File → File → ℕ → ℕ → Bool
 differ places f l page place =
     cond (ltb place places)
     (not (eqb (getD (f .numbers) (page * places + place) 0) (getD (l .numbers) (page * places + place) 0))
-    || not (eqb (getD (f .words) (page * places + place) 0) (getD (l .words) (page * places + place) 0)))
+    || (not (eqb (getD (f .words) (page * places + place) 0) (getD (l .words) (page * places + place) 0))
+    || not (eqb (getD (f .owners) (page * places + place) 0) (getD (l .owners) (page * places + place) 0))))
     (not (eqb (getD (f .separators) page 0) (getD (l .separators) page 0)))
 
 -- spots are counted page by page, b + 1 to a page

@@ -14,6 +14,7 @@ pub enum Refusal {
     NotHeld,
     Full,
     Ungrown,
+    NotOwner,
 }
 
 // What the test of refusals 1 and 2 says, with which every call begins.
@@ -129,6 +130,10 @@ fn number_of(refusal: Refusal) -> Numbered
         Refusal::NotHeld => Numbered { number: 7, page: 0 },
         Refusal::Full => Numbered { number: 8, page: 0 },
         Refusal::Ungrown => Numbered { number: 9, page: 0 },
+        Refusal::NotOwner => Numbered {
+            number: 13,
+            page: 0,
+        },
     }
 }
 

@@ -31,14 +31,27 @@ module _ (places : ℕ) (f l : File) (page place : ℕ) where
       rw (lt-ltb place places h, ne-eqb (getD (f .words) (page * places + place) 0) (getD (l .words) (page * places + place) 0) e)
       (or-true (not (eqb (getD (f .numbers) (page * places + place) 0) (getD (l .numbers) (page * places + place) 0))))
 
-  pub place-same : place < places → getD (f .numbers) (page * places + place) 0 ≡ getD (l .numbers) (page * places + place) 0
-      → getD (f .words) (page * places + place) 0 ≡ getD (l .words) (page * places + place) 0 → differ places f l page place ≡ false
+  pub owner-differs : place < places → (getD (f .owners) (page * places + place) 0 ≡ getD (l .owners) (page * places + place) 0 → ⊥)
+      → differ places f l page place ≡ true
   unfolding differ
-  place-same h en ew =
+  owner-differs h e =
+      rw (
+        lt-ltb place places h,
+        ne-eqb (getD (f .owners) (page * places + place) 0) (getD (l .owners) (page * places + place) 0) e,
+        or-true (not (eqb (getD (f .words) (page * places + place) 0) (getD (l .words) (page * places + place) 0))),
+      )
+      (or-true (not (eqb (getD (f .numbers) (page * places + place) 0) (getD (l .numbers) (page * places + place) 0))))
+
+  pub place-same : place < places → getD (f .numbers) (page * places + place) 0 ≡ getD (l .numbers) (page * places + place) 0
+      → getD (f .words) (page * places + place) 0 ≡ getD (l .words) (page * places + place) 0
+      → getD (f .owners) (page * places + place) 0 ≡ getD (l .owners) (page * places + place) 0 → differ places f l page place ≡ false
+  unfolding differ
+  place-same h en ew eo =
       rw (
         lt-ltb place places h,
         eq-eqb (getD (f .numbers) (page * places + place) 0) (getD (l .numbers) (page * places + place) 0) en,
         eq-eqb (getD (f .words) (page * places + place) 0) (getD (l .words) (page * places + place) 0) ew,
+        eq-eqb (getD (f .owners) (page * places + place) 0) (getD (l .owners) (page * places + place) 0) eo,
       )
 
   pub separator-differs : places ≤ place → (getD (f .separators) page 0 ≡ getD (l .separators) page 0 → ⊥) → differ places f l page place ≡ true

@@ -126,6 +126,7 @@ module _ (p : Parameters) (g : Growth) (f : File) (valid : validParameters p ≡
         few = rw none (omega (arith, few-items p valid));
         numbers = rw none (omega (arith, sized .ofNumbers));
         words = rw none (omega (arith, sized .ofWords));
+        owners = rw none (omega (arith, sized .ofOwners));
         homes = rw none (omega (arith, homes-long));
         valid = rw numbers-all numbers-below;
         within = rw (none, homes-all) homes-below;
@@ -143,28 +144,29 @@ module _ (p : Parameters) (g : Growth) (f : File) (valid : validParameters p ≡
   -- the plan, applied, is the rule over the whole file
   pub planned-ruled : (pool′ planned planned′ W′ : List ℕ) (r : ℕ) → p .pages ≤ length planned
       → Planned p 0 (p .pages) [] (stretchWords (p .places) 0 (p .pages) 0 (f .numbers) hs) hs pool′ planned planned′ W′ r
-      → applied (p .places) 0 (p .pages) 0 0 pool′ planned′ f ≡ ruled p g f
+      → applied (p .places) 0 (p .pages) 0 0 0 pool′ planned′ f ≡ ruled p g f
   unfolding ruled
   planned-ruled pool′ planned planned′ W′ r h P =
       let words : List ℕ = stretchWords (p .places) 0 (p .pages) 0 (f .numbers) hs in
       let none : 0 + p .pages ≡ p .pages = zero-add (p .pages) in
-      applied-layout p 0 (p .pages) 0 0 f [] words pool′ planned′ W′ r
+      applied-layout p 0 (p .pages) 0 0 0 f [] words pool′ planned′ W′ r
       (layout p 0 (p .pages) [] words hs pool′ planned planned′ W′ r P (rw none (omega (arith, homes-long))) (rw none h))
       (unfold sourced all in refl)
-      (stretch-sourced (hashOf p g) p (probes-real p g) 0 (p .pages) f hs ready 0 0 0)
+      (stretch-sourced (hashOf p g) p (probes-real p g) 0 (p .pages) f hs ready 0 0 0 0)
       ∙ ap (replaced (p .places) f 0)
-      (placed (hashOf p g) p (probes-real p g) 0 (p .pages) f hs ready 0 0 .0
+      (placed (hashOf p g) p (probes-real p g) 0 (p .pages) f hs ready 0 0 0 .0
       ∙ ap (pages (hashOf p g) 0 (p .pages)) no-empty-star)
 
   -- .. so that comparing with what it fetches is comparing with the rule
-  pub spot-ruled : (pool′ planned′ W′ pool″ W″ : List ℕ) → applied (p .places) 0 (p .pages) 0 0 pool′ planned′ f ≡ ruled p g f
-      → length pool′ ≡ p .pages * p .places → length W′ ≡ p .pages * p .places → p .pages ≤ length planned′
+  pub spot-ruled : (pool′ planned′ W′ O′ pool″ W″ O″ : List ℕ) → applied (p .places) 0 (p .pages) 0 0 0 pool′ planned′ f ≡ ruled p g f
+      → length pool′ ≡ p .pages * p .places → length W′ ≡ p .pages * p .places → length O′ ≡ p .pages * p .places → p .pages ≤ length planned′
       → pool″ ≡ paste pool′ 0 (map (named (f .numbers) 0) (drop 0 pool′)) (p .pages * p .places)
       → W″ ≡ paste W′ 0 (map (named (f .words) 0) (drop 0 pool′)) (p .pages * p .places)
-      → spotIn (p .pages) (p .places) f (lent planned′ pool″ W″) ≡ firstSpot p f (ruled p g f)
+      → O″ ≡ paste O′ 0 (map (named (f .owners) 0) (drop 0 pool′)) (p .pages * p .places)
+      → spotIn (p .pages) (p .places) f (lent planned′ pool″ W″ O″) ≡ firstSpot p f (ruled p g f)
   unfolding firstSpot
-  spot-ruled pool′ planned′ W′ pool″ W″ e lp lw ld ep ew =
-      spot-alike (p .pages) (p .places) f (lent planned′ pool″ W″) (applied (p .places) 0 (p .pages) 0 0 pool′ planned′ f) alike
+  spot-ruled pool′ planned′ W′ O′ pool″ W″ O″ e lp lw lo ld ep ew eo =
+      spot-alike (p .pages) (p .places) f (lent planned′ pool″ W″ O″) (applied (p .places) 0 (p .pages) 0 0 0 pool′ planned′ f) alike
       ∙ ap (spotIn (p .pages) (p .places) f) e
     where
       -- the items fetched into d are the items applied to l
@@ -179,10 +181,11 @@ module _ (p : Parameters) (g : Growth) (f : File) (valid : validParameters p ≡
       separators-written : written 0 (take (p .pages) planned′) (f .separators) ≡ take (p .pages) planned′
       separators-written = written-whole (take (p .pages) planned′) (f .separators) (length-take-le (p .pages) planned′ ld ∙ sym (sized .ofSeparators))
 
-      alike : Alike (p .pages) (p .places) (lent planned′ pool″ W″) (applied (p .places) 0 (p .pages) 0 0 pool′ planned′ f)
+      alike : Alike (p .pages) (p .places) (lent planned′ pool″ W″ O″) (applied (p .places) 0 (p .pages) 0 0 0 pool′ planned′ f)
       alike = unfold applied in
           record {
             separators = λ q h. sym (ap (λ (s : List ℕ). getD s q 0) separators-written ∙ getD-take (p .pages) planned′ q 0 h);
             numbers = λ i h. ap (λ (s : List ℕ). getD s i 0) (ep ∙ fetched (f .numbers) pool′ (sized .ofNumbers) lp);
             words = λ i h. ap (λ (s : List ℕ). getD s i 0) (ew ∙ fetched (f .words) W′ (sized .ofWords) lw);
+            owners = λ i h. ap (λ (s : List ℕ). getD s i 0) (eo ∙ fetched (f .owners) O′ (sized .ofOwners) lo);
           }

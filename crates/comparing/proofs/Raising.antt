@@ -132,21 +132,22 @@ length-keep : {A : Type 0} (t : Bool) (x : A) (l : List A) → length (keep t x 
 length-keep true x l = omega arith
 length-keep false x l = omega arith
 
-count-stars : (q : ℕ → Bool) (ns ws : List ℕ) → length ns ≡ length ws
-    → length (filter (λ (n : ℕ). not (eqb n 0) && q n) ns) ≡ length (filter (λ (s : Star). q (s .number)) (starsOf ns ws))
+count-stars : (q : ℕ → Bool) (ns ws os : List ℕ) → length ns ≡ length ws → length ns ≡ length os
+    → length (filter (λ (n : ℕ). not (eqb n 0) && q n) ns) ≡ length (filter (λ (s : Star). q (s .number)) (starsOf ns ws os))
 unfolding filter starsOf
-count-stars q [] ws e = refl
-count-stars q (n ∷ ns) [] e = absurd (omega (arith, e))
-count-stars q (n ∷ ns) (w ∷ ws) e = go (eqb n 0) (count-stars q ns ws (omega (arith, e)))
+count-stars q [] ws os e eo = refl
+count-stars q (n ∷ ns) [] os e eo = absurd (omega (arith, e))
+count-stars q (n ∷ ns) (w ∷ ws) [] e eo = absurd (omega (arith, eo))
+count-stars q (n ∷ ns) (w ∷ ws) (o ∷ os) e eo = go (eqb n 0) (count-stars q ns ws os (omega (arith, e)) (omega (arith, eo)))
   where
-    go : (t : Bool) → length (filter (λ (m : ℕ). not (eqb m 0) && q m) ns) ≡ length (filter (λ (s : Star). q (s .number)) (starsOf ns ws))
+    go : (t : Bool) → length (filter (λ (m : ℕ). not (eqb m 0) && q m) ns) ≡ length (filter (λ (s : Star). q (s .number)) (starsOf ns ws os))
         → length (keep (not t && q n) n (filter (λ (m : ℕ). not (eqb m 0) && q m) ns))
-        ≡ length (filter (λ (s : Star). q (s .number)) (keep (not t) (record { number = n; word = w }) (starsOf ns ws)))
+        ≡ length (filter (λ (s : Star). q (s .number)) (keep (not t) (record { number = n; word = w; owner = o }) (starsOf ns ws os)))
     go true ih = ih
     go false ih =
         length-keep (q n) n (filter (λ (m : ℕ). not (eqb m 0) && q m) ns)
         ∙ ap (λ (k : ℕ). cond (q n) 1 0 + k) ih
-        ∙ sym (length-keep (q n) (record { number = n; word = w }) (filter (λ (s : Star). q (s .number)) (starsOf ns ws)))
+        ∙ sym (length-keep (q n) (record { number = n; word = w; owner = o }) (filter (λ (s : Star). q (s .number)) (starsOf ns ws os)))
 
 gathered-next : (b : ℕ) (f : File) (n : ℕ) → gathered b f 0 (suc n) ≡ pour (gathered b f 0 n) (pour (starsAt b f n) [])
 unfolding gathered
@@ -182,10 +183,11 @@ module _ (ok : ℕ → Bool) (H : Hash) (M : ℕ) (f : File) (sized : Sized (H .
   count-page : (p q : ℕ) → q < M → countOf H (f .separators) (f .numbers) p q ≡ length (filter (here p) (starsAt (H .room) f q))
   unfolding countOf starsAt
   count-page p q h =
-      count-stars (counted H (f .separators) p q) (part (H .room) q (f .numbers)) (part (H .room) q (f .words))
+      count-stars (counted H (f .separators) p q) (part (H .room) q (f .numbers)) (part (H .room) q (f .words)) (part (H .room) q (f .owners))
       (length-part (H .room) q M (f .numbers) (sized .ofNumbers) h ∙ sym (length-part (H .room) q M (f .words) (sized .ofWords) h))
+      (length-part (H .room) q M (f .numbers) (sized .ofNumbers) h ∙ sym (length-part (H .room) q M (f .owners) (sized .ofOwners) h))
       ∙ ap length
-      (filter-ext-on (λ (s : Star). counted H (f .separators) p q (s .number)) (here p) (starsOf (part (H .room) q (f .numbers)) (part (H .room) q (f .words)))
+      (filter-ext-on (λ (s : Star). counted H (f .separators) p q (s .number)) (here p) (starsOf (part (H .room) q (f .numbers)) (part (H .room) q (f .words)) (part (H .room) q (f .owners)))
       (λ s m. ap (λ (r : ℕ). counted H (f .separators) p r (s .number)) (sym (all q (omega arith) (omega arith) .here s m))))
 
   count-pages : (p n : ℕ) → n ≤ M → countTo H (f .separators) (f .numbers) p n ≡ length (filter (here p) (gathered (H .room) f 0 n))

@@ -27,14 +27,17 @@ fn compare_planned(
     separators: &[u8],
     numbers: &[u32],
     words: &[u64],
+    owners: &[u8],
     pool: &mut [u32],
     waiting: &mut [u64],
+    poolowners: &mut [u8],
 ) -> Spot
-    requires { ⌜ Ready geometry (firstMultipliers (multiplierOf (geometry .parameters))) (held separators numbers words) ⌝ }
-    requires { ⌜ firstUnsound (geometry .parameters) (geometry .growth) (held separators numbers words) 0 (geometry .parameters .pages) ≡ geometry .parameters .pages ⌝ }
+    requires { ⌜ Ready geometry (firstMultipliers (multiplierOf (geometry .parameters))) (held separators numbers words owners) ⌝ }
+    requires { ⌜ firstUnsound (geometry .parameters) (geometry .growth) (held separators numbers words owners) 0 (geometry .parameters .pages) ≡ geometry .parameters .pages ⌝ }
     requires { ⌜ now pool ≡ homesOf (geometry .parameters) (geometry .growth) (now numbers) ⌝ }
     requires { ⌜ length (now waiting) ≡ geometry .parameters .pages * geometry .parameters .places ⌝ }
-    ensures { λ r. ⌜ r .page * suc (geometry .parameters .places) + r .place ≡ spotOf (geometry .parameters) (geometry .growth) (before separators numbers words) ⌝ }
+    requires { ⌜ length (now poolowners) ≡ geometry .parameters .pages * geometry .parameters .places ⌝ }
+    ensures { λ r. ⌜ r .page * suc (geometry .parameters .places) + r .place ≡ spotOf (geometry .parameters) (geometry .growth) (before separators numbers words owners) ⌝ }
     ensures { λ r. ⌜ r .place ≤ geometry .parameters .places ⌝ }
 {
     let places = geometry.parameters.places as usize;
@@ -51,14 +54,28 @@ fn compare_planned(
         0,
         0,
     );
-    planning::fetch(numbers, words, pool, waiting, 0, pages * places, 0, 0);
+    planning::fetch(
+        numbers,
+        words,
+        owners,
+        pool,
+        waiting,
+        poolowners,
+        0,
+        pages * places,
+        0,
+        0,
+        0,
+    );
     compare(
         separators,
         numbers,
         words,
+        owners,
         &planned,
         pool,
         waiting,
+        poolowners,
         pages,
         places,
     )
@@ -71,22 +88,43 @@ pub fn check_file(
     separators: &[u8],
     numbers: &[u32],
     words: &[u64],
+    owners: &[u8],
     pool: &mut [u32],
     waiting: &mut [u64],
+    poolowners: &mut [u8],
 ) -> Verdict
-    requires { ⌜ Ready geometry (now table) (held separators numbers words) ⌝ }
-    requires { ⌜ Pooled (geometry .parameters) (now pool) (now waiting) ⌝ }
-    ensures { λ r. ⌜ r ≡ verdictFor (geometry .parameters) (geometry .growth) (before separators numbers words) ⌝ }
+    requires { ⌜ Ready geometry (now table) (held separators numbers words owners) ⌝ }
+    requires { ⌜ Pooled (geometry .parameters) (now pool) (now waiting) (now poolowners) ⌝ }
+    ensures { λ r. ⌜ r ≡ verdictFor (geometry .parameters) (geometry .growth) (before separators numbers words owners) ⌝ }
 {
     let pages = geometry.parameters.pages as usize;
-    let unsound = reach::survey_pages(table, geometry, separators, numbers, words, pool, 0, pages);
+    let unsound = reach::survey_pages(
+        table,
+        geometry,
+        separators,
+        numbers,
+        words,
+        owners,
+        pool,
+        0,
+        pages,
+    );
     if unsound < pages {
         return Verdict::Unsound(unsound);
     }
     if pages <= first_raisable(geometry, separators, numbers, pool) {
         return Verdict::Clean;
     }
-    let spot = compare_planned(geometry, separators, numbers, words, pool, waiting);
+    let spot = compare_planned(
+        geometry,
+        separators,
+        numbers,
+        words,
+        owners,
+        pool,
+        waiting,
+        poolowners,
+    );
     if spot.page < pages {
         return Verdict::Differs {
             page: spot.page,

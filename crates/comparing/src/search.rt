@@ -16,16 +16,19 @@ pub fn compare(
     separators: &[u8],
     numbers: &[u32],
     words: &[u64],
+    owners: &[u8],
     planned: &[u8],
     plannednumbers: &[u32],
     plannedwords: &[u64],
+    plannedowners: &[u8],
     pages: usize,
     places: usize,
 ) -> Spot
     requires { ⌜ (pages ≤ length (now separators)) × (pages ≤ length (now planned)) ⌝ }
     requires { ⌜ (pages * places ≤ length (now numbers)) × (pages * places ≤ length (now plannednumbers)) ⌝ }
     requires { ⌜ (pages * places ≤ length (now words)) × (pages * places ≤ length (now plannedwords)) ⌝ }
-    ensures { λ r. ⌜ r .page * suc places + r .place ≡ spotIn pages places (before separators numbers words) (before planned plannednumbers plannedwords) ⌝ }
+    requires { ⌜ (pages * places ≤ length (now owners)) × (pages * places ≤ length (now plannedowners)) ⌝ }
+    ensures { λ r. ⌜ r .page * suc places + r .place ≡ spotIn pages places (before separators numbers words owners) (before planned plannednumbers plannedwords plannedowners) ⌝ }
     ensures { λ r. ⌜ r .place ≤ places ⌝ }
 {
     let mut page = 0;
@@ -37,6 +40,9 @@ pub fn compare(
                 break 'pages;
             }
             if words[item] != plannedwords[item] {
+                break 'pages;
+            }
+            if owners[item] != plannedowners[item] {
                 break 'pages;
             }
             place += 1;

@@ -122,77 +122,80 @@ ends-way true u stop bad last x y z e = absurd (unsound-ends bad stop (sym e))
 ends-way false true stop bad last x y z e = (cc, refl, refl)
 ends-way false false stop bad last x y z e = absurd (overflows-ends stop (sym e))
 
-module _ (p : Parameters) (g : Growth) (f : File) (k word : ℕ) where
+module _ (p : Parameters) (g : Growth) (f : File) (k word owner : ℕ) where
   abbrev unsoundHere : Bool
-  unsoundHere = ltb (unsoundOf p g f k word) (startOf p g k + countOf p g f k word)
+  unsoundHere = ltb (unsoundOf p g f (newStar k word owner)) (startOf p g k + countOf p g f (newStar k word owner))
 
   abbrev entersHere : Bool
-  entersHere = entersWithin (hash p g) f (newStar k word) (endOf p g f k word)
+  entersHere = entersWithin (hash p g) f (newStar k word owner) (endOf p g f (newStar k word owner))
 
-  pub unsound-answer : (page : ℕ) → Unsound page ≡ reachAnswer p g f k word → (entered·Unsound page ≡ entryAnswer p g f k word) × (f ≡ entryFile p g f k word)
+  pub unsound-answer : (page : ℕ) → Unsound page ≡ reachAnswer p g f (newStar k word owner) → (entered·Unsound page ≡ entryAnswer p g f (newStar k word owner)) × (f ≡ entryFile p g f (newStar k word owner))
   unfolding reachAnswer entryAnswer entryFile
   unsound-answer page e =
-      let a = unsound-way unsoundHere entersHere page (unsoundOf p g f k word) (endOf p g f k word) (entered·Unsound (unsoundOf p g f k word)) (On (holding k (startOf p g k) (contentsOf p g f k word))) entered·Overflows e in
-      let b = unsound-way unsoundHere entersHere page (unsoundOf p g f k word) (endOf p g f k word) f (replaced (p .places) f (startOf p g k) (contentsOf p g f k word)) f e in
+      let a = unsound-way unsoundHere entersHere page (unsoundOf p g f (newStar k word owner)) (endOf p g f (newStar k word owner)) (entered·Unsound (unsoundOf p g f (newStar k word owner))) (On (holding k (startOf p g k) (contentsOf p g f (newStar k word owner)))) entered·Overflows e in
+      let b = unsound-way unsoundHere entersHere page (unsoundOf p g f (newStar k word owner)) (endOf p g f (newStar k word owner)) f (replaced (p .places) f (startOf p g k) (contentsOf p g f (newStar k word owner))) f e in
       (ap entered·Unsound (a .0) ∙ sym (a .1), sym (b .1))
 
-  pub overflows-answer : Overflows ≡ reachAnswer p g f k word → (entered·Overflows ≡ entryAnswer p g f k word) × (f ≡ entryFile p g f k word)
+  pub overflows-answer : Overflows ≡ reachAnswer p g f (newStar k word owner) → (entered·Overflows ≡ entryAnswer p g f (newStar k word owner)) × (f ≡ entryFile p g f (newStar k word owner))
   unfolding reachAnswer entryAnswer entryFile
   overflows-answer e = (
-    sym (overflows-way unsoundHere entersHere (unsoundOf p g f k word) (endOf p g f k word) (entered·Unsound (unsoundOf p g f k word)) (On (holding k (startOf p g k) (contentsOf p g f k word))) entered·Overflows e),
-    sym (overflows-way unsoundHere entersHere (unsoundOf p g f k word) (endOf p g f k word) f (replaced (p .places) f (startOf p g k) (contentsOf p g f k word)) f e),
+    sym (overflows-way unsoundHere entersHere (unsoundOf p g f (newStar k word owner)) (endOf p g f (newStar k word owner)) (entered·Unsound (unsoundOf p g f (newStar k word owner))) (On (holding k (startOf p g k) (contentsOf p g f (newStar k word owner)))) entered·Overflows e),
+    sym (overflows-way unsoundHere entersHere (unsoundOf p g f (newStar k word owner)) (endOf p g f (newStar k word owner)) f (replaced (p .places) f (startOf p g k) (contentsOf p g f (newStar k word owner))) f e),
   )
 
-  module _ (last : ℕ) (e : Ends last ≡ reachAnswer p g f k word) where
-    file-way : (last ≡ endOf p g f k word) × (entersHere ≡ true) × (entryFile p g f k word ≡ replaced (p .places) f (startOf p g k) (contentsOf p g f k word))
+  module _ (last : ℕ) (e : Ends last ≡ reachAnswer p g f (newStar k word owner)) where
+    file-way : (last ≡ endOf p g f (newStar k word owner)) × (entersHere ≡ true) × (entryFile p g f (newStar k word owner) ≡ replaced (p .places) f (startOf p g k) (contentsOf p g f (newStar k word owner)))
     unfolding reachAnswer entryFile
-    file-way = ends-way unsoundHere entersHere last (unsoundOf p g f k word) (endOf p g f k word) f (replaced (p .places) f (startOf p g k) (contentsOf p g f k word)) f e
+    file-way = ends-way unsoundHere entersHere last (unsoundOf p g f (newStar k word owner)) (endOf p g f (newStar k word owner)) f (replaced (p .places) f (startOf p g k) (contentsOf p g f (newStar k word owner))) f e
 
     pub last-least : startOf p g k ≤ last
     unfolding entryEnd
-    last-least = rw (file-way .0) (such (ending p g f k word) (startOf p g k) (p .pages - 1 - startOf p g k) .low)
+    last-least = rw (file-way .0) (such (ending p g f (newStar k word owner)) (startOf p g k) (p .pages - 1 - startOf p g k) .low)
 
-    nothing-left : left (hash p g) (startOf p g k) (countOf p g f k word) (entering (hash p g) f (newStar k word) (endOf p g f k word)) ≡ []
+    nothing-left : left (hash p g) (startOf p g k) (countOf p g f (newStar k word owner)) (entering (hash p g) f (newStar k word owner) (endOf p g f (newStar k word owner))) ≡ []
     unfolding entersWithin
-    nothing-left = empty-is (left (hash p g) (startOf p g k) (countOf p g f k word) (entering (hash p g) f (newStar k word) (endOf p g f k word))) (file-way .1)
+    nothing-left = empty-is (left (hash p g) (startOf p g k) (countOf p g f (newStar k word owner)) (entering (hash p g) f (newStar k word owner) (endOf p g f (newStar k word owner)))) (file-way .1)
 
-    new-waits : List·Memᴰ (newStar k word) (entering (hash p g) f (newStar k word) (endOf p g f k word))
+    new-waits : List·Memᴰ (newStar k word owner) (entering (hash p g) f (newStar k word owner) (endOf p g f (newStar k word owner)))
     unfolding entering
-    new-waits = inserted (newStar k word) (gathered (hash p g .room) f (startOf p g k) (countOf p g f k word))
+    new-waits = inserted (newStar k word owner) (gathered (hash p g .room) f (startOf p g k) (countOf p g f (newStar k word owner)))
 
     -- the page that the new separators name
-    pub named-holds : startOf p g k ≤ length (f .separators) → namedPage p g (entryFile p g f k word .separators) k ≡ holding k (startOf p g k) (contentsOf p g f k word)
+    pub named-holds : startOf p g k ≤ length (f .separators) → namedPage p g (entryFile p g f (newStar k word owner) .separators) k ≡ holding k (startOf p g k) (contentsOf p g f (newStar k word owner))
     unfolding namedPage replaced
     named-holds h =
-        let r = held-first (hash p g) (startOf p g k) (countOf p g f k word) (entering (hash p g) f (newStar k word) (endOf p g f k word)) (newStar k word) nothing-left new-waits in
+        let r = held-first (hash p g) (startOf p g k) (countOf p g f (newStar k word owner)) (entering (hash p g) f (newStar k word owner) (endOf p g f (newStar k word owner))) (newStar k word owner) nothing-left new-waits in
         ap (λ (x : File). first (hash p g) 0 (x .separators) k) (file-way .2)
-        ∙ first-written (hash p g) (startOf p g k) k (separators (contentsOf p g f k word)) (f .separators) refl h
-        (omega (arith, r .1, length-separators (contentsOf p g f k word), length-pages (hash p g) (startOf p g k) (countOf p g f k word) (entering (hash p g) f (newStar k word) (endOf p g f k word))))
+        ∙ first-written (hash p g) (startOf p g k) k (separators (contentsOf p g f (newStar k word owner))) (f .separators) refl h
+        (omega (arith, r .1, length-separators (contentsOf p g f (newStar k word owner)), length-pages (hash p g) (startOf p g k) (countOf p g f (newStar k word owner)) (entering (hash p g) f (newStar k word owner) (endOf p g f (newStar k word owner)))))
         ∙ sym (r .0)
 
-    pub ends-answer : (page : ℕ) → page ≡ holding k (startOf p g k) (contentsOf p g f k word) → On page ≡ entryAnswer p g f k word
+    pub ends-answer : (page : ℕ) → page ≡ holding k (startOf p g k) (contentsOf p g f (newStar k word owner)) → On page ≡ entryAnswer p g f (newStar k word owner)
     unfolding reachAnswer entryAnswer
     ends-answer page h =
         ap On h
-        ∙ sym (ends-way unsoundHere entersHere last (unsoundOf p g f k word) (endOf p g f k word) (entered·Unsound (unsoundOf p g f k word)) (On (holding k (startOf p g k) (contentsOf p g f k word))) entered·Overflows e .2)
+        ∙ sym (ends-way unsoundHere entersHere last (unsoundOf p g f (newStar k word owner)) (endOf p g f (newStar k word owner)) (entered·Unsound (unsoundOf p g f (newStar k word owner))) (On (holding k (startOf p g k) (contentsOf p g f (newStar k word owner)))) entered·Overflows e .2)
 
 -- ---- the lists that applying the plan leaves
 
-pub lists-applied : (places lo count k word : ℕ) (pool planned : List ℕ) (f : File) (s n w : List ℕ) → s ≡ written lo (take count (drop lo planned)) (f .separators)
+pub lists-applied : (places lo count k word owner : ℕ) (pool planned : List ℕ) (f : File) (s n w o : List ℕ) → s ≡ written lo (take count (drop lo planned)) (f .separators)
     → n ≡ written (lo * places) (map (named (f .numbers) k) (stretch places lo count pool)) (f .numbers)
     → w ≡ written (lo * places) (map (named (f .words) word) (stretch places lo count pool)) (f .words)
-    → lent s n w ≡ applied places lo count k word pool planned f
+    → o ≡ written (lo * places) (map (named (f .owners) owner) (stretch places lo count pool)) (f .owners)
+    → lent s n w o ≡ applied places lo count k word owner pool planned f
 unfolding applied
-lists-applied places lo count k word pool planned f s n w es en ew = λ i. record { separators = es i; numbers = en i; words = ew i }
+lists-applied places lo count k word owner pool planned f s n w o es en ew eo = λ i. record { separators = es i; numbers = en i; words = ew i; owners = eo i }
 
-module _ (p : Parameters) (g : Growth) (f : File) (k word : ℕ) (pool planned : List ℕ) (last : ℕ) (e : Ends last ≡ reachAnswer p g f k word) where
-  pub entry-file : Applies p g f k pool planned (Ends last) → (s n w : List ℕ)
+module _ (p : Parameters) (g : Growth) (f : File) (k word owner : ℕ) (pool planned : List ℕ) (last : ℕ) (e : Ends last ≡ reachAnswer p g f (newStar k word owner)) where
+  abbrev Applied : List ℕ → ℕ → List ℕ → Type 0
+  Applied l new d = d ≡ written (startOf p g k * p .places) (map (named l new) (stretch (p .places) (startOf p g k) (last + 1 - startOf p g k) pool)) l
+
+  pub entry-file : Applies p g f k pool planned (Ends last) → (s n w o : List ℕ)
       → s ≡ written (startOf p g k) (take (last + 1 - startOf p g k) (drop (startOf p g k) planned)) (f .separators)
-      → n ≡ written (startOf p g k * p .places) (map (named (f .numbers) k) (stretch (p .places) (startOf p g k) (last + 1 - startOf p g k) pool)) (f .numbers)
-      → w ≡ written (startOf p g k * p .places) (map (named (f .words) word) (stretch (p .places) (startOf p g k) (last + 1 - startOf p g k) pool)) (f .words)
-      → lent s n w ≡ entryFile p g f k word
-  entry-file applies s n w es en ew =
-      let count : last + 1 - startOf p g k ≡ pagesTo (startOf p g k) last = omega (arith, last-least p g f k word last e) in
-      lists-applied (p .places) (startOf p g k) (last + 1 - startOf p g k) k word pool planned f s n w es en ew
-      ∙ ap (λ (m : ℕ). applied (p .places) (startOf p g k) m k word pool planned f) count
-      ∙ applies word last refl .1
+      → Applied (f .numbers) k n → Applied (f .words) word w → Applied (f .owners) owner o
+      → lent s n w o ≡ entryFile p g f (newStar k word owner)
+  entry-file applies s n w o es en ew eo =
+      let count : last + 1 - startOf p g k ≡ pagesTo (startOf p g k) last = omega (arith, last-least p g f k word owner last e) in
+      lists-applied (p .places) (startOf p g k) (last + 1 - startOf p g k) k word owner pool planned f s n w o es en ew eo
+      ∙ ap (λ (m : ℕ). applied (p .places) (startOf p g k) m k word owner pool planned f) count
+      ∙ applies word owner last refl .1

@@ -137,7 +137,7 @@ module _ (p : Parameters) (g : Growth) (f : File) (valid : validParameters p ≡
       item-is : (l : List ℕ) → getD (stretch (p .places) lo n l) i 0 ≡ getD l (pageOf * p .places + i % p .places) 0
       item-is l = getD-take (n * p .places) (drop (lo * p .places) l) i 0 h ∙ getD-drop (lo * p .places) l i 0 ∙ ap (λ (k : ℕ). getD l k 0) (sym placed)
 
-      item-there : ItemOn p g f pageOf (getD (blockNumbers p f lo n) i 0) (getD (f .words) (pageOf * p .places + i % p .places) 0)
+      item-there : ItemOn p g f pageOf (getD (blockNumbers p f lo n) i 0) (getD (f .words) (pageOf * p .places + i % p .places) 0) (getD (f .owners) (pageOf * p .places + i % p .places) 0)
       item-there =
           rw (item-is (f .numbers))
           (item-on p g f pageOf sized page-inside page-sound (i % p .places) (mod-lt i some))
@@ -146,10 +146,12 @@ module _ (p : Parameters) (g : Growth) (f : File) (valid : validParameters p ≡
       item-held : (getD (blockNumbers p f lo n) i 0 ≡ 0 → ⊥) → heldAt (getD (blockNumbers p f lo n) i 0) (part (p .places) pageOf (f .numbers)) ≡ true
       unfolding hashOf
       item-held star =
-          let ln : length (part (p .places) pageOf (f .numbers)) ≡ p .places = part-length (p .places) pageOf (f .numbers) (page-fits (p .places) (p .pages) pageOf page-inside (sized .ofNumbers)) in
-          let lw : length (part (p .places) pageOf (f .words)) ≡ p .places = part-length (p .places) pageOf (f .words) (page-fits (p .places) (p .pages) pageOf page-inside (sized .ofWords)) in
+          let long : (l : List ℕ) → length l ≡ p .pages * p .places → length (part (p .places) pageOf l) ≡ p .places
+          = λ l e. part-length (p .places) pageOf l (page-fits (p .places) (p .pages) pageOf page-inside e) in
+          let ln : length (part (p .places) pageOf (f .numbers)) ≡ p .places = long (f .numbers) (sized .ofNumbers) in
           held-at 0 (getD (blockNumbers p f lo n) i 0) (part (p .places) pageOf (f .numbers)) (i % p .places)
-          (orderly-numbers validWord 0 (part (p .places) pageOf (f .numbers)) (part (p .places) pageOf (f .words)) (omega arith) (ln ∙ sym lw) (real-facts p g f pageOf page-sound .inOrder))
+          (orderly-numbers validWord 0 (part (p .places) pageOf (f .numbers)) (part (p .places) pageOf (f .words)) (part (p .places) pageOf (f .owners)) (omega arith)
+          (ln ∙ sym (long (f .words) (sized .ofWords)), ln ∙ sym (long (f .owners) (sized .ofOwners))) (real-facts p g f pageOf page-sound .inOrder))
           (omega (arith, star)) (omega (arith, mod-lt i some, ln))
           (part-item (p .places) pageOf (f .numbers) (i % p .places) (mod-lt i some) ∙ sym (item-is (f .numbers)))
 

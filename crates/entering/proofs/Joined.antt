@@ -28,7 +28,7 @@ use Rattle.waiting.proofs.Items.{words-count, words-length}
 use Rattle.planning.specs.Plans.{plans, remains, waits}
 use Rattle.planning.specs.Sources.{named, renamed, sourced}
 use Rattle.planning.proofs.Applying.{renamed-keeps}
-use Rattle.planning.proofs.Sourcing.{true-stars, new-star, named-last}
+use Rattle.planning.proofs.Sourcing.{true-stars, new-star, named-past}
 use Rattle.planning.proofs.Placed.{probes-real, new-homed, new-near, new-sourced, stretch-words-add, left-count}
 use Rattle.planning.proofs.Placed.{planned-pages as words-planned}
 use Rattle.entering.specs.Entry.{Unheld, hash, newStar, startOf, blockNumbers, blockWords}
@@ -75,23 +75,22 @@ module _ (p : Parameters) (g : Growth) (f : File) (k : ℕ) (valid : validParame
   new-named = new-sourced (f .numbers) (startOf p g k) k small few
 
   -- past the items a source names the new star
-  past-items : (word : ℕ) → named (f .words) word (length (f .numbers) + 1) ≡ word
-  past-items word =
-      let same : length (f .numbers) + 1 ≡ suc (length (f .words)) = omega (arith, sized .ofNumbers, sized .ofWords) in
-      ap (named (f .words) word) same ∙ named-last (f .words) word
+  past-items : (l : List ℕ) (new : ℕ) → length l ≡ p .pages * p .places → named l new (length (f .numbers) + 1) ≡ new
+  past-items l new e = named-past l new (length (f .numbers) + 1) (omega (arith, sized .ofNumbers, e))
 
   module _ (n : ℕ) (inside : startOf p g k + n ≤ p .pages) (sound : (q : ℕ) → startOf p g k ≤ q → q < startOf p g k + n → soundAt p g f q ≡ true) where
     sums : (startOf p g k + n) * p .places ≤ p .pages * p .places
     sums = mul-le-mul-right (p .places) inside
 
-    stars-there : (word : ℕ) → map (renamed (f .words) word) (waits (blockWords p g f (startOf p g k) n)) ≡ without 0 (gathered (p .places) f (startOf p g k) n)
+    stars-there : (word owner : ℕ) → map (renamed (f .words) (f .owners) word owner) (waits (blockWords p g f (startOf p g k) n)) ≡ without 0 (gathered (p .places) f (startOf p g k) n)
     unfolding blockWords homesOf
-    stars-there word =
-        true-stars (p .places) (startOf p g k) n 0 word f (map (homeIn p g) (f .numbers))
+    stars-there word owner =
+        true-stars (p .places) (startOf p g k) n 0 word owner f (map (homeIn p g) (f .numbers))
         (numbers-below p g f valid sized (startOf p g k) n inside sound)
         (omega (arith, few, sums))
         (omega (arith, sums, sized .ofNumbers))
         (omega (arith, sums, sized .ofWords))
+        (omega (arith, sums, sized .ofOwners))
         (omega (arith, sums, sized .ofNumbers, length-map (f .numbers) (homeIn p g)))
 
     all-sound : AllSound validWord (hash p g) f (startOf p g k) n
@@ -104,17 +103,16 @@ module _ (p : Parameters) (g : Growth) (f : File) (k : ℕ) (valid : validParame
         filter-all-on (λ (s : Star). not (eqb (s .number) 0)) (gathered (p .places) f (startOf p g k) n)
         (λ s m. ap not (ne-eqb (s .number) 0 (λ e. omega (arith, e, gathered-proper validWord (hash p g) f (startOf p g k) n all-sound s m .0))))
 
-    -- the stars that wait, with the words that their sources name
-    pub stars-are : (word : ℕ) → map (renamed (f .words) word) (waits (newWord p g f k ∷ blockWords p g f (startOf p g k) n)) ≡ insert (newStar k word) (gathered (p .places) f (startOf p g k) n)
+    -- the stars that wait, with the words and owners that their sources name
+    pub stars-are : (word owner : ℕ) → map (renamed (f .words) (f .owners) word owner) (waits (newWord p g f k ∷ blockWords p g f (startOf p g k) n)) ≡ insert (newStar k word owner) (gathered (p .places) f (startOf p g k) n)
     unfolding blockWords
-    stars-are word =
-        new-star (f .words) word (startOf p g k) k (length (f .numbers) + 1) (blockWords p g f (startOf p g k) n) small few (block-fresh p g f valid sized (startOf p g k) n inside sound k unheld)
-        ∙ ap (λ (w : ℕ). insert (record { number = k; word = w }) (map (renamed (f .words) word) (waits (blockWords p g f (startOf p g k) n)))) (past-items word)
-        ∙ ap (insert (newStar k word)) (stars-there word ∙ all-numbered)
+    stars-are word owner =
+        new-star (f .words) (f .owners) word owner (startOf p g k) k (length (f .numbers) + 1) (blockWords p g f (startOf p g k) n) small few (block-fresh p g f valid sized (startOf p g k) n inside sound k unheld)
+        ∙ rw (past-items (f .words) word (sized .ofWords), past-items (f .owners) owner (sized .ofOwners), stars-there word owner, all-numbered)
 
-    pub waited : (word : ℕ) → length (insert (newStar k word) (gathered (p .places) f (startOf p g k) n)) ≡ suc (length (blockWords p g f (startOf p g k) n))
-    waited word =
-        left-count (renamed (f .words) word) (newWord p g f k ∷ blockWords p g f (startOf p g k) n) (insert (newStar k word) (gathered (p .places) f (startOf p g k) n)) (stars-are word)
+    pub waited : (word owner : ℕ) → length (insert (newStar k word owner) (gathered (p .places) f (startOf p g k) n)) ≡ suc (length (blockWords p g f (startOf p g k) n))
+    waited word owner =
+        left-count (renamed (f .words) (f .owners) word owner) (newWord p g f k ∷ blockWords p g f (startOf p g k) n) (insert (newStar k word owner) (gathered (p .places) f (startOf p g k) n)) (stars-are word owner)
 
     tied : (plansTo p g f k n ≡ pages (hash p g) (startOf p g k) n (waits (newWord p g f k ∷ blockWords p g f (startOf p g k) n)))
         × (waits (remainsTo p g f k n) ≡ left (hash p g) (startOf p g k) n (waits (newWord p g f k ∷ blockWords p g f (startOf p g k) n)))
@@ -124,17 +122,17 @@ module _ (p : Parameters) (g : Growth) (f : File) (k : ℕ) (valid : validParame
         (block-homed p g f valid sized (startOf p g k) n inside (numbers-below p g f valid sized (startOf p g k) n inside sound))
         (block-grouped p g f valid sized (startOf p g k) n inside sound)
 
-    pub planned-pages : (word : ℕ) → pages (hash p g) (startOf p g k) n (insert (newStar k word) (gathered (p .places) f (startOf p g k) n)) ≡ map (mapped (renamed (f .words) word)) (plansTo p g f k n)
-    planned-pages word =
-        ap (pages (hash p g) (startOf p g k) n) (sym (stars-are word))
-        ∙ pages-map (renamed (f .words) word) (renamed-keeps (f .words) word) (hash p g) (startOf p g k) n (waits (newWord p g f k ∷ blockWords p g f (startOf p g k) n))
-        ∙ ap (map (mapped (renamed (f .words) word))) (sym (tied .0))
+    pub planned-pages : (word owner : ℕ) → pages (hash p g) (startOf p g k) n (insert (newStar k word owner) (gathered (p .places) f (startOf p g k) n)) ≡ map (mapped (renamed (f .words) (f .owners) word owner)) (plansTo p g f k n)
+    planned-pages word owner =
+        ap (pages (hash p g) (startOf p g k) n) (sym (stars-are word owner))
+        ∙ pages-map (renamed (f .words) (f .owners) word owner) (renamed-keeps (f .words) (f .owners) word owner) (hash p g) (startOf p g k) n (waits (newWord p g f k ∷ blockWords p g f (startOf p g k) n))
+        ∙ ap (map (mapped (renamed (f .words) (f .owners) word owner))) (sym (tied .0))
 
-    pub planned-left : (word : ℕ) → left (hash p g) (startOf p g k) n (insert (newStar k word) (gathered (p .places) f (startOf p g k) n)) ≡ map (renamed (f .words) word) (waits (remainsTo p g f k n))
-    planned-left word =
-        ap (left (hash p g) (startOf p g k) n) (sym (stars-are word))
-        ∙ left-map (renamed (f .words) word) (renamed-keeps (f .words) word) (hash p g) (startOf p g k) n (waits (newWord p g f k ∷ blockWords p g f (startOf p g k) n))
-        ∙ ap (map (renamed (f .words) word)) (sym (tied .1))
+    pub planned-left : (word owner : ℕ) → left (hash p g) (startOf p g k) n (insert (newStar k word owner) (gathered (p .places) f (startOf p g k) n)) ≡ map (renamed (f .words) (f .owners) word owner) (waits (remainsTo p g f k n))
+    planned-left word owner =
+        ap (left (hash p g) (startOf p g k) n) (sym (stars-are word owner))
+        ∙ left-map (renamed (f .words) (f .owners) word owner) (renamed-keeps (f .words) (f .owners) word owner) (hash p g) (startOf p g k) n (waits (newWord p g f k ∷ blockWords p g f (startOf p g k) n))
+        ∙ ap (map (renamed (f .words) (f .owners) word owner)) (sym (tied .1))
 
     pub block-named : sourced (f .numbers) k (blockWords p g f (startOf p g k) n) ≡ true
     block-named = block-sourced p g f valid sized (startOf p g k) n inside k (numbers-below p g f valid sized (startOf p g k) n inside sound)
@@ -148,13 +146,13 @@ module _ (p : Parameters) (g : Growth) (f : File) (k : ℕ) (valid : validParame
 
   -- the waiting stars are no more than the list holds, or the pages are too few
   pub crowds : (d m : ℕ) → startOf p g k + (d + m) ≤ p .pages → ((q : ℕ) → startOf p g k ≤ q → q < startOf p g k + (d + m) → soundAt p g f q ≡ true)
-      → (word : ℕ) → length (remainsTo p g f k d) + starsIn 0 (blockNumbers p f (startOf p g k + d) m) ≤ length (insert (newStar k word) (gathered (p .places) f (startOf p g k) (d + m)))
-  crowds d m inside sound word =
+      → (word owner : ℕ) → length (remainsTo p g f k d) + starsIn 0 (blockNumbers p f (startOf p g k + d) m) ≤ length (insert (newStar k word owner) (gathered (p .places) f (startOf p g k) (d + m)))
+  crowds d m inside sound word owner =
       omega (
         arith,
-        waited d (omega arith) first-sound word,
-        waited (d + m) inside sound word,
-        left-count (renamed (f .words) word) (remainsTo p g f k d) (left (hash p g) (startOf p g k) d (stars d)) (sym (planned-left d (omega arith) first-sound word)),
+        waited d (omega arith) first-sound word owner,
+        waited (d + m) inside sound word owner,
+        left-count (renamed (f .words) (f .owners) word owner) (remainsTo p g f k d) (left (hash p g) (startOf p g k) d (stars d)) (sym (planned-left d (omega arith) first-sound word owner)),
         length-left (hash p g) (startOf p g k) d (stars d),
         ap length (words-add p g f sized (startOf p g k) d m (omega arith)),
         length-append (blockWords p g f (startOf p g k) d) (blockWords p g f (startOf p g k + d) m),
@@ -162,18 +160,18 @@ module _ (p : Parameters) (g : Growth) (f : File) (k : ℕ) (valid : validParame
       )
     where
       stars : ℕ → List Star
-      stars n = insert (newStar k word) (gathered (p .places) f (startOf p g k) n)
+      stars n = insert (newStar k word owner) (gathered (p .places) f (startOf p g k) n)
 
       first-sound : (q : ℕ) → startOf p g k ≤ q → q < startOf p g k + d → soundAt p g f q ≡ true
       first-sound q a b = sound q a (omega arith)
 
   pub few-stars : (n : ℕ) → startOf p g k + n ≤ p .pages → ((q : ℕ) → startOf p g k ≤ q → q < startOf p g k + n → soundAt p g f q ≡ true)
-      → (word : ℕ) → length (insert (newStar k word) (gathered (p .places) f (startOf p g k) n)) ≤ suc (n * p .places)
+      → (word owner : ℕ) → length (insert (newStar k word owner) (gathered (p .places) f (startOf p g k) n)) ≤ suc (n * p .places)
   unfolding blockWords
-  few-stars n inside sound word =
+  few-stars n inside sound word owner =
       omega (
         arith,
-        waited n inside sound word,
+        waited n inside sound word owner,
         words-length (startOf p g k * p .places) 0 (blockNumbers p f (startOf p g k) n) (stretch (p .places) (startOf p g k) n (homesOf p g (f .numbers))),
         numbers-count p g f valid sized (startOf p g k) n inside,
       )

@@ -49,8 +49,8 @@ pub overflows-ends : (last : ℕ) → Overflows ≡ Ends last → ⊥
 overflows-ends last e = let z : _≡_ {A = ℕ} 0 1 = cc in omega arith
 
 -- a page at which the reach may end
-abbrev pub ending : Parameters → Growth → File → ℕ → ℕ → ℕ → Bool
-ending p g f k word q = storedTop (f .separators) (hash p g .top) q && entersWithin (hash p g) f (newStar k word) q
+abbrev pub ending : Parameters → Growth → File → Star → ℕ → Bool
+ending p g f s q = storedTop (f .separators) (hash p g .top) q && entersWithin (hash p g) f s q
 
 -- d pages from home on are sound and planned
 pub record Spanned (p : Parameters) (g : Growth) (f : File) (k : ℕ) (pool planned W : List ℕ) (d carried : ℕ) : Type 0 where
@@ -65,7 +65,7 @@ pub record Reached (p : Parameters) (g : Growth) (f : File) (k : ℕ) (pool plan
   pub inside : lo < p .pages
   pub spanned : Spanned p g f k pool planned W done carried
   pub ended : (e : ℕ) → startOf p g k ≤ e → suc e ≡ lo → getD (f .separators) e 0 ≡ hash p g .top
-  pub passed : (word q : ℕ) → startOf p g k ≤ q → q < lo → ending p g f k word q ≡ false
+  pub passed : (word owner q : ℕ) → startOf p g k ≤ q → q < lo → ending p g f (newStar k word owner) q ≡ false
 
 and-false : (s t : Bool) → s ≡ false → s && t ≡ false
 and-false s t e = rw e
@@ -115,9 +115,9 @@ module _ (p : Parameters) (g : Growth) (f : File) (k last : ℕ) (least : startO
       }))
 
   -- what the reach that ends at `last` decides
-  pub by-reach : {A : Type 0} (word : ℕ) (t : Bool) (unsound overflows enters : A) → endOf p g f k word ≡ last → entersWithin (hash p g) f (newStar k word) last ≡ t
-      → byReach p g f k word unsound overflows enters ≡ cond t enters overflows
-  by-reach word t unsound overflows enters e w =
+  pub by-reach : {A : Type 0} (word owner : ℕ) (t : Bool) (unsound overflows enters : A) → endOf p g f (newStar k word owner) ≡ last → entersWithin (hash p g) f (newStar k word owner) last ≡ t
+      → byReach p g f (newStar k word owner) unsound overflows enters ≡ cond t enters overflows
+  by-reach word owner t unsound overflows enters e w =
       rw (e, w, sound-to, le-ltb (startOf p g k + pagesTo (startOf p g k) last) (startOf p g k + pagesTo (startOf p g k) last) (omega arith))
 
 -- ---- one more block
@@ -150,7 +150,7 @@ module _ (p : Parameters) (g : Growth) (f : File) (k : ℕ) (valid : validParame
                   };
             };
         ended = λ e a b. absurd (omega arith);
-        passed = λ word q a b. absurd (omega arith);
+        passed = λ word owner q a b. absurd (omega arith);
       }
 
   module _ (pool planned W : List ℕ) (d carried : ℕ) (s : Spanned p g f k pool planned W d carried) where
@@ -164,13 +164,13 @@ module _ (p : Parameters) (g : Growth) (f : File) (k : ℕ) (valid : validParame
     spanned-few = omega (arith, s .laid-out .counted, ap length (s .laid-out .passed), length-take carried W)
 
     -- nothing is carried on exactly if the star enters within these pages
-    spanned-within : (word last : ℕ) → d ≡ pagesTo (startOf p g k) last → entersWithin (hash p g) f (newStar k word) last ≡ eqb carried 0
+    spanned-within : (word owner last : ℕ) → d ≡ pagesTo (startOf p g k) last → entersWithin (hash p g) f (newStar k word owner) last ≡ eqb carried 0
     unfolding entersWithin entering hashOf
-    spanned-within word last e =
-        is-empty (left (hash p g) (startOf p g k) (pagesTo (startOf p g k) last) (insert (newStar k word) (gathered (p .places) f (startOf p g k) (pagesTo (startOf p g k) last))))
-        ∙ ap (λ (n : ℕ). eqb (length (left (hash p g) (startOf p g k) n (insert (newStar k word) (gathered (p .places) f (startOf p g k) n)))) 0) (sym e)
-        ∙ ap (λ (l : List Star). eqb (length l) 0) (planned-left p g f k valid sized number unheld d (s .most) (s .sound) word)
-        ∙ ap (λ (n : ℕ). eqb n 0) (length-map (waits (remainsTo p g f k d)) (renamed (f .words) word) ∙ length-waits (remainsTo p g f k d) ∙ sym (s .laid-out .counted))
+    spanned-within word owner last e =
+        is-empty (left (hash p g) (startOf p g k) (pagesTo (startOf p g k) last) (insert (newStar k word owner) (gathered (p .places) f (startOf p g k) (pagesTo (startOf p g k) last))))
+        ∙ ap (λ (n : ℕ). eqb (length (left (hash p g) (startOf p g k) n (insert (newStar k word owner) (gathered (p .places) f (startOf p g k) n)))) 0) (sym e)
+        ∙ ap (λ (l : List Star). eqb (length l) 0) (planned-left p g f k valid sized number unheld d (s .most) (s .sound) word owner)
+        ∙ ap (λ (n : ℕ). eqb n 0) (length-map (waits (remainsTo p g f k d)) (renamed (f .words) (f .owners) word owner) ∙ length-waits (remainsTo p g f k d) ∙ sym (s .laid-out .counted))
 
   spanned-next : (pool planned W : List ℕ) (d carried : ℕ) → Spanned p g f k pool planned W d carried → (pool′ planned′ W′ : List ℕ) (m left : ℕ)
       → length pool ≡ p .pages * p .places → p .pages ≤ length planned → startOf p g k + (d + m) ≤ p .pages
@@ -207,38 +207,38 @@ module _ (p : Parameters) (g : Growth) (f : File) (k : ℕ) (valid : validParame
     below-last = omega (arith, r .inside, such-block .high)
 
     -- no page below the block's end is the reach's end
-    not-before : (word q : ℕ) → startOf p g k ≤ q → q < last → ending p g f k word q ≡ false
-    not-before word q a b = go (decLt q lo)
+    not-before : (word owner q : ℕ) → startOf p g k ≤ q → q < last → ending p g f (newStar k word owner) q ≡ false
+    not-before word owner q a b = go (decLt q lo)
       where
-        go : Dec (q < lo) → ending p g f k word q ≡ false
-        go (yes l) = r .passed word q a l
-        go (no l) = and-false (storedTop (f .separators) (hash p g .top) q) (entersWithin (hash p g) f (newStar k word) q) (such-block .before q (omega arith) b)
+        go : Dec (q < lo) → ending p g f (newStar k word owner) q ≡ false
+        go (yes l) = r .passed word owner q a l
+        go (no l) = and-false (storedTop (f .separators) (hash p g .top) q) (entersWithin (hash p g) f (newStar k word owner) q) (such-block .before q (omega arith) b)
 
     abbrev rest : ℕ
     rest = p .pages - 1 - startOf p g k
 
-    end-such : (word : ℕ) → Such (ending p g f k word) (startOf p g k) rest (endOf p g f k word)
+    end-such : (word owner : ℕ) → Such (ending p g f (newStar k word owner)) (startOf p g k) rest (endOf p g f (newStar k word owner))
     unfolding entryEnd
-    end-such word = such (ending p g f k word) (startOf p g k) rest
+    end-such word owner = such (ending p g f (newStar k word owner)) (startOf p g k) rest
 
     -- the reach goes as far as the block
-    end-past : (word : ℕ) → last ≤ endOf p g f k word
-    end-past word = go (decLt (endOf p g f k word) last)
+    end-past : (word owner : ℕ) → last ≤ endOf p g f (newStar k word owner)
+    end-past word owner = go (decLt (endOf p g f (newStar k word owner)) last)
       where
-        go : Dec (endOf p g f k word < last) → last ≤ endOf p g f k word
-        go (yes l) = absurd (true≢false (sym (end-such word .passes (omega (arith, below-last))) ∙ not-before word (endOf p g f k word) (end-such word .low) l))
+        go : Dec (endOf p g f (newStar k word owner) < last) → last ≤ endOf p g f (newStar k word owner)
+        go (yes l) = absurd (true≢false (sym (end-such word owner .passes (omega (arith, below-last))) ∙ not-before word owner (endOf p g f (newStar k word owner)) (end-such word owner .low) l))
         go (no l) = omega arith
 
     -- it ends there if the star enters within it, or at the last page
-    end-is : (word : ℕ) → (suc last < p .pages → entersWithin (hash p g) f (newStar k word) last ≡ true) → endOf p g f k word ≡ last
+    end-is : (word owner : ℕ) → (suc last < p .pages → entersWithin (hash p g) f (newStar k word owner) last ≡ true) → endOf p g f (newStar k word owner) ≡ last
     unfolding entryEnd
-    end-is word enters =
+    end-is word owner enters =
         sym
-        (such-is (ending p g f k word) (startOf p g k) rest last
+        (such-is (ending p g f (newStar k word owner)) (startOf p g k) rest last
         (record {
           low = least;
           high = omega (arith, below-last, least);
-          before = not-before word;
+          before = not-before word owner;
           passes = λ h. rw (such-block .passes (omega (arith, r .inside, such-block .low)), enters (omega arith));
         }))
 
@@ -250,20 +250,20 @@ module _ (p : Parameters) (g : Growth) (f : File) (k : ℕ) (valid : validParame
         go (yes l) = r .spanned .sound q a (omega (arith, r .at))
         go (no l) = block-sound p g f lo (r .inside) q (omega arith) b
 
-    pub reached-unsound : (page : ℕ) → UnsoundBlock p g f lo page → (word : ℕ) → Unsound page ≡ reachAnswer p g f k word
+    pub reached-unsound : (page : ℕ) → UnsoundBlock p g f lo page → (word owner : ℕ) → Unsound page ≡ reachAnswer p g f (newStar k word owner)
     unfolding reachAnswer firstUnsound last
-    reached-unsound page u word =
+    reached-unsound page u word owner =
         let found = such (λ (q : ℕ). not (soundAt p g f q)) lo (blockCount p g f lo) in
-        let inside : page < startOf p g k + countOf p g f k word = omega (arith, u .inside, end-past word, such-block .low, least) in
-        let is : page ≡ unsoundOf p g f k word =
-        such-is (λ (q : ℕ). not (soundAt p g f q)) (startOf p g k) (countOf p g f k word) page
+        let inside : page < startOf p g k + countOf p g f (newStar k word owner) = omega (arith, u .inside, end-past word owner, such-block .low, least) in
+        let is : page ≡ unsoundOf p g f (newStar k word owner) =
+        such-is (λ (q : ℕ). not (soundAt p g f q)) (startOf p g k) (countOf p g f (newStar k word owner)) page
         (record {
           low = omega (arith, r .at, u .is, found .low);
           high = omega arith;
           before = λ q a b. ap not (sound-below q a (omega (arith, u .is)));
           passes = λ h. rw (u .is) (found .passes (omega (arith, u .is, u .inside)));
         }) in
-        rw (← is, lt-ltb page (startOf p g k + countOf p g f k word) inside)
+        rw (← is, lt-ltb page (startOf p g k + countOf p g f (newStar k word owner)) inside)
 
     pagesHere : ℕ
     pagesHere = pagesTo (startOf p g k) last
@@ -285,17 +285,17 @@ module _ (p : Parameters) (g : Growth) (f : File) (k : ℕ) (valid : validParame
     pages-sound e q a h = all-sound e q a (omega (arith, least))
 
     -- the block's stars and those carried on are more than all places: the reach runs to the last page, and its stars do not fit
-    module _ (c : CrowdedBlock p g f lo (take carried W)) (word : ℕ) where
+    module _ (c : CrowdedBlock p g f lo (take carried W)) (word owner : ℕ) where
       stars : List Star
-      stars = insert (newStar k word) (gathered (p .places) f (startOf p g k) pagesHere)
+      stars = insert (newStar k word owner) (gathered (p .places) f (startOf p g k) pagesHere)
 
       many : p .pages * p .places < length stars
       unfolding stars
       many =
-          let more : length (remainsTo p g f k (r .done)) + starsIn 0 (blockNumbers p f lo (blockCount p g f lo)) ≤ length (insert (newStar k word) (gathered (p .places) f (startOf p g k) pagesHere)) =
-          subst (λ (x : ℕ). length (remainsTo p g f k (r .done)) + starsIn 0 (blockNumbers p f lo (blockCount p g f lo)) ≤ length (insert (newStar k word) (gathered (p .places) f (startOf p g k) x))) same
-          (subst (λ (x : ℕ). length (remainsTo p g f k (r .done)) + starsIn 0 (blockNumbers p f x (blockCount p g f lo)) ≤ length (insert (newStar k word) (gathered (p .places) f (startOf p g k) (r .done + blockCount p g f lo)))) (sym (r .at))
-          (crowds p g f k valid sized number unheld (r .done) (blockCount p g f lo) (omega (arith, same, few-pages)) (λ q a b. pages-sound (c .sound) q a (omega (arith, same))) word)) in
+          let more : length (remainsTo p g f k (r .done)) + starsIn 0 (blockNumbers p f lo (blockCount p g f lo)) ≤ length (insert (newStar k word owner) (gathered (p .places) f (startOf p g k) pagesHere)) =
+          subst (λ (x : ℕ). length (remainsTo p g f k (r .done)) + starsIn 0 (blockNumbers p f lo (blockCount p g f lo)) ≤ length (insert (newStar k word owner) (gathered (p .places) f (startOf p g k) x))) same
+          (subst (λ (x : ℕ). length (remainsTo p g f k (r .done)) + starsIn 0 (blockNumbers p f x (blockCount p g f lo)) ≤ length (insert (newStar k word owner) (gathered (p .places) f (startOf p g k) (r .done + blockCount p g f lo)))) (sym (r .at))
+          (crowds p g f k valid sized number unheld (r .done) (blockCount p g f lo) (omega (arith, same, few-pages)) (λ q a b. pages-sound (c .sound) q a (omega (arith, same))) word owner)) in
           omega (arith, more, c .many, ap length (r .spanned .laid-out .passed))
 
       -- so the reach has all pages
@@ -308,14 +308,14 @@ module _ (p : Parameters) (g : Growth) (f : File) (k : ℕ) (valid : validParame
               absurd (omega (
                 arith,
                 many,
-                few-stars p g f k valid sized number unheld pagesHere few-pages (pages-sound (c .sound)) word,
+                few-stars p g f k valid sized number unheld pagesHere few-pages (pages-sound (c .sound)) word owner,
                 suc-mul pagesHere (p .places),
                 mul-le-mul-right {m = suc pagesHere} {n = p .pages} (p .places) l,
                 limits p valid .places-least,
               ))
           go (no l) = omega (arith, below-last, least)
 
-      no-place : entersWithin (hash p g) f (newStar k word) last ≡ false
+      no-place : entersWithin (hash p g) f (newStar k word owner) last ≡ false
       unfolding entersWithin entering hashOf stars pagesHere
       no-place = go (isEmpty rest-of) refl
         where
@@ -326,11 +326,11 @@ module _ (p : Parameters) (g : Growth) (f : File) (k : ℕ) (valid : validParame
           go true e = absurd (crowded (hash p g) (startOf p g k) pagesHere stars (omega (arith, many, mul-le-mul-right {m = pagesHere} {n = p .pages} (p .places) (omega (arith, few-pages)))) (empty-is rest-of e))
           go false e = e
 
-      pub reached-crowded : Overflows ≡ reachAnswer p g f k word
+      pub reached-crowded : Overflows ≡ reachAnswer p g f (newStar k word owner)
       unfolding reachAnswer
       reached-crowded =
-          sym (by-reach p g f k last least (all-sound (c .sound)) word false (Unsound (unsoundOf p g f k word)) Overflows (Ends (endOf p g f k word))
-          (end-is word (λ l. absurd (omega (arith, l, all-pages)))) no-place)
+          sym (by-reach p g f k last least (all-sound (c .sound)) word owner false (Unsound (unsoundOf p g f (newStar k word owner))) Overflows (Ends (endOf p g f (newStar k word owner)))
+          (end-is word owner (λ l. absurd (omega (arith, l, all-pages)))) no-place)
 
     module _ (pool′ planned′ W′ : List ℕ) (stop left : ℕ) (lp : length pool ≡ p .pages * p .places) (ln : p .pages ≤ length planned)
         (b : PlannedBlock p g f lo (take carried W) pool pool′ planned planned′ W′ stop left) where
@@ -353,67 +353,67 @@ module _ (p : Parameters) (g : Growth) (f : File) (k : ℕ) (valid : validParame
                 (subst (λ (x : ℕ). Planned p x (blockCount p g f lo) (take carried W) (blockWords p g f x (blockCount p g f lo)) pool pool′ planned planned′ W′ left) (r .at) (b .plan)));
           }
 
-      within-block : (word : ℕ) → entersWithin (hash p g) f (newStar k word) last ≡ eqb left 0
-      within-block word = spanned-within pool′ planned′ W′ (pagesTo (startOf p g k) last) left spanned-block word last refl
+      within-block : (word owner : ℕ) → entersWithin (hash p g) f (newStar k word owner) last ≡ eqb left 0
+      within-block word owner = spanned-within pool′ planned′ W′ (pagesTo (startOf p g k) last) left spanned-block word owner last refl
 
       -- nothing is carried on: the reach ends here
       module _ (none : left ≡ 0) where
-        enters : (word : ℕ) → entersWithin (hash p g) f (newStar k word) last ≡ true
-        enters word = within-block word ∙ eq-eqb left 0 none
+        enters : (word owner : ℕ) → entersWithin (hash p g) f (newStar k word owner) last ≡ true
+        enters word owner = within-block word owner ∙ eq-eqb left 0 none
 
-        end-here : (word : ℕ) → endOf p g f k word ≡ last
-        end-here word = end-is word (λ _. enters word)
+        end-here : (word owner : ℕ) → endOf p g f (newStar k word owner) ≡ last
+        end-here word owner = end-is word owner (λ _. enters word owner)
 
-        pub reached-ends : (word : ℕ) → Ends stop ≡ reachAnswer p g f k word
+        pub reached-ends : (word owner : ℕ) → Ends stop ≡ reachAnswer p g f (newStar k word owner)
         unfolding reachAnswer
-        reached-ends word =
-            ap Ends (stop-is ∙ sym (end-here word))
-            ∙ sym (by-reach p g f k last least (all-sound (b .sound)) word true (Unsound (unsoundOf p g f k word)) Overflows (Ends (endOf p g f k word)) (end-here word) (enters word))
+        reached-ends word owner =
+            ap Ends (stop-is ∙ sym (end-here word owner))
+            ∙ sym (by-reach p g f k last least (all-sound (b .sound)) word owner true (Unsound (unsoundOf p g f (newStar k word owner))) Overflows (Ends (endOf p g f (newStar k word owner))) (end-here word owner) (enters word owner))
 
-        contents : (word : ℕ) → map (mapped (renamed (f .words) word)) (plansTo p g f k (pagesTo (startOf p g k) last)) ≡ contentsOf p g f k word
+        contents : (word owner : ℕ) → map (mapped (renamed (f .words) (f .owners) word owner)) (plansTo p g f k (pagesTo (startOf p g k) last)) ≡ contentsOf p g f (newStar k word owner)
         unfolding entering hashOf
-        contents word =
-            sym (planned-pages p g f k valid sized number unheld (pagesTo (startOf p g k) last) (spanned-block .most) (spanned-block .sound) word)
-            ∙ ap (λ (q : ℕ). pages (hash p g) (startOf p g k) (pagesTo (startOf p g k) q) (insert (newStar k word) (gathered (p .places) f (startOf p g k) (pagesTo (startOf p g k) q)))) (sym (end-here word))
+        contents word owner =
+            sym (planned-pages p g f k valid sized number unheld (pagesTo (startOf p g k) last) (spanned-block .most) (spanned-block .sound) word owner)
+            ∙ ap (λ (q : ℕ). pages (hash p g) (startOf p g k) (pagesTo (startOf p g k) q) (insert (newStar k word owner) (gathered (p .places) f (startOf p g k) (pagesTo (startOf p g k) q)))) (sym (end-here word owner))
 
         pub reached-applies : Applies p g f k pool′ planned′ (Ends stop)
         unfolding entryFile
-        reached-applies word l same-end =
+        reached-applies word owner l same-end =
             let e : stop ≡ l = cc in
             let el : l ≡ last = sym e ∙ stop-is in (
               omega (arith, el, below-last),
-              ap (λ (q : ℕ). applied (p .places) (startOf p g k) (pagesTo (startOf p g k) q) k word pool′ planned′ f) el
-                  ∙ applied-layout p (startOf p g k) (pagesTo (startOf p g k) last) k word f (newWord p g f k ∷ []) (blockWords p g f (startOf p g k) (pagesTo (startOf p g k) last))
+              ap (λ (q : ℕ). applied (p .places) (startOf p g k) (pagesTo (startOf p g k) q) k word owner pool′ planned′ f) el
+                  ∙ applied-layout p (startOf p g k) (pagesTo (startOf p g k) last) k word owner f (newWord p g f k ∷ []) (blockWords p g f (startOf p g k) (pagesTo (startOf p g k) last))
                   pool′ planned′ W′ left (spanned-block .laid-out) (new-named p g f k valid sized number unheld)
                   (block-named p g f k valid sized number unheld (pagesTo (startOf p g k) last) (spanned-block .most) (spanned-block .sound))
-                  ∙ ap (replaced (p .places) f (startOf p g k)) (contents word)
-                  ∙ sym (by-reach p g f k last least (all-sound (b .sound)) word true f f (replaced (p .places) f (startOf p g k) (contentsOf p g f k word)) (end-here word) (enters word)),
+                  ∙ ap (replaced (p .places) f (startOf p g k)) (contents word owner)
+                  ∙ sym (by-reach p g f k last least (all-sound (b .sound)) word owner true f f (replaced (p .places) f (startOf p g k) (contentsOf p g f (newStar k word owner))) (end-here word owner) (enters word owner)),
             )
 
       -- a star is carried on
       module _ (some : left ≡ 0 → ⊥) where
-        stays-out : (word : ℕ) → entersWithin (hash p g) f (newStar k word) last ≡ false
-        stays-out word = within-block word ∙ ne-eqb left 0 some
+        stays-out : (word owner : ℕ) → entersWithin (hash p g) f (newStar k word owner) last ≡ false
+        stays-out word owner = within-block word owner ∙ ne-eqb left 0 some
 
-        pub reached-overflows : suc stop ≡ p .pages → (word : ℕ) → Overflows ≡ reachAnswer p g f k word
+        pub reached-overflows : suc stop ≡ p .pages → (word owner : ℕ) → Overflows ≡ reachAnswer p g f (newStar k word owner)
         unfolding reachAnswer
-        reached-overflows h word =
-            sym (by-reach p g f k last least (all-sound (b .sound)) word false (Unsound (unsoundOf p g f k word)) Overflows (Ends (endOf p g f k word))
-            (end-is word (λ l. absurd (omega (arith, l, stop-is)))) (stays-out word))
+        reached-overflows h word owner =
+            sym (by-reach p g f k last least (all-sound (b .sound)) word owner false (Unsound (unsoundOf p g f (newStar k word owner))) Overflows (Ends (endOf p g f (newStar k word owner)))
+            (end-is word owner (λ l. absurd (omega (arith, l, stop-is)))) (stays-out word owner))
 
         top-there : suc stop < p .pages → (e : ℕ) → startOf p g k ≤ e → suc e ≡ suc stop → getD (f .separators) e 0 ≡ hash p g .top
         top-there h e a n =
             let same-page : e ≡ last = omega (arith, n, stop-is) in
             eqb-true (getD (f .separators) e 0) (hash p g .top) (rw same-page (such-block .passes (omega (arith, stop-is, r .inside))))
 
-        passes-by : (word q : ℕ) → startOf p g k ≤ q → q < suc stop → ending p g f k word q ≡ false
-        passes-by word q a l = go (decLt q last)
+        passes-by : (word owner q : ℕ) → startOf p g k ≤ q → q < suc stop → ending p g f (newStar k word owner) q ≡ false
+        passes-by word owner q a l = go (decLt q last)
           where
-            go : Dec (q < last) → ending p g f k word q ≡ false
-            go (yes h) = not-before word q a h
+            go : Dec (q < last) → ending p g f (newStar k word owner) q ≡ false
+            go (yes h) = not-before word owner q a h
             go (no h) =
                 let same-page : q ≡ last = omega (arith, stop-is) in
-                rw (same-page, stays-out word) (and-none (storedTop (f .separators) (hash p g .top) last))
+                rw (same-page, stays-out word owner) (and-none (storedTop (f .separators) (hash p g .top) last))
 
         pub reached-next : suc stop < p .pages → Reached p g f k pool′ planned′ W′ (suc stop) left
         reached-next h =

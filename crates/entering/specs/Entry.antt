@@ -34,55 +34,55 @@ pub record Unheld (p : Parameters) (g : Growth) (f : File) (k : ℕ) : Type 0 wh
 abbrev pub hash : Parameters → Growth → Hash
 hash p g = hashOf p g
 
-abbrev pub newStar : ℕ → ℕ → Star
-newStar k word = record { number = k; word = word }
+abbrev pub newStar : ℕ → ℕ → ℕ → Star
+newStar k word owner = record { number = k; word = word; owner = owner }
 
 -- the reach: its first page, its last page, how many pages it has, the first unsound one of them, and what the rule gives them
 abbrev pub startOf : Parameters → Growth → ℕ → ℕ
 startOf p g k = hash p g .home k
 
-abbrev pub endOf : Parameters → Growth → File → ℕ → ℕ → ℕ
-endOf p g f k word = entryEnd (hash p g) (p .pages) f (newStar k word)
+abbrev pub endOf : Parameters → Growth → File → Star → ℕ
+endOf p g f s = entryEnd (hash p g) (p .pages) f s
 
-abbrev pub countOf : Parameters → Growth → File → ℕ → ℕ → ℕ
-countOf p g f k word = pagesTo (startOf p g k) (endOf p g f k word)
+abbrev pub countOf : Parameters → Growth → File → Star → ℕ
+countOf p g f s = pagesTo (startOf p g (s .number)) (endOf p g f s)
 
-abbrev pub unsoundOf : Parameters → Growth → File → ℕ → ℕ → ℕ
-unsoundOf p g f k word = firstUnsound p g f (startOf p g k) (countOf p g f k word)
+abbrev pub unsoundOf : Parameters → Growth → File → Star → ℕ
+unsoundOf p g f s = firstUnsound p g f (startOf p g (s .number)) (countOf p g f s)
 
-abbrev pub contentsOf : Parameters → Growth → File → ℕ → ℕ → List Contents
-contentsOf p g f k word =
-    pages (hash p g) (startOf p g k) (countOf p g f k word) (entering (hash p g) f (newStar k word) (endOf p g f k word))
+abbrev pub contentsOf : Parameters → Growth → File → Star → List Contents
+contentsOf p g f s = pages (hash p g) (startOf p g (s .number)) (countOf p g f s) (entering (hash p g) f s (endOf p g f s))
 
 -- one thing if a page of the reach is unsound, another if the rule carries a star past page M−1, a third if it does not
-abbrev pub byReach : {A : Type 0} → Parameters → Growth → File → ℕ → ℕ → A → A → A → A
-byReach p g f k word unsound overflows enters =
-    cond (ltb (unsoundOf p g f k word) (startOf p g k + countOf p g f k word))
+abbrev pub byReach : {A : Type 0} → Parameters → Growth → File → Star → A → A → A → A
+byReach p g f s unsound overflows enters =
+    cond (ltb (unsoundOf p g f s) (startOf p g (s .number) + countOf p g f s))
     unsound
-    (cond (entersWithin (hash p g) f (newStar k word) (endOf p g f k word)) enters overflows)
+    (cond (entersWithin (hash p g) f s (endOf p g f s)) enters overflows)
 
 -- "pages of the reach .. upward, each as it is reached" is 5, "a star is carried past M−1" is 8
-unfoldable pub reachAnswer : Parameters → Growth → File → ℕ → ℕ → Reach
-reachAnswer p g f k word = byReach p g f k word (Unsound (unsoundOf p g f k word)) Overflows (Ends (endOf p g f k word))
+unfoldable pub reachAnswer : Parameters → Growth → File → Star → Reach
+reachAnswer p g f s = byReach p g f s (Unsound (unsoundOf p g f s)) Overflows (Ends (endOf p g f s))
 
 -- "Accepted, these calls answer the star's page"
-unfoldable pub entryAnswer : Parameters → Growth → File → ℕ → ℕ → Entered
-entryAnswer p g f k word =
-    byReach p g f k word
-    (entered·Unsound (unsoundOf p g f k word))
+unfoldable pub entryAnswer : Parameters → Growth → File → Star → Entered
+entryAnswer p g f s =
+    byReach p g f s
+    (entered·Unsound (unsoundOf p g f s))
     entered·Overflows
-    (On (holding k (startOf p g k) (contentsOf p g f k word)))
+    (On (holding (s .number) (startOf p g (s .number)) (contentsOf p g f s)))
 
 -- "The rule is then applied to the reach .. Other pages stay."
-unfoldable pub entryFile : Parameters → Growth → File → ℕ → ℕ → File
-entryFile p g f k word = byReach p g f k word f f (replaced (p .places) f (startOf p g k) (contentsOf p g f k word))
+unfoldable pub entryFile : Parameters → Growth → File → Star → File
+entryFile p g f s = byReach p g f s f f (replaced (p .places) f (startOf p g (s .number)) (contentsOf p g f s))
 
--- where the reach ends, applying its plan enters the star, with any word
+-- where the reach ends, applying its plan enters the star, with any word and owner
 abbrev pub Applies : Parameters → Growth → File → ℕ → List ℕ → List ℕ → Reach → Type 0
 Applies p g f k pool planned r =
-    (word last : ℕ)
+    (word owner last : ℕ)
     → r ≡ Ends last
-    → (last < p .pages) × (applied (p .places) (startOf p g k) (pagesTo (startOf p g k) last) k word pool planned f ≡ entryFile p g f k word)
+    → (last < p .pages)
+    × (applied (p .places) (startOf p g k) (pagesTo (startOf p g k) last) k word owner pool planned f ≡ entryFile p g f (newStar k word owner))
 
 -- the block from page lo: its last page, how many pages it has, and the words of its stars
 abbrev pub blockEnd : Parameters → Growth → File → ℕ → ℕ

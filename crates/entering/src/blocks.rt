@@ -1,14 +1,14 @@
 // The reach of an entry, planned block after block: a block ends at the first page whose stored separator is 2^k − 1, or at the last page.
 ghost use mathlib.Core.Path.{_≡_};
 ghost use mathlib.Core.Bool.{true};
-ghost use Prim.Native.Nat.{ℕ, _≤_, _<_};
+ghost use Prim.Native.Nat.{ℕ, _*_, _≤_, _<_};
 ghost use lib.ListN.{length, take};
 ghost use Rattle.pages.specs.Position.{validNumber};
 ghost use Rattle.placement.specs.Hash.{homeUnder};
 ghost use Rattle.placement.specs.Lent.{held, before};
-ghost use Rattle.placement.specs.Ready.{Ready, Pooled};
+ghost use Rattle.placement.specs.Ready.{Ready};
 ghost use Rattle.waiting.specs.Settle.{homesUpTo};
-ghost use Rattle.entering.specs.Entry.{Unheld, reachAnswer, Applies, PlansBlock};
+ghost use Rattle.entering.specs.Entry.{Unheld, newStar, reachAnswer, Applies, PlansBlock};
 use hashing::Geometry;
 
 // The last page; the first unsound page; or a star is carried past the last page of all.
@@ -32,23 +32,34 @@ fn plan_block(
     separators: &[u8],
     numbers: &[u32],
     words: &[u64],
+    owners: &[u8],
     pool: &mut [u32],
     waiting: &mut [u64],
     planned: &mut [u8],
     lo: usize,
     incoming: usize,
 ) -> Block
-    requires { ⌜ Ready geometry (now table) (held separators numbers words) ⌝ }
-    requires { ⌜ Pooled (geometry .parameters) (now pool) (now waiting) ⌝ }
+    requires { ⌜ Ready geometry (now table) (held separators numbers words owners) ⌝ }
+    requires { ⌜ (length (now pool) ≡ geometry .parameters .pages * geometry .parameters .places) × (length (now waiting) ≡ geometry .parameters .pages * geometry .parameters .places) ⌝ }
     requires { ⌜ (geometry .parameters .pages ≤ length (now planned)) × (lo < geometry .parameters .pages) ⌝ }
     requires { ⌜ (incoming ≤ length (now waiting)) × (homesUpTo lo (take incoming (now waiting)) ≡ true) ⌝ }
-    ensures { λ r. ⌜ PlansBlock geometry (before separators numbers words) lo incoming pool waiting planned r ⌝ }
+    ensures { λ r. ⌜ PlansBlock geometry (before separators numbers words owners) lo incoming pool waiting planned r ⌝ }
 {
     let parameters = geometry.parameters;
     let places = parameters.places as usize;
     let last = reach::stretch_end(separators, placement::top_of(parameters), lo);
     let stop = last + 1;
-    let unsound = reach::survey_pages(table, geometry, separators, numbers, words, pool, lo, stop);
+    let unsound = reach::survey_pages(
+        table,
+        geometry,
+        separators,
+        numbers,
+        words,
+        owners,
+        pool,
+        lo,
+        stop,
+    );
     if unsound < stop {
         return Block::Unsound(unsound);
     }
@@ -77,20 +88,21 @@ pub fn plan_entry(
     separators: &[u8],
     numbers: &[u32],
     words: &[u64],
+    owners: &[u8],
     pool: &mut [u32],
     waiting: &mut [u64],
     planned: &mut [u8],
     number: u32,
     home: u32,
 ) -> Reach
-    requires { ⌜ Ready geometry (now table) (held separators numbers words) ⌝ }
-    requires { ⌜ Pooled (geometry .parameters) (now pool) (now waiting) ⌝ }
+    requires { ⌜ Ready geometry (now table) (held separators numbers words owners) ⌝ }
+    requires { ⌜ (length (now pool) ≡ geometry .parameters .pages * geometry .parameters .places) × (length (now waiting) ≡ geometry .parameters .pages * geometry .parameters .places) ⌝ }
     requires { ⌜ geometry .parameters .pages ≤ length (now planned) ⌝ }
     requires { ⌜ validNumber number ≡ true ⌝ }
-    requires { ⌜ Unheld (geometry .parameters) (geometry .growth) (held separators numbers words) number ⌝ }
+    requires { ⌜ Unheld (geometry .parameters) (geometry .growth) (held separators numbers words owners) number ⌝ }
     requires { ⌜ home ≡ homeUnder geometry number ⌝ }
-    ensures { λ r. ⌜ ((word : ℕ) → r ≡ reachAnswer (geometry .parameters) (geometry .growth) (before separators numbers words) number word) ⌝ }
-    ensures { λ r. ⌜ Applies (geometry .parameters) (geometry .growth) (before separators numbers words) number (now (pool .exit)) (now (planned .exit)) r ⌝ }
+    ensures { λ r. ⌜ ((word owner : ℕ) → r ≡ reachAnswer (geometry .parameters) (geometry .growth) (before separators numbers words owners) (newStar number word owner)) ⌝ }
+    ensures { λ r. ⌜ Applies (geometry .parameters) (geometry .growth) (before separators numbers words owners) number (now (pool .exit)) (now (planned .exit)) r ⌝ }
 {
     let pages = geometry.parameters.pages as usize;
     waiting[0] = waiting::pack(home, number, numbers.len() + 1);
@@ -103,6 +115,7 @@ pub fn plan_entry(
             separators,
             numbers,
             words,
+            owners,
             pool,
             waiting,
             planned,

@@ -5,7 +5,7 @@ ghost use Rattle.pages.specs.Position.{validNumber};
 ghost use Rattle.placement.specs.Hash.{homeUnder};
 ghost use Rattle.placement.specs.Lent.{held, before, after};
 ghost use Rattle.placement.specs.Ready.{Ready, Pooled};
-ghost use Rattle.entering.specs.Entry.{Unheld, entryAnswer, entryFile};
+ghost use Rattle.entering.specs.Entry.{Unheld, newStar, entryAnswer, entryFile};
 use crate::blocks::Reach;
 use crate::blocks::plan_entry;
 use hashing::Geometry;
@@ -24,19 +24,22 @@ pub fn enter_stretch(
     separators: &mut [u8],
     numbers: &mut [u32],
     words: &mut [u64],
+    owners: &mut [u8],
     pool: &mut [u32],
     waiting: &mut [u64],
+    poolowners: &mut [u8],
     number: u32,
     word: u64,
+    owner: u8,
     home: u32,
 ) -> Entered
-    requires { ⌜ Ready geometry (now table) (held separators numbers words) ⌝ }
-    requires { ⌜ Pooled (geometry .parameters) (now pool) (now waiting) ⌝ }
+    requires { ⌜ Ready geometry (now table) (held separators numbers words owners) ⌝ }
+    requires { ⌜ Pooled (geometry .parameters) (now pool) (now waiting) (now poolowners) ⌝ }
     requires { ⌜ validNumber number ≡ true ⌝ }
-    requires { ⌜ Unheld (geometry .parameters) (geometry .growth) (held separators numbers words) number ⌝ }
+    requires { ⌜ Unheld (geometry .parameters) (geometry .growth) (held separators numbers words owners) number ⌝ }
     requires { ⌜ home ≡ homeUnder geometry number ⌝ }
-    ensures { λ r. ⌜ r ≡ entryAnswer (geometry .parameters) (geometry .growth) (before separators numbers words) number word ⌝ }
-    ensures { λ _. ⌜ after separators numbers words ≡ entryFile (geometry .parameters) (geometry .growth) (before separators numbers words) number word ⌝ }
+    ensures { λ r. ⌜ r ≡ entryAnswer (geometry .parameters) (geometry .growth) (before separators numbers words owners) (newStar number word owner) ⌝ }
+    ensures { λ _. ⌜ after separators numbers words owners ≡ entryFile (geometry .parameters) (geometry .growth) (before separators numbers words owners) (newStar number word owner) ⌝ }
 {
     let places = geometry.parameters.places as usize;
     let from = home as usize;
@@ -47,6 +50,7 @@ pub fn enter_stretch(
         separators,
         numbers,
         words,
+        owners,
         pool,
         waiting,
         &mut planned,
@@ -60,14 +64,17 @@ pub fn enter_stretch(
                 separators,
                 numbers,
                 words,
+                owners,
                 pool,
                 waiting,
+                poolowners,
                 &planned,
                 places,
                 from,
                 last + 1 - from,
                 number,
                 word,
+                owner,
             );
             let page = placement::named_from(table, geometry, separators, number, home);
             Entered::On(page)

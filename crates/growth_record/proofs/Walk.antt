@@ -1,5 +1,5 @@
 -- The walk of `growth_record::grow` and `growth_record::shrink`, which differ in the function of starfile that they call: their MIR, by hand. The record's borrow is opened and its value
--- copied; the five slices are lent on to the callee, at their own lifetimes, shares and ghost names, and what it says of their last lists is said of them here; `kept` picks the value that is
+-- copied; the seven slices are lent on to the callee, at their own lifetimes, shares and ghost names, and what it says of their last lists is said of them here; `kept` picks the value that is
 -- stored; and the borrow is closed at it. Assumes nothing.
 use mathlib.Core.Path.{_≡_, refl, _∙_, ap}
 use Prim.Native.Nat.{ℕ}
@@ -73,24 +73,33 @@ goes-passed : {M : Type 1} (𝓤 : URA M) (H : Heap 𝓤) (A : Atoms 𝓤) (W : 
 goes-passed 𝓤 H A W n [] = tt
 goes-passed 𝓤 H A W n (s ∷ ss) = ((λ κs x w vs fits. W .laws .⇛-intro (sem 𝓤 H A (left (s .row κs .exit yes) x w))), goes-passed 𝓤 H A W n ss)
 
--- the five slices: as places of this signature and of that of the callee, their values, and their last lists
-abbrev here : List (Slot 6)
-here = mutSlice 1 tt (λ _. u8) ∷ mutSlice 2 tt (λ _. u32) ∷ mutSlice 3 tt (λ _. u64) ∷ mutSlice 4 tt (λ _. u32) ∷ mutSlice 5 tt (λ _. u64) ∷ []
+-- the seven slices: as places of this signature and of that of the callee, their values, and their last lists
+abbrev here : List (Slot 8)
+here =
+    mutSlice 1 tt (λ _. u8) ∷ mutSlice 2 tt (λ _. u32) ∷ mutSlice 3 tt (λ _. u64) ∷ mutSlice 4 tt (λ _. u8) ∷ mutSlice 5 tt (λ _. u32) ∷ mutSlice 6 tt (λ _. u64) ∷ mutSlice 7 tt (λ _. u8) ∷ []
 
-abbrev slots : List (Slot 5)
-slots = mutSlice 0 tt (λ _. u8) ∷ mutSlice 1 tt (λ _. u32) ∷ mutSlice 2 tt (λ _. u64) ∷ mutSlice 3 tt (λ _. u32) ∷ mutSlice 4 tt (λ _. u64) ∷ []
+abbrev slots : List (Slot 7)
+slots =
+    mutSlice 0 tt (λ _. u8) ∷ mutSlice 1 tt (λ _. u32) ∷ mutSlice 2 tt (λ _. u64) ∷ mutSlice 3 tt (λ _. u8) ∷ mutSlice 4 tt (λ _. u32) ∷ mutSlice 5 tt (λ _. u64) ∷ mutSlice 6 tt (λ _. u8) ∷ []
 
 abbrev stayed : Stays (f.ended .signature .params) (f.ended .kept)
 stayed = (stay-none (λ _. P.the-row) yes, (stay-ref (0 ∷ []) tt (plain (λ _. G.the-row)), passed here))
 
 abbrev Slices : Type 0
-Slices = RefT (List ℕ) × (RefT (List ℕ) × (RefT (List ℕ) × (RefT (List ℕ) × (RefT (List ℕ) × Unit {0}))))
+Slices = RefT (List ℕ) × (RefT (List ℕ) × (RefT (List ℕ) × (RefT (List ℕ) × (RefT (List ℕ) × (RefT (List ℕ) × (RefT (List ℕ) × Unit {0}))))))
 
 abbrev Lists : Type 0
-Lists = List ℕ × (List ℕ × (List ℕ × (List ℕ × (List ℕ × Unit {0}))))
+Lists = List ℕ × (List ℕ × (List ℕ × (List ℕ × (List ℕ × (List ℕ × (List ℕ × Unit {0}))))))
 
 abbrev Rooms : Slices → Type 0
-Rooms xs = Room u8 (length (now (xs .0))) × (Room u32 (length (now (xs .1 .0))) × (Room u64 (length (now (xs .1 .1 .0))) × (Room u32 (length (now (xs .1 .1 .1 .0))) × (Room u64 (length (now (xs .1 .1 .1 .1 .0))) × Unit {0}))))
+Rooms xs =
+    Room u8 (length (now (xs .0)))
+    × (Room u32 (length (now (xs .1 .0)))
+    × (Room u64 (length (now (xs .1 .1 .0)))
+    × (Room u8 (length (now (xs .1 .1 .1 .0)))
+    × (Room u32 (length (now (xs .1 .1 .1 .1 .0)))
+    × (Room u64 (length (now (xs .1 .1 .1 .1 .1 .0)))
+    × (Room u8 (length (now (xs .1 .1 .1 .1 .1 .1 .0))) × Unit {0}))))))
 
 -- the MIR of both, by the function that they call
 abbrev value : Mir.Ty → Mir.Local
@@ -117,9 +126,9 @@ lends i j k w rest =
 abbrev pub functionAt : Mir.Name → Mir.Fn
 functionAt callee =
     record {
-      lifetimes = 6;
+      lifetimes = 8;
       outlives = [];
-      params = 7;
+      params = 9;
       locals =
           value Q′.mir
           ∷ value P′.mir
@@ -127,8 +136,10 @@ functionAt callee =
           ∷ value (sliceTy (pointer (named 1) w8))
           ∷ value (sliceTy (pointer (named 2) w32))
           ∷ value (sliceTy (pointer (named 3) w64))
-          ∷ value (sliceTy (pointer (named 4) w32))
-          ∷ value (sliceTy (pointer (named 5) w64))
+          ∷ value (sliceTy (pointer (named 4) w8))
+          ∷ value (sliceTy (pointer (named 5) w32))
+          ∷ value (sliceTy (pointer (named 6) w64))
+          ∷ value (sliceTy (pointer (named 7) w8))
           ∷ value G′.mir
           ∷ value R′.mir
           ∷ value (pointer erased w8)
@@ -137,31 +148,36 @@ functionAt callee =
           ∷ value (sliceTy (pointer erased w32))
           ∷ value (pointer erased w64)
           ∷ value (sliceTy (pointer erased w64))
+          ∷ value (pointer erased w8)
+          ∷ value (sliceTy (pointer erased w8))
           ∷ value (pointer erased w32)
           ∷ value (sliceTy (pointer erased w32))
           ∷ value (pointer erased w64)
           ∷ value (sliceTy (pointer erased w64))
+          ∷ value (pointer erased w8)
+          ∷ value (sliceTy (pointer erased w8))
           ∷ value G′.mir
           ∷ [];
       body =
-          Mir.seq (Mir.assign (Mir.place 8 []) (Mir.rvOpd (Mir.copy record-cell)))
-          (lends 3 10 11 w8 (lends 4 12 13 w32 (lends 5 14 15 w64 (lends 6 16 17 w32 (lends 7 18 19 w64
-          (Mir.seq (Mir.call callee (var 1 ∷ var 8 ∷ var 11 ∷ var 13 ∷ var 15 ∷ var 17 ∷ var 19 ∷ []) (Mir.place 9 []))
-          (Mir.seq (Mir.call #growth-record·kept (var 8 ∷ var 9 ∷ []) (Mir.place 20 []))
-          (Mir.seq (Mir.assign record-cell (Mir.rvOpd (var 20)))
-          (Mir.seq (Mir.assign (Mir.place 0 []) (Mir.rvOpd (part 9 0))) Mir.return)))))))));
+          Mir.seq (Mir.assign (Mir.place 10 []) (Mir.rvOpd (Mir.copy record-cell)))
+          (lends 3 12 13 w8 (lends 4 14 15 w32 (lends 5 16 17 w64 (lends 6 18 19 w8 (lends 7 20 21 w32 (lends 8 22 23 w64 (lends 9 24 25 w8
+          (Mir.seq (Mir.call callee (var 1 ∷ var 10 ∷ var 13 ∷ var 15 ∷ var 17 ∷ var 19 ∷ var 21 ∷ var 23 ∷ var 25 ∷ []) (Mir.place 11 []))
+          (Mir.seq (Mir.call #growth-record·kept (var 10 ∷ var 11 ∷ []) (Mir.place 26 []))
+          (Mir.seq (Mir.assign record-cell (Mir.rvOpd (var 26)))
+          (Mir.seq (Mir.assign (Mir.place 0 []) (Mir.rvOpd (part 11 0))) Mir.return)))))))))));
     }
 
 module _ (call : Parameters → Growth → File → Pool → After) (stays : (p : Parameters) (g : Growth) (f : File) (pool : Pool) → Keeps g (call p g f pool)) (callee : Mir.Name) where
   -- what the call leaves, and what the callee ensures of its result and the last lists
   abbrev after : Parameters → Growth → Slices → After
-  after p g xs = call p g (lent (now (xs .0)) (now (xs .1 .0)) (now (xs .1 .1 .0))) (pooled (now (xs .1 .1 .1 .0)) (now (xs .1 .1 .1 .1 .0)))
+  after p g xs = call p g (lent (now (xs .0)) (now (xs .1 .0)) (now (xs .1 .1 .0)) (now (xs .1 .1 .1 .0)))
+      (pooled (now (xs .1 .1 .1 .1 .0)) (now (xs .1 .1 .1 .1 .1 .0)) (now (xs .1 .1 .1 .1 .1 .1 .0)))
 
   abbrev Left : After → Placed → Lists → Type 0
-  Left t a ws = Leaves t (placed a) (lent (ws .0) (ws .1 .0) (ws .1 .1 .0)) (pooled (ws .1 .1 .1 .0) (ws .1 .1 .1 .1 .0))
+  Left t a ws = Leaves t (placed a) (lent (ws .0) (ws .1 .0) (ws .1 .1 .0) (ws .1 .1 .1 .0)) (pooled (ws .1 .1 .1 .1 .0) (ws .1 .1 .1 .1 .1 .0) (ws .1 .1 .1 .1 .1 .1 .0))
 
   abbrev lists : Slices → Lists
-  lists xs = (now (xs .0), (now (xs .1 .0), (now (xs .1 .1 .0), (now (xs .1 .1 .1 .0), (now (xs .1 .1 .1 .1 .0), tt)))))
+  lists xs = (now (xs .0), (now (xs .1 .0), (now (xs .1 .1 .0), (now (xs .1 .1 .1 .0), (now (xs .1 .1 .1 .1 .0), (now (xs .1 .1 .1 .1 .1 .0), (now (xs .1 .1 .1 .1 .1 .1 .0), tt)))))))
 
   -- the clauses of the callee, and of the function
   abbrev asked : {M : Type 1} (𝓤 : URA M) → Clauses 𝓤 grow.ended
@@ -198,7 +214,7 @@ module _ (call : Parameters → Growth → File → Pool → After) (stays : (p 
     kept-of : (h : Growth) (r : Grown) (g : Growth) → ent 𝓤 (ensured 𝓤 H A kept.ended (kept.clauses 𝓤 H A at-mem run) tt (h, (r, tt)) tt g) (fact 𝓤 (g ≡ keptBy (r .answer) h (r .growth)))
     kept-of h r g = exE 𝓤 _ (λ ws. snd∗ 𝓤 (sem 𝓤 H A (lasts kept.ended tt (h, (r, tt)) ws)) (fact 𝓤 (g ≡ keptBy (r .answer) h (r .growth))))
 
-  module _ {M : Type 1} (𝓤 : URA M) (H : Heap 𝓤) (A : Atoms 𝓤) (W : Given 𝓤 H A) (at-mem : Memory → SProp 𝓤) (run : Routine → Fun 𝓤) (κ : Lft) (κs : Lfts 5) (q : Share) (qs : Shares 5) (p : Parameters) (x : RefT Growth) (xs : Slices) where
+  module _ {M : Type 1} (𝓤 : URA M) (H : Heap 𝓤) (A : Atoms 𝓤) (W : Given 𝓤 H A) (at-mem : Memory → SProp 𝓤) (run : Routine → Fun 𝓤) (κ : Lft) (κs : Lfts 7) (q : Share) (qs : Shares 7) (p : Parameters) (x : RefT Growth) (xs : Slices) where
     abbrev b : ℕ
     b = ptr x .0
 
@@ -222,10 +238,10 @@ module _ (call : Parameters → Growth → File → Pool → After) (stays : (p 
     s y = sliceVal (ptr y) (length (now y))
 
     abbrev ss : Valss (typesAt slots κs)
-    ss = (s (xs .0) ∷ [], (s (xs .1 .0) ∷ [], (s (xs .1 .1 .0) ∷ [], (s (xs .1 .1 .1 .0) ∷ [], (s (xs .1 .1 .1 .1 .0) ∷ [], tt)))))
+    ss = (s (xs .0) ∷ [], (s (xs .1 .0) ∷ [], (s (xs .1 .1 .0) ∷ [], (s (xs .1 .1 .1 .0) ∷ [], (s (xs .1 .1 .1 .1 .0) ∷ [], (s (xs .1 .1 .1 .1 .1 .0) ∷ [], (s (xs .1 .1 .1 .1 .1 .1 .0) ∷ [], tt)))))))
 
     abbrev args : List Val
-    args = mp ∷ vptr b o ∷ s (xs .0) ∷ s (xs .1 .0) ∷ s (xs .1 .1 .0) ∷ s (xs .1 .1 .1 .0) ∷ s (xs .1 .1 .1 .1 .0) ∷ []
+    args = mp ∷ vptr b o ∷ s (xs .0) ∷ s (xs .1 .0) ∷ s (xs .1 .1 .0) ∷ s (xs .1 .1 .1 .0) ∷ s (xs .1 .1 .1 .1 .0) ∷ s (xs .1 .1 .1 .1 .1 .0) ∷ s (xs .1 .1 .1 .1 .1 .1 .0) ∷ []
 
     abbrev y : walkOf 𝓤 H A f.ended stayed (said 𝓤) .Ghost
     y = (((κ, κs), (q, qs), tt, (p, (x, xs)), (mp ∷ [], (vptr b o ∷ [], ss))), tt)
@@ -256,7 +272,7 @@ module _ (call : Parameters → Growth → File → Pool → After) (stays : (p 
         (Post (EL.val Q.the-type Q′.the-laws (r .answer)))
     exits r g ws is-p is-a leaves grew =
         qed W (‵ (fobs (name x) (G.the-row .coded .code g)) ∷ ‵ (fbor κ (Body (mem G.the-row) b o (name x))) ∷ ‵ (flft κ q) ∷ raw (alive 𝓤 H A grow.signature κs qs) ∷ ‵ (lastsOf κs slots (all yes slots) xs ws) ∷ []) ∵
-        suffices ! _ (ends-at 𝓤 H A f.ended stayed (said 𝓤) W y (EL.val Q.the-type Q′.the-laws (r .answer)) (r .answer) (tt, (g, ws)) (tt, (tt, (tt, (tt, (tt, (tt, (tt, tt)))))))) $
+        suffices ! _ (ends-at 𝓤 H A f.ended stayed (said 𝓤) W y (EL.val Q.the-type Q′.the-laws (r .answer)) (r .answer) (tt, (g, ws)) (tt, (tt, (tt, (tt, (tt, (tt, (tt, (tt, (tt, tt)))))))))) $
         feqI ! (List Val) (vptr b o ∷ []) (vptr b o ∷ []) refl $ fjoin3 ! $ move ! (0 ∷ 3 ∷ []) $ fjoin ! $ owned ! P.the-row (Is P.the-row) (LL.makes P.the-type P′.the-plain 𝓤 H A) p _ is-p $ fjoin ! $
         owned ! Q.the-row (Is Q.the-row) (EL.makes Q.the-type Q′.the-plain 𝓤 H A) (r .answer) _ is-a $ move ! (1 ∷ 0 ∷ []) $ join ! $ move ! (1 ∷ 2 ∷ []) $ join ! $ join ! $ frame ! $
         says ! grew $ check ! leaves $ done !
@@ -266,70 +282,85 @@ module _ (call : Parameters → Growth → File → Pool → After) (stays : (p 
       walk is-p rooms =
           qed W ((‵ (flft κ q) ⊛ raw (alive 𝓤 H A grow.signature κs qs)) ∷ ‵ (owns (typesAt (f.signature .params) (κ, κs)) (p, (x, xs)) (mp ∷ [], (vptr b o ∷ [], ss))) ∷ []) ∵ enter ! C Λ (functionAt callee) args _ $
           alloc1 ! (λ l₀. alloc1 ! (λ l₁. alloc1 ! (λ l₂. alloc1 ! (λ l₃. alloc1 ! (λ l₄. alloc1 ! (λ l₅. alloc1 ! (λ l₆. alloc1 ! (λ l₇. alloc1 ! (λ l₈. alloc1 ! (λ l₉. alloc1 ! (λ l₁₀.
-          alloc1 ! (λ l₁₁. alloc1 ! (λ l₁₂. alloc1 ! (λ l₁₃. alloc1 ! (λ l₁₄. alloc1 ! (λ l₁₅. alloc1 ! (λ l₁₆. alloc1 ! (λ l₁₇. alloc1 ! (λ l₁₈. alloc1 ! (λ l₁₉. alloc1 ! (λ l₂₀. alloc0 ! $ params1 ! $
-          pass1 ! (init ! 38 refl (LL.lawful P.the-type P′.the-laws 𝓤 H A W .typed p _ is-p .0)) $ pass1 ! (init ! 36 refl (tt, tt)) $
-          pass1 ! (init ! 34 refl (tt, (tt, (record { fits = rooms .0 .0 }, tt)))) $ pass1 ! (init ! 32 refl (tt, (tt, (record { fits = rooms .1 .0 .0 }, tt)))) $ pass1 ! (init ! 30 refl (tt, (tt, (record { fits = rooms .1 .1 .0 .0 }, tt)))) $
-          pass1 ! (init ! 28 refl (tt, (tt, (record { fits = rooms .1 .1 .1 .0 .0 }, tt)))) $ pass1 ! (init ! 26 refl (tt, (tt, (record { fits = rooms .1 .1 .1 .1 .0 .0 }, tt)))) $ pass0 ! $
-          -- [_20; …; _0; …; the tokens; what the parameters own]: the record's borrow is opened
-          move ! (43 ∷ []) $ fsplit ! $ drop ! $ fsplit ! $ fsplit3 ! $ drop ! $ move ! (45 ∷ []) $ split ! $ move ! (2 ∷ 3 ∷ 0 ∷ []) $
+          alloc1 ! (λ l₁₁. alloc1 ! (λ l₁₂. alloc1 ! (λ l₁₃. alloc1 ! (λ l₁₄. alloc1 ! (λ l₁₅. alloc1 ! (λ l₁₆. alloc1 ! (λ l₁₇. alloc1 ! (λ l₁₈. alloc1 ! (λ l₁₉. alloc1 ! (λ l₂₀. alloc1 ! (λ l₂₁.
+          alloc1 ! (λ l₂₂. alloc1 ! (λ l₂₃. alloc1 ! (λ l₂₄. alloc1 ! (λ l₂₅. alloc1 ! (λ l₂₆. alloc0 ! $ params1 ! $
+          pass1 ! (init ! 50 refl (LL.lawful P.the-type P′.the-laws 𝓤 H A W .typed p _ is-p .0)) $
+          pass1 ! (init ! 48 refl (tt, tt)) $
+          pass1 ! (init ! 46 refl (tt, (tt, (record { fits = rooms .0 .0 }, tt)))) $
+          pass1 ! (init ! 44 refl (tt, (tt, (record { fits = rooms .1 .0 .0 }, tt)))) $
+          pass1 ! (init ! 42 refl (tt, (tt, (record { fits = rooms .1 .1 .0 .0 }, tt)))) $
+          pass1 ! (init ! 40 refl (tt, (tt, (record { fits = rooms .1 .1 .1 .0 .0 }, tt)))) $
+          pass1 ! (init ! 38 refl (tt, (tt, (record { fits = rooms .1 .1 .1 .1 .0 .0 }, tt)))) $
+          pass1 ! (init ! 36 refl (tt, (tt, (record { fits = rooms .1 .1 .1 .1 .1 .0 .0 }, tt)))) $
+          pass1 ! (init ! 34 refl (tt, (tt, (record { fits = rooms .1 .1 .1 .1 .1 .1 .0 .0 }, tt)))) $ pass0 ! $
+          -- [_26; …; _0; …; the tokens; what the parameters own]: the record's borrow is opened
+          move ! (55 ∷ []) $ fsplit ! $ drop ! $ fsplit ! $ fsplit3 ! $ drop ! $ move ! (57 ∷ []) $ split ! $ move ! (2 ∷ 3 ∷ 0 ∷ []) $
           opens ! tt G.the-row {h = h} b o (λ vs. spelt ! G.the-row (Is G.the-row) (shows 𝓤 H A G.the-row) (LL.vals G.the-type G′.the-laws) (LL.tells G.the-type G′.the-laws) fullShare h vs b o $
           move ! (1 ∷ []) $ peeks ! G.the-row (Is G.the-row) (shows 𝓤 H A G.the-row) h (mg h ∷ []) (λ is-h. move ! (1 ∷ 0 ∷ []) $
-          -- [the record's cell; what it owns; the open borrow; obs; auth; the slices' tokens; what the slices own; _20; …; _0; …]: local i stands at 47 − 2·i
-          assigns ! (of-opd ! (load ! (from ! (hop ! (look ! 43 refl) (stop !))) (look-raw ! 0 refl))) (from ! (stop !)) (init ! 31 refl (LL.lawful G.the-type G′.the-laws 𝓤 H A W .typed h _ is-h .0)) $
-          assigns ! (addr ! (from ! (fld ! refl (hop ! (look-in ! 41 (sub ! 0 refl (whole !))) (stop !))))) (from ! (stop !)) (init ! 27 refl (tt, tt)) $
-          assigns ! (agg ! (and-then ! (load ! (from ! (stop !)) (look ! 27 refl)) (and-then ! (load ! (from ! (fld ! refl (stop !))) (look-in ! 41 (sub ! 1 refl (whole !)))) (no-more !)))) (from ! (stop !)) (init ! 25 refl (tt, (tt, (record { fits = rooms .0 .0 }, tt)))) $
-          assigns ! (addr ! (from ! (fld ! refl (hop ! (look-in ! 39 (sub ! 0 refl (whole !))) (stop !))))) (from ! (stop !)) (init ! 23 refl (tt, tt)) $
-          assigns ! (agg ! (and-then ! (load ! (from ! (stop !)) (look ! 23 refl)) (and-then ! (load ! (from ! (fld ! refl (stop !))) (look-in ! 39 (sub ! 1 refl (whole !)))) (no-more !)))) (from ! (stop !)) (init ! 21 refl (tt, (tt, (record { fits = rooms .1 .0 .0 }, tt)))) $
-          assigns ! (addr ! (from ! (fld ! refl (hop ! (look-in ! 37 (sub ! 0 refl (whole !))) (stop !))))) (from ! (stop !)) (init ! 19 refl (tt, tt)) $
-          assigns ! (agg ! (and-then ! (load ! (from ! (stop !)) (look ! 19 refl)) (and-then ! (load ! (from ! (fld ! refl (stop !))) (look-in ! 37 (sub ! 1 refl (whole !)))) (no-more !)))) (from ! (stop !)) (init ! 17 refl (tt, (tt, (record { fits = rooms .1 .1 .0 .0 }, tt)))) $
-          assigns ! (addr ! (from ! (fld ! refl (hop ! (look-in ! 35 (sub ! 0 refl (whole !))) (stop !))))) (from ! (stop !)) (init ! 15 refl (tt, tt)) $
-          assigns ! (agg ! (and-then ! (load ! (from ! (stop !)) (look ! 15 refl)) (and-then ! (load ! (from ! (fld ! refl (stop !))) (look-in ! 35 (sub ! 1 refl (whole !)))) (no-more !)))) (from ! (stop !)) (init ! 13 refl (tt, (tt, (record { fits = rooms .1 .1 .1 .0 .0 }, tt)))) $
-          assigns ! (addr ! (from ! (fld ! refl (hop ! (look-in ! 33 (sub ! 0 refl (whole !))) (stop !))))) (from ! (stop !)) (init ! 11 refl (tt, tt)) $
-          assigns ! (agg ! (and-then ! (load ! (from ! (stop !)) (look ! 11 refl)) (and-then ! (load ! (from ! (fld ! refl (stop !))) (look-in ! 33 (sub ! 1 refl (whole !)))) (no-more !)))) (from ! (stop !)) (init ! 9 refl (tt, (tt, (record { fits = rooms .1 .1 .1 .1 .0 .0 }, tt)))) $
-          -- the callee. [what it asks; the record's cell; what it owns; the open borrow; obs; auth; _20; …]: local i stands at 46 − 2·i
+          -- [the record's cell; what it owns; the open borrow; obs; auth; the slices' tokens; what the slices own; _26; …; _0; …]: local i stands at 59 − 2·i
+          assigns ! (of-opd ! (load ! (from ! (hop ! (look ! 55 refl) (stop !))) (look-raw ! 0 refl))) (from ! (stop !)) (init ! 39 refl (LL.lawful G.the-type G′.the-laws 𝓤 H A W .typed h _ is-h .0)) $
+          assigns ! (addr ! (from ! (fld ! refl (hop ! (look-in ! 53 (sub ! 0 refl (whole !))) (stop !))))) (from ! (stop !)) (init ! 35 refl (tt, tt)) $
+          assigns ! (agg ! (and-then ! (load ! (from ! (stop !)) (look ! 35 refl)) (and-then ! (load ! (from ! (fld ! refl (stop !))) (look-in ! 53 (sub ! 1 refl (whole !)))) (no-more !)))) (from ! (stop !)) (init ! 33 refl (tt, (tt, (record { fits = rooms .0 .0 }, tt)))) $
+          assigns ! (addr ! (from ! (fld ! refl (hop ! (look-in ! 51 (sub ! 0 refl (whole !))) (stop !))))) (from ! (stop !)) (init ! 31 refl (tt, tt)) $
+          assigns ! (agg ! (and-then ! (load ! (from ! (stop !)) (look ! 31 refl)) (and-then ! (load ! (from ! (fld ! refl (stop !))) (look-in ! 51 (sub ! 1 refl (whole !)))) (no-more !)))) (from ! (stop !)) (init ! 29 refl (tt, (tt, (record { fits = rooms .1 .0 .0 }, tt)))) $
+          assigns ! (addr ! (from ! (fld ! refl (hop ! (look-in ! 49 (sub ! 0 refl (whole !))) (stop !))))) (from ! (stop !)) (init ! 27 refl (tt, tt)) $
+          assigns ! (agg ! (and-then ! (load ! (from ! (stop !)) (look ! 27 refl)) (and-then ! (load ! (from ! (fld ! refl (stop !))) (look-in ! 49 (sub ! 1 refl (whole !)))) (no-more !)))) (from ! (stop !)) (init ! 25 refl (tt, (tt, (record { fits = rooms .1 .1 .0 .0 }, tt)))) $
+          assigns ! (addr ! (from ! (fld ! refl (hop ! (look-in ! 47 (sub ! 0 refl (whole !))) (stop !))))) (from ! (stop !)) (init ! 23 refl (tt, tt)) $
+          assigns ! (agg ! (and-then ! (load ! (from ! (stop !)) (look ! 23 refl)) (and-then ! (load ! (from ! (fld ! refl (stop !))) (look-in ! 47 (sub ! 1 refl (whole !)))) (no-more !)))) (from ! (stop !)) (init ! 21 refl (tt, (tt, (record { fits = rooms .1 .1 .1 .0 .0 }, tt)))) $
+          assigns ! (addr ! (from ! (fld ! refl (hop ! (look-in ! 45 (sub ! 0 refl (whole !))) (stop !))))) (from ! (stop !)) (init ! 19 refl (tt, tt)) $
+          assigns ! (agg ! (and-then ! (load ! (from ! (stop !)) (look ! 19 refl)) (and-then ! (load ! (from ! (fld ! refl (stop !))) (look-in ! 45 (sub ! 1 refl (whole !)))) (no-more !)))) (from ! (stop !)) (init ! 17 refl (tt, (tt, (record { fits = rooms .1 .1 .1 .1 .0 .0 }, tt)))) $
+          assigns ! (addr ! (from ! (fld ! refl (hop ! (look-in ! 43 (sub ! 0 refl (whole !))) (stop !))))) (from ! (stop !)) (init ! 15 refl (tt, tt)) $
+          assigns ! (agg ! (and-then ! (load ! (from ! (stop !)) (look ! 15 refl)) (and-then ! (load ! (from ! (fld ! refl (stop !))) (look-in ! 43 (sub ! 1 refl (whole !)))) (no-more !)))) (from ! (stop !)) (init ! 13 refl (tt, (tt, (record { fits = rooms .1 .1 .1 .1 .1 .0 .0 }, tt)))) $
+          assigns ! (addr ! (from ! (fld ! refl (hop ! (look-in ! 41 (sub ! 0 refl (whole !))) (stop !))))) (from ! (stop !)) (init ! 11 refl (tt, tt)) $
+          assigns ! (agg ! (and-then ! (load ! (from ! (stop !)) (look ! 11 refl)) (and-then ! (load ! (from ! (fld ! refl (stop !))) (look-in ! 41 (sub ! 1 refl (whole !)))) (no-more !)))) (from ! (stop !)) (init ! 9 refl (tt, (tt, (record { fits = rooms .1 .1 .1 .1 .1 .1 .0 .0 }, tt)))) $
+          -- the callee. [what it asks; the record's cell; what it owns; the open borrow; obs; auth; _26; …]: local i stands at 58 − 2·i
           move ! (5 ∷ 6 ∷ []) $ use2 W (raw (Called 𝓤 H A at-mem run .pre to-callee)) (goes-callee is-p is-h) $
           calls-at ! fm (Called 𝓤 H A at-mem run) known-callee to-callee
-          (and-then ! (load ! (from ! (stop !)) (look ! 44 refl)) (and-then ! (load ! (from ! (stop !)) (look ! 30 refl)) (and-then ! (load ! (from ! (stop !)) (look ! 24 refl)) (and-then ! (load ! (from ! (stop !)) (look ! 20 refl))
-          (and-then ! (load ! (from ! (stop !)) (look ! 16 refl)) (and-then ! (load ! (from ! (stop !)) (look ! 12 refl)) (and-then ! (load ! (from ! (stop !)) (look ! 8 refl)) (no-more !)))))))) (λ v.
+          (and-then ! (load ! (from ! (stop !)) (look ! 56 refl)) (and-then ! (load ! (from ! (stop !)) (look ! 38 refl)) (and-then ! (load ! (from ! (stop !)) (look ! 32 refl)) (and-then ! (load ! (from ! (stop !)) (look ! 28 refl))
+          (and-then ! (load ! (from ! (stop !)) (look ! 24 refl)) (and-then ! (load ! (from ! (stop !)) (look ! 20 refl)) (and-then ! (load ! (from ! (stop !)) (look ! 16 refl)) (and-then ! (load ! (from ! (stop !)) (look ! 12 refl))
+          (and-then ! (load ! (from ! (stop !)) (look ! 8 refl)) (no-more !)))))))))) (λ v.
           use1 W (later (some (λ (r : Grown). (raw (alive 𝓤 H A grow.signature κs qs) ⊛ ‵ (R.the-row .own r (v ∷ []))) ⊛ raw (ensured 𝓤 H A grow.ended (asked 𝓤) κs (p, (h, xs)) tt r)))) (id⊢ 𝓤 _) $ await ! tt $ pick ! (λ r.
           -- what it ensures, at some last lists
           split ! $ move ! (1 ∷ []) $ use1 W (some (λ (ws : Unit {0} × (Unit {0} × Lists)). ‵ (lasts grow.ended κs (p, (h, xs)) ws) ⊛ raw (fact 𝓤 (Left (after p h xs) (r .answer) (ws .1 .1))) ⊛ raw (fact 𝓤 (r .growth ≡ after p h xs .growth)))) (id⊢ 𝓤 _) $ pick ! (λ ws.
           split ! $ move ! (1 ∷ []) $ split ! $ heard ! (Left (after p h xs) (r .answer) (ws .1 .1)) (λ leaves. heard ! (r .growth ≡ after p h xs .growth) (λ grew. fsplit ! $ drop ! $ fsplit ! $ drop ! $
           -- [the last lists; the tokens and the result; the record's cell; …]
           move ! (1 ∷ []) $ split ! $ move ! (1 ∷ []) $ peeks ! R.the-row (Is R.the-row) (shows 𝓤 H A R.the-row) r (v ∷ []) (λ is-v. drop ! $
-          land ! (from ! (stop !)) (init ! 29 refl (LL.lawful R.the-type R′.the-laws 𝓤 H A W .typed r _ is-v .0)) $
-          rewrite ! 29 (λ (u : Val). ‵ (fat fullShare R′.mir l₉ 0 u)) (ap only (LL.tells R.the-type R′.the-laws r _ is-v)) refl $
-          -- `kept`. [what it asks; the slices' tokens; the last lists; the record's cell; what it owns; the open borrow; obs; auth; _20; …]: local i stands at 48 − 2·i
+          land ! (from ! (stop !)) (init ! 37 refl (LL.lawful R.the-type R′.the-laws 𝓤 H A W .typed r _ is-v .0)) $
+          rewrite ! 37 (λ (u : Val). ‵ (fat fullShare R′.mir l₁₁ 0 u)) (ap only (LL.tells R.the-type R′.the-laws r _ is-v)) refl $
+          -- `kept`. [what it asks; the slices' tokens; the last lists; the record's cell; what it owns; the open borrow; obs; auth; _26; …]: local i stands at 60 − 2·i
           use0 W (raw (Kept 𝓤 H A at-mem run .pre (to-kept r))) (goes-kept r is-h (LL.owes R.the-type R′.the-laws r (LL.owed R.the-type R′.the-laws r _ is-v))) $
-          calls-at ! fm (Kept 𝓤 H A at-mem run) known-kept (to-kept r) (and-then ! (load ! (from ! (stop !)) (look ! 32 refl)) (and-then ! (load ! (from ! (stop !)) (look ! 30 refl)) (no-more !))) (λ u.
+          calls-at ! fm (Kept 𝓤 H A at-mem run) known-kept (to-kept r) (and-then ! (load ! (from ! (stop !)) (look ! 40 refl)) (and-then ! (load ! (from ! (stop !)) (look ! 38 refl)) (no-more !))) (λ u.
           use1 W (later (some (λ (g : Growth). (‵ ftrue ⊛ ‵ (G.the-row .own g (u ∷ []))) ⊛ raw (ensured 𝓤 H A kept.ended (kept.clauses 𝓤 H A at-mem run) tt (h, (r, tt)) tt g)))) (id⊢ 𝓤 _) $ await ! tt $ pick ! (λ g.
           split ! $ move ! (1 ∷ []) $ use1 W (raw (fact 𝓤 (g ≡ keptBy (r .answer) h (r .growth)))) (kept-of 𝓤 H A at-mem run h r g) $ heard ! (g ≡ keptBy (r .answer) h (r .growth)) (λ chose. split ! $ drop ! $
           peeks ! G.the-row (Is G.the-row) (shows 𝓤 H A G.the-row) g (u ∷ []) (λ is-u.
           land ! (from ! (stop !)) (init ! 8 refl (LL.lawful G.the-type G′.the-laws 𝓤 H A W .typed g _ is-u .0)) $
           -- the record is stored, and the answer is the result
-          assigns ! (of-opd ! (load ! (from ! (stop !)) (look ! 8 refl))) (from ! (hop ! (look ! 44 refl) (stop !))) (store-raw ! 3 refl (LL.lawful G.the-type G′.the-laws 𝓤 H A W .typed g _ is-u .0)) $
-          assigns ! (of-opd ! (load ! (from ! (fld ! refl (stop !))) (look-in ! 30 (sub ! 0 refl (whole !))))) (from ! (stop !)) (init ! 48 refl (EL.lawful Q.the-type Q′.the-laws 𝓤 H A W tt .typed (r .answer) _ (LL.owed R.the-type R′.the-laws r _ is-v .0) .0)) $
+          assigns ! (of-opd ! (load ! (from ! (stop !)) (look ! 8 refl))) (from ! (hop ! (look ! 56 refl) (stop !))) (store-raw ! 3 refl (LL.lawful G.the-type G′.the-laws 𝓤 H A W .typed g _ is-u .0)) $
+          assigns ! (of-opd ! (load ! (from ! (fld ! refl (stop !))) (look-in ! 38 (sub ! 0 refl (whole !))))) (from ! (stop !)) (init ! 60 refl (EL.lawful Q.the-type Q′.the-laws 𝓤 H A W tt .typed (r .answer) _ (LL.owed R.the-type R′.the-laws r _ is-v .0) .0)) $
           move ! (3 ∷ 0 ∷ 5 ∷ 6 ∷ 7 ∷ []) $ closes ! tt G.the-row g (u ∷ []) b o $
-          -- [obs; the borrow; the token; the slices' tokens; the last lists; what the old record owns; _20; …]
-          returns ! (look ! 46 refl) $ forget ! 6 refl $ forget ! 8 refl $ forget ! 10 refl $ forget ! 12 refl $ forget ! 14 refl $ forget ! 16 refl $ forget ! 18 refl $ forget ! 20 refl $ forget ! 22 refl $ forget ! 24 refl $ forget ! 26 refl $
-          forget ! 28 refl $ forget ! 30 refl $ forget ! 32 refl $ forget ! 34 refl $ forget ! 36 refl $ forget ! 38 refl $ forget ! 40 refl $ forget ! 42 refl $ forget ! 44 refl $ forget ! 46 refl $
-          move ! (46 ∷ 47 ∷ []) $ free1 ! $ move ! (44 ∷ 45 ∷ []) $ free1 ! $ move ! (42 ∷ 43 ∷ []) $ free1 ! $ move ! (40 ∷ 41 ∷ []) $ free1 ! $ move ! (38 ∷ 39 ∷ []) $ free1 ! $ move ! (36 ∷ 37 ∷ []) $ free1 ! $ move ! (34 ∷ 35 ∷ []) $ free1 ! $
-          move ! (32 ∷ 33 ∷ []) $ free1 ! $ move ! (30 ∷ 31 ∷ []) $ free1 ! $ move ! (28 ∷ 29 ∷ []) $ free1 ! $ move ! (26 ∷ 27 ∷ []) $ free1 ! $ move ! (24 ∷ 25 ∷ []) $ free1 ! $ move ! (22 ∷ 23 ∷ []) $ free1 ! $ move ! (20 ∷ 21 ∷ []) $ free1 ! $
-          move ! (18 ∷ 19 ∷ []) $ free1 ! $ move ! (16 ∷ 17 ∷ []) $ free1 ! $ move ! (14 ∷ 15 ∷ []) $ free1 ! $ move ! (12 ∷ 13 ∷ []) $ free1 ! $ move ! (10 ∷ 11 ∷ []) $ free1 ! $ move ! (8 ∷ 9 ∷ []) $ free1 ! $ move ! (6 ∷ 7 ∷ []) $ free1 ! $ free0 ! $
+          -- [obs; the borrow; the token; the slices' tokens; the last lists; what the old record owns; _26; …]
+          returns ! (look ! 58 refl) $
+          forget ! 6 refl $ forget ! 8 refl $ forget ! 10 refl $ forget ! 12 refl $ forget ! 14 refl $ forget ! 16 refl $ forget ! 18 refl $ forget ! 20 refl $ forget ! 22 refl $ forget ! 24 refl $ forget ! 26 refl $ forget ! 28 refl $
+          forget ! 30 refl $ forget ! 32 refl $ forget ! 34 refl $ forget ! 36 refl $ forget ! 38 refl $ forget ! 40 refl $ forget ! 42 refl $ forget ! 44 refl $ forget ! 46 refl $ forget ! 48 refl $ forget ! 50 refl $ forget ! 52 refl $
+          forget ! 54 refl $ forget ! 56 refl $ forget ! 58 refl $
+          move ! (58 ∷ 59 ∷ []) $ free1 ! $ move ! (56 ∷ 57 ∷ []) $ free1 ! $ move ! (54 ∷ 55 ∷ []) $ free1 ! $ move ! (52 ∷ 53 ∷ []) $ free1 ! $ move ! (50 ∷ 51 ∷ []) $ free1 ! $ move ! (48 ∷ 49 ∷ []) $ free1 ! $ move ! (46 ∷ 47 ∷ []) $ free1 ! $ move ! (44 ∷ 45 ∷ []) $ free1 ! $
+          move ! (42 ∷ 43 ∷ []) $ free1 ! $ move ! (40 ∷ 41 ∷ []) $ free1 ! $ move ! (38 ∷ 39 ∷ []) $ free1 ! $ move ! (36 ∷ 37 ∷ []) $ free1 ! $ move ! (34 ∷ 35 ∷ []) $ free1 ! $ move ! (32 ∷ 33 ∷ []) $ free1 ! $ move ! (30 ∷ 31 ∷ []) $ free1 ! $ move ! (28 ∷ 29 ∷ []) $ free1 ! $
+          move ! (26 ∷ 27 ∷ []) $ free1 ! $ move ! (24 ∷ 25 ∷ []) $ free1 ! $ move ! (22 ∷ 23 ∷ []) $ free1 ! $ move ! (20 ∷ 21 ∷ []) $ free1 ! $ move ! (18 ∷ 19 ∷ []) $ free1 ! $ move ! (16 ∷ 17 ∷ []) $ free1 ! $ move ! (14 ∷ 15 ∷ []) $ free1 ! $ move ! (12 ∷ 13 ∷ []) $ free1 ! $
+          move ! (10 ∷ 11 ∷ []) $ free1 ! $ move ! (8 ∷ 9 ∷ []) $ free1 ! $ move ! (6 ∷ 7 ∷ []) $ free1 ! $ free0 ! $
           keep ! (0 ∷ 1 ∷ 2 ∷ 3 ∷ 4 ∷ []) $
-          by ! (exits r g (ws .1 .1) is-p (LL.owed R.the-type R′.the-laws r _ is-v .0) leaves (chose ∙ keeps h (after p h xs) (stays p h _ _) (r .answer) (r .growth) (leaves .answers) grew)))))))))))))))))))))))))))))))))))
+          by ! (exits r g (ws .1 .1) is-p (LL.owed R.the-type R′.the-laws r _ is-v .0) leaves (chose ∙ keeps h (after p h xs) (stays p h _ _) (r .answer) (r .growth) (leaves .answers) grew)))))))))))))))))))))))))))))))))))))))))
 
   module _ {M : Type 1} (𝓤 : URA M) (H : Heap 𝓤) (A : Atoms 𝓤) (W : Given 𝓤 H A) (at-mem : Memory → SProp 𝓤) (run : Routine → Fun 𝓤) where
     walks : (C : Calls 𝓤 H) (Λ : Loops 𝓤 H) → FmC 𝓤 H (W .laws) C → Triple 𝓤 (C callee) (Called 𝓤 H A at-mem run) → Triple 𝓤 (C #growth-record·kept) (Kept 𝓤 H A at-mem run) → Walks 𝓤 H A f.ended stayed (WpFn 𝓤 H C Λ (functionAt callee)) (said 𝓤)
     walks C Λ fm known-callee known-kept = walked 𝓤 H A f.ended stayed (said 𝓤) (WpFn 𝓤 H C Λ (functionAt callee))
-        (λ κs. (LL.vals P.the-type P′.the-laws, (ptr-vals, (slice-vals, (slice-vals, (slice-vals, (slice-vals, (slice-vals, tt))))))))
+        (λ κs. (LL.vals P.the-type P′.the-laws, (ptr-vals, (slice-vals, (slice-vals, (slice-vals, (slice-vals, (slice-vals, (slice-vals, (slice-vals, tt))))))))))
         -- no relation reads its reference's lifetime
-        (λ κs. (LL.tells P.the-type P′.the-laws, (mut-tells erased [] G.the-row, (mut-slice-tells erased [] u8, (mut-slice-tells erased [] u32, (mut-slice-tells erased [] u64, (mut-slice-tells erased [] u32, (mut-slice-tells erased [] u64, tt))))))))
+        (λ κs. (LL.tells P.the-type P′.the-laws, (mut-tells erased [] G.the-row, (mut-slice-tells erased [] u8, (mut-slice-tells erased [] u32, (mut-slice-tells erased [] u64, (mut-slice-tells erased [] u8, (mut-slice-tells erased [] u32, (mut-slice-tells erased [] u64, (mut-slice-tells erased [] u8, tt))))))))))
         (λ κs qs bounds a _ are. via 𝓤 _ (fst∗ 𝓤 _ (emp 𝓤)) (walk 𝓤 H A W at-mem run (κs .0) (κs .1) (qs .0) (qs .1) (a .0) (a .1 .0) (a .1 .1) C Λ fm known-callee known-kept (are .0)
-        (are .1 .1 .0 .0 .1, (are .1 .1 .1 .0 .0 .1, (are .1 .1 .1 .1 .0 .0 .1, (are .1 .1 .1 .1 .1 .0 .0 .1, (are .1 .1 .1 .1 .1 .1 .0 .0 .1, tt)))))))
+        (are .1 .1 .0 .0 .1, (are .1 .1 .1 .0 .0 .1, (are .1 .1 .1 .1 .0 .0 .1, (are .1 .1 .1 .1 .1 .0 .0 .1, (are .1 .1 .1 .1 .1 .1 .0 .0 .1, (are .1 .1 .1 .1 .1 .1 .1 .0 .0 .1, (are .1 .1 .1 .1 .1 .1 .1 .1 .0 .0 .1, tt)))))))))
 
-    goes : AllGo 𝓤 H A W 6 (f.signature .params) (f.ended .kept) stayed
-    goes = (goes-none 𝓤 H A W 6 (λ _. P.the-row) yes (λ κs x f. refl), (goes-ref 𝓤 H A W 6 0 tt (plain (λ _. G.the-row)), goes-passed 𝓤 H A W 6 here))
+    goes : AllGo 𝓤 H A W 8 (f.signature .params) (f.ended .kept) stayed
+    goes = (goes-none 𝓤 H A W 8 (λ _. P.the-row) yes (λ κs x f. refl), (goes-ref 𝓤 H A W 8 0 tt (plain (λ _. G.the-row)), goes-passed 𝓤 H A W 8 here))
 
   pub meets : {M : Type 1} (𝓤 : URA M) (H : Heap 𝓤) (A : Atoms 𝓤) → Given 𝓤 H A → (at-mem : Memory → SProp 𝓤) (run : Routine → Fun 𝓤) (𝓣 : Tables 𝓤 H) → Triple 𝓤 (𝓣 .C callee) (Called 𝓤 H A at-mem run) → Triple 𝓤 (𝓣 .C #growth-record·kept) (Kept 𝓤 H A at-mem run)
       → Meets 𝓤 H A f.signature (WpFn 𝓤 H (𝓣 .C) (𝓣 .Λ) (functionAt callee)) (closing 𝓤 H A f.ended (said 𝓤))

@@ -17,12 +17,14 @@ pub fn grow(
     separators: &mut [u8],
     numbers: &mut [u32],
     words: &mut [u64],
+    owners: &mut [u8],
     poolnumbers: &mut [u32],
     poolwords: &mut [u64],
+    poolowners: &mut [u8],
 ) -> Placed
-    ensures { λ r. ⌜ Leaves (growOf parameters (now (growth .entry)) (before separators numbers words) (poolBefore poolnumbers poolwords))
-        (placed r) (after separators numbers words) (poolAfter poolnumbers poolwords) ⌝ }
-    ensures { λ _. ⌜ now (growth .exit) ≡ growOf parameters (now (growth .entry)) (before separators numbers words) (poolBefore poolnumbers poolwords) .growth ⌝ }
+    ensures { λ r. ⌜ Leaves (growOf parameters (now (growth .entry)) (before separators numbers words owners) (poolBefore poolnumbers poolwords poolowners))
+        (placed r) (after separators numbers words owners) (poolAfter poolnumbers poolwords poolowners) ⌝ }
+    ensures { λ _. ⌜ now (growth .exit) ≡ growOf parameters (now (growth .entry)) (before separators numbers words owners) (poolBefore poolnumbers poolwords poolowners) .growth ⌝ }
 {
     let old = *growth;
     let grown = starfile::grow(
@@ -31,8 +33,10 @@ pub fn grow(
         separators,
         numbers,
         words,
+        owners,
         poolnumbers,
         poolwords,
+        poolowners,
     );
     *growth = kept(old, grown);
     grown.answer
@@ -45,12 +49,14 @@ pub fn shrink(
     separators: &mut [u8],
     numbers: &mut [u32],
     words: &mut [u64],
+    owners: &mut [u8],
     poolnumbers: &mut [u32],
     poolwords: &mut [u64],
+    poolowners: &mut [u8],
 ) -> Placed
-    ensures { λ r. ⌜ Leaves (shrinkOf parameters (now (growth .entry)) (before separators numbers words) (poolBefore poolnumbers poolwords))
-        (placed r) (after separators numbers words) (poolAfter poolnumbers poolwords) ⌝ }
-    ensures { λ _. ⌜ now (growth .exit) ≡ shrinkOf parameters (now (growth .entry)) (before separators numbers words) (poolBefore poolnumbers poolwords) .growth ⌝ }
+    ensures { λ r. ⌜ Leaves (shrinkOf parameters (now (growth .entry)) (before separators numbers words owners) (poolBefore poolnumbers poolwords poolowners))
+        (placed r) (after separators numbers words owners) (poolAfter poolnumbers poolwords poolowners) ⌝ }
+    ensures { λ _. ⌜ now (growth .exit) ≡ shrinkOf parameters (now (growth .entry)) (before separators numbers words owners) (poolBefore poolnumbers poolwords poolowners) .growth ⌝ }
 {
     let old = *growth;
     let shrunk = starfile::shrink(
@@ -59,8 +65,10 @@ pub fn shrink(
         separators,
         numbers,
         words,
+        owners,
         poolnumbers,
         poolwords,
+        poolowners,
     );
     *growth = kept(old, shrunk);
     shrunk.answer

@@ -33,10 +33,11 @@ guarded-alike g f h pool other (suc n) a b e = refl
 
 module _ (p : Parameters) (g : Growth) (f h : File) (page : ℕ) (seps : f .separators ≡ h .separators)
     (nums : part (p .places) page (f .numbers) ≡ part (p .places) page (h .numbers))
-    (ws : part (p .places) page (f .words) ≡ part (p .places) page (h .words)) where
+    (ws : part (p .places) page (f .words) ≡ part (p .places) page (h .words))
+    (os : part (p .places) page (f .owners) ≡ part (p .places) page (h .owners)) where
   readable-alike : readable p g f page ≡ readable p g h page
   unfolding readable soundAt sound starsAt hashOf part
-  readable-alike = rw (seps, nums, ws)
+  readable-alike = rw (seps, nums, ws, os)
 
   looked-up-alike : (k : ℕ) → lookedUp p g f page k ≡ lookedUp p g h page k
   unfolding lookedUp holds itemOf
@@ -56,12 +57,12 @@ module _ (p : Parameters) (g : Growth) (f h : File) (page : ℕ) (seps : f .sepa
 
 fits-alike : (p : Parameters) (g : Growth) (k : ℕ) (f h : File) → Alike p g k f h → fileFits p f ≡ fileFits p h
 unfolding fileFits
-fits-alike p g k f h a = rw (a .separators, a .numbersLength, a .wordsLength)
+fits-alike p g k f h a = rw (a .separators, a .numbersLength, a .wordsLength, a .ownersLength)
 
 named-alike : (p : Parameters) (g : Growth) (k : ℕ) (f h : File) → Alike p g k f h
     → lookedUp p g f (named p g f k) k ≡ lookedUp p g h (named p g h k) k
 named-alike p g k f h a =
-    looked-up-alike p g f h (named p g f k) (a .separators) (a .numbers) (a .words) k
+    looked-up-alike p g f h (named p g f k) (a .separators) (a .numbers) (a .words) (a .owners) k
     ∙ ap (λ (vs : List ℕ). lookedUp p g h (namedPage p g vs k) k) (a .separators)
 
 pub look-ups-alike : LookUpsAlike

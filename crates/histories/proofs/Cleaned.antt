@@ -26,7 +26,7 @@ use Rattle.histories.proofs.Fitting.{Fitting}
 use Rattle.histories.proofs.Guards.{guard-passed}
 
 entryOf : Star → Entry
-entryOf s = record { number = s .number; position = unpacked (s .word) }
+entryOf s = record { number = s .number; position = unpacked (s .word); owner = s .owner }
 
 abbrev entriesOf : List Star → List Entry
 entriesOf w = map entryOf w
@@ -40,7 +40,7 @@ same-stars [] h = refl
 same-stars (s ∷ w) h =
     let one = pack-unpack (s .word) (h s (List·Memᴰ·head refl) .2) in
     let more = same-stars w (proper-tail s w h) in
-    λ i. record { number = s .number; word = one i } ∷ more i
+    λ i. record { number = s .number; word = one i; owner = s .owner } ∷ more i
 
 number-valid : (k : ℕ) → 1 ≤ k → k ≤ greatest → validNumber k ≡ true
 unfolding validNumber

@@ -1,12 +1,13 @@
 -- What is to be shown of a call on a model's own file, and the two ways to show it: refused, or accepted.
 use mathlib.Core.Path.{_≡_, sym, ap, _∙_}
+use mathlib.Core.Bool.{Bool, true, false, cond}
 use Prim.Native.Nat.{ℕ}
 use native.Mathlib.Omega.{arith}
 use borrow.Author.Tests.{eq-eqb, ne-eqb}
 use Rattle.hashing.specs.declared.Parameters.{Parameters}
 use Rattle.calls.specs.declared.answers.Answer.{Answer}
-use Rattle.calls.specs.Answers.{Pool, After}
-use Rattle.calls.specs.Calls.{unchanged}
+use Rattle.calls.specs.Answers.{Pool, After, spotted, refusedAt}
+use Rattle.calls.specs.Calls.{unchanged, placeFor, ownerFor, mayAlter, allowed}
 use Rattle.histories.specs.Model.{Model, Request, lookUp, updated, fed, modelFile, answered}
 use Rattle.histories.specs.Call.{isAccepted}
 use Rattle.histories.proofs.Fitting.{Fitting}
@@ -24,7 +25,7 @@ pub record Conforms (p : Parameters) (m : Model) (r : Request) (a : After) : Typ
   pub found : (k : ℕ) → r ≡ lookUp k → a .answer .refusal ≡ 0 → a .answer ≡ answered p m k
 
 module _ (p : Parameters) (m : Model) (fitting : Fitting p m) (r : Request) where
-  fed-refused : (a : Answer) → (a .refusal ≡ 0 → ⊥) → fedWith p r a m ≡ m
+  pub fed-refused : (a : Answer) → (a .refusal ≡ 0 → ⊥) → fedWith p r a m ≡ m
   unfolding fed isAccepted
   fed-refused a h = rw (ne-eqb (a .refusal) 0 h)
 
@@ -42,6 +43,16 @@ module _ (p : Parameters) (m : Model) (fitting : Fitting p m) (r : Request) wher
         undamaged = g;
         found = λ k e z. absurd (h z);
       }
+
+  -- refused with 13, or else as it is allowed
+  pub allowed-conforms : (pool : Pool) (page caller k : ℕ) (a : After)
+      → Conforms p m r a → Conforms p m r (allowed p (m .growth) (modelFile p m) pool page caller k a)
+  unfolding allowed spotted
+  allowed-conforms pool page caller k a h = go (mayAlter caller (ownerFor p (modelFile p m) page k))
+    where
+      go : (t : Bool) → Conforms p m r (cond t a (unchanged (m .growth) (modelFile p m) pool (refusedAt 13 0 (placeFor p (modelFile p m) page k))))
+      go true = h
+      go false = refused-conforms pool (refusedAt 13 0 (placeFor p (modelFile p m) page k)) (λ d. omega arith) (λ d. omega arith)
 
   -- accepted, with what the request makes of growth state and file
   pub accepted-conforms : (a : After) → a .answer .refusal ≡ 0 → a .growth ≡ updated p r m .growth → a .file ≡ modelFile p (updated p r m) → Fitting p (updated p r m)

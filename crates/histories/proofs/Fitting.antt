@@ -79,7 +79,7 @@ module _ (p : Parameters) (m : Model) (t : Fitting p m) where
 
   pub lengths : fileFits p (modelFile p m) ≡ true
   unfolding fileFits
-  lengths = rw (eq-eqb _ _ (sized .ofSeparators), eq-eqb _ _ (sized .ofNumbers), eq-eqb _ _ (sized .ofWords))
+  lengths = rw (eq-eqb _ _ (sized .ofSeparators), eq-eqb _ _ (sized .ofNumbers), eq-eqb _ _ (sized .ofWords), eq-eqb _ _ (sized .ofOwners))
 
   pub all-sound : (page : ℕ) → page < p .pages → soundAt p (m .growth) (modelFile p m) page ≡ true
   unfolding soundAt modelFile hashOf

@@ -70,5 +70,6 @@ module _ (conforming : Conforming) where
         separators = ap (λ (f : File). f .separators) (end-agrees t agrees cs .file);
         numbers = ap (λ (f : File). f .numbers) (end-agrees t agrees cs .file);
         words = ap (λ (f : File). f .words) (end-agrees t agrees cs .file);
+        owners = ap (λ (f : File). f .owners) (end-agrees t agrees cs .file);
         growth = end-agrees t agrees cs .growth;
       }

@@ -46,10 +46,10 @@ column-none b g zero top = rw (zero-mul b)
 column-none b g (suc n) top = rw (column-none b g n top, sub-zero b, replicate-append-replicate {A = ℕ} b (n * b) 0, suc-mul n b, add-comm (n * b) b)
 
 pub laid-none : (b : ℕ) (H : Hash) → Bounded H → (n : ℕ)
-    → laid b H n [] ≡ record { separators = replicate n (H .top); numbers = replicate (n * b) 0; words = replicate (n * b) 0 }
+    → laid b H n [] ≡ record { separators = replicate n (H .top); numbers = replicate (n * b) 0; words = replicate (n * b) 0; owners = replicate (n * b) 0 }
 unfolding laid fileOf
 laid-none b H bounds n =
-    rw (pages-none H bounds 0 n, separators-none n (vacant H), column-none b (λ (s : Star). s .number) n (H .top), column-none b (λ (s : Star). s .word) n (H .top))
+    rw (pages-none H bounds 0 n, separators-none n (vacant H), column-none b (λ (s : Star). s .number) n (H .top), column-none b (λ (s : Star). s .word) n (H .top), column-none b (λ (s : Star). s .owner) n (H .top))
 
 empty-is : (p : Parameters) → validParameters p ≡ true → emptyFile p ≡ modelFile p emptyModel
 unfolding emptyFile modelFile emptyModel entryStars hashOf

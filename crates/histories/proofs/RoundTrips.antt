@@ -58,7 +58,7 @@ module _ (p : Parameters) (m : Model) (t : Fitting p m) where
       rw (d ∙ w .leaves) (restored (second next (modelFile p (regrown m next))) (h (w .possible) u ∙ back next u (cleared again) page))
     where
       restored : (after : After) → after ≡ moved p m (cleared again) (m .growth) page → Restores (m .growth) (modelFile p m) (moved p m (cleared pool) next page) after
-      restored after c = rw c (record { answer = refl; growth = refl; separators = refl; numbers = refl; words = refl })
+      restored after c = rw c (record { answer = refl; growth = refl; separators = refl; numbers = refl; words = refl; owners = refl })
 
   abbrev g : Growth
   g = m .growth

@@ -14,8 +14,10 @@ pub record Alike (p : Parameters) (g : Growth) (k : ℕ) (f h : File) : Type 0 w
   pub separators : f .separators ≡ h .separators
   pub numbersLength : length (f .numbers) ≡ length (h .numbers)
   pub wordsLength : length (f .words) ≡ length (h .words)
+  pub ownersLength : length (f .owners) ≡ length (h .owners)
   pub numbers : part (p .places) (named p g f k) (f .numbers) ≡ part (p .places) (named p g f k) (h .numbers)
   pub words : part (p .places) (named p g f k) (f .words) ≡ part (p .places) (named p g f k) (h .words)
+  pub owners : part (p .places) (named p g f k) (f .owners) ≡ part (p .places) (named p g f k) (h .owners)
 
 -- they get the same answer, refused or not, whatever else is stored
 abbrev pub LookUpsAlike : Type 0

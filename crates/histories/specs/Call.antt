@@ -9,7 +9,7 @@ use Rattle.calls.specs.Answers.{Pool, After}
 use Rattle.calls.specs.Calls.{lookUpOf, enterOf, changeOf, removeOf, growOf, shrinkOf, dueOf, checkOf}
 use Rattle.histories.specs.Model.{Request, lookUp, enter, change, remove, grow, shrink, due, check}
 
--- "any number, position and pool": look-ups, changes and Dues leave the pool alone
+-- "any number, position and pool", and any caller: look-ups, changes and Dues leave the pool alone
 pub record Call : Type 0 where
   pub request : Request
   pub pool : Pool
@@ -20,9 +20,9 @@ callOf pool r = record { request = r; pool = pool }
 -- "Each call has that file's parameters, .. and the file buffers and (e, x) as the call before left them", by the definitions of crate calls
 unfoldable pub step : Parameters → Growth → File → Pool → Request → After
 step p g f pool (lookUp k) = lookUpOf p g f pool k
-step p g f pool (enter k q) = enterOf p g f pool k q
-step p g f pool (change k q) = changeOf p g f pool k q
-step p g f pool (remove k) = removeOf p g f pool k
+step p g f pool (enter caller k q) = enterOf p g f pool caller k q
+step p g f pool (change caller k q) = changeOf p g f pool caller k q
+step p g f pool (remove caller k) = removeOf p g f pool caller k
 step p g f pool grow = growOf p g f pool
 step p g f pool shrink = shrinkOf p g f pool
 step p g f pool due = dueOf p g f pool

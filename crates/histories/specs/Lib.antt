@@ -4,5 +4,6 @@ pub mod Run
 pub mod Theorem
 pub mod Corollaries
 pub mod Alike
+pub mod Others
 pub mod Demand3
 pub mod RoundTrips

@@ -18,8 +18,10 @@ use Rattle.calls.specs.Calls.{hash, placeFor}
 pub record Entry : Type 0 where
   pub number : ℕ
   pub position : Position
+  pub owner : ℕ
 
--- "It holds star numbers, each once with a position, and an (e, x) of its own": entries stand in rising order of number.
+-- "It holds star numbers, each once with a position, and an (e, x) of its own", and "keeps owners": document 02 (x). Entries stand in rising order of
+-- number.
 pub record Model : Type 0 where
   pub entries : List Entry
   pub growth : Growth
@@ -28,13 +30,15 @@ pub record Model : Type 0 where
 unfoldable pub emptyModel : Model
 emptyModel = record { entries = []; growth = ungrown }
 
--- "sets the number's position": in place of the number's entry, or before the first higher one
-unfoldable pub setPosition : ℕ → Position → List Entry → List Entry
-setPosition k q [] = record { number = k; position = q } ∷ []
-setPosition k q (e ∷ es) =
+-- "sets the number's position": in place of the number's entry, which "leaves the owner", or before the first higher one, and it "is its caller's"
+unfoldable pub setPosition : ℕ → ℕ → Position → List Entry → List Entry
+setPosition caller k q [] = record { number = k; position = q; owner = caller } ∷ []
+setPosition caller k q (e ∷ es) =
     cond (ltb (e .number) k)
-    (e ∷ setPosition k q es)
-    (record { number = k; position = q } ∷ cond (eqb (e .number) k) es (e ∷ es))
+    (e ∷ setPosition caller k q es)
+    (cond (eqb (e .number) k)
+    (record { number = k; position = q; owner = e .owner } ∷ es)
+    (record { number = k; position = q; owner = caller } ∷ e ∷ es))
 
 -- "strikes the number out"
 unfoldable pub strike : ℕ → List Entry → List Entry
@@ -45,33 +49,54 @@ unfoldable pub heldPosition : ℕ → List Entry → Option Position
 heldPosition k [] = none
 heldPosition k (e ∷ es) = cond (eqb (e .number) k) (some (e .position)) (heldPosition k es)
 
--- A call's kind, number and position.
+-- the star's owner, 0 for a number not held
+unfoldable pub heldOwner : ℕ → List Entry → ℕ
+heldOwner k [] = 0
+heldOwner k (e ∷ es) = cond (eqb (e .number) k) (e .owner) (heldOwner k es)
+
+-- its whole entry, if any
+unfoldable pub heldEntry : ℕ → List Entry → Option Entry
+heldEntry k [] = none
+heldEntry k (e ∷ es) = cond (eqb (e .number) k) (some e) (heldEntry k es)
+
+-- A call's kind, number and position, and the caller of an entry, a change or a removal before them.
 pub data Request : Type 0 where
   lookUp : ℕ → Request
-  enter : ℕ → Position → Request
-  change : ℕ → Position → Request
-  remove : ℕ → Request
+  enter : ℕ → ℕ → Position → Request
+  change : ℕ → ℕ → Position → Request
+  remove : ℕ → ℕ → Request
   grow shrink due check : Request
+
+-- who calls, of those that alter stars
+unfoldable pub callerOf : Request → Option ℕ
+callerOf (lookUp k) = none
+callerOf (enter caller k q) = some caller
+callerOf (change caller k q) = some caller
+callerOf (remove caller k) = some caller
+callerOf grow = none
+callerOf shrink = none
+callerOf due = none
+callerOf check = none
 
 -- what an accepted call makes of the model; "Any other call leaves it as it is"; a shrink is "taking the book's (e, x) back": document 02 (i)
 unfoldable pub updated : Parameters → Request → Model → Model
 updated p (lookUp k) m = m
-updated p (enter k q) m = record { entries = setPosition k q (m .entries); growth = m .growth }
-updated p (change k q) m = record { entries = setPosition k q (m .entries); growth = m .growth }
-updated p (remove k) m = record { entries = strike k (m .entries); growth = m .growth }
+updated p (enter caller k q) m = record { entries = setPosition caller k q (m .entries); growth = m .growth }
+updated p (change caller k q) m = record { entries = setPosition caller k q (m .entries); growth = m .growth }
+updated p (remove caller k) m = record { entries = strike k (m .entries); growth = m .growth }
 updated p grow m = record { entries = m .entries; growth = grown p (m .growth) }
 updated p shrink m = record { entries = m .entries; growth = shrunk p (m .growth) }
 updated p due m = m
 updated p check m = m
 
--- "fed each call's kind, number and position and whether it was accepted"; "and so does each refused one"
+-- "fed each call's kind, number and position and whether it was accepted", and "the caller"; "and so does each refused one"
 unfoldable pub fed : Parameters → Request → Bool → Model → Model
 fed p r true m = updated p r m
 fed p r false m = m
 
 -- "its stars, .. positions packed into words"
 unfoldable pub entryStars : List Entry → List Star
-entryStars es = map (λ (e : Entry). record { number = e .number; word = packed (e .position) }) es
+entryStars es = map (λ (e : Entry). record { number = e .number; word = packed (e .position); owner = e .owner }) es
 
 -- "Its separators and pages are what the rule over pages 0 to M−1 gives its stars, homes being taken under its (e, x)"
 unfoldable pub modelFile : Parameters → Model → File

@@ -14,6 +14,7 @@ pub record Restores (g : Growth) (f : File) (first second : After) : Type 0 wher
   pub separators : second .file .separators ≡ f .separators
   pub numbers : second .file .numbers ≡ f .numbers
   pub words : second .file .words ≡ f .words
+  pub owners : second .file .owners ≡ f .owners
 
 -- a call that needs no more than the lent file and a pool
 abbrev pub WholeCall : Type 0

@@ -22,6 +22,7 @@ pub record AsModel (start : HistoryState) (history : List Call) : Type 0 where
   pub separators : end start history .file .separators ≡ modelFile (end start history .parameters) (end start history .model) .separators
   pub numbers : end start history .file .numbers ≡ modelFile (end start history .parameters) (end start history .model) .numbers
   pub words : end start history .file .words ≡ modelFile (end start history .parameters) (end start history .model) .words
+  pub owners : end start history .file .owners ≡ modelFile (end start history .parameters) (end start history .model) .owners
   pub growth : end start history .growth ≡ end start history .model .growth
 
 -- for all parameters and buffers that make accepts, and every history

@@ -12,14 +12,14 @@ use Rattle.pages.specs.declared.page.Place.{Place}
 unfoldable pub part : ℕ → ℕ → List ℕ → List ℕ
 part places page l = take places (drop (page * places) l)
 
--- "one value of 32 places, unused ones empty"; 0 marks an empty place, whose word is 0
+-- "one value of 32 places, unused ones empty"; 0 marks an empty place, whose word and owner are 0
 unfoldable pub filled : List ℕ → List ℕ
 filled l = l ++ replicate (32 - length l) 0
 
--- a page of the lent numbers and words as one value
-abbrev pub pageAt : ℕ → ℕ → List ℕ → List ℕ → Page
-pageAt places page ns ws =
-    record { numbers = filled (part places page ns); words = filled (part places page ws) }
+-- a page of the lent numbers, words and owners as one value
+abbrev pub pageAt : ℕ → ℕ → List ℕ → List ℕ → List ℕ → Page
+pageAt places page ns ws os =
+    record { numbers = filled (part places page ns); words = filled (part places page ws); owners = filled (part places page os) }
 
 -- the search of k ends at n: an empty place, or a number not below k
 abbrev pub stops : ℕ → ℕ → Bool

@@ -4,10 +4,11 @@ ghost use Prim.Native.Nat.{_+_, _*_, _≤_};
 ghost use lib.ListN.{length, take};
 ghost use Rattle.pages.specs.Page.{pageAt, placeIn};
 
-// Unused places are empty: number 0, word 0.
+// Unused places are empty: number 0, word 0, owner 0.
 pub struct Page {
     pub numbers: [u32; 32],
     pub words: [u64; 32],
+    pub owners: [u8; 32],
 }
 
 // Where a number stands in a page or would stand, and whether it is held.
@@ -16,21 +17,24 @@ pub struct Place {
     pub held: bool,
 }
 
-pub fn load(numbers: &[u32], words: &[u64], places: usize, page: usize) -> Page
+pub fn load(numbers: &[u32], words: &[u64], owners: &[u8], places: usize, page: usize) -> Page
     requires { ⌜ places ≤ 32 ⌝ }
     requires { ⌜ page * places + places ≤ length (now numbers) ⌝ }
     requires { ⌜ page * places + places ≤ length (now words) ⌝ }
-    ensures { λ r. ⌜ r ≡ pageAt places page (now (numbers .entry)) (now (words .entry)) ⌝ }
+    requires { ⌜ page * places + places ≤ length (now owners) ⌝ }
+    ensures { λ r. ⌜ r ≡ pageAt places page (now (numbers .entry)) (now (words .entry)) (now (owners .entry)) ⌝ }
 {
     let mut value = Page {
         numbers: [0u32; 32],
         words: [0u64; 32],
+        owners: [0u8; 32],
     };
     let first = page * places;
     let mut i = 0;
     while i < places {
         value.numbers[i] = numbers[first + i];
         value.words[i] = words[first + i];
+        value.owners[i] = owners[first + i];
         i += 1;
     }
     value

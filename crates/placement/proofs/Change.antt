@@ -19,13 +19,21 @@ use Rattle.placement.proofs.Composition.{length-pages}
 use Rattle.placement.proofs.Standing.{one-place}
 use Rattle.placement.proofs.Writing.{Roomy, parts-same, part-column, length-column}
 use Rattle.placement.proofs.Pages.{Proper}
-use Rattle.placement.proofs.Files.{numberOf, wordOf, roomy-pages, rising-page}
+use Rattle.placement.proofs.Files.{numberOf, wordOf, ownerOf, roomy-pages, rising-page}
 
 pub reworded-keeps : (k v : ℕ) → Keeps (reworded k v)
 unfolding reworded
 reworded-keeps k v s = go (eqb (s .number) k)
   where
-    go : (t : Bool) → (cond t (record { number = s .number; word = v }) s) .number ≡ s .number
+    go : (t : Bool) → (cond t (record { number = s .number; word = v; owner = s .owner }) s) .number ≡ s .number
+    go true = refl
+    go false = refl
+
+owner-kept : (k v : ℕ) (s : Star) → reworded k v s .owner ≡ s .owner
+unfolding reworded
+owner-kept k v s = go (eqb (s .number) k)
+  where
+    go : (t : Bool) → (cond t (record { number = s .number; word = v; owner = s .owner }) s) .owner ≡ s .owner
     go true = refl
     go false = refl
 
@@ -115,9 +123,17 @@ roomy-mapped : (b : ℕ) (g : Star → Star) (cs : List Contents) → Roomy b cs
 roomy-mapped b g [] r = tt
 roomy-mapped b g (c ∷ cs) r = (rw (length-map (c .stars) g) (r .0), roomy-mapped b g cs (r .1))
 
-numbers-kept : (g : Star → Star) → Keeps g → (l : List Star) → map numberOf (map g l) ≡ map numberOf l
-numbers-kept g keeps [] = refl
-numbers-kept g keeps (s ∷ l) = ap (λ (x : ℕ). x ∷ map numberOf (map g l)) (keeps s) ∙ ap (λ (m : List ℕ). s .number ∷ m) (numbers-kept g keeps l)
+-- A map of stars that keeps a field keeps its column.
+field-kept : (g : Star → Star) (h : Star → ℕ) → ((s : Star) → h (g s) ≡ h s) → (l : List Star) → map h (map g l) ≡ map h l
+field-kept g h keeps [] = refl
+field-kept g h keeps (s ∷ l) = ap (λ (x : ℕ). x ∷ map h (map g l)) (keeps s) ∙ ap (λ (m : List ℕ). h s ∷ m) (field-kept g h keeps l)
+
+pub column-kept : (g : Star → Star) (h : Star → ℕ) → ((s : Star) → h (g s) ≡ h s) → (b : ℕ) (cs : List Contents) → column b h (map (mapped g) cs) ≡ column b h cs
+unfolding column
+column-kept g h keeps b [] = refl
+column-kept g h keeps b (c ∷ cs) =
+    ap (λ (l : List ℕ). padded b l ++ column b h (map (mapped g) cs)) (field-kept g h keeps (c .stars))
+    ∙ ap (λ (l : List ℕ). padded b (map h (c .stars)) ++ l) (column-kept g h keeps b cs)
 
 -- A map that keeps numbers keeps separators and numbers.
 pub separators-map : (g : Star → Star) (cs : List Contents) → separators (map (mapped g) cs) ≡ separators cs
@@ -126,11 +142,7 @@ separators-map g [] = refl
 separators-map g (c ∷ cs) = ap (λ (l : List ℕ). c .separator ∷ l) (separators-map g cs)
 
 pub numbers-map : (g : Star → Star) → Keeps g → (b : ℕ) (cs : List Contents) → column b numberOf (map (mapped g) cs) ≡ column b numberOf cs
-unfolding column
-numbers-map g keeps b [] = refl
-numbers-map g keeps b (c ∷ cs) =
-    ap (λ (l : List ℕ). padded b l ++ column b numberOf (map (mapped g) cs)) (numbers-kept g keeps (c .stars))
-    ∙ ap (λ (l : List ℕ). padded b (map numberOf (c .stars)) ++ l) (numbers-map g keeps b cs)
+numbers-map g keeps b cs = column-kept g numberOf keeps b cs
 
 part-set-other : (b p q i v : ℕ) (l : List ℕ) → i < b → (q ≡ p → ⊥) → part b q (set l (p * b + i) v) ≡ part b q l
 unfolding part
@@ -160,6 +172,7 @@ pub changed-laid : (ok : ℕ → Bool) (H : Hash) (M p i k v : ℕ) (t : List St
       separators = laid (H .room) H M t .separators;
       numbers = laid (H .room) H M t .numbers;
       words = set (laid (H .room) H M t .words) (p * H .room + i) v;
+      owners = laid (H .room) H M t .owners;
     }
 unfolding laid fileOf changed
 changed-laid ok H M p i k v t rising proper hk hp hi e =
@@ -167,6 +180,7 @@ changed-laid ok H M p i k v t rising proper hk hp hi e =
       separators = (ap separators moved ∙ separators-map g cs) j;
       numbers = (ap (column b numberOf) moved ∙ numbers-map g (reworded-keeps k v) b cs) j;
       words = (ap (column b wordOf) moved ∙ words) j;
+      owners = (ap (column b ownerOf) moved ∙ column-kept g ownerOf (owner-kept k v) b cs) j;
     }
   where
     b : ℕ

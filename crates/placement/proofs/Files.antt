@@ -25,6 +25,9 @@ numberOf s = s .number
 abbrev pub wordOf : Star → ℕ
 wordOf s = s .word
 
+abbrev pub ownerOf : Star → ℕ
+ownerOf s = s .owner
+
 -- ---- a file made of pages says them
 
 pub gathered-collected : (b : ℕ) (f : File) (p n : ℕ) → gathered b f p n ≡ collected (pagesAt b f p n)
@@ -43,7 +46,7 @@ AllNumbered cs = (p : ℕ) → p < length cs → Numbered (getD cs p blank .star
 
 pub starsAt-of : (b : ℕ) (cs : List Contents) (p : ℕ) → Roomy b cs → p < length cs → Numbered (getD cs p blank .stars) → starsAt b (fileOf b cs) p ≡ getD cs p blank .stars
 unfolding starsAt fileOf
-starsAt-of b cs p r h g = rw (part-column b numberOf cs p r h, part-column b wordOf cs p r h) (starsOf-padded b (getD cs p blank .stars) g)
+starsAt-of b cs p r h g = rw (part-column b numberOf cs p r h, part-column b wordOf cs p r h, part-column b ownerOf cs p r h) (starsOf-padded b (getD cs p blank .stars) g)
 
 pub contentsAt-of : (b : ℕ) (cs : List Contents) (p : ℕ) → Roomy b cs → p < length cs → Numbered (getD cs p blank .stars) → contentsAt b (fileOf b cs) p ≡ getD cs p blank
 unfolding contentsAt fileOf
@@ -59,7 +62,7 @@ pagesAt-of b cs p (suc n) r g h =
 
 pub sized-of : (b : ℕ) (cs : List Contents) → Roomy b cs → Sized b (length cs) (fileOf b cs)
 unfolding fileOf
-sized-of b cs r = record { ofSeparators = length-separators cs; ofNumbers = length-column b numberOf cs r; ofWords = length-column b wordOf cs r }
+sized-of b cs r = record { ofSeparators = length-separators cs; ofNumbers = length-column b numberOf cs r; ofWords = length-column b wordOf cs r; ofOwners = length-column b ownerOf cs r }
 
 -- ---- replacing pages
 
@@ -71,6 +74,7 @@ replaced-of b cs ds p rc rd h =
       separators = written-separators p ds cs h i;
       numbers = written-column b numberOf p ds cs rc rd h i;
       words = written-column b wordOf p ds cs rc rd h i;
+      owners = written-column b ownerOf p ds cs rc rd h i;
     }
 
 -- Two adjacent stretches, one after the other.
@@ -78,7 +82,7 @@ pub replaced-add : (b M : ℕ) (f : File) (p : ℕ) (cs ds : List Contents) → 
     → replaced b (replaced b f p cs) (p + length cs) ds ≡ replaced b f p (cs ++ ds)
 unfolding replaced
 replaced-add b M f p cs ds z r h =
-    λ i. record { separators = first-list i; numbers = other numberOf (f .numbers) (z .ofNumbers) i; words = other wordOf (f .words) (z .ofWords) i }
+    λ i. record { separators = first-list i; numbers = other numberOf (f .numbers) (z .ofNumbers) i; words = other wordOf (f .words) (z .ofWords) i; owners = other ownerOf (f .owners) (z .ofOwners) i }
   where
     first-list : written (p + length cs) (separators ds) (written p (separators cs) (f .separators)) ≡ written p (separators (cs ++ ds)) (f .separators)
     first-list =
@@ -100,6 +104,7 @@ sized-replaced b M f p cs z r h =
       ofSeparators = length-written p (separators cs) (f .separators) (omega (arith, z .ofSeparators, length-separators cs)) ∙ z .ofSeparators;
       ofNumbers = other numberOf (f .numbers) (z .ofNumbers);
       ofWords = other wordOf (f .words) (z .ofWords);
+      ofOwners = other ownerOf (f .owners) (z .ofOwners);
     }
   where
     other : (g : Star → ℕ) (l : List ℕ) → length l ≡ M * b → length (written (p * b) (column b g cs) l) ≡ M * b
@@ -119,18 +124,20 @@ pub starsAt-replaced : (b M : ℕ) (f : File) (p i : ℕ) (cs : List Contents) �
     → starsAt b (replaced b f p cs) (p + i) ≡ getD cs i blank .stars
 unfolding starsAt replaced
 starsAt-replaced b M f p i cs z r h k g =
-    rw (part-replaced b M p i numberOf cs (f .numbers) (z .ofNumbers) r h k, part-replaced b M p i wordOf cs (f .words) (z .ofWords) r h k)
+    rw (part-replaced b M p i numberOf cs (f .numbers) (z .ofNumbers) r h k, part-replaced b M p i wordOf cs (f .words) (z .ofWords) r h k, part-replaced b M p i ownerOf cs (f .owners) (z .ofOwners) r h k)
     (starsOf-padded b (getD cs i blank .stars) g)
 
 -- ---- a file is determined by its pages
 
 pub determined : (b M : ℕ) (f g : File) → Sized b M f → Sized b M g → f .separators ≡ g .separators
-    → ((p : ℕ) → p < M → part b p (f .numbers) ≡ part b p (g .numbers)) → ((p : ℕ) → p < M → part b p (f .words) ≡ part b p (g .words)) → f ≡ g
-determined b M f g zf zg e hn hw =
+    → ((p : ℕ) → p < M → part b p (f .numbers) ≡ part b p (g .numbers)) → ((p : ℕ) → p < M → part b p (f .words) ≡ part b p (g .words))
+    → ((p : ℕ) → p < M → part b p (f .owners) ≡ part b p (g .owners)) → f ≡ g
+determined b M f g zf zg e hn hw ho =
     λ i. record {
       separators = e i;
       numbers = parts-same b M (f .numbers) (g .numbers) (zf .ofNumbers) (zg .ofNumbers) hn i;
       words = parts-same b M (f .words) (g .words) (zf .ofWords) (zg .ofWords) hw i;
+      owners = parts-same b M (f .owners) (g .owners) (zf .ofOwners) (zg .ofOwners) ho i;
     }
 
 -- ---- the file that the rule lays

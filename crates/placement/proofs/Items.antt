@@ -36,42 +36,44 @@ item-at f ns hs n i h b e =
 
 module _ (p : Parameters) (g : Growth) (seps : List ℕ) (page : ℕ) where
   -- one item, then the others
-  pub admits-cons : (last n w : ℕ) (ns ws : List ℕ) → admits p g seps page last (n ∷ ns) (w ∷ ws) ≡ admitsItem p g seps page last n w && admits p g seps page (lastAfter n) ns ws
+  pub admits-cons : (last n w o : ℕ) (ns ws os : List ℕ)
+      → admits p g seps page last (n ∷ ns) (w ∷ ws) (o ∷ os) ≡ admitsItem p g seps page last n w o && admits p g seps page (lastAfter n) ns ws os
   unfolding admits admitsItem orderly starsOf every
-  admits-cons last n w ns ws = go (eqb n 0)
+  admits-cons last n w o ns ws os = go (eqb n 0)
     where
       here : Star → Bool
       here s = eqb (namedPage p g seps (s .number)) page
 
-      shuffled : (b c d e o s : Bool) → (b && (c && (d && o))) && (e && s) ≡ (b && (c && (d && e))) && (o && s)
+      shuffled : (b c d e r s : Bool) → (b && (c && (d && r))) && (e && s) ≡ (b && (c && (d && e))) && (r && s)
       shuffled true true true true true s = refl
       shuffled true true true true false s = refl
       shuffled true true true false true s = refl
       shuffled true true true false false s = refl
-      shuffled true true false e o s = refl
-      shuffled true false d e o s = refl
-      shuffled false c d e o s = refl
+      shuffled true true false e r s = refl
+      shuffled true false d e r s = refl
+      shuffled false c d e r s = refl
 
-      grouped : (b c d : Bool) → (b && c) && d ≡ b && (c && d)
-      grouped true c d = refl
-      grouped false c d = refl
+      grouped : (b c d e : Bool) → (b && (c && d)) && e ≡ (b && c) && (d && e)
+      grouped true true d e = refl
+      grouped true false d e = refl
+      grouped false c d e = refl
 
       go : (t : Bool) →
-          cond t (eqb w 0 && orderly validWord greatest ns ws) (ltb last n && (leb n greatest && (validWord w && orderly validWord n ns ws)))
-          && every here (keep (not t) (record { number = n; word = w }) (starsOf ns ws))
-          ≡ cond t (eqb w 0) (ltb last n && (leb n greatest && (validWord w && eqb (namedPage p g seps n) page)))
-          && (orderly validWord (cond t greatest n) ns ws && every here (starsOf ns ws))
-      go true = grouped (eqb w 0) (orderly validWord greatest ns ws) (every here (starsOf ns ws))
+          cond t (eqb w 0 && (eqb o 0 && orderly validWord greatest ns ws os)) (ltb last n && (leb n greatest && (validWord w && orderly validWord n ns ws os)))
+          && every here (keep (not t) (record { number = n; word = w; owner = o }) (starsOf ns ws os))
+          ≡ cond t (eqb w 0 && eqb o 0) (ltb last n && (leb n greatest && (validWord w && eqb (namedPage p g seps n) page)))
+          && (orderly validWord (cond t greatest n) ns ws os && every here (starsOf ns ws os))
+      go true = grouped (eqb w 0) (eqb o 0) (orderly validWord greatest ns ws os) (every here (starsOf ns ws os))
       go false =
-          shuffled (ltb last n) (leb n greatest) (validWord w) (eqb (namedPage p g seps n) page) (orderly validWord n ns ws) (every here (starsOf ns ws))
+          shuffled (ltb last n) (leb n greatest) (validWord w) (eqb (namedPage p g seps n) page) (orderly validWord n ns ws os) (every here (starsOf ns ws os))
 
   -- one item: an empty place, a star out of order, a star in order
-  module _ (last n w : ℕ) where
-    pub empty-item : n ≡ 0 → admitsItem p g seps page last n w ≡ eqb w 0
+  module _ (last n w o : ℕ) where
+    pub empty-item : n ≡ 0 → admitsItem p g seps page last n w o ≡ eqb w 0 && eqb o 0
     unfolding admitsItem
     empty-item h = rw (eq-eqb n 0 h)
 
-    pub refused-item : (n ≡ 0 → ⊥) → ltb last n && (leb n greatest && validWord w) ≡ false → admitsItem p g seps page last n w ≡ false
+    pub refused-item : (n ≡ 0 → ⊥) → ltb last n && (leb n greatest && validWord w) ≡ false → admitsItem p g seps page last n w o ≡ false
     unfolding admitsItem
     refused-item h e = rw (ne-eqb n 0 h) (go (ltb last n) (leb n greatest) (validWord w) (eqb (namedPage p g seps n) page) e)
       where
@@ -81,7 +83,7 @@ module _ (p : Parameters) (g : Growth) (seps : List ℕ) (page : ℕ) where
         go true false d t e = refl
         go false c d t e = refl
 
-    pub passed-item : (n ≡ 0 → ⊥) → ltb last n && (leb n greatest && validWord w) ≡ true → admitsItem p g seps page last n w ≡ eqb (namedPage p g seps n) page
+    pub passed-item : (n ≡ 0 → ⊥) → ltb last n && (leb n greatest && validWord w) ≡ true → admitsItem p g seps page last n w o ≡ eqb (namedPage p g seps n) page
     unfolding admitsItem
     passed-item h e = rw (ne-eqb n 0 h) (go (ltb last n) (leb n greatest) (validWord w) (eqb (namedPage p g seps n) page) e)
       where
@@ -92,39 +94,43 @@ module _ (p : Parameters) (g : Growth) (seps : List ℕ) (page : ℕ) where
         go false c d t e = absurd (false≢true e)
 
   -- of a page's value the first i items were admitted, and their homes are kept
-  pub record Surveyed (ns ws : List ℕ) (places i last : ℕ) (homes : List ℕ) : Type 0 where
+  pub record Surveyed (ns ws os : List ℕ) (places i last : ℕ) (homes : List ℕ) : Type 0 where
     pub numbered : places ≤ length ns
     pub worded : places ≤ length ws
+    pub owned : places ≤ length os
     pub long : length homes ≡ 32
-    pub is : admits p g seps page 0 (take places ns) (take places ws) ≡ admits p g seps page last (drop i (take places ns)) (drop i (take places ws))
+    pub is : admits p g seps page 0 (take places ns) (take places ws) (take places os) ≡ admits p g seps page last (drop i (take places ns)) (drop i (take places ws)) (drop i (take places os))
     pub homed : take i homes ≡ homesOf p g (take i ns)
 
-  pub surveyed-none : (ns ws : List ℕ) (places : ℕ) → places ≤ length ns → places ≤ length ws → Surveyed ns ws places 0 0 (replicate 32 0)
+  pub surveyed-none : (ns ws os : List ℕ) (places : ℕ) → places ≤ length ns → places ≤ length ws → places ≤ length os → Surveyed ns ws os places 0 0 (replicate 32 0)
   unfolding homesOf
-  surveyed-none ns ws places n w = record { numbered = n; worded = w; long = refl; is = refl; homed = refl }
+  surveyed-none ns ws os places n w o = record { numbered = n; worded = w; owned = o; long = refl; is = refl; homed = refl }
 
-  module _ {ns ws : List ℕ} {places i last : ℕ} {homes : List ℕ} (done : Surveyed ns ws places i last homes) where
+  module _ {ns ws os : List ℕ} {places i last : ℕ} {homes : List ℕ} (done : Surveyed ns ws os places i last homes) where
     -- the next item decides, or is admitted too
-    onward : i < places → admits p g seps page 0 (take places ns) (take places ws) ≡ admitsItem p g seps page last (getD ns i 0) (getD ws i 0) && admits p g seps page (lastAfter (getD ns i 0)) (drop (suc i) (take places ns)) (drop (suc i) (take places ws))
+    onward : i < places → admits p g seps page 0 (take places ns) (take places ws) (take places os) ≡ admitsItem p g seps page last (getD ns i 0) (getD ws i 0) (getD os i 0) && admits p g seps page (lastAfter (getD ns i 0)) (drop (suc i) (take places ns)) (drop (suc i) (take places ws)) (drop (suc i) (take places os))
     onward h =
         done .is
         ∙ rw (
           drop-cons (take places ns) i 0 (omega (arith, length-take-le places ns (done .numbered))),
           drop-cons (take places ws) i 0 (omega (arith, length-take-le places ws (done .worded))),
+          drop-cons (take places os) i 0 (omega (arith, length-take-le places os (done .owned))),
           getD-take places ns i 0 h,
           getD-take places ws i 0 h,
+          getD-take places os i 0 h,
         )
-        (admits-cons last (getD ns i 0) (getD ws i 0) (drop (suc i) (take places ns)) (drop (suc i) (take places ws)))
+        (admits-cons last (getD ns i 0) (getD ws i 0) (getD os i 0) (drop (suc i) (take places ns)) (drop (suc i) (take places ws)) (drop (suc i) (take places os)))
 
-    pub surveyed-refused : i < places → admitsItem p g seps page last (getD ns i 0) (getD ws i 0) ≡ false → admits p g seps page 0 (take places ns) (take places ws) ≡ false
+    pub surveyed-refused : i < places → admitsItem p g seps page last (getD ns i 0) (getD ws i 0) (getD os i 0) ≡ false → admits p g seps page 0 (take places ns) (take places ws) (take places os) ≡ false
     surveyed-refused h e = onward h ∙ rw e
 
-    pub surveyed-more : {home next : ℕ} → i < places → i < 32 → admitsItem p g seps page last (getD ns i 0) (getD ws i 0) ≡ true → home ≡ homeIn p g (getD ns i 0) → next ≡ lastAfter (getD ns i 0) → Surveyed ns ws places (i + 1) next (set homes i home)
+    pub surveyed-more : {home next : ℕ} → i < places → i < 32 → admitsItem p g seps page last (getD ns i 0) (getD ws i 0) (getD os i 0) ≡ true → home ≡ homeIn p g (getD ns i 0) → next ≡ lastAfter (getD ns i 0) → Surveyed ns ws os places (i + 1) next (set homes i home)
     unfolding homesOf
     surveyed-more {home} {next} h k e t l =
         record {
           numbered = done .numbered;
           worded = done .worded;
+          owned = done .owned;
           long = length-set homes i home ∙ done .long;
           is = rw (add-one i, l) (onward h ∙ rw e);
           homed =
@@ -138,7 +144,7 @@ module _ (p : Parameters) (g : Growth) (seps : List ℕ) (page : ℕ) where
               );
         }
 
-    pub surveyed-all : i ≡ places → admits p g seps page 0 (take places ns) (take places ws) ≡ true
+    pub surveyed-all : i ≡ places → admits p g seps page 0 (take places ns) (take places ws) (take places os) ≡ true
     unfolding admits orderly starsOf every
     surveyed-all e =
         let none : drop i (take places ns) ≡ [] = drop-of-length-le (take places ns) {i = i} (omega (arith, length-take-le places ns (done .numbered))) in
@@ -148,11 +154,11 @@ module _ (p : Parameters) (g : Growth) (seps : List ℕ) (page : ℕ) where
 
 module _ (p : Parameters) (g : Growth) (f : File) (page : ℕ) where
   -- by the page's items
-  pub sound-items : soundIn p g (f .separators) page (part (p .places) page (f .numbers)) (part (p .places) page (f .words)) ≡ soundAt p g f page
+  pub sound-items : soundIn p g (f .separators) page (part (p .places) page (f .numbers)) (part (p .places) page (f .words)) (part (p .places) page (f .owners)) ≡ soundAt p g f page
   unfolding soundIn admits soundAt sound starsAt namedPage hashOf
   sound-items =
       swapped (leb (getD (f .separators) page 0) (topOf (p .bits)))
-      (orderly validWord 0 (part (p .places) page (f .numbers)) (part (p .places) page (f .words)))
+      (orderly validWord 0 (part (p .places) page (f .numbers)) (part (p .places) page (f .words)) (part (p .places) page (f .owners)))
       _
     where
       swapped : (b c d : Bool) → b && (c && d) ≡ c && (b && d)
@@ -161,13 +167,14 @@ module _ (p : Parameters) (g : Growth) (f : File) (page : ℕ) where
       swapped false false d = refl
 
   -- by the value that `load` makes of them
-  pub sound-loaded : (v : Page) → page * p .places + p .places ≤ length (f .numbers) → page * p .places + p .places ≤ length (f .words) → v ≡ pageAt (p .places) page (f .numbers) (f .words) →
-      soundIn p g (f .separators) page (take (p .places) (v .numbers)) (take (p .places) (v .words)) ≡ soundAt p g f page
-  sound-loaded v hn hw e =
-      rw (e, take-filled (p .places) page (f .numbers) hn, take-filled (p .places) page (f .words) hw) sound-items
+  pub sound-loaded : (v : Page) → page * p .places + p .places ≤ length (f .numbers) → page * p .places + p .places ≤ length (f .words)
+      → page * p .places + p .places ≤ length (f .owners) → v ≡ pageAt (p .places) page (f .numbers) (f .words) (f .owners)
+      → soundIn p g (f .separators) page (take (p .places) (v .numbers)) (take (p .places) (v .words)) (take (p .places) (v .owners)) ≡ soundAt p g f page
+  sound-loaded v hn hw ho e =
+      rw (e, take-filled (p .places) page (f .numbers) hn, take-filled (p .places) page (f .words) hw, take-filled (p .places) page (f .owners) ho) sound-items
 
-pub homes-loaded : (p : Parameters) (g : Growth) (page : ℕ) (ns ws : List ℕ) (v : Page) → page * p .places + p .places ≤ length ns → v ≡ pageAt (p .places) page ns ws → homesOf p g (take (p .places) (v .numbers)) ≡ homesOf p g (part (p .places) page ns)
-homes-loaded p g page ns ws v h e = rw (e, take-filled (p .places) page ns h)
+pub homes-loaded : (p : Parameters) (g : Growth) (page : ℕ) (ns ws os : List ℕ) (v : Page) → page * p .places + p .places ≤ length ns → v ≡ pageAt (p .places) page ns ws os → homesOf p g (take (p .places) (v .numbers)) ≡ homesOf p g (part (p .places) page ns)
+homes-loaded p g page ns ws os v h e = rw (e, take-filled (p .places) page ns h)
 
 -- a paste takes the front of what it pastes
 pub paste-front : (d s t : List ℕ) (at n : ℕ) → take n s ≡ t → paste d at s n ≡ paste d at t n

@@ -1,4 +1,4 @@
--- A page's numbers and words against its stars: what `orderly` says, both ways.
+-- A page's numbers, words and owners against its stars: what `orderly` says, both ways.
 use mathlib.Core.Path.{_≡_, refl, sym, ap, _∙_}
 use mathlib.Core.Bool.{Bool, true, false, not, cond}
 use mathlib.Core.List.{List, [], _∷_, _++_, map, List·Memᴰ, List·Memᴰ·head, List·Memᴰ·tail, List·Memᴰ·cases-cons, List·Memᴰ·not-nil}
@@ -49,19 +49,22 @@ rising-one (s ∷ l) r h = (h s (List·Memᴰ·head refl), r .1)
 -- ---- from the items to the stars
 
 -- What an item of an orderly page is: empty, or a star.
-data Item (ok : ℕ → Bool) (last n w : ℕ) (ns ws : List ℕ) : Type 0 where
-  empty : n ≡ 0 → w ≡ 0 → orderly ok greatest ns ws ≡ true → starsOf (n ∷ ns) (w ∷ ws) ≡ starsOf ns ws → Item ok last n w ns ws
-  star : last < n → n ≤ greatest → ok w ≡ true → orderly ok n ns ws ≡ true → starsOf (n ∷ ns) (w ∷ ws) ≡ record { number = n; word = w } ∷ starsOf ns ws → Item ok last n w ns ws
+data Item (ok : ℕ → Bool) (last n w o : ℕ) (ns ws os : List ℕ) : Type 0 where
+  empty : n ≡ 0 → w ≡ 0 → o ≡ 0 → orderly ok greatest ns ws os ≡ true → starsOf (n ∷ ns) (w ∷ ws) (o ∷ os) ≡ starsOf ns ws os → Item ok last n w o ns ws os
+  star : last < n → n ≤ greatest → ok w ≡ true → orderly ok n ns ws os ≡ true → starsOf (n ∷ ns) (w ∷ ws) (o ∷ os) ≡ record { number = n; word = w; owner = o } ∷ starsOf ns ws os → Item ok last n w o ns ws os
 
 picked : (t a b : Bool) → cond t a b ≡ true → ((t ≡ true) × (a ≡ true)) ⊎ ((t ≡ false) × (b ≡ true))
 picked true a b e = inl (refl, e)
 picked false a b e = inr (refl, e)
 
-item : (ok : ℕ → Bool) (last n w : ℕ) (ns ws : List ℕ) → orderly ok last (n ∷ ns) (w ∷ ws) ≡ true → Item ok last n w ns ws
+item : (ok : ℕ → Bool) (last n w o : ℕ) (ns ws os : List ℕ) → orderly ok last (n ∷ ns) (w ∷ ws) (o ∷ os) ≡ true → Item ok last n w o ns ws os
 unfolding orderly starsOf
-item ok last n w ns ws e =
+item ok last n w o ns ws os e =
     ⊎-elim
-    (λ h. let a = and-true (eqb w 0) _ (h .1) in empty (eqb-true n 0 (h .0)) (eqb-true w 0 (a .0)) (a .1) (rw (h .0)))
+    (λ h.
+    let a = and-true (eqb w 0) _ (h .1) in
+    let b = and-true (eqb o 0) _ (a .1) in
+    empty (eqb-true n 0 (h .0)) (eqb-true w 0 (a .0)) (eqb-true o 0 (b .0)) (b .1) (rw (h .0)))
     (λ h.
     let a = and-true (ltb last n) _ (h .1) in
     let b = and-true (leb n greatest) _ (a .1) in
@@ -69,60 +72,68 @@ item ok last n w ns ws e =
     star (ltb-true last n (a .0)) (leb-true n greatest (b .0)) (c .0) (c .1) (rw (h .0)))
     (picked (eqb n 0) _ _ e)
 
-pub orderly-rising : (ok : ℕ → Bool) (last : ℕ) (ns ws : List ℕ) → last ≤ greatest → orderly ok last ns ws ≡ true → Rising (suc last) (starsOf ns ws)
+pub orderly-rising : (ok : ℕ → Bool) (last : ℕ) (ns ws os : List ℕ) → last ≤ greatest → orderly ok last ns ws os ≡ true → Rising (suc last) (starsOf ns ws os)
 unfolding starsOf
-orderly-rising ok last [] ws h e = tt
-orderly-rising ok last (n ∷ ns) [] h e = tt
-orderly-rising ok last (n ∷ ns) (w ∷ ws) h e = go (orderly-rising ok greatest ns ws (le-refl greatest)) (orderly-rising ok n ns ws) (item ok last n w ns ws e)
+orderly-rising ok last [] ws os h e = tt
+orderly-rising ok last (n ∷ ns) [] os h e = tt
+orderly-rising ok last (n ∷ ns) (w ∷ ws) [] h e = tt
+orderly-rising ok last (n ∷ ns) (w ∷ ws) (o ∷ os) h e =
+    go (orderly-rising ok greatest ns ws os (le-refl greatest)) (orderly-rising ok n ns ws os) (item ok last n w o ns ws os e)
   where
-    go : (orderly ok greatest ns ws ≡ true → Rising (suc greatest) (starsOf ns ws)) → (n ≤ greatest → orderly ok n ns ws ≡ true → Rising (suc n) (starsOf ns ws))
-        → Item ok last n w ns ws → Rising (suc last) (starsOf (n ∷ ns) (w ∷ ws))
-    go ih₀ ih (empty z y o s) = rw s (rising-less (suc last) (suc greatest) (starsOf ns ws) (omega arith) (ih₀ o))
-    go ih₀ ih (star l g v o s) = rw s (l, ih g o)
+    go : (orderly ok greatest ns ws os ≡ true → Rising (suc greatest) (starsOf ns ws os)) → (n ≤ greatest → orderly ok n ns ws os ≡ true → Rising (suc n) (starsOf ns ws os))
+        → Item ok last n w o ns ws os → Rising (suc last) (starsOf (n ∷ ns) (w ∷ ws) (o ∷ os))
+    go ih₀ ih (empty z y x d s) = rw s (rising-less (suc last) (suc greatest) (starsOf ns ws os) (omega arith) (ih₀ d))
+    go ih₀ ih (star l g v d s) = rw s (l, ih g d)
 
-pub orderly-proper : (ok : ℕ → Bool) (last : ℕ) (ns ws : List ℕ) → orderly ok last ns ws ≡ true → Proper ok (starsOf ns ws)
+pub orderly-proper : (ok : ℕ → Bool) (last : ℕ) (ns ws os : List ℕ) → orderly ok last ns ws os ≡ true → Proper ok (starsOf ns ws os)
 unfolding starsOf
-orderly-proper ok last [] ws e s m = absurd (List·Memᴰ·not-nil m)
-orderly-proper ok last (n ∷ ns) [] e s m = absurd (List·Memᴰ·not-nil m)
-orderly-proper ok last (n ∷ ns) (w ∷ ws) e s m = go (orderly-proper ok greatest ns ws) (orderly-proper ok n ns ws) (item ok last n w ns ws e) m
+orderly-proper ok last [] ws os e s m = absurd (List·Memᴰ·not-nil m)
+orderly-proper ok last (n ∷ ns) [] os e s m = absurd (List·Memᴰ·not-nil m)
+orderly-proper ok last (n ∷ ns) (w ∷ ws) [] e s m = absurd (List·Memᴰ·not-nil m)
+orderly-proper ok last (n ∷ ns) (w ∷ ws) (o ∷ os) e s m =
+    go (orderly-proper ok greatest ns ws os) (orderly-proper ok n ns ws os) (item ok last n w o ns ws os e) m
   where
-    go : (orderly ok greatest ns ws ≡ true → Proper ok (starsOf ns ws)) → (orderly ok n ns ws ≡ true → Proper ok (starsOf ns ws)) → Item ok last n w ns ws
-        → List·Memᴰ s (starsOf (n ∷ ns) (w ∷ ws)) → (1 ≤ s .number) × (s .number ≤ greatest) × (ok (s .word) ≡ true)
-    go ih₀ ih (empty z y o q) m = ih₀ o s (rw q at m)
-    go ih₀ ih (star l g v o q) m =
+    go : (orderly ok greatest ns ws os ≡ true → Proper ok (starsOf ns ws os)) → (orderly ok n ns ws os ≡ true → Proper ok (starsOf ns ws os)) → Item ok last n w o ns ws os
+        → List·Memᴰ s (starsOf (n ∷ ns) (w ∷ ws) (o ∷ os)) → (1 ≤ s .number) × (s .number ≤ greatest) × (ok (s .word) ≡ true)
+    go ih₀ ih (empty z y x d q) m = ih₀ d s (rw q at m)
+    go ih₀ ih (star l g v d q) m =
         ⊎-elim
-        (λ (d : s ≡ record { number = n; word = w }).
-        (omega (arith, ap (λ (x : Star). x .number) d), omega (arith, ap (λ (x : Star). x .number) d), ap (λ (x : Star). ok (x .word)) d ∙ v))
-        (λ (k : List·Memᴰ s (starsOf ns ws)). ih o s k)
+        (λ (c : s ≡ record { number = n; word = w; owner = o }).
+        (omega (arith, ap (λ (x : Star). x .number) c), omega (arith, ap (λ (x : Star). x .number) c), ap (λ (x : Star). ok (x .word)) c ∙ v))
+        (λ (k : List·Memᴰ s (starsOf ns ws os)). ih d s k)
         (List·Memᴰ·cases-cons (rw q at m))
 
-pub length-starsOf : (ns ws : List ℕ) → length (starsOf ns ws) ≤ length ns
+pub length-starsOf : (ns ws os : List ℕ) → length (starsOf ns ws os) ≤ length ns
 unfolding starsOf
-length-starsOf [] ws = le-refl 0
-length-starsOf (n ∷ ns) [] = omega arith
-length-starsOf (n ∷ ns) (w ∷ ws) = go (not (eqb n 0)) (length-starsOf ns ws)
+length-starsOf [] ws os = le-refl 0
+length-starsOf (n ∷ ns) [] os = omega arith
+length-starsOf (n ∷ ns) (w ∷ ws) [] = omega arith
+length-starsOf (n ∷ ns) (w ∷ ws) (o ∷ os) = go (not (eqb n 0)) (length-starsOf ns ws os)
   where
-    go : (t : Bool) → length (starsOf ns ws) ≤ length ns → length (keep t (record { number = n; word = w }) (starsOf ns ws)) ≤ suc (length ns)
+    go : (t : Bool) → length (starsOf ns ws os) ≤ length ns → length (keep t (record { number = n; word = w; owner = o }) (starsOf ns ws os)) ≤ suc (length ns)
     go true ih = omega arith
     go false ih = omega arith
 
--- After an empty place all are empty.
-empties : (ok : ℕ → Bool) (ns ws : List ℕ) → length ns ≡ length ws → orderly ok greatest ns ws ≡ true
-    → (ns ≡ replicate (length ns) 0) × (ws ≡ replicate (length ns) 0) × (starsOf ns ws ≡ [])
-unfolding starsOf orderly
-empties ok [] [] h e = (refl, refl, refl)
-empties ok [] (w ∷ ws) h e = absurd (omega arith)
-empties ok (n ∷ ns) [] h e = absurd (omega arith)
-empties ok (n ∷ ns) (w ∷ ws) h e = go (empties ok ns ws (omega arith)) (item ok greatest n w ns ws e)
-  where
-    Both : Type 0
-    Both = (ns ≡ replicate (length ns) 0) × (ws ≡ replicate (length ns) 0) × (starsOf ns ws ≡ [])
+-- Items of so many zeros, and no star among them.
+abbrev Blank : ℕ → List ℕ → List ℕ → List ℕ → Type 0
+Blank n ns ws os = (ns ≡ replicate n 0) × (ws ≡ replicate n 0) × (os ≡ replicate n 0) × (starsOf ns ws os ≡ [])
 
-    go : (orderly ok greatest ns ws ≡ true → Both) → Item ok greatest n w ns ws
-        → (n ∷ ns ≡ 0 ∷ replicate (length ns) 0) × (w ∷ ws ≡ 0 ∷ replicate (length ns) 0) × (starsOf (n ∷ ns) (w ∷ ws) ≡ [])
-    go ih (empty z y o q) =
-        (ap (λ (k : ℕ). k ∷ ns) z ∙ ap (λ (l : List ℕ). 0 ∷ l) (ih o .0), ap (λ (k : ℕ). k ∷ ws) y ∙ ap (λ (l : List ℕ). 0 ∷ l) (ih o .1), q ∙ ih o .2)
-    go ih (star l g v o q) = absurd (omega arith)
+-- After an empty place all are empty.
+empties : (ok : ℕ → Bool) (ns ws os : List ℕ) → length ns ≡ length ws → length ns ≡ length os → orderly ok greatest ns ws os ≡ true → Blank (length ns) ns ws os
+unfolding starsOf orderly
+empties ok [] [] [] h k e = (refl, refl, refl, refl)
+empties ok [] (w ∷ ws) os h k e = absurd (omega arith)
+empties ok [] [] (o ∷ os) h k e = absurd (omega arith)
+empties ok (n ∷ ns) [] os h k e = absurd (omega arith)
+empties ok (n ∷ ns) (w ∷ ws) [] h k e = absurd (omega arith)
+empties ok (n ∷ ns) (w ∷ ws) (o ∷ os) h k e = go (empties ok ns ws os (omega arith) (omega arith)) (item ok greatest n w o ns ws os e)
+  where
+    before : (x : ℕ) (l : List ℕ) → x ≡ 0 → l ≡ replicate (length ns) 0 → x ∷ l ≡ 0 ∷ replicate (length ns) 0
+    before x l z t = ap (λ (i : ℕ). i ∷ l) z ∙ ap (λ (m : List ℕ). 0 ∷ m) t
+
+    go : (orderly ok greatest ns ws os ≡ true → Blank (length ns) ns ws os) → Item ok greatest n w o ns ws os → Blank (suc (length ns)) (n ∷ ns) (w ∷ ws) (o ∷ os)
+    go ih (empty z y x d q) = (before n ns z (ih d .0), before w ws y (ih d .1), before o os x (ih d .2), q ∙ ih d .3)
+    go ih (star l g v d q) = absurd (omega arith)
 
 padded-nil : (n : ℕ) → padded n [] ≡ replicate n 0
 unfolding padded
@@ -132,63 +143,76 @@ padded-cons : (n x : ℕ) (l : List ℕ) → padded (suc n) (x ∷ l) ≡ x ∷ 
 unfolding padded
 padded-cons n x l = rw (suc-sub-suc n (length l))
 
-starsOf-nil : (ws : List ℕ) → starsOf [] ws ≡ []
+starsOf-nil : (ws os : List ℕ) → starsOf [] ws os ≡ []
 unfolding starsOf
-starsOf-nil ws = refl
+starsOf-nil ws os = refl
+
+-- Items that are the columns of these stars, padded.
+abbrev pub Columns : ℕ → List ℕ → List ℕ → List ℕ → List Star → Type 0
+Columns k ns ws os l =
+    (ns ≡ padded k (map (λ (s : Star). s .number) l)) × (ws ≡ padded k (map (λ (s : Star). s .word) l)) × (os ≡ padded k (map (λ (s : Star). s .owner) l))
 
 -- The items of an orderly page are its stars, padded.
-pub orderly-columns : (ok : ℕ → Bool) (last : ℕ) (ns ws : List ℕ) → length ns ≡ length ws → orderly ok last ns ws ≡ true
-    → (ns ≡ padded (length ns) (map (λ (s : Star). s .number) (starsOf ns ws))) × (ws ≡ padded (length ns) (map (λ (s : Star). s .word) (starsOf ns ws)))
-orderly-columns ok last [] [] h e = (rw (starsOf-nil [], padded-nil 0), rw (starsOf-nil [], padded-nil 0))
-orderly-columns ok last [] (w ∷ ws) h e = absurd (omega arith)
-orderly-columns ok last (n ∷ ns) [] h e = absurd (omega arith)
-orderly-columns ok last (n ∷ ns) (w ∷ ws) h e =
-    go (empties ok ns ws (omega arith)) (orderly-columns ok n ns ws (omega arith)) (item ok last n w ns ws e)
+pub orderly-columns : (ok : ℕ → Bool) (last : ℕ) (ns ws os : List ℕ) → length ns ≡ length ws → length ns ≡ length os → orderly ok last ns ws os ≡ true
+    → Columns (length ns) ns ws os (starsOf ns ws os)
+orderly-columns ok last [] [] [] h k e =
+    (rw (starsOf-nil [] [], padded-nil 0), rw (starsOf-nil [] [], padded-nil 0), rw (starsOf-nil [] [], padded-nil 0))
+orderly-columns ok last [] (w ∷ ws) os h k e = absurd (omega arith)
+orderly-columns ok last [] [] (o ∷ os) h k e = absurd (omega arith)
+orderly-columns ok last (n ∷ ns) [] os h k e = absurd (omega arith)
+orderly-columns ok last (n ∷ ns) (w ∷ ws) [] h k e = absurd (omega arith)
+orderly-columns ok last (n ∷ ns) (w ∷ ws) (o ∷ os) h k e =
+    go (empties ok ns ws os (omega arith) (omega arith)) (orderly-columns ok n ns ws os (omega arith) (omega arith)) (item ok last n w o ns ws os e)
   where
-    Columns : List ℕ → List ℕ → ℕ → List Star → Type 0
-    Columns xs ys k l = (xs ≡ padded k (map (λ (s : Star). s .number) l)) × (ys ≡ padded k (map (λ (s : Star). s .word) l))
+    nothing : (x : ℕ) (l : List ℕ) → x ≡ 0 → l ≡ replicate (length ns) 0 → x ∷ l ≡ padded (suc (length ns)) []
+    nothing x l z t = ap (λ (i : ℕ). i ∷ l) z ∙ ap (λ (m : List ℕ). 0 ∷ m) t ∙ sym (padded-nil (suc (length ns)))
 
-    go : (orderly ok greatest ns ws ≡ true → (ns ≡ replicate (length ns) 0) × (ws ≡ replicate (length ns) 0) × (starsOf ns ws ≡ []))
-        → (orderly ok n ns ws ≡ true → Columns ns ws (length ns) (starsOf ns ws)) → Item ok last n w ns ws
-        → Columns (n ∷ ns) (w ∷ ws) (suc (length ns)) (starsOf (n ∷ ns) (w ∷ ws))
-    go none more (empty z y o q) =
-        let E = none o in
-        rw (q ∙ E .2) (
-          (ap (λ (k : ℕ). k ∷ ns) z ∙ ap (λ (l : List ℕ). 0 ∷ l) (E .0) ∙ sym (padded-nil (suc (length ns)))),
-          (ap (λ (k : ℕ). k ∷ ws) y ∙ ap (λ (l : List ℕ). 0 ∷ l) (E .1) ∙ sym (padded-nil (suc (length ns)))),
-        )
-    go none more (star l g v o q) =
+    longer : (x : ℕ) (l m : List ℕ) → l ≡ padded (length ns) m → x ∷ l ≡ padded (suc (length ns)) (x ∷ m)
+    longer x l m t = ap (λ (i : List ℕ). x ∷ i) t ∙ sym (padded-cons (length ns) x m)
+
+    go : (orderly ok greatest ns ws os ≡ true → Blank (length ns) ns ws os)
+        → (orderly ok n ns ws os ≡ true → Columns (length ns) ns ws os (starsOf ns ws os)) → Item ok last n w o ns ws os
+        → Columns (suc (length ns)) (n ∷ ns) (w ∷ ws) (o ∷ os) (starsOf (n ∷ ns) (w ∷ ws) (o ∷ os))
+    go none more (empty z y x d q) =
+        let E = none d in
+        rw (q ∙ E .3) (nothing n ns z (E .0), nothing w ws y (E .1), nothing o os x (E .2))
+    go none more (star l g v d q) =
+        let E = more d in
         rw q (
-          (ap (λ (m : List ℕ). n ∷ m) (more o .0) ∙ sym (padded-cons (length ns) n (map (λ (s : Star). s .number) (starsOf ns ws)))),
-          (ap (λ (m : List ℕ). w ∷ m) (more o .1) ∙ sym (padded-cons (length ns) w (map (λ (s : Star). s .word) (starsOf ns ws)))),
+          longer n ns (map (λ (s : Star). s .number) (starsOf ns ws os)) (E .0),
+          longer w ws (map (λ (s : Star). s .word) (starsOf ns ws os)) (E .1),
+          longer o os (map (λ (s : Star). s .owner) (starsOf ns ws os)) (E .2),
         )
 
 -- ---- from the stars to the items
 
-none-made : (i j : ℕ) → starsOf (replicate i 0) (replicate j 0) ≡ []
+none-made : (i j k : ℕ) → starsOf (replicate i 0) (replicate j 0) (replicate k 0) ≡ []
 unfolding starsOf
-none-made zero j = refl
-none-made (suc i) zero = refl
-none-made (suc i) (suc j) = none-made i j
+none-made zero j k = refl
+none-made (suc i) zero k = refl
+none-made (suc i) (suc j) zero = refl
+none-made (suc i) (suc j) (suc k) = none-made i j k
 
-pub starsOf-made : (l : List Star) (i j : ℕ) → Numbered l
-    → starsOf (map (λ (s : Star). s .number) l ++ replicate i 0) (map (λ (s : Star). s .word) l ++ replicate j 0) ≡ l
+pub starsOf-made : (l : List Star) (i j k : ℕ) → Numbered l
+    → starsOf (map (λ (s : Star). s .number) l ++ replicate i 0) (map (λ (s : Star). s .word) l ++ replicate j 0) (map (λ (s : Star). s .owner) l ++ replicate k 0) ≡ l
 unfolding starsOf
-starsOf-made [] i j h = none-made i j
-starsOf-made (s ∷ l) i j h =
-    rw (ne-eqb (s .number) 0 (λ z. omega (arith, z, h s (List·Memᴰ·head refl)))) (ap (λ (m : List Star). s ∷ m) (starsOf-made l i j (λ t m. h t (List·Memᴰ·tail m))))
+starsOf-made [] i j k h = none-made i j k
+starsOf-made (s ∷ l) i j k h =
+    rw (ne-eqb (s .number) 0 (λ z. omega (arith, z, h s (List·Memᴰ·head refl)))) (ap (λ (m : List Star). s ∷ m) (starsOf-made l i j k (λ t m. h t (List·Memᴰ·tail m))))
 
-pub starsOf-padded : (n : ℕ) (l : List Star) → Numbered l → starsOf (padded n (map (λ (s : Star). s .number) l)) (padded n (map (λ (s : Star). s .word) l)) ≡ l
+pub starsOf-padded : (n : ℕ) (l : List Star) → Numbered l
+    → starsOf (padded n (map (λ (s : Star). s .number) l)) (padded n (map (λ (s : Star). s .word) l)) (padded n (map (λ (s : Star). s .owner) l)) ≡ l
 unfolding padded
-starsOf-padded n l h = starsOf-made l (n - length (map (λ (s : Star). s .number) l)) (n - length (map (λ (s : Star). s .word) l)) h
+starsOf-padded n l h =
+    starsOf-made l (n - length (map (λ (s : Star). s .number) l)) (n - length (map (λ (s : Star). s .word) l)) (n - length (map (λ (s : Star). s .owner) l)) h
 
-empty-made : (ok : ℕ → Bool) (last i : ℕ) → orderly ok last (replicate i 0) (replicate i 0) ≡ true
+empty-made : (ok : ℕ → Bool) (last i : ℕ) → orderly ok last (replicate i 0) (replicate i 0) (replicate i 0) ≡ true
 unfolding orderly
 empty-made ok last zero = refl
 empty-made ok last (suc i) = empty-made ok greatest i
 
 orderly-made : (ok : ℕ → Bool) (last i : ℕ) (l : List Star) → Rising (suc last) l → Proper ok l
-    → orderly ok last (map (λ (s : Star). s .number) l ++ replicate i 0) (map (λ (s : Star). s .word) l ++ replicate i 0) ≡ true
+    → orderly ok last (map (λ (s : Star). s .number) l ++ replicate i 0) (map (λ (s : Star). s .word) l ++ replicate i 0) (map (λ (s : Star). s .owner) l ++ replicate i 0) ≡ true
 unfolding orderly
 orderly-made ok last i [] r h = empty-made ok last i
 orderly-made ok last i (s ∷ l) r h =
@@ -197,7 +221,7 @@ orderly-made ok last i (s ∷ l) r h =
     (orderly-made ok (s .number) i l (r .1) (λ t m. h t (List·Memᴰ·tail m)))
 
 pub orderly-padded : (ok : ℕ → Bool) (n : ℕ) (l : List Star) → Rising 1 l → Proper ok l
-    → orderly ok 0 (padded n (map (λ (s : Star). s .number) l)) (padded n (map (λ (s : Star). s .word) l)) ≡ true
+    → orderly ok 0 (padded n (map (λ (s : Star). s .number) l)) (padded n (map (λ (s : Star). s .word) l)) (padded n (map (λ (s : Star). s .owner) l)) ≡ true
 unfolding padded
 orderly-padded ok n l r h =
-    rw (length-map l (λ (s : Star). s .number), length-map l (λ (s : Star). s .word)) (orderly-made ok 0 (n - length l) l r h)
+    rw (length-map l (λ (s : Star). s .number), length-map l (λ (s : Star). s .word), length-map l (λ (s : Star). s .owner)) (orderly-made ok 0 (n - length l) l r h)

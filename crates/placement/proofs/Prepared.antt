@@ -19,5 +19,5 @@ pub ready : {g : Geometry} {t : List ℕ} {f : File} → t ≡ firstMultipliers 
     → validGrowth (g .parameters) (g .growth) ≡ true → Sized (g .parameters .places) (g .parameters .pages) f → Ready g t f
 ready table valid growth sized = record { homing = homing table valid growth; sized = sized }
 
-pub pool-ready : {p : Parameters} {ns ws : List ℕ} → (length ns ≡ p .pages * p .places) × (length ws ≡ p .pages * p .places) → Pooled p ns ws
-pool-ready lengths = record { ofNumbers = lengths .0; ofWords = lengths .1 }
+pub pool-ready : {p : Parameters} {ns ws os : List ℕ} → (length ns ≡ p .pages * p .places) × ((length ws ≡ p .pages * p .places) × (length os ≡ p .pages * p .places)) → Pooled p ns ws os
+pool-ready lengths = record { ofNumbers = lengths .0; ofWords = lengths .1 .0; ofOwners = lengths .1 .1 }

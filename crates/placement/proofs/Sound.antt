@@ -23,8 +23,8 @@ use Rattle.placement.proofs.Domination.{Holds, holds-part, holds-first,
 use Rattle.placement.proofs.Order.{Sorted, Rising, Absent, sorted-insert, rising-sorted, rising-distinct, rising-pour, pour-insert, pour-comm, pour-pour, pour-nil, filter-pour, member-pour, poured, pour-keeps, sorted-pour}
 use Rattle.placement.proofs.Locality.{blocks-pages, blocks-left}
 use Rattle.placement.proofs.Writing.{Roomy, written-same, part-column, length-part}
-use Rattle.placement.proofs.Pages.{Proper, rising-one, every-member, member-every, orderly-rising, orderly-proper, orderly-columns, orderly-padded, length-starsOf}
-use Rattle.placement.proofs.Files.{numberOf, wordOf, roomy-pages, page-member, rising-page, starsAt-laid, gathered-laid}
+use Rattle.placement.proofs.Pages.{Proper, rising-one, every-member, member-every, Columns, orderly-rising, orderly-proper, orderly-columns, orderly-padded, length-starsOf}
+use Rattle.placement.proofs.Files.{numberOf, wordOf, ownerOf, roomy-pages, page-member, rising-page, starsAt-laid, gathered-laid}
 
 pub separator-top : (H : Hash) (p n i : ℕ) (w : List Star) → i < n → getD (separators (pages H p n w)) i 0 ≤ H .top
 unfolding pages separators contentsOf
@@ -33,7 +33,7 @@ separator-top H p (suc n) zero w h = sep-le H p w
 separator-top H p (suc n) (suc i) w h = separator-top H (suc p) n i (onward H p w) (omega arith)
 
 pub record Sound (ok : ℕ → Bool) (H : Hash) (f : File) (p : ℕ) : Type 0 where
-  pub inOrder : orderly ok 0 (part (H .room) p (f .numbers)) (part (H .room) p (f .words)) ≡ true
+  pub inOrder : orderly ok 0 (part (H .room) p (f .numbers)) (part (H .room) p (f .words)) (part (H .room) p (f .owners)) ≡ true
   pub atMost : getD (f .separators) p 0 ≤ H .top
   pub here : (s : Star) → List·Memᴰ s (starsAt (H .room) f p) → first H 0 (f .separators) (s .number) ≡ p
 
@@ -49,10 +49,10 @@ sound-facts ok H f p e =
     test : Star → Bool
     test s = eqb (first H 0 (f .separators) (s .number)) p
 
-    a : (orderly ok 0 (part (H .room) p (f .numbers)) (part (H .room) p (f .words)) ≡ true)
+    a : (orderly ok 0 (part (H .room) p (f .numbers)) (part (H .room) p (f .words)) (part (H .room) p (f .owners)) ≡ true)
         × (leb (getD (f .separators) p 0) (H .top) && every test (starsAt (H .room) f p) ≡ true)
     a =
-        and-true (orderly ok 0 (part (H .room) p (f .numbers)) (part (H .room) p (f .words)))
+        and-true (orderly ok 0 (part (H .room) p (f .numbers)) (part (H .room) p (f .words)) (part (H .room) p (f .owners)))
         (leb (getD (f .separators) p 0) (H .top) && every test (starsAt (H .room) f p)) e
 
     c : (leb (getD (f .separators) p 0) (H .top) ≡ true) × (every test (starsAt (H .room) f p) ≡ true)
@@ -67,11 +67,11 @@ facts-sound ok H f p c =
 -- The stars of a sound page.
 pub sound-rising : (ok : ℕ → Bool) (H : Hash) (f : File) (p : ℕ) → Sound ok H f p → Rising 1 (starsAt (H .room) f p)
 unfolding starsAt
-sound-rising ok H f p c = orderly-rising ok 0 (part (H .room) p (f .numbers)) (part (H .room) p (f .words)) (omega arith) (c .inOrder)
+sound-rising ok H f p c = orderly-rising ok 0 (part (H .room) p (f .numbers)) (part (H .room) p (f .words)) (part (H .room) p (f .owners)) (omega arith) (c .inOrder)
 
 pub sound-proper : (ok : ℕ → Bool) (H : Hash) (f : File) (p : ℕ) → Sound ok H f p → Proper ok (starsAt (H .room) f p)
 unfolding starsAt
-sound-proper ok H f p c = orderly-proper ok 0 (part (H .room) p (f .numbers)) (part (H .room) p (f .words)) (c .inOrder)
+sound-proper ok H f p c = orderly-proper ok 0 (part (H .room) p (f .numbers)) (part (H .room) p (f .words)) (part (H .room) p (f .owners)) (c .inOrder)
 
 -- Every page of a laid file is sound.
 pub sound-laid : (ok : ℕ → Bool) (H : Hash) (M : ℕ) (w : List Star) → Rising 0 w → Proper ok w → (p : ℕ) → p < M → Sound ok H (laid (H .room) H M w) p
@@ -79,7 +79,7 @@ unfolding laid fileOf
 sound-laid ok H M w r proper p h =
     record {
       inOrder =
-          rw (part-column (H .room) numberOf cs p roomy inside, part-column (H .room) wordOf cs p roomy inside)
+          rw (part-column (H .room) numberOf cs p roomy inside, part-column (H .room) wordOf cs p roomy inside, part-column (H .room) ownerOf cs p roomy inside)
           (orderly-padded ok (H .room) (getD cs p blank .stars)
           (rising-one (getD cs p blank .stars) (rising-page H 0 M p 0 w h r) (λ s m. proper s (page-member H 0 M p w h s m) .0))
           (λ s m. proper s (page-member H 0 M p w h s m)));
@@ -216,7 +216,7 @@ module _ (ok : ℕ → Bool) (H : Hash) (f : File) where
   pub length-starsAt : (M p : ℕ) → Sized (H .room) M f → p < M → length (starsAt (H .room) f p) ≤ H .room
   unfolding starsAt
   length-starsAt M p z h =
-      omega (arith, length-starsOf (part (H .room) p (f .numbers)) (part (H .room) p (f .words)), length-part (H .room) p M (f .numbers) (z .ofNumbers) h)
+      omega (arith, length-starsOf (part (H .room) p (f .numbers)) (part (H .room) p (f .words)) (part (H .room) p (f .owners)), length-part (H .room) p M (f .numbers) (z .ofNumbers) h)
 
   -- The stored separators of the stretch hold its stars.
   pub sound-holds : (M p n : ℕ) → Sized (H .room) M f → p + n ≤ M → AllSound ok H f p n → Holds H p (take n (drop p (f .separators))) (gathered (H .room) f p n)
@@ -342,13 +342,13 @@ module _ (ok : ℕ → Bool) (H : Hash) (f : File) where
   -- ---- what the file already says
 
   columns-said : (M p : ℕ) → Sized (H .room) M f → p < M → Sound ok H f p
-      → (part (H .room) p (f .numbers) ≡ padded (H .room) (map numberOf (starsAt (H .room) f p)))
-      × (part (H .room) p (f .words) ≡ padded (H .room) (map wordOf (starsAt (H .room) f p)))
+      → Columns (H .room) (part (H .room) p (f .numbers)) (part (H .room) p (f .words)) (part (H .room) p (f .owners)) (starsAt (H .room) f p)
   unfolding starsAt
   columns-said M p z h c =
       let ln : length (part (H .room) p (f .numbers)) ≡ H .room = length-part (H .room) p M (f .numbers) (z .ofNumbers) h in
       let lw : length (part (H .room) p (f .words)) ≡ H .room = length-part (H .room) p M (f .words) (z .ofWords) h in
-      rw ln at (orderly-columns ok 0 (part (H .room) p (f .numbers)) (part (H .room) p (f .words)) (ln ∙ sym lw) (c .inOrder))
+      let lo : length (part (H .room) p (f .owners)) ≡ H .room = length-part (H .room) p M (f .owners) (z .ofOwners) h in
+      rw ln at (orderly-columns ok 0 (part (H .room) p (f .numbers)) (part (H .room) p (f .words)) (part (H .room) p (f .owners)) (ln ∙ sym lw) (ln ∙ sym lo) (c .inOrder))
 
   column-said : (M : ℕ) (g : Star → ℕ) (l : List ℕ) → ((q : ℕ) → q < M → Sound ok H f q → part (H .room) q l ≡ padded (H .room) (map g (starsAt (H .room) f q)))
       → (p n : ℕ) → p + n ≤ M → AllSound ok H f p n → column (H .room) g (pagesAt (H .room) f p n) ≡ take (n * H .room) (drop (p * H .room) l)
@@ -378,6 +378,7 @@ module _ (ok : ℕ → Bool) (H : Hash) (f : File) where
         separators = first-list i;
         numbers = other numberOf (f .numbers) (z .ofNumbers) (λ q k c. columns-said M q z k c .0) i;
         words = other wordOf (f .words) (z .ofWords) (λ q k c. columns-said M q z k c .1) i;
+        owners = other ownerOf (f .owners) (z .ofOwners) (λ q k c. columns-said M q z k c .2) i;
       }
     where
       first-list : written p (separators (pagesAt (H .room) f p n)) (f .separators) ≡ f .separators
@@ -400,6 +401,7 @@ module _ (ok : ℕ → Bool) (H : Hash) (f : File) where
         separators = first-list i;
         numbers = other numberOf (f .numbers) (z .ofNumbers) (λ q k c. columns-said M q z k c .0) i;
         words = other wordOf (f .words) (z .ofWords) (λ q k c. columns-said M q z k c .1) i;
+        owners = other ownerOf (f .owners) (z .ofOwners) (λ q k c. columns-said M q z k c .2) i;
       }
     where
       first-list : separators (pagesAt (H .room) f 0 M) ≡ f .separators

@@ -22,29 +22,33 @@ use Rattle.placement.specs.Survey.{lastAfter}
 use Rattle.placement.proofs.Filters.{and-true}
 use Rattle.placement.proofs.Separator.{below-home, below-signature}
 use Rattle.placement.proofs.Standing.{first-below}
+use Rattle.placement.proofs.Search.{starAt, at-star}
 use Rattle.placement.proofs.Sound.{Sound, sound-facts, facts-sound, sound-proper}
 
 -- ---- items in order
 
-record Ordered (ok : ℕ → Bool) (last n w : ℕ) (ns ws : List ℕ) : Type 0 where
-  rest : orderly ok (lastAfter n) ns ws ≡ true
-  empty : n ≡ 0 → w ≡ 0
+record Ordered (ok : ℕ → Bool) (last n w o : ℕ) (ns ws os : List ℕ) : Type 0 where
+  rest : orderly ok (lastAfter n) ns ws os ≡ true
+  empty : n ≡ 0 → (w ≡ 0) × (o ≡ 0)
   above : (n ≡ 0 → ⊥) → last < n
   most : n ≤ greatest
 
-ordered : (ok : ℕ → Bool) (last n w : ℕ) (ns ws : List ℕ) → orderly ok last (n ∷ ns) (w ∷ ws) ≡ true → Ordered ok last n w ns ws
+ordered : (ok : ℕ → Bool) (last n w o : ℕ) (ns ws os : List ℕ) → orderly ok last (n ∷ ns) (w ∷ ws) (o ∷ os) ≡ true → Ordered ok last n w o ns ws os
 unfolding orderly
-ordered ok last n w ns ws e = go (eqb n 0) refl e
+ordered ok last n w o ns ws os e = go (eqb n 0) refl e
   where
-    go : (t : Bool) → eqb n 0 ≡ t → cond t (eqb w 0 && orderly ok greatest ns ws) (ltb last n && (leb n greatest && (ok w && orderly ok n ns ws))) ≡ true → Ordered ok last n w ns ws
+    go : (t : Bool) → eqb n 0 ≡ t
+        → cond t (eqb w 0 && (eqb o 0 && orderly ok greatest ns ws os)) (ltb last n && (leb n greatest && (ok w && orderly ok n ns ws os))) ≡ true
+        → Ordered ok last n w o ns ws os
     go true z e =
-        let c = and-true (eqb w 0) (orderly ok greatest ns ws) e in
+        let c = and-true (eqb w 0) (eqb o 0 && orderly ok greatest ns ws os) e in
+        let d = and-true (eqb o 0) (orderly ok greatest ns ws os) (c .1) in
         let none : n ≡ 0 = eqb-true n 0 z in
-        record { rest = rw z (c .1); empty = λ h. eqb-true w 0 (c .0); above = λ h. absurd (h none); most = omega arith }
+        record { rest = rw z (d .1); empty = λ h. (eqb-true w 0 (c .0), eqb-true o 0 (d .0)); above = λ h. absurd (h none); most = omega arith }
     go false z e =
-        let b = and-true (ltb last n) (leb n greatest && (ok w && orderly ok n ns ws)) e in
-        let c = and-true (leb n greatest) (ok w && orderly ok n ns ws) (b .1) in
-        let d = and-true (ok w) (orderly ok n ns ws) (c .1) in
+        let b = and-true (ltb last n) (leb n greatest && (ok w && orderly ok n ns ws os)) e in
+        let c = and-true (leb n greatest) (ok w && orderly ok n ns ws os) (b .1) in
+        let d = and-true (ok w) (orderly ok n ns ws os) (c .1) in
         record { rest = rw z (d .1); empty = λ h. absurd (eqb-false n 0 z h); above = λ h. ltb-true last n (b .0); most = leb-true n greatest (c .0) }
 
 -- after an item the bound does not fall
@@ -56,63 +60,55 @@ after-most n h = go (eqb n 0)
     go false = h
 
 module _ (ok : ℕ → Bool) where
-  item-most : (last : ℕ) (ns ws : List ℕ) → orderly ok last ns ws ≡ true → (i : ℕ) → getD ns i 0 ≤ greatest
+  item-most : (last : ℕ) (ns ws os : List ℕ) → orderly ok last ns ws os ≡ true → (i : ℕ) → getD ns i 0 ≤ greatest
   unfolding orderly
-  item-most last [] ws e i = omega arith
-  item-most last (n ∷ ns) [] e i = absurd (false≢true e)
-  item-most last (n ∷ ns) (w ∷ ws) e zero = ordered ok last n w ns ws e .most
-  item-most last (n ∷ ns) (w ∷ ws) e (suc i) = item-most (lastAfter n) ns ws (ordered ok last n w ns ws e .rest) i
+  item-most last [] ws os e i = omega arith
+  item-most last (n ∷ ns) [] os e i = absurd (false≢true e)
+  item-most last (n ∷ ns) (w ∷ ws) [] e i = absurd (false≢true e)
+  item-most last (n ∷ ns) (w ∷ ws) (o ∷ os) e zero = ordered ok last n w o ns ws os e .most
+  item-most last (n ∷ ns) (w ∷ ws) (o ∷ os) e (suc i) = item-most (lastAfter n) ns ws os (ordered ok last n w o ns ws os e .rest) i
 
-  item-empty : (last : ℕ) (ns ws : List ℕ) → orderly ok last ns ws ≡ true → (i : ℕ) → i < length ns → getD ns i 0 ≡ 0 → getD ws i 0 ≡ 0
+  item-empty : (last : ℕ) (ns ws os : List ℕ) → orderly ok last ns ws os ≡ true → (i : ℕ) → i < length ns → getD ns i 0 ≡ 0 → (getD ws i 0 ≡ 0) × (getD os i 0 ≡ 0)
   unfolding orderly
-  item-empty last [] ws e i h z = absurd (omega arith)
-  item-empty last (n ∷ ns) [] e i h z = absurd (false≢true e)
-  item-empty last (n ∷ ns) (w ∷ ws) e zero h z = ordered ok last n w ns ws e .empty z
-  item-empty last (n ∷ ns) (w ∷ ws) e (suc i) h z = item-empty (lastAfter n) ns ws (ordered ok last n w ns ws e .rest) i (omega arith) z
+  item-empty last [] ws os e i h z = absurd (omega arith)
+  item-empty last (n ∷ ns) [] os e i h z = absurd (false≢true e)
+  item-empty last (n ∷ ns) (w ∷ ws) [] e i h z = absurd (false≢true e)
+  item-empty last (n ∷ ns) (w ∷ ws) (o ∷ os) e zero h z = ordered ok last n w o ns ws os e .empty z
+  item-empty last (n ∷ ns) (w ∷ ws) (o ∷ os) e (suc i) h z = item-empty (lastAfter n) ns ws os (ordered ok last n w o ns ws os e .rest) i (omega arith) z
 
-  item-above : (last : ℕ) (ns ws : List ℕ) → orderly ok last ns ws ≡ true → last ≤ greatest → (i : ℕ) → (getD ns i 0 ≡ 0 → ⊥) → last < getD ns i 0
+  item-above : (last : ℕ) (ns ws os : List ℕ) → orderly ok last ns ws os ≡ true → last ≤ greatest → (i : ℕ) → (getD ns i 0 ≡ 0 → ⊥) → last < getD ns i 0
   unfolding orderly
-  item-above last [] ws e l i s = absurd (s refl)
-  item-above last (n ∷ ns) [] e l i s = absurd (false≢true e)
-  item-above last (n ∷ ns) (w ∷ ws) e l zero s = ordered ok last n w ns ws e .above s
-  item-above last (n ∷ ns) (w ∷ ws) e l (suc i) s =
-      go (eqb n 0) refl (item-above (lastAfter n) ns ws (o .rest) (after-most n (o .most)) i s)
+  item-above last [] ws os e l i s = absurd (s refl)
+  item-above last (n ∷ ns) [] os e l i s = absurd (false≢true e)
+  item-above last (n ∷ ns) (w ∷ ws) [] e l i s = absurd (false≢true e)
+  item-above last (n ∷ ns) (w ∷ ws) (o ∷ os) e l zero s = ordered ok last n w o ns ws os e .above s
+  item-above last (n ∷ ns) (w ∷ ws) (o ∷ os) e l (suc i) s =
+      go (eqb n 0) refl (item-above (lastAfter n) ns ws os (r .rest) (after-most n (r .most)) i s)
     where
-      o : Ordered ok last n w ns ws
-      o = ordered ok last n w ns ws e
+      r : Ordered ok last n w o ns ws os
+      r = ordered ok last n w o ns ws os e
 
       go : (t : Bool) → eqb n 0 ≡ t → cond t greatest n < getD ns i 0 → last < getD ns i 0
       go true z h = omega arith
-      go false z h = omega (arith, o .above (eqb-false n 0 z))
+      go false z h = omega (arith, r .above (eqb-false n 0 z))
 
   -- a star has only smaller stars before it
-  items-rise : (last : ℕ) (ns ws : List ℕ) → orderly ok last ns ws ≡ true → (i j : ℕ) → i < j → (getD ns j 0 ≡ 0 → ⊥) → (0 < getD ns i 0) × (getD ns i 0 < getD ns j 0)
+  items-rise : (last : ℕ) (ns ws os : List ℕ) → orderly ok last ns ws os ≡ true → (i j : ℕ) → i < j → (getD ns j 0 ≡ 0 → ⊥) → (0 < getD ns i 0) × (getD ns i 0 < getD ns j 0)
   unfolding orderly
-  items-rise last [] ws e i j h s = absurd (s refl)
-  items-rise last (n ∷ ns) [] e i j h s = absurd (false≢true e)
-  items-rise last (n ∷ ns) (w ∷ ws) e i zero h s = absurd (omega arith)
-  items-rise last (n ∷ ns) (w ∷ ws) e zero (suc j) h s =
-      go (eqb n 0) refl (item-above (lastAfter n) ns ws (o .rest) (after-most n (o .most)) j s)
+  items-rise last [] ws os e i j h s = absurd (s refl)
+  items-rise last (n ∷ ns) [] os e i j h s = absurd (false≢true e)
+  items-rise last (n ∷ ns) (w ∷ ws) [] e i j h s = absurd (false≢true e)
+  items-rise last (n ∷ ns) (w ∷ ws) (o ∷ os) e i zero h s = absurd (omega arith)
+  items-rise last (n ∷ ns) (w ∷ ws) (o ∷ os) e zero (suc j) h s =
+      go (eqb n 0) refl (item-above (lastAfter n) ns ws os (r .rest) (after-most n (r .most)) j s)
     where
-      o : Ordered ok last n w ns ws
-      o = ordered ok last n w ns ws e
+      r : Ordered ok last n w o ns ws os
+      r = ordered ok last n w o ns ws os e
 
       go : (t : Bool) → eqb n 0 ≡ t → cond t greatest n < getD ns j 0 → (0 < n) × (n < getD ns j 0)
-      go true z h = absurd (omega (arith, item-most (lastAfter n) ns ws (o .rest) j))
+      go true z h = absurd (omega (arith, item-most (lastAfter n) ns ws os (r .rest) j))
       go false z h = let star : (n ≡ 0 → ⊥) = eqb-false n 0 z in (omega (arith, star), h)
-  items-rise last (n ∷ ns) (w ∷ ws) e (suc i) (suc j) h s = items-rise (lastAfter n) ns ws (ordered ok last n w ns ws e .rest) i j (omega arith) s
-
--- an item that is not empty is a star
-item-star : (ns ws : List ℕ) (i : ℕ) → i < length ws → (getD ns i 0 ≡ 0 → ⊥) → List·Memᴰ (record { number = getD ns i 0; word = getD ws i 0 }) (starsOf ns ws)
-unfolding starsOf
-item-star [] ws i h s = absurd (s refl)
-item-star (n ∷ ns) [] i h s = absurd (omega arith)
-item-star (n ∷ ns) (w ∷ ws) zero h s = rw (ne-eqb n 0 s) (List·Memᴰ·head refl)
-item-star (n ∷ ns) (w ∷ ws) (suc i) h s = go (not (eqb n 0)) (item-star ns ws i (omega arith) s)
-  where
-    go : (t : Bool) → List·Memᴰ (record { number = getD ns i 0; word = getD ws i 0 }) (starsOf ns ws) → List·Memᴰ (record { number = getD ns i 0; word = getD ws i 0 }) (keep t (record { number = n; word = w }) (starsOf ns ws))
-    go true m = List·Memᴰ·tail m
-    go false m = m
+  items-rise last (n ∷ ns) (w ∷ ws) (o ∷ os) e (suc i) (suc j) h s = items-rise (lastAfter n) ns ws os (ordered ok last n w o ns ws os e .rest) i j (omega arith) s
 
 -- ---- sound pages under the file's hash
 
@@ -125,9 +121,9 @@ pub record StarOn (p : Parameters) (g : Growth) (f : File) (page n w : ℕ) : Ty
   pub below : signature (multiplierOf p) (p .bits) n (page - home (multiplierOf p) p g n + 1) < getD (f .separators) page 0
 
 -- What holds of an item of a sound page.
-pub record ItemOn (p : Parameters) (g : Growth) (f : File) (page n w : ℕ) : Type 0 where
+pub record ItemOn (p : Parameters) (g : Growth) (f : File) (page n w o : ℕ) : Type 0 where
   pub star : (n ≡ 0 → ⊥) → StarOn p g f page n w
-  pub empty : n ≡ 0 → w ≡ 0
+  pub empty : n ≡ 0 → (w ≡ 0) × (o ≡ 0)
   pub most : n ≤ greatest
   pub homed : homeIn p g n ≤ page
 
@@ -161,14 +157,14 @@ module _ (p : Parameters) (g : Growth) (f : File) (page : ℕ) where
 
     -- place i
     module _ (i : ℕ) (h : i < p .places) where
-      pub item-on : ItemOn p g f page (getD (f .numbers) (page * p .places + i) 0) (getD (f .words) (page * p .places + i) 0)
+      pub item-on : ItemOn p g f page (getD (f .numbers) (page * p .places + i) 0) (getD (f .words) (page * p .places + i) 0) (getD (f .owners) (page * p .places + i) 0)
       unfolding starsAt hashOf
       item-on =
-          rw (← part-item (p .places) page (f .numbers) i h, ← part-item (p .places) page (f .words) i h)
+          rw (← part-item (p .places) page (f .numbers) i h, ← part-item (p .places) page (f .words) i h, ← part-item (p .places) page (f .owners) i h)
           (record {
             star = star;
-            empty = item-empty validWord 0 ns ws inOrder i (omega (arith, part-length (p .places) page (f .numbers) (page-fits (p .places) (p .pages) page inside (sized .ofNumbers))));
-            most = item-most validWord 0 ns ws inOrder i;
+            empty = item-empty validWord 0 ns ws os inOrder i (within (f .numbers) (sized .ofNumbers));
+            most = item-most validWord 0 ns ws os inOrder i;
             homed = go (eqb (getD ns i 0) 0) refl;
           })
         where
@@ -178,13 +174,19 @@ module _ (p : Parameters) (g : Growth) (f : File) (page : ℕ) where
           ws : List ℕ
           ws = part (p .places) page (f .words)
 
-          inOrder : orderly validWord 0 ns ws ≡ true
+          os : List ℕ
+          os = part (p .places) page (f .owners)
+
+          within : (l : List ℕ) → length l ≡ p .pages * p .places → i < length (part (p .places) page l)
+          within l e = omega (arith, part-length (p .places) page l (page-fits (p .places) (p .pages) page inside e))
+
+          inOrder : orderly validWord 0 ns ws os ≡ true
           inOrder = real-facts e .inOrder
 
           star : (getD ns i 0 ≡ 0 → ⊥) → StarOn p g f page (getD ns i 0) (getD ws i 0)
           star s =
-              star-on (record { number = getD ns i 0; word = getD ws i 0 })
-              (item-star ns ws i (omega (arith, part-length (p .places) page (f .words) (page-fits (p .places) (p .pages) page inside (sized .ofWords)))) s)
+              star-on (starAt ns ws os i)
+              (at-star ns ws os i (within (f .numbers) (sized .ofNumbers)) (within (f .words) (sized .ofWords)) (within (f .owners) (sized .ofOwners)) (omega (arith, s)))
 
           go : (t : Bool) → eqb (getD ns i 0) 0 ≡ t → cond t 0 (home (multiplierOf p) p g (getD ns i 0)) ≤ page
           go true z = omega arith
@@ -196,7 +198,7 @@ module _ (p : Parameters) (g : Growth) (f : File) (page : ℕ) where
     unfolding hashOf
     rising-on i j h k =
         rw (← part-item (p .places) page (f .numbers) i (omega arith), ← part-item (p .places) page (f .numbers) j k)
-        (items-rise validWord 0 (part (p .places) page (f .numbers)) (part (p .places) page (f .words)) (real-facts e .inOrder) i j h)
+        (items-rise validWord 0 (part (p .places) page (f .numbers)) (part (p .places) page (f .words)) (part (p .places) page (f .owners)) (real-facts e .inOrder) i j h)
 
     -- the homes that a survey keeps
     pub homes-on : (i : ℕ) → i < p .places → getD (homesOf p g (part (p .places) page (f .numbers))) i 0 ≤ page

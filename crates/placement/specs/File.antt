@@ -1,4 +1,4 @@
--- The three lent file buffers, and the rule's pages written into them.
+-- The four lent file buffers, and the rule's pages written into them.
 use mathlib.Core.Path.{_≡_}
 use mathlib.Core.Bool.{Bool, true, false, not, cond, _&&_}
 use mathlib.Core.List.{List, [], _∷_, _++_, map}
@@ -12,15 +12,17 @@ pub record File : Type 0 where
   pub separators : List ℕ
   pub numbers : List ℕ
   pub words : List ℕ
+  pub owners : List ℕ
 
--- "0 marks an empty place": the stars of parallel numbers and words, in order.
-unfoldable pub starsOf : List ℕ → List ℕ → List Star
-starsOf [] ws = []
-starsOf (n ∷ ns) [] = []
-starsOf (n ∷ ns) (w ∷ ws) = keep (not (eqb n 0)) (record { number = n; word = w }) (starsOf ns ws)
+-- "0 marks an empty place": the stars of parallel numbers, words and owners, in order.
+unfoldable pub starsOf : List ℕ → List ℕ → List ℕ → List Star
+starsOf [] ws os = []
+starsOf (n ∷ ns) [] os = []
+starsOf (n ∷ ns) (w ∷ ws) [] = []
+starsOf (n ∷ ns) (w ∷ ws) (o ∷ os) = keep (not (eqb n 0)) (record { number = n; word = w; owner = o }) (starsOf ns ws os)
 
 unfoldable pub starsAt : ℕ → File → ℕ → List Star
-starsAt places f p = starsOf (part places p (f .numbers)) (part places p (f .words))
+starsAt places f p = starsOf (part places p (f .numbers)) (part places p (f .words)) (part places p (f .owners))
 
 -- What the file says of page p, and of the n pages from p.
 unfoldable pub contentsAt : ℕ → File → ℕ → Contents
@@ -39,13 +41,16 @@ gathered places f p (suc n) = pour (starsAt places f p) (gathered places f (suc 
 abbrev pub greatest : ℕ
 greatest = 2147483646
 
--- "Its numbers rise strictly, lie in range and precede the empty places, its words are valid, those of empty places 0": numbers above last,
--- and none after an empty place, as none is above the greatest.
-unfoldable pub orderly : (ℕ → Bool) → ℕ → List ℕ → List ℕ → Bool
-orderly ok last [] ws = true
-orderly ok last (n ∷ ns) [] = false
-orderly ok last (n ∷ ns) (w ∷ ws) =
-    cond (eqb n 0) (eqb w 0 && orderly ok greatest ns ws) (ltb last n && (leb n greatest && (ok w && orderly ok n ns ws)))
+-- "Its numbers rise strictly, lie in range and precede the empty places, its words are valid, those of empty places 0", "An empty place has
+-- [owner] 0, or its page is unsound": numbers above last, and none after an empty place, as none is above the greatest.
+unfoldable pub orderly : (ℕ → Bool) → ℕ → List ℕ → List ℕ → List ℕ → Bool
+orderly ok last [] ws os = true
+orderly ok last (n ∷ ns) [] os = false
+orderly ok last (n ∷ ns) (w ∷ ws) [] = false
+orderly ok last (n ∷ ns) (w ∷ ws) (o ∷ os) =
+    cond (eqb n 0)
+    (eqb w 0 && (eqb o 0 && orderly ok greatest ns ws os))
+    (ltb last n && (leb n greatest && (ok w && orderly ok n ns ws os)))
 
 unfoldable pub every : {A : Type 0} → (A → Bool) → List A → Bool
 every q [] = true
@@ -54,7 +59,7 @@ every q (x ∷ xs) = q x && every q xs
 -- "A page is sound if": the above, "its separator is at most 2^k − 1, and each star's first page from home with a separator above its signature is this one."
 unfoldable pub sound : (ℕ → Bool) → Hash → File → ℕ → Bool
 sound ok H f p =
-    orderly ok 0 (part (H .room) p (f .numbers)) (part (H .room) p (f .words))
+    orderly ok 0 (part (H .room) p (f .numbers)) (part (H .room) p (f .words)) (part (H .room) p (f .owners))
     && (leb (getD (f .separators) p 0) (H .top)
     && every (λ (s : Star). eqb (first H 0 (f .separators) (s .number)) p) (starsAt (H .room) f p))
 
@@ -62,7 +67,7 @@ sound ok H f p =
 unfoldable pub padded : ℕ → List ℕ → List ℕ
 padded n l = l ++ replicate (n - length l) 0
 
--- One item for each place of these pages: numbers or words, by g.
+-- One item for each place of these pages: numbers, words or owners, by g.
 unfoldable pub column : ℕ → (Star → ℕ) → List Contents → List ℕ
 column places g [] = []
 column places g (c ∷ cs) = padded places (map g (c .stars)) ++ column places g cs
@@ -74,7 +79,12 @@ written at s d = take at d ++ (s ++ drop (at + length s) d)
 -- The pages cs as a whole file.
 unfoldable pub fileOf : ℕ → List Contents → File
 fileOf places cs =
-    record { separators = separators cs; numbers = column places (λ (s : Star). s .number) cs; words = column places (λ (s : Star). s .word) cs }
+    record {
+      separators = separators cs;
+      numbers = column places (λ (s : Star). s .number) cs;
+      words = column places (λ (s : Star). s .word) cs;
+      owners = column places (λ (s : Star). s .owner) cs;
+    }
 
 -- "Other pages stay": the file with the pages from p on replaced by cs.
 unfoldable pub replaced : ℕ → File → ℕ → List Contents → File
@@ -83,17 +93,19 @@ replaced places f p cs =
       separators = written p (separators cs) (f .separators);
       numbers = written (p * places) (column places (λ (s : Star). s .number) cs) (f .numbers);
       words = written (p * places) (column places (λ (s : Star). s .word) cs) (f .words);
+      owners = written (p * places) (column places (λ (s : Star). s .owner) cs) (f .owners);
     }
 
 -- The whole file under the rule.
 unfoldable pub laid : ℕ → Hash → ℕ → List Star → File
 laid places H M w = fileOf places (pages H 0 M w)
 
--- "M separators; M·b star numbers; M·b position words".
+-- "M separators; M·b star numbers; M·b position words", and M·b owners.
 pub record Sized (places M : ℕ) (f : File) : Type 0 where
   pub ofSeparators : length (f .separators) ≡ M
   pub ofNumbers : length (f .numbers) ≡ M * places
   pub ofWords : length (f .words) ≡ M * places
+  pub ofOwners : length (f .owners) ≡ M * places
 
 -- All pages are sound, and the file is what the rule gives its stars.
 pub record Clean (ok : ℕ → Bool) (H : Hash) (M : ℕ) (f : File) : Type 0 where

@@ -52,5 +52,5 @@ unfoldable pub homesOf : Parameters → Growth → List ℕ → List ℕ
 homesOf p g ns = map (homeIn p g) ns
 
 -- The lent file buffers by their contents.
-abbrev pub lent : List ℕ → List ℕ → List ℕ → File
-lent separators numbers words = record { separators = separators; numbers = numbers; words = words }
+abbrev pub lent : List ℕ → List ℕ → List ℕ → List ℕ → File
+lent separators numbers words owners = record { separators = separators; numbers = numbers; words = words; owners = owners }

@@ -10,11 +10,11 @@ use Rattle.placement.specs.Hash.{lent}
 abbrev pub Lent : Type 0
 Lent = Both (RefT (List ℕ)) (RefT (List ℕ))
 
-abbrev pub held : RefT (List ℕ) → RefT (List ℕ) → RefT (List ℕ) → File
-held separators numbers words = lent (now separators) (now numbers) (now words)
+abbrev pub held : RefT (List ℕ) → RefT (List ℕ) → RefT (List ℕ) → RefT (List ℕ) → File
+held separators numbers words owners = lent (now separators) (now numbers) (now words) (now owners)
 
-abbrev pub before : Lent → Lent → Lent → File
-before separators numbers words = held (separators .entry) (numbers .entry) (words .entry)
+abbrev pub before : Lent → Lent → Lent → Lent → File
+before separators numbers words owners = held (separators .entry) (numbers .entry) (words .entry) (owners .entry)
 
-abbrev pub after : Lent → Lent → Lent → File
-after separators numbers words = held (separators .exit) (numbers .exit) (words .exit)
+abbrev pub after : Lent → Lent → Lent → Lent → File
+after separators numbers words owners = held (separators .exit) (numbers .exit) (words .exit) (owners .exit)

@@ -27,6 +27,7 @@ pub record Ready (g : Geometry) (t : List ℕ) (f : File) : Type 0 where
   pub sized : Sized (g .parameters .places) (g .parameters .pages) f
 
 -- for placing stars: so is the pool
-pub record Pooled (p : Parameters) (numbers words : List ℕ) : Type 0 where
+pub record Pooled (p : Parameters) (numbers words owners : List ℕ) : Type 0 where
   pub ofNumbers : length numbers ≡ p .pages * p .places
   pub ofWords : length words ≡ p .pages * p .places
+  pub ofOwners : length owners ≡ p .pages * p .places

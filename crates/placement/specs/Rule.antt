@@ -5,9 +5,11 @@ use Prim.Native.Nat.{ℕ, zero, suc}
 use lib.Dec.{leb, ltb, eqb}
 use lib.ListN.{length}
 
+-- The rule reads the number alone; word and owner go with it.
 pub record Star : Type 0 where
   pub number : ℕ
   pub word : ℕ
+  pub owner : ℕ
 
 -- What the rule asks of the hash: a number's home and its signature on a page; top is 2^k − 1 and room is b.
 pub record Hash : Type 0 where
@@ -84,9 +86,9 @@ pour (x ∷ xs) l = insert x (pour xs l)
 unfoldable pub without : ℕ → List Star → List Star
 without k w = filter (λ (s : Star). not (eqb (s .number) k)) w
 
--- "A change writes one word": the star of number k gets the word v.
+-- "A change writes one word", "a change leaves the owner": the star of number k gets the word v.
 unfoldable pub reworded : ℕ → ℕ → Star → Star
-reworded k v s = cond (eqb (s .number) k) (record { number = s .number; word = v }) s
+reworded k v s = cond (eqb (s .number) k) (record { number = s .number; word = v; owner = s .owner }) s
 
 unfoldable pub changed : ℕ → ℕ → List Star → List Star
 changed k v w = map (reworded k v) w

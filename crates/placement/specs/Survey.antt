@@ -21,19 +21,19 @@ use Rattle.placement.specs.declared.soundness.Item.{Item}
 use Rattle.placement.specs.declared.soundness.Soundness.{Soundness}
 
 -- The items after the number `last` are in order, and each star stands on this page.
-unfoldable pub admits : Parameters → Growth → List ℕ → ℕ → ℕ → List ℕ → List ℕ → Bool
-admits p g seps page last ns ws =
-    orderly validWord last ns ws && every (λ (s : Star). eqb (namedPage p g seps (s .number)) page) (starsOf ns ws)
+unfoldable pub admits : Parameters → Growth → List ℕ → ℕ → ℕ → List ℕ → List ℕ → List ℕ → Bool
+admits p g seps page last ns ws os =
+    orderly validWord last ns ws os && every (λ (s : Star). eqb (namedPage p g seps (s .number)) page) (starsOf ns ws os)
 
--- A page is sound, by its numbers and words.
-unfoldable pub soundIn : Parameters → Growth → List ℕ → ℕ → List ℕ → List ℕ → Bool
-soundIn p g seps page ns ws = leb (getD seps page 0) (topOf (p .bits)) && admits p g seps page 0 ns ws
+-- A page is sound, by its numbers, words and owners.
+unfoldable pub soundIn : Parameters → Growth → List ℕ → ℕ → List ℕ → List ℕ → List ℕ → Bool
+soundIn p g seps page ns ws os = leb (getD seps page 0) (topOf (p .bits)) && admits p g seps page 0 ns ws os
 
--- The same of one item: an empty place has the word 0; a star's number is above `last` and in range, its word is valid.
-unfoldable pub admitsItem : Parameters → Growth → List ℕ → ℕ → ℕ → ℕ → ℕ → Bool
-admitsItem p g seps page last n w =
+-- The same of one item: an empty place has word and owner 0; a star's number is above `last` and in range, its word is valid.
+unfoldable pub admitsItem : Parameters → Growth → List ℕ → ℕ → ℕ → ℕ → ℕ → ℕ → Bool
+admitsItem p g seps page last n w o =
     cond (eqb n 0)
-    (eqb w 0)
+    (eqb w 0 && eqb o 0)
     (ltb last n && (leb n greatest && (validWord w && eqb (namedPage p g seps n) page)))
 
 -- What the next number must exceed: after an empty place no number is taken.
@@ -45,14 +45,14 @@ abbrev pub Homes : Geometry → List ℕ → List ℕ → Type 0
 Homes g ns hs = take (g .parameters .places) hs ≡ map (home (multiplierOf (g .parameters)) (g .parameters) (g .growth)) (take (g .parameters .places) ns)
 
 -- What is told of an item.
-pub record Admitted (p : Parameters) (g : Growth) (seps : List ℕ) (page low n w : ℕ) (r : Item) : Type 0 where
-  pub sound : r .sound ≡ admitsItem p g seps page low n w
+pub record Admitted (p : Parameters) (g : Growth) (seps : List ℕ) (page low n w o : ℕ) (r : Item) : Type 0 where
+  pub sound : r .sound ≡ admitsItem p g seps page low n w o
   pub home : r .sound ≡ true → r .home ≡ homeIn p g n
   pub last : r .sound ≡ true → r .last ≡ lastAfter n
 
 -- What is told of a page, by the value of its places.
 pub record Tested (g : Geometry) (seps : List ℕ) (page : ℕ) (value : Page) (r : Soundness) : Type 0 where
-  pub sound : r .sound ≡ soundIn (g .parameters) (g .growth) seps page (take (g .parameters .places) (value .numbers)) (take (g .parameters .places) (value .words))
+  pub sound : r .sound ≡ soundIn (g .parameters) (g .growth) seps page (take (g .parameters .places) (value .numbers)) (take (g .parameters .places) (value .words)) (take (g .parameters .places) (value .owners))
   pub homes :
       r .sound ≡ true
       → take (g .parameters .places) (r .homes) ≡ homesOf (g .parameters) (g .growth) (take (g .parameters .places) (value .numbers))

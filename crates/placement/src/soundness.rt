@@ -2,7 +2,7 @@
 ghost use mathlib.Core.Path.{_≡_};
 ghost use mathlib.Core.Bool.{true, _&&_};
 ghost use Prim.Native.Nat.{_+_, _*_, _≤_, _<_};
-ghost use lib.Dec.{leb, ltb};
+ghost use lib.Dec.{eqb, leb, ltb};
 ghost use lib.ListN.{length};
 ghost use lib.Seq.{paste};
 ghost use Rattle.hashing.specs.Generator.{multiplierOf, firstMultipliers, topOf};
@@ -67,6 +67,7 @@ pub fn page_sound(
             last,
             value.numbers[i],
             value.words[i],
+            value.owners[i],
             found[i],
         );
         if !item.sound {
@@ -112,17 +113,18 @@ fn admitted(
     last: u32,
     number: u32,
     word: u64,
+    owner: u8,
     home: u16,
 ) -> Item
     requires { ⌜ Homing geometry (now table) ⌝ }
     requires { ⌜ length (now separators) ≡ geometry .parameters .pages ⌝ }
     requires { ⌜ page < geometry .parameters .pages ⌝ }
     requires { ⌜ home ≡ Home·home (multiplierOf (geometry .parameters)) (geometry .parameters) (geometry .growth) number ⌝ }
-    ensures { λ r. ⌜ Admitted (geometry .parameters) (geometry .growth) (now (separators .entry)) page last number word r ⌝ }
+    ensures { λ r. ⌜ Admitted (geometry .parameters) (geometry .growth) (now (separators .entry)) page last number word owner r ⌝ }
 {
     if number == 0 {
         return Item {
-            sound: word == 0,
+            sound: unused(word, owner),
             home: 0,
             last: LAST_NUMBER,
         };
@@ -139,6 +141,16 @@ fn admitted(
         home: home as u32,
         last: number,
     }
+}
+
+// What an empty place must hold.
+fn unused(word: u64, owner: u8) -> bool
+    ensures { λ r. ⌜ r ≡ (eqb word 0 && eqb owner 0) ⌝ }
+{
+    if word != 0 {
+        return false;
+    }
+    owner == 0
 }
 
 fn ordered(last: u32, number: u32, word: u64) -> bool
@@ -160,17 +172,18 @@ pub fn survey(
     separators: &[u8],
     numbers: &[u32],
     words: &[u64],
+    owners: &[u8],
     homes: &mut [u32],
     page: usize,
 ) -> bool
-    requires { ⌜ Ready geometry (now table) (held separators numbers words) ⌝ }
+    requires { ⌜ Ready geometry (now table) (held separators numbers words owners) ⌝ }
     requires { ⌜ length (now homes) ≡ geometry .parameters .pages * geometry .parameters .places ⌝ }
     requires { ⌜ page < geometry .parameters .pages ⌝ }
-    ensures { λ r. ⌜ r ≡ soundAt (geometry .parameters) (geometry .growth) (before separators numbers words) page ⌝ }
+    ensures { λ r. ⌜ r ≡ soundAt (geometry .parameters) (geometry .growth) (before separators numbers words owners) page ⌝ }
     ensures { λ r. ⌜ (r ≡ true → now (homes .exit) ≡ surveyed geometry page (now (numbers .entry)) (now (homes .entry))) ⌝ }
 {
     let places = geometry.parameters.places as usize;
-    let value = pages::page::load(numbers, words, places, page);
+    let value = pages::page::load(numbers, words, owners, places, page);
     let found = page_sound(table, geometry, separators, value, page);
     if !found.sound {
         return false;

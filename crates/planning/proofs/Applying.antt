@@ -38,67 +38,58 @@ map-zeros : (f : ℕ → ℕ) (n : ℕ) → f 0 ≡ 0 → map f (replicate n 0) 
 map-zeros f zero e = refl
 map-zeros f (suc n) e = rw (e, map-zeros f n e)
 
--- a map of the items of a page's star fields
-map-padded : (b : ℕ) (f : ℕ → ℕ) (g h : Star → ℕ) (l : List Star) → f 0 ≡ 0 → map f (map g l) ≡ map h l → map f (padded b (map g l)) ≡ padded b (map h l)
+-- a map of the items of a page
+map-padded : (b : ℕ) (f : ℕ → ℕ) (x y : List ℕ) → f 0 ≡ 0 → map f x ≡ y → map f (padded b x) ≡ padded b y
 unfolding padded
-map-padded b f g h l e m =
-    map-append f (map g l) (replicate (b - length (map g l)) 0)
-    ∙ ap (λ (r : List ℕ). r ++ map f (replicate (b - length (map g l)) 0)) m
-    ∙ ap (λ (r : List ℕ). map h l ++ r) (map-zeros f (b - length (map g l)) e)
-    ∙ ap (λ (k : ℕ). map h l ++ replicate (b - k) 0) (length-map l g ∙ sym (length-map l h))
+map-padded b f x y e m =
+    map-append f x (replicate (b - length x) 0)
+    ∙ ap (λ (r : List ℕ). r ++ map f (replicate (b - length x) 0)) m
+    ∙ ap (λ (r : List ℕ). y ++ r) (map-zeros f (b - length x) e)
+    ∙ ap (λ (k : ℕ). y ++ replicate (b - k) 0) (sym (length-map x f) ∙ ap length m)
 
 named-zero : (l : List ℕ) (new : ℕ) → named l new 0 ≡ 0
 unfolding named
 named-zero l new = refl
 
-numbers-of : (ns : List ℕ) (new : ℕ) (l : List Star) → every (λ (s : Star). eqb (named ns new (s .word)) (s .number)) l ≡ true
-    → map (named ns new) (map (λ (s : Star). s .word) l) ≡ map (λ (s : Star). s .number) l
-numbers-of ns new [] e = refl
-numbers-of ns new (s ∷ l) e =
+-- what the sources of these pages name in l is the field h of the stars that g makes of them
+abbrev Names : List ℕ → ℕ → (Star → Star) → (Star → ℕ) → List Contents → Type 0
+Names l new g h [] = Unit {0}
+Names l new g h (c ∷ cs) = (map (named l new) (map (λ (s : Star). s .word) (c .stars)) ≡ map h (map g (c .stars))) × Names l new g h cs
+
+names-all : (l : List ℕ) (new : ℕ) (g : Star → Star) (h : Star → ℕ) → ((s : Star) → named l new (s .word) ≡ h (g s)) → (cs : List Contents) → Names l new g h cs
+names-all l new g h e [] = tt
+names-all l new g h e (c ∷ cs) = (go (c .stars), names-all l new g h e cs)
+  where
+    go : (t : List Star) → map (named l new) (map (λ (s : Star). s .word) t) ≡ map h (map g t)
+    go [] = refl
+    go (s ∷ t) = rw (e s, go t)
+
+numbers-of : (ns : List ℕ) (new : ℕ) (g : Star → Star) → Keeps g → (l : List Star) → every (λ (s : Star). eqb (named ns new (s .word)) (s .number)) l ≡ true
+    → map (named ns new) (map (λ (s : Star). s .word) l) ≡ map (λ (s : Star). s .number) (map g l)
+numbers-of ns new g keeps [] e = refl
+numbers-of ns new g keeps (s ∷ l) e =
     let t = every-head (λ (x : Star). eqb (named ns new (x .word)) (x .number)) s l e in
-    ap (λ (n : ℕ). n ∷ map (named ns new) (map (λ (x : Star). x .word) l)) (eqb-true (named ns new (s .word)) (s .number) (t .0))
-    ∙ ap (λ (r : List ℕ). s .number ∷ r) (numbers-of ns new l (t .1))
+    ap (λ (n : ℕ). n ∷ map (named ns new) (map (λ (x : Star). x .word) l)) (eqb-true (named ns new (s .word)) (s .number) (t .0) ∙ sym (keeps s))
+    ∙ ap (λ (r : List ℕ). g s .number ∷ r) (numbers-of ns new g keeps l (t .1))
 
-words-of : (ws : List ℕ) (new : ℕ) (l : List Star) → map (named ws new) (map (λ (s : Star). s .word) l) ≡ map (λ (s : Star). renamed ws new s .word) l
+names-sourced : (ns : List ℕ) (new : ℕ) (g : Star → Star) → Keeps g → (cs : List Contents) → Sourced ns new cs → Names ns new g (λ (s : Star). s .number) cs
+names-sourced ns new g keeps [] e = tt
+names-sourced ns new g keeps (c ∷ cs) e = (numbers-of ns new g keeps (c .stars) (e .0), names-sourced ns new g keeps cs (e .1))
+
+pub renamed-keeps : (ws os : List ℕ) (newword newowner : ℕ) → Keeps (renamed ws os newword newowner)
 unfolding renamed
-words-of ws new [] = refl
-words-of ws new (s ∷ l) = ap (λ (r : List ℕ). named ws new (s .word) ∷ r) (words-of ws new l)
+renamed-keeps ws os newword newowner s = refl
 
-words-renamed : (ws : List ℕ) (new : ℕ) (l : List Star) → map (λ (s : Star). renamed ws new s .word) l ≡ map (λ (s : Star). s .word) (map (renamed ws new) l)
-words-renamed ws new [] = refl
-words-renamed ws new (s ∷ l) = ap (λ (r : List ℕ). renamed ws new s .word ∷ r) (words-renamed ws new l)
-
-numbers-kept : (ws : List ℕ) (new : ℕ) (l : List Star) → map (λ (s : Star). s .number) (map (renamed ws new) l) ≡ map (λ (s : Star). s .number) l
-unfolding renamed
-numbers-kept ws new [] = refl
-numbers-kept ws new (s ∷ l) = ap (λ (r : List ℕ). s .number ∷ r) (numbers-kept ws new l)
-
-pub renamed-keeps : (ws : List ℕ) (new : ℕ) → Keeps (renamed ws new)
-unfolding renamed
-renamed-keeps ws new s = refl
-
-module _ (b : ℕ) (ns ws : List ℕ) (newnumber newword : ℕ) where
-  pub numbers-column : (cs : List Contents) → Sourced ns newnumber cs
-      → map (named ns newnumber) (column b (λ (s : Star). s .word) cs) ≡ column b (λ (s : Star). s .number) (map (mapped (renamed ws newword)) cs)
-  unfolding column
-  numbers-column [] e = refl
-  numbers-column (c ∷ cs) e =
-      map-append (named ns newnumber) (padded b (map (λ (s : Star). s .word) (c .stars))) (column b (λ (s : Star). s .word) cs)
-      ∙ ap (λ (r : List ℕ). r ++ map (named ns newnumber) (column b (λ (s : Star). s .word) cs))
-      (map-padded b (named ns newnumber) (λ (s : Star). s .word) (λ (s : Star). s .number) (c .stars) (named-zero ns newnumber) (numbers-of ns newnumber (c .stars) (e .0))
-      ∙ ap (padded b) (sym (numbers-kept ws newword (c .stars))))
-      ∙ ap (λ (r : List ℕ). padded b (map (λ (s : Star). s .number) (map (renamed ws newword) (c .stars))) ++ r) (numbers-column cs (e .1))
-
-  pub words-column : (cs : List Contents)
-      → map (named ws newword) (column b (λ (s : Star). s .word) cs) ≡ column b (λ (s : Star). s .word) (map (mapped (renamed ws newword)) cs)
-  unfolding column
-  words-column [] = refl
-  words-column (c ∷ cs) =
-      map-append (named ws newword) (padded b (map (λ (s : Star). s .word) (c .stars))) (column b (λ (s : Star). s .word) cs)
-      ∙ ap (λ (r : List ℕ). r ++ map (named ws newword) (column b (λ (s : Star). s .word) cs))
-      (map-padded b (named ws newword) (λ (s : Star). s .word) (λ (s : Star). renamed ws newword s .word) (c .stars) (named-zero ws newword) (words-of ws newword (c .stars))
-      ∙ ap (padded b) (words-renamed ws newword (c .stars)))
-      ∙ ap (λ (r : List ℕ). padded b (map (λ (s : Star). s .word) (map (renamed ws newword) (c .stars))) ++ r) (words-column cs)
+-- numbers, words or owners of the pages by their sources
+named-column : (b : ℕ) (l : List ℕ) (new : ℕ) (g : Star → Star) (h : Star → ℕ) (cs : List Contents) → Names l new g h cs
+    → map (named l new) (column b (λ (s : Star). s .word) cs) ≡ column b h (map (mapped g) cs)
+unfolding column
+named-column b l new g h [] e = refl
+named-column b l new g h (c ∷ cs) e =
+    map-append (named l new) (padded b (map (λ (s : Star). s .word) (c .stars))) (column b (λ (s : Star). s .word) cs)
+    ∙ ap (λ (r : List ℕ). r ++ map (named l new) (column b (λ (s : Star). s .word) cs))
+    (map-padded b (named l new) (map (λ (s : Star). s .word) (c .stars)) (map h (map g (c .stars))) (named-zero l new) (e .0))
+    ∙ ap (λ (r : List ℕ). padded b (map h (map g (c .stars))) ++ r) (named-column b l new g h cs (e .1))
 
 separators-mapped : (g : Star → Star) (cs : List Contents) → separators (map (mapped g) cs) ≡ separators cs
 unfolding separators
@@ -106,27 +97,32 @@ separators-mapped g [] = refl
 separators-mapped g (c ∷ cs) = ap (λ (r : List ℕ). c .separator ∷ r) (separators-mapped g cs)
 
 -- the lists that `apply` leaves
-unfoldable pub applied : ℕ → ℕ → ℕ → ℕ → ℕ → List ℕ → List ℕ → File → File
-applied places lo count newnumber newword pool planned f =
+unfoldable pub applied : ℕ → ℕ → ℕ → ℕ → ℕ → ℕ → List ℕ → List ℕ → File → File
+applied places lo count newnumber newword newowner pool planned f =
     record {
       separators = written lo (take count (drop lo planned)) (f .separators);
       numbers = written (lo * places) (map (named (f .numbers) newnumber) (stretch places lo count pool)) (f .numbers);
       words = written (lo * places) (map (named (f .words) newword) (stretch places lo count pool)) (f .words);
+      owners = written (lo * places) (map (named (f .owners) newowner) (stretch places lo count pool)) (f .owners);
     }
 
 -- applying the plan of the pages cs replaces them
-pub applied-is : (places lo count newnumber newword : ℕ) (pool planned : List ℕ) (f : File) (cs : List Contents)
+pub applied-is : (places lo count newnumber newword newowner : ℕ) (pool planned : List ℕ) (f : File) (cs : List Contents)
     → stretch places lo count pool ≡ column places (λ (s : Star). s .word) cs → take count (drop lo planned) ≡ separators cs → Sourced (f .numbers) newnumber cs
-    → applied places lo count newnumber newword pool planned f ≡ replaced places f lo (map (mapped (renamed (f .words) newword)) cs)
+    → applied places lo count newnumber newword newowner pool planned f ≡ replaced places f lo (map (mapped (renamed (f .words) (f .owners) newword newowner)) cs)
 unfolding applied replaced
-applied-is places lo count newnumber newword pool planned f cs ep es so =
+applied-is places lo count newnumber newword newowner pool planned f cs ep es so =
     rw (
       es,
       ep,
-      separators-mapped (renamed (f .words) newword) cs,
-      numbers-column places (f .numbers) (f .words) newnumber newword cs so,
-      words-column places (f .numbers) (f .words) newnumber newword cs,
+      separators-mapped g cs,
+      named-column places (f .numbers) newnumber g (λ (s : Star). s .number) cs (names-sourced (f .numbers) newnumber g (renamed-keeps (f .words) (f .owners) newword newowner) cs so),
+      named-column places (f .words) newword g (λ (s : Star). s .word) cs (names-all (f .words) newword g (λ (s : Star). s .word) (λ (s : Star). unfold renamed in refl) cs),
+      named-column places (f .owners) newowner g (λ (s : Star). s .owner) cs (names-all (f .owners) newowner g (λ (s : Star). s .owner) (λ (s : Star). unfold renamed in refl) cs),
     )
+  where
+    g : Star → Star
+    g = renamed (f .words) (f .owners) newword newowner
 
 -- ---- the plan's stars have sources that name their numbers
 

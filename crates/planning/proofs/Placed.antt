@@ -1,10 +1,9 @@
--- The plan in the rule's terms: what the planned pages are, with the words that their sources name, and what applying them leaves.
+-- The plan in the rule's terms: what the planned pages are, with the words and owners that their sources name, and what applying them leaves.
 use mathlib.Core.Path.{_≡_, refl, sym, ap, _∙_}
 use mathlib.Core.Bool.{true}
 use mathlib.Core.List.{List, [], _∷_, _++_, map}
 use Prim.Native.Nat.{ℕ, suc, zero, _+_, _*_, _^_, _≤_, _<_}
 use native.Mathlib.Nat.{add-zero, add-mul, le-refl, mul-one}
-use native.Mathlib.Numerals.{add-one}
 use native.Mathlib.Omega.{arith}
 use lib.ListN.{length, take, drop, length-map, length-drop, take-append-drop}
 use lib.Seq.{paste, take-at, drop-at, length-take-le, drop-append-le, take-append-le, take-add, drop-drop}
@@ -29,7 +28,7 @@ use Rattle.planning.proofs.Copies.{paste-written, map-take}
 use Rattle.planning.proofs.Pouring.{waits-grouped, length-waits}
 use Rattle.planning.proofs.RuleOverWords.{Probes, plans-are, homed-onward, homed-probing}
 use Rattle.planning.proofs.Applying.{renamed-keeps, plans-sourced, applied, applied-is}
-use Rattle.planning.proofs.Sourcing.{itemHome, words-append, words-homed, words-grouped, words-sourced, words-fresh, fresh, named-stretch, named-last, length-stretch, true-stars, new-star}
+use Rattle.planning.proofs.Sourcing.{itemHome, words-append, words-homed, words-grouped, words-sourced, words-fresh, fresh, named-stretch, named-past, length-stretch, true-stars, new-star}
 use Rattle.planning.proofs.Stretch.{plans-roomy, length-plans}
 use Rattle.planning.proofs.Blocks.{from, plans-blocks}
 
@@ -63,8 +62,7 @@ new-near lo h k s le hk hs = rw (home-pack h k s hk hs, le-leb h lo le)
 pub new-sourced : (ns : List ℕ) (h k : ℕ) → k < 2 ^ 31 → length ns + 1 < 2 ^ 16 → sourced ns k (pack h k (length ns + 1) ∷ []) ≡ true
 unfolding sourced all
 new-sourced ns h k hk hs =
-    let last : named ns k (length ns + 1) ≡ k = ap (named ns k) (add-one (length ns)) ∙ named-last ns k in
-    rw (number-pack h k (length ns + 1) hk hs, source-pack h k (length ns + 1) hs, last, eq-eqb k k refl)
+    rw (number-pack h k (length ns + 1) hk hs, source-pack h k (length ns + 1) hs, named-past ns k (length ns + 1) refl, eq-eqb k k refl)
 
 -- what a stretch of n pages from lo must satisfy: its items' homes are hs
 pub record Gatherable (H : Hash) (places lo n : ℕ) (f : File) (hs : List ℕ) : Type 0 where
@@ -72,12 +70,13 @@ pub record Gatherable (H : Hash) (places lo n : ℕ) (f : File) (hs : List ℕ) 
   pub few : (lo + n) * places < 2 ^ 16
   pub numbers : (lo + n) * places ≤ length (f .numbers)
   pub words : (lo + n) * places ≤ length (f .words)
+  pub owners : (lo + n) * places ≤ length (f .owners)
   pub homes : (lo + n) * places ≤ length hs
   pub valid : allBelow (2 ^ 31) (stretch places lo n (f .numbers)) ≡ true
   pub within : allBelow (lo + n) (stretch places lo n hs) ≡ true
   pub true-homes : stretch places lo n hs ≡ map (itemHome H) (stretch places lo n (f .numbers))
 
-module _ (H : Hash) (q : Parameters) (real : Probes H q) (lo n : ℕ) (f : File) (hs : List ℕ) (R : Gatherable H (q .places) lo n f hs) (k newword : ℕ) where
+module _ (H : Hash) (q : Parameters) (real : Probes H q) (lo n : ℕ) (f : File) (hs : List ℕ) (R : Gatherable H (q .places) lo n f hs) (k newword newowner : ℕ) where
   few-items : lo * q .places + length (stretch (q .places) lo n (f .numbers)) < 2 ^ 16
   few-items = omega (arith, length-stretch (q .places) lo n (f .numbers) (R .numbers), add-mul lo n (q .places), R .few)
 
@@ -95,42 +94,41 @@ module _ (H : Hash) (q : Parameters) (real : Probes H q) (lo n : ℕ) (f : File)
   stretch-fresh : fresh k (stretchWords (q .places) lo n k (f .numbers) hs) ≡ true
   stretch-fresh = words-fresh (lo * q .places) k (stretch (q .places) lo n (f .numbers)) (stretch (q .places) lo n hs) (R .valid) few-items
 
-  stretch-stars : map (renamed (f .words) newword) (waits (stretchWords (q .places) lo n k (f .numbers) hs)) ≡ without k (gathered (q .places) f lo n)
-  stretch-stars = true-stars (q .places) lo n k newword f hs (R .valid) (R .few) (R .numbers) (R .words) (R .homes)
+  stretch-stars : map (renamed (f .words) (f .owners) newword newowner) (waits (stretchWords (q .places) lo n k (f .numbers) hs)) ≡ without k (gathered (q .places) f lo n)
+  stretch-stars = true-stars (q .places) lo n k newword newowner f hs (R .valid) (R .few) (R .numbers) (R .words) (R .owners) (R .homes)
 
   -- any words w carried in: the rule over the stars that these and the stretch's words name
   placed-with : (w : List ℕ) (t : List Star) → homed H w ≡ true → homesUpTo lo w ≡ true
-      → map (renamed (f .words) newword) (waits (w ++ stretchWords (q .places) lo n k (f .numbers) hs)) ≡ t
-      → (map (mapped (renamed (f .words) newword)) (plans q lo 0 n w (stretchWords (q .places) lo n k (f .numbers) hs)) ≡ pages H lo n t)
-      × (map (renamed (f .words) newword) (waits (remains q lo 0 n w (stretchWords (q .places) lo n k (f .numbers) hs))) ≡ left H lo n t)
+      → map (renamed (f .words) (f .owners) newword newowner) (waits (w ++ stretchWords (q .places) lo n k (f .numbers) hs)) ≡ t
+      → (map (mapped (renamed (f .words) (f .owners) newword newowner)) (plans q lo 0 n w (stretchWords (q .places) lo n k (f .numbers) hs)) ≡ pages H lo n t)
+      × (map (renamed (f .words) (f .owners) newword newowner) (waits (remains q lo 0 n w (stretchWords (q .places) lo n k (f .numbers) hs))) ≡ left H lo n t)
   placed-with w t hw nw e =
-      let g : Star → Star = renamed (f .words) newword in
+      let g : Star → Star = renamed (f .words) (f .owners) newword newowner in
       let l : List ℕ = stretchWords (q .places) lo n k (f .numbers) hs in
       let both = planned-pages H q real lo n w l hw nw stretch-homed stretch-grouped in (
-        ap (map (mapped g)) (both .0) ∙ sym (pages-map g (renamed-keeps (f .words) newword) H lo n (waits (w ++ l))) ∙ ap (pages H lo n) e,
-        ap (map g) (both .1) ∙ sym (left-map g (renamed-keeps (f .words) newword) H lo n (waits (w ++ l))) ∙ ap (left H lo n) e,
+        ap (map (mapped g)) (both .0) ∙ sym (pages-map g (renamed-keeps (f .words) (f .owners) newword newowner) H lo n (waits (w ++ l))) ∙ ap (pages H lo n) e,
+        ap (map g) (both .1) ∙ sym (left-map g (renamed-keeps (f .words) (f .owners) newword newowner) H lo n (waits (w ++ l))) ∙ ap (left H lo n) e,
       )
 
   -- the stretch by itself: the rule over its stars but the star k
-  pub placed : (map (mapped (renamed (f .words) newword)) (plans q lo 0 n [] (stretchWords (q .places) lo n k (f .numbers) hs)) ≡ pages H lo n (without k (gathered (q .places) f lo n)))
-      × (map (renamed (f .words) newword) (waits (remains q lo 0 n [] (stretchWords (q .places) lo n k (f .numbers) hs))) ≡ left H lo n (without k (gathered (q .places) f lo n)))
+  pub placed : (map (mapped (renamed (f .words) (f .owners) newword newowner)) (plans q lo 0 n [] (stretchWords (q .places) lo n k (f .numbers) hs)) ≡ pages H lo n (without k (gathered (q .places) f lo n)))
+      × (map (renamed (f .words) (f .owners) newword newowner) (waits (remains q lo 0 n [] (stretchWords (q .places) lo n k (f .numbers) hs))) ≡ left H lo n (without k (gathered (q .places) f lo n)))
   placed = placed-with [] (without k (gathered (q .places) f lo n)) (unfold homed all in refl) (unfold all in refl) stretch-stars
 
   -- .. and with the new star k, whose source is past the items
-  pub placed-new : (h : ℕ) → h ≡ H .home k → h ≤ lo → k < 2 ^ 31 → length (f .words) + 1 < 2 ^ 16
-      → (map (mapped (renamed (f .words) newword)) (plans q lo 0 n (pack h k (length (f .words) + 1) ∷ []) (stretchWords (q .places) lo n k (f .numbers) hs))
-      ≡ pages H lo n (insert (record { number = k; word = newword }) (without k (gathered (q .places) f lo n))))
-      × (map (renamed (f .words) newword) (waits (remains q lo 0 n (pack h k (length (f .words) + 1) ∷ []) (stretchWords (q .places) lo n k (f .numbers) hs)))
-      ≡ left H lo n (insert (record { number = k; word = newword }) (without k (gathered (q .places) f lo n))))
-  placed-new h eh near hk few =
+  pub placed-new : (h : ℕ) → h ≡ H .home k → h ≤ lo → k < 2 ^ 31 → length (f .words) + 1 < 2 ^ 16 → length (f .owners) ≡ length (f .words)
+      → (map (mapped (renamed (f .words) (f .owners) newword newowner)) (plans q lo 0 n (pack h k (length (f .words) + 1) ∷ []) (stretchWords (q .places) lo n k (f .numbers) hs))
+      ≡ pages H lo n (insert (record { number = k; word = newword; owner = newowner }) (without k (gathered (q .places) f lo n))))
+      × (map (renamed (f .words) (f .owners) newword newowner) (waits (remains q lo 0 n (pack h k (length (f .words) + 1) ∷ []) (stretchWords (q .places) lo n k (f .numbers) hs)))
+      ≡ left H lo n (insert (record { number = k; word = newword; owner = newowner }) (without k (gathered (q .places) f lo n))))
+  placed-new h eh near hk few same =
       let s : ℕ = length (f .words) + 1 in
       let x : ℕ = pack h k s in
       let l : List ℕ = stretchWords (q .places) lo n k (f .numbers) hs in
-      let last : named (f .words) newword s ≡ newword = ap (named (f .words) newword) (add-one (length (f .words))) ∙ named-last (f .words) newword in
-      placed-with (x ∷ []) (insert (record { number = k; word = newword }) (without k (gathered (q .places) f lo n)))
+      placed-with (x ∷ []) (insert (record { number = k; word = newword; owner = newowner }) (without k (gathered (q .places) f lo n)))
       (new-homed H h k s eh hk few) (new-near lo h k s near hk few)
-      (new-star (f .words) newword h k s l hk few stretch-fresh ∙ ap (λ (y : ℕ). insert (record { number = k; word = y }) (map (renamed (f .words) newword) (waits l))) last
-      ∙ ap (insert (record { number = k; word = newword })) stretch-stars)
+      (new-star (f .words) (f .owners) newword newowner h k s l hk few stretch-fresh
+      ∙ rw (named-past (f .words) newword s refl, named-past (f .owners) newowner s (ap (λ (m : ℕ). m + 1) (sym same)), stretch-stars))
 
 -- ---- what the plan leaves, applied
 
@@ -236,12 +234,12 @@ layout-next q lo n m w a b pool pool′ planned planned′ W W′ r r′ ga fb h
       counted = P .counted ∙ ap length past;
     }
 
--- applying the plan replaces the stretch by the planned pages, with the words that the sources name
-pub applied-layout : (q : Parameters) (lo n newnumber newword : ℕ) (f : File) (w l pool planned W : List ℕ) (r : ℕ) → Layout q lo n w l pool planned W r
+-- applying the plan replaces the stretch by the planned pages, with the words and owners that the sources name
+pub applied-layout : (q : Parameters) (lo n newnumber newword newowner : ℕ) (f : File) (w l pool planned W : List ℕ) (r : ℕ) → Layout q lo n w l pool planned W r
     → sourced (f .numbers) newnumber w ≡ true → sourced (f .numbers) newnumber l ≡ true
-    → applied (q .places) lo n newnumber newword pool planned f ≡ replaced (q .places) f lo (map (mapped (renamed (f .words) newword)) (plans q lo 0 n w l))
-applied-layout q lo n newnumber newword f w l pool planned W r A sw sl =
-    applied-is (q .places) lo n newnumber newword pool planned f (plans q lo 0 n w l) (A .sources) (A .separators-are)
+    → applied (q .places) lo n newnumber newword newowner pool planned f ≡ replaced (q .places) f lo (map (mapped (renamed (f .words) (f .owners) newword newowner)) (plans q lo 0 n w l))
+applied-layout q lo n newnumber newword newowner f w l pool planned W r A sw sl =
+    applied-is (q .places) lo n newnumber newword newowner pool planned f (plans q lo 0 n w l) (A .sources) (A .separators-are)
     (plans-sourced (f .numbers) newnumber q lo 0 n w l sw sl)
 
 -- ---- for a caller that surveys its pages and plans them in blocks

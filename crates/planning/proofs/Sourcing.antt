@@ -4,6 +4,7 @@ use mathlib.Core.Bool.{Bool, true, false, cond, not, _&&_, _||_, false≢true}
 use mathlib.Core.List.{List, [], _∷_, _++_, map}
 use Prim.Native.Nat.{ℕ, zero, suc, _+_, _-_, _*_, _/_, _%_, _^_, _≤_, _<_}
 use native.Mathlib.Nat.{le-refl, add-mul, mul-le-mul-right, suc-mul, zero-mul, add-suc, suc-add, add-zero, add-comm}
+use native.Mathlib.Numerals.{add-one}
 use native.Mathlib.Decide.{decLe}
 use native.Mathlib.Omega.{arith}
 use lib.Dec.{leb, ltb, eqb}
@@ -230,41 +231,48 @@ words-fresh at k ns hs valid items =
 
 -- ---- the stars of a stretch
 
-star-pack : (ws : List ℕ) (new h k s : ℕ) → k < 2 ^ 31 → s < 2 ^ 16 → renamed ws new (starOf (lowOf (pack h k s))) ≡ record { number = k; word = named ws new s }
+star-pack : (ws os : List ℕ) (newword newowner h k s : ℕ) → k < 2 ^ 31 → s < 2 ^ 16
+    → renamed ws os newword newowner (starOf (lowOf (pack h k s))) ≡ record { number = k; word = named ws newword s; owner = named os newowner s }
 unfolding renamed starOf
-star-pack ws new h k s hk hs =
+star-pack ws os newword newowner h k s hk hs =
     let e : lowOf (pack h k s) ≡ k * 2 ^ 16 + s = low-of-pack h k s hk hs in
     let n : lowOf (pack h k s) / 2 ^ 16 ≡ k = omega arith in
     let m : lowOf (pack h k s) % 2 ^ 16 ≡ s = omega arith in
     rw (n, m)
 
-words-stars : (all-words : List ℕ) (new at k : ℕ) (ns hs ws : List ℕ) → allBelow (2 ^ 31) ns ≡ true → at + length ns < 2 ^ 16
-    → length hs ≡ length ns → length ws ≡ length ns → ((i : ℕ) → i < length ns → named all-words new (suc (at + i)) ≡ getD ws i 0)
-    → map (λ w. renamed all-words new (starOf (lowOf w))) (wordsFrom at k ns hs) ≡ without k (starsOf ns ws)
+words-stars : (W O : List ℕ) (newword newowner at k : ℕ) (ns hs ws os : List ℕ) → allBelow (2 ^ 31) ns ≡ true → at + length ns < 2 ^ 16
+    → length hs ≡ length ns → length ws ≡ length ns → length os ≡ length ns
+    → ((i : ℕ) → i < length ns → named W newword (suc (at + i)) ≡ getD ws i 0) → ((i : ℕ) → i < length ns → named O newowner (suc (at + i)) ≡ getD os i 0)
+    → map (λ w. renamed W O newword newowner (starOf (lowOf w))) (wordsFrom at k ns hs) ≡ without k (starsOf ns ws os)
 unfolding wordsFrom starsOf without select skipped
-words-stars W new at k [] hs ws v h eh ew named-is = refl
-words-stars W new at k (n ∷ ns) [] ws v h eh ew named-is = absurd (omega arith)
-words-stars W new at k (n ∷ ns) (x ∷ hs) [] v h eh ew named-is = absurd (omega arith)
-words-stars W new at k (n ∷ ns) (x ∷ hs) (w ∷ ws) v h eh ew named-is =
+words-stars W O newword newowner at k [] hs ws os v h eh ew eo words-are owners-are = refl
+words-stars W O newword newowner at k (n ∷ ns) [] ws os v h eh ew eo words-are owners-are = absurd (omega arith)
+words-stars W O newword newowner at k (n ∷ ns) (x ∷ hs) [] os v h eh ew eo words-are owners-are = absurd (omega arith)
+words-stars W O newword newowner at k (n ∷ ns) (x ∷ hs) (w ∷ ws) [] v h eh ew eo words-are owners-are = absurd (omega arith)
+words-stars W O newword newowner at k (n ∷ ns) (x ∷ hs) (w ∷ ws) (o ∷ os) v h eh ew eo words-are owners-are =
     go (eqb n 0) (eqb n k) refl
-    (words-stars W new (suc at) k ns hs ws (all-tail (λ y. ltb y (2 ^ 31)) n ns v) (omega arith) (omega arith) (omega arith)
-    (λ i a. rw (suc-add at i, ← add-suc at i) (named-is (suc i) (omega arith))))
-    (star-pack W new x n (suc at) (ltb-true n (2 ^ 31) (all-head (λ y. ltb y (2 ^ 31)) n ns v)) (omega arith)
-    ∙ ap (λ (y : ℕ). record { number = n; word = y }) (rw (add-zero at) at (named-is 0 (omega arith))))
+    (words-stars W O newword newowner (suc at) k ns hs ws os (all-tail (λ y. ltb y (2 ^ 31)) n ns v) (omega arith) (omega arith) (omega arith) (omega arith)
+    (λ i a. rw (suc-add at i, ← add-suc at i) (words-are (suc i) (omega arith)))
+    (λ i a. rw (suc-add at i, ← add-suc at i) (owners-are (suc i) (omega arith))))
+    (star-pack W O newword newowner x n (suc at) (ltb-true n (2 ^ 31) (all-head (λ y. ltb y (2 ^ 31)) n ns v)) (omega arith)
+    ∙ ap (λ (y : ℕ). record { number = n; word = y; owner = named O newowner (suc at) }) (rw (add-zero at) at (words-are 0 (omega arith)))
+    ∙ ap (λ (y : ℕ). record { number = n; word = w; owner = y }) (rw (add-zero at) at (owners-are 0 (omega arith))))
   where
     f : ℕ → Star
-    f y = renamed W new (starOf (lowOf y))
+    f y = renamed W O newword newowner (starOf (lowOf y))
 
     q : Star → Bool
     q y = not (eqb (y .number) k)
 
-    go : (s t : Bool) → eqb n k ≡ t → map f (wordsFrom (suc at) k ns hs) ≡ select q (starsOf ns ws)
-        → f (pack x n (suc at)) ≡ record { number = n; word = w }
-        → map f (cond (s || t) (wordsFrom (suc at) k ns hs) (pack x n (suc at) ∷ wordsFrom (suc at) k ns hs))
-        ≡ select q (keep (not s) (record { number = n; word = w }) (starsOf ns ws))
-    go true t e ih star = ih
-    go false true e ih star = rw e ih
-    go false false e ih star = rw e (rw (star, ih))
+    star : Star
+    star = record { number = n; word = w; owner = o }
+
+    go : (s t : Bool) → eqb n k ≡ t → map f (wordsFrom (suc at) k ns hs) ≡ select q (starsOf ns ws os)
+        → f (pack x n (suc at)) ≡ star
+        → map f (cond (s || t) (wordsFrom (suc at) k ns hs) (pack x n (suc at) ∷ wordsFrom (suc at) k ns hs)) ≡ select q (keep (not s) star (starsOf ns ws os))
+    go true t e ih same = ih
+    go false true e ih same = rw e ih
+    go false false e ih same = rw e (rw (same, ih))
 
 -- the words of two lists of items, one after the other
 pub words-append : (at k : ℕ) (ns hs ms js : List ℕ) → length ns ≡ length hs
@@ -312,15 +320,20 @@ stretch-suc b p n l =
     ∙ take-add b (n * b) (drop (p * b) l)
     ∙ ap (λ (r : List ℕ). take b (drop (p * b) l) ++ take (n * b) r) (drop-drop b (p * b) l ∙ ap (λ (k : ℕ). drop k l) (sym (suc-mul p b)))
 
-starsOf-append : (a c x y : List ℕ) → length a ≡ length c → starsOf (a ++ x) (c ++ y) ≡ starsOf a c ++ starsOf x y
+starsOf-append : (a c d x y z : List ℕ) → length a ≡ length c → length a ≡ length d → starsOf (a ++ x) (c ++ y) (d ++ z) ≡ starsOf a c d ++ starsOf x y z
 unfolding starsOf
-starsOf-append [] [] x y e = refl
-starsOf-append [] (w ∷ c) x y e = absurd (omega arith)
-starsOf-append (n ∷ a) [] x y e = absurd (omega arith)
-starsOf-append (n ∷ a) (w ∷ c) x y e = go (not (eqb n 0)) (starsOf-append a c x y (omega arith))
+starsOf-append [] [] [] x y z e i = refl
+starsOf-append [] [] (o ∷ d) x y z e i = absurd (omega arith)
+starsOf-append [] (w ∷ c) d x y z e i = absurd (omega arith)
+starsOf-append (n ∷ a) [] d x y z e i = absurd (omega arith)
+starsOf-append (n ∷ a) (w ∷ c) [] x y z e i = absurd (omega arith)
+starsOf-append (n ∷ a) (w ∷ c) (o ∷ d) x y z e i = go (not (eqb n 0)) (starsOf-append a c d x y z (omega arith) (omega arith))
   where
-    go : (t : Bool) → starsOf (a ++ x) (c ++ y) ≡ starsOf a c ++ starsOf x y
-        → keep t (record { number = n; word = w }) (starsOf (a ++ x) (c ++ y)) ≡ keep t (record { number = n; word = w }) (starsOf a c) ++ starsOf x y
+    star : Star
+    star = record { number = n; word = w; owner = o }
+
+    go : (t : Bool) → starsOf (a ++ x) (c ++ y) (d ++ z) ≡ starsOf a c d ++ starsOf x y z
+        → keep t star (starsOf (a ++ x) (c ++ y) (d ++ z)) ≡ keep t star (starsOf a c d) ++ starsOf x y z
     go true ih = rw ih
     go false ih = ih
 
@@ -328,56 +341,63 @@ length-part : (b p : ℕ) (l : List ℕ) → suc p * b ≤ length l → length (
 unfolding part
 length-part b p l h = length-take-le b (drop (p * b) l) (rw (length-drop (p * b) l) (omega (arith, suc-mul p b)))
 
-pub gathered-stretch : (b : ℕ) (f : File) (p n : ℕ) → (p + n) * b ≤ length (f .numbers) → (p + n) * b ≤ length (f .words)
-    → gathered b f p n ≡ pour (starsOf (stretch b p n (f .numbers)) (stretch b p n (f .words))) []
+pub gathered-stretch : (b : ℕ) (f : File) (p n : ℕ) → (p + n) * b ≤ length (f .numbers) → (p + n) * b ≤ length (f .words) → (p + n) * b ≤ length (f .owners)
+    → gathered b f p n ≡ pour (starsOf (stretch b p n (f .numbers)) (stretch b p n (f .words)) (stretch b p n (f .owners))) []
 unfolding gathered starsAt
-gathered-stretch b f p zero hn hw = unfold starsOf pour in rw (zero-mul b)
-gathered-stretch b f p (suc n) hn hw =
+gathered-stretch b f p zero hn hw ho = unfold starsOf pour in rw (zero-mul b)
+gathered-stretch b f p (suc n) hn hw ho =
     let more : suc p * b ≤ (p + suc n) * b = mul-le-mul-right b (omega arith) in
     let same : (p + suc n) * b ≡ (suc p + n) * b = ap (λ (k : ℕ). k * b) (omega arith) in
-    ap (pour (starsAt b f p)) (gathered-stretch b f (suc p) n (omega arith) (omega arith))
-    ∙ sym (pour-append (starsAt b f p) (starsOf (stretch b (suc p) n (f .numbers)) (stretch b (suc p) n (f .words))) [])
+    let first : length (part b p (f .numbers)) ≡ b = length-part b p (f .numbers) (omega arith) in
+    ap (pour (starsAt b f p)) (gathered-stretch b f (suc p) n (omega arith) (omega arith) (omega arith))
+    ∙ sym (pour-append (starsAt b f p) (starsOf (stretch b (suc p) n (f .numbers)) (stretch b (suc p) n (f .words)) (stretch b (suc p) n (f .owners))) [])
     ∙ ap (λ (s : List Star). pour s [])
-    (sym (starsOf-append (part b p (f .numbers)) (part b p (f .words)) (stretch b (suc p) n (f .numbers)) (stretch b (suc p) n (f .words))
-    (length-part b p (f .numbers) (omega arith) ∙ sym (length-part b p (f .words) (omega arith))))
-    ∙ rw (stretch-suc b p n (f .numbers), stretch-suc b p n (f .words)))
+    (sym (starsOf-append (part b p (f .numbers)) (part b p (f .words)) (part b p (f .owners)) (stretch b (suc p) n (f .numbers)) (stretch b (suc p) n (f .words)) (stretch b (suc p) n (f .owners))
+    (first ∙ sym (length-part b p (f .words) (omega arith))) (first ∙ sym (length-part b p (f .owners) (omega arith))))
+    ∙ rw (stretch-suc b p n (f .numbers), stretch-suc b p n (f .words), stretch-suc b p n (f .owners)))
 
 -- a map after a map
 map-map : (g : Star → Star) (h : ℕ → Star) (l : List ℕ) → map g (map h l) ≡ map (λ w. g (h w)) l
 map-map g h [] = refl
 map-map g h (x ∷ l) = ap (λ (s : List Star). g (h x) ∷ s) (map-map g h l)
 
--- the waiting stars of a stretch, with the words that their sources name, are the file's stars there but the one of number k
-pub true-stars : (b lo n k new : ℕ) (f : File) (hs : List ℕ) → allBelow (2 ^ 31) (stretch b lo n (f .numbers)) ≡ true → (lo + n) * b < 2 ^ 16
-    → (lo + n) * b ≤ length (f .numbers) → (lo + n) * b ≤ length (f .words) → (lo + n) * b ≤ length hs
-    → map (renamed (f .words) new) (waits (wordsFrom (lo * b) k (stretch b lo n (f .numbers)) (stretch b lo n hs))) ≡ without k (gathered b f lo n)
+-- the waiting stars of a stretch, with the words and owners that their sources name, are the file's stars there but the one of number k
+pub true-stars : (b lo n k newword newowner : ℕ) (f : File) (hs : List ℕ) → allBelow (2 ^ 31) (stretch b lo n (f .numbers)) ≡ true → (lo + n) * b < 2 ^ 16
+    → (lo + n) * b ≤ length (f .numbers) → (lo + n) * b ≤ length (f .words) → (lo + n) * b ≤ length (f .owners) → (lo + n) * b ≤ length hs
+    → map (renamed (f .words) (f .owners) newword newowner) (waits (wordsFrom (lo * b) k (stretch b lo n (f .numbers)) (stretch b lo n hs))) ≡ without k (gathered b f lo n)
 unfolding without pour select
-true-stars b lo n k new f hs valid items hn hw hh =
+true-stars b lo n k newword newowner f hs valid items hn hw ho hh =
     let ns : List ℕ = stretch b lo n (f .numbers) in
     let ws : List ℕ = stretch b lo n (f .words) in
+    let os : List ℕ = stretch b lo n (f .owners) in
     let L : List ℕ = wordsFrom (lo * b) k ns (stretch b lo n hs) in
-    let g : Star → Star = renamed (f .words) new in
+    let g : Star → Star = renamed (f .words) (f .owners) newword newowner in
     let ln : length ns ≡ n * b = length-stretch b lo n (f .numbers) hn in
     let lw : length ws ≡ n * b = length-stretch b lo n (f .words) hw in
+    let lv : length os ≡ n * b = length-stretch b lo n (f .owners) ho in
     let lh : length (stretch b lo n hs) ≡ n * b = length-stretch b lo n hs hh in
     let few : lo * b + length ns < 2 ^ 16 = omega (arith, add-mul lo n b) in
     ap (map g) (waits-poured L (words-ordered (lo * b) k ns (stretch b lo n hs) valid few))
-    ∙ sym (pour-map g (renamed-keeps (f .words) new) (map (λ w. starOf (lowOf w)) L) [])
+    ∙ sym (pour-map g (renamed-keeps (f .words) (f .owners) newword newowner) (map (λ w. starOf (lowOf w)) L) [])
     ∙ ap (λ (s : List Star). pour s [])
     (map-map g (λ w. starOf (lowOf w)) L
-    ∙ words-stars (f .words) new (lo * b) k ns (stretch b lo n hs) ws valid few (lh ∙ sym ln) (lw ∙ sym ln)
-    (λ i a. named-stretch b lo n new (f .words) hw i (omega arith)))
-    ∙ sym (select-pour (λ (s : Star). not (eqb (s .number) k)) (starsOf ns ws) [] tt)
-    ∙ ap (select (λ (s : Star). not (eqb (s .number) k))) (sym (gathered-stretch b f lo n hn hw))
+    ∙ words-stars (f .words) (f .owners) newword newowner (lo * b) k ns (stretch b lo n hs) ws os valid few (lh ∙ sym ln) (lw ∙ sym ln) (lv ∙ sym ln)
+    (λ i a. named-stretch b lo n newword (f .words) hw i (omega arith))
+    (λ i a. named-stretch b lo n newowner (f .owners) ho i (omega arith)))
+    ∙ sym (select-pour (λ (s : Star). not (eqb (s .number) k)) (starsOf ns ws os) [] tt)
+    ∙ ap (select (λ (s : Star). not (eqb (s .number) k))) (sym (gathered-stretch b f lo n hn hw ho))
 
 -- .. and with the new star of an entry
-pub new-star : (ws : List ℕ) (new h k s : ℕ) (l : List ℕ) → k < 2 ^ 31 → s < 2 ^ 16 → fresh k l ≡ true
-    → map (renamed ws new) (waits (pack h k s ∷ l)) ≡ insert (record { number = k; word = named ws new s }) (map (renamed ws new) (waits l))
-new-star ws new h k s l hk hs e =
-    ap (map (renamed ws new)) (waits-cons (pack h k s) l (fresh-led (pack h k s) l (rw (number-pack h k s hk hs) e)))
-    ∙ sym (insert-map (renamed ws new) (renamed-keeps ws new) (starOf (lowOf (pack h k s))) (waits l))
-    ∙ ap (λ (t : Star). insert t (map (renamed ws new) (waits l))) (star-pack ws new h k s hk hs)
+pub new-star : (ws os : List ℕ) (newword newowner h k s : ℕ) (l : List ℕ) → k < 2 ^ 31 → s < 2 ^ 16 → fresh k l ≡ true
+    → map (renamed ws os newword newowner) (waits (pack h k s ∷ l))
+    ≡ insert (record { number = k; word = named ws newword s; owner = named os newowner s }) (map (renamed ws os newword newowner) (waits l))
+new-star ws os newword newowner h k s l hk hs e =
+    let g : Star → Star = renamed ws os newword newowner in
+    ap (map g) (waits-cons (pack h k s) l (fresh-led (pack h k s) l (rw (number-pack h k s hk hs) e)))
+    ∙ sym (insert-map g (renamed-keeps ws os newword newowner) (starOf (lowOf (pack h k s))) (waits l))
+    ∙ ap (λ (t : Star). insert t (map g (waits l))) (star-pack ws os newword newowner h k s hk hs)
 
-pub named-last : (l : List ℕ) (new : ℕ) → named l new (suc (length l)) ≡ new
+-- the source past all items names the new one
+pub named-past : (l : List ℕ) (new source : ℕ) → source ≡ length l + 1 → named l new source ≡ new
 unfolding named
-named-last l new = List·getD-eq-default l new (le-refl (length l))
+named-past l new source e = rw (e, add-one (length l)) (List·getD-eq-default l new (le-refl (length l)))

@@ -16,9 +16,9 @@ use Rattle.waiting.specs.Words.{homeOf, numberOf, sourceOf}
 use Rattle.waiting.specs.Gather.{group, stretchWords}
 use Rattle.waiting.specs.Settle.{staying, passing, separatorOf, slotsOf}
 
--- the star that a word's low part stands for: its number, and its source in place of a position word
+-- the star that a word's low part stands for: its number, and its source in place of position word and owner
 unfoldable pub starOf : ℕ → Star
-starOf low = record { number = low / 2 ^ 16; word = low % 2 ^ 16 }
+starOf low = record { number = low / 2 ^ 16; word = low % 2 ^ 16; owner = 0 }
 
 -- the rule's waiting list, of the stars whose words wait in the pool
 unfoldable pub waits : List ℕ → List Star

@@ -12,9 +12,10 @@ use Rattle.waiting.specs.Words.{numberOf, sourceOf}
 unfoldable pub named : List ℕ → ℕ → ℕ → ℕ
 named l new source = getD (0 ∷ l) source new
 
--- a planned star with the position word that its source names
-unfoldable pub renamed : List ℕ → ℕ → Star → Star
-renamed words newword s = record { number = s .number; word = named words newword (s .word) }
+-- a planned star with the position word and the owner that its source names
+unfoldable pub renamed : List ℕ → List ℕ → ℕ → ℕ → Star → Star
+renamed words owners newword newowner s =
+    record { number = s .number; word = named words newword (s .word); owner = named owners newowner (s .word) }
 
 -- every word's source names its number
 unfoldable pub sourced : List ℕ → ℕ → List ℕ → Bool

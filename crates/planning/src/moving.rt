@@ -34,6 +34,19 @@ fn number_named(numbers: &[u32], source: u32, newnumber: u32) -> u32
     newnumber
 }
 
+fn owner_named(owners: &[u8], source: u32, newowner: u8) -> u8
+    ensures { λ r. ⌜ r ≡ named (now (owners .entry)) newowner source ⌝ }
+{
+    if source == 0 {
+        return 0;
+    }
+    let item = source as usize - 1;
+    if item < owners.len() {
+        return owners[item];
+    }
+    newowner
+}
+
 fn fetch_words(
     words: &[u64],
     pool: &[u32],
@@ -49,6 +62,25 @@ fn fetch_words(
     let mut i = 0;
     while i < items {
         waiting[at + i] = word_named(words, pool[at + i], newword);
+        i += 1;
+    }
+}
+
+fn fetch_owners(
+    owners: &[u8],
+    pool: &[u32],
+    poolowners: &mut [u8],
+    at: usize,
+    items: usize,
+    newowner: u8,
+)
+    requires { ⌜ at + items ≤ length (now pool) ⌝ }
+    requires { ⌜ at + items ≤ length (now poolowners) ⌝ }
+    ensures { λ _. ⌜ now (poolowners .exit) ≡ paste (now (poolowners .entry)) at (map (named (now (owners .entry)) newowner) (drop at (now (pool .entry)))) items ⌝ }
+{
+    let mut i = 0;
+    while i < items {
+        poolowners[at + i] = owner_named(owners, pool[at + i], newowner);
         i += 1;
     }
 }
@@ -88,55 +120,67 @@ fn copy_numbers(numbers: &mut [u32], pool: &[u32], at: usize, items: usize)
     }
 }
 
-fn copy_separators(separators: &mut [u8], planned: &[u8], lo: usize, count: usize)
-    requires { ⌜ lo + count ≤ length (now separators) ⌝ }
-    requires { ⌜ lo + count ≤ length (now planned) ⌝ }
-    ensures { λ _. ⌜ now (separators .exit) ≡ paste (now (separators .entry)) lo (drop lo (now (planned .entry))) count ⌝ }
+fn copy_bytes(bytes: &mut [u8], from: &[u8], at: usize, items: usize)
+    requires { ⌜ at + items ≤ length (now bytes) ⌝ }
+    requires { ⌜ at + items ≤ length (now from) ⌝ }
+    ensures { λ _. ⌜ now (bytes .exit) ≡ paste (now (bytes .entry)) at (drop at (now (from .entry))) items ⌝ }
 {
     let mut i = 0;
-    while i < count {
-        separators[lo + i] = planned[lo + i];
+    while i < items {
+        bytes[at + i] = from[at + i];
         i += 1;
     }
 }
 
-// Words first: the sources stand where the numbers go.
+// Words and owners first: the sources stand where the numbers go.
 pub fn fetch(
     numbers: &[u32],
     words: &[u64],
+    owners: &[u8],
     pool: &mut [u32],
     waiting: &mut [u64],
+    poolowners: &mut [u8],
     at: usize,
     items: usize,
     newnumber: u32,
     newword: u64,
+    newowner: u8,
 )
     requires { ⌜ at + items ≤ length (now pool) ⌝ }
     requires { ⌜ at + items ≤ length (now waiting) ⌝ }
+    requires { ⌜ at + items ≤ length (now poolowners) ⌝ }
     ensures { λ _. ⌜ now (pool .exit) ≡ paste (now (pool .entry)) at (map (named (now (numbers .entry)) newnumber) (drop at (now (pool .entry)))) items ⌝ }
     ensures { λ _. ⌜ now (waiting .exit) ≡ paste (now (waiting .entry)) at (map (named (now (words .entry)) newword) (drop at (now (pool .entry)))) items ⌝ }
+    ensures { λ _. ⌜ now (poolowners .exit) ≡ paste (now (poolowners .entry)) at (map (named (now (owners .entry)) newowner) (drop at (now (pool .entry)))) items ⌝ }
 {
     fetch_words(words, pool, waiting, at, items, newword);
+    fetch_owners(owners, pool, poolowners, at, items, newowner);
     fetch_numbers(numbers, pool, at, items, newnumber);
 }
 
 fn put_back(
     numbers: &mut [u32],
     words: &mut [u64],
+    owners: &mut [u8],
     pool: &[u32],
     waiting: &[u64],
+    poolowners: &[u8],
     at: usize,
     items: usize,
 )
     requires { ⌜ at + items ≤ length (now numbers) ⌝ }
     requires { ⌜ at + items ≤ length (now words) ⌝ }
+    requires { ⌜ at + items ≤ length (now owners) ⌝ }
     requires { ⌜ at + items ≤ length (now pool) ⌝ }
     requires { ⌜ at + items ≤ length (now waiting) ⌝ }
+    requires { ⌜ at + items ≤ length (now poolowners) ⌝ }
     ensures { λ _. ⌜ now (numbers .exit) ≡ paste (now (numbers .entry)) at (drop at (now (pool .entry))) items ⌝ }
     ensures { λ _. ⌜ now (words .exit) ≡ paste (now (words .entry)) at (drop at (now (waiting .entry))) items ⌝ }
+    ensures { λ _. ⌜ now (owners .exit) ≡ paste (now (owners .entry)) at (drop at (now (poolowners .entry))) items ⌝ }
 {
     copy_words(words, waiting, at, items);
     copy_numbers(numbers, pool, at, items);
+    copy_bytes(owners, poolowners, at, items);
 }
 
 // The stretch of `count` pages from page lo becomes what the planned sources and separators say.
@@ -144,28 +188,45 @@ pub fn apply(
     separators: &mut [u8],
     numbers: &mut [u32],
     words: &mut [u64],
+    owners: &mut [u8],
     pool: &mut [u32],
     waiting: &mut [u64],
+    poolowners: &mut [u8],
     planned: &[u8],
     places: usize,
     lo: usize,
     count: usize,
     newnumber: u32,
     newword: u64,
+    newowner: u8,
 )
     requires { ⌜ (places ≤ 32) × (lo + count ≤ 1024) ⌝ }
     requires { ⌜ (lo + count ≤ length (now separators)) × (lo + count ≤ length (now planned)) ⌝ }
     requires { ⌜ ((lo + count) * places ≤ length (now numbers)) × ((lo + count) * places ≤ length (now words)) ⌝ }
     requires { ⌜ ((lo + count) * places ≤ length (now pool)) × ((lo + count) * places ≤ length (now waiting)) ⌝ }
+    requires { ⌜ ((lo + count) * places ≤ length (now owners)) × ((lo + count) * places ≤ length (now poolowners)) ⌝ }
     ensures { λ _. ⌜ now (separators .exit) ≡ written lo (take count (drop lo (now (planned .entry)))) (now (separators .entry)) ⌝ }
     ensures { λ _. ⌜ now (numbers .exit) ≡ written (lo * places) (map (named (now (numbers .entry)) newnumber) (stretch places lo count (now (pool .entry)))) (now (numbers .entry)) ⌝ }
     ensures { λ _. ⌜ now (words .exit) ≡ written (lo * places) (map (named (now (words .entry)) newword) (stretch places lo count (now (pool .entry)))) (now (words .entry)) ⌝ }
+    ensures { λ _. ⌜ now (owners .exit) ≡ written (lo * places) (map (named (now (owners .entry)) newowner) (stretch places lo count (now (pool .entry)))) (now (owners .entry)) ⌝ }
 {
     let at = lo * places;
     let items = count * places;
-    fetch(numbers, words, pool, waiting, at, items, newnumber, newword);
-    put_back(numbers, words, pool, waiting, at, items);
-    copy_separators(separators, planned, lo, count);
+    fetch(
+        numbers,
+        words,
+        owners,
+        pool,
+        waiting,
+        poolowners,
+        at,
+        items,
+        newnumber,
+        newword,
+        newowner,
+    );
+    put_back(numbers, words, owners, pool, waiting, poolowners, at, items);
+    copy_bytes(separators, planned, lo, count);
 }
 
 fn clear_numbers(pool: &mut [u32])
@@ -188,11 +249,23 @@ fn clear_words(waiting: &mut [u64])
     }
 }
 
-// Zeros in both lists: the pool after a call that used it, and the places of an empty file.
-pub fn clear(pool: &mut [u32], waiting: &mut [u64])
+fn clear_owners(poolowners: &mut [u8])
+    ensures { λ _. ⌜ now (poolowners .exit) ≡ replicate (length (now (poolowners .entry))) 0 ⌝ }
+{
+    let mut i = 0;
+    while i < poolowners.len() {
+        poolowners[i] = 0;
+        i += 1;
+    }
+}
+
+// Zeros in all three lists: the pool after a call that used it, and the places of an empty file.
+pub fn clear(pool: &mut [u32], waiting: &mut [u64], poolowners: &mut [u8])
     ensures { λ _. ⌜ now (pool .exit) ≡ replicate (length (now (pool .entry))) 0 ⌝ }
     ensures { λ _. ⌜ now (waiting .exit) ≡ replicate (length (now (waiting .entry))) 0 ⌝ }
+    ensures { λ _. ⌜ now (poolowners .exit) ≡ replicate (length (now (poolowners .entry))) 0 ⌝ }
 {
     clear_numbers(pool);
     clear_words(waiting);
+    clear_owners(poolowners);
 }

@@ -14,20 +14,30 @@ pub fn survey_pages(
     separators: &[u8],
     numbers: &[u32],
     words: &[u64],
+    owners: &[u8],
     homes: &mut [u32],
     from: usize,
     stop: usize,
 ) -> usize
-    requires { ⌜ Ready geometry (now table) (held separators numbers words) ⌝ }
+    requires { ⌜ Ready geometry (now table) (held separators numbers words owners) ⌝ }
     requires { ⌜ length (now homes) ≡ geometry .parameters .pages * geometry .parameters .places ⌝ }
     requires { ⌜ from ≤ stop ⌝ }
     requires { ⌜ stop ≤ geometry .parameters .pages ⌝ }
-    ensures { λ r. ⌜ r ≡ firstUnsound (geometry .parameters) (geometry .growth) (before separators numbers words) from (stop - from) ⌝ }
+    ensures { λ r. ⌜ r ≡ firstUnsound (geometry .parameters) (geometry .growth) (before separators numbers words owners) from (stop - from) ⌝ }
     ensures { λ r. ⌜ (r ≡ stop → now (homes .exit) ≡ homesKept geometry from stop (now (numbers .entry)) (now (homes .entry))) ⌝ }
 {
     let mut page = from;
     while page < stop {
-        if !placement::survey(table, geometry, separators, numbers, words, homes, page) {
+        if !placement::survey(
+            table,
+            geometry,
+            separators,
+            numbers,
+            words,
+            owners,
+            homes,
+            page,
+        ) {
             return page;
         }
         page += 1;

@@ -161,8 +161,10 @@ module _ (p : Parameters) (g : Growth) (f : File) (valid : validParameters p ≡
       all-are-sound : ltb (firstUnsound p g f 0 (p .pages)) (p .pages) ≡ false
       all-are-sound = le-ltb (firstUnsound p g f 0 (p .pages)) (p .pages) (omega (arith, sound-pages))
 
-      pub growth-plannable : (waiting : List ℕ) → length waiting ≡ p .pages * p .places → Plannable p 0 (p .pages) f pool waiting
-      growth-plannable waiting ew = plannable-stretch p f valid sized 0 (p .pages) (omega arith) (omega (arith, some-pages)) pool size below within waiting ew
+      pub growth-plannable : (waiting poolowners : List ℕ) → length waiting ≡ p .pages * p .places → length poolowners ≡ p .pages * p .places
+          → Plannable p 0 (p .pages) f pool waiting poolowners
+      growth-plannable waiting poolowners ew eo =
+          plannable-stretch p f valid sized 0 (p .pages) (omega arith) (omega (arith, some-pages)) pool size below within waiting poolowners ew eo
 
       pub growth-done : (r : Bool) → r ≡ fitting p 0 (p .pages) 0 f pool → (f′ : File) → f′ ≡ restretched p 0 (p .pages) 0 f pool
           → (cond r Done Overflows ≡ growthAnswer p g f next) × (f′ ≡ growthFile p g f next)

@@ -82,8 +82,8 @@ module _ (p : Parameters) (f : File) (valid : validParameters p ≡ true) (sized
     few : p .pages * p .places ≤ 32768
     few = omega (arith, mul-le-mul (limits p valid .pages-most) (limits p valid .places-most))
 
-    pub plannable-stretch : (waiting : List ℕ) → length waiting ≡ p .pages * p .places → Plannable p lo n f hs waiting
-    plannable-stretch waiting ew =
+    pub plannable-stretch : (waiting poolowners : List ℕ) → length waiting ≡ p .pages * p .places → length poolowners ≡ p .pages * p .places → Plannable p lo n f hs waiting poolowners
+    plannable-stretch waiting poolowners ew eo =
         let l = limits p valid in
         record {
           places-most = l .places-most;
@@ -92,8 +92,10 @@ module _ (p : Parameters) (f : File) (valid : validParameters p ≡ true) (sized
           separators-long = omega (arith, sized .ofSeparators);
           numbers-long = omega (arith, long, sized .ofNumbers);
           words-long = omega (arith, long, sized .ofWords);
+          owners-long = omega (arith, long, sized .ofOwners);
           pool-long = omega (arith, long);
           waiting-long = omega (arith, long);
+          poolowners-long = omega (arith, long);
           waiting-most = omega (arith, few);
           valid = below;
           within = within;
@@ -106,6 +108,7 @@ module _ (p : Parameters) (f : File) (valid : validParameters p ≡ true) (sized
           few = omega (arith, long, few);
           numbers = omega (arith, long, sized .ofNumbers);
           words = omega (arith, long, sized .ofWords);
+          owners = omega (arith, long, sized .ofOwners);
           homes = omega (arith, long);
           valid = below;
           within = within;
@@ -128,8 +131,9 @@ module _ (p : Parameters) (g : Growth) (f : File) (valid : validParameters p ≡
   within : allBelow (lo + n) (stretch (p .places) lo n pool′) ≡ true
   within = rw surveyed (homes-below p f valid sized lo n inside g (all-sound p g f lo n sound))
 
-  pub plannable-surveyed : (waiting : List ℕ) → length pool′ ≡ p .pages * p .places → length waiting ≡ p .pages * p .places → Plannable p lo n f pool′ waiting
-  plannable-surveyed waiting ep ew = plannable-stretch p f valid sized lo n inside some pool′ ep below within waiting ew
+  pub plannable-surveyed : (waiting poolowners : List ℕ) → length pool′ ≡ p .pages * p .places → length waiting ≡ p .pages * p .places → length poolowners ≡ p .pages * p .places
+      → Plannable p lo n f pool′ waiting poolowners
+  plannable-surveyed waiting poolowners ep ew eo = plannable-stretch p f valid sized lo n inside some pool′ ep below within waiting poolowners ew eo
 
   pub ready-surveyed : length pool′ ≡ p .pages * p .places → Gatherable (hashOf p g) (p .places) lo n f pool′
   ready-surveyed ep = ready-stretch p f valid sized lo n inside some pool′ ep below within (hashOf p g) surveyed

@@ -101,9 +101,11 @@ module _ (p : Parameters) (g : Growth) (f : File) (k : ℕ) where
           sound-fits validWord (hash p g) f (p .pages) from n (λ (s : Star). not (eqb (s .number) k)) sized inside
           (real-sound p g f from n (all-sound p g f from n sound-stretch))
 
-      pub removal-plannable : (waiting : List ℕ) → length waiting ≡ p .pages * p .places → Plannable p from (last + 1 - from) f pool′ waiting
+      pub removal-plannable : (waiting poolowners : List ℕ) → length waiting ≡ p .pages * p .places → length poolowners ≡ p .pages * p .places
+          → Plannable p from (last + 1 - from) f pool′ waiting poolowners
       unfolding n
-      removal-plannable waiting ew = plannable-surveyed p g f valid sized from n some inside sound-stretch pool pool′ size kept waiting size′ ew
+      removal-plannable waiting poolowners ew eo =
+          plannable-surveyed p g f valid sized from n some inside sound-stretch pool pool′ size kept waiting poolowners size′ ew eo
 
       pub removal-done : (Done ≡ removalAnswer p g f k) × (restretched p from (last + 1 - from) k f pool′ ≡ removalFile p g f k)
       unfolding removalAnswer removalFile n

@@ -32,7 +32,7 @@ stars-most k (x ∷ l) = go (skipped k x) (stars-most k l)
     go true h = omega arith
     go false h = omega arith
 
-module _ (q : Parameters) (lo n : ℕ) (f : File) (pool waiting : List ℕ) (L : Plannable q lo n f pool waiting) (k : ℕ) where
+module _ (q : Parameters) (lo n : ℕ) (f : File) (pool waiting poolowners : List ℕ) (L : Plannable q lo n f pool waiting poolowners) (k : ℕ) where
   -- the waiting list has (q .places) for the stretch's stars
   pub stars-fit : 0 + starsIn k (stretch (q .places) lo n (f .numbers)) ≤ length waiting
   stars-fit =
@@ -58,11 +58,11 @@ module _ (q : Parameters) (lo n : ℕ) (f : File) (pool waiting : List ℕ) (L :
   -- the plan applied
   applied-stretch : (pool′ planned planned′ W′ : List ℕ) (r : ℕ) → lo + n ≤ length planned
       → Planned q lo n [] (stretchWords (q .places) lo n k (f .numbers) pool) pool pool′ planned planned′ W′ r
-      → applied (q .places) lo n 0 0 pool′ planned′ f ≡ replaced (q .places) f lo (newPages q lo n k f pool)
+      → applied (q .places) lo n 0 0 0 pool′ planned′ f ≡ replaced (q .places) f lo (newPages q lo n k f pool)
   unfolding newPages
   applied-stretch pool′ planned planned′ W′ r long P =
       let l : List ℕ = stretchWords (q .places) lo n k (f .numbers) pool in
-      applied-layout q lo n 0 0 f [] l pool′ planned′ W′ r
+      applied-layout q lo n 0 0 0 f [] l pool′ planned′ W′ r
       (layout q lo n [] l pool pool′ planned planned′ W′ r P (L .pool-long) long)
       (unfold sourced Rattle.waiting.specs.Lists.all in refl) stretch-sourced
 
@@ -75,20 +75,21 @@ module _ (q : Parameters) (lo n : ℕ) (f : File) (pool waiting : List ℕ) (L :
         rw e (refl, refl)
 
     pub stretch-placed : r ≡ 0 → lo + n ≤ length planned
-        → (true ≡ fitting q lo n k f pool) × (applied (q .places) lo n 0 0 pool′ planned′ f ≡ restretched q lo n k f pool)
+        → (true ≡ fitting q lo n k f pool) × (applied (q .places) lo n 0 0 0 pool′ planned′ f ≡ restretched q lo n k f pool)
     unfolding fitting restretched
     stretch-placed none long =
         let e : eqb (length (remains q lo 0 n [] (stretchWords (q .places) lo n k (f .numbers) pool))) 0 ≡ true = eq-eqb _ 0 (sym (P .counted) ∙ none) in
         rw e (refl, applied-stretch pool′ planned planned′ W′ r long P)
 
 -- the lists that the code leaves are the applied file's
-pub applied-lists : (places lo n : ℕ) (pool planned separators numbers words separators′ numbers′ words′ : List ℕ)
+pub applied-lists : (places lo n : ℕ) (pool planned separators numbers words owners separators′ numbers′ words′ owners′ : List ℕ)
     → separators′ ≡ written lo (take n (drop lo planned)) separators
     → numbers′ ≡ written (lo * places) (map (named numbers 0) (stretch places lo n pool)) numbers
     → words′ ≡ written (lo * places) (map (named words 0) (stretch places lo n pool)) words
-    → lent separators′ numbers′ words′ ≡ applied places lo n 0 0 pool planned (lent separators numbers words)
+    → owners′ ≡ written (lo * places) (map (named owners 0) (stretch places lo n pool)) owners
+    → lent separators′ numbers′ words′ owners′ ≡ applied places lo n 0 0 0 pool planned (lent separators numbers words owners)
 unfolding applied
-applied-lists places lo n pool planned separators numbers words separators′ numbers′ words′ es en ew = rw (es, en, ew)
+applied-lists places lo n pool planned separators numbers words owners separators′ numbers′ words′ owners′ es en ew eo = rw (es, en, ew, eo)
 
 none-left : (w : List Star) → eqb (length w) 0 ≡ isEmpty w
 none-left [] = refl
@@ -100,9 +101,9 @@ module _ (H : Hash) (q : Parameters) (real : Probes H q) (lo n : ℕ) (f : File)
   fitting-is =
       let past : List ℕ = remains q lo 0 n [] (stretchWords (q .places) lo n k (f .numbers) hs) in
       let w : List Star = left H lo n (without k (gathered (q .places) f lo n)) in
-      ap (λ (m : ℕ). eqb m 0) (sym (left-count (renamed (f .words) 0) past w (placed H q real lo n f hs R k 0 .1))) ∙ none-left w
+      ap (λ (m : ℕ). eqb m 0) (sym (left-count (renamed (f .words) (f .owners) 0 0) past w (placed H q real lo n f hs R k 0 0 .1))) ∙ none-left w
 
   pub restretched-is : restretched q lo n k f hs
       ≡ cond (isEmpty (left H lo n (without k (gathered (q .places) f lo n)))) (replaced (q .places) f lo (pages H lo n (without k (gathered (q .places) f lo n)))) f
   unfolding restretched newPages
-  restretched-is = rw (fitting-is, placed H q real lo n f hs R k 0 .0)
+  restretched-is = rw (fitting-is, placed H q real lo n f hs R k 0 0 .0)

@@ -15,23 +15,25 @@ use Rattle.planning.specs.Sources.{renamed}
 use Rattle.planning.specs.Plans.{plans, remains}
 
 -- the lists as long as the stretch needs, numbers of 31 bits, and homes below the page past it
-pub record Plannable (q : Parameters) (lo n : ℕ) (f : File) (pool waiting : List ℕ) : Type 0 where
+pub record Plannable (q : Parameters) (lo n : ℕ) (f : File) (pool waiting poolowners : List ℕ) : Type 0 where
   pub places-most : q .places ≤ 32
   pub some : 0 < n
   pub pages-most : lo + n ≤ 1024
   pub separators-long : lo + n ≤ length (f .separators)
   pub numbers-long : (lo + n) * q .places ≤ length (f .numbers)
   pub words-long : (lo + n) * q .places ≤ length (f .words)
+  pub owners-long : (lo + n) * q .places ≤ length (f .owners)
   pub pool-long : (lo + n) * q .places ≤ length pool
   pub waiting-long : (lo + n) * q .places ≤ length waiting
+  pub poolowners-long : (lo + n) * q .places ≤ length poolowners
   pub waiting-most : length waiting ≤ 32768
   pub valid : allBelow (2 ^ 31) (stretch (q .places) lo n (f .numbers)) ≡ true
   pub within : allBelow (lo + n) (stretch (q .places) lo n pool) ≡ true
 
--- the pages that the plan gives the stretch's stars but the star k, with the words that their sources name; hs are the items' homes
+-- the pages that the plan gives the stretch's stars but the star k, with the words and owners that their sources name; hs are the items' homes
 unfoldable pub newPages : Parameters → ℕ → ℕ → ℕ → File → List ℕ → List Contents
 newPages q lo n k f hs =
-    map (mapped (renamed (f .words) 0)) (plans q lo 0 n [] (stretchWords (q .places) lo n k (f .numbers) hs))
+    map (mapped (renamed (f .words) (f .owners) 0 0)) (plans q lo 0 n [] (stretchWords (q .places) lo n k (f .numbers) hs))
 
 -- nothing is carried past them
 unfoldable pub fitting : Parameters → ℕ → ℕ → ℕ → File → List ℕ → Bool

@@ -47,17 +47,29 @@ pub fn regrow(
     separators: &mut [u8],
     numbers: &mut [u32],
     words: &mut [u64],
+    owners: &mut [u8],
     pool: &mut [u32],
     waiting: &mut [u64],
+    poolowners: &mut [u8],
 ) -> Replaced
-    requires { ⌜ Ready geometry (now table) (held separators numbers words) ⌝ }
-    requires { ⌜ Pooled (geometry .parameters) (now pool) (now waiting) ⌝ }
+    requires { ⌜ Ready geometry (now table) (held separators numbers words owners) ⌝ }
+    requires { ⌜ Pooled (geometry .parameters) (now pool) (now waiting) (now poolowners) ⌝ }
     requires { ⌜ Movable back (geometry .parameters) (geometry .growth) ⌝ }
-    ensures { λ r. ⌜ r ≡ growthAnswer (geometry .parameters) (geometry .growth) (before separators numbers words) (nextOf back (geometry .parameters) (geometry .growth)) ⌝ }
-    ensures { λ r. ⌜ after separators numbers words ≡ growthFile (geometry .parameters) (geometry .growth) (before separators numbers words) (nextOf back (geometry .parameters) (geometry .growth)) ⌝ }
+    ensures { λ r. ⌜ r ≡ growthAnswer (geometry .parameters) (geometry .growth) (before separators numbers words owners) (nextOf back (geometry .parameters) (geometry .growth)) ⌝ }
+    ensures { λ r. ⌜ after separators numbers words owners ≡ growthFile (geometry .parameters) (geometry .growth) (before separators numbers words owners) (nextOf back (geometry .parameters) (geometry .growth)) ⌝ }
 {
     let pages = geometry.parameters.pages as usize;
-    let bad = reach::survey_pages(table, geometry, separators, numbers, words, pool, 0, pages);
+    let bad = reach::survey_pages(
+        table,
+        geometry,
+        separators,
+        numbers,
+        words,
+        owners,
+        pool,
+        0,
+        pages,
+    );
     if bad < pages {
         return Replaced::Unsound(bad);
     }
@@ -67,8 +79,10 @@ pub fn regrow(
         separators,
         numbers,
         words,
+        owners,
         pool,
         waiting,
+        poolowners,
         0,
         pages,
         0,

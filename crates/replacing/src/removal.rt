@@ -15,16 +15,18 @@ pub fn remove_star(
     separators: &mut [u8],
     numbers: &mut [u32],
     words: &mut [u64],
+    owners: &mut [u8],
     pool: &mut [u32],
     waiting: &mut [u64],
+    poolowners: &mut [u8],
     number: u32,
     home: u32,
 ) -> Replaced
-    requires { ⌜ Ready geometry (now table) (held separators numbers words) ⌝ }
-    requires { ⌜ Pooled (geometry .parameters) (now pool) (now waiting) ⌝ }
+    requires { ⌜ Ready geometry (now table) (held separators numbers words owners) ⌝ }
+    requires { ⌜ Pooled (geometry .parameters) (now pool) (now waiting) (now poolowners) ⌝ }
     requires { ⌜ home ≡ homeUnder geometry number ⌝ }
-    ensures { λ r. ⌜ r ≡ removalAnswer (geometry .parameters) (geometry .growth) (before separators numbers words) number ⌝ }
-    ensures { λ r. ⌜ after separators numbers words ≡ removalFile (geometry .parameters) (geometry .growth) (before separators numbers words) number ⌝ }
+    ensures { λ r. ⌜ r ≡ removalAnswer (geometry .parameters) (geometry .growth) (before separators numbers words owners) number ⌝ }
+    ensures { λ r. ⌜ after separators numbers words owners ≡ removalFile (geometry .parameters) (geometry .growth) (before separators numbers words owners) number ⌝ }
 {
     let parameters = geometry.parameters;
     let from = home as usize;
@@ -36,6 +38,7 @@ pub fn remove_star(
         separators,
         numbers,
         words,
+        owners,
         pool,
         from,
         stop,
@@ -48,8 +51,10 @@ pub fn remove_star(
         separators,
         numbers,
         words,
+        owners,
         pool,
         waiting,
+        poolowners,
         from,
         stop - from,
         number,

@@ -13,16 +13,18 @@ pub fn replace_stretch(
     separators: &mut [u8],
     numbers: &mut [u32],
     words: &mut [u64],
+    owners: &mut [u8],
     pool: &mut [u32],
     waiting: &mut [u64],
+    poolowners: &mut [u8],
     lo: usize,
     count: usize,
     without: u32,
 ) -> bool
     requires { ⌜ validParameters parameters ≡ true ⌝ }
-    requires { ⌜ Plannable parameters lo count (held separators numbers words) (now pool) (now waiting) ⌝ }
-    ensures { λ r. ⌜ r ≡ fitting parameters lo count without (before separators numbers words) (now (pool .entry)) ⌝ }
-    ensures { λ r. ⌜ after separators numbers words ≡ restretched parameters lo count without (before separators numbers words) (now (pool .entry)) ⌝ }
+    requires { ⌜ Plannable parameters lo count (held separators numbers words owners) (now pool) (now waiting) (now poolowners) ⌝ }
+    ensures { λ r. ⌜ r ≡ fitting parameters lo count without (before separators numbers words owners) (now (pool .entry)) ⌝ }
+    ensures { λ r. ⌜ after separators numbers words owners ≡ restretched parameters lo count without (before separators numbers words owners) (now (pool .entry)) ⌝ }
 {
     let mut planned = [0u8; 1024];
     let left = planning::plan(
@@ -43,12 +45,15 @@ pub fn replace_stretch(
         separators,
         numbers,
         words,
+        owners,
         pool,
         waiting,
+        poolowners,
         &planned,
         parameters.places as usize,
         lo,
         count,
+        0,
         0,
         0,
     );

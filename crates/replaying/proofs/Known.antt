@@ -39,12 +39,14 @@ unfolding allKinds
 known-all kinds i t l = t .rest ∙ rw (drop-of-length-le kinds {i = i} l)
 
 pub even : (h : LentHistory) (answers : List ℕ)
-    → evenLengths (length (h .kinds)) (length (h .stars)) (length (h .ras)) (length (h .decs)) (length answers) ≡ true → Even h answers
+    → evenLengths (length (h .kinds)) (length (h .callers)) (length (h .stars)) (length (h .ras)) (length (h .decs)) (length answers) ≡ true → Even h answers
 even h answers e =
-    let a = both (eqb (length (h .stars)) (length (h .kinds))) _ e in
+    let d = both (eqb (length (h .callers)) (length (h .kinds))) _ e in
+    let a = both (eqb (length (h .stars)) (length (h .kinds))) _ (d .1) in
     let b = both (eqb (length (h .ras)) (length (h .kinds))) _ (a .1) in
     let c = both (eqb (length (h .decs)) (length (h .kinds))) _ (b .1) in
     record {
+      callers = eqb-true _ _ (d .0);
       stars = eqb-true _ _ (a .0);
       ras = eqb-true _ _ (b .0);
       decs = eqb-true _ _ (c .0);

@@ -70,10 +70,10 @@ module _ (p : Parameters) (f : File) (pool : Pool) (h : LentHistory) (answers : 
 
   -- lengths that do not agree, in the history or in the pool
   abbrev lengths : Bool
-  lengths = evenLengths (length (h .kinds)) (length (h .stars)) (length (h .ras)) (length (h .decs)) (length answers)
+  lengths = evenLengths (length (h .kinds)) (length (h .callers)) (length (h .stars)) (length (h .ras)) (length (h .decs)) (length answers)
 
   abbrev pools : Bool
-  pools = evenPool (length (f .numbers)) (length (f .words)) (length (pool .numbers)) (length (pool .words))
+  pools = evenPool (length (f .numbers)) (length (f .words)) (length (f .owners)) (length (pool .numbers)) (length (pool .words)) (length (pool .owners))
 
   pub uneven-history : lengths ≡ false → Replays (replayOf p f pool h answers) (Refused BadLength) answers f pool
   unfolding refusalOf agreeing refusalSaid growthSaid

@@ -72,8 +72,10 @@ pub record SameLengths (file₀ : File) (pool₀ : Pool) (answers₀ : List ℕ)
   pub ofSeparators : length (file .separators) ≡ length (file₀ .separators)
   pub ofNumbers : length (file .numbers) ≡ length (file₀ .numbers)
   pub ofWords : length (file .words) ≡ length (file₀ .words)
+  pub ofOwners : length (file .owners) ≡ length (file₀ .owners)
   pub ofPoolnumbers : length (pool .numbers) ≡ length (pool₀ .numbers)
   pub ofPoolwords : length (pool .words) ≡ length (pool₀ .words)
+  pub ofPoolowners : length (pool .owners) ≡ length (pool₀ .owners)
   pub ofAnswers : length answers ≡ length answers₀
 
 pub same-lengths : (file : File) (pool : Pool) (answers : List ℕ) → SameLengths file pool answers file pool answers
@@ -82,8 +84,10 @@ same-lengths file pool answers =
       ofSeparators = refl;
       ofNumbers = refl;
       ofWords = refl;
+      ofOwners = refl;
       ofPoolnumbers = refl;
       ofPoolwords = refl;
+      ofPoolowners = refl;
       ofAnswers = refl;
     }
 

@@ -27,6 +27,9 @@ use Rattle.calls.specs.Calls.{
   readable,
   named,
   holds,
+  ownerFor,
+  mayAlter,
+  allowed,
   lookedUp,
   lookUpOf,
   enterTo,
@@ -63,13 +66,14 @@ guarded-over : (g : Growth) (f : File) (pool : Pool) (n : ℕ) (a b : After) →
 guarded-over g f pool zero a b e = e
 guarded-over g f pool (suc n) a b e = refl
 
-cases-over : (g : Growth) (f h : File) (pool : Pool) (t u : Bool) (x y z : Answer)
-    → cond t (cond u (record { answer = x; growth = g; file = h; pool = pool }) (unchanged g f pool y)) (unchanged g f pool z)
+cases-over : (g : Growth) (f h : File) (pool : Pool) (t u v : Bool) (w x y z : Answer)
+    → cond t (cond u (cond v (record { answer = w; growth = g; file = h; pool = pool }) (unchanged g f pool x)) (unchanged g f pool y)) (unchanged g f pool z)
     ≡ over g pool
-    (cond t (cond u (record { answer = x; growth = g; file = h; pool = unpooled }) (unchanged g f unpooled y)) (unchanged g f unpooled z))
-cases-over g f h pool true true x y z = refl
-cases-over g f h pool true false x y z = refl
-cases-over g f h pool false u x y z = refl
+    (cond t (cond u (cond v (record { answer = w; growth = g; file = h; pool = unpooled }) (unchanged g f unpooled x)) (unchanged g f unpooled y)) (unchanged g f unpooled z))
+cases-over g f h pool true true true w x y z = refl
+cases-over g f h pool true true false w x y z = refl
+cases-over g f h pool true false v w x y z = refl
+cases-over g f h pool false u v w x y z = refl
 
 -- A call that does not grow keeps the growth state.
 guarded-growth : (g : Growth) (f : File) (pool : Pool) (n : ℕ) (a : After) → a .growth ≡ g → guarded g f pool n a .growth ≡ g
@@ -89,16 +93,16 @@ module _ (p : Parameters) (g : Growth) (f : File) (pool : Pool) where
   unfolding dueOf
   due-over = only-answers g f pool (unlent p g (fileFits p f)) _
 
-  change-over : (k : ℕ) (q : Position) → changeOf p g f pool k q ≡ over g pool (changeOf p g f unpooled k q)
-  unfolding changeOf changeOn
-  change-over k q =
+  change-over : (caller k : ℕ) (q : Position) → changeOf p g f pool caller k q ≡ over g pool (changeOf p g f unpooled caller k q)
+  unfolding changeOf changeOn allowed
+  change-over caller k q =
       guarded-over g f pool (orElse (unlent p g (fileFits p f)) (orElse (unless (validNumber k) 3) (unless (validPosition q) 4))) _ _
-      (cases-over g f _ pool (readable p g f (named p g f k)) (holds p f (named p g f k) k) _ _ _)
+      (cases-over g f _ pool (readable p g f (named p g f k)) (holds p f (named p g f k) k) (mayAlter caller (ownerFor p f (named p g f k) k)) _ _ _ _)
 
-  enter-growth : (k : ℕ) (q : Position) → enterOf p g f pool k q .growth ≡ g
+  enter-growth : (caller k : ℕ) (q : Position) → enterOf p g f pool caller k q .growth ≡ g
   unfolding enterOf enterOn enterTo
-  enter-growth k q =
-      let s : Star = record { number = k; word = packed q } in
+  enter-growth caller k q =
+      let s : Star = record { number = k; word = packed q; owner = caller } in
       let from = hash p g .home k in
       let to = entryEnd (hash p g) (p .pages) f s in
       guarded-growth g f pool
@@ -109,15 +113,17 @@ module _ (p : Parameters) (g : Growth) (f : File) (pool : Pool) where
       (cond-growth (entersWithin (hash p g) f s to) _ _ g refl refl)))
       refl)
 
-  remove-growth : (k : ℕ) → removeOf p g f pool k .growth ≡ g
-  unfolding removeOf removeOn removeTo
-  remove-growth k =
+  remove-growth : (caller k : ℕ) → removeOf p g f pool caller k .growth ≡ g
+  unfolding removeOf removeOn removeTo allowed
+  remove-growth caller k =
       let from = hash p g .home k in
       let to = removalEnd (hash p g) (p .pages) f from in
       guarded-growth g f pool (orElse (unlent p g (fileFits p f && poolFits p pool)) (unless (validNumber k) 3)) _
       (cond-growth (readable p g f (named p g f k)) _ _ g
       (cond-growth (holds p f (named p g f k) k) _ _ g
+      (cond-growth (mayAlter caller (ownerFor p f (named p g f k) k)) _ _ g
       (cond-growth (ltb (firstUnsound p g f from (pagesTo from to)) (from + pagesTo from to)) _ _ g refl refl)
+      refl)
       refl)
       refl)
 
@@ -126,55 +132,55 @@ module _ (p : Parameters) (g : Growth) (f : File) (pool : Pool) where
   check-growth = guarded-growth g f pool (unlent p g (fileFits p f && poolFits p pool)) _ refl
 
   -- The step of each kind, from what its call ensures.
-  module _ (kind k : ℕ) (q : Position) (a : Answer) where
+  module _ (kind caller k : ℕ) (q : Position) (a : Answer) where
     pub look-up-steps : kind ≡ 0 → a ≡ lookUpOf p g f unpooled k .answer
-        → Steps (step p g f pool (requestOf kind k q)) (record { answer = a; growth = g }) f pool
+        → Steps (step p g f pool (requestOf kind caller k q)) (record { answer = a; growth = g }) f pool
     unfolding step requestOf
     look-up-steps e h = rw (e, look-up-over k) (record { answers = h; growths = refl; files = refl; pools = refl })
 
     pub due-steps : kind ≡ 5 → a ≡ dueOf p g f unpooled .answer
-        → Steps (step p g f pool (requestOf kind k q)) (record { answer = a; growth = g }) f pool
+        → Steps (step p g f pool (requestOf kind caller k q)) (record { answer = a; growth = g }) f pool
     unfolding step requestOf
     due-steps e h = rw (e, due-over) (record { answers = h; growths = refl; files = refl; pools = refl })
 
     module _ (said-so : Answer) (h : a ≡ said-so) where
-      pub change-steps : (file : File) → kind ≡ 2 → Leaves (changeOf p g f unpooled k q) said-so file unpooled
-          → Steps (step p g f pool (requestOf kind k q)) (record { answer = a; growth = g }) file pool
+      pub change-steps : (file : File) → kind ≡ 2 → Leaves (changeOf p g f unpooled caller k q) said-so file unpooled
+          → Steps (step p g f pool (requestOf kind caller k q)) (record { answer = a; growth = g }) file pool
       unfolding step requestOf
-      change-steps file e l = rw (e, change-over k q) (record { answers = h ∙ l .answers; growths = refl; files = l .files; pools = refl })
+      change-steps file e l = rw (e, change-over caller k q) (record { answers = h ∙ l .answers; growths = refl; files = l .files; pools = refl })
 
-      pub enter-steps : (file : File) (left : Pool) → kind ≡ 1 → Leaves (enterOf p g f pool k q) said-so file left
-          → Steps (step p g f pool (requestOf kind k q)) (record { answer = a; growth = g }) file left
+      pub enter-steps : (file : File) (left : Pool) → kind ≡ 1 → Leaves (enterOf p g f pool caller k q) said-so file left
+          → Steps (step p g f pool (requestOf kind caller k q)) (record { answer = a; growth = g }) file left
       unfolding step requestOf
-      enter-steps file left e l = rw e (record { answers = h ∙ l .answers; growths = sym (enter-growth k q); files = l .files; pools = l .pools })
+      enter-steps file left e l = rw e (record { answers = h ∙ l .answers; growths = sym (enter-growth caller k q); files = l .files; pools = l .pools })
 
-      pub remove-steps : (file : File) (left : Pool) → kind ≡ 3 → Leaves (removeOf p g f pool k) said-so file left
-          → Steps (step p g f pool (requestOf kind k q)) (record { answer = a; growth = g }) file left
+      pub remove-steps : (file : File) (left : Pool) → kind ≡ 3 → Leaves (removeOf p g f pool caller k) said-so file left
+          → Steps (step p g f pool (requestOf kind caller k q)) (record { answer = a; growth = g }) file left
       unfolding step requestOf
-      remove-steps file left e l = rw e (record { answers = h ∙ l .answers; growths = sym (remove-growth k); files = l .files; pools = l .pools })
+      remove-steps file left e l = rw e (record { answers = h ∙ l .answers; growths = sym (remove-growth caller k); files = l .files; pools = l .pools })
 
       -- a call that may move the growth state
-      moving-steps : (after : After) → step p g f pool (requestOf kind k q) ≡ after → (file : File) (left : Pool) (next : Growth) → next ≡ after .growth
+      moving-steps : (after : After) → step p g f pool (requestOf kind caller k q) ≡ after → (file : File) (left : Pool) (next : Growth) → next ≡ after .growth
           → Leaves after said-so file left
-          → Steps (step p g f pool (requestOf kind k q)) (record { answer = a; growth = next }) file left
+          → Steps (step p g f pool (requestOf kind caller k q)) (record { answer = a; growth = next }) file left
       moving-steps after e file left next n l = rw e (record { answers = h ∙ l .answers; growths = n; files = l .files; pools = l .pools })
 
       pub grow-steps : (file : File) (left : Pool) → kind ≡ 4 → (next : Growth) → next ≡ growOf p g f pool .growth
           → Leaves (growOf p g f pool) said-so file left
-          → Steps (step p g f pool (requestOf kind k q)) (record { answer = a; growth = next }) file left
+          → Steps (step p g f pool (requestOf kind caller k q)) (record { answer = a; growth = next }) file left
       unfolding step requestOf
       grow-steps file left e = moving-steps (growOf p g f pool) (rw e) file left
 
       pub shrink-steps : (file : File) (left : Pool) → kind ≡ 7 → (next : Growth) → next ≡ shrinkOf p g f pool .growth
           → Leaves (shrinkOf p g f pool) said-so file left
-          → Steps (step p g f pool (requestOf kind k q)) (record { answer = a; growth = next }) file left
+          → Steps (step p g f pool (requestOf kind caller k q)) (record { answer = a; growth = next }) file left
       unfolding step requestOf
       shrink-steps file left e = moving-steps (shrinkOf p g f pool) (rw e) file left
 
       pub check-steps : (left : Pool) → (kind ≡ 0 → ⊥) → (kind ≡ 1 → ⊥) → (kind ≡ 2 → ⊥)
           → (kind ≡ 3 → ⊥) → (kind ≡ 4 → ⊥) → (kind ≡ 5 → ⊥) → (kind ≡ 7 → ⊥)
           → Leaves (checkOf p g f pool) said-so f left
-          → Steps (step p g f pool (requestOf kind k q)) (record { answer = a; growth = g }) f left
+          → Steps (step p g f pool (requestOf kind caller k q)) (record { answer = a; growth = g }) f left
       unfolding step requestOf
       check-steps left e0 e1 e2 e3 e4 e5 e7 l =
           rw (ne-eqb _ _ e0, ne-eqb _ _ e1, ne-eqb _ _ e2, ne-eqb _ _ e3, ne-eqb _ _ e4, ne-eqb _ _ e5, ne-eqb _ _ e7)

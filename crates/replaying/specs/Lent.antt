@@ -6,6 +6,6 @@ use denote.Triple.Both.{Both}
 use Rattle.placement.specs.Lent.{Lent}
 use Rattle.replaying.specs.Replay.{LentHistory, lentHistory}
 
-abbrev pub historyBefore : Lent → Lent → Lent → Both (RefT (List ℤ)) (RefT (List ℤ)) → LentHistory
-historyBefore kinds stars ras decs =
-    lentHistory (now (kinds .entry)) (now (stars .entry)) (now (ras .entry)) (now (decs .entry))
+abbrev pub historyBefore : Lent → Lent → Lent → Lent → Both (RefT (List ℤ)) (RefT (List ℤ)) → LentHistory
+historyBefore kinds callers stars ras decs =
+    lentHistory (now (kinds .entry)) (now (callers .entry)) (now (stars .entry)) (now (ras .entry)) (now (decs .entry))

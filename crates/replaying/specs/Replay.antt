@@ -21,15 +21,16 @@ use Rattle.histories.specs.Call.{Call, callOf}
 use Rattle.histories.specs.Run.{HistoryState, Event, initial, outcome, next, events, end}
 use Rattle.histories.specs.Theorem.{AsModel}
 
--- the lent slices of a history: the kind, number, right ascension and declination of each call
+-- the lent slices of a history: the kind, caller, number, right ascension and declination of each call
 pub record LentHistory : Type 0 where
   pub kinds : List ℕ
+  pub callers : List ℕ
   pub stars : List ℕ
   pub ras : List ℕ
   pub decs : List ℤ
 
-abbrev pub lentHistory : List ℕ → List ℕ → List ℕ → List ℤ → LentHistory
-lentHistory kinds stars ras decs = record { kinds = kinds; stars = stars; ras = ras; decs = decs }
+abbrev pub lentHistory : List ℕ → List ℕ → List ℕ → List ℕ → List ℤ → LentHistory
+lentHistory kinds callers stars ras decs = record { kinds = kinds; callers = callers; stars = stars; ras = ras; decs = decs }
 
 -- every kind is one of the eight
 unfoldable pub allKinds : List ℕ → Bool
@@ -37,19 +38,19 @@ allKinds [] = true
 allKinds (kind ∷ kinds) = ltb kind 8 && allKinds kinds
 
 -- kinds: 0 look-up, 1 enter, 2 change, 3 remove, 4 grow, 5 due, 6 check, 7 shrink
-unfoldable pub requestOf : ℕ → ℕ → Position → Request
-requestOf kind k q =
+unfoldable pub requestOf : ℕ → ℕ → ℕ → Position → Request
+requestOf kind caller k q =
     cond (eqb kind 0)
     (lookUp k)
     (cond (eqb kind 1)
-    (enter k q)
+    (enter caller k q)
     (cond (eqb kind 2)
-    (change k q)
-    (cond (eqb kind 3) (remove k) (cond (eqb kind 4) grow (cond (eqb kind 5) due (cond (eqb kind 7) shrink check))))))
+    (change caller k q)
+    (cond (eqb kind 3) (remove caller k) (cond (eqb kind 4) grow (cond (eqb kind 5) due (cond (eqb kind 7) shrink check))))))
 
 abbrev pub requestAt : LentHistory → ℕ → Request
 requestAt h i =
-    requestOf (getD (h .kinds) i 0) (getD (h .stars) i 0)
+    requestOf (getD (h .kinds) i 0) (getD (h .callers) i 0) (getD (h .stars) i 0)
     (record { ra = getD (h .ras) i 0; dec = getD (h .decs) i (pos 0) })
 
 -- the first n requests
@@ -108,19 +109,20 @@ pub record Replay : Type 0 where
   pub file : File
   pub pool : Pool
 
--- a star, a right ascension and a declination for each kind, and eight answers
-abbrev pub evenLengths : ℕ → ℕ → ℕ → ℕ → ℕ → Bool
-evenLengths kinds stars ras decs answers =
-    eqb stars kinds && (eqb ras kinds && (eqb decs kinds && eqb answers (kinds * 8)))
+-- a caller, a star, a right ascension and a declination for each kind, and eight answers
+abbrev pub evenLengths : ℕ → ℕ → ℕ → ℕ → ℕ → ℕ → Bool
+evenLengths kinds callers stars ras decs answers =
+    eqb callers kinds && (eqb stars kinds && (eqb ras kinds && (eqb decs kinds && eqb answers (kinds * 8))))
 
--- a pool as long as the file's numbers and words
-abbrev pub evenPool : ℕ → ℕ → ℕ → ℕ → Bool
-evenPool numbers words poolnumbers poolwords = eqb poolnumbers numbers && eqb poolwords words
+-- a pool as long as the file's numbers, words and owners
+abbrev pub evenPool : ℕ → ℕ → ℕ → ℕ → ℕ → ℕ → Bool
+evenPool numbers words owners poolnumbers poolwords poolowners =
+    eqb poolnumbers numbers && (eqb poolwords words && eqb poolowners owners)
 
 unfoldable pub agreeing : File → Pool → LentHistory → List ℕ → Bool
 agreeing f pool h answers =
-    evenLengths (length (h .kinds)) (length (h .stars)) (length (h .ras)) (length (h .decs)) (length answers)
-    && evenPool (length (f .numbers)) (length (f .words)) (length (pool .numbers)) (length (pool .words))
+    evenLengths (length (h .kinds)) (length (h .callers)) (length (h .stars)) (length (h .ras)) (length (h .decs)) (length answers)
+    && evenPool (length (f .numbers)) (length (f .words)) (length (f .owners)) (length (pool .numbers)) (length (pool .words)) (length (pool .owners))
 
 -- an unknown kind: a number that no paper uses
 abbrev pub unknownKind : ℕ

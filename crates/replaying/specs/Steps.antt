@@ -24,8 +24,9 @@ pub record Recorded (after : After) (before : List ℕ) (at : ℕ) (growth : Gro
   pub files : file ≡ after .file
   pub pools : pool ≡ after .pool
 
--- a star, a right ascension, a declination and eight answers for each kind
+-- a caller, a star, a right ascension, a declination and eight answers for each kind
 pub record Even (h : LentHistory) (answers : List ℕ) : Type 0 where
+  pub callers : length (h .callers) ≡ length (h .kinds)
   pub stars : length (h .stars) ≡ length (h .kinds)
   pub ras : length (h .ras) ≡ length (h .kinds)
   pub decs : length (h .decs) ≡ length (h .kinds)

@@ -29,17 +29,20 @@ fn run_call(
     separators: &mut [u8],
     numbers: &mut [u32],
     words: &mut [u64],
+    owners: &mut [u8],
     poolnumbers: &mut [u32],
     poolwords: &mut [u64],
+    poolowners: &mut [u8],
     kind: u8,
+    caller: u8,
     star: u32,
     position: Position,
 ) -> Stepped
-    ensures { λ r. ⌜ Steps (step parameters growth (before separators numbers words) (poolBefore poolnumbers poolwords) (requestOf kind star position))
-        r (after separators numbers words) (poolAfter poolnumbers poolwords) ⌝ }
+    ensures { λ r. ⌜ Steps (step parameters growth (before separators numbers words owners) (poolBefore poolnumbers poolwords poolowners) (requestOf kind caller star position))
+        r (after separators numbers words owners) (poolAfter poolnumbers poolwords poolowners) ⌝ }
 {
     if kind == 0 {
-        let found = starfile::look_up(parameters, growth, separators, numbers, words, star);
+        let found = starfile::look_up(parameters, growth, separators, numbers, words, owners, star);
         return unmoved(sought_answer(found), growth);
     }
     if kind == 1 {
@@ -49,8 +52,11 @@ fn run_call(
             separators,
             numbers,
             words,
+            owners,
             poolnumbers,
             poolwords,
+            poolowners,
+            caller,
             star,
             position,
         );
@@ -63,6 +69,8 @@ fn run_call(
             separators,
             numbers,
             words,
+            owners,
+            caller,
             star,
             position,
         );
@@ -75,8 +83,11 @@ fn run_call(
             separators,
             numbers,
             words,
+            owners,
             poolnumbers,
             poolwords,
+            poolowners,
+            caller,
             star,
         );
         return unmoved(placed_answer(removed), growth);
@@ -88,14 +99,16 @@ fn run_call(
             separators,
             numbers,
             words,
+            owners,
             poolnumbers,
             poolwords,
+            poolowners,
         );
         let answer = grown.answer;
         return unmoved(placed_answer(answer), grown.growth);
     }
     if kind == 5 {
-        let due = starfile::due(parameters, growth, separators, numbers, words);
+        let due = starfile::due(parameters, growth, separators, numbers, words, owners);
         return unmoved(due_answer(due), growth);
     }
     if kind == 7 {
@@ -105,8 +118,10 @@ fn run_call(
             separators,
             numbers,
             words,
+            owners,
             poolnumbers,
             poolwords,
+            poolowners,
         );
         let answer = shrunk.answer;
         return unmoved(placed_answer(answer), shrunk.growth);
@@ -117,8 +132,10 @@ fn run_call(
         separators,
         numbers,
         words,
+        owners,
         poolnumbers,
         poolwords,
+        poolowners,
     );
     unmoved(checked_answer(checked), growth)
 }
@@ -136,17 +153,20 @@ pub fn replay_step(
     separators: &mut [u8],
     numbers: &mut [u32],
     words: &mut [u64],
+    owners: &mut [u8],
     poolnumbers: &mut [u32],
     poolwords: &mut [u64],
+    poolowners: &mut [u8],
     kind: u8,
+    caller: u8,
     star: u32,
     position: Position,
     answers: &mut [u32],
     at: usize,
 ) -> Growth
     requires { ⌜ at + 8 ≤ length (now answers) ⌝ }
-    ensures { λ r. ⌜ Recorded (step parameters growth (before separators numbers words) (poolBefore poolnumbers poolwords) (requestOf kind star position))
-        (now (answers .entry)) at r (now (answers .exit)) (after separators numbers words) (poolAfter poolnumbers poolwords) ⌝ }
+    ensures { λ r. ⌜ Recorded (step parameters growth (before separators numbers words owners) (poolBefore poolnumbers poolwords poolowners) (requestOf kind caller star position))
+        (now (answers .entry)) at r (now (answers .exit)) (after separators numbers words owners) (poolAfter poolnumbers poolwords poolowners) ⌝ }
 {
     let stepped = run_call(
         parameters,
@@ -154,9 +174,12 @@ pub fn replay_step(
         separators,
         numbers,
         words,
+        owners,
         poolnumbers,
         poolwords,
+        poolowners,
         kind,
+        caller,
         star,
         position,
     );

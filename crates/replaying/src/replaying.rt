@@ -23,27 +23,31 @@ pub enum Replayed {
     Refused(Refusal),
 }
 
-// Kinds: 0 look-up, 1 enter, 2 change, 3 remove, 4 grow, 5 due, 6 check, 7 shrink; a number and a position for each call, which
+// Kinds: 0 look-up, 1 enter, 2 change, 3 remove, 4 grow, 5 due, 6 check, 7 shrink; a caller, a number and a position for each call, which
 // the kinds that take none ignore. Answers: refusal, page, place, found, right ascension, declination + 2^31, due, stars.
 pub fn replay(
     parameters: Parameters,
     separators: &mut [u8],
     numbers: &mut [u32],
     words: &mut [u64],
+    owners: &mut [u8],
     poolnumbers: &mut [u32],
     poolwords: &mut [u64],
+    poolowners: &mut [u8],
     kinds: &[u8],
+    callers: &[u8],
     stars: &[u32],
     ras: &[u32],
     decs: &[i32],
     answers: &mut [u32],
 ) -> Replayed
     ensures { λ r. ⌜ Replays
-        (replayOf parameters (before separators numbers words) (poolBefore poolnumbers poolwords) (historyBefore kinds stars ras decs) (now (answers .entry)))
-        r (now (answers .exit)) (after separators numbers words) (poolAfter poolnumbers poolwords) ⌝ }
+        (replayOf parameters (before separators numbers words owners) (poolBefore poolnumbers poolwords poolowners) (historyBefore kinds callers stars ras decs) (now (answers .entry)))
+        r (now (answers .exit)) (after separators numbers words owners) (poolAfter poolnumbers poolwords poolowners) ⌝ }
 {
     if !lengths_agree(
         kinds.len(),
+        callers.len(),
         stars.len(),
         ras.len(),
         decs.len(),
@@ -54,15 +58,17 @@ pub fn replay(
     if !pool_agrees(
         numbers.len(),
         words.len(),
+        owners.len(),
         poolnumbers.len(),
         poolwords.len(),
+        poolowners.len(),
     ) {
         return Replayed::Refused(Refusal::BadLength);
     }
     if !kinds_known(kinds) {
         return Replayed::BadKind;
     }
-    let made = starfile::make(parameters, separators, numbers, words);
+    let made = starfile::make(parameters, separators, numbers, words, owners);
     let answer = made.answer;
     match answer {
         Placed::On(_, _) => Replayed::Done(run(
@@ -71,9 +77,12 @@ pub fn replay(
             separators,
             numbers,
             words,
+            owners,
             poolnumbers,
             poolwords,
+            poolowners,
             kinds,
+            callers,
             stars,
             ras,
             decs,
@@ -83,10 +92,20 @@ pub fn replay(
     }
 }
 
-// A star, a right ascension and a declination for each kind, and eight answers.
-fn lengths_agree(kinds: usize, stars: usize, ras: usize, decs: usize, answers: usize) -> bool
-    ensures { λ r. ⌜ r ≡ evenLengths kinds stars ras decs answers ⌝ }
+// A caller, a star, a right ascension and a declination for each kind, and eight answers.
+fn lengths_agree(
+    kinds: usize,
+    callers: usize,
+    stars: usize,
+    ras: usize,
+    decs: usize,
+    answers: usize,
+) -> bool
+    ensures { λ r. ⌜ r ≡ evenLengths kinds callers stars ras decs answers ⌝ }
 {
+    if callers != kinds {
+        return false;
+    }
     if stars != kinds {
         return false;
     }
@@ -105,14 +124,24 @@ fn lengths_agree(kinds: usize, stars: usize, ras: usize, decs: usize, answers: u
     true
 }
 
-// The pool is as long as the file's numbers and words.
-fn pool_agrees(numbers: usize, words: usize, poolnumbers: usize, poolwords: usize) -> bool
-    ensures { λ r. ⌜ r ≡ evenPool numbers words poolnumbers poolwords ⌝ }
+// The pool is as long as the file's numbers, words and owners.
+fn pool_agrees(
+    numbers: usize,
+    words: usize,
+    owners: usize,
+    poolnumbers: usize,
+    poolwords: usize,
+    poolowners: usize,
+) -> bool
+    ensures { λ r. ⌜ r ≡ evenPool numbers words owners poolnumbers poolwords poolowners ⌝ }
 {
     if poolnumbers != numbers {
         return false;
     }
-    poolwords == words
+    if poolwords != words {
+        return false;
+    }
+    poolowners == owners
 }
 
 fn kinds_known(kinds: &[u8]) -> bool
@@ -135,17 +164,20 @@ fn run(
     separators: &mut [u8],
     numbers: &mut [u32],
     words: &mut [u64],
+    owners: &mut [u8],
     poolnumbers: &mut [u32],
     poolwords: &mut [u64],
+    poolowners: &mut [u8],
     kinds: &[u8],
+    callers: &[u8],
     stars: &[u32],
     ras: &[u32],
     decs: &[i32],
     answers: &mut [u32],
 ) -> Growth
-    requires { ⌜ Even (lentHistory (now kinds) (now stars) (now ras) (now decs)) (now answers) ⌝ }
-    ensures { λ r. ⌜ Runs (fresh parameters growth (before separators numbers words)) (poolBefore poolnumbers poolwords) (requestsOf (historyBefore kinds stars ras decs)) []
-        r (now (answers .exit)) (after separators numbers words) (poolAfter poolnumbers poolwords) ⌝ }
+    requires { ⌜ Even (lentHistory (now kinds) (now callers) (now stars) (now ras) (now decs)) (now answers) ⌝ }
+    ensures { λ r. ⌜ Runs (fresh parameters growth (before separators numbers words owners)) (poolBefore poolnumbers poolwords poolowners) (requestsOf (historyBefore kinds callers stars ras decs)) []
+        r (now (answers .exit)) (after separators numbers words owners) (poolAfter poolnumbers poolwords poolowners) ⌝ }
 {
     let mut state = growth;
     let mut i = 0;
@@ -160,9 +192,12 @@ fn run(
             separators,
             numbers,
             words,
+            owners,
             poolnumbers,
             poolwords,
+            poolowners,
             kinds[i],
+            callers[i],
             stars[i],
             position,
             answers,

@@ -28,6 +28,7 @@ use Rattle.calls.specs.Calls.{
   enterOf,
   enterOn,
   enterTo,
+  allowed,
   removeOf,
   removeOn,
   removeTo,
@@ -65,34 +66,34 @@ unfolding enterOn enterTo
 enter-on-keeps p g f pool page s = simp (cond-growth, cond-same)
 
 pub enter-keeps :
-    (p : Parameters) (g : Growth) (f : File) (pool : Pool) (k : ℕ) (position : Position) →
-    enterOf p g f pool k position .growth ≡ g
+    (p : Parameters) (g : Growth) (f : File) (pool : Pool) (caller k : ℕ) (position : Position) →
+    enterOf p g f pool caller k position .growth ≡ g
 unfolding enterOf
-enter-keeps p g f pool k position =
+enter-keeps p g f pool caller k position =
     guarded-keeps g f pool
     (orElse (unlent p g (fileFits p f && poolFits p pool))
     (orElse (unless (validNumber k) 3) (unless (validPosition position) 4)))
     _
-    (enter-on-keeps p g f (cleared pool) (named p g f k) (record { number = k; word = packed position }))
+    (enter-on-keeps p g f (cleared pool) (named p g f k) (record { number = k; word = packed position; owner = caller }))
 
 remove-on-keeps :
-    (p : Parameters) (g : Growth) (f : File) (pool : Pool) (page k : ℕ) → removeOn p g f pool page k .growth ≡ g
-unfolding removeOn removeTo
-remove-on-keeps p g f pool page k = simp (cond-growth, cond-same)
+    (p : Parameters) (g : Growth) (f : File) (pool : Pool) (page caller k : ℕ) → removeOn p g f pool page caller k .growth ≡ g
+unfolding removeOn removeTo allowed
+remove-on-keeps p g f pool page caller k = simp (cond-growth, cond-same)
 
 pub remove-keeps :
-    (p : Parameters) (g : Growth) (f : File) (pool : Pool) (k : ℕ) → removeOf p g f pool k .growth ≡ g
+    (p : Parameters) (g : Growth) (f : File) (pool : Pool) (caller k : ℕ) → removeOf p g f pool caller k .growth ≡ g
 unfolding removeOf
-remove-keeps p g f pool k =
+remove-keeps p g f pool caller k =
     guarded-keeps g f pool
     (orElse (unlent p g (fileFits p f && poolFits p pool)) (unless (validNumber k) 3))
     _
-    (remove-on-keeps p g f (cleared pool) (named p g f k) k)
+    (remove-on-keeps p g f (cleared pool) (named p g f k) caller k)
 
 -- the reply and the file of a command, from what the command's call left
 pub follows :
     (s : State) (c : Command) (r : Replied) (a : Answer) (pool : Pool) →
-    Leaves (called s c) a (lent (r .file .separators) (r .file .numbers) (r .file .words)) pool →
+    Leaves (called s c) a (lent (r .file .separators) (r .file .numbers) (r .file .words) (r .file .owners)) pool →
     r .file .growth ≡ called s c .growth → r .reply ≡ replyWith c a → Follows s c r
 unfolding stateOf replyOf nextOf
 follows s c r a pool l g e =

@@ -27,20 +27,20 @@ pub record State : Type 0 where
   pub file : File
 
 unfoldable pub stateOf : StarFile → State
-stateOf f = record { growth = f .growth; file = lent (f .separators) (f .numbers) (f .words) }
+stateOf f = record { growth = f .growth; file = lent (f .separators) (f .numbers) (f .words) (f .owners) }
 
 unfoldable pub newFile : State
 newFile = record { growth = ungrown; file = emptyFile starline }
 
--- a pool of M·b numbers and M·b words, all 0
+-- a pool of M·b numbers, M·b words and M·b owners, all 0
 unfoldable pub pool : Pool
-pool = pooled (replicate 16 0) (replicate 16 0)
+pool = pooled (replicate 16 0) (replicate 16 0) (replicate 16 0)
 
--- the call that a command makes; a line that is none makes no call
+-- the call that a command makes; a line that is none makes no call. "starline calls as 0": document 02 (x)
 unfoldable pub called : State → Command → After
-called s (Enter number ra dec) = enterOf starline (s .growth) (s .file) pool number (record { ra = ra; dec = dec })
+called s (Enter number ra dec) = enterOf starline (s .growth) (s .file) pool 0 number (record { ra = ra; dec = dec })
 called s (LookUp number) = lookUpOf starline (s .growth) (s .file) unpooled number
-called s (Remove number) = removeOf starline (s .growth) (s .file) pool number
+called s (Remove number) = removeOf starline (s .growth) (s .file) pool 0 number
 called s Grow = growOf starline (s .growth) (s .file) pool
 called s Bad = unchanged (s .growth) (s .file) pool (accepted 0)
 

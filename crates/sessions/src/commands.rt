@@ -11,12 +11,16 @@ use lines::Command;
 use lines::Reply;
 use pages::position::Position;
 
+// The program calls for the institute.
+const INSTITUTE: u8 = 0;
+
 // M = 8 pages of b = 2 places. The pool of a call is made for that call.
 pub struct StarFile {
     pub growth: Growth,
     pub separators: [u8; 8],
     pub numbers: [u32; 16],
     pub words: [u64; 16],
+    pub owners: [u8; 16],
 }
 
 pub struct Replied {
@@ -45,13 +49,21 @@ pub fn empty_file() -> StarFile
     let mut separators = [0u8; 8];
     let mut numbers = [0u32; 16];
     let mut words = [0u64; 16];
-    let made = starfile::make(parameters(), &mut separators, &mut numbers, &mut words);
+    let mut owners = [0u8; 16];
+    let made = starfile::make(
+        parameters(),
+        &mut separators,
+        &mut numbers,
+        &mut words,
+        &mut owners,
+    );
     let growth = made.growth;
     StarFile {
         growth,
         separators,
         numbers,
         words,
+        owners,
     }
 }
 
@@ -80,16 +92,21 @@ fn enter(file: StarFile, number: u32, position: Position) -> Replied
     let mut separators = file.separators;
     let mut numbers = file.numbers;
     let mut words = file.words;
+    let mut owners = file.owners;
     let mut poolnumbers = [0u32; 16];
     let mut poolwords = [0u64; 16];
+    let mut poolowners = [0u8; 16];
     let answer = starfile::enter(
         parameters(),
         growth,
         &mut separators,
         &mut numbers,
         &mut words,
+        &mut owners,
         &mut poolnumbers,
         &mut poolwords,
+        &mut poolowners,
+        INSTITUTE,
         number,
         position,
     );
@@ -100,6 +117,7 @@ fn enter(file: StarFile, number: u32, position: Position) -> Replied
             separators,
             numbers,
             words,
+            owners,
         },
     }
 }
@@ -111,7 +129,16 @@ fn look_up(file: StarFile, number: u32) -> Reply
     let separators = file.separators;
     let numbers = file.numbers;
     let words = file.words;
-    let found = starfile::look_up(parameters(), growth, &separators, &numbers, &words, number);
+    let owners = file.owners;
+    let found = starfile::look_up(
+        parameters(),
+        growth,
+        &separators,
+        &numbers,
+        &words,
+        &owners,
+        number,
+    );
     found_reply(sought_answer(found))
 }
 
@@ -122,16 +149,21 @@ fn remove(file: StarFile, number: u32) -> Replied
     let mut separators = file.separators;
     let mut numbers = file.numbers;
     let mut words = file.words;
+    let mut owners = file.owners;
     let mut poolnumbers = [0u32; 16];
     let mut poolwords = [0u64; 16];
+    let mut poolowners = [0u8; 16];
     let answer = starfile::remove(
         parameters(),
         growth,
         &mut separators,
         &mut numbers,
         &mut words,
+        &mut owners,
         &mut poolnumbers,
         &mut poolwords,
+        &mut poolowners,
+        INSTITUTE,
         number,
     );
     Replied {
@@ -141,6 +173,7 @@ fn remove(file: StarFile, number: u32) -> Replied
             separators,
             numbers,
             words,
+            owners,
         },
     }
 }
@@ -152,16 +185,20 @@ fn grow(file: StarFile) -> Replied
     let mut separators = file.separators;
     let mut numbers = file.numbers;
     let mut words = file.words;
+    let mut owners = file.owners;
     let mut poolnumbers = [0u32; 16];
     let mut poolwords = [0u64; 16];
+    let mut poolowners = [0u8; 16];
     let grown = starfile::grow(
         parameters(),
         growth,
         &mut separators,
         &mut numbers,
         &mut words,
+        &mut owners,
         &mut poolnumbers,
         &mut poolwords,
+        &mut poolowners,
     );
     let answer = grown.answer;
     let next = grown.growth;
@@ -172,6 +209,7 @@ fn grow(file: StarFile) -> Replied
             separators,
             numbers,
             words,
+            owners,
         },
     }
 }

@@ -37,10 +37,10 @@ module _ (p : Parameters) (f : File) (pool : Pool) where
       made-by (makeOf p f pool) (refusedBy r 0) ungrown f pool
       (rw (new-guard p (fileFits p f)) (turned-away ungrown f pool _ p (fileFits p f) r e))
 
-  pub make-empty : (separators numbers words : List ℕ) → validParameters p ≡ true → fileFits p f ≡ true → separators ≡ replicate (length (f .separators)) (topOf (p .bits))
-      → numbers ≡ replicate (length (f .numbers)) 0 → words ≡ replicate (length (f .words)) 0
-      → Leaves (makeOf p f pool) (accepted 0) (lent separators numbers words) pool × (ungrown ≡ makeOf p f pool .growth)
+  pub make-empty : (separators numbers words owners : List ℕ) → validParameters p ≡ true → fileFits p f ≡ true → separators ≡ replicate (length (f .separators)) (topOf (p .bits))
+      → numbers ≡ replicate (length (f .numbers)) 0 → words ≡ replicate (length (f .words)) 0 → owners ≡ replicate (length (f .owners)) 0
+      → Leaves (makeOf p f pool) (accepted 0) (lent separators numbers words owners) pool × (ungrown ≡ makeOf p f pool .growth)
   unfolding makeOf emptyFile
-  make-empty separators numbers words e l es en ew =
-      made-by (makeOf p f pool) (accepted 0) ungrown (lent separators numbers words) pool
-      (rw (e, l, es, en, ew, sized p f l .ofSeparators, sized p f l .ofNumbers, sized p f l .ofWords))
+  make-empty separators numbers words owners e l es en ew eo =
+      made-by (makeOf p f pool) (accepted 0) ungrown (lent separators numbers words owners) pool
+      (rw (e, l, es, en, ew, eo, sized p f l .ofSeparators, sized p f l .ofNumbers, sized p f l .ofWords, sized p f l .ofOwners))

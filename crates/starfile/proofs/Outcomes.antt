@@ -14,7 +14,7 @@ use Rattle.hashing.specs.Limits.{validParameters, validGrowth}
 use Rattle.hashing.specs.Generator.{multiplierOf}
 use Rattle.hashing.proofs.Bounds.{limits}
 use Rattle.hashing.proofs.Laws.{home-pages}
-use Rattle.placement.specs.Rule.{Contents, pages, left, without}
+use Rattle.placement.specs.Rule.{Star, Contents, pages, left, without}
 use Rattle.placement.specs.File.{File, gathered, replaced}
 use Rattle.placement.specs.Hash.{hashOf, soundAt}
 use Rattle.placement.proofs.Composition.{length-pages}
@@ -57,29 +57,29 @@ removal-most p g f from h = stretch-most (storedTop (f .separators) (hash p g .t
 
 module _ (p : Parameters) (g : Growth) (f : File) (v : validParameters p ≡ true) (w : validGrowth p g ≡ true) where
   -- ---- entry
-  module _ (k word : ℕ) where
-    inside : entry.startOf p g k + entry.countOf p g f k word ≤ p .pages
+  module _ (s : Star) where
+    inside : entry.startOf p g (s .number) + entry.countOf p g f s ≤ p .pages
     unfolding entryEnd hashOf
-    inside = stretch-most _ (entry.startOf p g k) (p .pages) (home-pages (multiplierOf p) p g k v w)
+    inside = stretch-most _ (entry.startOf p g (s .number)) (p .pages) (home-pages (multiplierOf p) p g (s .number) v w)
 
-    bad-small : entry.unsoundOf p g f k word < 2 ^ 32
-    bad-small = omega (arith, unsound-most p g f (entry.startOf p g k) (entry.countOf p g f k word), inside, limits p v .pages-most)
+    bad-small : entry.unsoundOf p g f s < 2 ^ 32
+    bad-small = omega (arith, unsound-most p g f (entry.startOf p g (s .number)) (entry.countOf p g f s), inside, limits p v .pages-most)
 
-    page-small : holding k (entry.startOf p g k) (entry.contentsOf p g f k word) < 2 ^ 32
+    page-small : holding (s .number) (entry.startOf p g (s .number)) (entry.contentsOf p g f s) < 2 ^ 32
     page-small =
         omega (
           arith,
-          holding-most k (entry.startOf p g k) (entry.contentsOf p g f k word),
-          length-pages (hash p g) (entry.startOf p g k) (entry.countOf p g f k word) (entering (hash p g) f (entry.newStar k word) (entry.endOf p g f k word)),
+          holding-most (s .number) (entry.startOf p g (s .number)) (entry.contentsOf p g f s),
+          length-pages (hash p g) (entry.startOf p g (s .number)) (entry.countOf p g f s) (entering (hash p g) f s (entry.endOf p g f s)),
           inside,
           limits p v .pages-most,
         )
 
-    pub entry-small : EntrySmall (entryAnswer p g f k word)
+    pub entry-small : EntrySmall (entryAnswer p g f s)
     unfolding entryAnswer
-    entry-small = go (ltb (entry.unsoundOf p g f k word) (entry.startOf p g k + entry.countOf p g f k word)) (entersWithin (hash p g) f (entry.newStar k word) (entry.endOf p g f k word))
+    entry-small = go (ltb (entry.unsoundOf p g f s) (entry.startOf p g (s .number) + entry.countOf p g f s)) (entersWithin (hash p g) f s (entry.endOf p g f s))
       where
-        go : (t u : Bool) → EntrySmall (cond t (Unsound (entry.unsoundOf p g f k word)) (cond u (On (holding k (entry.startOf p g k) (entry.contentsOf p g f k word))) Overflows))
+        go : (t u : Bool) → EntrySmall (cond t (Unsound (entry.unsoundOf p g f s)) (cond u (On (holding (s .number) (entry.startOf p g (s .number)) (entry.contentsOf p g f s))) Overflows))
         go true u = bad-small
         go false true = page-small
         go false false = tt
@@ -106,7 +106,7 @@ module _ (p : Parameters) (g : Growth) (f : File) (v : validParameters p ≡ tru
 -- ---- the answers and files are those of the definitions
 
 module _ (p : Parameters) (g : Growth) (f : File) (pool : Pool) where
-  module _ (k word : ℕ) where
+  module _ (s : Star) where
     entered-cases : (t u : Bool) (bad page place : ℕ) (next : File)
         → (placed (entryPlaced (cond t (Unsound bad) (cond u (On page) Overflows)) place)
         ≡ cond t (unchanged g f pool (refusedAt 5 bad place)) (cond u (record { answer = acceptedAt page place; growth = g; file = next; pool = pool }) (unchanged g f pool (refusedAt 8 0 place))) .answer)
@@ -118,17 +118,17 @@ module _ (p : Parameters) (g : Growth) (f : File) (pool : Pool) where
     entered-cases false false bad page place next = (refl, refl)
 
     pub entered-is : (place : ℕ)
-        → (placed (entryPlaced (entryAnswer p g f k word) place) ≡ enterTo p g f pool (entry.newStar k word) place (entry.endOf p g f k word) .answer)
-        × (entryFile p g f k word ≡ enterTo p g f pool (entry.newStar k word) place (entry.endOf p g f k word) .file)
+        → (placed (entryPlaced (entryAnswer p g f s) place) ≡ enterTo p g f pool s place (entry.endOf p g f s) .answer)
+        × (entryFile p g f s ≡ enterTo p g f pool s place (entry.endOf p g f s) .file)
     unfolding entryAnswer entryFile enterTo
     entered-is place =
         entered-cases
-        (ltb (entry.unsoundOf p g f k word) (entry.startOf p g k + entry.countOf p g f k word))
-        (entersWithin (hash p g) f (entry.newStar k word) (entry.endOf p g f k word))
-        (entry.unsoundOf p g f k word)
-        (holding k (entry.startOf p g k) (entry.contentsOf p g f k word))
+        (ltb (entry.unsoundOf p g f s) (entry.startOf p g (s .number) + entry.countOf p g f s))
+        (entersWithin (hash p g) f s (entry.endOf p g f s))
+        (entry.unsoundOf p g f s)
+        (holding (s .number) (entry.startOf p g (s .number)) (entry.contentsOf p g f s))
         place
-        (replaced (p .places) f (entry.startOf p g k) (entry.contentsOf p g f k word))
+        (replaced (p .places) f (entry.startOf p g (s .number)) (entry.contentsOf p g f s))
 
   removed-cases : (t : Bool) (bad page place : ℕ) (next : File)
       → (placed (replacedPlaced (cond t (replaced·Unsound bad) Done) page place) ≡ cond t (unchanged g f pool (refusedAt 5 bad place)) (record { answer = acceptedAt page place; growth = g; file = next; pool = pool }) .answer)

@@ -22,7 +22,7 @@ use Rattle.reach.specs.Reach.{pagesTo, entryEnd, removalEnd, entersWithin, firs
 use Rattle.calls.specs.declared.answers.Answer.{Answer}
 use Rattle.calls.specs.Answers.{After, Pool, Leaves, Stores, pooled, cleared, zeros}
 use Rattle.calls.specs.Lent.{Admitted}
-use Rattle.calls.specs.Calls.{hash, named, readable, holds, enterOn, enterTo, removeOn, removeTo, regrowTo, allStars}
+use Rattle.calls.specs.Calls.{hash, named, readable, holds, ownerFor, mayAlter, allowed, enterOn, enterTo, removeOn, removeTo, regrowTo, allStars}
 
 -- what the calls below need, with the table that the call made
 pub prepared : {g : Geometry} {t : List ℕ} {f : File} → t ≡ firstMultipliers (multiplierOf (g .parameters)) → Admitted (g .parameters) (g .growth) f → Ready g t f
@@ -45,9 +45,10 @@ unheld p g f k e h =
     record { named = t .0; sound = t .1; absent = h }
 
 -- zeros of the lengths that the pool had
-pub cleared-is : (ns ws ns′ ws′ : List ℕ) (n m : ℕ) → ns′ ≡ replicate n 0 → ws′ ≡ replicate m 0 → n ≡ length ns → m ≡ length ws → pooled ns′ ws′ ≡ cleared (pooled ns ws)
+pub cleared-is : (ns ws os ns′ ws′ os′ : List ℕ) (n m l : ℕ) → ns′ ≡ replicate n 0 → ws′ ≡ replicate m 0 → os′ ≡ replicate l 0
+    → n ≡ length ns → m ≡ length ws → l ≡ length os → pooled ns′ ws′ os′ ≡ cleared (pooled ns ws os)
 unfolding cleared zeros
-cleared-is ns ws ns′ ws′ n m en ew ln lw = rw (en, ew, ln, lw)
+cleared-is ns ws os ns′ ws′ os′ n m l en ew eo ln lw lo = rw (en, ew, eo, ln, lw, lo)
 
 pub leaves-cleared : (after : After) (a : Answer) (f : File) (pool left : Pool) → Stores after a f → after .pool ≡ cleared pool → left ≡ cleared pool → Leaves after a f left
 leaves-cleared after a f pool left s e l = record { answers = s .answers; files = s .files; pools = l ∙ sym e }
@@ -77,14 +78,16 @@ module _ (p : Parameters) (g : Growth) (f : File) (pool : Pool) where
   removed-pool true a b ea eb = ea
   removed-pool false a b ea eb = eb
 
-  pub remove-pool : (page k : ℕ) → removeOn p g f pool page k .pool ≡ pool
-  unfolding removeOn removeTo
-  remove-pool page k =
+  pub remove-pool : (page caller k : ℕ) → removeOn p g f pool page caller k .pool ≡ pool
+  unfolding removeOn removeTo allowed
+  remove-pool page caller k =
       let H = hash p g in
       let from = H .home k in
       let to = removalEnd H (p .pages) f from in
       named-pool (readable p g f page) (holds p f page k) _ _ _ pool
+      (removed-pool (mayAlter caller (ownerFor p f page k)) _ _
       (removed-pool (ltb (firstUnsound p g f from (pagesTo from to)) (from + pagesTo from to)) _ _ refl refl)
+      refl)
       refl
       refl
 

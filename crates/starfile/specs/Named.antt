@@ -9,7 +9,7 @@ use Rattle.hashing.specs.Generator.{multiplierOf}
 use Rattle.hashing.specs.Home.{home}
 use Rattle.pages.specs.Position.{validWord}
 use Rattle.placement.specs.File.{File}
-use Rattle.calls.specs.Calls.{named, readable, holds, placeFor, itemOf}
+use Rattle.calls.specs.Calls.{named, readable, holds, placeFor, itemOf, ownerFor}
 use Rattle.starfile.specs.declared.naming.Named.{Named}
 
 pub record NamedAs (p : Parameters) (g : Growth) (f : File) (k : ℕ) (r : Named) : Type 0 where
@@ -21,5 +21,6 @@ pub record NamedAs (p : Parameters) (g : Growth) (f : File) (k : ℕ) (r : Named
   pub placeIs : r .readable ≡ true → r .place ≡ placeFor p f (named p g f k) k
   pub itemIs : r .held ≡ true → r .item ≡ itemOf p f (named p g f k) k
   pub wordIs : r .held ≡ true → r .word ≡ getD (f .words) (itemOf p f (named p g f k) k) 0
+  pub ownerIs : r .held ≡ true → r .owner ≡ ownerFor p f (named p g f k) k
   pub itemBelow : r .held ≡ true → r .item < p .pages * p .places
   pub wordValid : r .held ≡ true → validWord (r .word) ≡ true

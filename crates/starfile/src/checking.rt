@@ -23,19 +23,23 @@ pub fn check(
     separators: &[u8],
     numbers: &[u32],
     words: &[u64],
+    owners: &[u8],
     poolnumbers: &mut [u32],
     poolwords: &mut [u64],
+    poolowners: &mut [u8],
 ) -> Checked
-    ensures { λ r. ⌜ Leaves (checkOf parameters growth (before separators numbers words) (poolBefore poolnumbers poolwords))
-        (checked r) (before separators numbers words) (poolAfter poolnumbers poolwords) ⌝ }
+    ensures { λ r. ⌜ Leaves (checkOf parameters growth (before separators numbers words owners) (poolBefore poolnumbers poolwords poolowners))
+        (checked r) (before separators numbers words owners) (poolAfter poolnumbers poolwords poolowners) ⌝ }
 {
     let fits = all_fit(
         parameters,
         separators.len(),
         numbers.len(),
         words.len(),
+        owners.len(),
         poolnumbers.len(),
         poolwords.len(),
+        poolowners.len(),
     );
     if let Admission::Refused(refusal) = guard(parameters, growth, fits) {
         return Checked::Refused(refusal, 0);
@@ -47,10 +51,12 @@ pub fn check(
         separators,
         numbers,
         words,
+        owners,
         poolnumbers,
         poolwords,
+        poolowners,
     );
-    planning::clear(poolnumbers, poolwords);
+    planning::clear(poolnumbers, poolwords, poolowners);
     verdict_checked(verdict, parameters.places)
 }
 

@@ -21,10 +21,17 @@ pub fn due(
     separators: &[u8],
     numbers: &[u32],
     words: &[u64],
+    owners: &[u8],
 ) -> Due
-    ensures { λ r. ⌜ dueSaid r ≡ dueOf parameters growth (before separators numbers words) unpooled .answer ⌝ }
+    ensures { λ r. ⌜ dueSaid r ≡ dueOf parameters growth (before separators numbers words owners) unpooled .answer ⌝ }
 {
-    let fits = file_fits(parameters, separators.len(), numbers.len(), words.len());
+    let fits = file_fits(
+        parameters,
+        separators.len(),
+        numbers.len(),
+        words.len(),
+        owners.len(),
+    );
     if let Admission::Refused(refusal) = guard(parameters, growth, fits) {
         return Due::Refused(refusal);
     }

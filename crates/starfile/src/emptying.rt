@@ -18,16 +18,23 @@ pub fn make(
     separators: &mut [u8],
     numbers: &mut [u32],
     words: &mut [u64],
+    owners: &mut [u8],
 ) -> Grown
-    ensures { λ r. ⌜ Leaves (makeOf parameters (before separators numbers words) unpooled)
-        (placed (r .answer)) (after separators numbers words) unpooled ⌝ }
-    ensures { λ r. ⌜ r .growth ≡ makeOf parameters (before separators numbers words) unpooled .growth ⌝ }
+    ensures { λ r. ⌜ Leaves (makeOf parameters (before separators numbers words owners) unpooled)
+        (placed (r .answer)) (after separators numbers words owners) unpooled ⌝ }
+    ensures { λ r. ⌜ r .growth ≡ makeOf parameters (before separators numbers words owners) unpooled .growth ⌝ }
 {
     let growth = Growth {
         expansions: 0,
         expanded: 0,
     };
-    let fits = file_fits(parameters, separators.len(), numbers.len(), words.len());
+    let fits = file_fits(
+        parameters,
+        separators.len(),
+        numbers.len(),
+        words.len(),
+        owners.len(),
+    );
     if let Admission::Refused(refusal) = guard(parameters, growth, fits) {
         return Grown {
             answer: Placed::Refused(refusal, 0),
@@ -35,7 +42,7 @@ pub fn make(
         };
     }
     fill(separators, placement::top_of(parameters));
-    planning::clear(numbers, words);
+    planning::clear(numbers, words, owners);
     Grown {
         answer: Placed::On(0, 0),
         growth,

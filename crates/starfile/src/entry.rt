@@ -20,28 +20,33 @@ use hashing::Growth;
 use hashing::Parameters;
 use pages::position::Position;
 
-// The answer of an accepted entry is the page where the star now stands. Entering a held star with its own position changes nothing.
+// The answer of an accepted entry is the page where the star now stands, its caller's. Entering a held star with its own position changes nothing.
 pub fn enter(
     parameters: Parameters,
     growth: Growth,
     separators: &mut [u8],
     numbers: &mut [u32],
     words: &mut [u64],
+    owners: &mut [u8],
     poolnumbers: &mut [u32],
     poolwords: &mut [u64],
+    poolowners: &mut [u8],
+    caller: u8,
     number: u32,
     position: Position,
 ) -> Placed
-    ensures { λ r. ⌜ Leaves (enterOf parameters growth (before separators numbers words) (poolBefore poolnumbers poolwords) number position)
-        (placed r) (after separators numbers words) (poolAfter poolnumbers poolwords) ⌝ }
+    ensures { λ r. ⌜ Leaves (enterOf parameters growth (before separators numbers words owners) (poolBefore poolnumbers poolwords poolowners) caller number position)
+        (placed r) (after separators numbers words owners) (poolAfter poolnumbers poolwords poolowners) ⌝ }
 {
     let fits = all_fit(
         parameters,
         separators.len(),
         numbers.len(),
         words.len(),
+        owners.len(),
         poolnumbers.len(),
         poolwords.len(),
+        poolowners.len(),
     );
     if let Admission::Refused(refusal) = guard(parameters, growth, fits) {
         return Placed::Refused(refusal, 0);
@@ -59,12 +64,15 @@ pub fn enter(
         separators,
         numbers,
         words,
+        owners,
         poolnumbers,
         poolwords,
+        poolowners,
+        caller,
         number,
         word,
     );
-    planning::clear(poolnumbers, poolwords);
+    planning::clear(poolnumbers, poolwords, poolowners);
     answer
 }
 
@@ -75,21 +83,24 @@ fn enter_star(
     separators: &mut [u8],
     numbers: &mut [u32],
     words: &mut [u64],
+    owners: &mut [u8],
     poolnumbers: &mut [u32],
     poolwords: &mut [u64],
+    poolowners: &mut [u8],
+    caller: u8,
     number: u32,
     word: u64,
 ) -> Placed
-    requires { ⌜ Admitted parameters growth (held separators numbers words) ⌝ }
-    requires { ⌜ Pooled parameters (now poolnumbers) (now poolwords) ⌝ }
+    requires { ⌜ Admitted parameters growth (held separators numbers words owners) ⌝ }
+    requires { ⌜ Pooled parameters (now poolnumbers) (now poolwords) (now poolowners) ⌝ }
     requires { ⌜ validNumber number ≡ true ⌝ }
-    ensures { λ r. ⌜ Stores (enterOn parameters growth (before separators numbers words) (cleared (poolBefore poolnumbers poolwords))
-        (named parameters growth (before separators numbers words) number) (record { number = number; word = word }))
-        (placed r) (after separators numbers words) ⌝ }
+    ensures { λ r. ⌜ Stores (enterOn parameters growth (before separators numbers words owners) (cleared (poolBefore poolnumbers poolwords poolowners))
+        (named parameters growth (before separators numbers words owners) number) (record { number = number; word = word; owner = caller }))
+        (placed r) (after separators numbers words owners) ⌝ }
 {
     let table = hashing::first_multipliers(parameters.multiplier);
     let geometry = Geometry { parameters, growth };
-    let named = find(&table, geometry, separators, numbers, words, number);
+    let named = find(&table, geometry, separators, numbers, words, owners, number);
     let page = named.page as u32;
     if !named.readable {
         return Placed::Refused(Refusal::Damaged(page), 0);
@@ -107,10 +118,13 @@ fn enter_star(
             separators,
             numbers,
             words,
+            owners,
             poolnumbers,
             poolwords,
+            poolowners,
             number,
             word,
+            caller,
             named.home,
         ),
         named.place,

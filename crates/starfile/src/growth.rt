@@ -26,12 +26,14 @@ pub fn grow(
     separators: &mut [u8],
     numbers: &mut [u32],
     words: &mut [u64],
+    owners: &mut [u8],
     poolnumbers: &mut [u32],
     poolwords: &mut [u64],
+    poolowners: &mut [u8],
 ) -> Grown
-    ensures { λ r. ⌜ Leaves (growOf parameters growth (before separators numbers words) (poolBefore poolnumbers poolwords))
-        (placed (r .answer)) (after separators numbers words) (poolAfter poolnumbers poolwords) ⌝ }
-    ensures { λ r. ⌜ r .growth ≡ growOf parameters growth (before separators numbers words) (poolBefore poolnumbers poolwords) .growth ⌝ }
+    ensures { λ r. ⌜ Leaves (growOf parameters growth (before separators numbers words owners) (poolBefore poolnumbers poolwords poolowners))
+        (placed (r .answer)) (after separators numbers words owners) (poolAfter poolnumbers poolwords poolowners) ⌝ }
+    ensures { λ r. ⌜ r .growth ≡ growOf parameters growth (before separators numbers words owners) (poolBefore poolnumbers poolwords poolowners) .growth ⌝ }
 {
     regrow(
         parameters,
@@ -40,8 +42,10 @@ pub fn grow(
         separators,
         numbers,
         words,
+        owners,
         poolnumbers,
         poolwords,
+        poolowners,
     )
 }
 
@@ -52,12 +56,14 @@ pub fn shrink(
     separators: &mut [u8],
     numbers: &mut [u32],
     words: &mut [u64],
+    owners: &mut [u8],
     poolnumbers: &mut [u32],
     poolwords: &mut [u64],
+    poolowners: &mut [u8],
 ) -> Grown
-    ensures { λ r. ⌜ Leaves (shrinkOf parameters growth (before separators numbers words) (poolBefore poolnumbers poolwords))
-        (placed (r .answer)) (after separators numbers words) (poolAfter poolnumbers poolwords) ⌝ }
-    ensures { λ r. ⌜ r .growth ≡ shrinkOf parameters growth (before separators numbers words) (poolBefore poolnumbers poolwords) .growth ⌝ }
+    ensures { λ r. ⌜ Leaves (shrinkOf parameters growth (before separators numbers words owners) (poolBefore poolnumbers poolwords poolowners))
+        (placed (r .answer)) (after separators numbers words owners) (poolAfter poolnumbers poolwords poolowners) ⌝ }
+    ensures { λ r. ⌜ r .growth ≡ shrinkOf parameters growth (before separators numbers words owners) (poolBefore poolnumbers poolwords poolowners) .growth ⌝ }
 {
     regrow(
         parameters,
@@ -66,8 +72,10 @@ pub fn shrink(
         separators,
         numbers,
         words,
+        owners,
         poolnumbers,
         poolwords,
+        poolowners,
     )
 }
 
@@ -79,20 +87,24 @@ fn regrow(
     separators: &mut [u8],
     numbers: &mut [u32],
     words: &mut [u64],
+    owners: &mut [u8],
     poolnumbers: &mut [u32],
     poolwords: &mut [u64],
+    poolowners: &mut [u8],
 ) -> Grown
-    ensures { λ r. ⌜ Leaves (regrowOf back parameters growth (before separators numbers words) (poolBefore poolnumbers poolwords))
-        (placed (r .answer)) (after separators numbers words) (poolAfter poolnumbers poolwords) ⌝ }
-    ensures { λ r. ⌜ r .growth ≡ regrowOf back parameters growth (before separators numbers words) (poolBefore poolnumbers poolwords) .growth ⌝ }
+    ensures { λ r. ⌜ Leaves (regrowOf back parameters growth (before separators numbers words owners) (poolBefore poolnumbers poolwords poolowners))
+        (placed (r .answer)) (after separators numbers words owners) (poolAfter poolnumbers poolwords poolowners) ⌝ }
+    ensures { λ r. ⌜ r .growth ≡ regrowOf back parameters growth (before separators numbers words owners) (poolBefore poolnumbers poolwords poolowners) .growth ⌝ }
 {
     let fits = all_fit(
         parameters,
         separators.len(),
         numbers.len(),
         words.len(),
+        owners.len(),
         poolnumbers.len(),
         poolwords.len(),
+        poolowners.len(),
     );
     if let Admission::Refused(refusal) = guard(parameters, growth, fits) {
         return unmoved(growth, refusal);
@@ -104,10 +116,12 @@ fn regrow(
         separators,
         numbers,
         words,
+        owners,
         poolnumbers,
         poolwords,
+        poolowners,
     );
-    planning::clear(poolnumbers, poolwords);
+    planning::clear(poolnumbers, poolwords, poolowners);
     answer
 }
 
@@ -143,14 +157,16 @@ fn regrow_file(
     separators: &mut [u8],
     numbers: &mut [u32],
     words: &mut [u64],
+    owners: &mut [u8],
     poolnumbers: &mut [u32],
     poolwords: &mut [u64],
+    poolowners: &mut [u8],
 ) -> Grown
-    requires { ⌜ Admitted parameters growth (held separators numbers words) ⌝ }
-    requires { ⌜ Pooled parameters (now poolnumbers) (now poolwords) ⌝ }
-    ensures { λ r. ⌜ Stores (regrowOn back parameters growth (before separators numbers words) (cleared (poolBefore poolnumbers poolwords)))
-        (placed (r .answer)) (after separators numbers words) ⌝ }
-    ensures { λ r. ⌜ r .growth ≡ regrowOn back parameters growth (before separators numbers words) (cleared (poolBefore poolnumbers poolwords)) .growth ⌝ }
+    requires { ⌜ Admitted parameters growth (held separators numbers words owners) ⌝ }
+    requires { ⌜ Pooled parameters (now poolnumbers) (now poolwords) (now poolowners) ⌝ }
+    ensures { λ r. ⌜ Stores (regrowOn back parameters growth (before separators numbers words owners) (cleared (poolBefore poolnumbers poolwords poolowners)))
+        (placed (r .answer)) (after separators numbers words owners) ⌝ }
+    ensures { λ r. ⌜ r .growth ≡ regrowOn back parameters growth (before separators numbers words owners) (cleared (poolBefore poolnumbers poolwords poolowners)) .growth ⌝ }
 {
     let geometry = Geometry { parameters, growth };
     let step = step_of(geometry, back);
@@ -165,8 +181,10 @@ fn regrow_file(
                 separators,
                 numbers,
                 words,
+                owners,
                 poolnumbers,
                 poolwords,
+                poolowners,
             );
             grown_by(replaced, page, growth, next)
         }

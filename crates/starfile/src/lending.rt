@@ -31,24 +31,33 @@ fn state_valid(parameters: Parameters, growth: Growth) -> bool
     hashing::growth_valid(parameters, growth)
 }
 
-// M separators, M·b numbers and M·b words.
-pub fn file_fits(parameters: Parameters, separators: usize, numbers: usize, words: usize) -> bool
-    ensures { λ r. ⌜ r ≡ fileLengths parameters separators numbers words ⌝ }
+// M separators, M·b numbers, M·b words and M·b owners.
+pub fn file_fits(
+    parameters: Parameters,
+    separators: usize,
+    numbers: usize,
+    words: usize,
+    owners: usize,
+) -> bool
+    ensures { λ r. ⌜ r ≡ fileLengths parameters separators numbers words owners ⌝ }
 {
     if separators != parameters.pages as usize {
         return false;
     }
-    pool_fits(parameters, numbers, words)
+    pool_fits(parameters, numbers, words, owners)
 }
 
-fn pool_fits(parameters: Parameters, numbers: usize, words: usize) -> bool
-    ensures { λ r. ⌜ r ≡ poolLengths parameters numbers words ⌝ }
+fn pool_fits(parameters: Parameters, numbers: usize, words: usize, owners: usize) -> bool
+    ensures { λ r. ⌜ r ≡ poolLengths parameters numbers words owners ⌝ }
 {
     let items = parameters.pages as usize * parameters.places as usize;
     if numbers != items {
         return false;
     }
-    words == items
+    if words != items {
+        return false;
+    }
+    owners == items
 }
 
 // The file and the pool.
@@ -57,13 +66,15 @@ pub fn all_fit(
     separators: usize,
     numbers: usize,
     words: usize,
+    owners: usize,
     poolnumbers: usize,
     poolwords: usize,
+    poolowners: usize,
 ) -> bool
-    ensures { λ r. ⌜ r ≡ (fileLengths parameters separators numbers words && poolLengths parameters poolnumbers poolwords) ⌝ }
+    ensures { λ r. ⌜ r ≡ (fileLengths parameters separators numbers words owners && poolLengths parameters poolnumbers poolwords poolowners) ⌝ }
 {
-    if !file_fits(parameters, separators, numbers, words) {
+    if !file_fits(parameters, separators, numbers, words, owners) {
         return false;
     }
-    pool_fits(parameters, poolnumbers, poolwords)
+    pool_fits(parameters, poolnumbers, poolwords, poolowners)
 }

@@ -4,6 +4,7 @@ ghost use mathlib.Core.Bool.{true, false};
 ghost use Rattle.pages.specs.Position.{validNumber};
 ghost use Rattle.placement.specs.Lent.{held, before};
 ghost use Rattle.placement.specs.Ready.{Ready};
+ghost use Rattle.calls.specs.Calls.{mayAlter};
 ghost use Rattle.starfile.specs.Named.{NamedAs};
 use hashing::Geometry;
 
@@ -15,9 +16,10 @@ pub struct Named {
     pub held: bool,
     // where the number stands on the page or would stand, if it is readable
     pub place: u32,
-    // the item there, if the number is held, and its word
+    // the item there, if the number is held, its word and its owner
     pub item: usize,
     pub word: u64,
+    pub owner: u8,
 }
 
 // Reads the separators and one page, copied as a value before it is searched.
@@ -27,11 +29,12 @@ pub fn find(
     separators: &[u8],
     numbers: &[u32],
     words: &[u64],
+    owners: &[u8],
     number: u32,
 ) -> Named
-    requires { ⌜ Ready geometry (now table) (held separators numbers words) ⌝ }
+    requires { ⌜ Ready geometry (now table) (held separators numbers words owners) ⌝ }
     requires { ⌜ validNumber number ≡ true ⌝ }
-    ensures { λ r. ⌜ NamedAs (geometry .parameters) (geometry .growth) (before separators numbers words) number r ⌝ }
+    ensures { λ r. ⌜ NamedAs (geometry .parameters) (geometry .growth) (before separators numbers words owners) number r ⌝ }
 {
     let places = geometry.parameters.places as usize;
     let home = hashing::home(table, geometry, number);
@@ -39,7 +42,7 @@ pub fn find(
     if page == geometry.parameters.pages as usize {
         return unread(home, page);
     }
-    let value = pages::page::load(numbers, words, places, page);
+    let value = pages::page::load(numbers, words, owners, places, page);
     if !placement::page_sound(table, geometry, separators, value, page).sound {
         return unread(home, page);
     }
@@ -55,6 +58,7 @@ pub fn find(
             place,
             item: 0,
             word: 0,
+            owner: 0,
         };
     }
     Named {
@@ -65,11 +69,12 @@ pub fn find(
         place,
         item: page * places + at,
         word: value.words[at],
+        owner: value.owners[at],
     }
 }
 
 fn unread(home: u32, page: usize) -> Named
-    ensures { λ r. ⌜ r ≡ record { home = home; page = page; readable = false; held = false; place = 0; item = 0; word = 0 } ⌝ }
+    ensures { λ r. ⌜ r ≡ record { home = home; page = page; readable = false; held = false; place = 0; item = 0; word = 0; owner = 0 } ⌝ }
 {
     Named {
         home,
@@ -79,5 +84,16 @@ fn unread(home: u32, page: usize) -> Named
         place: 0,
         item: 0,
         word: 0,
+        owner: 0,
     }
+}
+
+// Who may change or remove a held star: the institute, or its owner.
+pub fn may_alter(caller: u8, owner: u8) -> bool
+    ensures { λ r. ⌜ r ≡ mayAlter caller owner ⌝ }
+{
+    if caller == 0 {
+        return true;
+    }
+    caller == owner
 }

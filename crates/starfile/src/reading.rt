@@ -20,11 +20,18 @@ pub fn look_up(
     separators: &[u8],
     numbers: &[u32],
     words: &[u64],
+    owners: &[u8],
     number: u32,
 ) -> Found
-    ensures { λ r. ⌜ sought r ≡ lookUpOf parameters growth (before separators numbers words) unpooled number .answer ⌝ }
+    ensures { λ r. ⌜ sought r ≡ lookUpOf parameters growth (before separators numbers words owners) unpooled number .answer ⌝ }
 {
-    let fits = file_fits(parameters, separators.len(), numbers.len(), words.len());
+    let fits = file_fits(
+        parameters,
+        separators.len(),
+        numbers.len(),
+        words.len(),
+        owners.len(),
+    );
     if let Admission::Refused(refusal) = guard(parameters, growth, fits) {
         return Found::Refused(refusal, 0);
     }
@@ -38,6 +45,7 @@ pub fn look_up(
         separators,
         numbers,
         words,
+        owners,
         number,
     );
     let page = named.page as u32;

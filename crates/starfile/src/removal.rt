@@ -12,6 +12,7 @@ ghost use Rattle.calls.specs.Lent.{Admitted, poolBefore, poolAfter};
 use crate::lending::all_fit;
 use crate::lending::guard;
 use crate::naming::find;
+use crate::naming::may_alter;
 use calls::answers::Admission;
 use calls::answers::Placed;
 use calls::answers::Refusal;
@@ -27,20 +28,25 @@ pub fn remove(
     separators: &mut [u8],
     numbers: &mut [u32],
     words: &mut [u64],
+    owners: &mut [u8],
     poolnumbers: &mut [u32],
     poolwords: &mut [u64],
+    poolowners: &mut [u8],
+    caller: u8,
     number: u32,
 ) -> Placed
-    ensures { λ r. ⌜ Leaves (removeOf parameters growth (before separators numbers words) (poolBefore poolnumbers poolwords) number)
-        (placed r) (after separators numbers words) (poolAfter poolnumbers poolwords) ⌝ }
+    ensures { λ r. ⌜ Leaves (removeOf parameters growth (before separators numbers words owners) (poolBefore poolnumbers poolwords poolowners) caller number)
+        (placed r) (after separators numbers words owners) (poolAfter poolnumbers poolwords poolowners) ⌝ }
 {
     let fits = all_fit(
         parameters,
         separators.len(),
         numbers.len(),
         words.len(),
+        owners.len(),
         poolnumbers.len(),
         poolwords.len(),
+        poolowners.len(),
     );
     if let Admission::Refused(refusal) = guard(parameters, growth, fits) {
         return Placed::Refused(refusal, 0);
@@ -54,41 +60,50 @@ pub fn remove(
         separators,
         numbers,
         words,
+        owners,
         poolnumbers,
         poolwords,
+        poolowners,
+        caller,
         number,
     );
-    planning::clear(poolnumbers, poolwords);
+    planning::clear(poolnumbers, poolwords, poolowners);
     answer
 }
 
-// The named page first, then whether the star is held, then the reach.
+// The named page first, then whether the star is held and the caller may remove it, then the reach.
 fn remove_held(
     parameters: Parameters,
     growth: Growth,
     separators: &mut [u8],
     numbers: &mut [u32],
     words: &mut [u64],
+    owners: &mut [u8],
     poolnumbers: &mut [u32],
     poolwords: &mut [u64],
+    poolowners: &mut [u8],
+    caller: u8,
     number: u32,
 ) -> Placed
-    requires { ⌜ Admitted parameters growth (held separators numbers words) ⌝ }
-    requires { ⌜ Pooled parameters (now poolnumbers) (now poolwords) ⌝ }
+    requires { ⌜ Admitted parameters growth (held separators numbers words owners) ⌝ }
+    requires { ⌜ Pooled parameters (now poolnumbers) (now poolwords) (now poolowners) ⌝ }
     requires { ⌜ validNumber number ≡ true ⌝ }
-    ensures { λ r. ⌜ Stores (removeOn parameters growth (before separators numbers words) (cleared (poolBefore poolnumbers poolwords))
-        (named parameters growth (before separators numbers words) number) number)
-        (placed r) (after separators numbers words) ⌝ }
+    ensures { λ r. ⌜ Stores (removeOn parameters growth (before separators numbers words owners) (cleared (poolBefore poolnumbers poolwords poolowners))
+        (named parameters growth (before separators numbers words owners) number) caller number)
+        (placed r) (after separators numbers words owners) ⌝ }
 {
     let table = hashing::first_multipliers(parameters.multiplier);
     let geometry = Geometry { parameters, growth };
-    let named = find(&table, geometry, separators, numbers, words, number);
+    let named = find(&table, geometry, separators, numbers, words, owners, number);
     let page = named.page as u32;
     if !named.readable {
         return Placed::Refused(Refusal::Damaged(page), 0);
     }
     if !named.held {
         return Placed::Refused(Refusal::NotHeld, named.place);
+    }
+    if !may_alter(caller, named.owner) {
+        return Placed::Refused(Refusal::NotOwner, named.place);
     }
     replaced_placed(
         replacing::remove_star(
@@ -97,8 +112,10 @@ fn remove_held(
             separators,
             numbers,
             words,
+            owners,
             poolnumbers,
             poolwords,
+            poolowners,
             number,
             named.home,
         ),

@@ -6,6 +6,7 @@ ghost use Rattle.calls.specs.Calls.{changeOf};
 use crate::lending::file_fits;
 use crate::lending::guard;
 use crate::naming::find;
+use crate::naming::may_alter;
 use calls::answers::Admission;
 use calls::answers::Placed;
 use calls::answers::Refusal;
@@ -14,20 +15,28 @@ use hashing::Growth;
 use hashing::Parameters;
 use pages::position::Position;
 
-// Writes one word.
+// Writes one word. The owner stays.
 pub fn change(
     parameters: Parameters,
     growth: Growth,
     separators: &[u8],
     numbers: &[u32],
     words: &mut [u64],
+    owners: &[u8],
+    caller: u8,
     number: u32,
     position: Position,
 ) -> Placed
-    ensures { λ r. ⌜ Leaves (changeOf parameters growth (before separators numbers words) unpooled number position)
-        (placed r) (held (separators .entry) (numbers .entry) (words .exit)) unpooled ⌝ }
+    ensures { λ r. ⌜ Leaves (changeOf parameters growth (before separators numbers words owners) unpooled caller number position)
+        (placed r) (held (separators .entry) (numbers .entry) (words .exit) (owners .entry)) unpooled ⌝ }
 {
-    let fits = file_fits(parameters, separators.len(), numbers.len(), words.len());
+    let fits = file_fits(
+        parameters,
+        separators.len(),
+        numbers.len(),
+        words.len(),
+        owners.len(),
+    );
     if let Admission::Refused(refusal) = guard(parameters, growth, fits) {
         return Placed::Refused(refusal, 0);
     }
@@ -44,6 +53,7 @@ pub fn change(
         separators,
         numbers,
         words,
+        owners,
         number,
     );
     let page = named.page as u32;
@@ -52,6 +62,9 @@ pub fn change(
     }
     if !named.held {
         return Placed::Refused(Refusal::NotHeld, named.place);
+    }
+    if !may_alter(caller, named.owner) {
+        return Placed::Refused(Refusal::NotOwner, named.place);
     }
     let item = named.item;
     words[item] = pages::position::pack(position);

@@ -39,10 +39,11 @@ pub extern "C" fn heatherplane_look_up(
     separators: &[u8],
     numbers: &[u32],
     words: &[u64],
+    owners: &[u8],
     number: u32,
 ) -> Reply
     ensures { λ r. ⌜ r ≡ replyOf (lookUpOf (parametersOf places groups width step bits load pages multiplier) (growthOf expansions expanded)
-        (before separators numbers words) unpooled number .answer) ⌝ }
+        (before separators numbers words owners) unpooled number .answer) ⌝ }
 {
     let parameters = Parameters {
         places,
@@ -58,7 +59,15 @@ pub extern "C" fn heatherplane_look_up(
         expansions,
         expanded,
     };
-    let found = starfile::look_up(parameters, growth, separators, numbers, words, number);
+    let found = starfile::look_up(
+        parameters,
+        growth,
+        separators,
+        numbers,
+        words,
+        owners,
+        number,
+    );
     reply_of(sought_answer(found))
 }
 
@@ -77,15 +86,18 @@ pub extern "C" fn heatherplane_enter(
     separators: &mut [u8],
     numbers: &mut [u32],
     words: &mut [u64],
+    owners: &mut [u8],
     poolnumbers: &mut [u32],
     poolwords: &mut [u64],
+    poolowners: &mut [u8],
+    caller: u8,
     number: u32,
     ra: u32,
     dec: i32,
 ) -> Reply
     ensures { λ r. ⌜ Replies (enterOf (parametersOf places groups width step bits load pages multiplier) (growthOf expansions expanded)
-        (before separators numbers words) (poolBefore poolnumbers poolwords) number (positionOf ra dec))
-        r (after separators numbers words) (poolAfter poolnumbers poolwords) ⌝ }
+        (before separators numbers words owners) (poolBefore poolnumbers poolwords poolowners) caller number (positionOf ra dec))
+        r (after separators numbers words owners) (poolAfter poolnumbers poolwords poolowners) ⌝ }
 {
     let parameters = Parameters {
         places,
@@ -107,8 +119,11 @@ pub extern "C" fn heatherplane_enter(
         separators,
         numbers,
         words,
+        owners,
         poolnumbers,
         poolwords,
+        poolowners,
+        caller,
         number,
         Position { ra, dec },
     );
@@ -130,13 +145,16 @@ pub extern "C" fn heatherplane_remove(
     separators: &mut [u8],
     numbers: &mut [u32],
     words: &mut [u64],
+    owners: &mut [u8],
     poolnumbers: &mut [u32],
     poolwords: &mut [u64],
+    poolowners: &mut [u8],
+    caller: u8,
     number: u32,
 ) -> Reply
     ensures { λ r. ⌜ Replies (removeOf (parametersOf places groups width step bits load pages multiplier) (growthOf expansions expanded)
-        (before separators numbers words) (poolBefore poolnumbers poolwords) number)
-        r (after separators numbers words) (poolAfter poolnumbers poolwords) ⌝ }
+        (before separators numbers words owners) (poolBefore poolnumbers poolwords poolowners) caller number)
+        r (after separators numbers words owners) (poolAfter poolnumbers poolwords poolowners) ⌝ }
 {
     let parameters = Parameters {
         places,
@@ -158,8 +176,11 @@ pub extern "C" fn heatherplane_remove(
         separators,
         numbers,
         words,
+        owners,
         poolnumbers,
         poolwords,
+        poolowners,
+        caller,
         number,
     );
     reply_of(placed_answer(answer))

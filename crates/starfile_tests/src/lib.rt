@@ -91,8 +91,15 @@ pub extern "C" fn sft_make(
     separators: &mut [u8],
     numbers: &mut [u32],
     words: &mut [u64],
+    owners: &mut [u8],
 ) -> Outcome {
-    grown(starfile::make(parameters_from(parameters), separators, numbers, words))
+    grown(starfile::make(
+        parameters_from(parameters),
+        separators,
+        numbers,
+        words,
+        owners,
+    ))
 }
 
 #[no_mangle]
@@ -102,6 +109,7 @@ pub extern "C" fn sft_look_up(
     separators: &[u8],
     numbers: &[u32],
     words: &[u64],
+    owners: &[u8],
     number: u32,
 ) -> Outcome {
     let state = growth_from(growth);
@@ -111,6 +119,7 @@ pub extern "C" fn sft_look_up(
         separators,
         numbers,
         words,
+        owners,
         number,
     );
     outcome_of(sought_answer(answer), state)
@@ -123,8 +132,11 @@ pub extern "C" fn sft_enter(
     separators: &mut [u8],
     numbers: &mut [u32],
     words: &mut [u64],
+    owners: &mut [u8],
     poolnumbers: &mut [u32],
     poolwords: &mut [u64],
+    poolowners: &mut [u8],
+    caller: u8,
     number: u32,
     ra: u32,
     dec: i32,
@@ -136,8 +148,11 @@ pub extern "C" fn sft_enter(
         separators,
         numbers,
         words,
+        owners,
         poolnumbers,
         poolwords,
+        poolowners,
+        caller,
         number,
         Position { ra, dec },
     );
@@ -151,6 +166,8 @@ pub extern "C" fn sft_change(
     separators: &[u8],
     numbers: &[u32],
     words: &mut [u64],
+    owners: &[u8],
+    caller: u8,
     number: u32,
     ra: u32,
     dec: i32,
@@ -162,6 +179,8 @@ pub extern "C" fn sft_change(
         separators,
         numbers,
         words,
+        owners,
+        caller,
         number,
         Position { ra, dec },
     );
@@ -175,8 +194,11 @@ pub extern "C" fn sft_remove(
     separators: &mut [u8],
     numbers: &mut [u32],
     words: &mut [u64],
+    owners: &mut [u8],
     poolnumbers: &mut [u32],
     poolwords: &mut [u64],
+    poolowners: &mut [u8],
+    caller: u8,
     number: u32,
 ) -> Outcome {
     let state = growth_from(growth);
@@ -186,8 +208,11 @@ pub extern "C" fn sft_remove(
         separators,
         numbers,
         words,
+        owners,
         poolnumbers,
         poolwords,
+        poolowners,
+        caller,
         number,
     );
     outcome_of(placed_answer(answer), state)
@@ -200,8 +225,10 @@ pub extern "C" fn sft_grow(
     separators: &mut [u8],
     numbers: &mut [u32],
     words: &mut [u64],
+    owners: &mut [u8],
     poolnumbers: &mut [u32],
     poolwords: &mut [u64],
+    poolowners: &mut [u8],
 ) -> Outcome {
     grown(starfile::grow(
         parameters_from(parameters),
@@ -209,8 +236,10 @@ pub extern "C" fn sft_grow(
         separators,
         numbers,
         words,
+        owners,
         poolnumbers,
         poolwords,
+        poolowners,
     ))
 }
 
@@ -221,8 +250,10 @@ pub extern "C" fn sft_shrink(
     separators: &mut [u8],
     numbers: &mut [u32],
     words: &mut [u64],
+    owners: &mut [u8],
     poolnumbers: &mut [u32],
     poolwords: &mut [u64],
+    poolowners: &mut [u8],
 ) -> Outcome {
     grown(starfile::shrink(
         parameters_from(parameters),
@@ -230,8 +261,10 @@ pub extern "C" fn sft_shrink(
         separators,
         numbers,
         words,
+        owners,
         poolnumbers,
         poolwords,
+        poolowners,
     ))
 }
 
@@ -242,6 +275,7 @@ pub extern "C" fn sft_due(
     separators: &[u8],
     numbers: &[u32],
     words: &[u64],
+    owners: &[u8],
 ) -> Outcome {
     let state = growth_from(growth);
     let answer = starfile::due(
@@ -250,6 +284,7 @@ pub extern "C" fn sft_due(
         separators,
         numbers,
         words,
+        owners,
     );
     outcome_of(due_answer(answer), state)
 }
@@ -261,8 +296,10 @@ pub extern "C" fn sft_check(
     separators: &[u8],
     numbers: &[u32],
     words: &[u64],
+    owners: &[u8],
     poolnumbers: &mut [u32],
     poolwords: &mut [u64],
+    poolowners: &mut [u8],
 ) -> Outcome {
     let state = growth_from(growth);
     let answer = starfile::check(
@@ -271,8 +308,10 @@ pub extern "C" fn sft_check(
         separators,
         numbers,
         words,
+        owners,
         poolnumbers,
         poolwords,
+        poolowners,
     );
     outcome_of(checked_answer(answer), state)
 }

@@ -14,14 +14,14 @@ use Rattle.comparing.proofs.checking.check_file.Statement.{statement}
 use Rattle.comparing.proofs.checking.check_file.Tie as tie
 
 abbrev file : tie.Start → File
-file s = lent (now (s .args .separators)) (now (s .args .numbers)) (now (s .args .words))
+file s = lent (now (s .args .separators)) (now (s .args .numbers)) (now (s .args .words)) (now (s .args .owners))
 
 cast-pages : tie.Need-cast-pages
 cast-pages c = search needs
 
 survey-pages-requires : tie.Need-survey-pages-requires
 survey-pages-requires c κs =
-    let pre = c .before .before .before .before .before .before .before .pre in
+    let pre = c .before .before .before .before .before .before .before .before .before .pre in
     (pre .0, (pre .1 .ofNumbers, (omega arith, le-refl _)))
 
 same-length : tie.Need-same-length
@@ -29,12 +29,12 @@ same-length c = search needs
 
 returns : tie.Need-returns
 returns c =
-    let s = c .before .before .before .before .before .before .before .before .before .before .before in
+    let s = c .before .before .before .before .before .before .before .before .before .before .before .before .before in
     told-unsound _ _ _ _ (surveyed _ _ (file s) _ (c .before .before .before .survey-pages .ensures .0)) (c .if1 .taken)
 
 -- all pages were surveyed, and none is unsound
 abbrev start : tie.Else1 → tie.Start
-start c = c .before .before .before .before .before .before .before .before .before .before .before
+start c = c .before .before .before .before .before .before .before .before .before .before .before .before .before
 
 all-of : (c : tie.Else1) → c .before .before .before .survey-pages .result ≡ start c .args .geometry .parameters .pages
 all-of c = surveyed-sound _ _ (file (start c)) _ (c .before .before .before .survey-pages .ensures .0) (c .if1 .left)
@@ -76,11 +76,15 @@ returns-2 c =
 
 compare-planned-requires : tie.Need-compare-planned-requires
 compare-planned-requires c κs =
-    let e = c .before .before .before .before .before in
+    let e = c .before .before .before .before .before .before in
     let pre = start e .pre in (
       ready refl (pre .0 .homing .valid) (pre .0 .homing .growth) (pre .0 .sized),
-      (none-unsound e, (e .before .before .before .survey-pages .ensures .1 (all-of e) ∙ homed e, pre .1 .ofWords)),
+      (none-unsound e, (e .before .before .before .survey-pages .ensures .1 (all-of e) ∙ homed e, (pre .1 .ofWords, pre .1 .ofOwners))),
     )
+
+-- the pages were sound before the comparison
+abbrev surveyed-before : tie.After-compare-planned → tie.Else1
+surveyed-before c = c .before .before .before .before .before .before .before
 
 same-length-3 : tie.Need-same-length-3
 same-length-3 c = search needs
@@ -88,24 +92,26 @@ same-length-3 c = search needs
 same-length-4 : tie.Need-same-length-4
 same-length-4 c = search needs
 
--- the pages were sound before the comparison
-abbrev surveyed-before : tie.After-compare-planned → tie.Else1
-surveyed-before c = c .before .before .before .before .before .before
+same-length-5 : tie.Need-same-length-5
+same-length-5 c = search needs
 
 returns-3 : tie.Need-returns-3
 returns-3 c =
-    let spot = c .before .before .before .before .before .before in
+    let spot = c .before .before .before .before .before .before .before .before in
     told-differs _ _ _ _ _ (none-unsound (surveyed-before spot)) (spot .compare-planned .ensures .0) (c .if3 .taken) (spot .compare-planned .ensures .1)
-
-same-length-5 : tie.Need-same-length-5
-same-length-5 c = search needs
 
 same-length-6 : tie.Need-same-length-6
 same-length-6 c = search needs
 
+same-length-7 : tie.Need-same-length-7
+same-length-7 c = search needs
+
+same-length-8 : tie.Need-same-length-8
+same-length-8 c = search needs
+
 returns-4 : tie.Need-returns-4
 returns-4 c =
-    let spot = c .before .before .before .before .before .before in
+    let spot = c .before .before .before .before .before .before .before .before in
     told-clean _ _ _ _ _ (none-unsound (surveyed-before spot)) (spot .compare-planned .ensures .0) (c .if3 .left)
 
 pub check-file-spec : {M : Type 1} → statement M
@@ -122,7 +128,9 @@ check-file-spec =
     compare-planned-requires
     same-length-3
     same-length-4
-    returns-3
     same-length-5
+    returns-3
     same-length-6
+    same-length-7
+    same-length-8
     returns-4)

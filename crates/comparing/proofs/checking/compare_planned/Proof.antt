@@ -14,7 +14,7 @@ use Rattle.comparing.proofs.checking.compare_planned.Statement.{stateme
 use Rattle.comparing.proofs.checking.compare_planned.Tie as tie
 
 abbrev file : tie.Start → File
-file s = lent (now (s .args .separators)) (now (s .args .numbers)) (now (s .args .words))
+file s = lent (now (s .args .separators)) (now (s .args .numbers)) (now (s .args .words)) (now (s .args .owners))
 
 pool-long : (s : tie.Start) → length (now (s .args .pool)) ≡ s .args .geometry .parameters .pages * s .args .geometry .parameters .places
 pool-long s = homes-long _ _ (file s) (s .pre .0 .homing .valid) (s .pre .0 .homing .growth) (s .pre .0 .sized) (s .pre .1 .0) _ (s .pre .1 .1 .0)
@@ -34,7 +34,7 @@ slice-aggregate-plan c = search needs
 plan-requires : tie.Need-plan-requires
 unfolding all
 plan-requires c κs =
-    let s = c .before .before .before .before .before .before .before .before .before .before in
+    let s = c .before .before .before .before .before .before .before .before .before .before .before .before in
     let l = limits _ (s .pre .0 .homing .valid) in
     let R = prepared s in
     let stars = stars-inside _ _ (file s) (s .pre .0 .homing .valid) (s .pre .0 .homing .growth) (s .pre .0 .sized) (s .pre .1 .0) _ (s .pre .1 .1 .0) in (
@@ -45,34 +45,37 @@ plan-requires c κs =
           (R .numbers, R .homes),
           (
             R .valid,
-            (R .within, ((omega (arith, stars, s .pre .1 .1 .1), omega (arith, few-items _ (s .pre .0 .homing .valid), s .pre .1 .1 .1)), refl)),
+            (R .within, ((omega (arith, stars, s .pre .1 .1 .1 .0), omega (arith, few-items _ (s .pre .0 .homing .valid), s .pre .1 .1 .1 .0)), refl)),
           ),
         ),
       ),
     )
 
 mul-fetch : tie.Need-mul-fetch
-mul-fetch c = omega (arith, few-items _ (c .before .before .before .before .before .before .before .before .before .before .before .before .before .before .before .before .before .before .pre .0 .homing .valid))
+mul-fetch c = omega (arith, few-items _ (c .before .before .before .before .before .before .before .before .before .before .before .before .before .before .before .before .before .before .before .before .before .pre .0 .homing .valid))
 
 fetch-requires : tie.Need-fetch-requires
 fetch-requires c κs =
-    let s = c .before .before .before .before .before .before .before .before .before .before .before .before .before .before .before .before .before .before in
-    let k = c .before .before .before .before .before .before .before .plan .kept in
-    (omega (arith, k .1 .1 .0, pool-long s), omega (arith, k .1 .1 .1 .0, s .pre .1 .1 .1))
+    let s = c .before .before .before .before .before .before .before .before .before .before .before .before .before .before .before .before .before .before .before .before .before in
+    let k = c .before .before .before .before .before .before .before .before .plan .kept in
+    (omega (arith, k .1 .1 .0, pool-long s), (omega (arith, k .1 .1 .1 .0, s .pre .1 .1 .1 .0), omega (arith, s .pre .1 .1 .1 .1)))
 
 slice-aggregate-compare : tie.Need-slice-aggregate-compare
 slice-aggregate-compare c = search needs
 
 compare-requires : tie.Need-compare-requires
 compare-requires c κs =
-    let s = c .before .before .before .before .before .before .before .before .before .before .before .before .before .before .before .before .before .before .before .before .before .before .before .before .before .before in
+    let s = c .before .before .before .before .before .before .before .before .before .before .before .before .before .before .before .before .before .before .before .before .before .before .before .before .before .before .before .before .before .before .before .before in
     let l = limits _ (s .pre .0 .homing .valid) in
-    let k = c .before .before .before .before .before .before .before .before .before .before .before .before .before .before .before .plan .kept in
-    let n = c .before .before .before .before .before .before .before .fetch .kept in (
+    let k = c .before .before .before .before .before .before .before .before .before .before .before .before .before .before .before .before .before .before .before .plan .kept in
+    let n = c .before .before .before .before .before .before .before .before .before .before .fetch .kept in (
       (omega (arith, s .pre .0 .sized .ofSeparators), omega (arith, l .pages-most, k .1 .1 .1 .1 .0)),
       (
-        (omega (arith, s .pre .0 .sized .ofNumbers), omega (arith, n .1 .1 .0, k .1 .1 .0, pool-long s)),
-        (omega (arith, s .pre .0 .sized .ofWords), omega (arith, n .1 .1 .1 .0, k .1 .1 .1 .0, s .pre .1 .1 .1)),
+        (omega (arith, s .pre .0 .sized .ofNumbers), omega (arith, n .1 .1 .1 .0, k .1 .1 .0, pool-long s)),
+        (
+          (omega (arith, s .pre .0 .sized .ofWords), omega (arith, n .1 .1 .1 .1 .0, k .1 .1 .1 .0, s .pre .1 .1 .1 .0)),
+          (omega (arith, s .pre .0 .sized .ofOwners), omega (arith, n .1 .1 .1 .1 .1 .0, s .pre .1 .1 .1 .1)),
+        ),
       ),
     )
 
@@ -82,21 +85,26 @@ same-length c = search needs
 same-length-2 : tie.Need-same-length-2
 same-length-2 c = search needs
 
+same-length-3 : tie.Need-same-length-3
+same-length-3 c = search needs
+
 returns : tie.Need-returns
 returns c =
-    let s = c .before .before .before .before .before .before .before .before .before .before .before .before .before .before .before .before .before .before .before .before .before .before .before .before .before .before .before in
+    let s = c .before .before .before .before .before .before .before .before .before .before .before .before .before .before .before .before .before .before .before .before .before .before .before .before .before .before .before .before .before .before .before .before .before in
     let p = s .args .geometry .parameters in
     let l = limits p (s .pre .0 .homing .valid) in
-    let planned = c .before .before .before .before .before .before .before .before .before .before .before .before .before .before .before .before .plan in
-    let fetched = c .before .before .before .before .before .before .before .before .fetch in (
+    let planned = c .before .before .before .before .before .before .before .before .before .before .before .before .before .before .before .before .before .before .before .before .plan in
+    let fetched = c .before .before .before .before .before .before .before .before .before .before .before .fetch in (
       c .compare .ensures .0
-          ∙ spot-ruled p _ (file s) (s .pre .0 .homing .valid) (s .pre .0 .homing .growth) (s .pre .0 .sized) (s .pre .1 .0) _ (s .pre .1 .1 .0) _ _ _ _ _
+          ∙ spot-ruled p _ (file s) (s .pre .0 .homing .valid) (s .pre .0 .homing .growth) (s .pre .0 .sized) (s .pre .1 .0) _ (s .pre .1 .1 .0) _ _ _ _ _ _ _
           (planned-ruled p _ (file s) (s .pre .0 .homing .valid) (s .pre .0 .homing .growth) (s .pre .0 .sized) (s .pre .1 .0) _ (s .pre .1 .1 .0) _ _ _ _ _ (l .pages-most) (planned .ensures))
           (planned .kept .1 .1 .0 ∙ pool-long s)
-          (planned .kept .1 .1 .1 .0 ∙ s .pre .1 .1 .1)
+          (planned .kept .1 .1 .1 .0 ∙ s .pre .1 .1 .1 .0)
+          (s .pre .1 .1 .1 .1)
           (omega (arith, l .pages-most, planned .kept .1 .1 .1 .1 .0))
           (fetched .ensures .0)
-          (fetched .ensures .1),
+          (fetched .ensures .1 .0)
+          (fetched .ensures .1 .1),
       c .compare .ensures .1,
     )
 
@@ -114,4 +122,5 @@ compare-planned-spec =
     compare-requires
     same-length
     same-length-2
+    same-length-3
     returns)

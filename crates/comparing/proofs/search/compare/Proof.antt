@@ -3,24 +3,24 @@ use Prim.Native.Nat.{_+_, _-_, _*_, _<_}
 use native.Mathlib.Omega.{arith}
 use Rattle.placement.specs.Hash.{lent}
 use Rattle.calls.proofs.Spots.{item-within}
-use Rattle.comparing.proofs.Differences.{Compared, number-differs, word-differs, place-same, separator-differs, separator-same, compared-none, compared-found, compared-place, compared-page, compared-all}
+use Rattle.comparing.proofs.Differences.{Compared, number-differs, word-differs, owner-differs, place-same, separator-differs, separator-same, compared-none, compared-found, compared-place, compared-page, compared-all}
 use Rattle.comparing.proofs.search.compare.Statement.{statement}
 use Rattle.comparing.proofs.search.compare.Tie as tie
 
 abbrev Inv-loop : tie.InvT-loop
-Inv-loop separators numbers words planned plannednumbers plannedwords pages places page place₀ place =
-    Compared pages places (lent separators numbers words) (lent planned plannednumbers plannedwords) page place
+Inv-loop separators numbers words owners planned plannednumbers plannedwords plannedowners pages places page place₀ place =
+    Compared pages places (lent separators numbers words owners) (lent planned plannednumbers plannedwords plannedowners) page place
 
 abbrev μ-loop : tie.MeasureT-loop
-μ-loop separators numbers words planned plannednumbers plannedwords pages places page place₀ place =
+μ-loop separators numbers words owners planned plannednumbers plannedwords plannedowners pages places page place₀ place =
     places - place
 
 abbrev Inv-pages : tie.InvT-pages
-Inv-pages separators numbers words planned plannednumbers plannedwords pages places page₀ place₀ page place =
-    Compared pages places (lent separators numbers words) (lent planned plannednumbers plannedwords) page place × (place ≡ 0)
+Inv-pages separators numbers words owners planned plannednumbers plannedwords plannedowners pages places page₀ place₀ page place =
+    Compared pages places (lent separators numbers words owners) (lent planned plannednumbers plannedwords plannedowners) page place × (place ≡ 0)
 
 abbrev μ-pages : tie.MeasureT-pages
-μ-pages separators numbers words planned plannednumbers plannedwords pages places page₀ place₀ page place =
+μ-pages separators numbers words owners planned plannednumbers plannedwords plannedowners pages places page₀ place₀ page place =
     pages - page
 
 pages-holds : tie.Need-pages-holds Inv-loop μ-loop Inv-pages μ-pages
@@ -63,6 +63,12 @@ mul-if2-2 c = omega (arith, inside (c .before .before .before .before))
 shared-slice-read-if2-2 : tie.Need-shared-slice-read-if2-2 Inv-loop μ-loop Inv-pages μ-pages
 shared-slice-read-if2-2 c = omega (arith, inside (c .before .before .before .before .before))
 
+shared-slice-read-if3 : tie.Need-shared-slice-read-if3 Inv-loop μ-loop Inv-pages μ-pages
+shared-slice-read-if3 c = omega (arith, inside (c .before .before .before .before .before .before .before))
+
+shared-slice-read-if3-2 : tie.Need-shared-slice-read-if3-2 Inv-loop μ-loop Inv-pages μ-pages
+shared-slice-read-if3-2 c = omega (arith, inside (c .before .before .before .before .before .before .before .before))
+
 add-place : tie.Need-add-place Inv-loop μ-loop Inv-pages μ-pages
 add-place c = omega arith
 
@@ -71,14 +77,14 @@ loop-less c = omega arith
 
 loop-again : tie.Need-loop-again Inv-loop μ-loop Inv-pages μ-pages
 loop-again c =
-    compared-place _ _ _ _ _ _ (c .before .before .before .before .before .before .before .loop .inv) (c .before .before .before .before .before .before .before .before .pages-test .taken) (c .before .before .before .before .before .before .loop-test .taken)
-    (place-same _ _ _ _ _ (c .before .before .before .before .before .before .loop-test .taken) (c .before .before .before .if1 .left) (c .if2 .left))
+    compared-place _ _ _ _ _ _ (c .before .before .before .before .before .before .before .before .before .before .loop .inv) (c .before .before .before .before .before .before .before .before .before .before .before .pages-test .taken) (c .before .before .before .before .before .before .before .before .before .loop-test .taken)
+    (place-same _ _ _ _ _ (c .before .before .before .before .before .before .before .before .before .loop-test .taken) (c .before .before .before .before .before .before .if1 .left) (c .before .before .before .if2 .left) (c .if3 .left))
 
-shared-slice-read-if3 : tie.Need-shared-slice-read-if3 Inv-loop μ-loop Inv-pages μ-pages
-shared-slice-read-if3 c = omega arith
+shared-slice-read-if4 : tie.Need-shared-slice-read-if4 Inv-loop μ-loop Inv-pages μ-pages
+shared-slice-read-if4 c = omega arith
 
-shared-slice-read-if3-2 : tie.Need-shared-slice-read-if3-2 Inv-loop μ-loop Inv-pages μ-pages
-shared-slice-read-if3-2 c = omega arith
+shared-slice-read-if4-2 : tie.Need-shared-slice-read-if4-2 Inv-loop μ-loop Inv-pages μ-pages
+shared-slice-read-if4-2 c = omega arith
 
 add-page : tie.Need-add-page Inv-loop μ-loop Inv-pages μ-pages
 add-page c = omega arith
@@ -89,7 +95,7 @@ pages-less c = omega arith
 pages-again : tie.Need-pages-again Inv-loop μ-loop Inv-pages μ-pages
 pages-again c = (
   compared-page _ _ _ _ _ _ (c .before .before .before .before .loop .inv) (c .before .before .before .before .before .pages-test .taken) (c .before .before .before .loop-test .left)
-      (separator-same _ _ _ _ _ (c .before .before .before .loop-test .left) (c .if3 .left)),
+      (separator-same _ _ _ _ _ (c .before .before .before .loop-test .left) (c .if4 .left)),
   refl,
 )
 
@@ -110,7 +116,13 @@ returns-3 c = (
 
 returns-4 : tie.Need-returns-4 Inv-loop μ-loop Inv-pages μ-pages
 returns-4 c = (
-  compared-found _ _ _ _ _ _ (c .before .before .before .before .loop .inv) (c .before .before .before .before .before .pages-test .taken) (separator-differs _ _ _ _ _ (c .before .before .before .loop-test .left) (c .if3 .taken)),
+  compared-found _ _ _ _ _ _ (c .before .before .before .before .before .before .before .before .before .before .loop .inv) (c .before .before .before .before .before .before .before .before .before .before .before .pages-test .taken) (owner-differs _ _ _ _ _ (c .before .before .before .before .before .before .before .before .before .loop-test .taken) (c .if3 .taken)),
+  c .before .before .before .before .before .before .before .before .before .before .loop .inv .within,
+)
+
+returns-5 : tie.Need-returns-5 Inv-loop μ-loop Inv-pages μ-pages
+returns-5 c = (
+  compared-found _ _ _ _ _ _ (c .before .before .before .before .loop .inv) (c .before .before .before .before .before .pages-test .taken) (separator-differs _ _ _ _ _ (c .before .before .before .loop-test .left) (c .if4 .taken)),
   c .before .before .before .before .loop .inv .within,
 )
 
@@ -134,15 +146,18 @@ compare-spec =
     shared-slice-read-if2
     mul-if2-2
     shared-slice-read-if2-2
+    shared-slice-read-if3
+    shared-slice-read-if3-2
     add-place
     loop-less
     loop-again
-    shared-slice-read-if3
-    shared-slice-read-if3-2
+    shared-slice-read-if4
+    shared-slice-read-if4-2
     add-page
     pages-less
     pages-again
     returns
     returns-2
     returns-3
-    returns-4)
+    returns-4
+    returns-5)

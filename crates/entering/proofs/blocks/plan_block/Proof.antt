@@ -22,7 +22,7 @@ bounds : (s : tie.Start) → Limits (s .args .geometry .parameters)
 bounds s = limits (s .args .geometry .parameters) (s .pre .0 .homing .valid)
 
 abbrev file : tie.Start → File
-file s = lent (now (s .args .separators)) (now (s .args .numbers)) (now (s .args .words))
+file s = lent (now (s .args .separators)) (now (s .args .numbers)) (now (s .args .words)) (now (s .args .owners))
 
 top-of-requires : tie.Need-top-of-requires
 top-of-requires c κs = search needs
@@ -32,7 +32,7 @@ stretch-end-requires c κs = search needs
 
 -- from the end of the block on
 abbrev entry : tie.After-stretch-end → tie.Start
-entry c = c .before .before .before .before .before .before .before .before .before .before
+entry c = c .before .before .before .before .before .before .before .before .before .before .before
 
 block-end : (c : tie.After-stretch-end) → c .stretch-end .result ≡ blockEnd (entry c .args .geometry .parameters) (entry c .args .geometry .growth) (file (entry c)) (entry c .args .lo)
 block-end c =
@@ -63,7 +63,7 @@ abbrev ended : tie.Else1 → tie.After-stretch-end
 ended c = c .before .before .before .before .before
 
 abbrev from : tie.Else1 → tie.Start
-from c = c .before .before .before .before .before .before .before .before .before .before .before .before .before .before .before
+from c = c .before .before .before .before .before .before .before .before .before .before .before .before .before .before .before .before
 
 add-stop : tie.Need-add-stop
 add-stop c =
@@ -73,7 +73,7 @@ survey-pages-requires : tie.Need-survey-pages-requires
 survey-pages-requires c κs =
     let e = c .before in
     let s = entry e in
-    (s .pre .0, (s .pre .1 .0 .ofNumbers, (omega (arith, low e), omega (arith, high e))))
+    (s .pre .0, (s .pre .1 .0 .0, (omega (arith, low e), omega (arith, high e))))
 
 same-length : tie.Need-same-length
 same-length c = search needs
@@ -113,7 +113,7 @@ clear c =
     (ended c .stretch-end .result) (block-end (ended c)) (c .before .before .before .survey-pages .result) (c .before .before .before .survey-pages .ensures .0) (c .if1 .left)
 
 -- the pool holds the block's homes
-homes : (c : tie.Else1) → c .before .before .before .survey-pages .last .1 .1 .1 .1 .1 .0
+homes : (c : tie.Else1) → c .before .before .before .survey-pages .last .1 .1 .1 .1 .1 .1 .0
     ≡ paste (now (from c .args .pool)) (from c .args .lo * from c .args .geometry .parameters .places)
     (homesOf (from c .args .geometry .parameters) (from c .args .geometry .growth) (drop (from c .args .lo * from c .args .geometry .parameters .places) (now (from c .args .numbers))))
     ((ended c .stretch-end .result + 1 - from c .args .lo) * from c .args .geometry .parameters .places)
@@ -134,7 +134,7 @@ returns-2 c =
       arith,
       c .if2 .taken,
       c .before .count-stars .ensures,
-      s .pre .1 .0 .ofWords,
+      s .pre .1 .0 .1,
       s .pre .1 .1 .1 .0,
       found-count (s .args .geometry .parameters) (s .args .geometry .growth) (file s) (s .pre .0 .homing .valid) (s .pre .0 .sized) (s .args .lo) (s .pre .1 .1 .0 .1) (ended d .stretch-end .result) (block-end (ended d)) (clear d),
     ))
@@ -155,15 +155,15 @@ plan-requires c κs =
       (
         (omega (arith, low e), (omega (arith, sum, high e, bounds s .pages-most), omega (arith, sum, high e, s .pre .1 .1 .0 .0))),
         (
-          (omega (arith, fits, s .pre .0 .sized .ofNumbers), omega (arith, fits, y .kept .1 .1 .1 .1 .1 .0, s .pre .1 .0 .ofNumbers)),
+          (omega (arith, fits, s .pre .0 .sized .ofNumbers), omega (arith, fits, y .kept .1 .1 .1 .1 .1 .1 .0, s .pre .1 .0 .0)),
           (
             found-numbers (s .args .geometry .parameters) (s .args .geometry .growth) (file s) (s .pre .0 .homing .valid) (s .pre .0 .sized) (s .args .lo) (s .pre .1 .1 .0 .1) (e .stretch-end .result) (block-end e) (clear d),
             (
-              found-below (s .args .geometry .parameters) (s .args .geometry .growth) (file s) (s .pre .0 .homing .valid) (s .pre .0 .sized) (s .args .lo) (s .pre .1 .1 .0 .1) (e .stretch-end .result) (block-end e) (clear d) (now (s .args .pool)) (y .last .1 .1 .1 .1 .1 .0) (s .pre .1 .0 .ofNumbers) (homes d),
+              found-below (s .args .geometry .parameters) (s .args .geometry .growth) (file s) (s .pre .0 .homing .valid) (s .pre .0 .sized) (s .args .lo) (s .pre .1 .1 .0 .1) (e .stretch-end .result) (block-end e) (clear d) (now (s .args .pool)) (y .last .1 .1 .1 .1 .1 .1 .0) (s .pre .1 .0 .0) (homes d),
               (
                 (
                   omega (arith, c .before .before .before .if2 .left, c .before .before .before .before .count-stars .ensures, s .pre .1 .1 .1 .0, found-count (s .args .geometry .parameters) (s .args .geometry .growth) (file s) (s .pre .0 .homing .valid) (s .pre .0 .sized) (s .args .lo) (s .pre .1 .1 .0 .1) (e .stretch-end .result) (block-end e) (clear d)),
-                  omega (arith, few s, s .pre .1 .0 .ofWords),
+                  omega (arith, few s, s .pre .1 .0 .1),
                 ),
                 s .pre .1 .1 .1 .1,
               ),
@@ -188,7 +188,7 @@ returns-3 c =
     let s = from d in
     let y = c .before .before .before .before .before .before .before .before .before .before .before .before .before .before .before .survey-pages in
     block-planned (s .args .geometry .parameters) (s .args .geometry .growth) (file s) (s .pre .0 .homing .valid) (s .pre .0 .sized) (s .args .lo) (s .pre .1 .1 .0 .1)
-    (ended d .stretch-end .result) (block-end (ended d)) (clear d) (now (s .args .pool)) (y .last .1 .1 .1 .1 .1 .0) (s .pre .1 .0 .ofNumbers) (homes d)
+    (ended d .stretch-end .result) (block-end (ended d)) (clear d) (now (s .args .pool)) (y .last .1 .1 .1 .1 .1 .1 .0) (s .pre .1 .0 .0) (homes d)
     (take (s .args .incoming) (now (s .args .waiting))) (now (s .args .planned)) (c .before .before .before .before .before .before .plan .last .1 .1 .0) (c .before .before .before .before .before .before .plan .last .1 .1 .1 .1 .0) (c .before .before .before .before .before .before .plan .last .1 .1 .1 .0) (c .before .before .before .before .before .before .plan .result)
     (c .before .before .before .before .before .before .plan .ensures)
 

@@ -23,21 +23,21 @@ use Rattle.entering.proofs.blocks.plan_entry.Statement.{statement}
 use Rattle.entering.proofs.blocks.plan_entry.Tie as tie
 
 abbrev Inv-loop : tie.InvT-loop
-Inv-loop table geometry separators numbers words pool₀ waiting₀ planned₀ number home pages lo₀ carried₀ pool waiting planned lo carried =
+Inv-loop table geometry separators numbers words owners pool₀ waiting₀ planned₀ number home pages lo₀ carried₀ pool waiting planned lo carried =
     (length pool ≡ length pool₀)
     × ((length waiting ≡ length waiting₀)
     × ((length planned ≡ length planned₀)
-    × Reached (geometry .parameters) (geometry .growth) (lent separators numbers words) number pool planned waiting lo carried))
+    × Reached (geometry .parameters) (geometry .growth) (lent separators numbers words owners) number pool planned waiting lo carried))
 
 abbrev μ-loop : tie.MeasureT-loop
-μ-loop table geometry separators numbers words pool₀ waiting₀ planned₀ number home pages lo₀ carried₀ pool waiting planned lo carried =
+μ-loop table geometry separators numbers words owners pool₀ waiting₀ planned₀ number home pages lo₀ carried₀ pool waiting planned lo carried =
     geometry .parameters .pages - lo
 
 abbrev Start : Type 0
 Start = tie.Start Inv-loop μ-loop
 
 abbrev file : Start → File
-file s = lent (now (s .args .separators)) (now (s .args .numbers)) (now (s .args .words))
+file s = lent (now (s .args .separators)) (now (s .args .numbers)) (now (s .args .words)) (now (s .args .owners))
 
 bounds : (s : Start) → Limits (s .args .geometry .parameters)
 bounds s = limits (s .args .geometry .parameters) (s .pre .0 .homing .valid)
@@ -45,7 +45,7 @@ bounds s = limits (s .args .geometry .parameters) (s .pre .0 .homing .valid)
 few : (s : Start) → s .args .geometry .parameters .pages * s .args .geometry .parameters .places ≤ 32768
 few s = mul-le-mul (bounds s .pages-most) (bounds s .places-most)
 
-waiting-long : (h : tie.At-loop Inv-loop μ-loop) → length (h .loop .waiting) ≡ length (now (h .before .before .before .before .before .before .before .before .before .args .waiting))
+waiting-long : (h : tie.At-loop Inv-loop μ-loop) → length (h .loop .waiting) ≡ length (now (h .before .before .before .before .before .before .before .before .before .before .args .waiting))
 waiting-long h = h .loop .inv .1 .0 ∙ simp length-set
 
 -- from the plan of a block on
@@ -53,7 +53,7 @@ abbrev Place : Type 0
 Place = tie.After-plan-block Inv-loop μ-loop
 
 abbrev start : Place → Start
-start x = x .before .before .before .before .before .before .before .before .before .before .before .before .before
+start x = x .before .before .before .before .before .before .before .before .before .before .before .before .before .before
 
 abbrev head : Place → tie.At-loop Inv-loop μ-loop
 head x = x .before .before .before .before
@@ -64,24 +64,24 @@ reached x = head x .loop .inv .1 .1 .1
 
 known : (x : Place) (b : Block) → x .plan-block .result ≡ b
     → BlockPlanned (start x .args .geometry .parameters) (start x .args .geometry .growth) (file (start x)) (head x .loop .lo) (take (head x .loop .carried) (head x .loop .waiting))
-    (head x .loop .pool) (x .plan-block .last .1 .1 .1 .1 .1 .0) (head x .loop .planned) (x .plan-block .last .1 .1 .1 .1 .1 .1 .1 .0) (x .plan-block .last .1 .1 .1 .1 .1 .1 .0) b
+    (head x .loop .pool) (x .plan-block .last .1 .1 .1 .1 .1 .1 .0) (head x .loop .planned) (x .plan-block .last .1 .1 .1 .1 .1 .1 .1 .1 .0) (x .plan-block .last .1 .1 .1 .1 .1 .1 .1 .0) b
 known x b e =
     subst (λ (b : Block). BlockPlanned (start x .args .geometry .parameters) (start x .args .geometry .growth) (file (start x)) (head x .loop .lo) (take (head x .loop .carried) (head x .loop .waiting))
-    (head x .loop .pool) (x .plan-block .last .1 .1 .1 .1 .1 .0) (head x .loop .planned) (x .plan-block .last .1 .1 .1 .1 .1 .1 .1 .0) (x .plan-block .last .1 .1 .1 .1 .1 .1 .0) b) e (x .plan-block .ensures)
+    (head x .loop .pool) (x .plan-block .last .1 .1 .1 .1 .1 .1 .0) (head x .loop .planned) (x .plan-block .last .1 .1 .1 .1 .1 .1 .1 .1 .0) (x .plan-block .last .1 .1 .1 .1 .1 .1 .1 .0) b) e (x .plan-block .ensures)
 
 pool-long : (x : Place) → length (head x .loop .pool) ≡ start x .args .geometry .parameters .pages * start x .args .geometry .parameters .places
-pool-long x = head x .loop .inv .0 ∙ start x .pre .1 .0 .ofNumbers
+pool-long x = head x .loop .inv .0 ∙ start x .pre .1 .0 .0
 
 planned-long : (x : Place) → start x .args .geometry .parameters .pages ≤ length (head x .loop .planned)
 planned-long x = omega (arith, head x .loop .inv .1 .1 .0, start x .pre .1 .1 .0)
 
-waiting-kept : (x : Place) → length (x .plan-block .last .1 .1 .1 .1 .1 .1 .0) ≡ length (now (start x .args .waiting))
-waiting-kept x = x .plan-block .kept .1 .1 .1 .1 .1 .1 .0 ∙ waiting-long (head x)
+waiting-kept : (x : Place) → length (x .plan-block .last .1 .1 .1 .1 .1 .1 .1 .0) ≡ length (now (start x .args .waiting))
+waiting-kept x = x .plan-block .kept .1 .1 .1 .1 .1 .1 .1 .0 ∙ waiting-long (head x)
 
 -- where the block is planned
 planned : (x : Place) (last left : ℕ) → x .plan-block .result ≡ block·Planned last left
     → PlannedBlock (start x .args .geometry .parameters) (start x .args .geometry .growth) (file (start x)) (head x .loop .lo) (take (head x .loop .carried) (head x .loop .waiting))
-    (head x .loop .pool) (x .plan-block .last .1 .1 .1 .1 .1 .0) (head x .loop .planned) (x .plan-block .last .1 .1 .1 .1 .1 .1 .1 .0) (x .plan-block .last .1 .1 .1 .1 .1 .1 .0) last left
+    (head x .loop .pool) (x .plan-block .last .1 .1 .1 .1 .1 .1 .0) (head x .loop .planned) (x .plan-block .last .1 .1 .1 .1 .1 .1 .1 .1 .0) (x .plan-block .last .1 .1 .1 .1 .1 .1 .1 .0) last left
 planned x last left e = known x (block·Planned last left) e
 
 cast-pages : tie.Need-cast-pages Inv-loop μ-loop
@@ -92,15 +92,15 @@ add-pack c = search needs
 
 pack-requires : tie.Need-pack-requires Inv-loop μ-loop
 pack-requires c κs =
-    let s = c .before .before .before .before .before .before .before in (
+    let s = c .before .before .before .before .before .before .before .before in (
       omega (arith, s .pre .1 .1 .1 .1 .1, home-pages (multiplierOf (s .args .geometry .parameters)) (s .args .geometry .parameters) (s .args .geometry .growth) (s .args .number) (s .pre .0 .homing .valid) (s .pre .0 .homing .growth), bounds s .pages-most),
       (omega (arith, valid-most (s .args .number) (s .pre .1 .1 .1 .0)), omega (arith, few s, s .pre .0 .sized .ofNumbers)),
     )
 
 slice-write-waiting : tie.Need-slice-write-waiting Inv-loop μ-loop
 slice-write-waiting c =
-    let s = c .before .before .before .before .before .before .before .before in
-    omega (arith, s .pre .1 .0 .ofWords, some-items (s .args .geometry .parameters) (s .args .geometry .growth) (s .pre .0 .homing .valid) (s .pre .0 .homing .growth) (s .args .number))
+    let s = c .before .before .before .before .before .before .before .before .before in
+    omega (arith, s .pre .1 .0 .1, some-items (s .args .geometry .parameters) (s .args .geometry .growth) (s .pre .0 .homing .valid) (s .pre .0 .homing .growth) (s .args .number))
 
 unfolded : (p : Parameters) (g : Growth) (k : ℕ) → Home·home (multiplierOf p) p g k ≡ startOf p g k
 unfolding hashOf
@@ -108,30 +108,30 @@ unfolded p g k = refl
 
 loop-holds : tie.Need-loop-holds Inv-loop μ-loop
 loop-holds c =
-    let s = c .before .before .before .before .before .before .before .before in
+    let s = c .before .before .before .before .before .before .before .before .before in
     let from : s .args .home ≡ startOf (s .args .geometry .parameters) (s .args .geometry .growth) (s .args .number) = s .pre .1 .1 .1 .1 .1 ∙ unfolded (s .args .geometry .parameters) (s .args .geometry .growth) (s .args .number) in
-    let word : c .pack .result ≡ newWord (s .args .geometry .parameters) (s .args .geometry .growth) (file s) (s .args .number) = c .pack .ensures ∙ rw from in (
+    let packed : c .pack .result ≡ newWord (s .args .geometry .parameters) (s .args .geometry .growth) (file s) (s .args .number) = c .pack .ensures ∙ rw from in (
       refl,
       (
         refl,
         (
           refl,
-          rw (word, from)
+          rw (packed, from)
               (reached-none (s .args .geometry .parameters) (s .args .geometry .growth) (file s) (s .args .number) (s .pre .0 .homing .valid) (s .pre .0 .sized) (s .pre .1 .1 .1 .0) (s .pre .1 .1 .1 .1 .0) (now (s .args .pool)) (now (s .args .planned)) (now (s .args .waiting))
               (omega (arith, unfolded (s .args .geometry .parameters) (s .args .geometry .growth) (s .args .number), home-pages (multiplierOf (s .args .geometry .parameters)) (s .args .geometry .parameters) (s .args .geometry .growth) (s .args .number) (s .pre .0 .homing .valid) (s .pre .0 .homing .growth)))
-              (omega (arith, s .pre .1 .0 .ofWords, some-items (s .args .geometry .parameters) (s .args .geometry .growth) (s .pre .0 .homing .valid) (s .pre .0 .homing .growth) (s .args .number)))),
+              (omega (arith, s .pre .1 .0 .1, some-items (s .args .geometry .parameters) (s .args .geometry .growth) (s .pre .0 .homing .valid) (s .pre .0 .homing .growth) (s .args .number)))),
         ),
       ),
     )
 
 plan-block-requires : tie.Need-plan-block-requires Inv-loop μ-loop
 plan-block-requires c κs =
-    let s = c .before .before .before .before .before .before .before .before .before .before .before .before in
+    let s = c .before .before .before .before .before .before .before .before .before .before .before .before .before in
     let l = c .before .before .before .loop in
     let r = l .inv .1 .1 .1 in (
       s .pre .0,
       (
-        record { ofNumbers = l .inv .0 ∙ s .pre .1 .0 .ofNumbers; ofWords = waiting-long (c .before .before .before) ∙ s .pre .1 .0 .ofWords },
+        (l .inv .0 ∙ s .pre .1 .0 .0, waiting-long (c .before .before .before) ∙ s .pre .1 .0 .1),
         (
           (omega (arith, l .inv .1 .1 .0, s .pre .1 .1 .0), r .inside),
           (
@@ -160,8 +160,8 @@ returns c =
     let x = c .before .before .before .before .before .before .before .before .before in
     let s = start x in
     let page = c .before .page .given .0 .0 in (
-      (λ word. reached-unsound (s .args .geometry .parameters) (s .args .geometry .growth) (file s) (s .args .number) (s .pre .0 .homing .valid) (s .pre .0 .sized) (s .pre .1 .1 .1 .0) (s .pre .1 .1 .1 .1 .0) (head x .loop .pool) (head x .loop .planned) (head x .loop .waiting) (head x .loop .lo) (head x .loop .carried) (reached x) page (known x (block·Unsound page) (c .before .page .given .1)) word),
-      (λ word last e. absurd (unsound-ends page last e)),
+      (λ word owner. reached-unsound (s .args .geometry .parameters) (s .args .geometry .growth) (file s) (s .args .number) (s .pre .0 .homing .valid) (s .pre .0 .sized) (s .pre .1 .1 .1 .0) (s .pre .1 .1 .1 .1 .0) (head x .loop .pool) (head x .loop .planned) (head x .loop .waiting) (head x .loop .lo) (head x .loop .carried) (reached x) page (known x (block·Unsound page) (c .before .page .given .1)) word owner),
+      (λ word owner last e. absurd (unsound-ends page last e)),
     )
 
 enum-told : tie.Need-enum-told Inv-loop μ-loop
@@ -181,8 +181,8 @@ returns-2 : tie.Need-returns-2 Inv-loop μ-loop
 returns-2 c =
     let x = c .before .before .before .before .before .before .before .before in
     let s = start x in (
-      (λ word. reached-crowded (s .args .geometry .parameters) (s .args .geometry .growth) (file s) (s .args .number) (s .pre .0 .homing .valid) (s .pre .0 .sized) (s .pre .1 .1 .1 .0) (s .pre .1 .1 .1 .1 .0) (head x .loop .pool) (head x .loop .planned) (head x .loop .waiting) (head x .loop .lo) (head x .loop .carried) (reached x) (known x Crowded (c .enum-told .given .1)) word),
-      (λ word last e. absurd (overflows-ends last e)),
+      (λ word owner. reached-crowded (s .args .geometry .parameters) (s .args .geometry .growth) (file s) (s .args .number) (s .pre .0 .homing .valid) (s .pre .0 .sized) (s .pre .1 .1 .1 .0) (s .pre .1 .1 .1 .1 .0) (head x .loop .pool) (head x .loop .planned) (head x .loop .waiting) (head x .loop .lo) (head x .loop .carried) (reached x) (known x Crowded (c .enum-told .given .1)) word owner),
+      (λ word owner last e. absurd (overflows-ends last e)),
     )
 
 enum-known-last : tie.Need-enum-known-last Inv-loop μ-loop
@@ -203,8 +203,8 @@ returns-3 c =
     let x = c .before .before .before .before .before .before .before .before .before .before in
     let s = start x in
     let v = c .before .before .last .given in (
-      (λ word. reached-ends (s .args .geometry .parameters) (s .args .geometry .growth) (file s) (s .args .number) (s .pre .0 .homing .valid) (s .pre .0 .sized) (s .pre .1 .1 .1 .0) (s .pre .1 .1 .1 .1 .0) (head x .loop .pool) (head x .loop .planned) (head x .loop .waiting) (head x .loop .lo) (head x .loop .carried) (reached x) (x .plan-block .last .1 .1 .1 .1 .1 .0) (x .plan-block .last .1 .1 .1 .1 .1 .1 .1 .0) (x .plan-block .last .1 .1 .1 .1 .1 .1 .0) (v .0 .0) (v .0 .1 .0) (pool-long x) (planned-long x) (planned x (v .0 .0) (v .0 .1 .0) (v .1)) (c .if1 .taken) word),
-      reached-applies (s .args .geometry .parameters) (s .args .geometry .growth) (file s) (s .args .number) (s .pre .0 .homing .valid) (s .pre .0 .sized) (s .pre .1 .1 .1 .0) (s .pre .1 .1 .1 .1 .0) (head x .loop .pool) (head x .loop .planned) (head x .loop .waiting) (head x .loop .lo) (head x .loop .carried) (reached x) (x .plan-block .last .1 .1 .1 .1 .1 .0) (x .plan-block .last .1 .1 .1 .1 .1 .1 .1 .0) (x .plan-block .last .1 .1 .1 .1 .1 .1 .0) (v .0 .0) (v .0 .1 .0) (pool-long x) (planned-long x) (planned x (v .0 .0) (v .0 .1 .0) (v .1)) (c .if1 .taken),
+      (λ word owner. reached-ends (s .args .geometry .parameters) (s .args .geometry .growth) (file s) (s .args .number) (s .pre .0 .homing .valid) (s .pre .0 .sized) (s .pre .1 .1 .1 .0) (s .pre .1 .1 .1 .1 .0) (head x .loop .pool) (head x .loop .planned) (head x .loop .waiting) (head x .loop .lo) (head x .loop .carried) (reached x) (x .plan-block .last .1 .1 .1 .1 .1 .1 .0) (x .plan-block .last .1 .1 .1 .1 .1 .1 .1 .1 .0) (x .plan-block .last .1 .1 .1 .1 .1 .1 .1 .0) (v .0 .0) (v .0 .1 .0) (pool-long x) (planned-long x) (planned x (v .0 .0) (v .0 .1 .0) (v .1)) (c .if1 .taken) word owner),
+      reached-applies (s .args .geometry .parameters) (s .args .geometry .growth) (file s) (s .args .number) (s .pre .0 .homing .valid) (s .pre .0 .sized) (s .pre .1 .1 .1 .0) (s .pre .1 .1 .1 .1 .0) (head x .loop .pool) (head x .loop .planned) (head x .loop .waiting) (head x .loop .lo) (head x .loop .carried) (reached x) (x .plan-block .last .1 .1 .1 .1 .1 .1 .0) (x .plan-block .last .1 .1 .1 .1 .1 .1 .1 .1 .0) (x .plan-block .last .1 .1 .1 .1 .1 .1 .1 .0) (v .0 .0) (v .0 .1 .0) (pool-long x) (planned-long x) (planned x (v .0 .0) (v .0 .1 .0) (v .1)) (c .if1 .taken),
     )
 
 add-lo : tie.Need-add-lo Inv-loop μ-loop
@@ -229,8 +229,8 @@ returns-4 c =
     let x = c .before .before .before .before .before .before .before .before .before .before .before in
     let s = start x in
     let v = c .before .before .before .last .given in (
-      (λ word. reached-overflows (s .args .geometry .parameters) (s .args .geometry .growth) (file s) (s .args .number) (s .pre .0 .homing .valid) (s .pre .0 .sized) (s .pre .1 .1 .1 .0) (s .pre .1 .1 .1 .1 .0) (head x .loop .pool) (head x .loop .planned) (head x .loop .waiting) (head x .loop .lo) (head x .loop .carried) (reached x) (x .plan-block .last .1 .1 .1 .1 .1 .0) (x .plan-block .last .1 .1 .1 .1 .1 .1 .1 .0) (x .plan-block .last .1 .1 .1 .1 .1 .1 .0) (v .0 .0) (v .0 .1 .0) (pool-long x) (planned-long x) (planned x (v .0 .0) (v .0 .1 .0) (v .1)) (c .before .if1 .left) (omega (arith, c .if2 .taken)) word),
-      (λ word last e. absurd (overflows-ends last e)),
+      (λ word owner. reached-overflows (s .args .geometry .parameters) (s .args .geometry .growth) (file s) (s .args .number) (s .pre .0 .homing .valid) (s .pre .0 .sized) (s .pre .1 .1 .1 .0) (s .pre .1 .1 .1 .1 .0) (head x .loop .pool) (head x .loop .planned) (head x .loop .waiting) (head x .loop .lo) (head x .loop .carried) (reached x) (x .plan-block .last .1 .1 .1 .1 .1 .1 .0) (x .plan-block .last .1 .1 .1 .1 .1 .1 .1 .1 .0) (x .plan-block .last .1 .1 .1 .1 .1 .1 .1 .0) (v .0 .0) (v .0 .1 .0) (pool-long x) (planned-long x) (planned x (v .0 .0) (v .0 .1 .0) (v .1)) (c .before .if1 .left) (omega (arith, c .if2 .taken)) word owner),
+      (λ word owner last e. absurd (overflows-ends last e)),
     )
 
 loop-less : tie.Need-loop-less Inv-loop μ-loop
@@ -245,13 +245,13 @@ loop-again c =
     let x = c .before .before .before .before .before .before .before .before .before .before .before in
     let s = start x in
     let v = c .before .before .before .last .given in (
-      x .plan-block .kept .1 .1 .1 .1 .1 .0 ∙ head x .loop .inv .0,
+      x .plan-block .kept .1 .1 .1 .1 .1 .1 .0 ∙ head x .loop .inv .0,
       (
-        x .plan-block .kept .1 .1 .1 .1 .1 .1 .0 ∙ head x .loop .inv .1 .0,
+        x .plan-block .kept .1 .1 .1 .1 .1 .1 .1 .0 ∙ head x .loop .inv .1 .0,
         (
-          x .plan-block .kept .1 .1 .1 .1 .1 .1 .1 .0 ∙ head x .loop .inv .1 .1 .0,
+          x .plan-block .kept .1 .1 .1 .1 .1 .1 .1 .1 .0 ∙ head x .loop .inv .1 .1 .0,
           rw (add-one (v .0 .0))
-              (reached-next (s .args .geometry .parameters) (s .args .geometry .growth) (file s) (s .args .number) (s .pre .0 .homing .valid) (s .pre .0 .sized) (s .pre .1 .1 .1 .0) (s .pre .1 .1 .1 .1 .0) (head x .loop .pool) (head x .loop .planned) (head x .loop .waiting) (head x .loop .lo) (head x .loop .carried) (reached x) (x .plan-block .last .1 .1 .1 .1 .1 .0) (x .plan-block .last .1 .1 .1 .1 .1 .1 .1 .0) (x .plan-block .last .1 .1 .1 .1 .1 .1 .0) (v .0 .0) (v .0 .1 .0) (pool-long x) (planned-long x) (planned x (v .0 .0) (v .0 .1 .0) (v .1)) (c .before .if1 .left) (omega (arith, c .if2 .left, planned x (v .0 .0) (v .0 .1 .0) (v .1) .is, block-most (s .args .geometry .parameters) (s .args .geometry .growth) (file s) (head x .loop .lo) (reached x .inside)))),
+              (reached-next (s .args .geometry .parameters) (s .args .geometry .growth) (file s) (s .args .number) (s .pre .0 .homing .valid) (s .pre .0 .sized) (s .pre .1 .1 .1 .0) (s .pre .1 .1 .1 .1 .0) (head x .loop .pool) (head x .loop .planned) (head x .loop .waiting) (head x .loop .lo) (head x .loop .carried) (reached x) (x .plan-block .last .1 .1 .1 .1 .1 .1 .0) (x .plan-block .last .1 .1 .1 .1 .1 .1 .1 .1 .0) (x .plan-block .last .1 .1 .1 .1 .1 .1 .1 .0) (v .0 .0) (v .0 .1 .0) (pool-long x) (planned-long x) (planned x (v .0 .0) (v .0 .1 .0) (v .1)) (c .before .if1 .left) (omega (arith, c .if2 .left, planned x (v .0 .0) (v .0 .1 .0) (v .1) .is, block-most (s .args .geometry .parameters) (s .args .geometry .growth) (file s) (head x .loop .lo) (reached x .inside)))),
         ),
       ),
     )

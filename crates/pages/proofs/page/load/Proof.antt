@@ -9,17 +9,17 @@ use Rattle.pages.proofs.page.load.Statement.{statement}
 use Rattle.pages.proofs.page.load.Tie as tie
 
 abbrev Inv-loop : tie.InvT-loop
-Inv-loop numbers words places page value₀ first i₀ value i =
-    (i ≤ places) × (Loaded numbers first i (value .numbers) × Loaded words first i (value .words))
+Inv-loop numbers words owners places page value₀ first i₀ value i =
+    (i ≤ places) × (Loaded numbers first i (value .numbers) × (Loaded words first i (value .words) × Loaded owners first i (value .owners)))
 
 abbrev μ-loop : tie.MeasureT-loop
-μ-loop numbers words places page value₀ first i₀ value i = places - i
+μ-loop numbers words owners places page value₀ first i₀ value i = places - i
 
 mul-first : tie.Need-mul-first Inv-loop μ-loop
 mul-first c = search needs
 
 loop-holds : tie.Need-loop-holds Inv-loop μ-loop
-loop-holds c = (search needs, (loaded-none _ _, loaded-none _ _))
+loop-holds c = (search needs, (loaded-none _ _, (loaded-none _ _, loaded-none _ _)))
 
 add-value : tie.Need-add-value Inv-loop μ-loop
 add-value c = search needs
@@ -51,6 +51,15 @@ mul-value-4 c = search needs
 element-write-value-2 : tie.Need-element-write-value-2 Inv-loop μ-loop
 element-write-value-2 c = search needs
 
+add-value-3 : tie.Need-add-value-3 Inv-loop μ-loop
+add-value-3 c = search needs
+
+shared-slice-read-value-3 : tie.Need-shared-slice-read-value-3 Inv-loop μ-loop
+shared-slice-read-value-3 c = search needs
+
+element-write-value-3 : tie.Need-element-write-value-3 Inv-loop μ-loop
+element-write-value-3 c = search needs
+
 add-i : tie.Need-add-i Inv-loop μ-loop
 add-i c = search needs
 
@@ -59,16 +68,22 @@ loop-less c = search needs
 
 loop-again : tie.Need-loop-again Inv-loop μ-loop
 loop-again c =
-    let was = c .before .before .before .loop .inv .1 in
-    (search needs, (loaded-more (search needs) (search needs) (was .0), loaded-more (search needs) (search needs) (was .1)))
+    let was = c .before .before .before .before .loop .inv .1 in (
+      search needs,
+      (
+        loaded-more (search needs) (search needs) (was .0),
+        (loaded-more (search needs) (search needs) (was .1 .0), loaded-more (search needs) (search needs) (was .1 .1)),
+      ),
+    )
 
 returns : tie.Need-returns Inv-loop μ-loop
 returns c =
     let done : c .before .loop .i ≡ c .before .before .args .places = omega arith in
     let was = c .before .loop .inv .1 in
     let ns = loaded-all _ _ _ (c .before .before .pre .1 .0) done (was .0) in
-    let ws = loaded-all _ _ _ (c .before .before .pre .1 .1) done (was .1) in
-    λ t. record { numbers = ns t; words = ws t }
+    let ws = loaded-all _ _ _ (c .before .before .pre .1 .1 .0) done (was .1 .0) in
+    let os = loaded-all _ _ _ (c .before .before .pre .1 .1 .1) done (was .1 .1) in
+    λ t. record { numbers = ns t; words = ws t; owners = os t }
 
 pub load-spec : {M : Type 1} → statement M
 load-spec =
@@ -88,6 +103,9 @@ load-spec =
     shared-slice-read-value-2
     mul-value-4
     element-write-value-2
+    add-value-3
+    shared-slice-read-value-3
+    element-write-value-3
     add-i
     loop-less
     loop-again

@@ -15,7 +15,7 @@ use Rattle.placement.proofs.soundness.page_sound.Tie as tie
 
 abbrev Inv-loop : tie.InvT-loop
 Inv-loop table geometry separators page value places homes₀ found last₀ i₀ homes last i =
-    (i ≤ places) × (places ≤ 32) × Surveyed (geometry .parameters) (geometry .growth) separators page (value .numbers) (value .words) places i last homes
+    (i ≤ places) × (places ≤ 32) × Surveyed (geometry .parameters) (geometry .growth) separators page (value .numbers) (value .words) (value .owners) places i last homes
 
 abbrev μ-loop : tie.MeasureT-loop
 μ-loop table geometry separators page value places homes₀ found last₀ i₀ homes last i = places - i
@@ -45,8 +45,12 @@ loop-holds c =
     let s = c .before .before .before .before .before .before in
     let l = limits (s .args .geometry .parameters) (s .pre .0 .valid) in
     let ns : length (s .args .t4 .numbers) ≡ 32 = search needs in
-    let ws : length (s .args .t4 .words) ≡ 32 = search needs in
-    (search needs, l .places-most, surveyed-none _ _ _ _ _ _ _ (omega (arith, l .places-most)) (omega (arith, l .places-most)))
+    let ws : length (s .args .t4 .words) ≡ 32 = search (needs, s .good .1 .1 .1 .0) in
+    let os : length (s .args .t4 .owners) ≡ 32 = search (needs, s .good .1 .1 .1 .0) in (
+      search needs,
+      l .places-most,
+      surveyed-none _ _ _ _ _ _ _ _ (omega (arith, l .places-most)) (omega (arith, l .places-most)) (omega (arith, l .places-most)),
+    )
 
 mul-admitted : tie.Need-mul-admitted Inv-loop μ-loop
 mul-admitted c = search needs
@@ -60,6 +64,9 @@ mul-admitted-2 c = search needs
 element-copy-out-admitted-2 : tie.Need-element-copy-out-admitted-2 Inv-loop μ-loop
 element-copy-out-admitted-2 c = search needs
 
+element-copy-out-admitted-3 : tie.Need-element-copy-out-admitted-3 Inv-loop μ-loop
+element-copy-out-admitted-3 c = search needs
+
 mul-admitted-3 : tie.Need-mul-admitted-3 Inv-loop μ-loop
 mul-admitted-3 c = search needs
 
@@ -68,18 +75,18 @@ array-read-admitted c = search needs
 
 admitted-requires : tie.Need-admitted-requires Inv-loop μ-loop
 admitted-requires c κs =
-    let s = c .before .before .before .before .before .before .before .before .before .before in
-    let loop = c .before .before .before .loop in
-    let homes = c .before .before .before .before .homes-of .ensures in
-    let home = item-at _ (s .args .t4 .numbers) _ _ (loop .i) (loop .inv .2 .numbered) (c .before .before .loop-test .taken) homes in
+    let s = c .before .before .before .before .before .before .before .before .before .before .before in
+    let loop = c .before .before .before .before .loop in
+    let homes = c .before .before .before .before .before .homes-of .ensures in
+    let home = item-at _ (s .args .t4 .numbers) _ _ (loop .i) (loop .inv .2 .numbered) (c .before .before .before .loop-test .taken) homes in
     (s .pre .0, (s .pre .1 .0, (s .pre .1 .1, home)))
 
 returns-2 : tie.Need-returns-2 Inv-loop μ-loop
 unfolding soundIn
 returns-2 c =
     let item = c .before .before .admitted .ensures in
-    let inside = c .before .before .before .before .before .loop-test .taken in
-    let refused = surveyed-refused _ _ _ _ (c .before .before .before .before .before .before .loop .inv .2) inside (failed _ _ (item .sound) (c .if2 .taken)) in
+    let inside = c .before .before .before .before .before .before .loop-test .taken in
+    let refused = surveyed-refused _ _ _ _ (c .before .before .before .before .before .before .before .loop .inv .2) inside (failed _ _ (item .sound) (c .if2 .taken)) in
     record { sound = simp (refused, and-false); homes = λ e. absurd (false≢true e) }
 
 mul-homes : tie.Need-mul-homes Inv-loop μ-loop
@@ -100,7 +107,7 @@ loop-again c =
     let taken = not-false _ (c .if2 .left) in (
       search needs,
       search needs,
-      surveyed-more _ _ _ _ (c .before .before .before .before .before .before .loop .inv .2) (search needs) (search needs) (sym (item .ensures .sound) ∙ taken) (item .ensures .home taken) (item .ensures .last taken),
+      surveyed-more _ _ _ _ (c .before .before .before .before .before .before .before .loop .inv .2) (search needs) (search needs) (sym (item .ensures .sound) ∙ taken) (item .ensures .home taken) (item .ensures .last taken),
     )
 
 returns-3 : tie.Need-returns-3 Inv-loop μ-loop
@@ -130,6 +137,7 @@ page-sound-spec =
     element-copy-out-admitted
     mul-admitted-2
     element-copy-out-admitted-2
+    element-copy-out-admitted-3
     mul-admitted-3
     array-read-admitted
     admitted-requires

@@ -27,35 +27,36 @@ inside c e = page-fits _ _ _ (c .pre .1 .1) e
 
 load-requires : tie.Need-load-requires
 load-requires c κs =
-    let s = c .before .before .before .before .before in
-    (places-most s, (inside s (s .pre .0 .sized .ofNumbers), inside s (s .pre .0 .sized .ofWords)))
+    let s = c .before .before .before .before .before .before in
+    (places-most s, (inside s (s .pre .0 .sized .ofNumbers), (inside s (s .pre .0 .sized .ofWords), inside s (s .pre .0 .sized .ofOwners))))
 
 page-sound-requires : tie.Need-page-sound-requires
 page-sound-requires c κs =
-    let pre = c .before .before .before .before .before .before .pre in
+    let pre = c .before .before .before .before .before .before .before .pre in
     (pre .0 .homing, (pre .0 .sized .ofSeparators, pre .1 .1))
 
 -- the value tested is the page's
 told : (c : tie.After-page-sound) →
-    let s = c .before .before .before .before .before .before .before .args in
-    c .page-sound .result .sound ≡ soundAt (s .geometry .parameters) (s .geometry .growth) (lent (s .separators .now) (s .numbers .now) (s .words .now)) (s .page)
+    let s = c .before .before .before .before .before .before .before .before .args in
+    c .page-sound .result .sound ≡ soundAt (s .geometry .parameters) (s .geometry .growth) (lent (s .separators .now) (s .numbers .now) (s .words .now) (s .owners .now)) (s .page)
 told c =
-    let s = c .before .before .before .before .before .before .before in
+    let s = c .before .before .before .before .before .before .before .before in
     c .page-sound .ensures .sound
-    ∙ sound-loaded _ _ (lent (s .args .separators .now) (s .args .numbers .now) (s .args .words .now)) _ _
+    ∙ sound-loaded _ _ (lent (s .args .separators .now) (s .args .numbers .now) (s .args .words .now) (s .args .owners .now)) _ _
     (inside s (s .pre .0 .sized .ofNumbers))
     (inside s (s .pre .0 .sized .ofWords))
+    (inside s (s .pre .0 .sized .ofOwners))
     (c .before .load .ensures)
 
 returns : tie.Need-returns
 returns c = (sym (sym (told (c .before .before)) ∙ not-true _ (c .if1 .taken)), λ e. absurd (false≢true e))
 
 mul-keep : tie.Need-mul-keep
-mul-keep c = let s = c .before .before .before .before .before .before .before .before .before .before .before in omega (arith, inside s (s .pre .1 .0))
+mul-keep c = let s = c .before .before .before .before .before .before .before .before .before .before .before .before in omega (arith, inside s (s .pre .1 .0))
 
 keep-requires : tie.Need-keep-requires
 keep-requires c κs =
-    let s = c .before .before .before .before .before .before .before .before .before .before .before in
+    let s = c .before .before .before .before .before .before .before .before .before .before .before .before in
     (places-most s, inside s (s .pre .1 .0))
 
 same-length : tie.Need-same-length
@@ -64,13 +65,13 @@ same-length c = search needs
 returns-2 : tie.Need-returns-2
 returns-2 c =
     let tested = c .before .before .before .before .before .before .before in
-    let s = tested .before .before .before .before .before .before .before in
+    let s = tested .before .before .before .before .before .before .before .before in
     let yes = not-false _ (c .before .before .before .before .before .if1 .left) in (
       sym (sym (told tested) ∙ yes),
       λ e.
           c .before .before .keep .ensures
           ∙ paste-front (s .args .homes .now) (tested .page-sound .result .homes) _ (s .args .page * s .args .geometry .parameters .places) (s .args .geometry .parameters .places)
-          (tested .page-sound .ensures .homes yes ∙ homes-loaded _ _ _ _ _ _ (inside s (s .pre .0 .sized .ofNumbers)) (tested .before .load .ensures)),
+          (tested .page-sound .ensures .homes yes ∙ homes-loaded _ _ _ _ _ _ _ (inside s (s .pre .0 .sized .ofNumbers)) (tested .before .load .ensures)),
     )
 
 pub survey-spec : {M : Type 1} → statement M

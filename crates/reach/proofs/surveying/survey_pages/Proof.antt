@@ -10,17 +10,17 @@ use Rattle.reach.proofs.surveying.survey_pages.Statement.{statement}
 use Rattle.reach.proofs.surveying.survey_pages.Tie as tie
 
 abbrev Inv-loop : tie.InvT-loop
-Inv-loop table geometry separators numbers words homes₀ from stop page₀ homes page =
-    Surveyed (geometry .parameters) (geometry .growth) (lent separators numbers words) homes₀ from (stop - from) homes page
+Inv-loop table geometry separators numbers words owners homes₀ from stop page₀ homes page =
+    Surveyed (geometry .parameters) (geometry .growth) (lent separators numbers words owners) homes₀ from (stop - from) homes page
 
 abbrev μ-loop : tie.MeasureT-loop
-μ-loop table geometry separators numbers words homes₀ from stop page₀ homes page = stop - page
+μ-loop table geometry separators numbers words owners homes₀ from stop page₀ homes page = stop - page
 
 loop-holds : tie.Need-loop-holds Inv-loop μ-loop
 loop-holds c = surveyed-none _ _ _ _ _ _
 
 abbrev start : tie.After-survey-arg Inv-loop μ-loop → tie.Start Inv-loop μ-loop
-start c = c .before .before .before .before .before .before .before
+start c = c .before .before .before .before .before .before .before .before
 
 homes-long : (c : tie.After-survey-arg Inv-loop μ-loop) → length (c .before .before .loop .homes) ≡ start c .args .geometry .parameters .pages * start c .args .geometry .parameters .places
 homes-long c = c .before .before .loop .inv .long ∙ start c .pre .1 .0
@@ -32,7 +32,7 @@ survey-requires : tie.Need-survey-requires Inv-loop μ-loop
 survey-requires c κs = (start c .pre .0, (homes-long c, below c))
 
 same-length : tie.Need-same-length Inv-loop μ-loop
-same-length c = c .before .before .before .survey .kept .1 .1 .1 .1 .1 .0 ∙ c .before .before .before .before .before .before .loop .inv .long
+same-length c = c .before .before .before .survey .kept .1 .1 .1 .1 .1 .1 .0 ∙ c .before .before .before .before .before .before .loop .inv .long
 
 returns : tie.Need-returns Inv-loop μ-loop
 returns c = (surveyed-fails _ _ _ _ _ _ _ _ (c .before .before .before .before .before .before .loop .inv) (omega (arith, c .before .before .before .before .before .loop-test .taken)) (failed _ _ (c .before .before .before .survey .ensures .0) (c .if1 .taken)), λ e. absurd (omega (arith, c .before .before .before .before .before .loop-test .taken)))
@@ -45,8 +45,8 @@ loop-less c = omega arith
 
 loop-again : tie.Need-loop-again Inv-loop μ-loop
 loop-again c =
-    let s = c .before .before .before .before .before .before .before .before .before .before .before in
-    surveyed-next _ _ _ _ _ _ _ _ (c .before .before .before .before .before .before .loop .inv) (s .pre .0 .sized) (s .pre .1 .0) (omega (arith, c .before .before .before .before .before .loop-test .taken)) (omega (arith, s .pre .1 .1 .0, s .pre .1 .1 .1)) _ (passed _ _ (c .before .before .before .survey .ensures .0) (c .if1 .left)) (c .before .before .before .survey .ensures .1 (not-false _ (c .if1 .left))) (c .before .before .before .survey .kept .1 .1 .1 .1 .1 .0)
+    let s = c .before .before .before .before .before .before .before .before .before .before .before .before in
+    surveyed-next _ _ _ _ _ _ _ _ (c .before .before .before .before .before .before .loop .inv) (s .pre .0 .sized) (s .pre .1 .0) (omega (arith, c .before .before .before .before .before .loop-test .taken)) (omega (arith, s .pre .1 .1 .0, s .pre .1 .1 .1)) _ (passed _ _ (c .before .before .before .survey .ensures .0) (c .if1 .left)) (c .before .before .before .survey .ensures .1 (not-false _ (c .if1 .left))) (c .before .before .before .survey .kept .1 .1 .1 .1 .1 .1 .0)
 
 same-length-2 : tie.Need-same-length-2 Inv-loop μ-loop
 same-length-2 c = c .before .loop .inv .long

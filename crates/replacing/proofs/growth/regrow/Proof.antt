@@ -15,11 +15,11 @@ cast-pages : tie.Need-cast-pages
 cast-pages c = search needs
 
 abbrev start : tie.After-survey-pages → tie.Start
-start c = c .before .before .before .before .before .before .before .before .before .before .before
+start c = c .before .before .before .before .before .before .before .before .before .before .before .before .before .before
 
 survey-pages-requires : tie.Need-survey-pages-requires
 survey-pages-requires c κs =
-    let pre = c .before .before .before .before .before .before .before .before .before .before .pre in
+    let pre = c .before .before .before .before .before .before .before .before .before .before .before .before .before .pre in
     (pre .0, (pre .1 .0 .ofNumbers, (omega arith, omega arith)))
 
 same-length : tie.Need-same-length
@@ -33,6 +33,9 @@ same-length-3 c = search needs
 
 same-length-4 : tie.Need-same-length-4
 same-length-4 c = search needs
+
+same-length-5 : tie.Need-same-length-5
+same-length-5 c = search needs
 
 returns : tie.Need-returns
 returns c =
@@ -54,17 +57,34 @@ rehome-requires c κs =
 
 replace-stretch-requires : tie.Need-replace-stretch-requires
 replace-stretch-requires c κs =
-    let rehomed = c .before .before .before .before .before .before .before in
+    let rehomed = c .before .before .before .before .before .before .before .before .before in
     let sound = rehomed .before .before .before in
     let surveyed = sound .before .before .before in
     let pre = start surveyed .pre in (
       pre .0 .homing .valid,
       growth-plannable _ _ _ (pre .0 .homing .valid) (pre .0 .sized) _ (surveyed .survey-pages .ensures .0) (sound .if1 .left) _ (later surveyed) _ (rehomed .rehome .ensures)
-          _ (pre .1 .0 .ofWords),
+          _ _ (pre .1 .0 .ofWords) (pre .1 .0 .ofOwners),
     )
 
-same-length-5 : tie.Need-same-length-5
-same-length-5 c = search needs
+-- the stars of all sound pages, placed anew where they fit
+abbrev began : tie.After-replace-stretch → tie.Start
+began c = start (c .before .before .before .before .before .before .before .before .before .before .before .before .before .before .before .before)
+
+answered : (c : tie.After-replace-stretch) (r : Bool) → c .replace-stretch .result ≡ r
+    → let a = began c .args in
+    let p = a .geometry .parameters in
+    let g = a .geometry .growth in
+    let next = nextOf (a .back) p g in
+    let f = lent (a .separators .now) (a .numbers .now) (a .words .now) (a .owners .now) in
+    let exit = c .replace-stretch .last .1 in
+    (cond r Done Overflows ≡ growthAnswer p g f next) × (lent (exit .0) (exit .1 .0) (exit .1 .1 .0) (exit .1 .1 .1 .0) ≡ growthFile p g f next)
+answered c r e =
+    let rehomed = c .before .before .before .before .before .before .before .before .before .before in
+    let sound = rehomed .before .before .before in
+    let surveyed = sound .before .before .before in
+    let pre = start surveyed .pre in
+    growth-done _ _ _ (pre .0 .homing .valid) (pre .0 .sized) _ (surveyed .survey-pages .ensures .0) (sound .if1 .left) _ (later surveyed) _ (rehomed .rehome .ensures)
+    r (sym e ∙ c .replace-stretch .ensures .0) _ (c .replace-stretch .ensures .1)
 
 same-length-6 : tie.Need-same-length-6
 same-length-6 c = search needs
@@ -78,29 +98,6 @@ same-length-8 c = search needs
 same-length-9 : tie.Need-same-length-9
 same-length-9 c = search needs
 
--- the stars of all sound pages, placed anew where they fit
-abbrev began : tie.After-replace-stretch → tie.Start
-began c = start (c .before .before .before .before .before .before .before .before .before .before .before .before .before .before)
-
-answered : (c : tie.After-replace-stretch) (r : Bool) → c .replace-stretch .result ≡ r
-    → let a = began c .args in
-    let p = a .geometry .parameters in
-    let g = a .geometry .growth in
-    let next = nextOf (a .back) p g in
-    let f = lent (a .separators .now) (a .numbers .now) (a .words .now) in
-    let exit = c .replace-stretch .last .1 in
-    (cond r Done Overflows ≡ growthAnswer p g f next) × (lent (exit .0) (exit .1 .0) (exit .1 .1 .0) ≡ growthFile p g f next)
-answered c r e =
-    let rehomed = c .before .before .before .before .before .before .before .before in
-    let sound = rehomed .before .before .before in
-    let surveyed = sound .before .before .before in
-    let pre = start surveyed .pre in
-    growth-done _ _ _ (pre .0 .homing .valid) (pre .0 .sized) _ (surveyed .survey-pages .ensures .0) (sound .if1 .left) _ (later surveyed) _ (rehomed .rehome .ensures)
-    r (sym e ∙ c .replace-stretch .ensures .0) _ (c .replace-stretch .ensures .1)
-
-returns-2 : tie.Need-returns-2
-returns-2 c = answered (c .before .before .before .before .before .before .before .before .before .before .before) false (not-true _ (c .if2 .taken))
-
 same-length-10 : tie.Need-same-length-10
 same-length-10 c = search needs
 
@@ -110,14 +107,32 @@ same-length-11 c = search needs
 same-length-12 : tie.Need-same-length-12
 same-length-12 c = search needs
 
+returns-2 : tie.Need-returns-2
+returns-2 c = answered (c .before .before .before .before .before .before .before .before .before .before .before .before .before .before .before) false (not-true _ (c .if2 .taken))
+
 same-length-13 : tie.Need-same-length-13
 same-length-13 c = search needs
 
 same-length-14 : tie.Need-same-length-14
 same-length-14 c = search needs
 
+same-length-15 : tie.Need-same-length-15
+same-length-15 c = search needs
+
+same-length-16 : tie.Need-same-length-16
+same-length-16 c = search needs
+
+same-length-17 : tie.Need-same-length-17
+same-length-17 c = search needs
+
+same-length-18 : tie.Need-same-length-18
+same-length-18 c = search needs
+
+same-length-19 : tie.Need-same-length-19
+same-length-19 c = search needs
+
 returns-3 : tie.Need-returns-3
-returns-3 c = answered (c .before .before .before .before .before .before .before .before .before .before .before) true (not-false _ (c .if2 .left))
+returns-3 c = answered (c .before .before .before .before .before .before .before .before .before .before .before .before .before .before .before) true (not-false _ (c .if2 .left))
 
 pub regrow-spec : {M : Type 1} → statement M
 regrow-spec =
@@ -129,18 +144,23 @@ regrow-spec =
     same-length-2
     same-length-3
     same-length-4
+    same-length-5
     returns
     rehome-requires
     replace-stretch-requires
-    same-length-5
     same-length-6
     same-length-7
     same-length-8
     same-length-9
-    returns-2
     same-length-10
     same-length-11
     same-length-12
+    returns-2
     same-length-13
     same-length-14
+    same-length-15
+    same-length-16
+    same-length-17
+    same-length-18
+    same-length-19
     returns-3)

@@ -10,12 +10,12 @@ use Rattle.replacing.proofs.removal.remove_star.Statement.{statement}
 use Rattle.replacing.proofs.removal.remove_star.Tie as tie
 
 abbrev start : tie.After-stretch-end → tie.Start
-start c = c .before .before .before .before .before .before .before .before .before
+start c = c .before .before .before .before .before .before .before .before .before .before .before
 
 -- the reach
 reach : (c : tie.After-stretch-end)
     → Reached (start c .args .geometry .parameters) (start c .args .geometry .growth)
-    (lent (start c .args .separators .now) (start c .args .numbers .now) (start c .args .words .now)) (start c .args .number) (start c .args .home) (c .stretch-end .result)
+    (lent (start c .args .separators .now) (start c .args .numbers .now) (start c .args .words .now) (start c .args .owners .now)) (start c .args .number) (start c .args .home) (c .stretch-end .result)
 unfolding hashOf
 reach c =
     let pre = start c .pre in
@@ -26,7 +26,7 @@ top-of-requires c κs = search needs
 
 stretch-end-requires : tie.Need-stretch-end-requires
 stretch-end-requires c κs =
-    let s = c .before .before .before .before .before .before .before .before in
+    let s = c .before .before .before .before .before .before .before .before .before .before in
     let p = s .args .geometry .parameters in
     let ready = s .pre .0 in
     let low = home-pages (multiplierOf p) p (s .args .geometry .growth) (s .args .number) (ready .homing .valid) (ready .homing .growth) in
@@ -37,7 +37,7 @@ add-stop c = omega (arith, reach c .inside, limits _ (start c .pre .0 .homing .v
 
 survey-pages-requires : tie.Need-survey-pages-requires
 survey-pages-requires c κs =
-    let end = c .before .before .before .before in
+    let end = c .before .before .before .before .before in
     let pre = start end .pre in
     let R = reach end in
     (pre .0, (pre .1 .0 .ofNumbers, (omega (arith, R .order), omega (arith, R .inside))))
@@ -54,28 +54,28 @@ same-length-3 c = search needs
 same-length-4 : tie.Need-same-length-4
 same-length-4 c = search needs
 
+same-length-5 : tie.Need-same-length-5
+same-length-5 c = search needs
+
 returns : tie.Need-returns
 returns c =
     let surveyed = c .before .before .before in
-    removal-refused _ _ _ _ _ _ (reach (surveyed .before .before .before .before .before)) _ (surveyed .survey-pages .ensures .0) (c .if1 .taken)
+    removal-refused _ _ _ _ _ _ (reach (surveyed .before .before .before .before .before .before)) _ (surveyed .survey-pages .ensures .0) (c .if1 .taken)
 
 sub-replace-stretch : tie.Need-sub-replace-stretch
-sub-replace-stretch c = omega (arith, reach (c .before .before .before .before .before .before .before .before .before .before .before .before .before) .order)
+sub-replace-stretch c = omega (arith, reach (c .before .before .before .before .before .before .before .before .before .before .before .before .before .before .before .before) .order)
 
 replace-stretch-requires : tie.Need-replace-stretch-requires
 replace-stretch-requires c κs =
-    let sound = c .before .before .before .before .before in
+    let sound = c .before .before .before .before .before .before .before in
     let surveyed = sound .before .before .before in
-    let end = surveyed .before .before .before .before .before in
+    let end = surveyed .before .before .before .before .before .before in
     let pre = start end .pre in
     let lengths = pre .1 .0 in (
       pre .0 .homing .valid,
       removal-plannable _ _ _ _ _ _ (reach end) (pre .0 .homing .valid) (pre .0 .sized) _ (surveyed .survey-pages .ensures .0) (sound .if1 .left) _ _ (lengths .ofNumbers)
-          (surveyed .survey-pages .kept .1 .1 .1 .1 .1 .0 ∙ lengths .ofNumbers) (surveyed .survey-pages .ensures .1) _ (lengths .ofWords),
+          (surveyed .survey-pages .kept .1 .1 .1 .1 .1 .1 .0 ∙ lengths .ofNumbers) (surveyed .survey-pages .ensures .1) _ _ (lengths .ofWords) (lengths .ofOwners),
     )
-
-same-length-5 : tie.Need-same-length-5
-same-length-5 c = search needs
 
 same-length-6 : tie.Need-same-length-6
 same-length-6 c = search needs
@@ -89,17 +89,26 @@ same-length-8 c = search needs
 same-length-9 : tie.Need-same-length-9
 same-length-9 c = search needs
 
+same-length-10 : tie.Need-same-length-10
+same-length-10 c = search needs
+
+same-length-11 : tie.Need-same-length-11
+same-length-11 c = search needs
+
+same-length-12 : tie.Need-same-length-12
+same-length-12 c = search needs
+
 returns-2 : tie.Need-returns-2
 returns-2 c =
-    let placed = c .before .before .before .before .before .before .before .before .before .before in
-    let sound = placed .before .before .before .before .before .before in
+    let placed = c .before .before .before .before .before .before .before .before .before .before .before .before .before .before in
+    let sound = placed .before .before .before .before .before .before .before .before in
     let surveyed = sound .before .before .before in
-    let end = surveyed .before .before .before .before .before in
+    let end = surveyed .before .before .before .before .before .before in
     let pre = start end .pre in
     let lengths = pre .1 .0 in
     let done =
     removal-done _ _ _ _ _ _ (reach end) (pre .0 .homing .valid) (pre .0 .sized) _ (surveyed .survey-pages .ensures .0) (sound .if1 .left) _ _ (lengths .ofNumbers)
-    (surveyed .survey-pages .kept .1 .1 .1 .1 .1 .0 ∙ lengths .ofNumbers) (surveyed .survey-pages .ensures .1) in
+    (surveyed .survey-pages .kept .1 .1 .1 .1 .1 .1 .0 ∙ lengths .ofNumbers) (surveyed .survey-pages .ensures .1) in
     (done .0, placed .replace-stretch .ensures .1 ∙ done .1)
 
 pub remove-star-spec : {M : Type 1} → statement M
@@ -114,12 +123,15 @@ remove-star-spec =
     same-length-2
     same-length-3
     same-length-4
+    same-length-5
     returns
     sub-replace-stretch
     replace-stretch-requires
-    same-length-5
     same-length-6
     same-length-7
     same-length-8
     same-length-9
+    same-length-10
+    same-length-11
+    same-length-12
     returns-2)

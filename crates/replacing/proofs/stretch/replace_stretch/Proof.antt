@@ -9,7 +9,7 @@ slice-aggregate-plan : tie.Need-slice-aggregate-plan
 slice-aggregate-plan c = search needs
 
 abbrev start : tie.After-planned → tie.Start
-start c = c .before .before .before .before .before .before .before .before .before
+start c = c .before .before .before .before .before .before .before .before .before .before .before
 
 plan-requires : tie.Need-plan-requires
 unfolding all
@@ -18,7 +18,7 @@ plan-requires c κs =
       start c .pre .0,
       (
         (L .some, (L .pages-most, L .pages-most)),
-        ((L .numbers-long, L .pool-long), (L .valid, (L .within, ((stars-fit _ _ _ _ _ _ L _, L .waiting-most), refl)))),
+        ((L .numbers-long, L .pool-long), (L .valid, (L .within, ((stars-fit _ _ _ _ _ _ _ L _, L .waiting-most), refl)))),
       ),
     )
 
@@ -34,7 +34,7 @@ same-length-3 c = search needs
 returns : tie.Need-returns
 returns c =
     let planned = c .before .before .before .before .before .before in
-    stretch-kept _ _ _ _ _ _ (start (planned .before) .pre .1) _ _ _ _ _ _ (planned .plan .ensures) (c .if1 .taken)
+    stretch-kept _ _ _ _ _ _ _ (start (planned .before) .pre .1) _ _ _ _ _ _ (planned .plan .ensures) (c .if1 .taken)
 
 slice-aggregate-apply : tie.Need-slice-aggregate-apply
 slice-aggregate-apply c = search needs
@@ -60,15 +60,21 @@ same-length-7 c = search needs
 same-length-8 : tie.Need-same-length-8
 same-length-8 c = search needs
 
+same-length-9 : tie.Need-same-length-9
+same-length-9 c = search needs
+
+same-length-10 : tie.Need-same-length-10
+same-length-10 c = search needs
+
 returns-2 : tie.Need-returns-2
 returns-2 c =
-    let applying = c .before .before .before .before .before .before .before .before .before .before in
-    let chosen = applying .before .before .before .before .before .before .before .before in
+    let applying = c .before .before .before .before .before .before .before .before .before .before .before .before .before .before in
+    let chosen = applying .before .before .before .before .before .before .before .before .before .before in
     let planned = chosen .before .before .before .before .before .before in
     let L = start (planned .before) .pre .1 in
-    let placed = stretch-placed _ _ _ _ _ _ L _ _ _ _ _ _ (planned .plan .ensures) (chosen .if1 .left) (L .pages-most) in
+    let placed = stretch-placed _ _ _ _ _ _ _ L _ _ _ _ _ _ (planned .plan .ensures) (chosen .if1 .left) (L .pages-most) in
     let left = applying .apply .ensures in
-    (placed .0, applied-lists _ _ _ _ _ _ _ _ _ _ _ (left .0) (left .1 .0) (left .1 .1) ∙ placed .1)
+    (placed .0, applied-lists _ _ _ _ _ _ _ _ _ _ _ _ _ (left .0) (left .1 .0) (left .1 .1 .0) (left .1 .1 .1) ∙ placed .1)
 
 pub replace-stretch-spec : {M : Type 1} → statement M
 replace-stretch-spec =
@@ -88,4 +94,6 @@ replace-stretch-spec =
     same-length-6
     same-length-7
     same-length-8
+    same-length-9
+    same-length-10
     returns-2)

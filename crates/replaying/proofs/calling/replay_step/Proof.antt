@@ -1,5 +1,6 @@
 -- `replaying::calling::replay_step` meets its contract.
 use Rattle.replaying.proofs.Stepping.{recorded}
+use native.Mathlib.Omega.{arith}
 use borrow.Author.Needs.{needs}
 use Rattle.replaying.proofs.calling.replay_step.Statement.{statement}
 use Rattle.replaying.proofs.calling.replay_step.Tie as tie
@@ -8,7 +9,7 @@ run-call-requires : tie.Need-run-call-requires
 run-call-requires c κs = search needs
 
 write-requires : tie.Need-write-requires
-write-requires c κs = search needs
+write-requires c κs = omega (arith, c .before .before .before .before .before .before .before .before .before .before .before .before .before .before .before .before .before .before .before .before .before .before .before .before .before .before .before .before .before .before .before .before .pre)
 
 same-length : tie.Need-same-length
 same-length c = search needs
@@ -28,11 +29,17 @@ same-length-5 c = search needs
 same-length-6 : tie.Need-same-length-6
 same-length-6 c = search needs
 
+same-length-7 : tie.Need-same-length-7
+same-length-7 c = search needs
+
+same-length-8 : tie.Need-same-length-8
+same-length-8 c = search needs
+
 returns : tie.Need-returns
 returns c =
     let written-at = c .before .before .before in
     recorded _ _ _ _ _ _ _
-    (written-at .before .before .before .before .before .before .before .before .before .before .before .before .before .run-call .ensures)
+    (written-at .before .before .before .before .before .before .before .before .before .before .before .before .before .before .before .before .before .run-call .ensures)
     (written-at .write .ensures)
 
 pub replay-step-spec : {M : Type 1} → statement M
@@ -47,4 +54,6 @@ replay-step-spec =
     same-length-4
     same-length-5
     same-length-6
+    same-length-7
+    same-length-8
     returns)

@@ -15,14 +15,14 @@ use Rattle.replaying.proofs.replaying.run.Statement.{statement}
 use Rattle.replaying.proofs.replaying.run.Tie as tie
 
 abbrev Inv-loop : tie.InvT-loop
-Inv-loop parameters separators₀ numbers₀ words₀ poolnumbers₀ poolwords₀ kinds stars ras decs answers₀ state₀ i₀ separators numbers words poolnumbers poolwords answers state i =
-    Ongoing parameters (lentHistory kinds stars ras decs) state₀ (lent separators₀ numbers₀ words₀) (pooled poolnumbers₀ poolwords₀) answers₀
-    i state answers (lent separators numbers words) (pooled poolnumbers poolwords)
-    × SameLengths (lent separators₀ numbers₀ words₀) (pooled poolnumbers₀ poolwords₀) answers₀
-    (lent separators numbers words) (pooled poolnumbers poolwords) answers
+Inv-loop parameters separators₀ numbers₀ words₀ owners₀ poolnumbers₀ poolwords₀ poolowners₀ kinds callers stars ras decs answers₀ state₀ i₀ separators numbers words owners poolnumbers poolwords poolowners answers state i =
+    Ongoing parameters (lentHistory kinds callers stars ras decs) state₀ (lent separators₀ numbers₀ words₀ owners₀) (pooled poolnumbers₀ poolwords₀ poolowners₀) answers₀
+    i state answers (lent separators numbers words owners) (pooled poolnumbers poolwords poolowners)
+    × SameLengths (lent separators₀ numbers₀ words₀ owners₀) (pooled poolnumbers₀ poolwords₀ poolowners₀) answers₀
+    (lent separators numbers words owners) (pooled poolnumbers poolwords poolowners) answers
 
 abbrev μ-loop : tie.MeasureT-loop
-μ-loop parameters separators₀ numbers₀ words₀ poolnumbers₀ poolwords₀ kinds stars ras decs answers₀ state₀ i₀ separators numbers words poolnumbers poolwords answers state i =
+μ-loop parameters separators₀ numbers₀ words₀ owners₀ poolnumbers₀ poolwords₀ poolowners₀ kinds callers stars ras decs answers₀ state₀ i₀ separators numbers words owners poolnumbers poolwords poolowners answers state i =
     length kinds - i
 
 loop-holds : tie.Need-loop-holds Inv-loop μ-loop
@@ -30,75 +30,82 @@ loop-holds c = (ongoing-none _ _ _ _ _ _, same-lengths _ _ _)
 
 mul-replay-step : tie.Need-mul-replay-step Inv-loop μ-loop
 mul-replay-step c =
-    let s = c .before .before .before .before .before .before .before .before .before .before .before in
+    let s = c .before .before .before .before .before .before .before .before .before .before .before .before .before .before in
     omega (arith, s .pre, s .good)
 
 shared-slice-read-replay-step : tie.Need-shared-slice-read-replay-step Inv-loop μ-loop
 shared-slice-read-replay-step c =
-    let s = c .before .before .before .before .before .before .before .before .before .before .before .before in
+    let s = c .before .before .before .before .before .before .before .before .before .before .before .before .before .before .before in
     omega (arith, s .pre)
 
-mul-t20 : tie.Need-mul-t20 Inv-loop μ-loop
-mul-t20 c =
-    let s = c .before .before .before .before .before .before .before .before .before .before .before .before in
+mul-t23 : tie.Need-mul-t23 Inv-loop μ-loop
+mul-t23 c =
+    let s = c .before .before .before .before .before .before .before .before .before .before .before .before .before .before .before in
     omega (arith, s .pre, s .good)
 
-shared-slice-copy-out-t22 : tie.Need-shared-slice-copy-out-t22 Inv-loop μ-loop
-shared-slice-copy-out-t22 c =
-    let s = c .before .before .before .before .before .before .before .before .before .before .before .before in
+shared-slice-copy-out-t25 : tie.Need-shared-slice-copy-out-t25 Inv-loop μ-loop
+shared-slice-copy-out-t25 c =
+    let s = c .before .before .before .before .before .before .before .before .before .before .before .before .before .before .before in
     omega (arith, s .pre)
 
 shared-slice-read-replay-step-2 : tie.Need-shared-slice-read-replay-step-2 Inv-loop μ-loop
 shared-slice-read-replay-step-2 c =
-    let s = c .before .before .before .before .before .before .before .before .before .before .before .before .before .before .before .before .before .before .before in
+    let s = c .before .before .before .before .before .before .before .before .before .before .before .before .before .before .before .before .before .before .before .before .before .before .before .before in
+    omega (arith, s .pre)
+
+shared-slice-read-replay-step-3 : tie.Need-shared-slice-read-replay-step-3 Inv-loop μ-loop
+shared-slice-read-replay-step-3 c =
+    let s = c .before .before .before .before .before .before .before .before .before .before .before .before .before .before .before .before .before .before .before .before .before .before .before .before .before in
     omega (arith, s .pre)
 
 mul-replay-step-2 : tie.Need-mul-replay-step-2 Inv-loop μ-loop
 mul-replay-step-2 c =
-    let s = c .before .before .before .before .before .before .before .before .before .before .before .before .before .before .before .before .before .before .before in
+    let s = c .before .before .before .before .before .before .before .before .before .before .before .before .before .before .before .before .before .before .before .before .before .before .before .before .before in
     omega (arith, s .pre, s .good)
 
-shared-slice-read-replay-step-3 : tie.Need-shared-slice-read-replay-step-3 Inv-loop μ-loop
-shared-slice-read-replay-step-3 c =
-    let s = c .before .before .before .before .before .before .before .before .before .before .before .before .before .before .before .before .before .before .before .before in
+shared-slice-read-replay-step-4 : tie.Need-shared-slice-read-replay-step-4 Inv-loop μ-loop
+shared-slice-read-replay-step-4 c =
+    let s = c .before .before .before .before .before .before .before .before .before .before .before .before .before .before .before .before .before .before .before .before .before .before .before .before .before .before in
     omega (arith, s .pre)
 
 mul-replay-step-3 : tie.Need-mul-replay-step-3 Inv-loop μ-loop
 mul-replay-step-3 c =
-    let s = c .before .before .before .before .before .before .before .before .before .before .before .before .before .before .before .before .before .before .before .before .before in
-    omega (arith, s .pre, s .good)
+    let s = c .before .before .before .before .before .before .before .before .before .before .before .before .before .before .before .before .before .before .before .before .before .before .before .before .before .before .before in
+    omega (arith, c .before .before .before .before .before .before .before .before .before .before .before .before .before .loop-test .taken, s .pre, s .good)
 
 replay-step-requires : tie.Need-replay-step-requires Inv-loop μ-loop
 replay-step-requires c κs =
-    let turn = c .before .before .before .before .before .before .before .before .before .before .before in
-    omega (arith, turn .before .before .before .before .before .before .before .before .before .before .pre, turn .loop .inv)
+    let turn = c .before .before .before .before .before .before .before .before .before .before .before .before .before .before in
+    omega (arith, turn .before .before .before .before .before .before .before .before .before .before .before .before .before .pre, turn .loop .inv)
 
 add-i : tie.Need-add-i Inv-loop μ-loop
 add-i c =
-    let turn = c .before .before .before .before .before .before .before .before .before .before .before .before .before .before .before .before .before .before .before .before .before .before .before in
-    omega (arith, turn .loop-test .taken, turn .before .before .before .before .before .before .before .before .before .before .before .good)
+    let turn = c .before .before .before .before .before .before .before .before .before .before .before .before .before .before .before .before .before .before .before .before .before .before .before .before .before .before .before .before .before .before in
+    omega (arith, turn .loop-test .taken, turn .before .before .before .before .before .before .before .before .before .before .before .before .before .before .good)
 
 loop-less : tie.Need-loop-less Inv-loop μ-loop
-loop-less c = omega (arith, c .before .before .before .before .before .before .before .before .before .before .before .before .before .before .before .before .before .before .before .before .before .before .before .loop-test .taken)
+loop-less c = omega (arith, c .before .before .before .before .before .before .before .before .before .before .before .before .before .before .before .before .before .before .before .before .before .before .before .before .before .before .before .before .before .before .loop-test .taken)
 
 loop-again : tie.Need-loop-again Inv-loop μ-loop
 loop-again c =
-    let called = c .before .before .before .before .before .before .before .before .before .before .before .before in
-    let copied = called .before .before .before .before .before .before .before .before .before in
+    let called = c .before .before .before .before .before .before .before .before .before .before .before .before .before .before .before .before in
+    let copied = called .before .before .before .before .before .before .before .before .before .before .before .before in
     let turn = copied .before .before .before in
-    let decs = now (turn .before .before .before .before .before .before .before .before .before .before .args .decs) in
+    let decs = now (turn .before .before .before .before .before .before .before .before .before .before .before .before .before .args .decs) in
     let i = turn .loop .i in
     let t = turn .loop .inv in
     let k = called .replay-step .kept .1 .1 in
-    let back : toZ w32 (ofZ w32 (getD decs i (pos 0))) ≡ getD decs i (pos 0) = toZ-ofZ (record { sfits = copied .t22 .given }) in (
+    let back : toZ w32 (ofZ w32 (getD decs i (pos 0))) ≡ getD decs i (pos 0) = toZ-ofZ (record { sfits = copied .t25 .given }) in (
       ongoing-more _ _ _ _ _ _ _ _ _ _ _ (t .0) (copied .before .before .loop-test .taken) _ _ _ _ (rw back at (called .replay-step .ensures)),
       record {
         ofSeparators = k .0 ∙ t .1 .ofSeparators;
         ofNumbers = k .1 .0 ∙ t .1 .ofNumbers;
         ofWords = k .1 .1 .0 ∙ t .1 .ofWords;
-        ofPoolnumbers = k .1 .1 .1 .0 ∙ t .1 .ofPoolnumbers;
-        ofPoolwords = k .1 .1 .1 .1 .0 ∙ t .1 .ofPoolwords;
-        ofAnswers = k .1 .1 .1 .1 .1 .1 .1 .1 .0 ∙ t .1 .ofAnswers;
+        ofOwners = k .1 .1 .1 .0 ∙ t .1 .ofOwners;
+        ofPoolnumbers = k .1 .1 .1 .1 .0 ∙ t .1 .ofPoolnumbers;
+        ofPoolwords = k .1 .1 .1 .1 .1 .0 ∙ t .1 .ofPoolwords;
+        ofPoolowners = k .1 .1 .1 .1 .1 .1 .0 ∙ t .1 .ofPoolowners;
+        ofAnswers = k .1 .1 .1 .1 .1 .1 .1 .1 .1 .1 .1 .0 ∙ t .1 .ofAnswers;
       },
     )
 
@@ -112,16 +119,22 @@ same-length-3 : tie.Need-same-length-3 Inv-loop μ-loop
 same-length-3 c = c .before .loop .inv .1 .ofWords
 
 same-length-4 : tie.Need-same-length-4 Inv-loop μ-loop
-same-length-4 c = c .before .loop .inv .1 .ofPoolnumbers
+same-length-4 c = c .before .loop .inv .1 .ofOwners
 
 same-length-5 : tie.Need-same-length-5 Inv-loop μ-loop
-same-length-5 c = c .before .loop .inv .1 .ofPoolwords
+same-length-5 c = c .before .loop .inv .1 .ofPoolnumbers
 
 same-length-6 : tie.Need-same-length-6 Inv-loop μ-loop
-same-length-6 c = c .before .loop .inv .1 .ofAnswers
+same-length-6 c = c .before .loop .inv .1 .ofPoolwords
+
+same-length-7 : tie.Need-same-length-7 Inv-loop μ-loop
+same-length-7 c = c .before .loop .inv .1 .ofPoolowners
+
+same-length-8 : tie.Need-same-length-8 Inv-loop μ-loop
+same-length-8 c = c .before .loop .inv .1 .ofAnswers
 
 returns : tie.Need-returns Inv-loop μ-loop
-returns c = ongoing-all _ _ _ _ _ _ _ _ _ _ _ (c .before .loop .inv .0) (c .loop-test .left) (c .before .before .before .before .before .before .before .before .before .before .before .pre)
+returns c = ongoing-all _ _ _ _ _ _ _ _ _ _ _ (c .before .loop .inv .0) (c .loop-test .left) (c .before .before .before .before .before .before .before .before .before .before .before .before .before .before .pre)
 
 pub run-spec : {M : Type 1} → statement M
 run-spec =
@@ -132,11 +145,12 @@ run-spec =
     loop-holds
     mul-replay-step
     shared-slice-read-replay-step
-    mul-t20
-    shared-slice-copy-out-t22
+    mul-t23
+    shared-slice-copy-out-t25
     shared-slice-read-replay-step-2
-    mul-replay-step-2
     shared-slice-read-replay-step-3
+    mul-replay-step-2
+    shared-slice-read-replay-step-4
     mul-replay-step-3
     replay-step-requires
     add-i
@@ -148,4 +162,6 @@ run-spec =
     same-length-4
     same-length-5
     same-length-6
+    same-length-7
+    same-length-8
     returns)

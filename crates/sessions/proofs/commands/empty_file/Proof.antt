@@ -17,13 +17,16 @@ slice-aggregate-make-2 c = search needs
 slice-aggregate-make-3 : tie.Need-slice-aggregate-make-3
 slice-aggregate-make-3 c = search needs
 
+slice-aggregate-make-4 : tie.Need-slice-aggregate-make-4
+slice-aggregate-make-4 c = search needs
+
 make-requires : tie.Need-make-requires
 make-requires c κs = search needs
 
 returns : tie.Need-returns
 unfolding stateOf newFile makeOf fileFits starline validParameters validMultiplier within
 returns c =
-    let made = rw (c .before .before .before .before .before .before .before .before .parameters .ensures) at (c .before .before .before .before .make .ensures) in
+    let made = rw (c .before .before .before .before .before .before .before .before .before .before .parameters .ensures) at (c .before .before .before .before .before .make .ensures) in
     λ i. record { growth = made .1 i; file = made .0 .files i }
 
 pub empty-file-spec : {M : Type 1} → statement M
@@ -34,5 +37,6 @@ empty-file-spec =
     slice-aggregate-make
     slice-aggregate-make-2
     slice-aggregate-make-3
+    slice-aggregate-make-4
     make-requires
     returns)

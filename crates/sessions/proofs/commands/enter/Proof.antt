@@ -24,6 +24,12 @@ slice-aggregate-enter-4 c = search needs
 slice-aggregate-enter-5 : tie.Need-slice-aggregate-enter-5
 slice-aggregate-enter-5 c = search needs
 
+slice-aggregate-enter-6 : tie.Need-slice-aggregate-enter-6
+slice-aggregate-enter-6 c = search needs
+
+slice-aggregate-enter-7 : tie.Need-slice-aggregate-enter-7
+slice-aggregate-enter-7 c = search needs
+
 enter-requires : tie.Need-enter-requires
 enter-requires c κs = search needs
 
@@ -36,11 +42,11 @@ placed-reply-requires c κs = search needs
 returns : tie.Need-returns
 unfolding stateOf pool called replyWith
 returns c =
-    let called = c .before .before .before .before .before .before .before in
-    let made = called .before .before .before .before .before .before in
+    let called = c .before .before .before .before .before .before .before .before .before in
+    let made = called .before .before .before .before .before .before .before .before in
     follows _ _ _ (placed (called .enter .result)) _
     (rw (made .parameters .ensures) at (called .enter .ensures))
-    (sym (enter-keeps _ _ _ _ _ _))
+    (sym (enter-keeps _ _ _ _ _ _ _))
     (c .placed-reply .ensures ∙ ap placedReply (c .before .placed-answer .ensures))
 
 pub enter-spec : {M : Type 1} → statement M
@@ -53,6 +59,8 @@ enter-spec =
     slice-aggregate-enter-3
     slice-aggregate-enter-4
     slice-aggregate-enter-5
+    slice-aggregate-enter-6
+    slice-aggregate-enter-7
     enter-requires
     placed-answer-requires
     placed-reply-requires

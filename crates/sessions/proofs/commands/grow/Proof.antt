@@ -24,6 +24,12 @@ slice-aggregate-grow-4 c = search needs
 slice-aggregate-grow-5 : tie.Need-slice-aggregate-grow-5
 slice-aggregate-grow-5 c = search needs
 
+slice-aggregate-grow-6 : tie.Need-slice-aggregate-grow-6
+slice-aggregate-grow-6 c = search needs
+
+slice-aggregate-grow-7 : tie.Need-slice-aggregate-grow-7
+slice-aggregate-grow-7 c = search needs
+
 grow-requires : tie.Need-grow-requires
 grow-requires c κs = search needs
 
@@ -36,8 +42,8 @@ placed-reply-requires c κs = search needs
 returns : tie.Need-returns
 unfolding stateOf pool called replyWith
 returns c =
-    let called = c .before .before .before .before .before .before .before .before in
-    let made = called .before .before .before .before .before .before in
+    let called = c .before .before .before .before .before .before .before .before .before .before in
+    let made = called .before .before .before .before .before .before .before .before in
     let grown = rw (made .parameters .ensures) at (called .grow .ensures) in
     follows _ _ _ (placed (called .grow .result .answer)) _ (grown .0) (grown .1)
     (c .placed-reply .ensures ∙ ap placedReply (c .before .placed-answer .ensures))
@@ -52,6 +58,8 @@ grow-spec =
     slice-aggregate-grow-3
     slice-aggregate-grow-4
     slice-aggregate-grow-5
+    slice-aggregate-grow-6
+    slice-aggregate-grow-7
     grow-requires
     placed-answer-requires
     placed-reply-requires

@@ -16,6 +16,9 @@ slice-aggregate-look-up-2 c = search needs
 slice-aggregate-look-up-3 : tie.Need-slice-aggregate-look-up-3
 slice-aggregate-look-up-3 c = search needs
 
+slice-aggregate-look-up-4 : tie.Need-slice-aggregate-look-up-4
+slice-aggregate-look-up-4 c = search needs
+
 look-up-requires : tie.Need-look-up-requires
 look-up-requires c κs = search needs
 
@@ -29,7 +32,7 @@ returns : tie.Need-returns
 unfolding stateOf called replyWith replyOf
 returns c =
     let called = c .before .before in
-    let looked = rw (called .before .before .before .before .parameters .ensures) at (called .look-up .ensures) in
+    let looked = rw (called .before .before .before .before .before .parameters .ensures) at (called .look-up .ensures) in
     c .found-reply .ensures ∙ ap foundReply (c .before .sought-answer .ensures ∙ looked)
 
 pub look-up-spec : {M : Type 1} → statement M
@@ -40,6 +43,7 @@ look-up-spec =
     slice-aggregate-look-up
     slice-aggregate-look-up-2
     slice-aggregate-look-up-3
+    slice-aggregate-look-up-4
     look-up-requires
     sought-answer-requires
     found-reply-requires

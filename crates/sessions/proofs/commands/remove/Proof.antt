@@ -24,6 +24,12 @@ slice-aggregate-remove-4 c = search needs
 slice-aggregate-remove-5 : tie.Need-slice-aggregate-remove-5
 slice-aggregate-remove-5 c = search needs
 
+slice-aggregate-remove-6 : tie.Need-slice-aggregate-remove-6
+slice-aggregate-remove-6 c = search needs
+
+slice-aggregate-remove-7 : tie.Need-slice-aggregate-remove-7
+slice-aggregate-remove-7 c = search needs
+
 remove-requires : tie.Need-remove-requires
 remove-requires c κs = search needs
 
@@ -36,11 +42,11 @@ placed-reply-requires c κs = search needs
 returns : tie.Need-returns
 unfolding stateOf pool called replyWith
 returns c =
-    let called = c .before .before .before .before .before .before .before in
-    let made = called .before .before .before .before .before .before in
+    let called = c .before .before .before .before .before .before .before .before .before in
+    let made = called .before .before .before .before .before .before .before .before in
     follows _ _ _ (placed (called .remove .result)) _
     (rw (made .parameters .ensures) at (called .remove .ensures))
-    (sym (remove-keeps _ _ _ _ _))
+    (sym (remove-keeps _ _ _ _ _ _))
     (c .placed-reply .ensures ∙ ap placedReply (c .before .placed-answer .ensures))
 
 pub remove-spec : {M : Type 1} → statement M
@@ -53,6 +59,8 @@ remove-spec =
     slice-aggregate-remove-3
     slice-aggregate-remove-4
     slice-aggregate-remove-5
+    slice-aggregate-remove-6
+    slice-aggregate-remove-7
     remove-requires
     placed-answer-requires
     placed-reply-requires

@@ -24,7 +24,7 @@ use Rattle.starfile.proofs.counting.due.Statement.{statement}
 use Rattle.starfile.proofs.counting.due.Tie as tie
 
 abbrev fileOf : tie.Start → File
-fileOf s = lent (now (s .args .separators)) (now (s .args .numbers)) (now (s .args .words))
+fileOf s = lent (now (s .args .separators)) (now (s .args .numbers)) (now (s .args .words)) (now (s .args .owners))
 
 file-fits-requires : tie.Need-file-fits-requires
 file-fits-requires c κs = search needs
@@ -44,7 +44,7 @@ enum-told c = search needs
 
 -- what is known past the guard
 abbrev start : tie.After-enum-told → tie.Start
-start c = c .before .before .before .before .before .before .before
+start c = c .before .before .before .before .before .before .before .before
 
 none : (c : tie.After-enum-told) → unlent (start c .args .parameters) (start c .args .growth) (fileFits (start c .args .parameters) (fileOf (start c))) ≡ 0
 unfolding fileFits

@@ -16,7 +16,7 @@ use Rattle.starfile.proofs.emptying.make.Statement.{statement}
 use Rattle.starfile.proofs.emptying.make.Tie as tie
 
 abbrev fileOf : tie.Start → File
-fileOf s = lent (now (s .args .separators)) (now (s .args .numbers)) (now (s .args .words))
+fileOf s = lent (now (s .args .separators)) (now (s .args .numbers)) (now (s .args .words)) (now (s .args .owners))
 
 file-fits-requires : tie.Need-file-fits-requires
 file-fits-requires c κs = search needs
@@ -30,7 +30,7 @@ enum-known-refusal c = search needs
 returns : tie.Need-returns
 unfolding placed fileFits
 returns c =
-    let s = c .before .before .before .before .before .before .before .before in
+    let s = c .before .before .before .before .before .before .before .before .before in
     make-refused (s .args .parameters) (fileOf s) unpooled _
     (refusal-is _ _ (c .before .before .before .guard .ensures) (c .before .before .before .before .file-fits .ensures) (c .before .refusal .given .1))
 
@@ -39,7 +39,7 @@ enum-told c = search needs
 
 -- what is known past the guard
 abbrev begun : tie.After-enum-told → tie.Start
-begun c = c .before .before .before .before .before .before .before
+begun c = c .before .before .before .before .before .before .before .before
 
 none : (c : tie.After-enum-told) → unlent (begun c .args .parameters) ungrown (fileFits (begun c .args .parameters) (fileOf (begun c))) ≡ 0
 unfolding fileFits
@@ -66,17 +66,21 @@ same-length-2 c = search needs
 same-length-3 : tie.Need-same-length-3
 same-length-3 c = search needs
 
+same-length-4 : tie.Need-same-length-4
+same-length-4 c = search needs
+
 returns-2 : tie.Need-returns-2
 unfolding placed
 returns-2 c =
-    let d = c .before .before .before .before .before .before .before .before .before .before .before .before in
+    let d = c .before .before .before .before .before .before .before .before .before .before .before .before .before .before .before in
     let s = begun d in
-    make-empty (s .args .parameters) (fileOf s) unpooled _ _ _
+    make-empty (s .args .parameters) (fileOf s) unpooled _ _ _ _
     (lent-well d .homing .valid)
     (unlent-facts _ _ _ (none d) .1)
-    (c .before .before .before .before .before .before .before .before .before .fill .ensures ∙ ap (replicate {A = ℕ} (length (now (s .args .separators)))) (c .before .before .before .before .before .before .before .before .before .before .top-of .ensures))
-    (c .before .before .before .before .clear .ensures .0)
-    (c .before .before .before .before .clear .ensures .1)
+    (c .before .before .before .before .before .before .before .before .before .before .before .before .fill .ensures ∙ ap (replicate {A = ℕ} (length (now (s .args .separators)))) (c .before .before .before .before .before .before .before .before .before .before .before .before .before .top-of .ensures))
+    (c .before .before .before .before .before .before .clear .ensures .0)
+    (c .before .before .before .before .before .before .clear .ensures .1 .0)
+    (c .before .before .before .before .before .before .clear .ensures .1 .1)
 
 pub make-spec : {M : Type 1} → statement M
 make-spec =
@@ -93,4 +97,5 @@ make-spec =
     same-length
     same-length-2
     same-length-3
+    same-length-4
     returns-2)

@@ -17,10 +17,10 @@ use Rattle.starfile.proofs.growth.regrow.Statement.{statement}
 use Rattle.starfile.proofs.growth.regrow.Tie as tie
 
 abbrev fileOf : tie.Start → File
-fileOf s = lent (now (s .args .separators)) (now (s .args .numbers)) (now (s .args .words))
+fileOf s = lent (now (s .args .separators)) (now (s .args .numbers)) (now (s .args .words)) (now (s .args .owners))
 
 abbrev poolOf : tie.Start → Pool
-poolOf s = pooled (now (s .args .poolnumbers)) (now (s .args .poolwords))
+poolOf s = pooled (now (s .args .poolnumbers)) (now (s .args .poolwords)) (now (s .args .poolowners))
 
 all-fit-requires : tie.Need-all-fit-requires
 all-fit-requires c κs = search needs
@@ -36,25 +36,25 @@ unmoved-requires c κs = search needs
 
 returns : tie.Need-returns
 unfolding placed fileFits poolFits
-returns c = rw (regrow-guarded (c .before .before .before .before .before .before .before .before .before .before .before .args .back) _ _ _ _, c .unmoved .ensures) (made-by _ _ _ _ _ (turned-away _ _ _ _ _ _ _ (refusal-is _ _ (c .before .before .before .before .guard .ensures) (c .before .before .before .before .before .all-fit .ensures) (c .before .before .refusal .given .1))))
+returns c = rw (regrow-guarded (c .before .before .before .before .before .before .before .before .before .before .before .before .before .args .back) _ _ _ _, c .unmoved .ensures) (made-by _ _ _ _ _ (turned-away _ _ _ _ _ _ _ (refusal-is _ _ (c .before .before .before .before .guard .ensures) (c .before .before .before .before .before .all-fit .ensures) (c .before .before .refusal .given .1))))
 
 enum-told : tie.Need-enum-told
 enum-told c = search needs
 
 -- what is known past the guard
 abbrev begun : tie.After-enum-told → tie.Start
-begun c = c .before .before .before .before .before .before .before .before .before
+begun c = c .before .before .before .before .before .before .before .before .before .before .before
 
 none : (c : tie.After-enum-told) → unlent (begun c .args .parameters) (begun c .args .growth) (fileFits (begun c .args .parameters) (fileOf (begun c)) && poolFits (begun c .args .parameters) (poolOf (begun c))) ≡ 0
 unfolding fileFits poolFits
 none c = none-is _ _ (c .before .before .guard .ensures) (c .before .before .before .all-fit .ensures) (c .enum-told .given .1)
 
-lent-well : (c : tie.After-enum-told) → Admitted (begun c .args .parameters) (begun c .args .growth) (fileOf (begun c)) × Pooled (begun c .args .parameters) (poolOf (begun c) .numbers) (poolOf (begun c) .words)
+lent-well : (c : tie.After-enum-told) → Admitted (begun c .args .parameters) (begun c .args .growth) (fileOf (begun c)) × Pooled (begun c .args .parameters) (poolOf (begun c) .numbers) (poolOf (begun c) .words) (poolOf (begun c) .owners)
 lent-well c = admitted-pool _ _ _ (poolOf (begun c)) (none c)
 
 regrow-file-requires : tie.Need-regrow-file-requires
 regrow-file-requires c κs =
-    let d = c .before .before .before .before .before in
+    let d = c .before .before .before .before .before .before .before in
     lent-well d
 
 clear-requires : tie.Need-clear-requires
@@ -75,15 +75,22 @@ same-length-4 c = search needs
 same-length-5 : tie.Need-same-length-5
 same-length-5 c = search needs
 
+same-length-6 : tie.Need-same-length-6
+same-length-6 c = search needs
+
+same-length-7 : tie.Need-same-length-7
+same-length-7 c = search needs
+
 returns-2 : tie.Need-returns-2
 returns-2 c =
-    let d = c .before .before .before .before .before .before .before .before .before .before .before .before .before .before .before .before .before .before .before .before .before .before .before in
+    let d = c .before .before .before .before .before .before .before .before .before .before .before .before .before .before .before .before .before .before .before .before .before .before .before .before .before .before .before .before .before .before .before .before in
     let s = begun d in
-    let done = c .before .before .before .before .before .before .before .before .before .before .before .before .before .before .before .before .before .regrow-file in
+    let done = c .before .before .before .before .before .before .before .before .before .before .before .before .before .before .before .before .before .before .before .before .before .before .before .before .regrow-file in
     rw (regrow-guarded (s .args .back) _ _ _ _, none d) (
       leaves-cleared _ _ _ (poolOf s) _ (done .ensures .0)
           (regrown-pool (s .args .back) (s .args .parameters) (s .args .growth) (fileOf s) (cleared (poolOf s)))
-          (cleared-is _ _ _ _ _ _ (c .before .before .before .before .clear .ensures .0) (c .before .before .before .before .clear .ensures .1) (done .kept .1 .1 .1 .1 .1 .1 .0) (done .kept .1 .1 .1 .1 .1 .1 .1 .0)),
+          (cleared-is _ _ _ _ _ _ _ _ _ (c .before .before .before .before .before .before .clear .ensures .0) (c .before .before .before .before .before .before .clear .ensures .1 .0) (c .before .before .before .before .before .before .clear .ensures .1 .1)
+          (done .kept .1 .1 .1 .1 .1 .1 .1 .0) (done .kept .1 .1 .1 .1 .1 .1 .1 .1 .0) (done .kept .1 .1 .1 .1 .1 .1 .1 .1 .1 .0)),
       done .ensures .1,
     )
 
@@ -104,4 +111,6 @@ regrow-spec =
     same-length-3
     same-length-4
     same-length-5
+    same-length-6
+    same-length-7
     returns-2)

@@ -12,13 +12,13 @@ use Rattle.starfile.proofs.growth.regrow_file.Statement.{statement}
 use Rattle.starfile.proofs.growth.regrow_file.Tie as tie
 
 abbrev fileOf : tie.Start → File
-fileOf s = lent (now (s .args .separators)) (now (s .args .numbers)) (now (s .args .words))
+fileOf s = lent (now (s .args .separators)) (now (s .args .numbers)) (now (s .args .words)) (now (s .args .owners))
 
 abbrev poolOf : tie.Start → Pool
-poolOf s = pooled (now (s .args .poolnumbers)) (now (s .args .poolwords))
+poolOf s = pooled (now (s .args .poolnumbers)) (now (s .args .poolwords)) (now (s .args .poolowners))
 
 abbrev start : tie.After-step2 → tie.Start
-start c = c .before .before .before .before .before .before .before .before
+start c = c .before .before .before .before .before .before .before .before .before .before
 
 step-of-requires : tie.Need-step-of-requires
 step-of-requires c κs = search needs
@@ -37,19 +37,19 @@ first-multipliers-requires c κs = tabled (start (c .before) .pre .0)
 
 regrow-requires : tie.Need-regrow-requires
 regrow-requires c κs =
-    let stepped = c .before .before .before .before .before .before .before .before in
+    let stepped = c .before .before .before .before .before .before .before .before .before .before in
     let pre = start stepped .pre in
     let e = sym (stepped .before .before .step-of .ensures) ∙ stepped .step2 .given .1 in
-    (prepared (c .before .before .before .before .before .before .first-multipliers .ensures) (pre .0), (pre .1, step-movable _ _ _ e (pre .0 .homing .growth)))
+    (prepared (c .before .before .before .before .before .before .before .before .first-multipliers .ensures) (pre .0), (pre .1, step-movable _ _ _ e (pre .0 .homing .growth)))
 
 grown-by-requires : tie.Need-grown-by-requires
 grown-by-requires c κs =
-    let s = start (c .before .before .before .before .before .before .before .before .before .before .before .before .before .before .before .before .before .before .before) in
-    rw (c .before .before .before .before .before .before .before .before .before .before .regrow .ensures .0) (growth-small (s .args .parameters) (s .args .growth) (fileOf s) (s .pre .0 .homing .valid) (s .pre .0 .homing .growth) _)
+    let s = start (c .before .before .before .before .before .before .before .before .before .before .before .before .before .before .before .before .before .before .before .before .before .before .before .before .before) in
+    rw (c .before .before .before .before .before .before .before .before .before .before .before .before .before .before .regrow .ensures .0) (growth-small (s .args .parameters) (s .args .growth) (fileOf s) (s .pre .0 .homing .valid) (s .pre .0 .homing .growth) _)
 
 returns : tie.Need-returns
 returns c =
-    let s = c .before .before .before .before .before .before .before .before .before .before in
+    let s = c .before .before .before .before .before .before .before .before .before .before .before .before in
     regrow-refused _ _ _ (fileOf s) (cleared (poolOf s)) (sym (c .before .before .before .before .step-of .ensures) ∙ c .before .before .step .given .1) (c .unmoved .ensures)
 
 same-length : tie.Need-same-length
@@ -67,11 +67,17 @@ same-length-4 c = search needs
 same-length-5 : tie.Need-same-length-5
 same-length-5 c = search needs
 
+same-length-6 : tie.Need-same-length-6
+same-length-6 c = search needs
+
+same-length-7 : tie.Need-same-length-7
+same-length-7 c = search needs
+
 returns-2 : tie.Need-returns-2
 returns-2 c =
-    let stepped = c .before .before .before .before .before .before .before .before .before .before .before .before .before .before .before .before .before .before .before .before in
+    let stepped = c .before .before .before .before .before .before .before .before .before .before .before .before .before .before .before .before .before .before .before .before .before .before .before .before .before .before in
     let s = start stepped in
-    let done = c .before .before .before .before .before .before .before .before .before .before .before .regrow .ensures in
+    let done = c .before .before .before .before .before .before .before .before .before .before .before .before .before .before .before .regrow .ensures in
     let e = sym (stepped .before .before .step-of .ensures) ∙ stepped .step2 .given .1 in
     regrow-stored _ _ _ e (fileOf s) (cleared (poolOf s)) (done .0) (done .1) (c .grown-by .ensures)
 
@@ -92,4 +98,6 @@ regrow-file-spec =
     same-length-3
     same-length-4
     same-length-5
+    same-length-6
+    same-length-7
     returns-2)

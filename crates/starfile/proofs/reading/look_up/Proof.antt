@@ -18,7 +18,7 @@ use Rattle.starfile.proofs.reading.look_up.Statement.{statement}
 use Rattle.starfile.proofs.reading.look_up.Tie as tie
 
 abbrev fileOf : tie.Start → File
-fileOf s = lent (now (s .args .separators)) (now (s .args .numbers)) (now (s .args .words))
+fileOf s = lent (now (s .args .separators)) (now (s .args .numbers)) (now (s .args .words)) (now (s .args .owners))
 
 file-fits-requires : tie.Need-file-fits-requires
 file-fits-requires c κs = search needs
@@ -38,7 +38,7 @@ enum-told c = search needs
 
 -- what is known past the guard
 abbrev begun : tie.After-enum-told → tie.Start
-begun c = c .before .before .before .before .before .before .before
+begun c = c .before .before .before .before .before .before .before .before
 
 none : (c : tie.After-enum-told) → unlent (begun c .args .parameters) (begun c .args .growth) (fileFits (begun c .args .parameters) (fileOf (begun c))) ≡ 0
 unfolding fileFits

@@ -17,10 +17,10 @@ use Rattle.starfile.proofs.removal.remove.Statement.{statement}
 use Rattle.starfile.proofs.removal.remove.Tie as tie
 
 abbrev fileOf : tie.Start → File
-fileOf s = lent (now (s .args .separators)) (now (s .args .numbers)) (now (s .args .words))
+fileOf s = lent (now (s .args .separators)) (now (s .args .numbers)) (now (s .args .words)) (now (s .args .owners))
 
 abbrev poolOf : tie.Start → Pool
-poolOf s = pooled (now (s .args .poolnumbers)) (now (s .args .poolwords))
+poolOf s = pooled (now (s .args .poolnumbers)) (now (s .args .poolwords)) (now (s .args .poolowners))
 
 all-fit-requires : tie.Need-all-fit-requires
 all-fit-requires c κs = search needs
@@ -40,13 +40,13 @@ enum-told c = search needs
 
 -- what is known past the guard
 abbrev begun : tie.After-enum-told → tie.Start
-begun c = c .before .before .before .before .before .before .before .before .before
+begun c = c .before .before .before .before .before .before .before .before .before .before .before
 
 none : (c : tie.After-enum-told) → unlent (begun c .args .parameters) (begun c .args .growth) (fileFits (begun c .args .parameters) (fileOf (begun c)) && poolFits (begun c .args .parameters) (poolOf (begun c))) ≡ 0
 unfolding fileFits poolFits
 none c = none-is _ _ (c .before .before .guard .ensures) (c .before .before .before .all-fit .ensures) (c .enum-told .given .1)
 
-lent-well : (c : tie.After-enum-told) → Admitted (begun c .args .parameters) (begun c .args .growth) (fileOf (begun c)) × Pooled (begun c .args .parameters) (poolOf (begun c) .numbers) (poolOf (begun c) .words)
+lent-well : (c : tie.After-enum-told) → Admitted (begun c .args .parameters) (begun c .args .growth) (fileOf (begun c)) × Pooled (begun c .args .parameters) (poolOf (begun c) .numbers) (poolOf (begun c) .words) (poolOf (begun c) .owners)
 lent-well c = admitted-pool _ _ _ (poolOf (begun c)) (none c)
 
 number-valid-requires : tie.Need-number-valid-requires
@@ -55,7 +55,7 @@ number-valid-requires c κs = search needs
 returns-2 : tie.Need-returns-2
 unfolding removeOf placed refusedBy
 returns-2 c =
-    leaves _ _ (c .before .before .before .before .before .before .before .before .before .before .before .args .growth) _ _
+    leaves _ _ (c .before .before .before .before .before .before .before .before .before .before .before .before .before .args .growth) _ _
     (rw (
       none (c .before .before),
       failed _ _ (c .before .number-valid .ensures) (c .if1 .taken),
@@ -69,7 +69,7 @@ numbered c = passed _ _ (c .before .number-valid .ensures) (c .if1 .left)
 
 remove-held-requires : tie.Need-remove-held-requires
 remove-held-requires c κs =
-    let d = c .before .before .before .before .before in
+    let d = c .before .before .before .before .before .before .before in
     (lent-well (told d) .0, (lent-well (told d) .1, numbered d))
 
 clear-requires : tie.Need-clear-requires
@@ -90,16 +90,23 @@ same-length-4 c = search needs
 same-length-5 : tie.Need-same-length-5
 same-length-5 c = search needs
 
+same-length-6 : tie.Need-same-length-6
+same-length-6 c = search needs
+
+same-length-7 : tie.Need-same-length-7
+same-length-7 c = search needs
+
 returns-3 : tie.Need-returns-3
 unfolding removeOf
 returns-3 c =
-    let d = c .before .before .before .before .before .before .before .before .before .before .before .before .before .before .before .before .before .before .before .before .before .before .before in
+    let d = c .before .before .before .before .before .before .before .before .before .before .before .before .before .before .before .before .before .before .before .before .before .before .before .before .before .before .before .before .before .before .before .before in
     let s = begun (told d) in
-    let done = c .before .before .before .before .before .before .before .before .before .before .before .before .before .before .before .before .before .remove-held in
+    let done = c .before .before .before .before .before .before .before .before .before .before .before .before .before .before .before .before .before .before .before .before .before .before .before .before .remove-held in
     rw (none (told d), numbered d)
     (leaves-cleared _ _ _ (poolOf s) _ (done .ensures)
-    (remove-pool (s .args .parameters) (s .args .growth) (fileOf s) (cleared (poolOf s)) _ _)
-    (cleared-is _ _ _ _ _ _ (c .before .before .before .before .clear .ensures .0) (c .before .before .before .before .clear .ensures .1) (done .kept .1 .1 .1 .1 .1 .0) (done .kept .1 .1 .1 .1 .1 .1 .0)))
+    (remove-pool (s .args .parameters) (s .args .growth) (fileOf s) (cleared (poolOf s)) _ _ _)
+    (cleared-is _ _ _ _ _ _ _ _ _ (c .before .before .before .before .before .before .clear .ensures .0) (c .before .before .before .before .before .before .clear .ensures .1 .0) (c .before .before .before .before .before .before .clear .ensures .1 .1)
+    (done .kept .1 .1 .1 .1 .1 .1 .0) (done .kept .1 .1 .1 .1 .1 .1 .1 .0) (done .kept .1 .1 .1 .1 .1 .1 .1 .1 .0)))
 
 pub remove-spec : {M : Type 1} → statement M
 remove-spec =
@@ -119,4 +126,6 @@ remove-spec =
     same-length-3
     same-length-4
     same-length-5
+    same-length-6
+    same-length-7
     returns-3)
