@@ -8,9 +8,6 @@ ghost use Rattle.calls.specs.Answers.{Leaves, Stores, cleared, placed};
 ghost use Rattle.calls.specs.Calls.{enterOf, enterOn, named};
 ghost use Rattle.starfile.specs.Outcomes.{EntrySmall, entryPlaced};
 ghost use Rattle.calls.specs.Lent.{Admitted, poolBefore, poolAfter};
-use crate::lending::all_fit;
-use crate::lending::guard;
-use crate::naming::find;
 use calls::answers::Admission;
 use calls::answers::Placed;
 use calls::answers::Refusal;
@@ -18,6 +15,9 @@ use entering::Entered;
 use hashing::Geometry;
 use hashing::Growth;
 use hashing::Parameters;
+use lookup::all_fit;
+use lookup::find;
+use lookup::guard;
 use pages::position::Position;
 
 // The answer of an accepted entry is the page where the star now stands, its caller's. Entering a held star with its own position changes nothing.

@@ -8,8 +8,6 @@ ghost use Rattle.calls.specs.Answers.{Leaves, Stores, cleared, placed};
 ghost use Rattle.calls.specs.Calls.{growOf, shrinkOf};
 ghost use Rattle.starfile.specs.Outcomes.{ReplacedSmall, replacedGrown, unmovedBy, stepOf, regrowOn, regrowOf};
 ghost use Rattle.calls.specs.Lent.{Admitted, poolBefore, poolAfter};
-use crate::lending::all_fit;
-use crate::lending::guard;
 use calls::answers::Admission;
 use calls::answers::Grown;
 use calls::answers::Placed;
@@ -17,6 +15,8 @@ use calls::answers::Refusal;
 use hashing::Geometry;
 use hashing::Growth;
 use hashing::Parameters;
+use lookup::all_fit;
+use lookup::guard;
 use replacing::Replaced;
 
 // The answer of an accepted growth is the new page, with the new growth state.

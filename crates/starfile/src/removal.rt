@@ -9,16 +9,16 @@ ghost use Rattle.calls.specs.Answers.{Leaves, Stores, cleared, placed};
 ghost use Rattle.calls.specs.Calls.{removeOf, removeOn, named};
 ghost use Rattle.starfile.specs.Outcomes.{ReplacedSmall, replacedPlaced};
 ghost use Rattle.calls.specs.Lent.{Admitted, poolBefore, poolAfter};
-use crate::lending::all_fit;
-use crate::lending::guard;
-use crate::naming::find;
-use crate::naming::may_alter;
 use calls::answers::Admission;
 use calls::answers::Placed;
 use calls::answers::Refusal;
 use hashing::Geometry;
 use hashing::Growth;
 use hashing::Parameters;
+use lookup::all_fit;
+use lookup::find;
+use lookup::guard;
+use lookup::may_alter;
 use replacing::Replaced;
 
 // The answer of an accepted removal is the page where the star stood.

@@ -10,7 +10,8 @@ use Rattle.entering.specs.Entry.{newStar}
 use Rattle.calls.specs.Answers.{Pool, placed, refusedBy, pooled, cleared}
 use Rattle.calls.specs.Calls.{enterOn, enteredAgain, named, placeFor}
 use Rattle.starfile.proofs.Outcomes.{entry-small, entered-is}
-use Rattle.starfile.proofs.Pools.{prepared, tabled, unheld}
+use Rattle.lookup.proofs.Admitting.{prepared, tabled}
+use Rattle.starfile.proofs.Pools.{unheld}
 use borrow.Author.Needs.{needs}
 use Rattle.starfile.proofs.entry.enter_star.Statement.{statement}
 use Rattle.starfile.proofs.entry.enter_star.Tie as tie

@@ -8,9 +8,9 @@ use Rattle.placement.specs.File.{File}
 use Rattle.placement.specs.Hash.{lent}
 use Rattle.calls.specs.Answers.{Pool, placed, refusedBy, pooled, cleared}
 use Rattle.calls.specs.Calls.{removeOn, allowed, named, placeFor}
-use Rattle.starfile.proofs.Finding.{altered}
+use Rattle.lookup.proofs.Finding.{altered}
 use Rattle.starfile.proofs.Outcomes.{removal-small, removed-is}
-use Rattle.starfile.proofs.Pools.{prepared, tabled}
+use Rattle.lookup.proofs.Admitting.{prepared, tabled}
 use borrow.Author.Needs.{needs}
 use Rattle.starfile.proofs.removal.remove_held.Statement.{statement}
 use Rattle.starfile.proofs.removal.remove_held.Tie as tie
