@@ -1,6 +1,6 @@
 -- What the internal search for a number's page and place finds.
 use mathlib.Core.Path.{_≡_}
-use mathlib.Core.Bool.{Bool, true}
+use mathlib.Core.Bool.{true}
 use Prim.Native.Nat.{ℕ, _*_, _≤_, _<_}
 use lib.ListN.{getD}
 use Rattle.hashing.specs.declared.Parameters.{Parameters}

@@ -1,4 +1,3 @@
 pub mod Making
 pub mod Outcomes
-pub mod Pools
 pub mod Stepping

@@ -1,6 +1,5 @@
 // The check of a file.
 ghost use mathlib.Core.Path.{_≡_};
-ghost use mathlib.Core.Bool.{true};
 ghost use Rattle.placement.specs.Lent.{before};
 ghost use Rattle.calls.specs.Answers.{Leaves, checked};
 ghost use Rattle.calls.specs.Calls.{checkOf};

@@ -12,7 +12,7 @@ use Rattle.starfile.specs.Outcomes.{verdictChecked}
 use Rattle.starfile.proofs.Outcomes.{verdict-is, verdict-small}
 use Rattle.calls.proofs.Refusals.{turned-away, refusal-is, none-is, admitted-pool, leaves}
 use Rattle.lookup.proofs.Admitting.{prepared, tabled}
-use Rattle.starfile.proofs.Pools.{cleared-is}
+use Rattle.updating.proofs.Pools.{cleared-is}
 use borrow.Author.Needs.{needs}
 use Rattle.starfile.proofs.checking.check.Statement.{statement}
 use Rattle.starfile.proofs.checking.check.Tie as tie

@@ -45,7 +45,7 @@ regrow-requires c κs =
 grown-by-requires : tie.Need-grown-by-requires
 grown-by-requires c κs =
     let s = start (c .before .before .before .before .before .before .before .before .before .before .before .before .before .before .before .before .before .before .before .before .before .before .before .before .before) in
-    rw (c .before .before .before .before .before .before .before .before .before .before .before .before .before .before .regrow .ensures .0) (growth-small (s .args .parameters) (s .args .growth) (fileOf s) (s .pre .0 .homing .valid) (s .pre .0 .homing .growth) _)
+    rw (c .before .before .before .before .before .before .before .before .before .before .before .before .before .before .regrow .ensures .0) (growth-small (s .args .parameters) (s .args .growth) (fileOf s) (s .pre .0 .homing .valid) _)
 
 returns : tie.Need-returns
 returns c =

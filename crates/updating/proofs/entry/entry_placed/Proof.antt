@@ -1,8 +1,8 @@
 -- `starfile::entry::entry_placed` meets its contract.
 use native.Mathlib.Omega.{arith}
 use borrow.Author.Needs.{needs}
-use Rattle.starfile.proofs.entry.entry_placed.Statement.{statement}
-use Rattle.starfile.proofs.entry.entry_placed.Tie as tie
+use Rattle.updating.proofs.entry.entry_placed.Statement.{statement}
+use Rattle.updating.proofs.entry.entry_placed.Tie as tie
 
 enum-known-entered : tie.Need-enum-known-entered
 enum-known-entered c = search needs

@@ -1,27 +1,28 @@
-// The entry of a star.
+// The removal of a star.
 ghost use mathlib.Core.Path.{_≡_};
 ghost use mathlib.Core.Bool.{true};
+ghost use Prim.Native.Nat.{_≤_};
 ghost use Rattle.pages.specs.Position.{validNumber};
 ghost use Rattle.placement.specs.Lent.{held, before, after};
 ghost use Rattle.placement.specs.Ready.{Pooled};
 ghost use Rattle.calls.specs.Answers.{Leaves, Stores, cleared, placed};
-ghost use Rattle.calls.specs.Calls.{enterOf, enterOn, named};
-ghost use Rattle.starfile.specs.Outcomes.{EntrySmall, entryPlaced};
+ghost use Rattle.calls.specs.Calls.{removeOf, removeOn, named};
+ghost use Rattle.updating.specs.Outcomes.{ReplacedSmall, replacedPlaced};
 ghost use Rattle.calls.specs.Lent.{Admitted, poolBefore, poolAfter};
 use calls::answers::Admission;
 use calls::answers::Placed;
 use calls::answers::Refusal;
-use entering::Entered;
 use hashing::Geometry;
 use hashing::Growth;
 use hashing::Parameters;
 use lookup::all_fit;
 use lookup::find;
 use lookup::guard;
-use pages::position::Position;
+use lookup::may_alter;
+use replacing::Replaced;
 
-// The answer of an accepted entry is the page where the star now stands, its caller's. Entering a held star with its own position changes nothing.
-pub fn enter(
+// The answer of an accepted removal is the page where the star stood.
+pub fn remove(
     parameters: Parameters,
     growth: Growth,
     separators: &mut [u8],
@@ -33,9 +34,8 @@ pub fn enter(
     poolowners: &mut [u8],
     caller: u8,
     number: u32,
-    position: Position,
 ) -> Placed
-    ensures { λ r. ⌜ Leaves (enterOf parameters growth (before separators numbers words owners) (poolBefore poolnumbers poolwords poolowners) caller number position)
+    ensures { λ r. ⌜ Leaves (removeOf parameters growth (before separators numbers words owners) (poolBefore poolnumbers poolwords poolowners) caller number)
         (placed r) (after separators numbers words owners) (poolAfter poolnumbers poolwords poolowners) ⌝ }
 {
     let fits = all_fit(
@@ -54,11 +54,7 @@ pub fn enter(
     if !pages::position::number_valid(number) {
         return Placed::Refused(Refusal::BadNumber, 0);
     }
-    if !pages::position::position_valid(position) {
-        return Placed::Refused(Refusal::BadPosition, 0);
-    }
-    let word = pages::position::pack(position);
-    let answer = enter_star(
+    let answer = remove_held(
         parameters,
         growth,
         separators,
@@ -70,14 +66,13 @@ pub fn enter(
         poolowners,
         caller,
         number,
-        word,
     );
     planning::clear(poolnumbers, poolwords, poolowners);
     answer
 }
 
-// The named page first, then whether the star is held, then the reach, which a held star's entry does not read.
-fn enter_star(
+// The named page first, then whether the star is held and the caller may remove it, then the reach.
+fn remove_held(
     parameters: Parameters,
     growth: Growth,
     separators: &mut [u8],
@@ -89,13 +84,12 @@ fn enter_star(
     poolowners: &mut [u8],
     caller: u8,
     number: u32,
-    word: u64,
 ) -> Placed
     requires { ⌜ Admitted parameters growth (held separators numbers words owners) ⌝ }
     requires { ⌜ Pooled parameters (now poolnumbers) (now poolwords) (now poolowners) ⌝ }
     requires { ⌜ validNumber number ≡ true ⌝ }
-    ensures { λ r. ⌜ Stores (enterOn parameters growth (before separators numbers words owners) (cleared (poolBefore poolnumbers poolwords poolowners))
-        (named parameters growth (before separators numbers words owners) number) (record { number = number; word = word; owner = caller }))
+    ensures { λ r. ⌜ Stores (removeOn parameters growth (before separators numbers words owners) (cleared (poolBefore poolnumbers poolwords poolowners))
+        (named parameters growth (before separators numbers words owners) number) caller number)
         (placed r) (after separators numbers words owners) ⌝ }
 {
     let table = hashing::first_multipliers(parameters.multiplier);
@@ -105,14 +99,14 @@ fn enter_star(
     if !named.readable {
         return Placed::Refused(Refusal::Damaged(page), 0);
     }
-    if named.held {
-        if named.word == word {
-            return Placed::On(page, named.place);
-        }
-        return Placed::Refused(Refusal::Held, named.place);
+    if !named.held {
+        return Placed::Refused(Refusal::NotHeld, named.place);
     }
-    entry_placed(
-        entering::enter_stretch(
+    if !may_alter(caller, named.owner) {
+        return Placed::Refused(Refusal::NotOwner, named.place);
+    }
+    replaced_placed(
+        replacing::remove_star(
             &table,
             geometry,
             separators,
@@ -123,22 +117,21 @@ fn enter_star(
             poolwords,
             poolowners,
             number,
-            word,
-            caller,
             named.home,
         ),
+        page,
         named.place,
     )
 }
 
-// The page where the star now stands, with the place given, at which it was sought.
-fn entry_placed(entered: Entered, place: u32) -> Placed
-    requires { ⌜ EntrySmall entered ⌝ }
-    ensures { λ r. ⌜ r ≡ entryPlaced entered place ⌝ }
+// What is answered if the stretch was placed anew: the page and the place given.
+pub fn replaced_placed(replaced: Replaced, page: u32, place: u32) -> Placed
+    requires { ⌜ ReplacedSmall replaced ⌝ }
+    ensures { λ r. ⌜ r ≡ replacedPlaced replaced page place ⌝ }
 {
-    match entered {
-        Entered::On(page) => Placed::On(page as u32, place),
-        Entered::Unsound(page) => Placed::Refused(Refusal::Damaged(page as u32), place),
-        Entered::Overflows => Placed::Refused(Refusal::Full, place),
+    match replaced {
+        Replaced::Done => Placed::On(page, place),
+        Replaced::Unsound(bad) => Placed::Refused(Refusal::Damaged(bad as u32), place),
+        Replaced::Overflows => Placed::Refused(Refusal::Full, place),
     }
 }

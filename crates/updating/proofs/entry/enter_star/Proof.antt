@@ -9,12 +9,12 @@ use Rattle.placement.specs.Hash.{lent}
 use Rattle.entering.specs.Entry.{newStar}
 use Rattle.calls.specs.Answers.{Pool, placed, refusedBy, pooled, cleared}
 use Rattle.calls.specs.Calls.{enterOn, enteredAgain, named, placeFor}
-use Rattle.starfile.proofs.Outcomes.{entry-small, entered-is}
+use Rattle.updating.proofs.Outcomes.{entry-small, entered-is}
 use Rattle.lookup.proofs.Admitting.{prepared, tabled}
-use Rattle.starfile.proofs.Pools.{unheld}
+use Rattle.updating.proofs.Pools.{unheld}
 use borrow.Author.Needs.{needs}
-use Rattle.starfile.proofs.entry.enter_star.Statement.{statement}
-use Rattle.starfile.proofs.entry.enter_star.Tie as tie
+use Rattle.updating.proofs.entry.enter_star.Statement.{statement}
+use Rattle.updating.proofs.entry.enter_star.Tie as tie
 
 abbrev fileOf : tie.Start → File
 fileOf s = lent (now (s .args .separators)) (now (s .args .numbers)) (now (s .args .words)) (now (s .args .owners))

@@ -1,8 +1,8 @@
 -- `starfile::removal::replaced_placed` meets its contract.
 use native.Mathlib.Omega.{arith}
 use borrow.Author.Needs.{needs}
-use Rattle.starfile.proofs.removal.replaced_placed.Statement.{statement}
-use Rattle.starfile.proofs.removal.replaced_placed.Tie as tie
+use Rattle.updating.proofs.removal.replaced_placed.Statement.{statement}
+use Rattle.updating.proofs.removal.replaced_placed.Tie as tie
 
 enum-told : tie.Need-enum-told
 enum-told c = search needs

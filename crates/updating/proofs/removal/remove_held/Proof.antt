@@ -9,11 +9,11 @@ use Rattle.placement.specs.Hash.{lent}
 use Rattle.calls.specs.Answers.{Pool, placed, refusedBy, pooled, cleared}
 use Rattle.calls.specs.Calls.{removeOn, allowed, named, placeFor}
 use Rattle.lookup.proofs.Finding.{altered}
-use Rattle.starfile.proofs.Outcomes.{removal-small, removed-is}
+use Rattle.updating.proofs.Outcomes.{removal-small, removed-is}
 use Rattle.lookup.proofs.Admitting.{prepared, tabled}
 use borrow.Author.Needs.{needs}
-use Rattle.starfile.proofs.removal.remove_held.Statement.{statement}
-use Rattle.starfile.proofs.removal.remove_held.Tie as tie
+use Rattle.updating.proofs.removal.remove_held.Statement.{statement}
+use Rattle.updating.proofs.removal.remove_held.Tie as tie
 
 abbrev fileOf : tie.Start → File
 fileOf s = lent (now (s .args .separators)) (now (s .args .numbers)) (now (s .args .words)) (now (s .args .owners))

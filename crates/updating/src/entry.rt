@@ -1,28 +1,27 @@
-// The removal of a star.
+// The entry of a star.
 ghost use mathlib.Core.Path.{_≡_};
 ghost use mathlib.Core.Bool.{true};
-ghost use Prim.Native.Nat.{_≤_};
 ghost use Rattle.pages.specs.Position.{validNumber};
 ghost use Rattle.placement.specs.Lent.{held, before, after};
 ghost use Rattle.placement.specs.Ready.{Pooled};
 ghost use Rattle.calls.specs.Answers.{Leaves, Stores, cleared, placed};
-ghost use Rattle.calls.specs.Calls.{removeOf, removeOn, named};
-ghost use Rattle.starfile.specs.Outcomes.{ReplacedSmall, replacedPlaced};
+ghost use Rattle.calls.specs.Calls.{enterOf, enterOn, named};
+ghost use Rattle.updating.specs.Outcomes.{EntrySmall, entryPlaced};
 ghost use Rattle.calls.specs.Lent.{Admitted, poolBefore, poolAfter};
 use calls::answers::Admission;
 use calls::answers::Placed;
 use calls::answers::Refusal;
+use entering::Entered;
 use hashing::Geometry;
 use hashing::Growth;
 use hashing::Parameters;
 use lookup::all_fit;
 use lookup::find;
 use lookup::guard;
-use lookup::may_alter;
-use replacing::Replaced;
+use pages::position::Position;
 
-// The answer of an accepted removal is the page where the star stood.
-pub fn remove(
+// The answer of an accepted entry is the page where the star now stands, its caller's. Entering a held star with its own position changes nothing.
+pub fn enter(
     parameters: Parameters,
     growth: Growth,
     separators: &mut [u8],
@@ -34,8 +33,9 @@ pub fn remove(
     poolowners: &mut [u8],
     caller: u8,
     number: u32,
+    position: Position,
 ) -> Placed
-    ensures { λ r. ⌜ Leaves (removeOf parameters growth (before separators numbers words owners) (poolBefore poolnumbers poolwords poolowners) caller number)
+    ensures { λ r. ⌜ Leaves (enterOf parameters growth (before separators numbers words owners) (poolBefore poolnumbers poolwords poolowners) caller number position)
         (placed r) (after separators numbers words owners) (poolAfter poolnumbers poolwords poolowners) ⌝ }
 {
     let fits = all_fit(
@@ -54,7 +54,11 @@ pub fn remove(
     if !pages::position::number_valid(number) {
         return Placed::Refused(Refusal::BadNumber, 0);
     }
-    let answer = remove_held(
+    if !pages::position::position_valid(position) {
+        return Placed::Refused(Refusal::BadPosition, 0);
+    }
+    let word = pages::position::pack(position);
+    let answer = enter_star(
         parameters,
         growth,
         separators,
@@ -66,13 +70,14 @@ pub fn remove(
         poolowners,
         caller,
         number,
+        word,
     );
     planning::clear(poolnumbers, poolwords, poolowners);
     answer
 }
 
-// The named page first, then whether the star is held and the caller may remove it, then the reach.
-fn remove_held(
+// The named page first, then whether the star is held, then the reach, which a held star's entry does not read.
+fn enter_star(
     parameters: Parameters,
     growth: Growth,
     separators: &mut [u8],
@@ -84,12 +89,13 @@ fn remove_held(
     poolowners: &mut [u8],
     caller: u8,
     number: u32,
+    word: u64,
 ) -> Placed
     requires { ⌜ Admitted parameters growth (held separators numbers words owners) ⌝ }
     requires { ⌜ Pooled parameters (now poolnumbers) (now poolwords) (now poolowners) ⌝ }
     requires { ⌜ validNumber number ≡ true ⌝ }
-    ensures { λ r. ⌜ Stores (removeOn parameters growth (before separators numbers words owners) (cleared (poolBefore poolnumbers poolwords poolowners))
-        (named parameters growth (before separators numbers words owners) number) caller number)
+    ensures { λ r. ⌜ Stores (enterOn parameters growth (before separators numbers words owners) (cleared (poolBefore poolnumbers poolwords poolowners))
+        (named parameters growth (before separators numbers words owners) number) (record { number = number; word = word; owner = caller }))
         (placed r) (after separators numbers words owners) ⌝ }
 {
     let table = hashing::first_multipliers(parameters.multiplier);
@@ -99,14 +105,14 @@ fn remove_held(
     if !named.readable {
         return Placed::Refused(Refusal::Damaged(page), 0);
     }
-    if !named.held {
-        return Placed::Refused(Refusal::NotHeld, named.place);
+    if named.held {
+        if named.word == word {
+            return Placed::On(page, named.place);
+        }
+        return Placed::Refused(Refusal::Held, named.place);
     }
-    if !may_alter(caller, named.owner) {
-        return Placed::Refused(Refusal::NotOwner, named.place);
-    }
-    replaced_placed(
-        replacing::remove_star(
+    entry_placed(
+        entering::enter_stretch(
             &table,
             geometry,
             separators,
@@ -117,21 +123,22 @@ fn remove_held(
             poolwords,
             poolowners,
             number,
+            word,
+            caller,
             named.home,
         ),
-        page,
         named.place,
     )
 }
 
-// What is answered if the stretch was placed anew: the page and the place given.
-pub fn replaced_placed(replaced: Replaced, page: u32, place: u32) -> Placed
-    requires { ⌜ ReplacedSmall replaced ⌝ }
-    ensures { λ r. ⌜ r ≡ replacedPlaced replaced page place ⌝ }
+// The page where the star now stands, with the place given, at which it was sought.
+fn entry_placed(entered: Entered, place: u32) -> Placed
+    requires { ⌜ EntrySmall entered ⌝ }
+    ensures { λ r. ⌜ r ≡ entryPlaced entered place ⌝ }
 {
-    match replaced {
-        Replaced::Done => Placed::On(page, place),
-        Replaced::Unsound(bad) => Placed::Refused(Refusal::Damaged(bad as u32), place),
-        Replaced::Overflows => Placed::Refused(Refusal::Full, place),
+    match entered {
+        Entered::On(page) => Placed::On(page as u32, place),
+        Entered::Unsound(page) => Placed::Refused(Refusal::Damaged(page as u32), place),
+        Entered::Overflows => Placed::Refused(Refusal::Full, place),
     }
 }

@@ -11,10 +11,10 @@ use Rattle.calls.specs.Answers.{Pool, placed, refusedBy, pooled, cleared}
 use Rattle.calls.specs.Lent.{Admitted}
 use Rattle.calls.specs.Calls.{unlent, enterOf, fileFits, poolFits}
 use Rattle.calls.proofs.Refusals.{turned-away-first, refusal-is, none-is, admitted-pool, leaves}
-use Rattle.starfile.proofs.Pools.{cleared-is, leaves-cleared, enter-pool}
+use Rattle.updating.proofs.Pools.{cleared-is, leaves-cleared, enter-pool}
 use borrow.Author.Needs.{needs}
-use Rattle.starfile.proofs.entry.enter.Statement.{statement}
-use Rattle.starfile.proofs.entry.enter.Tie as tie
+use Rattle.updating.proofs.entry.enter.Statement.{statement}
+use Rattle.updating.proofs.entry.enter.Tie as tie
 
 abbrev fileOf : tie.Start → File
 fileOf s = lent (now (s .args .separators)) (now (s .args .numbers)) (now (s .args .words)) (now (s .args .owners))
