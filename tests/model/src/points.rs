@@ -44,6 +44,20 @@ pub fn ranks(rank: fn(u64, u64, u64) -> u64) {
     }
 }
 
+/// An empty file, whatever the buffers held; making one takes no pool.
+pub fn empty_file(run: Run) {
+    let mut session = Session::new(run, TWO_PAGES);
+    let Buffers { separators, numbers, words, owners, pool_owners, .. } = &mut session.lent;
+    separators.fill(7);
+    numbers.fill(7);
+    words.fill(7);
+    owners.fill(7);
+    pool_owners.fill(7);
+    assert_eq!(answers(session.call(Kind::Make, 0, 0, 0)), (0, 0));
+    let zeros = Buffers::zeros(&session.parameters);
+    assert_eq!(session.lent, Buffers { separators: vec![255; 2], pool_owners: vec![7; 2], ..zeros });
+}
+
 /// The homes of stars 1 and 2, seen by look-ups that find none.
 pub fn homes(run: Run) {
     let mut session = Session::new(run, [2, 2, 2, 1, 8, 80, 8]);
@@ -447,6 +461,10 @@ pub fn cascades(run: Run) {
     assert_eq!(answers(session.enter(32)), (5, 0));
     assert_eq!(cascade(&mut session, 32, 1), (0, 1, 0));
     assert_eq!((&session.lent.separators[..], &session.lent.numbers[..]), (&[0, 255][..], &[0, 32][..]));
+    let mut session = Session::new(run, TWO_PAGES);
+    session.lent.separators[0] = 200;
+    assert_eq!(cascade(&mut session, 170, 1), (0, 0, 0));
+    assert_eq!((&session.lent.separators[..], &session.lent.numbers[..]), (&[200, 255][..], &[170, 0][..]));
 }
 
 /// A star on a page above the highest address makes that page one in use.
@@ -589,7 +607,7 @@ pub fn owner_lengths(run: Run) {
 #[macro_export]
 macro_rules! point_tests {
     ($run:path) => {
-        $crate::point_tests!($run: homes multipliers value_limits parameter_limits multiplier_limits growth_limits
+        $crate::point_tests!($run: empty_file homes multipliers value_limits parameter_limits multiplier_limits growth_limits
             second_star_of_a_home growth_without_room pages_given_back there_and_back shrinking_without_room
             nothing_to_give_back growth_repairs entry_below_named_page removal_raises_separator
             entry_without_room_in_its_reach entry_into_full_file check_order damaged_values places resends pages_in_use
