@@ -1,7 +1,3 @@
-pub mod Finding
 pub mod Making
 pub mod Outcomes
-pub mod Pools
 pub mod Stepping
-pub mod Tallies
-pub mod Reached

@@ -1,99 +1,30 @@
--- The answers and files of the crates below are those of the calls' definitions, and their pages are small.
+-- The answers and files of growth and check are those of the calls' definitions, and their pages are small.
 use mathlib.Core.Path.{_≡_, refl}
-use mathlib.Core.Bool.{Bool, true, false, not, cond}
-use mathlib.Core.List.{List, [], _∷_}
-use Prim.Native.Nat.{ℕ, suc, _+_, _-_, _*_, _/_, _%_, _^_, _≤_, _<_}
-use native.Mathlib.Nat.{add-suc, suc-add, mod-lt, div-lt-iff-lt-mul}
+use mathlib.Core.Bool.{Bool, true, false, cond}
+use mathlib.Core.List.{[]}
+use Prim.Native.Nat.{ℕ, suc, _-_, _*_, _/_, _%_}
+use native.Mathlib.Nat.{mod-lt, div-lt-iff-lt-mul}
 use native.Mathlib.Omega.{arith}
 use lib.Dec.{ltb}
-use lib.ListN.{length}
 use borrow.Author.Tests.{ltb-true}
 use Rattle.hashing.specs.declared.Parameters.{Parameters}
 use Rattle.hashing.specs.declared.Growth.{Growth}
-use Rattle.hashing.specs.Limits.{validParameters, validGrowth}
-use Rattle.hashing.specs.Generator.{multiplierOf}
+use Rattle.hashing.specs.Limits.{validParameters}
 use Rattle.hashing.proofs.Bounds.{limits}
-use Rattle.hashing.proofs.Laws.{home-pages}
-use Rattle.placement.specs.Rule.{Star, Contents, pages, left, without}
-use Rattle.placement.specs.File.{File, gathered, replaced}
-use Rattle.placement.specs.Hash.{hashOf, soundAt}
-use Rattle.placement.proofs.Composition.{length-pages}
-use Rattle.reach.specs.Reach.{firstSuch, storedTop, pagesTo, removalEnd, entering, entersWithin, entryEnd, firstUnsound, isEmpty, hasNumber, holding}
-use Rattle.reach.proofs.Search.{such}
-use Rattle.entering.specs.declared.stretch.Entered.the-variants.{On, Unsound, Overflows}
-use Rattle.entering.specs.Entry.{entryAnswer, entryFile}
-use Rattle.entering.specs.Entry as entry
+use Rattle.placement.specs.Rule.{pages, left}
+use Rattle.placement.specs.File.{File, replaced}
+use Rattle.reach.specs.Reach.{firstUnsound, isEmpty}
 use Rattle.replacing.specs.declared.Replaced.the-variants.{Done, Unsound as replaced·Unsound, Overflows as replaced·Overflows}
-use Rattle.replacing.specs.Calls.{removalAnswer, removalFile, growthAnswer, growthFile}
-use Rattle.replacing.specs.Calls as removal
+use Rattle.replacing.specs.Calls.{growthAnswer, growthFile}
 use Rattle.comparing.specs.declared.checking.Verdict.the-variants.{Clean, Differs, Unsound as verdict·Unsound}
 use Rattle.comparing.specs.Verdicts.{verdictOf}
-use Rattle.calls.specs.Answers.{Pool, placed, checked, refusedBy, accepted, refused, acceptedAt, refusedAt, spotted}
-use Rattle.calls.specs.Calls.{hash, unchanged, enterTo, removeTo, regrowTo, checkedAt, allStars}
-use Rattle.starfile.specs.Outcomes.{EntrySmall, entryPlaced, ReplacedSmall, replacedPlaced, replacedGrown, VerdictSmall, verdictChecked}
+use Rattle.calls.specs.Answers.{Pool, placed, checked, refusedBy, accepted, refused, spotted}
+use Rattle.calls.specs.Calls.{hash, unchanged, regrowTo, checkedAt, allStars}
+use Rattle.updating.specs.Outcomes.{ReplacedSmall}
+use Rattle.updating.proofs.Outcomes.{unsound-most}
+use Rattle.starfile.specs.Outcomes.{replacedGrown, VerdictSmall, verdictChecked}
 
-holding-most : (k from : ℕ) (cs : List Contents) → holding k from cs ≤ from + length cs
-unfolding holding
-holding-most k from [] = omega arith
-holding-most k from (c ∷ cs) = go (hasNumber k (c .stars)) (holding-most k (suc from) cs)
-  where
-    go : (t : Bool) → holding k (suc from) cs ≤ suc from + length cs → cond t from (holding k (suc from) cs) ≤ from + suc (length cs)
-    go true h = omega arith
-    go false h = omega (arith, add-suc from (length cs), suc-add from (length cs))
-
--- a stretch from a page of the file that ends by a search ends within the file
-stretch-most : (test : ℕ → Bool) (from m : ℕ) → from < m → from + pagesTo from (firstSuch test from (m - 1 - from)) ≤ m
-stretch-most test from m h =
-    let s = such test from (m - 1 - from) in
-    omega (arith, s .low, s .high, add-suc from (firstSuch test from (m - 1 - from) - from))
-
-unsound-most : (p : Parameters) (g : Growth) (f : File) (from n : ℕ) → firstUnsound p g f from n ≤ from + n
-unfolding firstUnsound
-unsound-most p g f from n = such (λ (q : ℕ). not (soundAt p g f q)) from n .high
-
-removal-most : (p : Parameters) (g : Growth) (f : File) (from : ℕ) → from < p .pages → from + pagesTo from (removalEnd (hash p g) (p .pages) f from) ≤ p .pages
-unfolding removalEnd
-removal-most p g f from h = stretch-most (storedTop (f .separators) (hash p g .top)) from (p .pages) h
-
-module _ (p : Parameters) (g : Growth) (f : File) (v : validParameters p ≡ true) (w : validGrowth p g ≡ true) where
-  -- ---- entry
-  module _ (s : Star) where
-    inside : entry.startOf p g (s .number) + entry.countOf p g f s ≤ p .pages
-    unfolding entryEnd hashOf
-    inside = stretch-most _ (entry.startOf p g (s .number)) (p .pages) (home-pages (multiplierOf p) p g (s .number) v w)
-
-    bad-small : entry.unsoundOf p g f s < 2 ^ 32
-    bad-small = omega (arith, unsound-most p g f (entry.startOf p g (s .number)) (entry.countOf p g f s), inside, limits p v .pages-most)
-
-    page-small : holding (s .number) (entry.startOf p g (s .number)) (entry.contentsOf p g f s) < 2 ^ 32
-    page-small =
-        omega (
-          arith,
-          holding-most (s .number) (entry.startOf p g (s .number)) (entry.contentsOf p g f s),
-          length-pages (hash p g) (entry.startOf p g (s .number)) (entry.countOf p g f s) (entering (hash p g) f s (entry.endOf p g f s)),
-          inside,
-          limits p v .pages-most,
-        )
-
-    pub entry-small : EntrySmall (entryAnswer p g f s)
-    unfolding entryAnswer
-    entry-small = go (ltb (entry.unsoundOf p g f s) (entry.startOf p g (s .number) + entry.countOf p g f s)) (entersWithin (hash p g) f s (entry.endOf p g f s))
-      where
-        go : (t u : Bool) → EntrySmall (cond t (Unsound (entry.unsoundOf p g f s)) (cond u (On (holding (s .number) (entry.startOf p g (s .number)) (entry.contentsOf p g f s))) Overflows))
-        go true u = bad-small
-        go false true = page-small
-        go false false = tt
-
-  -- ---- removal and growth
-  pub removal-small : (k : ℕ) → ReplacedSmall (removalAnswer p g f k)
-  unfolding removalAnswer hashOf
-  removal-small k = go (ltb (removal.unsoundOf p g f k) (removal.startOf p g k + removal.countOf p g f k))
-    where
-      go : (t : Bool) → ReplacedSmall (cond t (replaced·Unsound (removal.unsoundOf p g f k)) Done)
-      go true =
-          omega (arith, unsound-most p g f (removal.startOf p g k) (removal.countOf p g f k), removal-most p g f (removal.startOf p g k) (home-pages (multiplierOf p) p g k v w), limits p v .pages-most)
-      go false = tt
-
+module _ (p : Parameters) (g : Growth) (f : File) (v : validParameters p ≡ true) where
   pub growth-small : (next : Growth) → ReplacedSmall (growthAnswer p g f next)
   unfolding growthAnswer
   growth-small next = go (ltb (firstUnsound p g f 0 (p .pages)) (p .pages)) (isEmpty (left (hash p next) 0 (p .pages) (allStars p f)))
@@ -103,53 +34,8 @@ module _ (p : Parameters) (g : Growth) (f : File) (v : validParameters p ≡ tru
       go false true = tt
       go false false = tt
 
--- ---- the answers and files are those of the definitions
-
+-- the answers and files are those of the definitions
 module _ (p : Parameters) (g : Growth) (f : File) (pool : Pool) where
-  module _ (s : Star) where
-    entered-cases : (t u : Bool) (bad page place : ℕ) (next : File)
-        → (placed (entryPlaced (cond t (Unsound bad) (cond u (On page) Overflows)) place)
-        ≡ cond t (unchanged g f pool (refusedAt 5 bad place)) (cond u (record { answer = acceptedAt page place; growth = g; file = next; pool = pool }) (unchanged g f pool (refusedAt 8 0 place))) .answer)
-        × (cond t f (cond u next f)
-        ≡ cond t (unchanged g f pool (refusedAt 5 bad place)) (cond u (record { answer = acceptedAt page place; growth = g; file = next; pool = pool }) (unchanged g f pool (refusedAt 8 0 place))) .file)
-    unfolding placed refusedBy
-    entered-cases true u bad page place next = (refl, refl)
-    entered-cases false true bad page place next = (refl, refl)
-    entered-cases false false bad page place next = (refl, refl)
-
-    pub entered-is : (place : ℕ)
-        → (placed (entryPlaced (entryAnswer p g f s) place) ≡ enterTo p g f pool s place (entry.endOf p g f s) .answer)
-        × (entryFile p g f s ≡ enterTo p g f pool s place (entry.endOf p g f s) .file)
-    unfolding entryAnswer entryFile enterTo
-    entered-is place =
-        entered-cases
-        (ltb (entry.unsoundOf p g f s) (entry.startOf p g (s .number) + entry.countOf p g f s))
-        (entersWithin (hash p g) f s (entry.endOf p g f s))
-        (entry.unsoundOf p g f s)
-        (holding (s .number) (entry.startOf p g (s .number)) (entry.contentsOf p g f s))
-        place
-        (replaced (p .places) f (entry.startOf p g (s .number)) (entry.contentsOf p g f s))
-
-  removed-cases : (t : Bool) (bad page place : ℕ) (next : File)
-      → (placed (replacedPlaced (cond t (replaced·Unsound bad) Done) page place) ≡ cond t (unchanged g f pool (refusedAt 5 bad place)) (record { answer = acceptedAt page place; growth = g; file = next; pool = pool }) .answer)
-      × (cond t f next ≡ cond t (unchanged g f pool (refusedAt 5 bad place)) (record { answer = acceptedAt page place; growth = g; file = next; pool = pool }) .file)
-  unfolding placed refusedBy
-  removed-cases true bad page place next = (refl, refl)
-  removed-cases false bad page place next = (refl, refl)
-
-  pub removed-is : (page k place : ℕ)
-      → (placed (replacedPlaced (removalAnswer p g f k) page place) ≡ removeTo p g f pool page k place (removalEnd (hash p g) (p .pages) f (hash p g .home k)) .answer)
-      × (removalFile p g f k ≡ removeTo p g f pool page k place (removalEnd (hash p g) (p .pages) f (hash p g .home k)) .file)
-  unfolding removalAnswer removalFile removeTo
-  removed-is page k place =
-      removed-cases
-      (ltb (removal.unsoundOf p g f k) (removal.startOf p g k + removal.countOf p g f k))
-      (removal.unsoundOf p g f k)
-      page
-      place
-      (replaced (p .places) f (removal.startOf p g k)
-      (pages (hash p g) (removal.startOf p g k) (removal.countOf p g f k) (without k (gathered (p .places) f (removal.startOf p g k) (removal.countOf p g f k)))))
-
   grown-cases : (t u : Bool) (bad page : ℕ) (next : Growth) (to : File)
       → (placed (replacedGrown (cond t (replaced·Unsound bad) (cond u Done replaced·Overflows)) page g next .answer)
       ≡ cond t (unchanged g f pool (refused 5 bad)) (cond u (record { answer = accepted page; growth = next; file = to; pool = pool }) (unchanged g f pool (refused 8 0))) .answer)
@@ -175,8 +61,6 @@ module _ (p : Parameters) (g : Growth) (f : File) (pool : Pool) where
       page
       next
       (replaced (p .places) f 0 (pages (hash p next) 0 (p .pages) (allStars p f)))
-
--- ---- check
 
 module _ (p : Parameters) (v : validParameters p ≡ true) (bad spot : ℕ) where
   pub verdict-is : checked (verdictChecked (verdictOf p bad spot) (p .places)) ≡ checkedAt p bad spot

@@ -22,7 +22,7 @@ use Rattle.calls.specs.Answers.{After, Pool, Stores, placed, refusedBy, refused
 use Rattle.calls.specs.Calls.{unlent, guarded, unchanged, fileFits, poolFits, growOf, shrinkOf, regrowTo}
 use Rattle.starfile.specs.Outcomes.{replacedGrown, unmovedBy, stepOf, regrowOn, regrowOf}
 use Rattle.starfile.proofs.Outcomes.{regrown-is}
-use Rattle.starfile.proofs.Pools.{regrow-pool}
+use Rattle.updating.proofs.Pools.{regrow-pool}
 
 pub regrow-guarded : (back : Bool) (p : Parameters) (g : Growth) (f : File) (pool : Pool)
     → regrowOf back p g f pool ≡ guarded g f pool (unlent p g (fileFits p f && poolFits p pool)) (regrowOn back p g f (cleared pool))

@@ -1,3 +1,1 @@
-pub mod Used
-pub mod Named
 pub mod Outcomes

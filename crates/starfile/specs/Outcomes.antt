@@ -1,4 +1,4 @@
--- The answers of the crates below, as answers of the calls. Their pages are small enough for 32 bits.
+-- The answers of growth and check below, as answers of the calls. Their pages are small enough for 32 bits.
 use mathlib.Core.Bool.{Bool, true, false, cond}
 use Prim.Native.Nat.{ℕ, _-_, _^_, _<_}
 use lib.Dec.{eqb}
@@ -6,15 +6,12 @@ use Rattle.hashing.specs.declared.Parameters.{Parameters}
 use Rattle.hashing.specs.declared.Growth.{Growth}
 use Rattle.hashing.specs.Geometry.{pageCount, highest, grown, isUngrown, shrunk}
 use Rattle.placement.specs.File.{File}
-use Rattle.entering.specs.declared.stretch.Entered.{Entered}
-use Rattle.entering.specs.declared.stretch.Entered.the-variants.{On, Unsound, Overflows}
 use Rattle.replacing.specs.declared.Replaced.{Replaced}
 use Rattle.replacing.specs.declared.Replaced.the-variants.{Done, Unsound as replaced·Unsound, Overflows as replaced·Overflows}
 use Rattle.comparing.specs.declared.checking.Verdict.{Verdict}
 use Rattle.comparing.specs.declared.checking.Verdict.the-variants.{Clean, Differs, Unsound as verdict·Unsound}
 use Rattle.calls.specs.declared.answers.Refusal.{Refusal}
 use Rattle.calls.specs.declared.answers.Refusal.the-variants.{Damaged, Full, Ungrown}
-use Rattle.calls.specs.declared.answers.Placed.{Placed}
 use Rattle.calls.specs.declared.answers.Placed.the-variants.{On as placed·On, Refused}
 use Rattle.calls.specs.declared.answers.Grown.{Grown}
 use Rattle.starfile.specs.declared.growth.Step.{Step}
@@ -23,26 +20,6 @@ use Rattle.calls.specs.declared.answers.Checked.{Checked}
 use Rattle.calls.specs.declared.answers.Checked.the-variants.{Clean as checked·Clean, Refused as checked·Refused}
 use Rattle.calls.specs.Answers.{Pool, After}
 use Rattle.calls.specs.Calls.{growOn, growOf, shrinkOn, shrinkOf}
-
-abbrev pub EntrySmall : Entered → Type 0
-EntrySmall (On page) = page < 2 ^ 32
-EntrySmall (Unsound page) = page < 2 ^ 32
-EntrySmall Overflows = Unit {0}
-
-abbrev pub entryPlaced : Entered → ℕ → Placed
-entryPlaced (On page) place = placed·On page place
-entryPlaced (Unsound page) place = Refused (Damaged page) place
-entryPlaced Overflows place = Refused Full place
-
-abbrev pub ReplacedSmall : Replaced → Type 0
-ReplacedSmall Done = Unit {0}
-ReplacedSmall (replaced·Unsound page) = page < 2 ^ 32
-ReplacedSmall replaced·Overflows = Unit {0}
-
-abbrev pub replacedPlaced : Replaced → ℕ → ℕ → Placed
-replacedPlaced Done page place = placed·On page place
-replacedPlaced (replaced·Unsound bad) page place = Refused (Damaged bad) place
-replacedPlaced replaced·Overflows page place = Refused Full place
 
 -- refused, with the growth state as it was
 abbrev pub unmovedBy : Growth → Refusal → Grown

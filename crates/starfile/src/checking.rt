@@ -1,13 +1,10 @@
 // The check of a file.
 ghost use mathlib.Core.Path.{_≡_};
-ghost use mathlib.Core.Bool.{true};
 ghost use Rattle.placement.specs.Lent.{before};
 ghost use Rattle.calls.specs.Answers.{Leaves, checked};
 ghost use Rattle.calls.specs.Calls.{checkOf};
 ghost use Rattle.starfile.specs.Outcomes.{VerdictSmall, verdictChecked};
 ghost use Rattle.calls.specs.Lent.{poolBefore, poolAfter};
-use crate::lending::all_fit;
-use crate::lending::guard;
 use calls::answers::Admission;
 use calls::answers::Checked;
 use calls::answers::Refusal;
@@ -15,6 +12,8 @@ use comparing::Verdict;
 use hashing::Geometry;
 use hashing::Growth;
 use hashing::Parameters;
+use lookup::all_fit;
+use lookup::guard;
 
 // The file is only read. A refusal of the file itself tells the lowest unsound page, or the first page and place that differ from the rule.
 pub fn check(

@@ -4,13 +4,13 @@ ghost use lib.ListN.{length, replicate};
 ghost use Rattle.placement.specs.Lent.{before, after};
 ghost use Rattle.calls.specs.Answers.{Leaves, unpooled, placed};
 ghost use Rattle.calls.specs.Calls.{makeOf};
-use crate::lending::file_fits;
-use crate::lending::guard;
 use calls::answers::Admission;
 use calls::answers::Grown;
 use calls::answers::Placed;
 use hashing::Growth;
 use hashing::Parameters;
+use lookup::file_fits;
+use lookup::guard;
 
 // The file is left as document 01's empty file. No growth state is read: a new file's is (0, 0).
 pub fn make(

@@ -6,10 +6,9 @@ ghost use Rattle.placement.specs.Lent.{held, before, after};
 ghost use Rattle.placement.specs.Ready.{Pooled};
 ghost use Rattle.calls.specs.Answers.{Leaves, Stores, cleared, placed};
 ghost use Rattle.calls.specs.Calls.{growOf, shrinkOf};
-ghost use Rattle.starfile.specs.Outcomes.{ReplacedSmall, replacedGrown, unmovedBy, stepOf, regrowOn, regrowOf};
+ghost use Rattle.updating.specs.Outcomes.{ReplacedSmall};
+ghost use Rattle.starfile.specs.Outcomes.{replacedGrown, unmovedBy, stepOf, regrowOn, regrowOf};
 ghost use Rattle.calls.specs.Lent.{Admitted, poolBefore, poolAfter};
-use crate::lending::all_fit;
-use crate::lending::guard;
 use calls::answers::Admission;
 use calls::answers::Grown;
 use calls::answers::Placed;
@@ -17,6 +16,8 @@ use calls::answers::Refusal;
 use hashing::Geometry;
 use hashing::Growth;
 use hashing::Parameters;
+use lookup::all_fit;
+use lookup::guard;
 use replacing::Replaced;
 
 // The answer of an accepted growth is the new page, with the new growth state.

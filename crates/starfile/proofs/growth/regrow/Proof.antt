@@ -10,7 +10,7 @@ use Rattle.calls.specs.Lent.{Admitted}
 use Rattle.calls.specs.Calls.{unlent, fileFits, poolFits}
 use Rattle.starfile.proofs.Making.{made-by}
 use Rattle.calls.proofs.Refusals.{turned-away, refusal-is, none-is, admitted-pool}
-use Rattle.starfile.proofs.Pools.{cleared-is, leaves-cleared}
+use Rattle.updating.proofs.Pools.{cleared-is, leaves-cleared}
 use Rattle.starfile.proofs.Stepping.{regrow-guarded, regrown-pool}
 use borrow.Author.Needs.{needs}
 use Rattle.starfile.proofs.growth.regrow.Statement.{statement}

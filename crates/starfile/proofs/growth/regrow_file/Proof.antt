@@ -5,7 +5,7 @@ use Rattle.placement.specs.File.{File}
 use Rattle.placement.specs.Hash.{lent}
 use Rattle.calls.specs.Answers.{Pool, pooled, cleared}
 use Rattle.starfile.proofs.Outcomes.{growth-small}
-use Rattle.starfile.proofs.Pools.{prepared, tabled}
+use Rattle.lookup.proofs.Admitting.{prepared, tabled}
 use Rattle.starfile.proofs.Stepping.{step-movable, regrow-refused, regrow-stored}
 use borrow.Author.Needs.{needs}
 use Rattle.starfile.proofs.growth.regrow_file.Statement.{statement}
@@ -45,7 +45,7 @@ regrow-requires c κs =
 grown-by-requires : tie.Need-grown-by-requires
 grown-by-requires c κs =
     let s = start (c .before .before .before .before .before .before .before .before .before .before .before .before .before .before .before .before .before .before .before .before .before .before .before .before .before) in
-    rw (c .before .before .before .before .before .before .before .before .before .before .before .before .before .before .regrow .ensures .0) (growth-small (s .args .parameters) (s .args .growth) (fileOf s) (s .pre .0 .homing .valid) (s .pre .0 .homing .growth) _)
+    rw (c .before .before .before .before .before .before .before .before .before .before .before .before .before .before .regrow .ensures .0) (growth-small (s .args .parameters) (s .args .growth) (fileOf s) (s .pre .0 .homing .valid) _)
 
 returns : tie.Need-returns
 returns c =

@@ -1,0 +1,4 @@
+pub mod Admitting
+pub mod Finding
+pub mod Reached
+pub mod Tallies

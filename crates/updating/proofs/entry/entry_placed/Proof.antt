@@ -1,0 +1,42 @@
+-- `starfile::entry::entry_placed` meets its contract.
+use native.Mathlib.Omega.{arith}
+use borrow.Author.Needs.{needs}
+use Rattle.updating.proofs.entry.entry_placed.Statement.{statement}
+use Rattle.updating.proofs.entry.entry_placed.Tie as tie
+
+enum-known-entered : tie.Need-enum-known-entered
+enum-known-entered c = search needs
+
+cast-t6 : tie.Need-cast-t6
+cast-t6 c = omega (arith, rw (c .before .entered .given .1) at (c .before .before .before .pre))
+
+enum-known-entered-2 : tie.Need-enum-known-entered-2
+enum-known-entered-2 c = search needs
+
+cast-t7 : tie.Need-cast-t7
+cast-t7 c = omega (arith, rw (c .before .entered2 .given .1) at (c .before .before .before .pre))
+
+enum-told : tie.Need-enum-told
+enum-told c = search needs
+
+returns : tie.Need-returns
+returns c = rw (c .before .entered .given .1)
+
+returns-2 : tie.Need-returns-2
+returns-2 c = rw (c .before .entered2 .given .1)
+
+returns-3 : tie.Need-returns-3
+returns-3 c = rw (c .enum-told .given .1)
+
+pub entry-placed-spec : {M : Type 1} → statement M
+entry-placed-spec =
+    tie.close
+    (tie.spec
+    enum-known-entered
+    cast-t6
+    enum-known-entered-2
+    cast-t7
+    enum-told
+    returns
+    returns-2
+    returns-3)
