@@ -1,3 +1,4 @@
 pub mod Search
 pub mod Pastes
 pub mod Surveyed
+pub mod Cascading
