@@ -25,3 +25,4 @@ pub mod Demand3
 pub mod Cleaned
 pub mod RoundTrips
 pub mod Keeping
+pub mod Cascade
