@@ -1,16 +1,19 @@
-//! The library of commit badd9a8, whose functions bench/run renames from sft_.. to base_sft_..; this interface stays.
+//! An older library, whose functions bench/run renames from sft_.. to base_sft_..: that of commit badd9a8 or, with the feature
+//! `multipliers`, of 03be332, the last one without owners. They differ in the parameters alone; this interface stays.
 
 use crate::files::File;
 use crate::{Answer, Library};
 use model::Kind;
 
-/// The only one that it has.
-pub const MULTIPLIER: u32 = 16_807;
+/// Those that it has.
+pub const MULTIPLIERS: &[u32] = if cfg!(feature = "multipliers") { &[16_807, 48_271] } else { &[16_807] };
 
-/// b, N, n0, s, k, A, M.
+const PARAMETERS: usize = if cfg!(feature = "multipliers") { 8 } else { 7 };
+
+/// b, N, n0, s, k, A, M, and the multiplier if it takes one.
 #[repr(C)]
 #[derive(Clone, Copy)]
-struct Parameters([u32; 7]);
+struct Parameters([u32; PARAMETERS]);
 
 /// e and x.
 #[repr(C)]
@@ -63,21 +66,24 @@ extern "C" {
 
 #[derive(Clone)]
 struct Base {
+    parameters: Parameters,
     file: File,
     pool_numbers: Vec<u32>,
     pool_words: Vec<u64>,
 }
 
 pub fn library(file: &File) -> Box<dyn Library> {
+    let parameter = |i| file.parameters.get(i).copied().unwrap_or(file.multiplier);
+    let parameters = Parameters(std::array::from_fn(parameter));
     let items = file.numbers.len();
-    Box::new(Base { file: file.clone(), pool_numbers: vec![0; items], pool_words: vec![0; items] })
+    Box::new(Base { parameters, file: file.clone(), pool_numbers: vec![0; items], pool_words: vec![0; items] })
 }
 
 impl Base {
     // Today's library is called through a function of another crate, which is not inlined either.
     #[inline(never)]
     fn run(&mut self, kind: Kind, number: u32, ra: u32, dec: i32) -> Outcome {
-        let (p, g) = (Parameters(self.file.parameters), Growth(self.file.growth));
+        let (p, g) = (self.parameters, Growth(self.file.growth));
         let (s, sl) = (self.file.separators.as_mut_ptr(), self.file.separators.len());
         let (n, nl) = (self.file.numbers.as_mut_ptr(), self.file.numbers.len());
         let (w, wl) = (self.file.words.as_mut_ptr(), self.file.words.len());

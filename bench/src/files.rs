@@ -19,6 +19,7 @@ pub struct File {
     pub separators: Vec<u8>,
     pub numbers: Vec<u32>,
     pub words: Vec<u64>,
+    pub owners: Vec<u8>,
 }
 
 impl File {
@@ -31,7 +32,8 @@ impl File {
         let [places, .., bits, _, pages] = parameters;
         let items = (pages * places) as usize;
         let separators = vec![((1_u32 << bits) - 1) as u8; pages as usize];
-        File { parameters, multiplier, growth: [0, 0], separators, numbers: vec![0; items], words: vec![0; items] }
+        let (numbers, words, owners) = (vec![0; items], vec![0; items], vec![0; items]);
+        File { parameters, multiplier, growth: [0, 0], separators, numbers, words, owners }
     }
 
     pub fn places(&self) -> usize {
@@ -59,6 +61,12 @@ impl File {
         self.numbers.iter().copied().filter(|&number| number != 0).collect()
     }
 
+    /// The owner of a star that stands on a page.
+    pub fn owner(&self, page: u32, number: u32) -> Option<u8> {
+        let first = page as usize * self.places();
+        (first..first + self.places()).find(|&item| self.numbers[item] == number).map(|item| self.owners[item])
+    }
+
     /// With the multiplier where it is not document 01's.
     pub fn size(&self) -> String {
         let multiplier =
@@ -78,12 +86,13 @@ impl File {
         self.numbers.chunks(places).zip(other.numbers.chunks(places)).filter(|(a, b)| a != b).count()
     }
 
-    /// Whether a page's separator, numbers and words are those of the other file.
+    /// Whether a page's separator, numbers, words and owners are those of the other file.
     pub fn same_page(&self, other: &File, page: usize) -> bool {
         let items = page * self.places()..(page + 1) * self.places();
         self.separators[page] == other.separators[page]
             && self.numbers[items.clone()] == other.numbers[items.clone()]
-            && self.words[items.clone()] == other.words[items]
+            && self.words[items.clone()] == other.words[items.clone()]
+            && self.owners[items.clone()] == other.owners[items]
     }
 }
 

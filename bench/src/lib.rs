@@ -23,7 +23,7 @@ pub struct Answer {
     pub stars: u32,
 }
 
-/// One version of the library with a file of its own.
+/// One version of the library with a file of its own; all calls are the institute's.
 pub trait Library {
     fn call(&mut self, kind: Kind, number: u32, ra: u32, dec: i32) -> Answer;
     fn growth(&self) -> [u32; 2];
@@ -68,7 +68,7 @@ pub trait Library {
 /// file.
 pub fn libraries(file: &File) -> Vec<Box<dyn Library>> {
     #[cfg(feature = "base")]
-    if file.multiplier == base::MULTIPLIER {
+    if base::MULTIPLIERS.contains(&file.multiplier) {
         return vec![present::library(file), base::library(file)];
     }
     today(file)

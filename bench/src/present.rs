@@ -19,11 +19,12 @@ fn parameters_and_growth(file: &File) -> (Parameters, Growth) {
 
 pub fn library(file: &File) -> Box<dyn Library> {
     let (parameters, growth) = parameters_and_growth(file);
-    let call = Call { kind: Kind::Due, parameters, growth, number: 0, ra: 0, dec: 0 };
+    let call = Call { kind: Kind::Due, parameters, growth, caller: 0, number: 0, ra: 0, dec: 0 };
     let lent = Buffers {
         separators: file.separators.clone(),
         numbers: file.numbers.clone(),
         words: file.words.clone(),
+        owners: file.owners.clone(),
         ..Buffers::zeros(&parameters)
     };
     Box::new(Present { call, lent })
@@ -31,9 +32,10 @@ pub fn library(file: &File) -> Box<dyn Library> {
 
 /// The file that the model's rule gives these stars without a growth; none if a star is carried past the end.
 pub fn laid_out(parameters: [u32; 7], stars: &[u32]) -> Option<File> {
-    let stars = stars.iter().map(|&number| Star { number, word: pack(1, 0) }).collect();
-    let Buffers { separators, numbers, words, .. } = lay_out(&Parameters::new(parameters), &Growth::default(), stars)?;
-    Some(File { separators, numbers, words, ..File::empty(parameters) })
+    let stars = stars.iter().map(|&number| Star { number, word: pack(1, 0), owner: 0 }).collect();
+    let lent = lay_out(&Parameters::new(parameters), &Growth::default(), stars)?;
+    let Buffers { separators, numbers, words, owners, .. } = lent;
+    Some(File { separators, numbers, words, owners, ..File::empty(parameters) })
 }
 
 /// Which pages the growth that led from one file to the other may have altered.
@@ -74,6 +76,7 @@ impl Library for Present {
             separators: self.lent.separators.clone(),
             numbers: self.lent.numbers.clone(),
             words: self.lent.words.clone(),
+            owners: self.lent.owners.clone(),
         }
     }
 

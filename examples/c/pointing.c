@@ -5,7 +5,10 @@
 
 #include "starfile.h"
 
-enum { PLACES = 2, PAGES = 8, BITS = 8, INSTITUTE = 0 };
+enum { PLACES = 2, PAGES = 8, BITS = 8 };
+
+/* Who calls: the institute, or an observer at the shared telescope. */
+enum caller { INSTITUTE = 0, FIRST_OBSERVER = 1, SECOND_OBSERVER = 2 };
 
 static uint8_t separators[PAGES];
 static uint32_t numbers[PAGES * PLACES];
@@ -39,9 +42,9 @@ static void tell_refusal(const char *call, uint32_t number, struct heatherplane_
            call, number, reply.refusal, heatherplane_refusal_name(reply.refusal), reply.page);
 }
 
-static void enter(const struct heatherplane_file *file, uint32_t number, uint32_t ra, int32_t dec)
+static void enter(const struct heatherplane_file *file, enum caller caller, uint32_t number, uint32_t ra, int32_t dec)
 {
-    struct heatherplane_reply reply = heatherplane_enter_in(file, INSTITUTE, number, ra, dec);
+    struct heatherplane_reply reply = heatherplane_enter_in(file, (uint8_t)caller, number, ra, dec);
     if (reply.refusal)
         tell_refusal("enter", number, reply);
     else
@@ -77,9 +80,17 @@ static void neighbours(const struct heatherplane_file *file, uint32_t number)
            number, lower, higher, reply.page, reply.place);
 }
 
-static void remove_star(const struct heatherplane_file *file, uint32_t number)
+/* The owner of a held star, read from the lent page. */
+static void tell_owner(const struct heatherplane_file *file, uint32_t number)
 {
-    struct heatherplane_reply reply = heatherplane_remove_in(file, INSTITUTE, number);
+    struct heatherplane_reply reply = heatherplane_look_up_in(file, number);
+    if (!reply.refusal && reply.found)
+        printf("owner of %" PRIu32 ": %d\n", number, file->owners[reply.page * file->parameters.places + reply.place]);
+}
+
+static void remove_star(const struct heatherplane_file *file, enum caller caller, uint32_t number)
+{
+    struct heatherplane_reply reply = heatherplane_remove_in(file, (uint8_t)caller, number);
     if (reply.refusal)
         tell_refusal("remove", number, reply);
     else
@@ -90,10 +101,10 @@ int main(void)
 {
     struct heatherplane_file file = empty_file(HEATHERPLANE_MULTIPLIER_1988);
 
-    enter(&file, 1, 10, -5);
-    enter(&file, 2, 1295999999, 324000000);
-    enter(&file, 32349, 364923000, -60138000);
-    enter(&file, 91262, 1005289000, 139622000);
+    enter(&file, INSTITUTE, 1, 10, -5);
+    enter(&file, INSTITUTE, 2, 1295999999, 324000000);
+    enter(&file, INSTITUTE, 32349, 364923000, -60138000);
+    enter(&file, INSTITUTE, 91262, 1005289000, 139622000);
     look_up(&file, 1);
     look_up(&file, 2);
     look_up(&file, 32349);
@@ -106,18 +117,29 @@ int main(void)
     neighbours(&file, 3);
 
     /* a resent entry is accepted */
-    enter(&file, 1, 10, -5);
+    enter(&file, INSTITUTE, 1, 10, -5);
 
     /* refusals: the star is held elsewhere, a declination out of range, no star of this number, a pool that is too short */
-    enter(&file, 1, 20, 5);
-    enter(&file, 3, 20, 324000001);
-    remove_star(&file, 3);
+    enter(&file, INSTITUTE, 1, 20, 5);
+    enter(&file, INSTITUTE, 3, 20, 324000001);
+    remove_star(&file, INSTITUTE, 3);
     file.pool_words_length--;
-    remove_star(&file, 1);
+    remove_star(&file, INSTITUTE, 1);
     file.pool_words_length++;
 
-    remove_star(&file, 1);
+    remove_star(&file, INSTITUTE, 1);
     look_up(&file, 1);
+
+    /* a provisional star is its observer's: another can neither remove it nor, by resending it, make it his own */
+    enter(&file, FIRST_OBSERVER, 118218, 860000000, -120000);
+    remove_star(&file, SECOND_OBSERVER, 118218);
+    enter(&file, SECOND_OBSERVER, 118218, 860000000, -120000);
+    tell_owner(&file, 118218);
+    remove_star(&file, FIRST_OBSERVER, 118218);
+
+    /* the institute may remove every star */
+    enter(&file, SECOND_OBSERVER, 118219, 860000000, -120000);
+    remove_star(&file, INSTITUTE, 118219);
 
     /* damage is found on the page that a star leads to, and told by its page */
     words[heatherplane_look_up_in(&file, 2).page * PLACES] = UINT64_MAX;
@@ -125,7 +147,7 @@ int main(void)
 
     /* a new file under the other multiplier; called with one that is not its own, it answers wrongly or refuses */
     file = empty_file(HEATHERPLANE_MULTIPLIER_1993);
-    enter(&file, 91262, 1005289000, 139622000);
+    enter(&file, INSTITUTE, 91262, 1005289000, 139622000);
     look_up(&file, 91262);
     file.parameters.multiplier = HEATHERPLANE_MULTIPLIER_1988;
     look_up(&file, 91262);

@@ -44,22 +44,23 @@ enum Buffer {
     Separators,
     Numbers,
     Words,
+    Owners,
 }
 
 impl Buffer {
-    const ALL: [Buffer; 3] = [Buffer::Separators, Buffer::Numbers, Buffer::Words];
+    const ALL: [Buffer; 4] = [Buffer::Separators, Buffer::Numbers, Buffer::Words, Buffer::Owners];
 
     fn name(self) -> &'static str {
-        ["separators", "numbers", "words"][self as usize]
+        ["separators", "numbers", "words", "owners"][self as usize]
     }
 
     /// Bits of an item.
     fn width(self) -> usize {
-        [8, 32, 64][self as usize]
+        [8, 32, 64, 8][self as usize]
     }
 
     fn bits(self, file: &File) -> usize {
-        self.width() * [file.separators.len(), file.numbers.len(), file.words.len()][self as usize]
+        self.width() * [file.separators.len(), file.numbers.len(), file.words.len(), file.owners.len()][self as usize]
     }
 
     fn flip(self, file: &mut File, bit: usize) {
@@ -68,6 +69,7 @@ impl Buffer {
             Buffer::Separators => file.separators[item] ^= 1 << bit,
             Buffer::Numbers => file.numbers[item] ^= 1 << bit,
             Buffer::Words => file.words[item] ^= 1 << bit,
+            Buffer::Owners => file.owners[item] ^= 1 << bit,
         }
     }
 
@@ -98,6 +100,11 @@ fn concerned(pages: &[Named], buffer: Buffer, page: usize) -> impl Iterator<Item
     pages[page..=last].iter().filter(move |named| named.lowest <= page).flat_map(|named| &named.asked)
 }
 
+/// What a file tells of a star: its position and its owner.
+fn told(file: &File, number: u32, answer: &Answer) -> Option<(u32, i32, Option<u8>)> {
+    answer.found.then(|| (answer.ra, answer.dec, file.owner(answer.page, number)))
+}
+
 fn try_bit(counts: &mut Counts, file: &File, pages: &[Named], buffer: Buffer, bit: usize) {
     let mut damaged = file.clone();
     buffer.flip(&mut damaged, bit);
@@ -106,7 +113,7 @@ fn try_bit(counts: &mut Counts, file: &File, pages: &[Named], buffer: Buffer, bi
     for Asked { number, held, before } in concerned(pages, buffer, buffer.page(file, bit)) {
         let after = library.look_up(*number);
         refused |= after.refusal == DAMAGED;
-        wrong |= *held && after.refusal == 0 && (after.found, after.ra, after.dec) != (true, before.ra, before.dec);
+        wrong |= *held && after.refusal == 0 && told(&damaged, *number, &after) != told(file, *number, before);
     }
     let checked = library.check().refusal == DAMAGED;
     counts.bits += 1;
@@ -155,7 +162,7 @@ fn answers(file: &File, clean: &File) -> [usize; 3] {
     let mut counts = [0; 3];
     for number in clean.stars() {
         let (after, before) = (library.look_up(number), before.look_up(number));
-        let right = after.refusal == 0 && (after.found, after.ra, after.dec) == (true, before.ra, before.dec);
+        let right = after.refusal == 0 && told(file, number, &after) == told(clean, number, &before);
         counts[if right { 0 } else { 1 + usize::from(after.refusal != DAMAGED) }] += 1;
     }
     counts

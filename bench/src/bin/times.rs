@@ -13,10 +13,11 @@ type Libraries = Vec<Box<dyn Library>>;
 
 /// Clearing the pool, every star's home, and the homes of one page of stars.
 fn floors(file: &File) -> [Runs; 3] {
-    let mut pool = (file.numbers.clone(), file.words.clone());
+    let mut pool = (file.numbers.clone(), file.words.clone(), file.owners.clone());
     let clearing = alone(500, |_| {
         black_box(&mut pool.0).fill(0);
         black_box(&mut pool.1).fill(0);
+        black_box(&mut pool.2).fill(0);
     });
     let homes = Homes::new(file);
     let stars = file.stars();

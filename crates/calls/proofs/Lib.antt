@@ -10,3 +10,4 @@ pub mod InUse
 pub mod Telling
 pub mod Points
 pub mod Shrinking
+pub mod Owning

@@ -20,7 +20,7 @@ use Rattle.calls.specs.Answers.{Pool, spotted, refused, cleared, accepted}
 use Rattle.reach.specs.Reach.{firstUnsound}
 use Rattle.calls.specs.Spots.{firstSpot, ruled}
 use Rattle.calls.specs.Calls.{hash, poolFits, unless, guarded, unchanged, allStars, checkedAt, checkOf}
-use Rattle.histories.specs.Model.{Model, check, callerOf, updated, modelFile}
+use Rattle.histories.specs.Model.{Model, check, updated, modelFile}
 use Rattle.histories.proofs.Fitting.{Fitting, hashFor, starsFor, rising, proper}
 use Rattle.histories.proofs.Guards.{lent-pool}
 use Rattle.histories.proofs.Searching.{none-unsound, no-spot}
@@ -66,7 +66,7 @@ module _ (p : Parameters) (m : Model) (t : Fitting p m) where
       )
 
   pub check-conforms : (pool : Pool) → Conforms p m check (checkOf p (m .growth) (modelFile p m) pool)
-  unfolding checkOf updated callerOf spotted
+  unfolding checkOf updated spotted
   check-conforms pool = rw (lent-pool p m t (poolFits p pool)) (go (poolFits p pool))
     where
       go : (v : Bool)
@@ -77,4 +77,4 @@ module _ (p : Parameters) (m : Model) (t : Fitting p m) where
       go false = refused-conforms p m t check pool (refused 2 0) (λ e. omega arith) (λ e. omega arith)
       go true =
           rw finds-nothing
-          (accepted-conforms p m t check (unchanged (m .growth) (modelFile p m) (cleared pool) (accepted 0)) refl refl refl t (λ k e. cc) refl)
+          (accepted-conforms p m t check (unchanged (m .growth) (modelFile p m) (cleared pool) (accepted 0)) refl refl refl t (λ k e. cc))

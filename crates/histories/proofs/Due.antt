@@ -4,13 +4,13 @@ use Rattle.hashing.specs.declared.Parameters.{Parameters}
 use Rattle.calls.specs.Answers.{Pool, counted}
 use Rattle.calls.specs.Calls.{unchanged, dueOf}
 use Rattle.calls.specs.Due.{stars, isDue}
-use Rattle.histories.specs.Model.{Model, due, callerOf, updated, modelFile}
+use Rattle.histories.specs.Model.{Model, due, updated, modelFile}
 use Rattle.histories.proofs.Fitting.{Fitting}
 use Rattle.histories.proofs.Guards.{lent}
 use Rattle.histories.proofs.Conforms.{Conforms, accepted-conforms}
 
 pub due-conforms : (p : Parameters) (m : Model) → Fitting p m → (pool : Pool) → Conforms p m due (dueOf p (m .growth) (modelFile p m) pool)
-unfolding dueOf updated callerOf counted
+unfolding dueOf updated counted
 due-conforms p m t pool =
     rw (lent p m t)
     (accepted-conforms p m t due
@@ -19,5 +19,4 @@ due-conforms p m t pool =
     refl
     refl
     t
-    (λ k e. cc)
-    refl)
+    (λ k e. cc))

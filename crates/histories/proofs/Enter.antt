@@ -1,7 +1,7 @@
 -- Entries, those of a held star, and when one is refused with 8.
-use mathlib.Core.Path.{_≡_, refl, sym, ap, subst, _∙_}
-use mathlib.Core.Bool.{Bool, true, false, cond, _&&_, and-eq-true-iff, true≢false, false≢true}
-use mathlib.Core.List.{List, [], _∷_}
+use mathlib.Core.Path.{_≡_, refl, sym, ap, _∙_}
+use mathlib.Core.Bool.{Bool, true, false, cond, _&&_, and-eq-true-iff, true≢false}
+use mathlib.Core.List.{[]}
 use mathlib.Core.Logic.{_↔_}
 use mathlib.Core.Option.{Option, none, some}
 use Prim.Native.Nat.{ℕ, _+_, _-_, _<_}
@@ -24,20 +24,15 @@ use Rattle.reach.proofs.Search.{Such, such}
 use Rattle.calls.specs.Answers.{Pool, spotted, acceptedAt, refused, refusedAt, cleared}
 use Rattle.calls.specs.Calls.{poolFits, unless, orElse, guarded, unchanged, holds, itemOf, enterTo, enteredAgain, enterOn, enterOf}
 use Rattle.calls.proofs.Resending.{HeldEntry, resend-leaves, other-refused}
-use Rattle.histories.specs.Model.{Model, enter, callerOf, updated, setPosition, heldPosition, entryStars, modelFile, pageFor, placeOn}
+use Rattle.histories.specs.Model.{Model, enter, updated, setPosition, heldPosition, entryStars, modelFile, pageFor, placeOn}
 use Rattle.histories.proofs.Entries.{ValidEntry, ordered-set, position-valid, set-same}
 use Rattle.histories.proofs.Stars.{starOf, stars-enter}
 use Rattle.histories.proofs.Fitting.{Fitting, hashFor, starsFor, bounded, homed, rising-from, proper, lengths, in-range, laid-stars, named-readable}
 use Rattle.histories.proofs.Held.{held, held-word, not-held}
 use Rattle.histories.proofs.Guards.{lent-pool}
 use Rattle.histories.proofs.Searching.{none-unsound}
-use Rattle.histories.proofs.Reaching.{Reach, reach}
-use Rattle.histories.proofs.Conforms.{Conforms, refused-conforms, called-conforms}
-use Rattle.histories.proofs.Others.{Keeps, keeps-same, entered-keeps}
-
-is-empty : (l : List Star) → isEmpty l ≡ true → l ≡ []
-is-empty [] e = refl
-is-empty (s ∷ l) e = absurd (false≢true e)
+use Rattle.histories.proofs.Reaching.{is-empty, Reach, entry-reach}
+use Rattle.histories.proofs.Conforms.{Conforms, refused-conforms, accepted-conforms}
 
 module _ (p : Parameters) (m : Model) (t : Fitting p m) (caller k : ℕ) (q : Position) where
   abbrev new : Star
@@ -56,12 +51,7 @@ module _ (p : Parameters) (m : Model) (t : Fitting p m) (caller k : ℕ) (q : Po
   inside = homed p (m .growth) k (t .parameters) (t .growth)
 
   entry : Reach (hashFor p m) (p .pages) (modelFile p m) from to
-  unfolding entryEnd stops
-  entry =
-      reach (hashFor p m) (p .pages) (modelFile p m) from stops
-      (λ page e. eqb-true (getD (modelFile p m .separators) page 0) (hashFor p m .top)
-      (and-eq-true-iff (storedTop (modelFile p m .separators) (hashFor p m .top) page) (entersWithin (hashFor p m) (modelFile p m) new page) .0 e .0))
-      inside
+  entry = entry-reach (hashFor p m) (p .pages) (modelFile p m) new inside
 
   placed : entersWithin (hashFor p m) (modelFile p m) new to ≡ true
       → (replaced (p .places) (modelFile p m) from (pages (hashFor p m) from (pagesTo from to) (entering (hashFor p m) (modelFile p m) new to))
@@ -90,13 +80,6 @@ module _ (p : Parameters) (m : Model) (t : Fitting p m) (caller k : ℕ) (q : Po
               (rising-from p m t) (proper p m t) (t .fits) (entry .high) new refl (omega (arith, found .low, found .high, inside))
 
   module _ (valid : ValidEntry k q) (absent : heldPosition k (m .entries) ≡ none) where
-    -- the entry's own caller
-    by-caller : (c : ℕ) {a b : List Star} → callerOf (enter caller k q) ≡ some c → Keeps caller a b → Keeps c a b
-    unfolding callerOf
-    by-caller c {a} {b} e h =
-        let same : caller ≡ c = cc in
-        subst (λ (x : ℕ). Keeps x a b) same h
-
     enters : (pool : Pool) → Conforms p m (enter caller k q) (enterTo p (m .growth) (modelFile p m) pool new (placeOn p m k) to)
     unfolding enterTo updated spotted
     enters pool =
@@ -114,7 +97,7 @@ module _ (p : Parameters) (m : Model) (t : Fitting p m) (caller k : ℕ) (q : Po
             })
             (unchanged (m .growth) (modelFile p m) pool (refusedAt 8 0 (placeOn p m k))))
         go true e =
-            called-conforms p m t (enter caller k q) _ refl refl
+            accepted-conforms p m t (enter caller k q) _ refl refl
             (placed e .0 ∙ laid-stars p (updated p (enter caller k q) m) (insert new (starsFor m)) (stars-enter caller k q (m .entries) absent))
             (record {
               parameters = t .parameters;
@@ -123,7 +106,6 @@ module _ (p : Parameters) (m : Model) (t : Fitting p m) (caller k : ℕ) (q : Po
               fits = rw (stars-enter caller k q (m .entries) absent) (placed e .1);
             })
             (λ j d. cc)
-            (λ c d n. by-caller c d (subst (Keeps caller (starsFor m)) (sym (stars-enter caller k q (m .entries) absent)) (entered-keeps caller new (starsFor m) refl)))
         go false e = refused-conforms p m t (enter caller k q) pool (refusedAt 8 0 (placeOn p m k)) (λ d. omega arith) (λ d. omega arith)
 
   -- The model fed a number's own position again is the same model.
@@ -154,8 +136,7 @@ module _ (p : Parameters) (m : Model) (t : Fitting p m) (caller k : ℕ) (q : Po
             → Conforms p m (enter caller k q) (unchanged (m .growth) (modelFile p m) pool (cond b (acceptedAt (pageFor p m k) (placeOn p m k)) (refusedAt 6 0 (placeOn p m k))))
         go true d =
             let stays = fed-own (e ∙ ap some (own (valid .position) (eqb-true stored (packed q) d))) in
-            called-conforms p m t (enter caller k q) _ refl (ap (λ (n : Model). n .growth) (sym stays)) (ap (modelFile p) (sym stays)) (rw stays t) (λ j c. cc)
-            (λ c g n. subst (λ (x : Model). Keeps c (starsFor m) (starsFor x)) (sym stays) (keeps-same c (starsFor m)))
+            accepted-conforms p m t (enter caller k q) _ refl (ap (λ (n : Model). n .growth) (sym stays)) (ap (modelFile p) (sym stays)) (rw stays t) (λ j c. cc)
         go false d = refused-conforms p m t (enter caller k q) pool (refusedAt 6 0 (placeOn p m k)) (λ c. omega arith) (λ c. omega arith)
 
   enters-on : ValidEntry k q → (pool : Pool) → Conforms p m (enter caller k q) (enterOn p (m .growth) (modelFile p m) pool (pageFor p m k) new)

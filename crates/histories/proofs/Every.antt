@@ -3,7 +3,9 @@ use mathlib.Core.Path.{_≡_, refl, sym, ap, _∙_}
 use Prim.Native.Nat.{ℕ}
 use Rattle.hashing.specs.declared.Parameters.{Parameters}
 use mathlib.Core.Bool.{true}
+use mathlib.Core.Logic.{_⊎_}
 use mathlib.Core.Option.{some}
+use native.Mathlib.Omega.{arith}
 use Rattle.pages.specs.declared.position.Position.{Position}
 use Rattle.pages.specs.Position.{validNumber, validPosition, validWord}
 use Rattle.placement.specs.File.{File, Clean}
@@ -12,22 +14,22 @@ use Rattle.placement.proofs.Sound.{clean-laid}
 use Rattle.calls.specs.declared.answers.Answer.{Answer}
 use Rattle.calls.specs.Answers.{Pool, After, spotted, acceptedAt, refusedAt, cleared}
 use Rattle.calls.specs.Calls.{poolFits, unchanged, lookUpOf, enterOf, checkOf}
-use Rattle.histories.specs.Model.{Model, lookUp, enter, change, remove, grow, shrink, due, check, fed, heldPosition, heldEntry, modelFile, pageFor, placeOn, answered}
+use Rattle.histories.specs.Model.{Model, lookUp, enter, change, remove, grow, shrink, due, check, fed, heldPosition, heldOwner, heldEntry, modelFile, pageFor, placeOn, answered}
 use Rattle.histories.specs.Call.{Call, callOf, step, isAccepted}
 use Rattle.histories.specs.Run.{HistoryState, Event, initial, outcome, next, end}
 use Rattle.histories.specs.Theorem.{EveryHistory}
-use Rattle.histories.specs.Corollaries.{InHistory, EachState, SameContents, SameState, HistoryIndependence}
+use Rattle.histories.specs.Corollaries.{NotOwner, AcceptedAt, InHistory, EachState, SameContents, SameState, HistoryIndependence}
 use Rattle.histories.proofs.Entries.{determined, position-valid}
 use Rattle.histories.proofs.Fitting.{Fitting, hashFor, starsFor, rising-from, proper, in-range}
 use Rattle.histories.proofs.Guards.{lent, lent-pool}
 use Rattle.histories.proofs.LookUp.{looks-up, look-up-conforms}
 use Rattle.histories.proofs.Enter.{enter-conforms, fed-own, resent, other, full}
-use Rattle.histories.proofs.Change.{change-conforms}
-use Rattle.histories.proofs.Remove.{remove-conforms}
+use Rattle.histories.proofs.Change.{change-conforms, change-refused, change-accepted}
+use Rattle.histories.proofs.Remove.{remove-conforms, removal-refused, removal-accepted}
 use Rattle.histories.proofs.Grow.{grow-conforms, shrink-conforms, shrink-first, shrink-full}
 use Rattle.histories.proofs.Due.{due-conforms}
 use Rattle.histories.proofs.Check.{check-conforms, finds-nothing}
-use Rattle.histories.proofs.Conforms.{fedWith}
+use Rattle.histories.proofs.Conforms.{fedWith, fed-refused}
 use Rattle.histories.proofs.Histories.{Agrees, Conforming, each-event, end-agrees, as-model}
 use Rattle.histories.proofs.Make.{initial-agrees}
 
@@ -68,6 +70,13 @@ no-step s c pool a e d =
     let m = ap (λ (x : After). fedWith (s .parameters) (c .request) (x .answer) (s .model)) e ∙ d in
     λ i. record { parameters = s .parameters; growth = e i .growth; file = e i .file; model = m i }
 
+refused-stays : (s : HistoryState) → Agrees s → (c : Call) (pool : Pool) (a : Answer) → (a .refusal ≡ 0 → ⊥) → outcome s c ≡ unchanged (s .growth) (s .file) pool a
+    → (outcome s c .answer ≡ a) × (next s c ≡ s)
+refused-stays s agrees c pool a h e = (
+  ap (λ (x : After). x .answer) e,
+  no-step s c pool a e (fed-refused (s .parameters) (s .model) (agrees .fitting) (c .request) a h),
+)
+
 module _ (s : HistoryState) (agrees : Agrees s) (pool : Pool) (fit : poolFits (s .parameters) pool ≡ true) (caller k : ℕ) where
   module _ (q : Position) (e : heldPosition k (s .model .entries) ≡ some q) where
     leaves : enterOf (s .parameters) (s .growth) (s .file) pool caller k q
@@ -86,6 +95,30 @@ module _ (s : HistoryState) (agrees : Agrees s) (pool : Pool) (fit : poolFits (s
       → enterOf (s .parameters) (s .growth) (s .file) pool caller k q .answer ≡ refusedAt 6 0 (placeOn (s .parameters) (s .model) k)
   refuses q r v e d = rw (agrees .growth, agrees .file, other (s .parameters) (s .model) (agrees .fitting) caller k q pool fit r e v d)
 
+-- Changes and removals of a held star.
+module _ (s : HistoryState) (agrees : Agrees s) (pool : Pool) (caller k : ℕ) (r : Position) (e : heldPosition k (s .model .entries) ≡ some r) where
+  module _ (h : caller ≡ 0 → ⊥) (d : caller ≡ heldOwner k (s .model .entries) → ⊥) where
+    no-change : (q : Position) → validPosition q ≡ true → NotOwner s (callOf pool (change caller k q)) k
+    unfolding outcome step spotted
+    no-change q v =
+        refused-stays s agrees (callOf pool (change caller k q)) pool (refusedAt 13 0 (placeOn (s .parameters) (s .model) k)) (λ z. omega arith)
+        (rw (agrees .growth, agrees .file) (change-refused (s .parameters) (s .model) (agrees .fitting) caller k q pool r e v h d))
+
+    no-removal : poolFits (s .parameters) pool ≡ true → NotOwner s (callOf pool (remove caller k)) k
+    unfolding outcome step spotted
+    no-removal fit =
+        refused-stays s agrees (callOf pool (remove caller k)) (cleared pool) (refusedAt 13 0 (placeOn (s .parameters) (s .model) k)) (λ z. omega arith)
+        (rw (agrees .growth, agrees .file) (removal-refused (s .parameters) (s .model) (agrees .fitting) caller k pool fit r e h d))
+
+  module _ (h : (caller ≡ 0) ⊎ (caller ≡ heldOwner k (s .model .entries))) where
+    own-change : (q : Position) → validPosition q ≡ true → AcceptedAt s (callOf pool (change caller k q)) k
+    unfolding outcome step
+    own-change q v = rw (agrees .growth, agrees .file) (change-accepted (s .parameters) (s .model) (agrees .fitting) caller k q pool r e v h)
+
+    own-removal : poolFits (s .parameters) pool ≡ true → AcceptedAt s (callOf pool (remove caller k)) k
+    unfolding outcome step
+    own-removal fit = rw (agrees .growth, agrees .file) (removal-accepted (s .parameters) (s .model) (agrees .fitting) caller k pool fit r e h)
+
 in-history : (s : HistoryState) → Agrees s → InHistory s
 unfolding outcome step
 in-history s agrees =
@@ -96,6 +129,8 @@ in-history s agrees =
       full = λ pool caller k q l v w e. rw (agrees .growth, agrees .file) (full (s .parameters) (s .model) (agrees .fitting) caller k q pool l (record { number = v; position = w }) e);
       resent = λ pool caller k q l e. (ap (λ (x : After). x .answer) (leaves s agrees pool l caller k q e), stays s agrees pool l caller k q e);
       held = λ pool caller k q r l v e d. refuses s agrees pool l caller k q r v e d;
+      notOwner = λ pool caller k r e h d. (no-change s agrees pool caller k r e h d, no-removal s agrees pool caller k r e h d);
+      owner = λ pool caller k r e h. (own-change s agrees pool caller k r e h, own-removal s agrees pool caller k r e h);
       shrinkFirst = λ pool l. rw (agrees .growth, agrees .file) (shrink-first (s .parameters) (s .model) (agrees .fitting) pool l);
       shrinkFull = λ pool l d. rw (agrees .growth, agrees .file) (shrink-full (s .parameters) (s .model) (agrees .fitting) pool l d);
     }

@@ -3,7 +3,6 @@ use mathlib.Core.Path.{_≡_, refl, sym, ap, _∙_}
 use mathlib.Core.Bool.{Bool, true, false, cond, true≢false}
 use mathlib.Core.List.{List, [], _∷_}
 use mathlib.Core.Logic.{_↔_}
-use mathlib.Core.Option.{none as no-one}
 use Prim.Native.Nat.{ℕ, _-_, _<_}
 use native.Mathlib.Nat.{zero-add, le-refl}
 use native.Mathlib.Omega.{arith}
@@ -20,7 +19,7 @@ use Rattle.placement.specs.Rule.{Star, left}
 use Rattle.reach.specs.Reach.{isEmpty}
 use Rattle.calls.specs.Answers.{Pool, After, spotted, accepted, refused, cleared}
 use Rattle.calls.specs.Calls.{hash, poolFits, unless, guarded, unchanged, regrowTo, growOf, shrinkOf}
-use Rattle.histories.specs.Model.{Model, Request, lookUp, callerOf, grow, shrink, updated, modelFile}
+use Rattle.histories.specs.Model.{Model, Request, lookUp, grow, shrink, updated, modelFile}
 use Rattle.histories.proofs.Fitting.{Fitting, starsFor}
 use Rattle.histories.proofs.Guards.{lent-pool}
 use Rattle.histories.proofs.Searching.{none-unsound}
@@ -71,7 +70,7 @@ module _ (p : Parameters) (m : Model) (t : Fitting p m) where
   regrown-fits next v h = record { parameters = t .parameters; growth = v; ordered = t .ordered; fits = h }
 
   -- a request that takes the model to the next growth state
-  module _ (r : Request) (next : Growth) (fed : updated p r m ≡ regrown m next) (no : (k : ℕ) → r ≡ lookUp k → ⊥) (nobody : callerOf r ≡ no-one) where
+  module _ (r : Request) (next : Growth) (fed : updated p r m ≡ regrown m next) (no : (k : ℕ) → r ≡ lookUp k → ⊥) where
     regrow-conforms : (pool : Pool) (page : ℕ) → validGrowth p next ≡ true → Conforms p m r (regrowTo p (m .growth) (modelFile p m) pool next page)
     unfolding spotted
     regrow-conforms pool page v = rw (regrows pool next page) (go (carried p m next) refl)
@@ -81,7 +80,6 @@ module _ (p : Parameters) (m : Model) (t : Fitting p m) where
             accepted-conforms p m t r (moved p m pool next page) refl (ap (λ (n : Model). n .growth) (sym fed)) (ap (modelFile p) (sym fed))
             (rw fed (regrown-fits next v h))
             (λ k e. absurd (no k e))
-            nobody
         go (s ∷ l) h = refused-conforms p m t r pool (refused 8 0) (λ d. omega arith) (λ d. omega arith)
 
     pub regrowing-conforms : (pool : Pool) (fits none : Bool) (n page : ℕ) → (n ≡ 0 → ⊥) → (n ≡ 5 → ⊥) → (none ≡ false → validGrowth p next ≡ true)
@@ -106,10 +104,10 @@ module _ (p : Parameters) (m : Model) (t : Fitting p m) where
   grow-is pool = rw (lent-pool p m t (poolFits p pool))
 
   pub grow-conforms : (pool : Pool) → Conforms p m grow (growOf p (m .growth) (modelFile p m) pool)
-  unfolding updated callerOf
+  unfolding updated
   grow-conforms pool =
       rw (grow-is pool)
-      (regrowing-conforms grow (grown p (m .growth)) refl (λ k e. let z : _≡_ {A = ℕ} 0 1 = cc in omega arith) refl
+      (regrowing-conforms grow (grown p (m .growth)) refl (λ k e. let z : _≡_ {A = ℕ} 0 1 = cc in omega arith)
       pool (poolFits p pool) (eqb (highest p (m .growth)) (p .pages - 1)) 8 (pageCount p (m .growth))
       (λ d. omega arith) (λ d. omega arith) next-valid)
 
@@ -124,10 +122,10 @@ module _ (p : Parameters) (m : Model) (t : Fitting p m) where
   shrink-is pool = rw (lent-pool p m t (poolFits p pool))
 
   pub shrink-conforms : (pool : Pool) → Conforms p m shrink (shrinkOf p (m .growth) (modelFile p m) pool)
-  unfolding updated callerOf
+  unfolding updated
   shrink-conforms pool =
       rw (shrink-is pool)
-      (regrowing-conforms shrink (shrunk p (m .growth)) refl (λ k e. let z : _≡_ {A = ℕ} 0 1 = cc in omega arith) refl
+      (regrowing-conforms shrink (shrunk p (m .growth)) refl (λ k e. let z : _≡_ {A = ℕ} 0 1 = cc in omega arith)
       pool (poolFits p pool) (isUngrown (m .growth)) 9 (highest p (m .growth))
       (λ d. omega arith) (λ d. omega arith) before-valid)
 

@@ -1,23 +1,24 @@
 -- In a fitting model's own file: the page named for a number holds it exactly if the model does, with its position's word and its owner.
-use mathlib.Core.Path.{_≡_, refl, sym, ap, _∙_}
-use mathlib.Core.Bool.{true, false}
-use mathlib.Core.List.{List·Memᴰ}
+use mathlib.Core.Path.{_≡_, refl, sym, _∙_}
+use mathlib.Core.Bool.{Bool, true, false, cond, _||_}
+use mathlib.Core.Logic.{_⊎_, inl, inr}
 use mathlib.Core.Option.{none, some}
 use Prim.Native.Nat.{ℕ, _≤_, _<_}
+use lib.Dec.{eqb}
 use lib.ListN.{getD}
+use borrow.Author.Tests.{eq-eqb, ne-eqb}
 use Rattle.hashing.specs.declared.Parameters.{Parameters}
 use Rattle.pages.specs.declared.position.Position.{Position}
 use Rattle.pages.specs.Position.{validWord, packed}
 use Rattle.pages.specs.Page.{part, placeOf, heldAt}
 use Rattle.pages.proofs.Parts.{part-item}
 use Rattle.placement.specs.Hash.{hashOf}
-use Rattle.placement.specs.Rule.{Star}
 use Rattle.placement.proofs.Search.{found, missing}
-use Rattle.calls.specs.Calls.{holds, itemOf, ownerFor, mayAlter}
-use Rattle.histories.specs.Model.{Model, heldPosition, heldOwner, modelFile, pageFor}
+use Rattle.calls.specs.Answers.{Pool, After, refusedAt}
+use Rattle.calls.specs.Calls.{unchanged, holds, itemOf, ownerFor, mayAlter, allowed}
+use Rattle.histories.specs.Model.{Model, heldPosition, heldOwner, modelFile, pageFor, placeOn}
 use Rattle.histories.proofs.Stars.{starOf, held-star, no-star}
 use Rattle.histories.proofs.Alike.{place-below}
-use Rattle.histories.proofs.Others.{owner-held, owns}
 use Rattle.histories.proofs.Fitting.{Fitting, hashFor, starsFor, rising-from, proper, named-inside}
 
 module _ (p : Parameters) (m : Model) (t : Fitting p m) (k : ℕ) where
@@ -45,11 +46,26 @@ module _ (p : Parameters) (m : Model) (t : Fitting p m) (k : ℕ) where
     unfolding itemOf
     held-owner = sym (part-item (p .places) (pageFor p m k) (modelFile p m .owners) _ place-inside) ∙ there .2
 
-    -- its star is the caller's, if he is an observer who may alter it
-    pub held-own : (caller : ℕ) → mayAlter caller (ownerFor p (modelFile p m) (pageFor p m k) k) ≡ true → (caller ≡ 0 → ⊥)
-        → (s : Star) → List·Memᴰ s (starsFor m) → s .number ≡ k → s .owner ≡ caller
-    held-own caller may observer s n d =
-        owner-held 1 k (m .entries) (t .ordered) s n d ∙ owns caller (heldOwner k (m .entries)) observer (sym (ap (mayAlter caller) held-owner) ∙ may)
+    -- what is allowed only to its owner and to 0
+    module _ (pool : Pool) (caller : ℕ) (a : After) where
+      allowed-is : (b : Bool) → mayAlter caller (heldOwner k (m .entries)) ≡ b
+          → allowed p (m .growth) (modelFile p m) pool (pageFor p m k) caller k a ≡ cond b a (unchanged (m .growth) (modelFile p m) pool (refusedAt 13 0 (placeOn p m k)))
+      unfolding allowed
+      allowed-is b d = rw (held-owner, d)
+
+      pub not-allowed : (caller ≡ 0 → ⊥) → (caller ≡ heldOwner k (m .entries) → ⊥)
+          → allowed p (m .growth) (modelFile p m) pool (pageFor p m k) caller k a ≡ unchanged (m .growth) (modelFile p m) pool (refusedAt 13 0 (placeOn p m k))
+      unfolding mayAlter
+      not-allowed h d = allowed-is false (rw (ne-eqb caller 0 h, ne-eqb caller (heldOwner k (m .entries)) d))
+
+      pub is-allowed : (caller ≡ 0) ⊎ (caller ≡ heldOwner k (m .entries)) → allowed p (m .growth) (modelFile p m) pool (pageFor p m k) caller k a ≡ a
+      unfolding mayAlter
+      is-allowed (inl h) = allowed-is true (rw (eq-eqb caller 0 h))
+      is-allowed (inr h) = allowed-is true (last (eqb caller 0) (eqb caller (heldOwner k (m .entries))) (eq-eqb caller (heldOwner k (m .entries)) h))
+        where
+          last : (x y : Bool) → y ≡ true → x || y ≡ true
+          last true y g = refl
+          last false y g = g
 
   pub not-held : 1 ≤ k → heldPosition k (m .entries) ≡ none → holds p (modelFile p m) (pageFor p m k) k ≡ false
   unfolding holds modelFile hashOf

@@ -1,7 +1,7 @@
 pub mod Compared
 pub mod Entries
 pub mod Stars
-pub mod Others
+pub mod Copies
 pub mod Alike
 pub mod Naming
 pub mod Fitting
@@ -24,5 +24,5 @@ pub mod Every
 pub mod Demand3
 pub mod Cleaned
 pub mod RoundTrips
-pub mod Keeping
+pub mod Others
 pub mod Cascade

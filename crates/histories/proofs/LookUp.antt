@@ -12,7 +12,7 @@ use Rattle.pages.proofs.Words.{unpack-pack}
 use Rattle.placement.specs.Hash.{namedPage}
 use Rattle.calls.specs.Answers.{Pool, spotted, acceptedAt, refused, foundAt}
 use Rattle.calls.specs.Calls.{unless, guarded, unchanged, holds, itemOf, lookedUp, lookUpOf}
-use Rattle.histories.specs.Model.{Model, lookUp, callerOf, updated, heldPosition, modelFile, pageFor, placeOn, answerWith, answered}
+use Rattle.histories.specs.Model.{Model, lookUp, updated, heldPosition, modelFile, pageFor, placeOn, answerWith, answered}
 use Rattle.histories.proofs.Entries.{position-valid}
 use Rattle.histories.proofs.Fitting.{Fitting, in-range, named-readable}
 use Rattle.histories.proofs.Held.{held, held-word, not-held}
@@ -43,7 +43,7 @@ module _ (p : Parameters) (m : Model) (t : Fitting p m) where
       go (some q) = refl
 
   pub look-up-conforms : (pool : Pool) (k : ℕ) → Conforms p m (lookUp k) (lookUpOf p (m .growth) (modelFile p m) pool k)
-  unfolding lookUpOf updated callerOf pageFor namedPage spotted
+  unfolding lookUpOf updated pageFor namedPage spotted
   look-up-conforms pool k = rw (lent p m t) (go (validNumber k) refl)
     where
       go : (v : Bool) → validNumber k ≡ v
@@ -59,4 +59,3 @@ module _ (p : Parameters) (m : Model) (t : Fitting p m) where
           (λ j e.
           let d : k ≡ j = cc in
           same ∙ ap (answered p m) d)
-          refl

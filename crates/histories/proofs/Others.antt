@@ -1,86 +1,235 @@
--- Which of the model's stars an observer's calls leave.
+-- An observer's entries, changes and removals leave the stars of others, on every file.
 use mathlib.Core.Path.{_≡_, refl, sym, ap, _∙_}
-use mathlib.Core.Bool.{Bool, true, false, cond}
-use mathlib.Core.List.{List, [], _∷_, List·Memᴰ, List·Memᴰ·head, List·Memᴰ·tail, List·Memᴰ·cases-cons, List·Memᴰ·not-nil}
-use mathlib.Core.Logic.{_↔_, ⊎-elim}
-use Prim.Native.Nat.{ℕ, suc, _≤_}
+use mathlib.Core.Bool.{Bool, true, false, not, cond, _&&_}
+use mathlib.Core.List.{List, [], List·Memᴰ}
+use mathlib.Core.Logic.{⊎-elim}
+use mathlib.Core.Option.{none, some}
+use Prim.Native.Nat.{ℕ, zero, suc, _+_, _≤_}
 use native.Mathlib.Omega.{arith}
-use lib.Dec.{eqb}
-use borrow.Author.Tests.{eq-eqb, ne-eqb, eqb-true}
-use Rattle.placement.specs.Rule.{Star, insert, without, reworded, changed}
-use Rattle.placement.proofs.Order.{rising-member, member-insert, insert-keeps, member-without, without-member}
-use Rattle.calls.specs.Calls.{mayAlter}
-use Rattle.histories.specs.Model.{Entry, heldOwner, entryStars}
-use Rattle.histories.proofs.Entries.{Ordered}
-use Rattle.histories.proofs.Stars.{starOf, stars-rise}
-
--- every star of another owner is in both lists or in neither
-abbrev pub Keeps : ℕ → List Star → List Star → Type 0
-Keeps caller a b = (s : Star) → (s .owner ≡ caller → ⊥) → List·Memᴰ s a ↔ List·Memᴰ s b
-
-pub keeps-same : (caller : ℕ) (a : List Star) → Keeps caller a a
-keeps-same caller a s o = ((λ m. m), λ m. m)
-
--- the star of a number is its owner's
-pub owner-held : (low k : ℕ) (es : List Entry) → Ordered low es → (s : Star) → List·Memᴰ s (entryStars es) → s .number ≡ k → s .owner ≡ heldOwner k es
-unfolding entryStars heldOwner
-owner-held low k [] o s m e = absurd (List·Memᴰ·not-nil m)
-owner-held low k (d ∷ es) o s m e =
-    ⊎-elim
-    (λ (h : s ≡ starOf (d .number) (d .position) (d .owner)).
-    let here : d .number ≡ k = sym (ap (λ (t : Star). t .number) h) ∙ e in
-    rw (eq-eqb (d .number) k here) (ap (λ (t : Star). t .owner) h))
-    (λ n.
-    let above : suc (d .number) ≤ s .number = rising-member (suc (d .number)) (entryStars es) (stars-rise (suc (d .number)) es (o .2)) s n in
-    rw (ne-eqb (d .number) k (λ c. omega arith)) (owner-held (suc (d .number)) k es (o .2) s n e))
-    (List·Memᴰ·cases-cons m)
+use lib.Dec.{ltb, eqb}
+use borrow.Author.Tests.{eqb-true, ne-eqb}
+use Rattle.hashing.specs.declared.Parameters.{Parameters}
+use Rattle.hashing.specs.declared.Growth.{Growth}
+use Rattle.hashing.specs.Limits.{validParameters, validGrowth}
+use Rattle.hashing.proofs.Bounds.{both}
+use Rattle.pages.specs.declared.position.Position.{Position}
+use Rattle.pages.specs.Position.{validNumber, validPosition, validWord, packed}
+use Rattle.pages.specs.Page.{part}
+use Rattle.pages.proofs.Parts.{part-item}
+use Rattle.placement.specs.Rule.{Star, first, pages, left, insert, without}
+use Rattle.placement.specs.File.{File, starsAt, gathered, replaced, Sized}
+use Rattle.placement.specs.Hash.{hashOf, namedPage}
+use Rattle.placement.proofs.Order.{member-insert, member-without}
+use Rattle.placement.proofs.Writing.{length-part}
+use Rattle.placement.proofs.Pages.{Numbered}
+use Rattle.placement.proofs.Search.{star-held}
+use Rattle.placement.proofs.Sound.{AllSound, gathered-member, gathered-proper, sound-fits}
+use Rattle.reach.specs.Reach.{pagesTo, removalEnd, entering, entersWithin, entryEnd, firstUnsound}
+use Rattle.calls.specs.Answers.{Pool, After, cleared}
+use Rattle.calls.specs.Calls.{hash, fileFits, poolFits, unless, orElse, unlent, guarded, readable, named, holds, placeFor, itemOf, ownerFor, mayAlter, allowed, enterTo, enterOn, enterOf, changeOn, changeOf, removeTo, removeOn, removeOf}
+use Rattle.calls.proofs.Refusals.{unlent-facts, sized}
+use Rattle.histories.specs.Model.{lookUp, enter, change, remove, grow, shrink, due, check, callerOf}
+use Rattle.histories.specs.Call.{step}
+use Rattle.histories.specs.Others.{copies, OthersUntouched}
+use Rattle.histories.proofs.Copies.{count, same-owner, even, count-insert, count-kept, count-other, count-set, ruled-copies}
+use Rattle.histories.proofs.Alike.{place-below}
+use Rattle.histories.proofs.Fitting.{homed, in-range}
+use Rattle.histories.proofs.Searching.{all-sound-before}
+use Rattle.histories.proofs.Reaching.{is-empty, entry-reach, removal-reach}
 
 -- an observer who may alter a star owns it
-pub owns : (caller owner : ℕ) → (caller ≡ 0 → ⊥) → mayAlter caller owner ≡ true → owner ≡ caller
+owns : (caller owner : ℕ) → (caller ≡ 0 → ⊥) → mayAlter caller owner ≡ true → owner ≡ caller
 unfolding mayAlter
-owns caller owner some e = sym (eqb-true caller owner (rw (ne-eqb caller 0 some) at e))
+owns caller owner observer e = sym (eqb-true caller owner (rw (ne-eqb caller 0 observer) at e))
 
-pub entered-keeps : (caller : ℕ) (new : Star) (l : List Star) → new .owner ≡ caller → Keeps caller l (insert new l)
-entered-keeps caller new l e s o = (
-  insert-keeps new l s,
-  λ m. ⊎-elim (λ (h : s ≡ new). absurd (o (ap (λ (t : Star). t .owner) h ∙ e))) (λ n. n) (member-insert new l s m),
-)
+-- past the refusals 1 to 4
+neither : (a b : ℕ) → orElse a b ≡ 0 → (a ≡ 0) × (b ≡ 0)
+neither zero b e = (refl, e)
+neither (suc a) b e = absurd (omega arith)
 
--- the stars of number k are the caller's
-abbrev Owned : ℕ → ℕ → List Star → Type 0
-Owned caller k l = (s : Star) → List·Memᴰ s l → s .number ≡ k → s .owner ≡ caller
+given : (t : Bool) (n : ℕ) → unless t (suc n) ≡ 0 → t ≡ true
+given true n e = refl
+given false n e = absurd (omega arith)
 
-pub removed-keeps : (caller k : ℕ) (l : List Star) → Owned caller k l → Keeps caller l (without k l)
-removed-keeps caller k l h s o = ((λ m. without-member k l s m (λ e. o (h s m e))), λ m. member-without k l s m .0)
+module _ (p : Parameters) (g : Growth) (f : File) (caller : ℕ) (observer : caller ≡ 0 → ⊥) (s : Star) (other : s .owner ≡ caller → ⊥) where
+  -- what a call leaves holds s as often
+  record Kept (a : After) : Type 0 where
+    same : copies s (a .file) ≡ copies s f
 
--- a star of another number stays as it is, and one of number k keeps its owner
-reworded-other : (k v : ℕ) (s : Star) → (s .number ≡ k → ⊥) → reworded k v s ≡ s
-unfolding reworded
-reworded-other k v s h = ap (λ (t : Bool). cond t (record { number = s .number; word = v; owner = s .owner }) s) (ne-eqb (s .number) k h)
+  either : (t : Bool) (a b : After) → (t ≡ true → Kept a) → (t ≡ false → Kept b) → Kept (cond t a b)
+  either true a b h k = h refl
+  either false a b h k = k refl
 
-reworded-owner : (k v : ℕ) (s : Star) → reworded k v s .owner ≡ s .owner
-unfolding reworded
-reworded-owner k v s = go (eqb (s .number) k)
-  where
-    go : (t : Bool) → cond t (record { number = s .number; word = v; owner = s .owner }) s .owner ≡ s .owner
-    go true = refl
-    go false = refl
+  past : (pool : Pool) (n : ℕ) (a : After) → (n ≡ 0 → Kept a) → Kept (guarded g f pool n a)
+  past pool zero a h = h refl
+  past pool (suc n) a h = record { same = refl }
 
-pub changed-keeps : (caller k v : ℕ) (l : List Star) → Owned caller k l → Keeps caller l (changed k v l)
-unfolding changed
-changed-keeps caller k v [] h s o = ((λ m. m), λ m. m)
-changed-keeps caller k v (x ∷ l) h s o =
-    let ih = changed-keeps caller k v l (λ t n. h t (List·Memᴰ·tail n)) s o in (
-      λ m.
-          ⊎-elim
-          (λ (e : s ≡ x). List·Memᴰ·head (e ∙ sym (reworded-other k v x (λ c. o (ap (λ (t : Star). t .owner) e ∙ h x (List·Memᴰ·head refl) c)))))
-          (λ n. List·Memᴰ·tail (ih .0 n))
-          (List·Memᴰ·cases-cons m),
-      λ m.
-          ⊎-elim
-          (λ (e : s ≡ reworded k v x).
-          let mine : s .owner ≡ x .owner = ap (λ (t : Star). t .owner) e ∙ reworded-owner k v x in
-          List·Memᴰ·head (e ∙ reworded-other k v x (λ c. o (mine ∙ h x (List·Memᴰ·head refl) c))))
-          (λ n. List·Memᴰ·tail (ih .1 n))
-          (List·Memᴰ·cases-cons m),
-    )
+  -- refused with 13, or else allowed
+  allows : (pool : Pool) (page k : ℕ) (a : After) → (ownerFor p f page k ≡ caller → Kept a) → Kept (allowed p g f pool page caller k a)
+  unfolding allowed
+  allows pool page k a h =
+      either (mayAlter caller (ownerFor p f page k)) _ _ (λ may. h (owns caller (ownerFor p f page k) observer may)) (λ _. record { same = refl })
+
+  change-kept : (pool : Pool) (k : ℕ) (q : Position) → Kept (changeOf p g f pool caller k q)
+  unfolding changeOf changeOn copies
+  change-kept pool k q =
+      past pool (orElse (unlent p g (fileFits p f)) (orElse (unless (validNumber k) 3) (unless (validPosition q) 4)))
+      (changeOn p g f pool page caller k (packed q))
+      (λ _.
+      either (readable p g f page) _ _
+      (λ _.
+      either (holds p f page k) _ _
+      (λ _.
+      allows pool page k _
+      (λ mine. record { same = count-set s (itemOf p f page k) (packed q) (f .numbers) (f .words) (f .owners) (λ e. other (sym e ∙ mine)) }))
+      (λ _. record { same = refl }))
+      (λ _. record { same = refl }))
+    where
+      page : ℕ
+      page = named p g f k
+
+  -- what entries and removals have past refusals 1 and 2
+  record Lent : Type 0 where
+    parameters : validParameters p ≡ true
+    growth : validGrowth p g ≡ true
+    sizes : Sized (p .places) (p .pages) f
+
+  lent : (pool : Pool) (n : ℕ) → orElse (unlent p g (fileFits p f && poolFits p pool)) n ≡ 0 → Lent
+  lent pool n e =
+      let t = unlent-facts p g (fileFits p f && poolFits p pool) (neither (unlent p g (fileFits p f && poolFits p pool)) n e .0) in
+      let v = both _ _ (t .0) in
+      record { parameters = v .0; growth = v .1; sizes = sized p f (both _ _ (t .1) .0) }
+
+  -- the stretch of n sound pages laid anew by the rule
+  module _ (t : Lent) (from n : ℕ) (inside : from + n ≤ p .pages) (sound : ltb (firstUnsound p g f from n) (from + n) ≡ false) where
+    abbrev standing : List Star
+    standing = gathered (p .places) f from n
+
+    sounds : AllSound validWord (hash p g) f from n
+    sounds = all-sound-before p g f from n sound
+
+    numbered : Numbered standing
+    unfolding hashOf
+    numbered x m = gathered-proper validWord (hash p g) f from n sounds x m .0
+
+    ruled-kept : (w : List Star) → Numbered w → left (hash p g) from n w ≡ [] → count s w ≡ count s standing
+        → copies s (replaced (p .places) f from (pages (hash p g) from n w)) ≡ copies s f
+    unfolding hashOf
+    ruled-kept w = ruled-copies s (hash p g) (p .pages) from n f w (t .sizes) inside
+
+    enters-kept : (new : Star) → new .owner ≡ caller → 1 ≤ new .number → left (hash p g) from n (insert new standing) ≡ []
+        → copies s (replaced (p .places) f from (pages (hash p g) from n (insert new standing))) ≡ copies s f
+    enters-kept new mine valid e =
+        ruled-kept (insert new standing)
+        (λ x m. ⊎-elim (λ (d : x ≡ new). rw d valid) (numbered x) (member-insert new standing x m)) e
+        (omega (arith, count-insert s new standing, count-other s new (λ d. other (sym d ∙ mine))))
+
+    -- a star of number k stands on the page named for it, where the search finds its owner
+    owner-standing : (k : ℕ) (x : Star) → List·Memᴰ x standing → x .number ≡ k → x .owner ≡ ownerFor p f (named p g f k) k
+    unfolding hashOf namedPage itemOf starsAt
+    owner-standing k x m d =
+        let q = gathered-member (p .places) f from n x m in
+        let page : ℕ = q .0 in
+        let c = sounds page (q .1) (q .2) in
+        let here : named p g f k ≡ page = ap (first (hash p g) 0 (f .separators)) (sym d) ∙ c .here x (q .3) in
+        let found =
+        star-held validWord (part (p .places) page (f .numbers)) (part (p .places) page (f .words)) (part (p .places) page (f .owners)) x
+        (even (p .places) (p .pages) f (t .sizes) (part (p .places) page) (p .places) (λ l e. length-part (p .places) page (p .pages) l e (omega (arith, q .2))))
+        (c .inOrder) (q .3) in
+        rw (here, ← d)
+        (sym (found .2) ∙ part-item (p .places) page (f .owners) _ (place-below (p .places) page (x .number) (f .numbers) (found .0)))
+
+    removes-kept : (k : ℕ) → ownerFor p f (named p g f k) k ≡ caller
+        → copies s (replaced (p .places) f from (pages (hash p g) from n (without k standing))) ≡ copies s f
+    unfolding hashOf without
+    removes-kept k mine =
+        ruled-kept (without k standing)
+        (λ x m. numbered x (member-without k standing x m .0))
+        (sound-fits validWord (hash p g) f (p .pages) from n (λ (x : Star). not (eqb (x .number) k)) (t .sizes) inside sounds)
+        (count-kept s (λ (x : Star). not (eqb (x .number) k)) standing
+        (λ x m e. ap not (ne-eqb (x .number) k (λ d. other (sym (same-owner s x e) ∙ owner-standing k x m d ∙ mine)))))
+
+  entered-kept : Lent → (pool : Pool) (new : Star) (place : ℕ) → new .owner ≡ caller → 1 ≤ new .number
+      → Kept (enterTo p g f pool new place (entryEnd (hash p g) (p .pages) f new))
+  unfolding enterTo hashOf entering entersWithin
+  entered-kept t pool new place mine valid =
+      either (ltb (firstUnsound p g f from n) (from + n)) _ _ (λ _. record { same = refl })
+      (λ sound.
+      either (entersWithin (hash p g) f new (entryEnd (hash p g) (p .pages) f new)) _ _
+      (λ e. record { same = enters-kept t from n (entry-reach (hash p g) (p .pages) f new (homed p g (new .number) (t .parameters) (t .growth)) .high) sound new mine valid (is-empty _ e) })
+      (λ _. record { same = refl }))
+    where
+      from : ℕ
+      from = hash p g .home (new .number)
+
+      n : ℕ
+      n = pagesTo from (entryEnd (hash p g) (p .pages) f new)
+
+  removed-kept : Lent → (pool : Pool) (k place : ℕ) → ownerFor p f (named p g f k) k ≡ caller
+      → Kept (removeTo p g f pool (named p g f k) k place (removalEnd (hash p g) (p .pages) f (hash p g .home k)))
+  unfolding removeTo hashOf
+  removed-kept t pool k place mine =
+      either (ltb (firstUnsound p g f from n) (from + n)) _ _ (λ _. record { same = refl })
+      (λ sound. record { same = removes-kept t from n (removal-reach (hash p g) (p .pages) f from (homed p g k (t .parameters) (t .growth)) .high) sound k mine })
+    where
+      from : ℕ
+      from = hash p g .home k
+
+      n : ℕ
+      n = pagesTo from (removalEnd (hash p g) (p .pages) f from)
+
+  enter-kept : (pool : Pool) (k : ℕ) (q : Position) → Kept (enterOf p g f pool caller k q)
+  unfolding enterOf enterOn
+  enter-kept pool k q =
+      past pool (orElse (unlent p g (fileFits p f && poolFits p pool)) (orElse (unless (validNumber k) 3) (unless (validPosition q) 4)))
+      (enterOn p g f (cleared pool) page new)
+      (λ e.
+      let rest = neither (unlent p g (fileFits p f && poolFits p pool)) _ e .1 in
+      either (readable p g f page) _ _
+      (λ _.
+      either (holds p f page k) _ _
+      (λ _. record { same = refl })
+      (λ _. entered-kept (lent pool _ e) (cleared pool) new (placeFor p f page k) refl (in-range k (given (validNumber k) 2 (neither (unless (validNumber k) 3) _ rest .0)) .0)))
+      (λ _. record { same = refl }))
+    where
+      page : ℕ
+      page = named p g f k
+
+      new : Star
+      new = record { number = k; word = packed q; owner = caller }
+
+  remove-kept : (pool : Pool) (k : ℕ) → Kept (removeOf p g f pool caller k)
+  unfolding removeOf removeOn
+  remove-kept pool k =
+      past pool (orElse (unlent p g (fileFits p f && poolFits p pool)) (unless (validNumber k) 3))
+      (removeOn p g f (cleared pool) page caller k)
+      (λ e.
+      either (readable p g f page) _ _
+      (λ _.
+      either (holds p f page k) _ _
+      (λ _. allows (cleared pool) page k _ (removed-kept (lent pool _ e) (cleared pool) k (placeFor p f page k)))
+      (λ _. record { same = refl }))
+      (λ _. record { same = refl }))
+    where
+      page : ℕ
+      page = named p g f k
+
+no-caller : (caller : ℕ) → none ≡ some caller → ⊥
+no-caller caller e = let z : _≡_ {A = ℕ} 0 1 = cc in omega arith
+
+pub others-untouched : OthersUntouched
+unfolding step callerOf
+others-untouched p g f pool (lookUp k) caller e observer s other = absurd (no-caller caller e)
+others-untouched p g f pool (enter c k q) caller e observer s other =
+    let by : c ≡ caller = cc in
+    rw by (enter-kept p g f caller observer s other pool k q .same)
+others-untouched p g f pool (change c k q) caller e observer s other =
+    let by : c ≡ caller = cc in
+    rw by (change-kept p g f caller observer s other pool k q .same)
+others-untouched p g f pool (remove c k) caller e observer s other =
+    let by : c ≡ caller = cc in
+    rw by (remove-kept p g f caller observer s other pool k .same)
+others-untouched p g f pool grow caller e observer s other = absurd (no-caller caller e)
+others-untouched p g f pool shrink caller e observer s other = absurd (no-caller caller e)
+others-untouched p g f pool due caller e observer s other = absurd (no-caller caller e)
+others-untouched p g f pool check caller e observer s other = absurd (no-caller caller e)

@@ -1,13 +1,13 @@
 -- Removals.
-use mathlib.Core.Path.{_≡_, refl, sym, subst, _∙_}
+use mathlib.Core.Path.{_≡_, refl, ap, _∙_}
 use mathlib.Core.Bool.{Bool, true, false, cond}
 use mathlib.Core.List.{[]}
+use mathlib.Core.Logic.{_⊎_}
 use mathlib.Core.Option.{Option, none, some}
 use Prim.Native.Nat.{ℕ, _+_, _-_, _≤_}
 use native.Mathlib.Nat.{le-refl}
 use native.Mathlib.Omega.{arith}
-use borrow.Author.Tests.{le-ltb, eqb-true}
-use lib.ListN.{getD}
+use borrow.Author.Tests.{le-ltb}
 use Rattle.hashing.specs.declared.Parameters.{Parameters}
 use Rattle.pages.specs.declared.position.Position.{Position}
 use Rattle.pages.specs.Position.{validNumber, validWord}
@@ -15,19 +15,18 @@ use Rattle.placement.specs.Rule.{pages, left, without}
 use Rattle.placement.specs.File.{gathered, replaced, laid}
 use Rattle.placement.specs.Hash.{hashOf, namedPage}
 use Rattle.placement.proofs.Entry.{removed}
-use Rattle.reach.specs.Reach.{removalEnd, storedTop, pagesTo}
-use Rattle.calls.specs.Answers.{Pool, spotted, refused, refusedAt, cleared}
-use Rattle.calls.specs.Calls.{poolFits, unless, orElse, guarded, unchanged, holds, ownerFor, mayAlter, allowed, removeTo, removeOn, removeOf}
-use Rattle.histories.specs.Model.{Model, remove, callerOf, updated, heldPosition, modelFile, pageFor, placeOn}
-use Rattle.histories.proofs.Entries.{ordered-strike}
+use Rattle.reach.specs.Reach.{removalEnd, pagesTo}
+use Rattle.calls.specs.Answers.{Pool, After, spotted, acceptedAt, refused, refusedAt, cleared}
+use Rattle.calls.specs.Calls.{poolFits, unless, orElse, guarded, unchanged, holds, allowed, removeTo, removeOn, removeOf}
+use Rattle.histories.specs.Model.{Model, remove, updated, heldPosition, heldOwner, modelFile, pageFor, placeOn}
+use Rattle.histories.proofs.Entries.{ordered-strike, position-valid}
 use Rattle.histories.proofs.Stars.{stars-strike}
 use Rattle.histories.proofs.Fitting.{Fitting, hashFor, starsFor, bounded, homed, rising-from, proper, in-range, laid-stars, named-readable}
-use Rattle.histories.proofs.Held.{held, held-own, not-held}
+use Rattle.histories.proofs.Held.{held, not-allowed, is-allowed, not-held}
 use Rattle.histories.proofs.Guards.{lent-pool}
 use Rattle.histories.proofs.Searching.{none-unsound}
-use Rattle.histories.proofs.Reaching.{Reach, reach}
-use Rattle.histories.proofs.Conforms.{Conforms, refused-conforms, allowed-conforms, called-conforms}
-use Rattle.histories.proofs.Others.{Keeps, removed-keeps}
+use Rattle.histories.proofs.Reaching.{Reach, removal-reach}
+use Rattle.histories.proofs.Conforms.{Conforms, refused-conforms, allowed-conforms, accepted-conforms}
 
 module _ (p : Parameters) (m : Model) (t : Fitting p m) (caller k : ℕ) where
   abbrev from : ℕ
@@ -37,11 +36,7 @@ module _ (p : Parameters) (m : Model) (t : Fitting p m) (caller k : ℕ) where
   to = removalEnd (hashFor p m) (p .pages) (modelFile p m) from
 
   removal : Reach (hashFor p m) (p .pages) (modelFile p m) from to
-  unfolding removalEnd
-  removal =
-      reach (hashFor p m) (p .pages) (modelFile p m) from (storedTop (modelFile p m .separators) (hashFor p m .top))
-      (λ q e. eqb-true (getD (modelFile p m .separators) q 0) (hashFor p m .top) e)
-      (homed p (m .growth) k (t .parameters) (t .growth))
+  removal = removal-reach (hashFor p m) (p .pages) (modelFile p m) from (homed p (m .growth) k (t .parameters) (t .growth))
 
   struck : (replaced (p .places) (modelFile p m) from (pages (hashFor p m) from (pagesTo from to) (without k (gathered (p .places) (modelFile p m) from (pagesTo from to))))
       ≡ laid (p .places) (hashFor p m) (p .pages) (without k (starsFor m)))
@@ -53,27 +48,18 @@ module _ (p : Parameters) (m : Model) (t : Fitting p m) (caller k : ℕ) where
       (rising-from p m t) (proper p m t) (t .fits) (removal .high) k refl (removal .ends) in
       (all .1, all .2)
 
-  kept : (q : Position) → heldPosition k (m .entries) ≡ some q → mayAlter caller (ownerFor p (modelFile p m) (pageFor p m k) k) ≡ true
-      → (c : ℕ) → callerOf (remove caller k) ≡ some c → (c ≡ 0 → ⊥) → Keeps c (starsFor m) (starsFor (updated p (remove caller k) m))
-  unfolding callerOf updated
-  kept q e may c d observer =
-      let same : caller ≡ c = cc in
-      subst (Keeps c (starsFor m)) (sym (stars-strike k (m .entries)))
-      (removed-keeps c k (starsFor m) (held-own p m t k q e c (rw same at may) observer))
-
-  removes : (pool : Pool) (page place : ℕ) (q : Position) → heldPosition k (m .entries) ≡ some q → mayAlter caller (ownerFor p (modelFile p m) (pageFor p m k) k) ≡ true → Conforms p m (remove caller k) (removeTo p (m .growth) (modelFile p m) pool page k place to)
+  removes : (pool : Pool) (page place : ℕ) → Conforms p m (remove caller k) (removeTo p (m .growth) (modelFile p m) pool page k place to)
   unfolding removeTo updated spotted
-  removes pool page place q e may =
+  removes pool page place =
       rw (none-unsound p m t from (pagesTo from to) (removal .high), le-ltb (from + pagesTo from to) (from + pagesTo from to) (le-refl (from + pagesTo from to)))
-      (called-conforms p m t (remove caller k) _ refl refl same
+      (accepted-conforms p m t (remove caller k) _ refl refl same
       (record {
         parameters = t .parameters;
         growth = t .growth;
         ordered = ordered-strike 1 k (m .entries) (t .ordered);
         fits = rw (stars-strike k (m .entries)) (struck .1);
       })
-      (λ j d. cc)
-      (kept q e may))
+      (λ j d. cc))
     where
       same : replaced (p .places) (modelFile p m) from (pages (hashFor p m) from (pagesTo from to) (without k (gathered (p .places) (modelFile p m) from (pagesTo from to))))
           ≡ modelFile p (updated p (remove caller k) m)
@@ -89,7 +75,7 @@ module _ (p : Parameters) (m : Model) (t : Fitting p m) (caller k : ℕ) where
           (allowed p (m .growth) (modelFile p m) pool (pageFor p m k) caller k (removeTo p (m .growth) (modelFile p m) pool (pageFor p m k) k (placeOn p m k) to))
           (unchanged (m .growth) (modelFile p m) pool (refusedAt 7 0 (placeOn p m k))))
       go none e = rw (not-held p m t k h e) (refused-conforms p m t (remove caller k) pool (refusedAt 7 0 (placeOn p m k)) (λ d. omega arith) (λ d. omega arith))
-      go (some q) e = rw (held p m t k q e) (allowed-conforms p m t (remove caller k) pool (pageFor p m k) caller k _ (removes pool (pageFor p m k) (placeOn p m k) q e))
+      go (some q) e = rw (held p m t k q e) (allowed-conforms p m t (remove caller k) pool (pageFor p m k) caller k _ (removes pool (pageFor p m k) (placeOn p m k)))
 
   pub remove-conforms : (pool : Pool) → Conforms p m (remove caller k) (removeOf p (m .growth) (modelFile p m) pool caller k)
   unfolding removeOf pageFor namedPage spotted
@@ -101,3 +87,23 @@ module _ (p : Parameters) (m : Model) (t : Fitting p m) (caller k : ℕ) where
       go false w e = refused-conforms p m t (remove caller k) pool (refused 2 0) (λ d. omega arith) (λ d. omega arith)
       go true false e = refused-conforms p m t (remove caller k) pool (refused 3 0) (λ d. omega arith) (λ d. omega arith)
       go true true e = removes-on (cleared pool) (in-range k e .0)
+
+  -- The removal of a star that the model holds.
+  module _ (pool : Pool) (fit : poolFits p pool ≡ true) (q : Position) (e : heldPosition k (m .entries) ≡ some q) where
+    removes-held : removeOf p (m .growth) (modelFile p m) pool caller k
+        ≡ allowed p (m .growth) (modelFile p m) (cleared pool) (pageFor p m k) caller k (removeTo p (m .growth) (modelFile p m) (cleared pool) (pageFor p m k) k (placeOn p m k) to)
+    unfolding removeOf removeOn pageFor namedPage
+    removes-held = guards ∙ rw (named-readable p m t k, held p m t k q e)
+      where
+        guards : removeOf p (m .growth) (modelFile p m) pool caller k ≡ removeOn p (m .growth) (modelFile p m) (cleared pool) (pageFor p m k) caller k
+        guards = rw (lent-pool p m t (poolFits p pool), fit, position-valid 1 k q (m .entries) (t .ordered) e .number)
+
+    pub removal-refused : (caller ≡ 0 → ⊥) → (caller ≡ heldOwner k (m .entries) → ⊥)
+        → removeOf p (m .growth) (modelFile p m) pool caller k ≡ unchanged (m .growth) (modelFile p m) (cleared pool) (refusedAt 13 0 (placeOn p m k))
+    removal-refused h d = removes-held ∙ not-allowed p m t k q e (cleared pool) caller _ h d
+
+    pub removal-accepted : (caller ≡ 0) ⊎ (caller ≡ heldOwner k (m .entries)) → removeOf p (m .growth) (modelFile p m) pool caller k .answer ≡ acceptedAt (pageFor p m k) (placeOn p m k)
+    unfolding removeTo
+    removal-accepted h =
+        ap (λ (a : After). a .answer) (removes-held ∙ is-allowed p m t k q e (cleared pool) caller _ h)
+        ∙ rw (none-unsound p m t from (pagesTo from to) (removal .high), le-ltb (from + pagesTo from to) (from + pagesTo from to) (le-refl (from + pagesTo from to)))

@@ -7,10 +7,13 @@ use native.Mathlib.Decide.{decLt}
 use native.Mathlib.Omega.{arith}
 use lib.Dec.{eqb, ltb}
 use lib.ListN.{getD}
-use borrow.Author.Tests.{eq-eqb}
+use borrow.Author.Tests.{ltb-false, eq-eqb}
 use Rattle.hashing.specs.declared.Parameters.{Parameters}
+use Rattle.hashing.specs.declared.Growth.{Growth}
+use Rattle.pages.specs.Position.{validWord}
 use Rattle.placement.specs.File.{File}
-use Rattle.placement.specs.Hash.{soundAt}
+use Rattle.placement.specs.Hash.{hashOf, soundAt}
+use Rattle.placement.proofs.Sound.{AllSound, sound-facts}
 use Rattle.reach.specs.Reach.{firstSuch, firstUnsound}
 use Rattle.reach.proofs.Search.{Such, such}
 use Rattle.calls.specs.Spots.{differ, firstSpot}
@@ -32,6 +35,17 @@ unfolding firstUnsound
 none-unsound p m t from n h =
     none-such (λ (q : ℕ). not (soundAt p (m .growth) (modelFile p m) q)) from n
     (λ q g. ap not (all-sound p m t q (omega arith)))
+
+-- Pages of which none is found unsound, in any file.
+pub all-sound-before : (p : Parameters) (g : Growth) (f : File) (from n : ℕ) → ltb (firstUnsound p g f from n) (from + n) ≡ false → AllSound validWord (hashOf p g) f from n
+unfolding firstUnsound soundAt
+all-sound-before p g f from n e q low high =
+    sound-facts validWord (hashOf p g) f q
+    (passed (soundAt p g f q) (such (λ (i : ℕ). not (soundAt p g f i)) from n .before q low (omega (arith, ltb-false (firstUnsound p g f from n) (from + n) e))))
+  where
+    passed : (t : Bool) → not t ≡ false → t ≡ true
+    passed true d = refl
+    passed false d = absurd (true≢false d)
 
 same-spot : (places : ℕ) (f : File) (page place : ℕ) → differ places f f page place ≡ false
 unfolding differ

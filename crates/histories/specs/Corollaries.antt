@@ -2,7 +2,7 @@
 use mathlib.Core.Path.{_≡_}
 use mathlib.Core.Bool.{true}
 use mathlib.Core.List.{List, [], List·Memᴰ}
-use mathlib.Core.Logic.{_↔_}
+use mathlib.Core.Logic.{_↔_, _⊎_}
 use mathlib.Core.Option.{none, some}
 use Prim.Native.Nat.{ℕ}
 use Rattle.hashing.specs.declared.Parameters.{Parameters}
@@ -13,9 +13,17 @@ use Rattle.placement.specs.Rule.{left}
 use Rattle.placement.specs.File.{File, Clean}
 use Rattle.calls.specs.Answers.{Pool, acceptedAt, refusedAt}
 use Rattle.calls.specs.Calls.{hash, poolFits, makeOf}
-use Rattle.histories.specs.Model.{lookUp, enter, shrink, check, setPosition, heldPosition, heldEntry, entryStars, pageFor, placeOn, answered}
+use Rattle.histories.specs.Model.{lookUp, enter, change, remove, shrink, check, setPosition, heldPosition, heldOwner, heldEntry, entryStars, pageFor, placeOn, answered}
 use Rattle.histories.specs.Call.{Call, callOf}
 use Rattle.histories.specs.Run.{HistoryState, Event, initial, outcome, next, events, end}
+
+-- refused with 13 and the place of star k, and no step: file, growth state and model stay
+abbrev pub NotOwner : HistoryState → Call → ℕ → Type 0
+NotOwner now c k = (outcome now c .answer ≡ refusedAt 13 0 (placeOn (now .parameters) (now .model) k)) × (next now c ≡ now)
+
+-- accepted with the page and the place of star k
+abbrev pub AcceptedAt : HistoryState → Call → ℕ → Type 0
+AcceptedAt now c k = outcome now c .answer ≡ acceptedAt (pageFor (now .parameters) (now .model) k) (placeOn (now .parameters) (now .model) k)
 
 -- what holds of a state of a history
 pub record InHistory (now : HistoryState) : Type 0 where
@@ -35,13 +43,25 @@ pub record InHistory (now : HistoryState) : Type 0 where
   -- an entry of a held star with its own position answers its page and place and is no step: file, growth state and model stay
   pub resent :
       (pool : Pool) (caller k : ℕ) (q : Position) → poolFits (now .parameters) pool ≡ true → heldPosition k (now .model .entries) ≡ some q
-      → (outcome now (callOf pool (enter caller k q)) .answer ≡ acceptedAt (pageFor (now .parameters) (now .model) k) (placeOn (now .parameters) (now .model) k))
+      → AcceptedAt now (callOf pool (enter caller k q)) k
       × (next now (callOf pool (enter caller k q)) ≡ now)
   -- with any other position it is refused with 6
   pub held :
       (pool : Pool) (caller k : ℕ) (q r : Position) → poolFits (now .parameters) pool ≡ true → validPosition q ≡ true
       → heldPosition k (now .model .entries) ≡ some r → (r ≡ q → ⊥)
       → outcome now (callOf pool (enter caller k q)) .answer ≡ refusedAt 6 0 (placeOn (now .parameters) (now .model) k)
+  -- a change or a removal of a held star by one who is neither its owner nor 0 is refused with 13
+  pub notOwner :
+      (pool : Pool) (caller k : ℕ) (r : Position) → heldPosition k (now .model .entries) ≡ some r
+      → (caller ≡ 0 → ⊥) → (caller ≡ heldOwner k (now .model .entries) → ⊥)
+      → ((q : Position) → validPosition q ≡ true → NotOwner now (callOf pool (change caller k q)) k)
+      × (poolFits (now .parameters) pool ≡ true → NotOwner now (callOf pool (remove caller k)) k)
+  -- by its owner or 0 it is accepted
+  pub owner :
+      (pool : Pool) (caller k : ℕ) (r : Position) → heldPosition k (now .model .entries) ≡ some r
+      → (caller ≡ 0) ⊎ (caller ≡ heldOwner k (now .model .entries))
+      → ((q : Position) → validPosition q ≡ true → AcceptedAt now (callOf pool (change caller k q)) k)
+      × (poolFits (now .parameters) pool ≡ true → AcceptedAt now (callOf pool (remove caller k)) k)
   -- a shrink is refused with 9 exactly if the model's (e, x) is (0, 0)
   pub shrinkFirst :
       (pool : Pool) → poolFits (now .parameters) pool ≡ true → (outcome now (callOf pool shrink) .answer .refusal ≡ 9) ↔ (now .model .growth ≡ ungrown)

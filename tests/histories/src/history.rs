@@ -1,7 +1,7 @@
 //! A history with the plain book beside it.
 
 use crate::tester::Tester;
-use model::files::random_pool;
+use model::files::{random_caller, random_pool, random_star};
 use model::hashing::{grown, highest_address, home, shrunk, signature};
 use model::placement::{lay_out, pack, unpack, Star};
 use model::{Buffers, Call, Growth, Kind, Outcome, Parameters};
@@ -11,8 +11,8 @@ pub struct History {
     pub parameters: Parameters,
     pub growth: Growth,
     pub lent: Buffers,
-    /// The book: number to word, and its own (e, x). It is fed accepted calls and never sees the file.
-    pub book: BTreeMap<u32, u64>,
+    /// The book: the stars by number, and its own (e, x). It is fed accepted calls and never sees the file.
+    pub book: BTreeMap<u32, Star>,
     book_growth: Growth,
     /// The numbers that calls choose from.
     pub numbers: Vec<u32>,
@@ -27,15 +27,16 @@ impl History {
         lent.separators.iter_mut().for_each(|separator| *separator = tester.random.draw() as u8);
         lent.numbers.iter_mut().for_each(|number| *number = tester.random.draw() as u32);
         lent.words.iter_mut().for_each(|word| *word = tester.random.draw());
-        let call = Call { kind: Kind::Make, parameters, growth: Growth::default(), number: 0, ra: 0, dec: 0 };
+        lent.owners.iter_mut().for_each(|owner| *owner = tester.random.draw() as u8);
+        let growth = Growth::default();
+        let call = Call { kind: Kind::Make, parameters, growth, caller: 0, number: 0, ra: 0, dec: 0 };
         let (_, lent) = tester.compare(&call, &lent);
-        History::from(tester, parameters, Growth::default(), lent)
+        History::from(tester, parameters, growth, lent)
     }
 
     /// From a file that the check accepts.
     pub fn from(tester: &mut Tester, parameters: Parameters, growth: Growth, lent: Buffers) -> History {
-        let pairs = lent.numbers.iter().copied().zip(lent.words.iter().copied());
-        let book: BTreeMap<u32, u64> = pairs.filter(|&(number, _)| number != 0).collect();
+        let book: BTreeMap<u32, Star> = lent.stars().map(|star| (star.number, star)).collect();
         let mut numbers: Vec<u32> = book.keys().copied().collect();
         numbers.extend([1, 2, 2_147_483_645, 2_147_483_646]);
         numbers.extend((0..parameters.items() / 2 + 4).map(|_| tester.random.star_number()));
@@ -59,8 +60,8 @@ impl History {
         let number = tester.random.pick(&self.numbers);
         if tester.random.once_in(8) {
             random_pool(&mut tester.random, &mut self.lent);
-            let (ra, dec) = tester.random.position();
-            tester.deviating_call(self.make_call(kind, number, ra, dec), self.lent.clone());
+            let star = Star { number, ..random_star(&mut tester.random) };
+            tester.deviating_call(self.make_call(kind, star), self.lent.clone());
         }
         self.call(tester, kind, number);
     }
@@ -72,21 +73,31 @@ impl History {
         self.call(tester, kind, 0)
     }
 
-    fn make_call(&self, kind: Kind, number: u32, ra: u32, dec: i32) -> Call {
-        Call { kind, parameters: self.parameters, growth: self.growth, number, ra, dec }
+    /// A call with the star's number and position, for its owner.
+    fn make_call(&self, kind: Kind, star: Star) -> Call {
+        let (ra, dec) = unpack(star.word);
+        let (parameters, growth) = (self.parameters, self.growth);
+        Call { kind, parameters, growth, caller: star.owner, number: star.number, ra, dec }
+    }
+
+    /// Runs a call for a random caller, or for the owner that the book has.
+    pub fn call(&mut self, tester: &mut Tester, kind: Kind, number: u32) -> Outcome {
+        let held = self.book.get(&number).filter(|_| tester.random.once_in(2));
+        let caller = held.map_or_else(|| random_caller(&mut tester.random), |star| star.owner);
+        self.call_as(tester, caller, kind, number)
     }
 
     /// Runs a call with a random position, or with the one that the book has.
-    pub fn call(&mut self, tester: &mut Tester, kind: Kind, number: u32) -> Outcome {
+    pub fn call_as(&mut self, tester: &mut Tester, caller: u8, kind: Kind, number: u32) -> Outcome {
+        let star = random_star(&mut tester.random);
         let held = self.book.get(&number).filter(|_| tester.random.once_in(2));
-        let (ra, dec) = held.map_or_else(|| tester.random.position(), |&word| unpack(word));
-        self.call_with(tester, kind, number, ra, dec)
+        self.call_with(tester, kind, Star { number, owner: caller, ..*held.unwrap_or(&star) })
     }
 
     /// Runs a call with a random pool, feeds the book, and compares the file with the book's.
-    pub fn call_with(&mut self, tester: &mut Tester, kind: Kind, number: u32, ra: u32, dec: i32) -> Outcome {
+    pub fn call_with(&mut self, tester: &mut Tester, kind: Kind, star: Star) -> Outcome {
         random_pool(&mut tester.random, &mut self.lent);
-        let call = self.make_call(kind, number, ra, dec);
+        let (call, number) = (self.make_call(kind, star), star.number);
         let (outcome, after) = tester.compare(&call, &self.lent);
         if kind.takes_number() {
             tester.expect(self.first_place(number) == outcome.place as usize, "a call answers another place");
@@ -108,10 +119,13 @@ impl History {
     }
 
     fn feed(&mut self, call: &Call) {
+        let word = pack(call.ra, call.dec);
         match call.kind {
-            Kind::Enter | Kind::Change => {
-                self.book.insert(call.number, pack(call.ra, call.dec));
+            // A resend leaves the star as it is.
+            Kind::Enter => {
+                self.book.entry(call.number).or_insert(Star { number: call.number, word, owner: call.caller });
             }
+            Kind::Change => self.book.get_mut(&call.number).unwrap().word = word,
             Kind::Remove => {
                 self.book.remove(&call.number);
             }
@@ -126,20 +140,25 @@ impl History {
         let held = self.book.get(&call.number);
         match call.kind {
             Kind::LookUp => {
-                let book = held.map(|&word| unpack(word));
+                let book = held.map(|star| unpack(star.word));
                 let answer = (outcome.found == 1).then_some((outcome.ra, outcome.dec));
                 tester.expect(outcome.refusal == 0 && answer == book, "a look-up differs from the book");
                 tester.expect(self.first_page(call.number) == outcome.page.into(), "a look-up names another page");
             }
             Kind::Enter => {
                 let as_held = match held {
-                    Some(&word) if word == pack(call.ra, call.dec) => outcome.refusal == 0,
+                    Some(star) if star.word == pack(call.ra, call.dec) => outcome.refusal == 0,
                     _ => (outcome.refusal == 6) == held.is_some(),
                 };
                 tester.expect(as_held, "an entry differs from the book");
             }
             Kind::Change | Kind::Remove => {
-                tester.expect((outcome.refusal == 7) == held.is_none(), "a change or removal differs from the book")
+                let refusal = match held {
+                    None => 7,
+                    Some(star) if ![0, star.owner].contains(&call.caller) => 13,
+                    Some(_) => 0,
+                };
+                tester.expect(outcome.refusal == refusal, "a change or removal differs from the book");
             }
             Kind::Grow => {
                 let next = grown(&self.parameters, &self.book_growth);
@@ -194,8 +213,7 @@ impl History {
 
     /// The book's stars by the rule under a growth state.
     fn laid_out(&self, growth: &Growth) -> Option<Buffers> {
-        let stars = self.book.iter().map(|(&number, &word)| Star { number, word }).collect();
-        lay_out(&self.parameters, growth, stars)
+        lay_out(&self.parameters, growth, self.book.values().copied().collect())
     }
 
     fn check_file(&self, tester: &mut Tester) {
@@ -205,8 +223,8 @@ impl History {
 
     /// Whether other buffers hold the same separators and pages.
     pub fn same_file(&self, other: &Buffers) -> bool {
-        let Buffers { separators, numbers, words, .. } = &self.lent;
-        (separators, numbers, words) == (&other.separators, &other.numbers, &other.words)
+        let Buffers { separators, numbers, words, owners, .. } = &self.lent;
+        (separators, numbers, words, owners) == (&other.separators, &other.numbers, &other.words, &other.owners)
     }
 
     /// A shrink right after an accepted growth gives back the file from before it, and a growth after an accepted shrink.
@@ -228,6 +246,7 @@ impl History {
         for item in (0..lent.numbers.len()).filter(|item| item / places != outcome.page as usize) {
             lent.numbers[item] = tester.random.draw() as u32;
             lent.words[item] = tester.random.draw();
+            lent.owners[item] = tester.random.draw() as u8;
         }
         let (other, _) = tester.compare(call, &lent);
         tester.expect(other == *outcome, "a look-up or resend depends on another page");

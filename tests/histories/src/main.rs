@@ -30,6 +30,9 @@ const SCENARIOS: [Scenario; 14] = [
     ("long cascades", 1, 1, scenarios::long_cascade),
 ];
 
+/// The refusals that calls meet, after 0 for none.
+const REFUSALS: [usize; 11] = [0, 1, 2, 3, 4, 5, 6, 7, 8, 9, 13];
+
 struct Totals {
     tester: Tester,
     passed: u64,
@@ -106,9 +109,9 @@ fn main() {
             }
         }
     }
-    println!("calls by refusal    0        1        2        3        4        5        6        7        8        9");
-    for (kind, refusals) in Kind::ALL.iter().zip(totals.tester.refusals) {
-        println!("{:<12}{}", kind.name(), refusals.map(|count| format!("{count:>9}")).concat());
+    println!("{:<12}{}", "refusals", REFUSALS.map(|refusal| format!("{refusal:>9}")).concat());
+    for (kind, counts) in Kind::ALL.iter().zip(totals.tester.refusals) {
+        println!("{:<12}{}", kind.name(), REFUSALS.map(|refusal| format!("{:>9}", counts[refusal])).concat());
     }
     println!("{} pairs of histories ended in the same stars", totals.tester.alike);
     println!("{} calls compared in {:.1} s", totals.tester.calls, start.elapsed().as_secs_f64());

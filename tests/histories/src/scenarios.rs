@@ -4,7 +4,7 @@ use crate::history::History;
 use crate::tester::{stored, Tester};
 use model::files::*;
 use model::hashing::home;
-use model::placement::unpack;
+use model::placement::Star;
 use model::{Buffers, Call, Growth, Kind, Parameters};
 
 /// Every file of two pages with a place each and a few values for each item, under every call.
@@ -23,6 +23,12 @@ pub fn tiny_files(tester: &mut Tester) {
         let mut lent = Buffers::zeros(&parameters);
         (lent.separators, lent.numbers) = (vec![lower.0, upper.0], vec![lower.1, upper.1]);
         (lent.words, lent.pool_words) = (vec![lower.2, upper.2], vec![7, 7]);
+        for item in 0..2 {
+            // An empty place seldom has an owner, as that hides all else.
+            if lent.numbers[item] != 0 || tester.random.once_in(8) {
+                lent.owners[item] = random_caller(&mut tester.random);
+            }
+        }
         let growth = Growth { expansions: tester.random.below(2) as u32, expanded: 0 };
         tester.every_call(parameters, growth, &lent, &numbers[1..3]);
     }
@@ -197,7 +203,8 @@ fn session(tester: &mut Tester, parameters: Parameters, mut growth: Growth, mut 
         let number = tester.random.pick(&numbers);
         let resent = stored(&lent, number).filter(|_| tester.random.once_in(2));
         let (ra, dec) = resent.unwrap_or_else(|| tester.random.position());
-        let call = Call { kind, parameters, growth, number, ra, dec };
+        let caller = random_caller(&mut tester.random);
+        let call = Call { kind, parameters, growth, caller, number, ra, dec };
         let (outcome, after) = tester.compare(&call, &lent);
         (lent, growth) = (after, outcome.growth());
     }
@@ -239,7 +246,7 @@ fn full_entries(tester: &mut Tester, parameters: Parameters) {
     }
 }
 
-/// Two histories that end in the same stars, positions and growth state leave the same bytes.
+/// Two histories that end in the same stars, positions, owners and growth state leave the same bytes.
 pub fn same_stars(tester: &mut Tester) {
     let parameters = small_parameters(&mut tester.random);
     let mut first = History::new(tester, parameters);
@@ -249,26 +256,25 @@ pub fn same_stars(tester: &mut Tester) {
     let mut second = History::new(tester, parameters);
     // Entries and growths may have no room for a while, so each is tried again after the others.
     for _ in 0..10 {
-        let mut missing: Vec<u32> =
-            first.book.keys().copied().filter(|number| !second.book.contains_key(number)).collect();
+        let mut missing: Vec<Star> =
+            first.book.values().copied().filter(|star| !second.book.contains_key(&star.number)).collect();
         tester.random.shuffle(&mut missing);
-        for number in missing {
-            let passing = tester.random.star_number();
-            let stays = first.book.contains_key(&passing);
-            if !stays && second.call(tester, Kind::Enter, passing).refusal == 0 {
-                second.call(tester, Kind::Enter, number);
-                second.call(tester, Kind::Remove, passing);
+        for Star { number, owner, .. } in missing {
+            let passing = random_star(&mut tester.random);
+            let stays = first.book.contains_key(&passing.number);
+            if !stays && second.call_as(tester, passing.owner, Kind::Enter, passing.number).refusal == 0 {
+                second.call_as(tester, owner, Kind::Enter, number);
+                second.call_as(tester, passing.owner, Kind::Remove, passing.number);
             }
-            second.call(tester, Kind::Enter, number);
+            second.call_as(tester, owner, Kind::Enter, number);
             if tester.random.once_in(3) {
                 second.call(tester, Kind::Grow, 0);
             }
         }
         while second.growth != first.growth && second.towards(tester, first.growth).refusal == 0 {}
     }
-    for (&number, &word) in &first.book {
-        let (ra, dec) = unpack(word);
-        second.call_with(tester, Kind::Change, number, ra, dec);
+    for star in first.book.values() {
+        second.call_with(tester, Kind::Change, *star);
     }
     let ended_alike = (&first.book, first.growth) == (&second.book, second.growth);
     if ended_alike {

@@ -1,6 +1,7 @@
 //! Runs a call on the library and on the model and compares everything afterwards.
 
-use model::placement::unpack;
+use model::files::random_caller;
+use model::placement::{unpack, Star};
 use model::random::Random;
 use model::vectors::Vector;
 use model::{Buffers, Call, Growth, Kind, Outcome, Parameters};
@@ -14,8 +15,8 @@ pub struct Tester {
     pub random: Random,
     pub calls: u64,
     /// How often each kind of call got each refusal.
-    pub refusals: [[u64; 10]; 9],
-    /// How many pairs of histories ended in the same stars, positions and growth state.
+    pub refusals: [[u64; 14]; 9],
+    /// How many pairs of histories ended in the same stars, positions, owners and growth state.
     pub alike: u64,
     pub failures: Vec<String>,
     saved: u32,
@@ -23,7 +24,7 @@ pub struct Tester {
 
 impl Tester {
     pub fn new() -> Tester {
-        Tester { random: Random(0), calls: 0, refusals: [[0; 10]; 9], alike: 0, failures: Vec::new(), saved: 0 }
+        Tester { random: Random(0), calls: 0, refusals: [[0; 14]; 9], alike: 0, failures: Vec::new(), saved: 0 }
     }
 
     /// The outcome, with the growth state after the call, and the buffers that the model leaves.
@@ -43,7 +44,17 @@ impl Tester {
         if call.kind == Kind::Grow {
             self.compare_marks(call, outcome.refusal == 0, before, &vector.after);
         }
+        if outcome.refusal == 0 {
+            self.check_others(call, before, &vector.after);
+        }
         (outcome, vector.after)
+    }
+
+    /// An observer's entry, change or removal leaves the stars of others as they are, on whatever page.
+    fn check_others(&mut self, call: &Call, before: &Buffers, after: &Buffers) {
+        let alters = matches!(call.kind, Kind::Enter | Kind::Change | Kind::Remove);
+        let kept = || others(call.caller, before) == others(call.caller, after);
+        self.expect(!alters || call.caller == 0 || kept(), "an observer altered another's star");
     }
 
     /// The marks of the pages that a growth may alter; an accepted growth of a clean file leaves the others alone.
@@ -62,10 +73,9 @@ impl Tester {
                 continue;
             }
             for page in (0..p.pages as usize).filter(|&page| marks[page] == 0) {
-                let items = page * p.places as usize..(page + 1) * p.places as usize;
+                let mut items = page * p.places as usize..(page + 1) * p.places as usize;
                 let same = before.separators[page] == after.separators[page]
-                    && before.numbers[items.clone()] == after.numbers[items.clone()]
-                    && before.words[items.clone()] == after.words[items];
+                    && items.all(|item| before.star(item) == after.star(item));
                 self.expect(same, "growth altered a page without a mark");
             }
         }
@@ -84,7 +94,8 @@ impl Tester {
     fn keep(&mut self, vector: &Vector) -> Option<PathBuf> {
         self.saved += 1;
         let path = PathBuf::from(FOLDER).join(format!("failed-{}.txt", self.saved));
-        let kept = self.saved <= 20 && fs::create_dir_all(FOLDER).is_ok() && fs::write(&path, vector.text()).is_ok();
+        let text = vector.text(interface::LANDED);
+        let kept = self.saved <= 20 && fs::create_dir_all(FOLDER).is_ok() && fs::write(&path, text).is_ok();
         kept.then_some(path)
     }
 
@@ -94,7 +105,8 @@ impl Tester {
             let numbers = if kind.takes_number() { numbers } else { &[0] };
             for &number in numbers {
                 let (ra, dec) = self.random.position();
-                let call = Call { kind, parameters, growth, number, ra, dec };
+                let caller = random_caller(&mut self.random);
+                let call = Call { kind, parameters, growth, caller, number, ra, dec };
                 self.compare(&call, lent);
                 if let (Kind::Enter, Some((ra, dec))) = (kind, stored(lent, number)) {
                     self.compare(&Call { ra, dec, ..call }, lent);
@@ -117,7 +129,7 @@ impl Tester {
         let small = random.below(40) as u32;
         let value = random.pick(&[0, 1, 8, 9, 32, 33, 99, 100, 256, 257, 1_024, 1_025, u32::MAX, any, small, small]);
         let p = &mut call.parameters;
-        match random.below(17) {
+        match random.below(20) {
             0 => p.places = value,
             1 => p.groups = value,
             2 => p.width = value,
@@ -131,15 +143,25 @@ impl Tester {
             10 => resize(random, &mut lent.separators),
             11 => resize(random, &mut lent.numbers),
             12 => resize(random, &mut lent.words),
-            13 => resize(random, &mut lent.pool_numbers),
-            14 => resize(random, &mut lent.pool_words),
-            15 => call.number = random.pick(&[0, 2_147_483_646, 2_147_483_647, 2_147_483_648, u32::MAX]),
+            13 => resize(random, &mut lent.owners),
+            14 => resize(random, &mut lent.pool_numbers),
+            15 => resize(random, &mut lent.pool_words),
+            16 => resize(random, &mut lent.pool_owners),
+            17 => call.caller = random.pick(&[0, 1, 128, 255, any as u8]),
+            18 => call.number = random.pick(&[0, 2_147_483_646, 2_147_483_647, 2_147_483_648, u32::MAX]),
             _ => {
                 call.ra = random.pick(&[0, 1_295_999_999, 1_296_000_000, u32::MAX, any]);
                 call.dec = random.pick(&[-324_000_001, -324_000_000, 324_000_000, 324_000_001, i32::MIN, any as i32]);
             }
         }
     }
+}
+
+/// The stars of all but one owner, in rising order.
+fn others(owner: u8, lent: &Buffers) -> Vec<Star> {
+    let mut stars: Vec<Star> = lent.stars().filter(|star| star.owner != owner).collect();
+    stars.sort();
+    stars
 }
 
 /// The position that the file holds for a number, if it holds one.

@@ -3,7 +3,7 @@
 use model::{Buffers, Call, Growth, Kind, Outcome, Parameters};
 
 /// The requests of document 02 that have landed in the library.
-pub const LANDED: &[u32] = &[1, 2, 3, 4, 5, 7];
+pub const LANDED: &[u32] = &[1, 2, 3, 4, 5, 7, 10, 14];
 
 // Each slice is a pointer and a length in items.
 #[rustfmt::skip]
@@ -13,12 +13,14 @@ extern "C" {
         separators: *mut u8, separators_length: usize,
         numbers: *mut u32, numbers_length: usize,
         words: *mut u64, words_length: usize,
+        owners: *mut u8, owners_length: usize,
     ) -> Outcome;
     fn sft_look_up(
         parameters: Parameters, growth: Growth,
         separators: *const u8, separators_length: usize,
         numbers: *const u32, numbers_length: usize,
         words: *const u64, words_length: usize,
+        owners: *const u8, owners_length: usize,
         number: u32,
     ) -> Outcome;
     fn sft_enter(
@@ -26,55 +28,67 @@ extern "C" {
         separators: *mut u8, separators_length: usize,
         numbers: *mut u32, numbers_length: usize,
         words: *mut u64, words_length: usize,
+        owners: *mut u8, owners_length: usize,
         pool_numbers: *mut u32, pool_numbers_length: usize,
         pool_words: *mut u64, pool_words_length: usize,
-        number: u32, ra: u32, dec: i32,
+        pool_owners: *mut u8, pool_owners_length: usize,
+        caller: u8, number: u32, ra: u32, dec: i32,
     ) -> Outcome;
     fn sft_change(
         parameters: Parameters, growth: Growth,
         separators: *const u8, separators_length: usize,
         numbers: *const u32, numbers_length: usize,
         words: *mut u64, words_length: usize,
-        number: u32, ra: u32, dec: i32,
+        owners: *const u8, owners_length: usize,
+        caller: u8, number: u32, ra: u32, dec: i32,
     ) -> Outcome;
     fn sft_remove(
         parameters: Parameters, growth: Growth,
         separators: *mut u8, separators_length: usize,
         numbers: *mut u32, numbers_length: usize,
         words: *mut u64, words_length: usize,
+        owners: *mut u8, owners_length: usize,
         pool_numbers: *mut u32, pool_numbers_length: usize,
         pool_words: *mut u64, pool_words_length: usize,
-        number: u32,
+        pool_owners: *mut u8, pool_owners_length: usize,
+        caller: u8, number: u32,
     ) -> Outcome;
     fn sft_grow(
         parameters: Parameters, growth: Growth,
         separators: *mut u8, separators_length: usize,
         numbers: *mut u32, numbers_length: usize,
         words: *mut u64, words_length: usize,
+        owners: *mut u8, owners_length: usize,
         pool_numbers: *mut u32, pool_numbers_length: usize,
         pool_words: *mut u64, pool_words_length: usize,
+        pool_owners: *mut u8, pool_owners_length: usize,
     ) -> Outcome;
     fn sft_shrink(
         parameters: Parameters, growth: Growth,
         separators: *mut u8, separators_length: usize,
         numbers: *mut u32, numbers_length: usize,
         words: *mut u64, words_length: usize,
+        owners: *mut u8, owners_length: usize,
         pool_numbers: *mut u32, pool_numbers_length: usize,
         pool_words: *mut u64, pool_words_length: usize,
+        pool_owners: *mut u8, pool_owners_length: usize,
     ) -> Outcome;
     fn sft_due(
         parameters: Parameters, growth: Growth,
         separators: *const u8, separators_length: usize,
         numbers: *const u32, numbers_length: usize,
         words: *const u64, words_length: usize,
+        owners: *const u8, owners_length: usize,
     ) -> Outcome;
     fn sft_check(
         parameters: Parameters, growth: Growth,
         separators: *const u8, separators_length: usize,
         numbers: *const u32, numbers_length: usize,
         words: *const u64, words_length: usize,
+        owners: *const u8, owners_length: usize,
         pool_numbers: *mut u32, pool_numbers_length: usize,
         pool_words: *mut u64, pool_words_length: usize,
+        pool_owners: *mut u8, pool_owners_length: usize,
     ) -> Outcome;
     fn sft_mark_changed(
         parameters: Parameters, growth: Growth,
@@ -107,24 +121,27 @@ pub fn rank(step: u64, groups: u64, group: u64) -> u64 {
 
 /// Runs one call of the library.
 pub fn run(call: &Call, lent: &mut Buffers) -> Outcome {
-    let Call { kind, parameters: p, growth: g, number, ra, dec } = *call;
+    let Call { kind, parameters: p, growth: g, caller: c, number, ra, dec } = *call;
     let (s, sl) = (lent.separators.as_mut_ptr(), lent.separators.len());
     let (n, nl) = (lent.numbers.as_mut_ptr(), lent.numbers.len());
     let (w, wl) = (lent.words.as_mut_ptr(), lent.words.len());
+    let (o, ol) = (lent.owners.as_mut_ptr(), lent.owners.len());
     let (pn, pnl) = (lent.pool_numbers.as_mut_ptr(), lent.pool_numbers.len());
     let (pw, pwl) = (lent.pool_words.as_mut_ptr(), lent.pool_words.len());
+    let (po, pol) = (lent.pool_owners.as_mut_ptr(), lent.pool_owners.len());
     // SAFETY: each pointer and length is that of a vector of its own, which lives through the call.
     unsafe {
         match kind {
-            Kind::Make => sft_make(p, s, sl, n, nl, w, wl),
-            Kind::LookUp => sft_look_up(p, g, s, sl, n, nl, w, wl, number),
-            Kind::Enter => sft_enter(p, g, s, sl, n, nl, w, wl, pn, pnl, pw, pwl, number, ra, dec),
-            Kind::Change => sft_change(p, g, s, sl, n, nl, w, wl, number, ra, dec),
-            Kind::Remove => sft_remove(p, g, s, sl, n, nl, w, wl, pn, pnl, pw, pwl, number),
-            Kind::Grow => sft_grow(p, g, s, sl, n, nl, w, wl, pn, pnl, pw, pwl),
-            Kind::Shrink => sft_shrink(p, g, s, sl, n, nl, w, wl, pn, pnl, pw, pwl),
-            Kind::Due => sft_due(p, g, s, sl, n, nl, w, wl),
-            Kind::Check => sft_check(p, g, s, sl, n, nl, w, wl, pn, pnl, pw, pwl),
+            Kind::Make => sft_make(p, s, sl, n, nl, w, wl, o, ol),
+            Kind::LookUp => sft_look_up(p, g, s, sl, n, nl, w, wl, o, ol, number),
+            Kind::Enter => sft_enter(p, g, s, sl, n, nl, w, wl, o, ol, pn, pnl, pw, pwl, po, pol, c, number, ra, dec),
+            Kind::Change => sft_change(p, g, s, sl, n, nl, w, wl, o, ol, c, number, ra, dec),
+            Kind::Remove => sft_remove(p, g, s, sl, n, nl, w, wl, o, ol, pn, pnl, pw, pwl, po, pol, c, number),
+            Kind::Grow => sft_grow(p, g, s, sl, n, nl, w, wl, o, ol, pn, pnl, pw, pwl, po, pol),
+            Kind::Shrink => sft_shrink(p, g, s, sl, n, nl, w, wl, o, ol, pn, pnl, pw, pwl, po, pol),
+            Kind::Due => sft_due(p, g, s, sl, n, nl, w, wl, o, ol),
+            Kind::Check => sft_check(p, g, s, sl, n, nl, w, wl, o, ol, pn, pnl, pw, pwl, po, pol),
+            Kind::Cascade => panic!("the library has no cascading entry yet"),
         }
     }
 }

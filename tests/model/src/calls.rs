@@ -1,7 +1,7 @@
-//! The nine calls on any buffers, with the refusals in the order of document 01's table and document 02.
+//! The calls on any buffers, with the refusals in the order of document 01's table and document 02.
 
 use crate::hashing::{grown, highest_address, home, shape, shrunk, signature, MULTIPLIERS};
-use crate::placement::{pack, position_valid, rule, unpack, word_valid, write, Page, Star};
+use crate::placement::{cut, pack, position_valid, rule, unpack, with_homes, word_valid, write, Page, Star};
 use crate::{Buffers, Call, Growth, Kind, Outcome, Parameters};
 
 const HIGHEST_NUMBER: u32 = 2_147_483_646;
@@ -38,6 +38,7 @@ pub fn run(call: &Call, lent: &mut Buffers) -> Outcome {
     if call.kind.takes_pool() && !(1..=4).contains(&outcome.refusal) {
         lent.pool_numbers.fill(0);
         lent.pool_words.fill(0);
+        lent.pool_owners.fill(0);
     }
     outcome
 }
@@ -71,21 +72,23 @@ fn attempt(call: &Call, lent: &mut Buffers) -> Result<Outcome, Refusal> {
         Kind::Shrink => return file.shrink(),
         Kind::Due => return Ok(file.due(unchanged(call))),
         Kind::Check => file.check()?,
-        Kind::LookUp | Kind::Enter | Kind::Change | Kind::Remove => return on_a_star(call, &mut file),
+        Kind::LookUp | Kind::Enter | Kind::Change | Kind::Remove | Kind::Cascade => return on_a_star(call, &mut file),
     }
     Ok(unchanged(call))
 }
 
 /// The calls that take a number: each answers the place found on the page first named, also when refused after that.
 fn on_a_star(call: &Call, file: &mut File) -> Result<Outcome, Refusal> {
-    let number = call.number;
+    let Call { caller, number, ra, dec, .. } = *call;
     let named = file.sound_named(number)?;
     let place = file.place(named, number);
     let page = |page: usize| Outcome { page: page as u32, ..unchanged(call) };
     let answer = match call.kind {
-        Kind::Enter => file.enter(named, Star { number, word: pack(call.ra, call.dec) }).map(page),
-        Kind::Change => file.change(named, Star { number, word: pack(call.ra, call.dec) }).map(page),
-        Kind::Remove => file.remove(named, number).map(page),
+        Kind::Enter | Kind::Cascade => {
+            file.enter(call.kind, named, Star { number, word: pack(ra, dec), owner: caller }).map(page)
+        }
+        Kind::Change => file.change(named, caller, number, pack(ra, dec)).map(page),
+        Kind::Remove => file.remove(named, caller, number).map(page),
         _ => Ok(file.look_up(named, number, page(named))),
     };
     match answer {
@@ -117,10 +120,10 @@ pub(crate) fn growth_valid(p: &Parameters, growth: &Growth) -> bool {
 
 fn lengths_right(call: &Call, lent: &Buffers) -> bool {
     let items = call.parameters.items();
+    let pool = [lent.pool_numbers.len(), lent.pool_words.len(), lent.pool_owners.len()];
     lent.separators.len() == call.parameters.pages as usize
-        && lent.numbers.len() == items
-        && lent.words.len() == items
-        && (!call.kind.takes_pool() || lent.pool_numbers.len() == items && lent.pool_words.len() == items)
+        && [lent.numbers.len(), lent.words.len(), lent.owners.len()] == [items; 3]
+        && (!call.kind.takes_pool() || pool == [items; 3])
 }
 
 /// A file whose parameters, growth state and lengths are right; its contents may be anything.
@@ -150,8 +153,7 @@ impl File<'_> {
 
     fn stars(&self, pages: std::ops::RangeInclusive<usize>) -> Vec<Star> {
         let items = self.items(*pages.start()).start..self.items(*pages.end()).end;
-        let star = |item| Star { number: self.lent.numbers[item], word: self.lent.words[item] };
-        items.map(star).filter(|star| star.number != 0).collect()
+        items.map(|item| self.lent.star(item)).filter(|star| star.number != 0).collect()
     }
 
     /// The first place of a page that is empty or holds a number not below the one sought, or b if there is none.
@@ -165,6 +167,15 @@ impl File<'_> {
         self.items(page).find(|&item| self.lent.numbers[item] == number)
     }
 
+    /// The same for the star of a caller; the institute may alter every star.
+    fn own(&self, page: usize, caller: u8, number: u32) -> Result<usize, Refusal> {
+        match self.held(page, number) {
+            None => refuse(7),
+            Some(item) if caller != 0 && caller != self.lent.owners[item] => refuse(13),
+            Some(item) => Ok(item),
+        }
+    }
+
     /// The first page from home with a separator above the number's signature there.
     fn named(&self, number: u32) -> Option<usize> {
         let home = self.home(number);
@@ -175,12 +186,14 @@ impl File<'_> {
     fn sound(&self, page: usize) -> bool {
         let numbers = &self.lent.numbers[self.items(page)];
         let words = &self.lent.words[self.items(page)];
+        let owners = &self.lent.owners[self.items(page)];
         let count = numbers.iter().take_while(|&&number| number != 0).count();
         numbers[..count].windows(2).all(|pair| pair[0] < pair[1])
             && numbers[..count].iter().all(|&number| number <= HIGHEST_NUMBER)
             && numbers[count..].iter().all(|&number| number == 0)
             && words[..count].iter().all(|&word| word_valid(word))
             && words[count..].iter().all(|&word| word == 0)
+            && owners[count..].iter().all(|&owner| owner == 0)
             && u64::from(self.lent.separators[page]) <= self.parameters.top()
             && numbers[..count].iter().all(|&number| self.named(number) == Some(page))
     }
@@ -209,10 +222,17 @@ impl File<'_> {
         write(&self.parameters, self.lent, first, pages);
     }
 
+    /// The same, and the page on which a star stands after it.
+    fn write_with(&mut self, first: usize, pages: &[Page], star: Star) -> usize {
+        self.write(first, pages);
+        first + pages.iter().position(|page| page.stars.contains(&star)).unwrap()
+    }
+
     fn make(&mut self) {
         self.lent.separators.fill(self.parameters.top() as u8);
         self.lent.numbers.fill(0);
         self.lent.words.fill(0);
+        self.lent.owners.fill(0);
     }
 
     fn look_up(&self, named: usize, number: u32, none: Outcome) -> Outcome {
@@ -223,11 +243,17 @@ impl File<'_> {
         Outcome { found: 1, ra, dec, ..none }
     }
 
-    fn enter(&mut self, named: usize, new: Star) -> Result<usize, Refusal> {
-        if let Some(item) = self.held(named, new.number) {
-            // A resend of the stored position is accepted and reads no other page.
-            return if self.lent.words[item] == new.word { Ok(named) } else { refuse(6) };
+    fn enter(&mut self, kind: Kind, named: usize, new: Star) -> Result<usize, Refusal> {
+        match self.held(named, new.number) {
+            // A resend of the stored position is accepted, whoever calls, and reads no other page.
+            Some(item) if self.lent.words[item] == new.word => Ok(named),
+            Some(_) => refuse(6),
+            None if kind == Kind::Cascade => self.cascade(named, new),
+            None => self.place_in_reach(new),
         }
+    }
+
+    fn place_in_reach(&mut self, new: Star) -> Result<usize, Refusal> {
         let home = self.home(new.number);
         for last in home..=self.last_page() {
             if !self.sound(last) {
@@ -240,25 +266,40 @@ impl File<'_> {
             stars.push(new);
             let (pages, carried) = self.rule(home..=last, stars);
             if carried.is_empty() {
-                self.write(home, &pages);
-                return Ok(home + pages.iter().position(|page| page.stars.contains(&new)).unwrap());
+                return Ok(self.write_with(home, &pages, new));
             }
         }
         refuse(8)
     }
 
-    fn change(&mut self, named: usize, star: Star) -> Result<usize, Refusal> {
-        let Some(item) = self.held(named, star.number) else {
-            return refuse(7);
-        };
-        self.lent.words[item] = star.word;
+    /// From the named page upward, until nothing is carried on; no separator rises.
+    fn cascade(&mut self, named: usize, new: Star) -> Result<usize, Refusal> {
+        let with_homes = |stars| with_homes(&self.parameters, &self.growth, stars);
+        let (mut pages, mut waiting) = (Vec::new(), with_homes(vec![new]));
+        for page in named..=self.last_page() {
+            if !self.sound(page) {
+                return damaged(page, 0);
+            }
+            waiting.extend(with_homes(self.stars(page..=page)));
+            waiting.sort_by_key(|&(_, star)| star);
+            let (cut, carried) = cut(&self.parameters, page, self.lent.separators[page].into(), waiting);
+            pages.push(cut);
+            if carried.is_empty() {
+                return Ok(self.write_with(named, &pages, new));
+            }
+            waiting = carried;
+        }
+        refuse(8)
+    }
+
+    fn change(&mut self, named: usize, caller: u8, number: u32, word: u64) -> Result<usize, Refusal> {
+        let item = self.own(named, caller, number)?;
+        self.lent.words[item] = word;
         Ok(named)
     }
 
-    fn remove(&mut self, named: usize, number: u32) -> Result<usize, Refusal> {
-        if self.held(named, number).is_none() {
-            return refuse(7);
-        }
+    fn remove(&mut self, named: usize, caller: u8, number: u32) -> Result<usize, Refusal> {
+        self.own(named, caller, number)?;
         let home = self.home(number);
         let last = (home..self.last_page()).find(|&page| self.at_top(page)).unwrap_or(self.last_page());
         if let Some(page) = (home..=last).find(|&page| !self.sound(page)) {
@@ -318,10 +359,7 @@ impl File<'_> {
         let mut expected = self.lent.clone();
         write(&self.parameters, &mut expected, 0, &pages);
         for page in all {
-            let differs = |&item: &usize| {
-                self.lent.numbers[item] != expected.numbers[item] || self.lent.words[item] != expected.words[item]
-            };
-            if let Some(item) = self.items(page).find(differs) {
+            if let Some(item) = self.items(page).find(|&item| self.lent.star(item) != expected.star(item)) {
                 return damaged(page, item - page * places);
             }
             if self.lent.separators[page] != expected.separators[page] {

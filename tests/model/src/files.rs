@@ -64,9 +64,14 @@ pub fn random_growth(random: &mut Random, parameters: &Parameters) -> Growth {
     growth_after(parameters, growths)
 }
 
+/// The institute or one of a few observers.
+pub fn random_caller(random: &mut Random) -> u8 {
+    random.pick(&[0, 0, 1, 2, 255])
+}
+
 pub fn random_star(random: &mut Random) -> Star {
     let (ra, dec) = random.position();
-    Star { number: random.star_number(), word: pack(ra, dec) }
+    Star { number: random.star_number(), word: pack(ra, dec), owner: random_caller(random) }
 }
 
 /// A file that the check accepts, filled to about `percent` of its addressed pages, or less if that does not fit.
@@ -130,14 +135,15 @@ pub fn random_pool(random: &mut Random, lent: &mut Buffers) {
     let zeros = random.once_in(4);
     lent.pool_numbers.iter_mut().for_each(|number| *number = if zeros { 0 } else { random.draw() as u32 });
     lent.pool_words.iter_mut().for_each(|word| *word = if zeros { 0 } else { random.draw() });
+    lent.pool_owners.iter_mut().for_each(|owner| *owner = if zeros { 0 } else { random.draw() as u8 });
 }
 
 /// How many bits the file has.
 pub fn bits(lent: &Buffers) -> usize {
-    8 * lent.separators.len() + 96 * lent.numbers.len()
+    8 * lent.separators.len() + (32 + 64 + 8) * lent.numbers.len()
 }
 
-/// Changes one bit, counted over the separators, then the numbers, then the words.
+/// Changes one bit, counted over the separators, then the numbers, then the words, then the owners.
 pub fn flip(lent: &mut Buffers, mut bit: usize) {
     if bit < 8 * lent.separators.len() {
         lent.separators[bit / 8] ^= 1 << (bit % 8);
@@ -149,5 +155,10 @@ pub fn flip(lent: &mut Buffers, mut bit: usize) {
         return;
     }
     bit -= 32 * lent.numbers.len();
-    lent.words[bit / 64] ^= 1 << (bit % 64);
+    if bit < 64 * lent.words.len() {
+        lent.words[bit / 64] ^= 1 << (bit % 64);
+        return;
+    }
+    bit -= 64 * lent.words.len();
+    lent.owners[bit / 8] ^= 1 << (bit % 8);
 }

@@ -13,9 +13,10 @@ pub mod vectors;
 
 pub use calls::run;
 use hashing::MULTIPLIERS;
+use placement::Star;
 
 /// The requests of document 02 that the model follows.
-pub const LANDED: &[u32] = &[1, 2, 3, 4, 5, 7];
+pub const LANDED: &[u32] = &[1, 2, 3, 4, 5, 7, 9, 10, 14];
 
 /// The documents' b, N, n0, s, k, A and M, and the generator's multiplier.
 #[repr(C)]
@@ -55,14 +56,16 @@ pub struct Outcome {
     pub expanded: u32,
 }
 
-/// The lent buffers: the file's three and the pool's two.
+/// The lent buffers: the file's four and the pool's three.
 #[derive(Clone, Debug, Default, PartialEq, Eq)]
 pub struct Buffers {
     pub separators: Vec<u8>,
     pub numbers: Vec<u32>,
     pub words: Vec<u64>,
+    pub owners: Vec<u8>,
     pub pool_numbers: Vec<u32>,
     pub pool_words: Vec<u64>,
+    pub pool_owners: Vec<u8>,
 }
 
 #[derive(Clone, Copy, Debug, PartialEq, Eq)]
@@ -76,9 +79,11 @@ pub enum Kind {
     Shrink,
     Due,
     Check,
+    Cascade,
 }
 
 impl Kind {
+    /// The calls that the library has; it has no cascading entry yet.
     pub const ALL: [Kind; 9] = [
         Kind::Make,
         Kind::LookUp,
@@ -92,19 +97,19 @@ impl Kind {
     ];
 
     pub fn name(self) -> &'static str {
-        ["make", "look_up", "enter", "change", "remove", "grow", "shrink", "due", "check"][self as usize]
+        ["make", "look_up", "enter", "change", "remove", "grow", "shrink", "due", "check", "cascade"][self as usize]
     }
 
     pub fn takes_pool(self) -> bool {
-        matches!(self, Kind::Enter | Kind::Remove | Kind::Grow | Kind::Shrink | Kind::Check)
+        matches!(self, Kind::Enter | Kind::Remove | Kind::Grow | Kind::Shrink | Kind::Check | Kind::Cascade)
     }
 
     pub fn takes_number(self) -> bool {
-        matches!(self, Kind::LookUp | Kind::Enter | Kind::Change | Kind::Remove)
+        matches!(self, Kind::LookUp | Kind::Enter | Kind::Change | Kind::Remove | Kind::Cascade)
     }
 
     pub fn takes_position(self) -> bool {
-        matches!(self, Kind::Enter | Kind::Change)
+        matches!(self, Kind::Enter | Kind::Change | Kind::Cascade)
     }
 }
 
@@ -114,6 +119,8 @@ pub struct Call {
     pub kind: Kind,
     pub parameters: Parameters,
     pub growth: Growth,
+    /// 0 for the institute, 1 to 255 for observers.
+    pub caller: u8,
     pub number: u32,
     pub ra: u32,
     pub dec: i32,
@@ -180,8 +187,20 @@ impl Buffers {
             separators: vec![0; parameters.pages as usize],
             numbers: vec![0; items],
             words: vec![0; items],
+            owners: vec![0; items],
             pool_numbers: vec![0; items],
             pool_words: vec![0; items],
+            pool_owners: vec![0; items],
         }
+    }
+
+    /// What stands at an item; number 0 is an empty place.
+    pub fn star(&self, item: usize) -> Star {
+        Star { number: self.numbers[item], word: self.words[item], owner: self.owners[item] }
+    }
+
+    /// What stands at all places that hold a number.
+    pub fn stars(&self) -> impl Iterator<Item = Star> + '_ {
+        (0..self.numbers.len()).map(|item| self.star(item)).filter(|star| star.number != 0)
     }
 }

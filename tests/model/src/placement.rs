@@ -3,10 +3,11 @@
 use crate::hashing::{home, signature};
 use crate::{Buffers, Growth, Parameters};
 
-#[derive(Clone, Copy, Debug, PartialEq, Eq, PartialOrd, Ord)]
+#[derive(Clone, Copy, Debug, Default, PartialEq, Eq, PartialOrd, Ord)]
 pub struct Star {
     pub number: u32,
     pub word: u64,
+    pub owner: u8,
 }
 
 #[derive(Clone, Debug, PartialEq, Eq)]
@@ -37,30 +38,44 @@ pub fn separator(room: usize, top: u64, signatures: &[u64]) -> u64 {
     (0..=top).rev().find(|&v| below(v) <= room).unwrap()
 }
 
+/// Stars in rising order of number, each after its home.
+pub fn with_homes(parameters: &Parameters, growth: &Growth, mut stars: Vec<Star>) -> Vec<(u64, Star)> {
+    stars.sort();
+    stars.into_iter().map(|star| (home(parameters, growth, star.number.into()), star)).collect()
+}
+
+/// The page that the cut makes, with a separator of at most `limit`, of those waiting stars that probe it, and the others.
+pub fn cut(parameters: &Parameters, page: usize, limit: u64, waiting: Vec<(u64, Star)>) -> (Page, Vec<(u64, Star)>) {
+    let page = page as u64;
+    let signature_here = |&(home, star): &(u64, Star)| {
+        (home <= page).then(|| signature(parameters, star.number.into(), page - home + 1))
+    };
+    let signatures: Vec<u64> = waiting.iter().filter_map(signature_here).collect();
+    let separator = separator(parameters.places as usize, limit, &signatures);
+    let stays = |entry: &(u64, Star)| signature_here(entry).is_some_and(|signature| signature < separator);
+    let (staying, passing): (Vec<_>, Vec<_>) = waiting.into_iter().partition(stays);
+    (Page { separator, stars: without_homes(staying) }, passing)
+}
+
+fn without_homes(stars: Vec<(u64, Star)>) -> Vec<Star> {
+    stars.into_iter().map(|(_, star)| star).collect()
+}
+
 /// The pages that the rule gives the stars over a stretch, and the stars carried past its end.
 pub fn rule(
     parameters: &Parameters,
     growth: &Growth,
     stretch: std::ops::RangeInclusive<usize>,
-    mut stars: Vec<Star>,
+    stars: Vec<Star>,
 ) -> (Vec<Page>, Vec<Star>) {
-    stars.sort();
-    let with_home = |star: Star| (home(parameters, growth, star.number.into()), star);
-    let mut waiting: Vec<(u64, Star)> = stars.into_iter().map(with_home).collect();
+    let mut waiting = with_homes(parameters, growth, stars);
     let mut pages = Vec::new();
     for page in stretch {
-        let page = page as u64;
-        let signature_here = |&(home, star): &(u64, Star)| {
-            (home <= page).then(|| signature(parameters, star.number.into(), page - home + 1))
-        };
-        let signatures: Vec<u64> = waiting.iter().filter_map(signature_here).collect();
-        let separator = separator(parameters.places as usize, parameters.top(), &signatures);
-        let stays = |entry: &(u64, Star)| signature_here(entry).is_some_and(|signature| signature < separator);
-        let (staying, passing): (Vec<_>, Vec<_>) = waiting.into_iter().partition(stays);
-        pages.push(Page { separator, stars: staying.into_iter().map(|(_, star)| star).collect() });
+        let (cut, passing) = cut(parameters, page, parameters.top(), waiting);
+        pages.push(cut);
         waiting = passing;
     }
-    (pages, waiting.into_iter().map(|(_, star)| star).collect())
+    (pages, without_homes(waiting))
 }
 
 /// Writes pages from `first` on, empty places last.
@@ -69,9 +84,9 @@ pub fn write(parameters: &Parameters, lent: &mut Buffers, first: usize, pages: &
     for (page, new) in (first..).zip(pages) {
         lent.separators[page] = new.separator as u8;
         for place in 0..places {
-            let star = new.stars.get(place).copied().unwrap_or(Star { number: 0, word: 0 });
-            lent.numbers[page * places + place] = star.number;
-            lent.words[page * places + place] = star.word;
+            let Star { number, word, owner } = new.stars.get(place).copied().unwrap_or_default();
+            let item = page * places + place;
+            (lent.numbers[item], lent.words[item], lent.owners[item]) = (number, word, owner);
         }
     }
 }

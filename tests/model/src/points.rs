@@ -12,6 +12,10 @@ fn answers(outcome: Outcome) -> (u32, u32) {
     (outcome.refusal, outcome.page)
 }
 
+fn spot(outcome: Outcome) -> (u32, u32, u32) {
+    (outcome.refusal, outcome.page, outcome.place)
+}
+
 /// The published values of the generators; each table of 2,049, every entry from the one before.
 pub fn generator(x: fn(u32, u64, u64) -> u64) {
     let powers = |multiplier| [x(multiplier, 2, 1), x(multiplier, 3, 1), x(multiplier, 1, 2_147_483_646)];
@@ -38,6 +42,20 @@ pub fn ranks(rank: fn(u64, u64, u64) -> u64) {
             assert!(ranks.into_iter().eq(0..groups));
         }
     }
+}
+
+/// An empty file, whatever the buffers held; making one takes no pool.
+pub fn empty_file(run: Run) {
+    let mut session = Session::new(run, TWO_PAGES);
+    let Buffers { separators, numbers, words, owners, pool_owners, .. } = &mut session.lent;
+    separators.fill(7);
+    numbers.fill(7);
+    words.fill(7);
+    owners.fill(7);
+    pool_owners.fill(7);
+    assert_eq!(answers(session.call(Kind::Make, 0, 0, 0)), (0, 0));
+    let zeros = Buffers::zeros(&session.parameters);
+    assert_eq!(session.lent, Buffers { separators: vec![255; 2], pool_owners: vec![7; 2], ..zeros });
 }
 
 /// The homes of stars 1 and 2, seen by look-ups that find none.
@@ -140,7 +158,7 @@ fn on_empty_file(run: Run, kind: Kind, list: [u32; 7], growth: Growth) -> u32 {
     (sizes.places, sizes.pages) = (sizes.places.min(33), sizes.pages.min(1_025));
     let mut lent = Buffers::zeros(&sizes);
     lent.separators.fill(((1_u32 << list[4].min(8)) - 1) as u8);
-    let mut session = Session { run, parameters: Parameters::new(list), growth, lent };
+    let mut session = Session { run, parameters: Parameters::new(list), growth, lent, caller: 0 };
     session.call(kind, 1, 0, 0).refusal
 }
 
@@ -257,12 +275,15 @@ pub fn nothing_to_give_back(run: Run) {
     let mut session = Session::new(run, TWO_PAGES);
     session.lent.words = vec![u64::MAX, 7];
     session.lent.numbers = vec![u32::MAX, 0];
+    session.lent.owners = vec![0, 7];
     session.lent.pool_numbers.fill(7);
     session.lent.pool_words.fill(7);
+    session.lent.pool_owners.fill(7);
     let mut expected = session.clone();
     assert_eq!(answers(session.call(Kind::Shrink, 0, u32::MAX, 0)), (9, 0));
     expected.lent.pool_numbers.fill(0);
     expected.lent.pool_words.fill(0);
+    expected.lent.pool_owners.fill(0);
     assert!(session.lent == expected.lent && session.growth == expected.growth);
     session.lent.pool_words.push(0);
     assert_eq!(answers(session.shrink()), (2, 0));
@@ -274,8 +295,7 @@ pub fn nothing_to_give_back(run: Run) {
 pub fn growth_repairs(run: Run) {
     let mut session = Session::new(run, TWO_PAGES);
     session.lent.separators.fill(0);
-    let refused = session.check();
-    assert_eq!((refused.refusal, refused.page, refused.place), (5, 0, 1));
+    assert_eq!(spot(session.check()), (5, 0, 1));
     assert_eq!(answers(session.grow()), (0, 1));
     assert_eq!(session.lent.separators, [255, 255]);
     assert_eq!(answers(session.check()), (0, 0));
@@ -314,7 +334,7 @@ pub fn entry_without_room_in_its_reach(run: Run) {
     session.lent.words = vec![0, pack(1, 0)];
     assert_eq!(session.check().place, 0);
     assert_eq!(answers(session.enter(upper)), (8, 0));
-    let stars = [lower, upper].map(|number| Star { number, word: pack(1, 0) });
+    let stars = [lower, upper].map(|number| Star { number, word: pack(1, 0), owner: 0 });
     assert!(lay_out(&session.parameters, &session.growth, stars.to_vec()).is_some());
 }
 
@@ -338,18 +358,14 @@ pub fn entry_into_full_file(run: Run) {
 
 /// What the check names, in its order: unsound pages first, then places, then the separator.
 pub fn check_order(run: Run) {
-    let spot = |session: &mut Session| {
-        let outcome = session.check();
-        (outcome.refusal, outcome.page, outcome.place)
-    };
     let mut session = Session::new(run, TWO_PAGES);
-    assert_eq!(spot(&mut session), (0, 0, 0));
+    assert_eq!(spot(session.check()), (0, 0, 0));
     session.lent.separators = vec![100, 255];
-    assert_eq!(spot(&mut session), (5, 0, 1));
+    assert_eq!(spot(session.check()), (5, 0, 1));
     session.lent.numbers[1] = 32;
-    assert_eq!(spot(&mut session), (5, 0, 0));
+    assert_eq!(spot(session.check()), (5, 0, 0));
     session.lent.words[1] = u64::MAX;
-    assert_eq!(spot(&mut session), (5, 1, 1));
+    assert_eq!(spot(session.check()), (5, 1, 1));
 }
 
 /// Due counts every number that is not 0, and a separator above 2^k − 1 still names its page.
@@ -369,7 +385,6 @@ pub fn damaged_values(run: Run) {
 
 /// The place on the page first named, in every answer after that search.
 pub fn places(run: Run) {
-    let spot = |outcome: Outcome| (outcome.refusal, outcome.page, outcome.place);
     let mut session = Session::new(run, TWO_PAGES);
     assert_eq!(spot(session.enter(32)), (0, 0, 0));
     assert_eq!(spot(session.enter(170)), (0, 0, 1));
@@ -404,24 +419,52 @@ pub fn places(run: Run) {
     assert_eq!(spot(session.enter(7)), (5, 1, 0));
 }
 
-/// A resend of the stored position is accepted, though the reach is damaged; any other position is 6.
+/// A resend of the stored position is accepted, though the reach is damaged or the caller a stranger; any other position
+/// is 6.
 pub fn resends(run: Run) {
     let mut session = Session::new(run, TWO_PAGES);
+    session.caller = 5;
     session.enter(170);
     session.enter(32);
-    for damage in [pack(1, 0), u64::MAX] {
+    for (damage, caller) in [(pack(1, 0), 0), (pack(1, 0), 9), (u64::MAX, 0), (u64::MAX, 9)] {
         session.lent.words[0] = damage;
+        session.caller = caller;
         session.lent.pool_words.fill(7);
         let mut expected = session.clone();
         expected.lent.pool_words.fill(0);
-        let outcome = session.enter(32);
-        assert_eq!((outcome.refusal, outcome.page, outcome.place), (0, 1, 0));
+        assert_eq!(spot(session.enter(32)), (0, 1, 0));
         assert!(session.lent == expected.lent && session.growth == expected.growth);
         assert_eq!(answers(session.call(Kind::Enter, 32, 1, 1)), (6, 0));
         assert_eq!(answers(session.call(Kind::Enter, 32, 2, 0)), (6, 0));
         assert!(session.lent == expected.lent);
     }
     assert_eq!(answers(session.enter(170)), (5, 0));
+}
+
+/// A cascading entry is the entry on a clean file; on others it raises no separator and reads no page below the named one.
+pub fn cascades(run: Run) {
+    let cascade = |session: &mut Session, number, ra| spot(session.call(Kind::Cascade, number, ra, 0));
+    let mut session = Session::new(run, TWO_PAGES);
+    assert_eq!(cascade(&mut session, 32, 1), (0, 0, 0));
+    assert_eq!(cascade(&mut session, 170, 1), (0, 0, 1));
+    assert_eq!((&session.lent.separators[..], &session.lent.numbers[..]), (&[223, 255][..], &[170, 32][..]));
+    assert_eq!(cascade(&mut session, 32, 1), (0, 1, 0));
+    assert_eq!(cascade(&mut session, 32, 2), (6, 0, 0));
+    let before = session.clone();
+    assert_eq!(cascade(&mut session, 1, 1), (8, 0, 0));
+    assert!(session.lent == before.lent);
+    session.lent.words[1] = u64::MAX;
+    assert_eq!(cascade(&mut session, 1, 1), (5, 1, 0));
+    let mut session = Session::new(run, TWO_PAGES);
+    session.lent.separators[0] = 0;
+    session.lent.words[0] = 7;
+    assert_eq!(answers(session.enter(32)), (5, 0));
+    assert_eq!(cascade(&mut session, 32, 1), (0, 1, 0));
+    assert_eq!((&session.lent.separators[..], &session.lent.numbers[..]), (&[0, 255][..], &[0, 32][..]));
+    let mut session = Session::new(run, TWO_PAGES);
+    session.lent.separators[0] = 200;
+    assert_eq!(cascade(&mut session, 170, 1), (0, 0, 0));
+    assert_eq!((&session.lent.separators[..], &session.lent.numbers[..]), (&[200, 255][..], &[170, 0][..]));
 }
 
 /// A star on a page above the highest address makes that page one in use.
@@ -436,19 +479,127 @@ pub fn pages_in_use(run: Run) {
 
 /// A refusal 1 to 4 leaves the pool as it is; every other call that takes it leaves zeros.
 pub fn pool_contents(run: Run) {
+    let pool = |session: &Session| {
+        let Buffers { pool_numbers, pool_words, pool_owners, .. } = session.lent.clone();
+        (pool_numbers, pool_words, pool_owners)
+    };
     for kind in Kind::ALL.into_iter().filter(|kind| kind.takes_pool()) {
         let mut session = Session::new(run, TWO_PAGES);
         session.lent.pool_words.fill(7);
+        session.lent.pool_owners.fill(7);
         session.parameters.load = 100;
         assert_eq!(session.call(kind, 1, 0, 0).refusal, 1);
-        assert_eq!(session.lent.pool_words, [7, 7]);
+        assert_eq!(pool(&session), (vec![0, 0], vec![7, 7], vec![7, 7]));
         session.parameters.load = 50;
         session.lent.pool_numbers.push(7);
         assert_eq!(session.call(kind, 1, 0, 0).refusal, 2);
-        assert_eq!((&session.lent.pool_numbers[..], &session.lent.pool_words[..]), (&[0, 0, 7][..], &[7, 7][..]));
+        assert_eq!(pool(&session), (vec![0, 0, 7], vec![7, 7], vec![7, 7]));
         session.lent.pool_numbers = vec![7, 7];
         session.call(kind, 1, 0, 0);
-        assert_eq!((&session.lent.pool_numbers[..], &session.lent.pool_words[..]), (&[0, 0][..], &[0, 0][..]));
+        assert_eq!(pool(&session), (vec![0; 2], vec![0; 2], vec![0; 2]));
+    }
+}
+
+/// A star is its caller's; besides its owner the institute alone changes and removes it, and a change leaves the owner.
+pub fn strangers(run: Run) {
+    let mut session = Session::new(run, [4, 1, 1, 1, 8, 80, 1]);
+    for (caller, number) in [(5, 10), (255, 20), (0, 30)] {
+        session.caller = caller;
+        assert_eq!(spot(session.enter(number)), (0, 0, number / 10 - 1));
+    }
+    assert_eq!(session.lent.owners, [5, 255, 0, 0]);
+    let alter = |session: &mut Session, caller, kind, number| {
+        session.caller = caller;
+        spot(session.call(kind, number, 2, 0))
+    };
+    for kind in [Kind::Change, Kind::Remove] {
+        session.lent.pool_owners.fill(7);
+        let before = session.clone();
+        for (caller, number, place) in [(5, 20, 1), (5, 30, 2), (254, 20, 1), (255, 10, 0), (1, 30, 2)] {
+            assert_eq!(alter(&mut session, caller, kind, number), (13, 0, place));
+            assert_eq!(alter(&mut session, caller, kind, number + 1), (7, 0, place + 1));
+        }
+        let pool_owners = if kind.takes_pool() { vec![0; 4] } else { vec![7; 4] };
+        assert!(session.lent == Buffers { pool_owners, ..before.lent });
+    }
+    for (caller, number, place) in [(5, 10, 0), (0, 20, 1), (0, 30, 2)] {
+        assert_eq!(alter(&mut session, caller, Kind::Change, number), (0, 0, place));
+    }
+    let word = pack(2, 0);
+    assert_eq!((&session.lent.words[..], &session.lent.owners[..]), (&[word, word, word, 0][..], &[5, 255, 0, 0][..]));
+    assert_eq!(alter(&mut session, 0, Kind::Remove, 10), (0, 0, 0));
+    assert_eq!((&session.lent.numbers[..], &session.lent.owners[..]), (&[20, 30, 0, 0][..], &[255, 0, 0, 0][..]));
+    assert_eq!(alter(&mut session, 255, Kind::Remove, 20), (0, 0, 0));
+}
+
+/// A stranger is refused before the reach is read, and after the page that is named.
+pub fn strangers_before_reach(run: Run) {
+    let mut session = Session::new(run, TWO_PAGES);
+    session.caller = 5;
+    assert_eq!((session.enter(170).refusal, session.enter(32).refusal), (0, 0));
+    session.lent.words[0] = u64::MAX;
+    for (caller, refusal) in [(6, 13), (5, 5), (0, 5)] {
+        session.caller = caller;
+        assert_eq!(answers(session.remove(32)), (refusal, 0));
+        assert_eq!(answers(session.remove(170)), (5, 0));
+    }
+}
+
+/// Owners travel with stars that an entry, a removal, a growth or a shrink moves.
+pub fn owners_travel(run: Run) {
+    let mut session = Session::new(run, TWO_PAGES);
+    let mut after = |caller, kind, number| {
+        session.caller = caller;
+        assert_eq!(session.call(kind, number, 1, 0).refusal, 0);
+        (session.lent.numbers.clone(), session.lent.owners.clone())
+    };
+    assert_eq!(after(5, Kind::Enter, 32), (vec![32, 0], vec![5, 0]));
+    assert_eq!(after(7, Kind::Enter, 170), (vec![170, 32], vec![7, 5]));
+    assert_eq!(after(7, Kind::Remove, 170), (vec![32, 0], vec![5, 0]));
+    let mut session = Session::new(run, [1, 2, 2, 1, 8, 80, 5]);
+    session.caller = 5;
+    assert_eq!(answers(session.enter(1)), (0, 3));
+    session.caller = 7;
+    assert_eq!((answers(session.grow()), &session.lent.owners[..]), ((0, 4), &[0, 0, 0, 0, 5][..]));
+    assert_eq!((answers(session.shrink()), &session.lent.owners[..]), ((0, 4), &[0, 0, 0, 5, 0][..]));
+}
+
+/// An empty place that has an owner makes its page unsound, and no other does.
+pub fn owner_of_an_empty_place(run: Run) {
+    let mut session = Session::new(run, [2, 2, 1, 1, 8, 80, 3]);
+    let number = (1..).find(|&number| session.home(number) == 1).unwrap();
+    let other = (1..).find(|&number| session.home(number) == 0).unwrap();
+    session.caller = 255;
+    assert_eq!(spot(session.enter(number)), (0, 1, 0));
+    session.lent.owners[3] = 128;
+    assert_eq!(spot(session.check()), (5, 1, 2));
+    for kind in [Kind::LookUp, Kind::Enter, Kind::Change, Kind::Remove] {
+        assert_eq!(spot(session.call(kind, number, 1, 0)), (5, 1, 0));
+    }
+    assert_eq!(answers(session.grow()), (5, 1));
+    assert_eq!((answers(session.look_up(other)), answers(session.enter(other))), ((0, 0), (0, 0)));
+    session.lent.owners[3] = 0;
+    for owner in 0..=255 {
+        session.lent.owners[2] = owner;
+        assert_eq!((answers(session.check()), answers(session.look_up(number))), ((0, 0), (0, 1)));
+    }
+}
+
+/// Owners of a wrong length are 2 in every call, the pool's in those that take one.
+pub fn owner_lengths(run: Run) {
+    for kind in Kind::ALL {
+        for length in [0, 1, 3, 4] {
+            let mut session = Session::new(run, TWO_PAGES);
+            session.lent.owners.resize(length, 0);
+            let before = session.clone();
+            assert_eq!(answers(session.call(kind, 0, u32::MAX, 0)), (2, 0), "{}", kind.name());
+            assert!(session.lent == before.lent);
+            let mut session = Session::new(run, TWO_PAGES);
+            session.lent.pool_owners.resize(length, 7);
+            let before = session.clone();
+            assert_eq!(session.call(kind, 1, 1, 0).refusal == 2, kind.takes_pool(), "{}", kind.name());
+            assert!(session.lent.pool_owners == before.lent.pool_owners);
+        }
     }
 }
 
@@ -456,11 +607,11 @@ pub fn pool_contents(run: Run) {
 #[macro_export]
 macro_rules! point_tests {
     ($run:path) => {
-        $crate::point_tests!($run: homes multipliers value_limits parameter_limits multiplier_limits growth_limits
+        $crate::point_tests!($run: empty_file homes multipliers value_limits parameter_limits multiplier_limits growth_limits
             second_star_of_a_home growth_without_room pages_given_back there_and_back shrinking_without_room
             nothing_to_give_back growth_repairs entry_below_named_page removal_raises_separator
             entry_without_room_in_its_reach entry_into_full_file check_order damaged_values places resends pages_in_use
-            pool_contents);
+            pool_contents strangers strangers_before_reach owners_travel owner_of_an_empty_place owner_lengths);
     };
     ($run:path: $($name:ident)*) => {
         $(#[test] fn $name() { $crate::points::$name($run) })*

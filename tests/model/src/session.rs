@@ -1,6 +1,5 @@
 //! One file with its growth state, and the calls on it.
 
-use crate::placement::Star;
 use crate::{Buffers, Call, Growth, Kind, Outcome, Parameters, Run};
 
 #[derive(Clone)]
@@ -9,6 +8,8 @@ pub struct Session {
     pub parameters: Parameters,
     pub growth: Growth,
     pub lent: Buffers,
+    /// Whom the calls are for; the institute unless it is set.
+    pub caller: u8,
 }
 
 impl Session {
@@ -20,13 +21,14 @@ impl Session {
     /// An empty file.
     pub fn with(run: Run, parameters: Parameters) -> Session {
         let lent = Buffers::zeros(&parameters);
-        let mut session = Session { run, parameters, growth: Growth::default(), lent };
+        let mut session = Session { run, parameters, growth: Growth::default(), lent, caller: 0 };
         assert_eq!(session.call(Kind::Make, 0, 0, 0).refusal, 0, "making {parameters:?}");
         session
     }
 
     pub fn call(&mut self, kind: Kind, number: u32, ra: u32, dec: i32) -> Outcome {
-        let call = Call { kind, parameters: self.parameters, growth: self.growth, number, ra, dec };
+        let Session { parameters, growth, caller, .. } = *self;
+        let call = Call { kind, parameters, growth, caller, number, ra, dec };
         let outcome = (self.run)(&call, &mut self.lent);
         self.growth = call.growth_after(&outcome);
         outcome
@@ -62,10 +64,5 @@ impl Session {
 
     pub fn home(&self, number: u32) -> u64 {
         crate::hashing::home(&self.parameters, &self.growth, number.into())
-    }
-
-    pub fn stars(&self) -> Vec<Star> {
-        let pairs = self.lent.numbers.iter().zip(&self.lent.words);
-        pairs.filter(|(&number, _)| number != 0).map(|(&number, &word)| Star { number, word }).collect()
     }
 }

@@ -5,7 +5,8 @@ use crate::{run, Buffers, Call, Growth, Kind, Parameters};
 pub fn starline(input: &[u8]) -> String {
     let parameters = Parameters::new([2, 2, 2, 1, 8, 80, 8]);
     let mut lent = Buffers::zeros(&parameters);
-    let mut call = Call { kind: Kind::Make, parameters, growth: Growth::default(), number: 0, ra: 0, dec: 0 };
+    let growth = Growth::default();
+    let mut call = Call { kind: Kind::Make, parameters, growth, caller: 0, number: 0, ra: 0, dec: 0 };
     run(&call, &mut lent);
     let mut lines: Vec<&[u8]> = input.split(|&byte| byte == b'\n').collect();
     if lines.last().is_some_and(|line| line.is_empty()) {

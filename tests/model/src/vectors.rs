@@ -1,7 +1,7 @@
 //! Files of single calls on explicit buffers with everything expected afterwards, in two forms: document 01's, and
 //! document 02's, whose vectors begin with the requests that have landed.
 
-use crate::{Buffers, Call, Growth, Kind, Outcome, Parameters, Run, LANDED};
+use crate::{Buffers, Call, Growth, Kind, Outcome, Parameters, Run};
 use std::fmt::{Display, Write};
 use std::fs;
 use std::str::FromStr;
@@ -18,6 +18,8 @@ struct Reader<'a> {
     lines: std::slice::Iter<'a, (usize, &'a str)>,
     /// Whether the form is document 02's.
     later: bool,
+    /// Whether request (x) has landed. Before it owners and callers mean nothing: they count as 0.
+    owned: bool,
 }
 
 fn value<T: FromStr>(field: &str) -> Result<T, String> {
@@ -68,18 +70,20 @@ impl<'a> Reader<'a> {
         Ok(Growth { expansions: value(fields[0])?, expanded: value(fields[1])? })
     }
 
-    /// Owners mean nothing yet. Document 02's form has a pool only where the call takes one.
+    /// The owners of so many numbers. Document 01's form has none.
+    fn owners(&mut self, label: &str, numbers: usize) -> Result<Vec<u8>, String> {
+        let owners = if self.later { self.values(label)? } else { Vec::new() };
+        Ok(if self.owned { owners } else { vec![0; numbers] })
+    }
+
+    /// Document 02's form has a pool only where the call takes one.
     fn buffers(&mut self, kind: Kind) -> Result<Buffers, String> {
         let (separators, numbers, words) = (self.values("seps")?, self.values("nums")?, self.values("words")?);
-        let mut lent = Buffers { separators, numbers, words, ..Buffers::default() };
-        if self.later {
-            self.fields("owners")?;
-        }
+        let owners = self.owners("owners", numbers.len())?;
+        let mut lent = Buffers { separators, numbers, words, owners, ..Buffers::default() };
         if !self.later || kind.takes_pool() {
             (lent.pool_numbers, lent.pool_words) = (self.values("pnums")?, self.values("pwords")?);
-        }
-        if self.later && kind.takes_pool() {
-            self.fields("powners")?;
+            lent.pool_owners = self.owners("powners", lent.pool_numbers.len())?;
         }
         Ok(lent)
     }
@@ -90,14 +94,17 @@ impl<'a> Reader<'a> {
             if let Some(request) = needed.iter().find(|request| !landed.contains(request)) {
                 return Err(format!("request {request} has not landed"));
             }
+            self.owned = needed.contains(&10);
         }
         let name = self.fields("call")?.concat();
-        let kind = Kind::ALL.into_iter().find(|kind| kind.name() == name);
+        let cascade = landed.contains(&9).then_some(Kind::Cascade);
+        let kind = Kind::ALL.into_iter().chain(cascade).find(|kind| kind.name() == name);
         let kind = kind.ok_or_else(|| format!("no call '{name}'"))?;
         let (parameters, growth, before) = (self.parameters()?, self.growth()?, self.buffers(kind)?);
         let args = self.counted("args", 3, 6)?;
         let (number, ra, dec) = (value(args[0])?, value(args[1])?, value(args[2])?);
-        let call = Call { kind, parameters, growth, number, ra, dec };
+        let caller = if self.owned { value(args[3])? } else { 0 };
+        let call = Call { kind, parameters, growth, caller, number, ra, dec };
         let answer = self.counted("answer", 8, 13)?;
         unused(&answer[8..])?;
         if self.later && self.parameters()? != parameters {
@@ -128,7 +135,7 @@ pub fn parse(text: &str, landed: &[u32]) -> Vec<(usize, Result<Vector, String>)>
     let lines: Vec<(usize, &str)> = (1..).zip(text.lines()).filter(|(_, line)| !line.trim().is_empty()).collect();
     let vector = |lines: &[(usize, &str)]| {
         let later = lines[0].1.starts_with("landed");
-        (lines[0].0, Reader { lines: lines.iter(), later }.vector(landed))
+        (lines[0].0, Reader { lines: lines.iter(), later, owned: false }.vector(landed))
     };
     lines.split_inclusive(|(_, line)| line.trim() == "end").map(vector).collect()
 }
@@ -170,19 +177,21 @@ impl Vector {
         compare(&mut list, "separator", &self.after.separators, &lent.separators);
         compare(&mut list, "number", &self.after.numbers, &lent.numbers);
         compare(&mut list, "word", &self.after.words, &lent.words);
+        compare(&mut list, "owner", &self.after.owners, &lent.owners);
         compare(&mut list, "pool number", &self.after.pool_numbers, &lent.pool_numbers);
         compare(&mut list, "pool word", &self.after.pool_words, &lent.pool_words);
+        compare(&mut list, "pool owner", &self.after.pool_owners, &lent.pool_owners);
         list
     }
 
-    /// The vector in document 02's form.
-    pub fn text(&self) -> String {
-        let Call { kind, parameters, growth, number, ra, dec } = self.call;
+    /// The vector in document 02's form, for an implementation with these requests.
+    pub fn text(&self, landed: &[u32]) -> String {
+        let Call { kind, parameters, growth, caller, number, ra, dec } = self.call;
         let mut text = String::new();
-        put(&mut text, "landed", LANDED);
+        put(&mut text, "landed", landed);
         put(&mut text, "call", &[kind.name()]);
         put_file(&mut text, kind, &parameters, growth, &self.before);
-        writeln!(text, "args {number} {ra} {dec} 0 0 0").unwrap();
+        writeln!(text, "args {number} {ra} {dec} {caller} 0 0").unwrap();
         let Outcome { refusal, page, place, found, ra, dec, due, stars, .. } = self.outcome;
         writeln!(text, "answer {refusal} {page} {place} {found} {ra} {dec} {due} {stars} 0 0 0 0 0").unwrap();
         put_file(&mut text, kind, &parameters, self.outcome.growth(), &self.after);
@@ -204,11 +213,11 @@ fn put_file(text: &mut String, kind: Kind, parameters: &Parameters, growth: Grow
     put(text, "seps", &lent.separators);
     put(text, "nums", &lent.numbers);
     put(text, "words", &lent.words);
-    put(text, "owners", &vec![0; lent.numbers.len()]);
+    put(text, "owners", &lent.owners);
     if kind.takes_pool() {
         put(text, "pnums", &lent.pool_numbers);
         put(text, "pwords", &lent.pool_words);
-        put(text, "powners", &vec![0; lent.pool_numbers.len()]);
+        put(text, "powners", &lent.pool_owners);
     }
 }
 

@@ -1,9 +1,11 @@
 //! The documents' points about the definitions, and the given vectors, against the model.
 
-use model::files::{edge_parameters, LARGE};
+use model::files::{clean_file, edge_parameters, random_growth, small_parameters, LARGE};
 use model::hashing::{grown, highest_address, home, rank, shrunk, signature, x};
 use model::placement::{pack, separator, unpack, word_valid};
-use model::{points, starline::starline, vectors, Growth, Parameters, LANDED};
+use model::random::Random;
+use model::session::Session;
+use model::{points, starline::starline, vectors, Growth, Kind, Parameters, LANDED};
 use std::fs;
 
 const FOLDER: &str = concat!(env!("CARGO_MANIFEST_DIR"), "/../vectors");
@@ -68,6 +70,23 @@ fn separators() {
     assert_eq!(kept(1, &[5, 5]), (0, 5));
 }
 
+/// A cascading entry into a clean file answers and leaves what the entry does.
+#[test]
+fn cascades_as_entries() {
+    let mut random = Random(1);
+    for _ in 0..3_000 {
+        let parameters = small_parameters(&mut random);
+        let growth = random_growth(&mut random, &parameters);
+        let lent = clean_file(&mut random, &parameters, &growth, 100);
+        let mut entered = Session { run: model::run, parameters, growth, lent, caller: 0 };
+        for _ in 0..10 {
+            let (number, mut cascaded) = (random.star_number(), entered.clone());
+            let outcome = cascaded.call(Kind::Cascade, number, 1, 0);
+            assert_eq!((outcome, &cascaded.lent), (entered.enter(number), &entered.lent));
+        }
+    }
+}
+
 #[test]
 fn position_words() {
     assert_eq!(pack(1, 0), 4_618_967_296);
@@ -80,14 +99,16 @@ fn position_words() {
 
 #[test]
 fn call_vectors() {
-    let text = fs::read_to_string(format!("{FOLDER}/2-vii.txt")).unwrap();
-    let vectors = vectors::parse(&text, LANDED);
-    assert_eq!(vectors.len(), 900);
-    for (line, vector) in vectors {
-        let vector = vector.unwrap();
-        assert_eq!(vector.differences(model::run), Vec::<String>::new(), "line {line}");
-        let text = vector.text();
-        assert_eq!(vectors::parse(&text, LANDED)[0].1.as_ref().unwrap().text(), text);
+    for name in ["3-x", "4-i"] {
+        let text = fs::read_to_string(format!("{FOLDER}/{name}.txt")).unwrap();
+        let vectors = vectors::parse(&text, LANDED);
+        assert_eq!(vectors.len(), 900);
+        for (line, vector) in vectors {
+            let vector = vector.unwrap();
+            assert_eq!(vector.differences(model::run), Vec::<String>::new(), "{name}, line {line}");
+            let text = vector.text(LANDED);
+            assert_eq!(vectors::parse(&text, LANDED)[0].1.as_ref().unwrap().text(LANDED), text);
+        }
     }
 }
 
