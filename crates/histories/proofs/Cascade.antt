@@ -5,6 +5,7 @@ use mathlib.Core.List.{List}
 use mathlib.Core.Option.{Option, none, some}
 use Prim.Native.Nat.{ℕ, zero, suc, _+_}
 use native.Mathlib.Nat.{le-refl}
+use native.Mathlib.Omega.{arith}
 use lib.ListN.{length}
 use borrow.Author.Tests.{le-ltb}
 use Rattle.hashing.specs.declared.Parameters.{Parameters}
@@ -19,12 +20,15 @@ use Rattle.reach.proofs.Reaching.{Reach, entry-reach}
 use Rattle.reach.proofs.Entries.{start, cascadePages, reachPages, AsEntry, as-entry}
 use Rattle.calls.specs.Answers.{Pool, After, acceptedAt, refusedAt, cleared}
 use Rattle.calls.specs.Calls.{fileFits, poolFits, unless, orElse, unlent, guarded, unchanged, holds, enteredAgain, enterTo, enterOn, enterOf, cascadeFrom, cascadeOn, cascadeOf}
-use Rattle.histories.specs.Model.{Model, heldPosition, modelFile, pageFor, placeOn}
+use Rattle.histories.specs.Model.{Model, enter, cascade, updated, fed, heldPosition, modelFile, pageFor, placeOn}
+use Rattle.histories.specs.Call.{isAccepted}
 use Rattle.histories.specs.Cascade.{CascadeIsEntry}
 use Rattle.histories.proofs.Stars.{starOf, no-star}
 use Rattle.histories.proofs.Fitting.{Fitting, hashFor, starsFor, bounded, homed, rising-from, proper, in-range, named-readable}
 use Rattle.histories.proofs.Held.{held, not-held}
 use Rattle.histories.proofs.Searching.{none-unsound}
+use Rattle.histories.proofs.Conforms.{Conforms}
+use Rattle.histories.proofs.Enter.{enter-conforms}
 use Rattle.histories.proofs.Cleaned.{Modelled, check-modelled}
 
 -- a refusal before either is tried
@@ -48,8 +52,8 @@ module _ (p : Parameters) (m : Model) (t : Fitting p m) (caller k : ℕ) (q : Po
   abbrev begin : ℕ
   begin = start (hashFor p m) (modelFile p m) new
 
-  abbrev cascade : List Contents
-  cascade = cascadePages (hashFor p m) (p .pages) (modelFile p m) new
+  abbrev pushed : List Contents
+  pushed = cascadePages (hashFor p m) (p .pages) (modelFile p m) new
 
   -- a star not held
   module _ (absent : heldPosition k (m .entries) ≡ none) where
@@ -63,7 +67,7 @@ module _ (p : Parameters) (m : Model) (t : Fitting p m) (caller k : ℕ) (q : Po
     reached = entry-reach (hashFor p m) (p .pages) (modelFile p m) new (homed p (m .growth) k (t .parameters) (t .growth))
 
     same-file : entersWithin (hashFor p m) (modelFile p m) new to ≡ true
-        → replaced (p .places) (modelFile p m) begin cascade ≡ replaced (p .places) (modelFile p m) from stretch
+        → replaced (p .places) (modelFile p m) begin pushed ≡ replaced (p .places) (modelFile p m) from stretch
     unfolding hashOf
     same-file e = alike .file e
 
@@ -71,9 +75,9 @@ module _ (p : Parameters) (m : Model) (t : Fitting p m) (caller k : ℕ) (q : Po
     unfolding cascadeFrom enterTo
     cascades pool place =
         rw (
-          none-unsound p m t begin (length cascade) (alike .inside),
+          none-unsound p m t begin (length pushed) (alike .inside),
           none-unsound p m t from (pagesTo from to) (reached .high),
-          le-ltb (begin + length cascade) (begin + length cascade) (le-refl (begin + length cascade)),
+          le-ltb (begin + length pushed) (begin + length pushed) (le-refl (begin + length pushed)),
           le-ltb (from + pagesTo from to) (from + pagesTo from to) (le-refl (from + pagesTo from to)),
           alike .carries,
         )
@@ -86,7 +90,7 @@ module _ (p : Parameters) (m : Model) (t : Fitting p m) (caller k : ℕ) (q : Po
         full = unchanged (m .growth) (modelFile p m) pool (refusedAt 8 0 place)
 
         go : (b : Bool) → entersWithin (hashFor p m) (modelFile p m) new to ≡ b
-            → cond b (taken (holding k begin cascade) (replaced (p .places) (modelFile p m) begin cascade)) full
+            → cond b (taken (holding k begin pushed) (replaced (p .places) (modelFile p m) begin pushed)) full
             ≡ cond b (taken (holding k from stretch) (replaced (p .places) (modelFile p m) from stretch)) full
         go true e = rw (alike .page e, same-file e)
         go false e = refl
@@ -119,6 +123,26 @@ module _ (p : Parameters) (m : Model) (t : Fitting p m) (caller k : ℕ) (q : Po
           → guard v (cascadeOn p (m .growth) (modelFile p m) (cleared pool) begin new) ≡ guard v (enterOn p (m .growth) (modelFile p m) (cleared pool) begin new)
       go true e = ap (guard true) (cascades-on e (cleared pool))
       go false e = refused-alike (m .growth) (modelFile p m) pool earlier 2 _ _
+
+-- The model is fed alike.
+pub fed-alike : (p : Parameters) (m : Model) (caller k : ℕ) (q : Position) (accepted : Bool) → fed p (cascade caller k q) accepted m ≡ fed p (enter caller k q) accepted m
+unfolding fed updated
+fed-alike p m caller k q true = refl
+fed-alike p m caller k q false = refl
+
+pub cascade-conforms : (p : Parameters) (m : Model) → Fitting p m → (caller k : ℕ) (q : Position) (pool : Pool)
+    → Conforms p m (cascade caller k q) (cascadeOf p (m .growth) (modelFile p m) pool caller k q)
+cascade-conforms p m t caller k q pool =
+    rw (cascade-is p m t caller k q pool)
+    (let c = enter-conforms p m t caller k q pool in
+    let same = fed-alike p m caller k q (isAccepted (enterOf p (m .growth) (modelFile p m) pool caller k q .answer)) in
+    record {
+      growth = rw same (c .growth);
+      file = rw same (c .file);
+      fitting = rw same (c .fitting);
+      undamaged = c .undamaged;
+      found = λ j e. absurd (let z : _≡_ {A = ℕ} 0 1 = cc in omega arith);
+    })
 
 pub cascade-is-entry : CascadeIsEntry
 cascade-is-entry p g f pool clean lent caller k q = go (check-modelled p g f pool clean)

@@ -16,7 +16,6 @@ pub mod Searching
 pub mod Check
 pub mod Empty
 pub mod Grow
-pub mod Reaching
 pub mod Remove
 pub mod Enter
 pub mod Change

@@ -1,23 +1,26 @@
 -- The cascade of document 02 (ix) gives the pages that the rule gives the file's stars with the new one.
 use mathlib.Core.Path.{_≡_, refl, sym, ap, subst, _∙_}
 use mathlib.Core.Bool.{Bool, true, false, not, Bool·not-not, false≢true}
-use mathlib.Core.List.{List, [], _∷_, _++_}
+use mathlib.Core.List.{List, [], _∷_, _++_, List·Memᴰ, List·Memᴰ·cases-cons, List·Memᴰ·not-nil}
+use mathlib.Core.Logic.{⊎-elim}
 use Prim.Native.Nat.{ℕ, zero, suc, _+_, _-_, _≤_, _<_, zero-le}
 use native.Mathlib.Nat.{zero-add, le-refl, le-trans, le-antisymm}
 use native.Mathlib.Omega.{arith}
+use lib.Dec.{eqb}
 use lib.ListN.{length, drop, getD}
 use lib.Seq.{drop-drop}
-use Rattle.placement.specs.Rule.{Star, Hash, Contents, filter, below, staying, passing, separatorFrom, separatorOf, contentsOf, onward, pages, left, first, insert, pour}
-use Rattle.placement.specs.File.{File, starsAt, contentsAt, pagesAt, written, fileOf, replaced, laid}
-use Rattle.placement.proofs.Filters.{filter-ext, filter-comm, filter-absorb, filter-rest}
+use borrow.Author.Tests.{eqb-false}
+use Rattle.placement.specs.Rule.{Star, Hash, Contents, keep, filter, below, staying, passing, separatorFrom, separatorOf, contentsOf, onward, pages, left, first, insert, pour}
+use Rattle.placement.specs.File.{File, starsOf, starsAt, contentsAt, pagesAt, written, fileOf, replaced, laid}
+use Rattle.placement.proofs.Filters.{filter-ext, filter-comm, filter-absorb, filter-rest, member-filter}
 use Rattle.placement.proofs.Separator.{stays, below-mono, sep-le, sep-fits, sep-great}
 use Rattle.placement.proofs.Composition.{length-pages, pages-add, left-add, take-pages, drop-pages, middle-pages}
 use Rattle.placement.proofs.Standing.{first-le, first-before}
-use Rattle.placement.proofs.Order.{Sorted, Rising, Absent, rising-sorted, rising-filter, sorted-filter, sorted-pour, filter-pour, length-pour, pour-insert, pour-nil, pour-pour, pour-split}
+use Rattle.placement.proofs.Order.{Sorted, Rising, Absent, rising-sorted, rising-filter, sorted-filter, sorted-pour, filter-pour, length-pour, pour-insert, pour-nil, pour-pour, pour-split, member-pour}
 use Rattle.placement.proofs.Collecting.{rising-left, sorted-left}
 use Rattle.placement.proofs.Writing.{Roomy}
-use Rattle.placement.proofs.Pages.{Proper}
-use Rattle.placement.proofs.Files.{pagesAt-laid, sized-laid, replaced-of, roomy-pages}
+use Rattle.placement.proofs.Pages.{Proper, Numbered}
+use Rattle.placement.proofs.Files.{AllNumbered, pagesAt-laid, sized-laid, replaced-of, roomy-pages}
 use Rattle.reach.specs.Cascade.{meeting, lowered, pushedTo, pushedOn, cascaded, carriedPast}
 
 -- ---- the lowered separator, in any file
@@ -63,6 +66,32 @@ unfolding cascaded pushedTo
 roomy-cascaded H f p zero a = tt
 roomy-cascaded H f p (suc n) [] = tt
 roomy-cascaded H f p (suc n) (s ∷ a) = (lowered-fits H f p (s ∷ a), roomy-cascaded H f (suc p) n (pushedOn H f p (s ∷ a)))
+
+-- A place whose number is 0 is empty.
+numbered-stars : (ns ws os : List ℕ) → Numbered (starsOf ns ws os)
+unfolding starsOf
+numbered-stars [] ws os s m = absurd (List·Memᴰ·not-nil m)
+numbered-stars (n ∷ ns) [] os s m = absurd (List·Memᴰ·not-nil m)
+numbered-stars (n ∷ ns) (w ∷ ws) [] s m = absurd (List·Memᴰ·not-nil m)
+numbered-stars (n ∷ ns) (w ∷ ws) (o ∷ os) s m = go (eqb n 0) refl (numbered-stars ns ws os s) m
+  where
+    go : (t : Bool) → eqb n 0 ≡ t → (List·Memᴰ s (starsOf ns ws os) → 1 ≤ s .number) → List·Memᴰ s (keep (not t) (record { number = n; word = w; owner = o }) (starsOf ns ws os)) → 1 ≤ s .number
+    go true e ih m = ih m
+    go false e ih m =
+        let other : (n ≡ 0 → ⊥) = eqb-false n 0 e in
+        ⊎-elim (λ (d : s ≡ record { number = n; word = w; owner = o }). omega (arith, other, ap (λ (t : Star). t .number) d)) ih (List·Memᴰ·cases-cons m)
+
+numbered-met : (H : Hash) (f : File) (p : ℕ) (a : List Star) → Numbered a → Numbered (meeting H f p a)
+unfolding meeting starsAt
+numbered-met H f p a h t m = ⊎-elim (numbered-stars _ _ _ t) (h t) (member-pour (starsAt (H .room) f p) a t m)
+
+pub numbered-cascaded : (H : Hash) (f : File) (p n : ℕ) (a : List Star) → Numbered a → AllNumbered (cascaded H f p n a)
+unfolding cascaded pushedTo pushedOn staying passing
+numbered-cascaded H f p zero a h i k = absurd (omega arith)
+numbered-cascaded H f p (suc n) [] h i k = absurd (omega arith)
+numbered-cascaded H f p (suc n) (s ∷ a) h zero k = λ t m. numbered-met H f p (s ∷ a) h t (member-filter _ (meeting H f p (s ∷ a)) t m .0)
+numbered-cascaded H f p (suc n) (s ∷ a) h (suc i) k =
+    numbered-cascaded H f (suc p) n (pushedOn H f p (s ∷ a)) (λ t m. numbered-met H f p (s ∷ a) h t (member-filter _ (meeting H f p (s ∷ a)) t m .0)) i (omega arith)
 
 -- ---- one page, where the stars w wait and the stars a arrive
 

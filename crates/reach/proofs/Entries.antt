@@ -56,13 +56,9 @@ module _ (ok : ℕ → Bool) (H : Hash) (b : Bounded H) (M : ℕ) (t : List Star
   reached = entry-reach H M F s homed
 
   -- The reach leaves nothing: the new pages are those of all the stars, which fit.
-  pub entry-file : entersWithin H F s to ≡ true → replaced (H .room) F from (reachPages H M F s) ≡ laid (H .room) H M (insert s t)
+  pub entry-laid : entersWithin H F s to ≡ true → (replaced (H .room) F from (reachPages H M F s) ≡ laid (H .room) H M (insert s t)) × (left H 0 M (insert s t) ≡ [])
   unfolding entering entersWithin
-  entry-file e = entered ok H b M from (to - from) t rising proper fits (reached .high) s refl (reached .ends) (is-empty _ e) .0
-
-  pub entry-fits : entersWithin H F s to ≡ true → left H 0 M (insert s t) ≡ []
-  unfolding entering entersWithin
-  entry-fits e = entered ok H b M from (to - from) t rising proper fits (reached .high) s refl (reached .ends) (is-empty _ e) .1
+  entry-laid e = entered ok H b M from (to - from) t rising proper fits (reached .high) s refl (reached .ends) (is-empty _ e)
 
   entry-pages : entersWithin H F s to ≡ true → pages H 0 M (insert s t) ≡ written from (reachPages H M F s) (pages H 0 M t)
   unfolding entering entersWithin
@@ -103,7 +99,7 @@ module _ (ok : ℕ → Bool) (H : Hash) (b : Bounded H) (M : ℕ) (t : List Star
       record {
         inside = inside;
         carries = ap isEmpty (sym (cascade-left ok H M t s rising proper absent fits)) ∙ go (entersWithin H F s to) (left H 0 M (insert s t)) refl refl;
-        file = λ e. cascade-file ok H M t s rising proper absent ∙ sym (entry-file e);
+        file = λ e. cascade-file ok H M t s rising proper absent ∙ sym (entry-laid e .0);
         page = λ e.
             sym (on-pages e (start H F s) (cascadePages H M F s) (omega (arith, inside)) (cascade-pages ok H M t s rising proper absent))
             ∙ on-pages e from (reachPages H M F s) (omega (arith, homed)) (entry-pages e);
@@ -113,10 +109,10 @@ module _ (ok : ℕ → Bool) (H : Hash) (b : Bounded H) (M : ℕ) (t : List Star
       inside = cascade-inside ok H M t s rising proper absent
 
       go : (e : Bool) (l : List Star) → entersWithin H F s to ≡ e → left H 0 M (insert s t) ≡ l → isEmpty l ≡ e
-      go true l e d = ap isEmpty (sym d ∙ entry-fits e)
+      go true l e d = ap isEmpty (sym d ∙ entry-laid e .1)
       go false [] e d = absurd (entry-carried e d)
       go false (x ∷ l) e d = refl
 
       on-pages : entersWithin H F s to ≡ true → (a : ℕ) (X : List Contents) → a ≤ M → pages H 0 M (insert s t) ≡ written a X (pages H 0 M t)
           → holding (s .number) 0 (pages H 0 M (insert s t)) ≡ holding (s .number) a X
-      on-pages e a X h d = holding-written H M a t (insert s t) s X absent h d (entry-fits e) (inserted s t)
+      on-pages e a X h d = holding-written H M a t (insert s t) s X absent h d (entry-laid e .1) (inserted s t)
