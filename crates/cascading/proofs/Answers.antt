@@ -6,9 +6,7 @@ use Prim.Native.Nat.{ℕ, suc, _+_, _-_, _*_, _≤_, _<_}
 use native.Mathlib.Nat.{add-zero, add-mul, suc-mul, mul-le-mul-right}
 use native.Mathlib.Decide.{decLt}
 use native.Mathlib.Omega.{arith}
-use lib.Dec.{ltb}
 use lib.ListN.{length, getD, length-map, length-append}
-use borrow.Author.Tests.{le-ltb, lt-ltb}
 use Rattle.hashing.specs.declared.Parameters.{Parameters}
 use Rattle.hashing.specs.declared.Growth.{Growth}
 use Rattle.hashing.specs.Limits.{validParameters}
@@ -25,14 +23,13 @@ use Rattle.waiting.specs.Settle.{staying, passing, separatorFrom}
 use Rattle.planning.specs.Plans.{waits}
 use Rattle.planning.specs.Sources.{renamed}
 use Rattle.planning.proofs.Applying.{applied, applied-is}
-use Rattle.entering.specs.declared.blocks.Reach.the-variants.{Ends, Unsound, Overflows}
+use Rattle.entering.specs.declared.blocks.Reach.the-variants.{Ends}
 use Rattle.entering.specs.Entry.{Unheld, hash, newStar}
 use Rattle.entering.proofs.Firsts.{such-is}
-use Rattle.entering.proofs.Reached.{unsound-ends, overflows-ends}
-use Rattle.cascading.specs.Cascade.{visited, overflow, stopOf, unsoundOf, byCascade, cascadeReach, cascadeFile, Plans, loweredTo, loweredOn}
+use Rattle.cascading.specs.Arriving.{pageWords}
+use Rattle.cascading.specs.Cascade.{visited, overflow, stopOf, unsoundOf, Stopped, Spilled, Kept, Plans, loweredTo, loweredOn}
 use Rattle.cascading.proofs.Visiting.{cascaded-none, carried-none, cascaded-add, carried-add, visits-some}
 use Rattle.cascading.proofs.Tying.{parted}
-use Rattle.cascading.proofs.PageWords.{pageWords}
 use Rattle.cascading.proofs.Pushed.{Pushed, pushed-next, carried-length, page-inside}
 
 not-empty : (l : List Star) → 0 < length l → isEmpty l ≡ false
@@ -94,9 +91,8 @@ module _ (p : Parameters) (g : Growth) (f : File) (k page : ℕ) (pool planned w
           passes = λ h. ap not bad;
         })
 
-    pub unsound-reach : Unsound (page + d) ≡ cascadeReach p g f (new word owner) page
-    unfolding cascadeReach
-    unsound-reach = rw (← found, lt-ltb (page + d) (stopOf p g f (new word owner) page) reaches)
+    stopped : Stopped p g f (new word owner) page (page + d)
+    stopped = record { is = found; inside = reaches }
 
   -- ---- the pages visited are those planned
   module _ (word owner : ℕ) (all : visited p g f (new word owner) page ≡ cascaded (hash p g) f page d (new word owner ∷ [])) where
@@ -116,13 +112,11 @@ module _ (p : Parameters) (g : Growth) (f : File) (k page : ℕ) (pool planned w
           passes = λ h. absurd (omega arith);
         }))
 
-    by-cascade : {A : Type 0} (unsound overflows enters : A) (t : Bool) → isEmpty (overflow p g f (new word owner) page) ≡ t
-        → byCascade p g f (new word owner) page unsound overflows enters ≡ cond t enters overflows
-    by-cascade unsound overflows enters t e =
-        rw (e, none-unsound, le-ltb (page + d) (stopOf p g f (new word owner) page) (omega (arith, stop-is)))
+    all-sound : unsoundOf p g f (new word owner) page ≡ stopOf p g f (new word owner) page
+    all-sound = none-unsound ∙ sym stop-is
 
   -- ---- nothing is carried on
-  module _ (none : length w ≡ 0) (some : 0 < d) (word owner : ℕ) where
+  module _ (none : length w ≡ 0) (word owner : ℕ) where
     nothing : carriedPast (hash p g) f page d (new word owner ∷ []) ≡ []
     nothing = length-nil (carriedPast (hash p g) f page d (new word owner ∷ [])) (carried-count word owner ∙ none)
 
@@ -133,24 +127,22 @@ module _ (p : Parameters) (g : Growth) (f : File) (k page : ℕ) (pool planned w
         ∙ ap (λ (cs : List Contents). cascaded (hash p g) f page d (new word owner ∷ []) ++ cs) (cascaded-none (hash p g) f (page + d) (p .pages - (page + d)))
         ∙ append-nil (cascaded (hash p g) f page d (new word owner ∷ []))
 
-    pub fits : overflow p g f (new word owner) page ≡ []
+    fits : overflow p g f (new word owner) page ≡ []
     fits =
         past word owner
         ∙ ap (carriedPast (hash p g) f (page + d) (p .pages - (page + d))) nothing
         ∙ carried-none (hash p g) f (page + d) (p .pages - (page + d))
 
-    pub ends-reach : Ends (page + d - 1) ≡ cascadeReach p g f (new word owner) page
-    unfolding cascadeReach
-    ends-reach =
-        ap (λ (n : ℕ). Ends (n - 1)) (sym (stop-is word owner all-visited))
-        ∙ sym (by-cascade word owner all-visited (Unsound (unsoundOf p g f (new word owner) page)) Overflows (Ends (stopOf p g f (new word owner) page - 1)) true (ap isEmpty fits))
-
-    pub ends-applies : applied (p .places) page d k word owner pool planned f ≡ cascadeFile p g f (new word owner) page
-    unfolding cascadeFile
-    ends-applies =
-        applied-is (p .places) page d k word owner pool planned f (P .contents) (P .sources) (P .separators-are) (P .all-sourced)
-        ∙ ap (replaced (p .places) f page) (P .are word owner ∙ sym all-visited)
-        ∙ sym (by-cascade word owner all-visited f f (replaced (p .places) f page (visited p g f (new word owner) page)) true (ap isEmpty fits))
+    kept : (last : ℕ) → pagesTo page last ≡ d → Kept p g f k word owner page pool planned last
+    kept last count =
+        record {
+          sound = all-sound word owner all-visited;
+          none = fits;
+          applies =
+              ap (λ (n : ℕ). applied (p .places) page n k word owner pool planned f) count
+              ∙ applied-is (p .places) page d k word owner pool planned f (P .contents) (P .sources) (P .separators-are) (P .all-sourced)
+              ∙ ap (replaced (p .places) f page) (P .are word owner ∙ sym all-visited);
+        }
 
   -- ---- all pages are visited
   module _ (last : page + d ≡ p .pages) (some : 0 < length w) (word owner : ℕ) where
@@ -170,45 +162,21 @@ module _ (p : Parameters) (g : Growth) (f : File) (k page : ℕ) (pool planned w
         ap isEmpty over
         ∙ not-empty (carriedPast (hash p g) f page d (new word owner ∷ [])) (omega (arith, carried-count word owner))
 
-    pub overflows-reach : Overflows ≡ cascadeReach p g f (new word owner) page
-    unfolding cascadeReach
-    overflows-reach =
-        sym (by-cascade word owner all-there (Unsound (unsoundOf p g f (new word owner) page)) Overflows (Ends (stopOf p g f (new word owner) page - 1)) false too-many)
+    spilled : Spilled p g f (new word owner) page
+    spilled = record { sound = all-sound word owner all-there; over = too-many }
 
--- ---- what a planning function answers
+-- ---- what planning answers
 
 module _ (p : Parameters) (g : Growth) (f : File) (k page : ℕ) (pool planned w : List ℕ) (d : ℕ) (P : Pushed p g f k page pool planned w d) where
-  pub plans-unsound : 0 < length w → page + d < p .pages → soundAt p g f (page + d) ≡ false → (pool′ planned′ : List ℕ) (q : ℕ) → q ≡ page + d → Plans p g f k page pool′ planned′ (Unsound q)
-  plans-unsound some inside bad pool′ planned′ q e =
-      record {
-        answers = λ word owner. ap Unsound e ∙ unsound-reach p g f k page pool planned w d P some inside bad word owner;
-        order = λ last same. absurd (unsound-ends q last same);
-        applies = λ word owner last same. absurd (unsound-ends q last same);
-      }
+  pub plans-unsound : 0 < length w → page + d < p .pages → soundAt p g f (page + d) ≡ false → (q : ℕ) → q ≡ page + d
+      → (word owner : ℕ) → Stopped p g f (newStar k word owner) page q
+  plans-unsound some inside bad q e word owner = rw e (stopped p g f k page pool planned w d P some inside bad word owner)
 
-  pub plans-overflow : page + d ≡ p .pages → 0 < length w → (pool′ planned′ : List ℕ) → Plans p g f k page pool′ planned′ Overflows
-  plans-overflow last some pool′ planned′ =
-      record {
-        answers = λ word owner. overflows-reach p g f k page pool planned w d P last some word owner;
-        order = λ last same. absurd (overflows-ends last same);
-        applies = λ word owner last same. absurd (overflows-ends last same);
-      }
+  pub plans-overflow : page + d ≡ p .pages → 0 < length w → (word owner : ℕ) → Spilled p g f (newStar k word owner) page
+  plans-overflow last some word owner = spilled p g f k page pool planned w d P last some word owner
 
-  pub plans-ends : length w ≡ 0 → (q : ℕ) → page + d ≡ q + 1 → page ≤ q → Plans p g f k page pool planned (Ends q)
-  plans-ends none q e low =
-      record {
-        answers = λ word owner.
-            let same : q ≡ page + d - 1 = omega arith in
-            ap Ends same ∙ ends-reach p g f k page pool planned w d P none (omega arith) word owner;
-        order = λ last same.
-            let here : q ≡ last = cc in
-            (omega arith, omega (arith, P .most));
-        applies = λ word owner last same.
-            let here : q ≡ last = cc in
-            let count : pagesTo page last ≡ d = omega arith in
-            ap (λ (n : ℕ). applied (p .places) page n k word owner pool planned f) count
-            ∙ ends-applies p g f k page pool planned w d P none (omega arith) word owner;
-      }
+  pub plans-ends : length w ≡ 0 → (last : ℕ) → page + d ≡ last + 1 → page ≤ last → Plans p g f k page pool planned (Ends last)
+  plans-ends none last e low = (low, (omega (arith, P .most), λ word owner. kept p g f k page pool planned w d P none word owner last (omega arith)))
 
 -- the words that have come and the page's do not fit: it is the last page, and carries some on
 module _ (p : Parameters) (g : Growth) (f : File) (k page : ℕ) (valid : validParameters p ≡ true) (sized : Sized (p .places) (p .pages) f)
@@ -216,13 +184,13 @@ module _ (p : Parameters) (g : Growth) (f : File) (k page : ℕ) (valid : validP
     (pool planned w : List ℕ) (d from reach : ℕ) (P : Pushed p g f k page pool planned w d) (some : 0 < length w) where
   pub plans-crowded : page + d < p .pages → soundAt p g f (page + d) ≡ true → length pool ≡ p .pages * p .places → p .pages ≤ length planned
       → length w ≡ reach - from → from ≤ d * p .places → reach ≤ suc (d * p .places) → length (pageWords p g f (page + d)) ≤ p .places
-      → p .pages * p .places < reach + length (pageWords p g f (page + d)) → (pool′ planned′ : List ℕ) → Plans p g f k page pool′ planned′ Overflows
+      → p .pages * p .places < reach + length (pageWords p g f (page + d)) → (word owner : ℕ) → Spilled p g f (newStar k word owner) page
   unfolding loweredOn
-  plans-crowded inside sound lp ln lw kept come few many pool′ planned′ =
+  plans-crowded inside sound lp ln lw kept come few many =
       plans-overflow p g f k page pool″ planned″ on (d + 1)
       (pushed-next p g f k page valid sized number unheld here pool planned w d P some inside sound pool″ planned″
       (rw lp (mul-le-mul-right (p .places) (omega arith))) (omega arith) refl refl)
-      last-page carries pool′ planned′
+      last-page carries
     where
       met : List ℕ
       met = w ++ pageWords p g f (page + d)

@@ -34,12 +34,9 @@ use Rattle.planning.specs.Sources.{renamed, sourced}
 use Rattle.planning.proofs.Applying.{renamed-keeps}
 use Rattle.planning.proofs.Sourcing.{fresh, led, ordered, fresh-led, words-ordered, true-stars}
 use Rattle.entering.specs.Entry.{Unheld, hash, blockNumbers, blockWords}
+use Rattle.cascading.specs.Arriving.{pageWords}
 use Rattle.entering.proofs.Items.{numbers-count, numbers-below, block-homed, block-sourced, block-grouped, block-fresh}
 use Rattle.cascading.proofs.Tying.{waits-joined}
-
--- the words of page q's stars
-abbrev pub pageWords : Parameters → Growth → File → ℕ → List ℕ
-pageWords p g f q = blockWords p g f q 1
 
 -- every word is of the star k or of one that the separators name a page below q for
 unfoldable pub apart : Parameters → Growth → File → ℕ → ℕ → List ℕ → Bool
@@ -93,10 +90,10 @@ module _ (p : Parameters) (g : Growth) (f : File) (valid : validParameters p ≡
   pub page-sourced : (k : ℕ) → sourced (f .numbers) k (pageWords p g f q) ≡ true
   page-sourced k = block-sourced p g f valid sized q 1 one-more k page-numbers
 
-  items-few : q * p .places + length (blockNumbers p f q 1) < 2 ^ 16
+  pub items-few : q * p .places + length (blockNumbers p f q 1) < 2 ^ 16
   items-few = omega (arith, few, numbers-count p g f valid sized q 1 one-more, add-mul q 1 (p .places))
 
-  page-named : all (λ w. eqb (namedPage p g (f .separators) (numberOf w)) q) (pageWords p g f q) ≡ true
+  pub page-named : all (λ w. eqb (namedPage p g (f .separators) (numberOf w)) q) (pageWords p g f q) ≡ true
   unfolding blockWords
   page-named =
       numbers-all (λ n. eqb (namedPage p g (f .separators) n) q) (q * p .places) (blockNumbers p f q 1) (stretch (p .places) q 1 (homesOf p g (f .numbers))) page-numbers items-few

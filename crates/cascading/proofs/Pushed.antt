@@ -12,12 +12,14 @@ use lib.ListN.{length, take, drop, getD, length-map, length-append}
 use borrow.Author.Tests.{eq-eqb, le-leb, leb-true}
 use Rattle.hashing.specs.declared.Parameters.{Parameters}
 use Rattle.hashing.specs.declared.Growth.{Growth}
+use Rattle.hashing.specs.Generator.{multiplierOf}
+use Rattle.hashing.specs.Home.{home}
 use Rattle.hashing.specs.Limits.{validParameters}
 use Rattle.hashing.proofs.Bounds.{limits}
 use Rattle.pages.specs.Position.{validNumber}
 use Rattle.placement.specs.Rule.{Star, Hash, Contents, separators, first, insert}
 use Rattle.placement.specs.File.{File, Sized, column, written, every}
-use Rattle.placement.specs.Hash.{soundAt, namedPage}
+use Rattle.placement.specs.Hash.{hashOf, soundAt, namedPage}
 use Rattle.placement.proofs.Mapping.{mapped}
 use Rattle.placement.proofs.Standing.{first-home}
 use Rattle.placement.proofs.Writing.{column-append, separators-append}
@@ -36,9 +38,10 @@ use Rattle.planning.proofs.Sourcing.{fresh, new-star, named-past}
 use Rattle.planning.proofs.Placed.{new-homed, new-near, new-sourced}
 use Rattle.entering.specs.Entry.{Unheld, hash, newStar, startOf}
 use Rattle.entering.proofs.Joined.{newWord, valid-most}
+use Rattle.cascading.specs.Arriving.{pageWords}
 use Rattle.cascading.specs.Cascade.{loweredTo, loweredOn}
 use Rattle.cascading.proofs.Visiting.{cascaded-add, carried-add, cascaded-one, carried-one}
-use Rattle.cascading.proofs.PageWords.{pageWords, apart, page-sourced, apart-joined}
+use Rattle.cascading.proofs.PageWords.{apart, page-sourced, apart-joined}
 use Rattle.cascading.proofs.Settled.{lowered-roomy, sources-on, separators-on, met-homed, met-near, pushes-to, pushes-on}
 
 -- d pages from `page` on are sound and planned, with the contents `contents`, and the words w are carried past them
@@ -72,10 +75,10 @@ carried-length g l = length-map (waits l) g ∙ length-waits l
 
 module _ (p : Parameters) (g : Growth) (f : File) (k page : ℕ) (valid : validParameters p ≡ true) (sized : Sized (p .places) (p .pages) f)
     (number : validNumber k ≡ true) (unheld : Unheld p g f k) (here : page ≡ namedPage p g (f .separators) k) where
-  small : k < 2 ^ 31
+  pub small : k < 2 ^ 31
   small = omega (arith, valid-most k number)
 
-  few : length (f .numbers) + 1 < 2 ^ 16
+  pub few : length (f .numbers) + 1 < 2 ^ 16
   few = let l = limits p valid in omega (arith, sized .ofNumbers, mul-le-mul (l .pages-most) (l .places-most))
 
   pub page-inside : page < p .pages
@@ -85,13 +88,20 @@ module _ (p : Parameters) (g : Growth) (f : File) (k page : ℕ) (valid : validP
   unfolding namedPage
   home-below = rw here (first-home (hash p g) 0 (f .separators) k (omega (arith, unheld .named, sized .ofSeparators)))
 
+  -- the word that the code packs
+  pub new-packed : (from : ℕ) → from ≡ home (multiplierOf p) p g k → pack from k (length (f .numbers) + 1) ≡ newWord p g f k
+  unfolding hashOf
+  new-packed from e = ap (λ (h : ℕ). pack h k (length (f .numbers) + 1)) e
+
   -- at the start the new star alone is carried
   new-carried : (word owner : ℕ) → map (renamed (f .words) (f .owners) word owner) (waits (newWord p g f k ∷ [])) ≡ newStar k word owner ∷ []
   unfolding insert waits slotsOf pourLow
   new-carried word owner =
       new-star (f .words) (f .owners) word owner (startOf p g k) k (length (f .numbers) + 1) [] small few (unfold fresh all in refl)
-      ∙ rw (named-past (f .words) word (length (f .numbers) + 1) (omega (arith, sized .ofNumbers, sized .ofWords)),
-      named-past (f .owners) owner (length (f .numbers) + 1) (omega (arith, sized .ofNumbers, sized .ofOwners)))
+      ∙ rw (
+        named-past (f .words) word (length (f .numbers) + 1) (omega (arith, sized .ofNumbers, sized .ofWords)),
+        named-past (f .owners) owner (length (f .numbers) + 1) (omega (arith, sized .ofNumbers, sized .ofOwners)),
+      )
 
   pub pushed-none : (pool planned : List ℕ) → Pushed p g f k page pool planned (newWord p g f k ∷ []) 0
   pushed-none pool planned =

@@ -31,9 +31,10 @@ use Rattle.planning.proofs.Pouring.{length-waits}
 use Rattle.planning.proofs.RuleOverWords.{homed-append}
 use Rattle.planning.proofs.Placed.{probes-real, stretch-add, stretch-before}
 use Rattle.entering.specs.Entry.{Unheld, hash}
+use Rattle.cascading.specs.Arriving.{pageWords}
 use Rattle.cascading.specs.Cascade.{loweredTo, loweredOn, Lowered}
 use Rattle.cascading.proofs.Tying.{stay-tie, pass-tie, lower-tie}
-use Rattle.cascading.proofs.PageWords.{pageWords, apart, page-homed, page-near, page-meets}
+use Rattle.cascading.proofs.PageWords.{apart, page-homed, page-near, page-meets}
 
 -- ---- where it is written
 
@@ -131,8 +132,11 @@ module _ (p : Parameters) (g : Growth) (f : File) (valid : validParameters p ≡
     pub pushes-to : pushedTo (hash p g) f q (map rename (waits w)) ≡ mapped rename (loweredTo p q stored met)
     unfolding pushedTo loweredTo
     pushes-to =
-        rw (lowers, ← page-meets p g f valid sized q inside sound k unheld w before word owner,
-        stay-tie (hash p g) p (probes-real p g) rename (renamed-keeps (f .words) (f .owners) word owner) q met met-homed met-near (separatorFrom p q met stored))
+        rw (
+          lowers,
+          ← page-meets p g f valid sized q inside sound k unheld w before word owner,
+          stay-tie (hash p g) p (probes-real p g) rename (renamed-keeps (f .words) (f .owners) word owner) q met met-homed met-near (separatorFrom p q met stored),
+        )
 
     pub pushes-on : pushedOn (hash p g) f q (map rename (waits w)) ≡ map rename (waits (loweredOn p q stored met))
     unfolding pushedOn loweredOn

@@ -1,6 +1,6 @@
 -- The entry by a cascade, from the page that the separators name upward: document 02 (ix).
 use mathlib.Core.Path.{_≡_}
-use mathlib.Core.Bool.{true, cond}
+use mathlib.Core.Bool.{true, false, cond}
 use mathlib.Core.List.{List, [], _∷_}
 use Prim.Native.Nat.{ℕ, _+_, _-_, _*_, _≤_, _<_}
 use lib.Dec.{ltb}
@@ -52,10 +52,6 @@ abbrev pub byCascade : {A : Type 0} → Parameters → Growth → File → Star 
 byCascade p g f s page unsound overflows enters =
     cond (ltb (unsoundOf p g f s page) (stopOf p g f s page)) unsound (cond (isEmpty (overflow p g f s page)) enters overflows)
 
--- where the cascade ends
-unfoldable pub cascadeReach : Parameters → Growth → File → Star → ℕ → Reach
-cascadeReach p g f s page = byCascade p g f s page (Unsound (unsoundOf p g f s page)) Overflows (Ends (stopOf p g f s page - 1))
-
 -- "a visited page that is unsound is 5"; accepted, the answer is the star's page
 unfoldable pub cascadeAnswer : Parameters → Growth → File → Star → ℕ → Entered
 cascadeAnswer p g f s page =
@@ -68,13 +64,28 @@ cascadeAnswer p g f s page =
 unfoldable pub cascadeFile : Parameters → Growth → File → Star → ℕ → File
 cascadeFile p g f s page = byCascade p g f s page f f (replaced (p .places) f page (visited p g f s page))
 
--- what planning the cascade of the star k answers and leaves: applied where it ends, the plan enters the star, with any word and owner
-pub record Plans (p : Parameters) (g : Growth) (f : File) (k page : ℕ) (pool planned : List ℕ) (r : Reach) : Type 0 where
-  pub answers : (word owner : ℕ) → r ≡ cascadeReach p g f (newStar k word owner) page
-  pub order : (last : ℕ) → r ≡ Ends last → (page ≤ last) × (last < p .pages)
-  pub applies : (word owner last : ℕ)
-      → r ≡ Ends last
-      → applied (p .places) page (pagesTo page last) k word owner pool planned f ≡ cascadeFile p g f (newStar k word owner) page
+-- q is the first unsound page visited
+pub record Stopped (p : Parameters) (g : Growth) (f : File) (s : Star) (page q : ℕ) : Type 0 where
+  pub is : q ≡ unsoundOf p g f s page
+  pub inside : q < stopOf p g f s page
+
+-- the pages visited are sound, and a star is carried past page M−1
+pub record Spilled (p : Parameters) (g : Growth) (f : File) (s : Star) (page : ℕ) : Type 0 where
+  pub sound : unsoundOf p g f s page ≡ stopOf p g f s page
+  pub over : isEmpty (overflow p g f s page) ≡ false
+
+-- they are sound, none is, and the planned sources and separators of the pages up to `last` are theirs
+pub record Kept (p : Parameters) (g : Growth) (f : File) (k word owner page : ℕ) (pool planned : List ℕ) (last : ℕ) : Type 0 where
+  pub sound : unsoundOf p g f (newStar k word owner) page ≡ stopOf p g f (newStar k word owner) page
+  pub none : overflow p g f (newStar k word owner) page ≡ []
+  pub applies : applied (p .places) page (pagesTo page last) k word owner pool planned f ≡ replaced (p .places) f page (visited p g f (newStar k word owner) page)
+
+-- what planning the cascade of the star k answers and leaves, with any word and owner
+abbrev pub Plans : Parameters → Growth → File → ℕ → ℕ → List ℕ → List ℕ → Reach → Type 0
+Plans p g f k page pool planned (Unsound q) = (word owner : ℕ) → Stopped p g f (newStar k word owner) page q
+Plans p g f k page pool planned Overflows = (word owner : ℕ) → Spilled p g f (newStar k word owner) page
+Plans p g f k page pool planned (Ends last) =
+    (page ≤ last) × ((last < p .pages) × ((word owner : ℕ) → Kept p g f k word owner page pool planned last))
 
 -- what a page gets of the words l that probe it, under the greatest separator up to `most`, and what it carries on
 unfoldable pub loweredTo : Parameters → ℕ → ℕ → List ℕ → Contents
