@@ -1,7 +1,7 @@
 -- The cascade over d + n pages is that over d, then over n from what is carried on.
 use mathlib.Core.Path.{_≡_, refl, sym, ap, _∙_}
 use mathlib.Core.List.{List, [], _∷_, _++_}
-use Prim.Native.Nat.{ℕ, zero, suc, _+_, _<_}
+use Prim.Native.Nat.{ℕ, zero, suc, _+_, _≤_, _<_}
 use native.Mathlib.Nat.{zero-add, add-zero, suc-add, add-suc}
 use native.Mathlib.Omega.{arith}
 use lib.ListN.{length}
@@ -52,3 +52,10 @@ module _ (H : Hash) (f : File) where
   visits-some p zero w h k = absurd (omega arith)
   visits-some p (suc n) [] h k = absurd (omega arith)
   visits-some p (suc n) (s ∷ w) h k = omega arith
+
+  -- no more pages are visited than there are
+  pub visits-most : (p n : ℕ) (w : List Star) → length (cascaded H f p n w) ≤ n
+  unfolding cascaded
+  visits-most p zero w = omega arith
+  visits-most p (suc n) [] = omega arith
+  visits-most p (suc n) (s ∷ w) = omega (arith, visits-most (suc p) n (pushedOn H f p (s ∷ w)))

@@ -23,13 +23,15 @@ use Rattle.reach.proofs.Search.{such}
 use Rattle.entering.specs.declared.stretch.Entered.the-variants.{On, Unsound, Overflows}
 use Rattle.entering.specs.Entry.{entryAnswer, entryFile}
 use Rattle.entering.specs.Entry as entry
+use Rattle.cascading.specs.Cascade.{visited, overflow, stopOf, unsoundOf, cascadeAnswer, cascadeFile}
+use Rattle.cascading.proofs.Visiting.{visits-most}
 use Rattle.replacing.specs.declared.Replaced.the-variants.{Done, Unsound as replaced·Unsound, Overflows as replaced·Overflows}
 use Rattle.replacing.specs.Calls.{removalAnswer, removalFile, growthAnswer, growthFile}
 use Rattle.replacing.specs.Calls as removal
 use Rattle.comparing.specs.declared.checking.Verdict.the-variants.{Clean, Differs, Unsound as verdict·Unsound}
 use Rattle.comparing.specs.Verdicts.{verdictOf}
 use Rattle.calls.specs.Answers.{Pool, placed, checked, refusedBy, accepted, refused, acceptedAt, refusedAt, spotted}
-use Rattle.calls.specs.Calls.{hash, unchanged, enterTo, removeTo, regrowTo, checkedAt, allStars}
+use Rattle.calls.specs.Calls.{hash, unchanged, enterTo, cascadeFrom, removeTo, regrowTo, checkedAt, allStars}
 use Rattle.starfile.specs.Outcomes.{EntrySmall, entryPlaced, ReplacedSmall, replacedPlaced, replacedGrown, VerdictSmall, verdictChecked}
 
 holding-most : (k from : ℕ) (cs : List Contents) → holding k from cs ≤ from + length cs
@@ -84,6 +86,19 @@ module _ (p : Parameters) (g : Growth) (f : File) (v : validParameters p ≡ tru
         go false true = page-small
         go false false = tt
 
+  -- ---- cascade
+  pub cascade-small : (s : Star) (page : ℕ) → page < p .pages → EntrySmall (cascadeAnswer p g f s page)
+  unfolding cascadeAnswer
+  cascade-small s page h = go (ltb (unsoundOf p g f s page) (stopOf p g f s page)) (isEmpty (overflow p g f s page))
+    where
+      few : stopOf p g f s page ≤ p .pages
+      few = omega (arith, visits-most (hash p g) f page (p .pages - page) (s ∷ []))
+
+      go : (t u : Bool) → EntrySmall (cond t (Unsound (unsoundOf p g f s page)) (cond u (On (holding (s .number) page (visited p g f s page))) Overflows))
+      go true u = omega (arith, unsound-most p g f page (length (visited p g f s page)), few, limits p v .pages-most)
+      go false true = omega (arith, holding-most (s .number) page (visited p g f s page), few, limits p v .pages-most)
+      go false false = tt
+
   -- ---- removal and growth
   pub removal-small : (k : ℕ) → ReplacedSmall (removalAnswer p g f k)
   unfolding removalAnswer hashOf
@@ -129,6 +144,19 @@ module _ (p : Parameters) (g : Growth) (f : File) (pool : Pool) where
         (holding (s .number) (entry.startOf p g (s .number)) (entry.contentsOf p g f s))
         place
         (replaced (p .places) f (entry.startOf p g (s .number)) (entry.contentsOf p g f s))
+
+    pub cascaded-is : (place page : ℕ)
+        → (placed (entryPlaced (cascadeAnswer p g f s page) place) ≡ cascadeFrom p g f pool s place page .answer)
+        × (cascadeFile p g f s page ≡ cascadeFrom p g f pool s place page .file)
+    unfolding cascadeAnswer cascadeFile cascadeFrom
+    cascaded-is place page =
+        entered-cases
+        (ltb (unsoundOf p g f s page) (stopOf p g f s page))
+        (isEmpty (overflow p g f s page))
+        (unsoundOf p g f s page)
+        (holding (s .number) page (visited p g f s page))
+        place
+        (replaced (p .places) f page (visited p g f s page))
 
   removed-cases : (t : Bool) (bad page place : ℕ) (next : File)
       → (placed (replacedPlaced (cond t (replaced·Unsound bad) Done) page place) ≡ cond t (unchanged g f pool (refusedAt 5 bad place)) (record { answer = acceptedAt page place; growth = g; file = next; pool = pool }) .answer)

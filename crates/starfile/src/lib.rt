@@ -14,6 +14,7 @@ mod rewriting;
 pub use checking::check;
 pub use counting::due;
 pub use emptying::make;
+pub use entry::cascade;
 pub use entry::enter;
 pub use growth::grow;
 pub use growth::shrink;
