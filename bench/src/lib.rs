@@ -5,6 +5,7 @@ mod base;
 pub mod files;
 pub mod floors;
 mod present;
+pub mod procedures;
 pub mod timing;
 
 use files::File;

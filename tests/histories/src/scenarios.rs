@@ -86,8 +86,11 @@ fn through_sizes(tester: &mut Tester, parameters: Parameters, calls: u64) {
                 let at_this_size = tester.random.pick(at_each_size);
                 history.call(tester, at_this_size, number);
             }
-            // Where the stars do not fit, with fewer of them.
+            // Where the stars do not fit, with fewer of them; a call that fails may leave no way on.
             while history.call(tester, kind, 0).refusal != 0 {
+                if !tester.failures.is_empty() {
+                    return;
+                }
                 let (&number, _) = history.book.first_key_value().expect("no stars always fit");
                 history.call(tester, Kind::Remove, number);
             }
