@@ -39,6 +39,11 @@ pub trait Library {
         self.call(Kind::Enter, number, 1, 0)
     }
 
+    /// Of today's library alone.
+    fn cascade(&mut self, number: u32) -> Answer {
+        self.call(Kind::Cascade, number, 1, 0)
+    }
+
     fn change(&mut self, number: u32, ra: u32) -> Answer {
         self.call(Kind::Change, number, ra, 0)
     }
