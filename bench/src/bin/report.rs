@@ -61,6 +61,10 @@ impl Costs {
             expansion: mean(|entered| entered.expansion.read + entered.expansion.written),
         }
     }
+
+    fn insertion(&self) -> f64 {
+        self.read + self.written
+    }
 }
 
 const PLACES: usize = 20;
@@ -195,8 +199,8 @@ fn print_table(rows: &[(Costs, Costs)]) {
     for (&(step, insertion, expansion), (library, procedures)) in TABLE.iter().zip(rows) {
         let report = costs(insertion, expansion);
         let pages = format!("{:>7.2} {:>7.2} {:>7.2}", library.read, library.written, library.changed);
-        let library = costs(library.read + library.written, library.expansion);
-        let procedures = costs(procedures.read + procedures.written, procedures.expansion);
+        let library = costs(library.insertion(), library.expansion);
+        let procedures = costs(procedures.insertion(), procedures.expansion);
         println!("{step:>4} | {report} | {pages}  {library} | {procedures}");
     }
 }
@@ -224,7 +228,7 @@ fn main() {
     println!("\n# by entries, + by growths, ten marks for an access.\n");
     for (&(step, insertion, expansion), (library, _)) in TABLE.iter().zip(&rows) {
         println!("step {step:>2}  report   {}", bar(10.0, insertion, expansion));
-        println!("         library  {}", bar(10.0, library.read + library.written, library.expansion));
+        println!("         library  {}", bar(10.0, library.insertion(), library.expansion));
     }
 
     println!("\nThe library's by the pages addressed, as in the report's Figure 2, five marks for an access.\n");
@@ -233,7 +237,7 @@ fn main() {
         let [left, right] = [0, 1].map(|i| {
             let here = |entered: &&Entered| (first..first + 15).contains(&entered.addressed);
             let costs = Costs::of(plotted[i].iter().filter(here));
-            bar(5.0, costs.read + costs.written, costs.expansion)
+            bar(5.0, costs.insertion(), costs.expansion)
         });
         println!("{:>10}  {left:<40}  {right}", format!("{first} to {}", first + 14));
     }
