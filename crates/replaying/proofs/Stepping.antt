@@ -1,18 +1,20 @@
 -- One step of a replay: each kind's call, at the pool lent to all of them.
 use mathlib.Core.Path.{_≡_, refl, sym, ap, _∙_}
 use mathlib.Core.Bool.{Bool, true, false, cond, _&&_}
-use mathlib.Core.List.{List}
-use Prim.Native.Nat.{ℕ, zero, suc, _+_}
-use lib.Dec.{ltb}
+use mathlib.Core.List.{List, [], _∷_}
+use Prim.Native.Nat.{ℕ, zero, suc, _+_, _-_}
+use lib.Dec.{eqb, ltb}
+use lib.ListN.{length}
 use lib.Seq.{paste}
-use borrow.Author.Tests.{ne-eqb}
+use borrow.Author.Tests.{ne-eqb, eqb-true}
 use Rattle.hashing.specs.declared.Parameters.{Parameters}
 use Rattle.hashing.specs.declared.Growth.{Growth}
 use Rattle.pages.specs.declared.position.Position.{Position}
 use Rattle.pages.specs.Position.{validNumber, validPosition, packed}
 use Rattle.placement.specs.Rule.{Star}
 use Rattle.placement.specs.File.{File}
-use Rattle.reach.specs.Reach.{pagesTo, entryEnd, removalEnd, entersWithin, firstUnsound}
+use Rattle.reach.specs.Reach.{pagesTo, entryEnd, removalEnd, entersWithin, firstUnsound, isEmpty}
+use Rattle.reach.specs.Cascade.{cascaded, carriedPast}
 use Rattle.calls.specs.declared.answers.Answer.{Answer}
 use Rattle.calls.specs.Answers.{Pool, After, Leaves, unpooled}
 use Rattle.calls.specs.Calls.{
@@ -35,6 +37,9 @@ use Rattle.calls.specs.Calls.{
   enterTo,
   enterOn,
   enterOf,
+  cascadeFrom,
+  cascadeOn,
+  cascadeOf,
   changeOn,
   changeOf,
   removeTo,
@@ -48,7 +53,7 @@ use Rattle.calls.specs.Calls.{
 use Rattle.replaying.specs.declared.calling.Stepped.{Stepped}
 use Rattle.histories.specs.Call.{step}
 use Rattle.replaying.specs.Replay.{requestOf, encoded}
-use Rattle.replaying.specs.Steps.{pooledRequest, wholeRequest, Steps, Recorded}
+use Rattle.replaying.specs.Steps.{pooledRequest, wholeRequest, entryRequest, Steps, Recorded}
 
 -- A call that only answers leaves every pool as it was.
 only-answers : (g : Growth) (f : File) (pool : Pool) (n : ℕ) (a : Answer)
@@ -113,6 +118,22 @@ module _ (p : Parameters) (g : Growth) (f : File) (pool : Pool) where
       (cond-growth (entersWithin (hash p g) f s to) _ _ g refl refl)))
       refl)
 
+  cascade-growth : (caller k : ℕ) (q : Position) → cascadeOf p g f pool caller k q .growth ≡ g
+  unfolding cascadeOf cascadeOn cascadeFrom
+  cascade-growth caller k q =
+      let H = hash p g in
+      let page = named p g f k in
+      let n = p .pages - page in
+      let s : Star = record { number = k; word = packed q; owner = caller } in
+      let visited = length (cascaded H f page n (s ∷ [])) in
+      guarded-growth g f pool
+      (orElse (unlent p g (fileFits p f && poolFits p pool)) (orElse (unless (validNumber k) 3) (unless (validPosition q) 4))) _
+      (cond-growth (readable p g f page) _ _ g
+      (cond-growth (holds p f page k) _ _ g refl
+      (cond-growth (ltb (firstUnsound p g f page visited) (page + visited)) _ _ g refl
+      (cond-growth (isEmpty (carriedPast H f page n (s ∷ []))) _ _ g refl refl)))
+      refl)
+
   remove-growth : (caller k : ℕ) → removeOf p g f pool caller k .growth ≡ g
   unfolding removeOf removeOn removeTo allowed
   remove-growth caller k =
@@ -149,10 +170,16 @@ module _ (p : Parameters) (g : Growth) (f : File) (pool : Pool) where
       unfolding step requestOf
       change-steps file e l = rw (e, change-over caller k q) (record { answers = h ∙ l .answers; growths = refl; files = l .files; pools = refl })
 
-      pub enter-steps : (file : File) (left : Pool) → kind ≡ 1 → Leaves (enterOf p g f pool caller k q) said-so file left
-          → Steps (step p g f pool (pooledRequest kind caller k q)) (record { answer = a; growth = g }) file left
-      unfolding step pooledRequest
-      enter-steps file left e l = rw e (record { answers = h ∙ l .answers; growths = sym (enter-growth caller k q); files = l .files; pools = l .pools })
+      pub enter-steps : (file : File) (left : Pool) → (kind ≡ 8 → ⊥) → Leaves (enterOf p g f pool caller k q) said-so file left
+          → Steps (step p g f pool (entryRequest kind caller k q)) (record { answer = a; growth = g }) file left
+      unfolding step entryRequest
+      enter-steps file left e l =
+          rw (ne-eqb _ _ e) (record { answers = h ∙ l .answers; growths = sym (enter-growth caller k q); files = l .files; pools = l .pools })
+
+      pub cascade-steps : (file : File) (left : Pool) → kind ≡ 8 → Leaves (cascadeOf p g f pool caller k q) said-so file left
+          → Steps (step p g f pool (entryRequest kind caller k q)) (record { answer = a; growth = g }) file left
+      unfolding step entryRequest
+      cascade-steps file left e l = rw e (record { answers = h ∙ l .answers; growths = sym (cascade-growth caller k q); files = l .files; pools = l .pools })
 
       pub remove-steps : (file : File) (left : Pool) → kind ≡ 3 → Leaves (removeOf p g f pool caller k) said-so file left
           → Steps (step p g f pool (pooledRequest kind caller k q)) (record { answer = a; growth = g }) file left
@@ -166,10 +193,20 @@ module _ (p : Parameters) (g : Growth) (f : File) (pool : Pool) where
     unfolding requestOf pooledRequest wholeRequest
     pooled-steps e0 e2 e5 s = rw (ne-eqb _ _ e0, ne-eqb _ _ e2, ne-eqb _ _ e5) s
 
-    pub whole-steps : (kind ≡ 1 → ⊥) → (kind ≡ 3 → ⊥)
+    -- either entry
+    module _ (s : Steps (step p g f pool (entryRequest kind caller k q)) r file left) where
+      pub entered-steps : kind ≡ 1 → Steps (step p g f pool (pooledRequest kind caller k q)) r file left
+      unfolding entryRequest pooledRequest
+      entered-steps e = rw e (rw e at s)
+
+      pub cascaded-steps : eqb kind 8 ≡ true → Steps (step p g f pool (pooledRequest kind caller k q)) r file left
+      unfolding entryRequest pooledRequest
+      cascaded-steps e = let eight : kind ≡ 8 = eqb-true kind 8 e in rw eight (rw eight at s)
+
+    pub whole-steps : (kind ≡ 1 → ⊥) → eqb kind 8 ≡ false → (kind ≡ 3 → ⊥)
         → Steps (step p g f pool (wholeRequest kind)) r file left → Steps (step p g f pool (pooledRequest kind caller k q)) r file left
     unfolding pooledRequest
-    whole-steps e1 e3 s = rw (ne-eqb _ _ e1, ne-eqb _ _ e3) s
+    whole-steps e1 e8 e3 s = rw (ne-eqb _ _ e1, e8, ne-eqb _ _ e3) s
 
   -- a call that may move the growth state
   module _ (kind : ℕ) (a said-so : Answer) (h : a ≡ said-so) (file : File) (left : Pool) where

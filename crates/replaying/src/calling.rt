@@ -6,7 +6,7 @@ ghost use Rattle.placement.specs.Lent.{before, after};
 ghost use Rattle.histories.specs.Call.{step};
 ghost use Rattle.calls.specs.Lent.{poolBefore, poolAfter};
 ghost use Rattle.replaying.specs.Replay.{requestOf};
-ghost use Rattle.replaying.specs.Steps.{pooledRequest, wholeRequest, Steps, Recorded};
+ghost use Rattle.replaying.specs.Steps.{pooledRequest, wholeRequest, entryRequest, Steps, Recorded};
 use calls::answers::Answer;
 use calls::answers::checked_answer;
 use calls::answers::due_answer;
@@ -22,7 +22,7 @@ pub struct Stepped {
     pub growth: Growth,
 }
 
-// Runs the call of a kind: 0 look-up, 1 enter, 2 change, 3 remove, 4 grow, 5 due, 6 check, 7 shrink.
+// Runs the call of a kind: 0 look-up, 1 enter, 2 change, 3 remove, 4 grow, 5 due, 6 check, 7 shrink, 8 enter by a cascade.
 fn run_call(
     parameters: Parameters,
     growth: Growth,
@@ -99,8 +99,8 @@ fn run_pooled(
     ensures { λ r. ⌜ Steps (step parameters growth (before separators numbers words owners) (poolBefore poolnumbers poolwords poolowners) (pooledRequest kind caller star position))
         r (after separators numbers words owners) (poolAfter poolnumbers poolwords poolowners) ⌝ }
 {
-    if kind == 1 {
-        let entered = starfile::enter(
+    if kind == 1 || kind == 8 {
+        return run_entry(
             parameters,
             growth,
             separators,
@@ -110,11 +110,11 @@ fn run_pooled(
             poolnumbers,
             poolwords,
             poolowners,
+            kind,
             caller,
             star,
             position,
         );
-        return unmoved(placed_answer(entered), growth);
     }
     if kind == 3 {
         let removed = starfile::remove(
@@ -144,6 +144,59 @@ fn run_pooled(
         poolowners,
         kind,
     )
+}
+
+// Either entry, of which kind 8 is the cascading one.
+fn run_entry(
+    parameters: Parameters,
+    growth: Growth,
+    separators: &mut [u8],
+    numbers: &mut [u32],
+    words: &mut [u64],
+    owners: &mut [u8],
+    poolnumbers: &mut [u32],
+    poolwords: &mut [u64],
+    poolowners: &mut [u8],
+    kind: u8,
+    caller: u8,
+    star: u32,
+    position: Position,
+) -> Stepped
+    ensures { λ r. ⌜ Steps (step parameters growth (before separators numbers words owners) (poolBefore poolnumbers poolwords poolowners) (entryRequest kind caller star position))
+        r (after separators numbers words owners) (poolAfter poolnumbers poolwords poolowners) ⌝ }
+{
+    if kind == 8 {
+        let cascaded = starfile::cascade(
+            parameters,
+            growth,
+            separators,
+            numbers,
+            words,
+            owners,
+            poolnumbers,
+            poolwords,
+            poolowners,
+            caller,
+            star,
+            position,
+        );
+        return unmoved(placed_answer(cascaded), growth);
+    }
+    let entered = starfile::enter(
+        parameters,
+        growth,
+        separators,
+        numbers,
+        words,
+        owners,
+        poolnumbers,
+        poolwords,
+        poolowners,
+        caller,
+        star,
+        position,
+    );
+    unmoved(placed_answer(entered), growth)
 }
 
 // The kinds of those that are about no one star.

@@ -1,17 +1,12 @@
 -- `replaying::calling::run_pooled` meets its contract. Each kind's call, by the law of its step.
-use Rattle.replaying.proofs.Stepping.{enter-steps, remove-steps, whole-steps}
+use mathlib.Core.Logic.{⊎-elim}
+use Rattle.replaying.proofs.Stepping.{entered-steps, cascaded-steps, remove-steps, whole-steps}
 use borrow.Author.Needs.{needs}
 use Rattle.replaying.proofs.calling.run_pooled.Statement.{statement}
 use Rattle.replaying.proofs.calling.run_pooled.Tie as tie
 
-enter-requires : tie.Need-enter-requires
-enter-requires c κs = search needs
-
-placed-answer-requires : tie.Need-placed-answer-requires
-placed-answer-requires c κs = search needs
-
-unmoved-requires : tie.Need-unmoved-requires
-unmoved-requires c κs = search needs
+run-entry-requires : tie.Need-run-entry-requires
+run-entry-requires c κs = search needs
 
 same-length : tie.Need-same-length
 same-length c = search needs
@@ -36,18 +31,20 @@ same-length-7 c = search needs
 
 returns : tie.Need-returns
 returns c =
-    let called = c .before .before .before .before .before .before .before .before .before .before .before .before .before .before .before .before in
-    rw (c .unmoved .ensures)
-    (enter-steps _ _ _ _ _ _ _ _ _ _ (c .before .placed-answer .ensures) _ _ (called .before .before .before .before .before .before .before .before .if1 .taken) (called .enter .ensures))
+    let called = c .before .before .before .before .before .before .before .before .before .before .before .before .before .before in
+    ⊎-elim
+    (λ w. entered-steps _ _ _ _ _ _ _ _ _ _ _ (called .run-entry .ensures) (w .taken))
+    (λ w. cascaded-steps _ _ _ _ _ _ _ _ _ _ _ (called .run-entry .ensures) (w .1 .taken))
+    (called .before .before .before .before .before .before .before .before .if1 .came)
 
 remove-requires : tie.Need-remove-requires
 remove-requires c κs = search needs
 
-placed-answer-requires-2 : tie.Need-placed-answer-requires-2
-placed-answer-requires-2 c κs = search needs
+placed-answer-requires : tie.Need-placed-answer-requires
+placed-answer-requires c κs = search needs
 
-unmoved-requires-2 : tie.Need-unmoved-requires-2
-unmoved-requires-2 c κs = search needs
+unmoved-requires : tie.Need-unmoved-requires
+unmoved-requires c κs = search needs
 
 same-length-8 : tie.Need-same-length-8
 same-length-8 c = search needs
@@ -73,8 +70,8 @@ same-length-14 c = search needs
 returns-2 : tie.Need-returns-2
 returns-2 c =
     let called = c .before .before .before .before .before .before .before .before .before .before .before .before .before .before .before .before in
-    rw (c .unmoved2 .ensures)
-    (remove-steps _ _ _ _ _ _ _ _ _ _ (c .before .placed-answer2 .ensures) _ _ (called .before .before .before .before .before .before .before .before .if2 .taken) (called .remove .ensures))
+    rw (c .unmoved .ensures)
+    (remove-steps _ _ _ _ _ _ _ _ _ _ (c .before .placed-answer .ensures) _ _ (called .before .before .before .before .before .before .before .before .if3 .taken) (called .remove .ensures))
 
 run-whole-requires : tie.Need-run-whole-requires
 run-whole-requires c κs = search needs
@@ -103,16 +100,14 @@ same-length-21 c = search needs
 returns-3 : tie.Need-returns-3
 returns-3 c =
     let called = c .before .before .before .before .before .before .before .before .before .before .before .before .before .before in
-    let two = called .before .before .before .before .before .before .before .before in
-    whole-steps _ _ _ _ _ _ _ _ _ _ _ (two .before .if1 .left) (two .if2 .left) (called .run-whole .ensures)
+    let three = called .before .before .before .before .before .before .before .before in
+    whole-steps _ _ _ _ _ _ _ _ _ _ _ (three .before .before .if1 .left) (three .before .if2 .left) (three .if3 .left) (called .run-whole .ensures)
 
 pub run-pooled-spec : {M : Type 1} → statement M
 run-pooled-spec =
     tie.close
     (tie.spec
-    enter-requires
-    placed-answer-requires
-    unmoved-requires
+    run-entry-requires
     same-length
     same-length-2
     same-length-3
@@ -122,8 +117,8 @@ run-pooled-spec =
     same-length-7
     returns
     remove-requires
-    placed-answer-requires-2
-    unmoved-requires-2
+    placed-answer-requires
+    unmoved-requires
     same-length-8
     same-length-9
     same-length-10
