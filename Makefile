@@ -1,4 +1,4 @@
-.PHONY: test run try bench damage spread untouched stack soak
+.PHONY: test run try bench report damage spread untouched stack soak
 
 # Every test; ends with 'N passed, 0 failed'.
 test:
@@ -15,6 +15,10 @@ try:
 # Times of the calls; with OLD=path/to/libstarfile_tests.a those of an older library beside them (bench/archive makes one).
 bench:
 	@bench/run $(if $(OLD),--old $(OLD))
+
+# Pages read and written for each star entered by a cascade, beside the figures of the report's Table 1.
+report:
+	@bench/report
 
 # Which single wrong bits are noticed, and by what.
 damage:

@@ -1,10 +1,10 @@
-/* The look-up, the entry and the removal of a star file, for C and C++ programs.
+/* The look-up, the two entries and the removal of a star file, for C and C++ programs.
  *
  * A star file maps star numbers to positions. The caller lends all of its memory and passes it, with the file's parameters and
  * growth state, to each call. Nothing is kept between calls. Calls may run at once in several threads on files that share no buffer;
  * look-ups on one file may too, as they only read, while nothing else writes it.
  *
- * A file of M pages with b places each has four buffers, and entry and removal need a pool besides:
+ * A file of M pages with b places each has four buffers, and entries and removal need a pool besides:
  *
  *     separators      M bytes
  *     numbers         M * b star numbers, 0 marking an empty place
@@ -102,7 +102,7 @@ struct heatherplane_parameters {
     uint32_t width;      /* n0, first pages of a group: 1 to 4 */
     uint32_t step;       /* s, step of a sweep: 1 to groups */
     uint32_t bits;       /* k, bits of a separator: 1 to 8 */
-    uint32_t load;       /* A, load in per cent: 1 to 99; tested, though the three calls below do not use it */
+    uint32_t load;       /* A, load in per cent: 1 to 99; tested, though the calls below do not use it */
     uint32_t pages;      /* M: width * groups to 1024 */
     uint32_t multiplier; /* an enum heatherplane_multiplier */
 };
@@ -148,6 +148,31 @@ struct heatherplane_reply heatherplane_look_up(
  * entered again, the file is as it was. The pool is untouched with BAD_PARAMETERS, BAD_LENGTH, BAD_NUMBER and BAD_POSITION, and
  * else holds zeros. */
 struct heatherplane_reply heatherplane_enter(
+    uint32_t places, uint32_t groups, uint32_t width, uint32_t step, uint32_t bits, uint32_t load, uint32_t pages,
+    uint32_t multiplier, uint32_t expansions, uint32_t expanded,
+    uint8_t *separators, size_t separators_length,
+    uint32_t *numbers, size_t numbers_length,
+    uint64_t *words, size_t words_length,
+    uint8_t *owners, size_t owners_length,
+    uint32_t *pool_numbers, size_t pool_numbers_length,
+    uint64_t *pool_words, size_t pool_words_length,
+    uint8_t *pool_owners, size_t pool_owners_length,
+    uint8_t caller, uint32_t number, uint32_t ra, int32_t dec);
+
+/* Enters a star by a cascade, for mounts that want the report's way: from the page that the separators name upward it holds one page
+ * at a time and pushes the stars that a page no longer keeps along in the pool, until none is pushed on. A separator never rises.
+ * On every clean file, such as these calls make of an empty one, its reply and the buffers afterwards are those of heatherplane_enter.
+ * On other files they may not be, as it reads fewer pages.
+ *
+ * Buffers: the file's four and the pool's three. Their lengths are pages for the separators and pages * places for the others.
+ * Refused: BAD_PARAMETERS, BAD_LENGTH, BAD_NUMBER, BAD_POSITION, DAMAGED (the page that the separators name), HELD (with another
+ * position), DAMAGED (the first unsound page that a star is pushed to), FULL.
+ * Accepted: page is the page where the star now stands, and a star that was not held is the caller's. Entered again with exactly its
+ * position, a star keeps its owner, and the file stays as it was.
+ * Afterwards: accepted, the file holds the star, and the pages from the one that the separators named to the last one that a star
+ * was pushed to are written; refused or entered again, the file is as it was. The pool is untouched with BAD_PARAMETERS, BAD_LENGTH,
+ * BAD_NUMBER and BAD_POSITION, and else holds zeros. */
+struct heatherplane_reply heatherplane_cascade(
     uint32_t places, uint32_t groups, uint32_t width, uint32_t step, uint32_t bits, uint32_t load, uint32_t pages,
     uint32_t multiplier, uint32_t expansions, uint32_t expanded,
     uint8_t *separators, size_t separators_length,
@@ -227,7 +252,7 @@ static inline struct heatherplane_file heatherplane_file_of(
     return file;
 }
 
-/* The three calls on such a value. */
+/* The calls on such a value. */
 
 static inline struct heatherplane_reply heatherplane_look_up_in(const struct heatherplane_file *file, uint32_t number)
 {
@@ -244,6 +269,18 @@ static inline struct heatherplane_reply heatherplane_enter_in(
 {
     const struct heatherplane_parameters *p = &file->parameters;
     return heatherplane_enter(
+        p->places, p->groups, p->width, p->step, p->bits, p->load, p->pages, p->multiplier,
+        file->growth.expansions, file->growth.expanded,
+        file->separators, file->separators_length, file->numbers, file->numbers_length, file->words, file->words_length,
+        file->owners, file->owners_length, file->pool_numbers, file->pool_numbers_length, file->pool_words, file->pool_words_length,
+        file->pool_owners, file->pool_owners_length, caller, number, ra, dec);
+}
+
+static inline struct heatherplane_reply heatherplane_cascade_in(
+    const struct heatherplane_file *file, uint8_t caller, uint32_t number, uint32_t ra, int32_t dec)
+{
+    const struct heatherplane_parameters *p = &file->parameters;
+    return heatherplane_cascade(
         p->places, p->groups, p->width, p->step, p->bits, p->load, p->pages, p->multiplier,
         file->growth.expansions, file->growth.expanded,
         file->separators, file->separators_length, file->numbers, file->numbers_length, file->words, file->words_length,

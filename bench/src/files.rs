@@ -74,10 +74,13 @@ impl File {
         format!("M={} b={}{multiplier}", self.pages(), self.places())
     }
 
+    pub fn has_overflowed(&self, page: usize) -> bool {
+        u32::from(self.separators[page]) < (1 << self.parameters[4]) - 1
+    }
+
     /// How many pages have passed a star on.
     pub fn overflowed(&self) -> usize {
-        let top = (1_u32 << self.parameters[4]) - 1;
-        self.separators.iter().filter(|&&separator| u32::from(separator) < top).count()
+        (0..self.pages()).filter(|&page| self.has_overflowed(page)).count()
     }
 
     /// How many pages hold other numbers than in the other file.
@@ -144,6 +147,23 @@ pub fn overflowed_run(random: &mut Random, pages: usize) -> (File, u32) {
     let mut library = present::library(&file);
     assert_eq!(library.enter(first).refusal, 0);
     (library.file(), second)
+}
+
+/// The same run after more entries at its bottom, and a star of home 0 whose entry alters so many pages or more.
+pub fn pushing_run(random: &mut Random, run: &File, altered: usize) -> (File, u32) {
+    let homes = Homes::new(run);
+    let mut library = present::library(run);
+    loop {
+        let number = random.star_number();
+        if homes.home(number) != 0 || library.look_up(number).found {
+            continue;
+        }
+        let before = library.file();
+        assert_eq!(library.enter(number).refusal, 0);
+        if library.file().differing(&before) >= altered {
+            return (before, number);
+        }
+    }
 }
 
 /// The largest file without a growth, so that all stars have one home, nearly as full as it goes; and a star that still fits.

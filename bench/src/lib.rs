@@ -5,6 +5,7 @@ mod base;
 pub mod files;
 pub mod floors;
 mod present;
+pub mod procedures;
 pub mod timing;
 
 use files::File;
@@ -36,6 +37,11 @@ pub trait Library {
 
     fn enter(&mut self, number: u32) -> Answer {
         self.call(Kind::Enter, number, 1, 0)
+    }
+
+    /// Of today's library alone.
+    fn cascade(&mut self, number: u32) -> Answer {
+        self.call(Kind::Cascade, number, 1, 0)
     }
 
     fn change(&mut self, number: u32, ra: u32) -> Answer {

@@ -51,6 +51,16 @@ static void enter(const struct heatherplane_file *file, enum caller caller, uint
         printf("enter %" PRIu32 ": on page %" PRIu32 "\n", number, reply.page);
 }
 
+/* The report's way, one page at a time; on this file, which these calls made, it answers and leaves what enter does. */
+static void cascade(const struct heatherplane_file *file, enum caller caller, uint32_t number, uint32_t ra, int32_t dec)
+{
+    struct heatherplane_reply reply = heatherplane_cascade_in(file, (uint8_t)caller, number, ra, dec);
+    if (reply.refusal)
+        tell_refusal("cascade", number, reply);
+    else
+        printf("cascade %" PRIu32 ": on page %" PRIu32 "\n", number, reply.page);
+}
+
 static void look_up(const struct heatherplane_file *file, uint32_t number)
 {
     struct heatherplane_reply reply = heatherplane_look_up_in(file, number);
@@ -140,6 +150,14 @@ int main(void)
     /* the institute may remove every star */
     enter(&file, SECOND_OBSERVER, 118219, 860000000, -120000);
     remove_star(&file, INSTITUTE, 118219);
+
+    /* the cascading entry: a star, the same again, another position for it, and two more */
+    cascade(&file, INSTITUTE, 3, 30, 6);
+    cascade(&file, INSTITUTE, 3, 30, 6);
+    cascade(&file, INSTITUTE, 3, 30, 7);
+    cascade(&file, INSTITUTE, 5, 50, 8);
+    cascade(&file, INSTITUTE, 6, 60, 9);
+    look_up(&file, 3);
 
     /* damage is found on the page that a star leads to, and told by its page */
     words[heatherplane_look_up_in(&file, 2).page * PLACES] = UINT64_MAX;

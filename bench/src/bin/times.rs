@@ -6,7 +6,9 @@ use bench::floors::Homes;
 use bench::timing::{alone, in_turn, many, nanoseconds, restored, Report, Runs, Table, FEW_RUNS, RUNS};
 use bench::{libraries, today, Answer, Library};
 use model::hashing::MULTIPLIERS;
+use model::placement::entered_stretch;
 use model::random::Random;
+use model::Kind;
 use std::hint::black_box;
 
 type Libraries = Vec<Box<dyn Library>>;
@@ -41,9 +43,11 @@ fn agreed(libraries: &Libraries, call: impl Fn(&mut dyn Library) -> Answer) -> (
     outcomes.into_iter().next().unwrap()
 }
 
+/// How often a run enters the same few stars.
+const TIMES: usize = 10;
+
 /// Entries of a few stars and their removals in turn.
 fn entries_and_removals(libraries: &mut Libraries, numbers: &[u32]) -> [Runs; 2] {
-    const TIMES: usize = 10;
     in_turn(RUNS, libraries, |library| {
         let mut times = [0.0; 2];
         for _ in 0..TIMES {
@@ -52,6 +56,67 @@ fn entries_and_removals(libraries: &mut Libraries, numbers: &[u32]) -> [Runs; 2]
         }
         times.map(|time| time / (TIMES * numbers.len()) as f64)
     })
+}
+
+/// Entries of the same stars by the entry and by the cascade in turn, each followed by removals that are not timed.
+fn entries_and_cascades(file: &File, numbers: &[u32]) -> [Runs; 2] {
+    in_turn(RUNS, &mut today(file), |library| {
+        let mut times = [0.0; 2];
+        for turn in 0..TIMES {
+            for i in [turn % 2, 1 - turn % 2] {
+                let enter = |&number: &u32| _ = black_box(library.call(Kind::ENTRIES[i], number, 1, 0));
+                times[i] += nanoseconds(|| numbers.iter().for_each(enter));
+                numbers.iter().for_each(|&number| _ = library.remove(number));
+            }
+        }
+        times.map(|time| time / (TIMES * numbers.len()) as f64)
+    })
+}
+
+/// The entry and the cascade of one star in turn, each on a copy of its own.
+fn entry_and_cascade(runs: usize, file: &File, number: u32) -> [Runs; 2] {
+    let mut turn = 0;
+    in_turn(runs, &mut today(file), |library| {
+        let mut times = [0.0; 2];
+        turn += 1;
+        for i in [turn % 2, 1 - turn % 2] {
+            let mut copy = library.copy();
+            times[i] = nanoseconds(|| _ = black_box(copy.call(Kind::ENTRIES[i], number, 1, 0)));
+        }
+        times
+    })
+}
+
+/// A row for the cascade, and a note that compares it with the entry: time, and pages in the mean of these stars, one entered
+/// after the other.
+fn cascade_row(report: &mut Report, table: &Table, name: &str, file: &File, numbers: &[u32], runs: [Runs; 2]) {
+    let [entries, cascades] = runs;
+    table.row(&format!("cascade{name}"), &cascades);
+    let homes = Homes::new(file);
+    let (mut cascaded, mut entered) = (today(file).remove(0), today(file).remove(0));
+    let [mut visited, mut changed, mut reach] = [0; 3];
+    for &number in numbers {
+        let (before, named) = (cascaded.file(), cascaded.look_up(number).page as usize);
+        assert_eq!(cascaded.cascade(number), entered.enter(number), "a cascade answers as the entry");
+        let after = cascaded.file();
+        assert!(after == entered.file(), "a cascade leaves the file that the entry leaves");
+        let stretch = |first, may_be_last: &dyn Fn(usize) -> bool| {
+            entered_stretch(file.places(), first, &before.numbers, &after.numbers, may_be_last).count()
+        };
+        visited += stretch(named, &|_| true);
+        changed += before.differing(&after);
+        reach += stretch(homes.home(number) as usize, &|page| !before.has_overflowed(page) || page + 1 == file.pages());
+    }
+    // With two decimals where there are any.
+    let mean = |pages: usize| (100.0 * pages as f64 / numbers.len() as f64).round() / 100.0;
+    report.note(format!(
+        "{}{name}: cascade / enter {:.2}; a cascade visits {} pages, of which {} change; the entry's reach has {}",
+        file.size(),
+        cascades.by(&entries),
+        mean(visited),
+        mean(changed),
+        mean(reach),
+    ));
 }
 
 /// Growths, and the shrinks that give their pages back, in turn, each on a copy of its own.
@@ -124,6 +189,7 @@ fn calls(report: &mut Report, random: &mut Random, empty: File) {
     let entered = entered(&libraries, &absent, file.pages() / 4);
     let [entries, removals] = entries_and_removals(&mut libraries, &entered);
     table.row("enter", &entries);
+    cascade_row(report, &table, "", &file, &entered, entries_and_cascades(&file, &entered));
     table.row("remove", &removals);
     table.row("grow", &restored(RUNS, &mut libraries, |library| library.grow().refusal));
     shrink_row(report, &table, RUNS, "shrink", &file);
@@ -139,20 +205,26 @@ fn one_row(table: &Table, runs: usize, name: &str, file: &File, call: impl Fn(&m
     after
 }
 
+/// Rows for both entries of one star; gives the file that they leave.
+fn entry_rows(report: &mut Report, table: &Table, runs: usize, name: &str, file: &File, number: u32) -> File {
+    let after = one_row(table, runs, &format!("enter{name}"), file, |library| library.enter(number));
+    cascade_row(report, table, name, file, &[number], entry_and_cascade(runs, file, number));
+    after
+}
+
 fn long_calls(report: &mut Report, random: &mut Random) {
-    let (cascade, [newcomer, _]) = files::full_pages(random, 1_000);
-    let [clearing, ..] = floors(&cascade);
-    let table = Table::new(cascade.size(), &clearing);
-    let name = "enter, cascade through 1,000 full pages";
-    let after = one_row(&table, RUNS, name, &cascade, |library| library.enter(newcomer));
-    report.note(format!("the cascade changes {} pages", after.differing(&cascade)));
+    let (full, [newcomer, _]) = files::full_pages(random, 1_000);
+    let [clearing, ..] = floors(&full);
+    let table = Table::new(full.size(), &clearing);
+    entry_rows(report, &table, RUNS, ", through 1,000 full pages", &full, newcomer);
 
     let (run, newcomer) = files::overflowed_run(random, 300);
     report.note(format!("the run of overflowed pages has {} of them", run.overflowed()));
-    let name = "enter, bottom of a run of 300 overflowed pages";
-    let after = one_row(&table, RUNS, name, &run, |library| library.enter(newcomer));
-    let name = "remove, bottom of a run of 300 overflowed pages";
-    one_row(&table, RUNS, name, &after, |library| library.remove(newcomer));
+    let name = ", bottom of a run of 300 overflowed pages";
+    let after = entry_rows(report, &table, RUNS, name, &run, newcomer);
+    one_row(&table, RUNS, &format!("remove{name}"), &after, |library| library.remove(newcomer));
+    let (run, newcomer) = files::pushing_run(random, &run, 250);
+    entry_rows(report, &table, RUNS, ", through a run of 300 overflowed pages", &run, newcomer);
 }
 
 /// The slowest calls known: a file that was never grown, with all its stars of one home.
@@ -168,7 +240,7 @@ fn one_home(report: &mut Report, random: &mut Random) {
         one_row(&table, FEW_RUNS, &format!("{name}, all stars of one home"), file, call)
     };
     row("look-up on the highest full page", &file, &|library| library.look_up(full[0]));
-    let after = row("enter", &file, &|library| library.enter(newcomer));
+    let after = entry_rows(report, &table, FEW_RUNS, ", all stars of one home", &file, newcomer);
     row("remove", &after, &|library| library.remove(newcomer));
     row("grow", &file, &|library| library.grow());
     row("check", &file, &|library| library.check());

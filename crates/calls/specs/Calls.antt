@@ -1,6 +1,6 @@
 -- The calls, each as what it answers and leaves of the lent buffers: document 01, "The cut" and "Where each refusal is met".
 use mathlib.Core.Bool.{Bool, true, false, not, cond, _&&_, _||_}
-use mathlib.Core.List.{List}
+use mathlib.Core.List.{List, [], _∷_}
 use Prim.Native.Nat.{ℕ, zero, suc, _+_, _-_, _*_, _/_, _%_}
 use lib.Dec.{eqb, ltb}
 use lib.ListN.{length, getD, set, replicate}
@@ -40,6 +40,8 @@ use Rattle.calls.specs.Reach.{
   entryEnd,
   firstUnsound,
   holding,
+  cascaded,
+  carriedPast,
 }
 
 abbrev pub hash : Parameters → Growth → Hash
@@ -171,21 +173,61 @@ enteredAgain p f page s =
     let place = placeFor p f page (s .number) in
     cond (eqb (getD (f .words) (itemOf p f page (s .number)) 0) (s .word)) (acceptedAt page place) (refusedAt 6 0 place)
 
-unfoldable pub enterOn : Parameters → Growth → File → Pool → ℕ → Star → After
-enterOn p g f pool page s =
+-- an entry past refusal 4: the named page is refused with 5, a held star's entry is a resend or 6, and a star not held comes to `after`
+abbrev pub unlessHeld : Parameters → Growth → File → Pool → ℕ → Star → After → After
+unlessHeld p g f pool page s after =
     cond (readable p g f page)
-    (cond (holds p f page (s .number))
-    (unchanged g f pool (enteredAgain p f page s))
-    (enterTo p g f pool s (placeFor p f page (s .number)) (entryEnd (hash p g) (p .pages) f s)))
+    (cond (holds p f page (s .number)) (unchanged g f pool (enteredAgain p f page s)) after)
     (unchanged g f pool (refused 5 page))
 
+unfoldable pub enterOn : Parameters → Growth → File → Pool → ℕ → Star → After
+enterOn p g f pool page s =
+    unlessHeld p g f pool page s
+    (enterTo p g f pool s (placeFor p f page (s .number)) (entryEnd (hash p g) (p .pages) f s))
+
+-- refusals 1 to 4 of an entry
+abbrev pub entryRefusal : Parameters → Growth → File → Pool → ℕ → Position → ℕ
+entryRefusal p g f pool k position =
+    orElse (unlent p g (fileFits p f && poolFits p pool))
+    (orElse (unless (validNumber k) 3) (unless (validPosition position) 4))
+
 -- "An entered star is its caller's": document 02 (x)
+abbrev pub entered : ℕ → ℕ → Position → Star
+entered caller k position = record { number = k; word = packed position; owner = caller }
+
 unfoldable pub enterOf : Parameters → Growth → File → Pool → ℕ → ℕ → Position → After
 enterOf p g f pool caller k position =
-    guarded g f pool
-    (orElse (unlent p g (fileFits p f && poolFits p pool))
-    (orElse (unless (validNumber k) 3) (unless (validPosition position) 4)))
-    (enterOn p g f (cleared pool) (named p g f k) (record { number = k; word = packed position; owner = caller }))
+    guarded g f pool (entryRefusal p g f pool k position)
+    (enterOn p g f (cleared pool) (named p g f k) (entered caller k position))
+
+-- Enter by a cascade: document 02 (ix), "It runs beside the present entry"
+
+-- from the page that the separators name; "a visited page that is unsound is 5", "5 and 8 leave the file unchanged"
+unfoldable pub cascadeFrom : Parameters → Growth → File → Pool → Star → ℕ → ℕ → After
+cascadeFrom p g f pool s place page =
+    let H = hash p g in
+    let n = p .pages - page in
+    let cs = cascaded H f page n (s ∷ []) in
+    let bad = firstUnsound p g f page (length cs) in
+    cond (ltb bad (page + length cs))
+    (unchanged g f pool (refusedAt 5 bad place))
+    (cond (isEmpty (carriedPast H f page n (s ∷ [])))
+    (record {
+      answer = acceptedAt (holding (s .number) page cs) place;
+      growth = g;
+      file = replaced (p .places) f page cs;
+      pool = pool;
+    })
+    (unchanged g f pool (refusedAt 8 0 place)))
+
+unfoldable pub cascadeOn : Parameters → Growth → File → Pool → ℕ → Star → After
+cascadeOn p g f pool page s =
+    unlessHeld p g f pool page s (cascadeFrom p g f pool s (placeFor p f page (s .number)) page)
+
+unfoldable pub cascadeOf : Parameters → Growth → File → Pool → ℕ → ℕ → Position → After
+cascadeOf p g f pool caller k position =
+    guarded g f pool (entryRefusal p g f pool k position)
+    (cascadeOn p g f (cleared pool) (named p g f k) (entered caller k position))
 
 -- Who may change or remove a star
 

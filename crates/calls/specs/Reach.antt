@@ -11,3 +11,4 @@ pub use Rattle.reach.specs.Reach.{
   hasNumber,
   holding,
 }
+pub use Rattle.reach.specs.Cascade.{cascaded, carriedPast}

@@ -19,6 +19,8 @@ use Rattle.placement.proofs.Writing.{Roomy, around, length-part, length-padded,
 use Rattle.placement.proofs.Pages.{Numbered, starsOf-padded}
 use Rattle.placement.proofs.Files.{numberOf, wordOf, ownerOf, AllNumbered, roomy-pages, page-member}
 use Rattle.placement.proofs.Search.{Even}
+use Rattle.reach.specs.Cascade.{meeting, lowered, pushedTo, pushedOn, cascaded, carriedPast}
+use Rattle.reach.proofs.Cascading.{length-cascaded, roomy-cascaded, numbered-cascaded}
 use Rattle.histories.specs.Others.{isStar, copies}
 
 abbrev pub count : Star → List Star → ℕ
@@ -121,6 +123,22 @@ module _ (s : Star) where
         count-pour (filter (stays H p (separatorOf H p w)) w) (collected (pages H (suc p) n (onward H p w))),
         count-pages H (suc p) n (onward H p w),
         count-split (stays H p (separatorOf H p w)) w,
+      )
+
+  -- the cascade keeps the arriving stars and those of the pages it visits, on these pages or carried past them
+  count-cascaded : (H : Hash) (f : File) (p n : ℕ) (a : List Star)
+      → count s (collected (cascaded H f p n a)) + count s (carriedPast H f p n a) ≡ count s (gathered (H .room) f p (length (cascaded H f p n a))) + count s a
+  unfolding cascaded carriedPast collected gathered pushedTo pushedOn staying passing meeting
+  count-cascaded H f p zero a = refl
+  count-cascaded H f p (suc n) [] = refl
+  count-cascaded H f p (suc n) (t ∷ a) =
+      omega (
+        arith,
+        count-pour (filter (stays H p (lowered H f p (t ∷ a))) (meeting H f p (t ∷ a))) (collected (cascaded H f (suc p) n (pushedOn H f p (t ∷ a)))),
+        count-cascaded H f (suc p) n (pushedOn H f p (t ∷ a)),
+        count-split (stays H p (lowered H f p (t ∷ a))) (meeting H f p (t ∷ a)),
+        count-pour (starsAt (H .room) f p) (t ∷ a),
+        count-pour (starsAt (H .room) f p) (gathered (H .room) f (suc p) (length (cascaded H f (suc p) n (pushedOn H f p (t ∷ a))))),
       )
 
   -- ---- items
@@ -231,3 +249,16 @@ module _ (s : Star) where
       (omega arith)) in
       let all : count s (collected (pages H p n w)) + count s [] ≡ count s w = rw e at (count-pages H p n w) in
       omega (arith, law, all, same)
+
+  -- The cascade over n pages, carrying nothing past them, of stars other than s.
+  pub cascaded-copies : (H : Hash) (M p n : ℕ) (f : File) (a : List Star) → Sized (H .room) M f → p + n ≤ M → Numbered a → carriedPast H f p n a ≡ []
+      → count s a ≡ 0 → copies s (replaced (H .room) f p (cascaded H f p n a)) ≡ copies s f
+  unfolding filter
+  cascaded-copies H M p n f a z h numbered e none =
+      let all : count s (collected (cascaded H f p n a)) + count s [] ≡ count s (gathered (H .room) f p (length (cascaded H f p n a))) + count s a = rw e at (count-cascaded H f p n a) in
+      omega (
+        arith,
+        all,
+        none,
+        replaced-copies (H .room) M f z p (cascaded H f p n a) (roomy-cascaded H f p n a) (numbered-cascaded H f p n a numbered) (omega (arith, length-cascaded H f p n a)),
+      )

@@ -1,12 +1,11 @@
 -- Entries, those of a held star, and when one is refused with 8.
 use mathlib.Core.Path.{_≡_, refl, sym, ap, _∙_}
-use mathlib.Core.Bool.{Bool, true, false, cond, _&&_, and-eq-true-iff, true≢false}
+use mathlib.Core.Bool.{Bool, true, false, cond}
 use mathlib.Core.List.{[]}
 use mathlib.Core.Logic.{_↔_}
 use mathlib.Core.Option.{Option, none, some}
-use Prim.Native.Nat.{ℕ, _+_, _-_, _<_}
+use Prim.Native.Nat.{ℕ, _+_, _<_}
 use native.Mathlib.Nat.{le-refl}
-use native.Mathlib.Decide.{decLt}
 use native.Mathlib.Omega.{arith}
 use borrow.Author.Tests.{le-ltb, eqb-true}
 use lib.Dec.{eqb}
@@ -16,11 +15,11 @@ use Rattle.pages.specs.declared.position.Position.{Position}
 use Rattle.pages.specs.Position.{validNumber, validPosition, validWord, packed, unpacked}
 use Rattle.pages.proofs.Words.{unpack-pack}
 use Rattle.placement.specs.Rule.{Star, pages, left, insert}
-use Rattle.placement.specs.File.{gathered, replaced, laid}
+use Rattle.placement.specs.File.{replaced, laid}
 use Rattle.placement.specs.Hash.{hashOf, namedPage}
-use Rattle.placement.proofs.Entry.{entered, entry-refused}
-use Rattle.reach.specs.Reach.{isEmpty, entering, entersWithin, entryEnd, storedTop, pagesTo, holding}
-use Rattle.reach.proofs.Search.{Such, such}
+use Rattle.reach.specs.Reach.{entering, entersWithin, entryEnd, pagesTo, holding}
+use Rattle.reach.proofs.Reaching.{Reach, entry-reach}
+use Rattle.reach.proofs.Entries.{entry-laid, entry-carried}
 use Rattle.calls.specs.Answers.{Pool, spotted, acceptedAt, refused, refusedAt, cleared}
 use Rattle.calls.specs.Calls.{poolFits, unless, orElse, guarded, unchanged, holds, itemOf, enterTo, enteredAgain, enterOn, enterOf}
 use Rattle.calls.proofs.Resending.{HeldEntry, resend-leaves, other-refused}
@@ -31,7 +30,6 @@ use Rattle.histories.proofs.Fitting.{Fitting, hashFor, starsFor, bounde
 use Rattle.histories.proofs.Held.{held, held-word, not-held}
 use Rattle.histories.proofs.Guards.{lent-pool}
 use Rattle.histories.proofs.Searching.{none-unsound}
-use Rattle.histories.proofs.Reaching.{is-empty, Reach, entry-reach}
 use Rattle.histories.proofs.Conforms.{Conforms, refused-conforms, accepted-conforms}
 
 module _ (p : Parameters) (m : Model) (t : Fitting p m) (caller k : ℕ) (q : Position) where
@@ -44,9 +42,6 @@ module _ (p : Parameters) (m : Model) (t : Fitting p m) (caller k : ℕ) (q : Po
   abbrev to : ℕ
   to = entryEnd (hashFor p m) (p .pages) (modelFile p m) new
 
-  stops : ℕ → Bool
-  stops page = storedTop (modelFile p m .separators) (hashFor p m .top) page && entersWithin (hashFor p m) (modelFile p m) new page
-
   inside : from < p .pages
   inside = homed p (m .growth) k (t .parameters) (t .growth)
 
@@ -57,27 +52,16 @@ module _ (p : Parameters) (m : Model) (t : Fitting p m) (caller k : ℕ) (q : Po
       → (replaced (p .places) (modelFile p m) from (pages (hashFor p m) from (pagesTo from to) (entering (hashFor p m) (modelFile p m) new to))
       ≡ laid (p .places) (hashFor p m) (p .pages) (insert new (starsFor m)))
       × (left (hashFor p m) 0 (p .pages) (insert new (starsFor m)) ≡ [])
-  unfolding modelFile hashOf entering entersWithin
-  placed e =
-      entered validWord (hashFor p m) (bounded p (m .growth) (t .parameters)) (p .pages) from (to - from) (starsFor m)
-      (rising-from p m t) (proper p m t) (t .fits) (entry .high) new refl (entry .ends) (is-empty _ e)
+  unfolding modelFile hashOf
+  placed =
+      entry-laid validWord (hashFor p m) (bounded p (m .growth) (t .parameters)) (p .pages) (starsFor m) new
+      (rising-from p m t) (proper p m t) (t .fits) inside
 
-  -- Where the reach's rule carries a star on, so does the rule over all pages.
   carried : entersWithin (hashFor p m) (modelFile p m) new to ≡ false → left (hashFor p m) 0 (p .pages) (insert new (starsFor m)) ≡ [] → ⊥
-  unfolding modelFile hashOf entering entersWithin entryEnd stops
-  carried e fits = go (decLt to (from + (p .pages - 1 - from)))
-    where
-      found : Such stops from (p .pages - 1 - from) to
-      found = such stops from (p .pages - 1 - from)
-
-      go : Dec (to < from + (p .pages - 1 - from)) → ⊥
-      go (yes d) = true≢false (sym (and-eq-true-iff (storedTop (modelFile p m .separators) (hashFor p m .top) to) (entersWithin (hashFor p m) (modelFile p m) new to) .0 (found .passes d) .1) ∙ e)
-      go (no d) = true≢false (sym (ap isEmpty (sym last ∙ fits)) ∙ e)
-        where
-          last : left (hashFor p m) 0 (p .pages) (insert new (starsFor m)) ≡ left (hashFor p m) from (pagesTo from to) (insert new (gathered (p .places) (modelFile p m) from (pagesTo from to)))
-          last =
-              entry-refused validWord (hashFor p m) (bounded p (m .growth) (t .parameters)) (p .pages) from (to - from) (starsFor m)
-              (rising-from p m t) (proper p m t) (t .fits) (entry .high) new refl (omega (arith, found .low, found .high, inside))
+  unfolding modelFile hashOf
+  carried =
+      entry-carried validWord (hashFor p m) (bounded p (m .growth) (t .parameters)) (p .pages) (starsFor m) new
+      (rising-from p m t) (proper p m t) (t .fits) inside
 
   module _ (valid : ValidEntry k q) (absent : heldPosition k (m .entries) ≡ none) where
     enters : (pool : Pool) → Conforms p m (enter caller k q) (enterTo p (m .growth) (modelFile p m) pool new (placeOn p m k) to)

@@ -14,7 +14,7 @@ use Rattle.placement.proofs.Sound.{clean-laid}
 use Rattle.calls.specs.declared.answers.Answer.{Answer}
 use Rattle.calls.specs.Answers.{Pool, After, spotted, acceptedAt, refusedAt, cleared}
 use Rattle.calls.specs.Calls.{poolFits, unchanged, lookUpOf, enterOf, checkOf}
-use Rattle.histories.specs.Model.{Model, lookUp, enter, change, remove, grow, shrink, due, check, fed, heldPosition, heldOwner, heldEntry, modelFile, pageFor, placeOn, answered}
+use Rattle.histories.specs.Model.{Model, lookUp, enter, cascade, change, remove, grow, shrink, due, check, fed, heldPosition, heldOwner, heldEntry, modelFile, pageFor, placeOn, answered}
 use Rattle.histories.specs.Call.{Call, callOf, step, isAccepted}
 use Rattle.histories.specs.Run.{HistoryState, Event, initial, outcome, next, end}
 use Rattle.histories.specs.Theorem.{EveryHistory}
@@ -24,6 +24,7 @@ use Rattle.histories.proofs.Fitting.{Fitting, hashFor, starsFor, rising
 use Rattle.histories.proofs.Guards.{lent, lent-pool}
 use Rattle.histories.proofs.LookUp.{looks-up, look-up-conforms}
 use Rattle.histories.proofs.Enter.{enter-conforms, fed-own, resent, other, full}
+use Rattle.histories.proofs.Cascade.{cascade-is, cascade-conforms, fed-alike}
 use Rattle.histories.proofs.Change.{change-conforms, change-refused, change-accepted}
 use Rattle.histories.proofs.Remove.{remove-conforms, removal-refused, removal-accepted}
 use Rattle.histories.proofs.Grow.{grow-conforms, shrink-conforms, shrink-first, shrink-full}
@@ -38,6 +39,7 @@ pub conforming : Conforming
 unfolding step
 conforming p m t pool (lookUp k) = look-up-conforms p m t pool k
 conforming p m t pool (enter caller k q) = enter-conforms p m t caller k q pool
+conforming p m t pool (cascade caller k q) = cascade-conforms p m t caller k q pool
 conforming p m t pool (change caller k q) = change-conforms p m t caller k q pool
 conforming p m t pool (remove caller k) = remove-conforms p m t caller k pool
 conforming p m t pool grow = grow-conforms p m t pool
@@ -95,6 +97,19 @@ module _ (s : HistoryState) (agrees : Agrees s) (pool : Pool) (fit : poolFits (s
       → enterOf (s .parameters) (s .growth) (s .file) pool caller k q .answer ≡ refusedAt 6 0 (placeOn (s .parameters) (s .model) k)
   refuses q r v e d = rw (agrees .growth, agrees .file, other (s .parameters) (s .model) (agrees .fitting) caller k q pool fit r e v d)
 
+-- A cascade.
+module _ (s : HistoryState) (agrees : Agrees s) (pool : Pool) (caller k : ℕ) (q : Position) where
+  does-as-entry : outcome s (callOf pool (cascade caller k q)) ≡ outcome s (callOf pool (enter caller k q))
+  unfolding outcome step
+  does-as-entry = rw (agrees .growth, agrees .file) (cascade-is (s .parameters) (s .model) (agrees .fitting) caller k q pool)
+
+  counts-as-entry : next s (callOf pool (cascade caller k q)) ≡ next s (callOf pool (enter caller k q))
+  unfolding next
+  counts-as-entry =
+      rw does-as-entry
+      (ap (λ (m : Model). record { parameters = s .parameters; growth = outcome s (callOf pool (enter caller k q)) .growth; file = outcome s (callOf pool (enter caller k q)) .file; model = m })
+      (fed-alike (s .parameters) (s .model) caller k q (isAccepted (outcome s (callOf pool (enter caller k q)) .answer))))
+
 -- Changes and removals of a held star.
 module _ (s : HistoryState) (agrees : Agrees s) (pool : Pool) (caller k : ℕ) (r : Position) (e : heldPosition k (s .model .entries) ≡ some r) where
   module _ (h : caller ≡ 0 → ⊥) (d : caller ≡ heldOwner k (s .model .entries) → ⊥) where
@@ -129,6 +144,7 @@ in-history s agrees =
       full = λ pool caller k q l v w e. rw (agrees .growth, agrees .file) (full (s .parameters) (s .model) (agrees .fitting) caller k q pool l (record { number = v; position = w }) e);
       resent = λ pool caller k q l e. (ap (λ (x : After). x .answer) (leaves s agrees pool l caller k q e), stays s agrees pool l caller k q e);
       held = λ pool caller k q r l v e d. refuses s agrees pool l caller k q r v e d;
+      cascades = λ pool caller k q. (does-as-entry s agrees pool caller k q, counts-as-entry s agrees pool caller k q);
       notOwner = λ pool caller k r e h d. (no-change s agrees pool caller k r e h d, no-removal s agrees pool caller k r e h d);
       owner = λ pool caller k r e h. (own-change s agrees pool caller k r e h, own-removal s agrees pool caller k r e h);
       shrinkFirst = λ pool l. rw (agrees .growth, agrees .file) (shrink-first (s .parameters) (s .model) (agrees .fitting) pool l);

@@ -16,7 +16,6 @@ pub mod Searching
 pub mod Check
 pub mod Empty
 pub mod Grow
-pub mod Reaching
 pub mod Remove
 pub mod Enter
 pub mod Change
@@ -25,3 +24,4 @@ pub mod Demand3
 pub mod Cleaned
 pub mod RoundTrips
 pub mod Others
+pub mod Cascade

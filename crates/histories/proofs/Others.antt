@@ -1,12 +1,13 @@
 -- An observer's entries, changes and removals leave the stars of others, on every file.
 use mathlib.Core.Path.{_≡_, refl, sym, ap, _∙_}
 use mathlib.Core.Bool.{Bool, true, false, not, cond, _&&_}
-use mathlib.Core.List.{List, [], List·Memᴰ}
+use mathlib.Core.List.{List, [], _∷_, List·Memᴰ, List·Memᴰ·eq-of-singleton}
 use mathlib.Core.Logic.{⊎-elim}
 use mathlib.Core.Option.{none, some}
-use Prim.Native.Nat.{ℕ, zero, suc, _+_, _≤_}
+use Prim.Native.Nat.{ℕ, zero, suc, _+_, _-_, _≤_}
 use native.Mathlib.Omega.{arith}
 use lib.Dec.{ltb, eqb}
+use lib.ListN.{length}
 use borrow.Author.Tests.{eqb-true, ne-eqb}
 use Rattle.hashing.specs.declared.Parameters.{Parameters}
 use Rattle.hashing.specs.declared.Growth.{Growth}
@@ -16,26 +17,28 @@ use Rattle.pages.specs.declared.position.Position.{Position}
 use Rattle.pages.specs.Position.{validNumber, validPosition, validWord, packed}
 use Rattle.pages.specs.Page.{part}
 use Rattle.pages.proofs.Parts.{part-item}
-use Rattle.placement.specs.Rule.{Star, first, pages, left, insert, without}
+use Rattle.placement.specs.Rule.{Star, Contents, first, pages, left, insert, without}
 use Rattle.placement.specs.File.{File, starsAt, gathered, replaced, Sized}
 use Rattle.placement.specs.Hash.{hashOf, namedPage}
+use Rattle.placement.proofs.Standing.{first-le}
 use Rattle.placement.proofs.Order.{member-insert, member-without}
 use Rattle.placement.proofs.Writing.{length-part}
 use Rattle.placement.proofs.Pages.{Numbered}
 use Rattle.placement.proofs.Search.{star-held}
 use Rattle.placement.proofs.Sound.{AllSound, gathered-member, gathered-proper, sound-fits}
-use Rattle.reach.specs.Reach.{pagesTo, removalEnd, entering, entersWithin, entryEnd, firstUnsound}
+use Rattle.reach.specs.Reach.{isEmpty, pagesTo, removalEnd, entering, entersWithin, entryEnd, firstUnsound}
+use Rattle.reach.specs.Cascade.{cascaded, carriedPast}
+use Rattle.reach.proofs.Reaching.{is-empty, entry-reach, removal-reach}
 use Rattle.calls.specs.Answers.{Pool, After, cleared}
-use Rattle.calls.specs.Calls.{hash, fileFits, poolFits, unless, orElse, unlent, guarded, readable, named, holds, placeFor, itemOf, ownerFor, mayAlter, allowed, enterTo, enterOn, enterOf, changeOn, changeOf, removeTo, removeOn, removeOf}
+use Rattle.calls.specs.Calls.{hash, fileFits, poolFits, unless, orElse, unlent, guarded, readable, named, holds, placeFor, itemOf, ownerFor, mayAlter, allowed, enterTo, unlessHeld, enterOn, entryRefusal, entered, enterOf, cascadeFrom, cascadeOn, cascadeOf, changeOn, changeOf, removeTo, removeOn, removeOf}
 use Rattle.calls.proofs.Refusals.{unlent-facts, sized}
-use Rattle.histories.specs.Model.{lookUp, enter, change, remove, grow, shrink, due, check, callerOf}
+use Rattle.histories.specs.Model.{lookUp, enter, cascade, change, remove, grow, shrink, due, check, callerOf}
 use Rattle.histories.specs.Call.{step}
 use Rattle.histories.specs.Others.{copies, OthersUntouched}
-use Rattle.histories.proofs.Copies.{count, same-owner, even, count-insert, count-kept, count-other, count-set, ruled-copies}
+use Rattle.histories.proofs.Copies.{count, same-owner, even, count-insert, count-kept, count-other, count-set, ruled-copies, cascaded-copies}
 use Rattle.histories.proofs.Alike.{place-below}
 use Rattle.histories.proofs.Fitting.{homed, in-range}
 use Rattle.histories.proofs.Searching.{all-sound-before}
-use Rattle.histories.proofs.Reaching.{is-empty, entry-reach, removal-reach}
 
 -- an observer who may alter a star owns it
 owns : (caller owner : ℕ) → (caller ≡ 0 → ⊥) → mayAlter caller owner ≡ true → owner ≡ caller
@@ -178,25 +181,54 @@ module _ (p : Parameters) (g : Growth) (f : File) (caller : ℕ) (observer : cal
       n : ℕ
       n = pagesTo from (removalEnd (hash p g) (p .pages) f from)
 
-  enter-kept : (pool : Pool) (k : ℕ) (q : Position) → Kept (enterOf p g f pool caller k q)
-  unfolding enterOf enterOn
-  enter-kept pool k q =
-      past pool (orElse (unlent p g (fileFits p f && poolFits p pool)) (orElse (unless (validNumber k) 3) (unless (validPosition q) 4)))
-      (enterOn p g f (cleared pool) page new)
+  -- from the page named on, which may be the page past the last
+  pushed-kept : Lent → (pool : Pool) (new : Star) (place : ℕ) → new .owner ≡ caller → 1 ≤ new .number
+      → Kept (cascadeFrom p g f pool new place (named p g f (new .number)))
+  unfolding cascadeFrom hashOf namedPage
+  pushed-kept t pool new place mine valid =
+      either (ltb (firstUnsound p g f page (length pushed)) (page + length pushed)) _ _ (λ _. record { same = refl })
+      (λ _.
+      either (isEmpty (carriedPast (hash p g) f page (p .pages - page) (new ∷ []))) _ _
+      (λ e. record {
+        same =
+            cascaded-copies s (hash p g) (p .pages) page (p .pages - page) f (new ∷ []) (t .sizes) inside
+            (λ x m. rw (List·Memᴰ·eq-of-singleton m) valid) (is-empty _ e) (count-other s new (λ d. other (sym d ∙ mine)));
+      })
+      (λ _. record { same = refl }))
+    where
+      page : ℕ
+      page = named p g f (new .number)
+
+      pushed : List Contents
+      pushed = cascaded (hash p g) f page (p .pages - page) (new ∷ [])
+
+      inside : page + (p .pages - page) ≤ p .pages
+      inside = omega (arith, first-le (hash p g) 0 (f .separators) (new .number), t .sizes .ofSeparators)
+
+  -- past refusals 1 to 4, of a star not held
+  entry-kept : (pool : Pool) (k : ℕ) (q : Position) (after : After) → (Lent → 1 ≤ k → Kept after)
+      → Kept (guarded g f pool (entryRefusal p g f pool k q) (unlessHeld p g f (cleared pool) (named p g f k) (entered caller k q) after))
+  entry-kept pool k q after h =
+      past pool (entryRefusal p g f pool k q) (unlessHeld p g f (cleared pool) page (entered caller k q) after)
       (λ e.
       let rest = neither (unlent p g (fileFits p f && poolFits p pool)) _ e .1 in
       either (readable p g f page) _ _
       (λ _.
       either (holds p f page k) _ _
       (λ _. record { same = refl })
-      (λ _. entered-kept (lent pool _ e) (cleared pool) new (placeFor p f page k) refl (in-range k (given (validNumber k) 2 (neither (unless (validNumber k) 3) _ rest .0)) .0)))
+      (λ _. h (lent pool _ e) (in-range k (given (validNumber k) 2 (neither (unless (validNumber k) 3) _ rest .0)) .0)))
       (λ _. record { same = refl }))
     where
       page : ℕ
       page = named p g f k
 
-      new : Star
-      new = record { number = k; word = packed q; owner = caller }
+  enter-kept : (pool : Pool) (k : ℕ) (q : Position) → Kept (enterOf p g f pool caller k q)
+  unfolding enterOf enterOn
+  enter-kept pool k q = entry-kept pool k q _ (λ t valid. entered-kept t (cleared pool) (entered caller k q) (placeFor p f (named p g f k) k) refl valid)
+
+  cascade-kept : (pool : Pool) (k : ℕ) (q : Position) → Kept (cascadeOf p g f pool caller k q)
+  unfolding cascadeOf cascadeOn
+  cascade-kept pool k q = entry-kept pool k q _ (λ t valid. pushed-kept t (cleared pool) (entered caller k q) (placeFor p f (named p g f k) k) refl valid)
 
   remove-kept : (pool : Pool) (k : ℕ) → Kept (removeOf p g f pool caller k)
   unfolding removeOf removeOn
@@ -223,6 +255,9 @@ others-untouched p g f pool (lookUp k) caller e observer s other = absurd (no-ca
 others-untouched p g f pool (enter c k q) caller e observer s other =
     let by : c ≡ caller = cc in
     rw by (enter-kept p g f caller observer s other pool k q .same)
+others-untouched p g f pool (cascade c k q) caller e observer s other =
+    let by : c ≡ caller = cc in
+    rw by (cascade-kept p g f caller observer s other pool k q .same)
 others-untouched p g f pool (change c k q) caller e observer s other =
     let by : c ≡ caller = cc in
     rw by (change-kept p g f caller observer s other pool k q .same)

@@ -16,6 +16,7 @@ use Rattle.placement.specs.File.{gathered, replaced, laid}
 use Rattle.placement.specs.Hash.{hashOf, namedPage}
 use Rattle.placement.proofs.Entry.{removed}
 use Rattle.reach.specs.Reach.{removalEnd, pagesTo}
+use Rattle.reach.proofs.Reaching.{Reach, removal-reach}
 use Rattle.calls.specs.Answers.{Pool, After, spotted, acceptedAt, refused, refusedAt, cleared}
 use Rattle.calls.specs.Calls.{poolFits, unless, orElse, guarded, unchanged, holds, allowed, removeTo, removeOn, removeOf}
 use Rattle.histories.specs.Model.{Model, remove, updated, heldPosition, heldOwner, modelFile, pageFor, placeOn}
@@ -25,7 +26,6 @@ use Rattle.histories.proofs.Fitting.{Fitting, hashFor, starsFor, bounde
 use Rattle.histories.proofs.Held.{held, not-allowed, is-allowed, not-held}
 use Rattle.histories.proofs.Guards.{lent-pool}
 use Rattle.histories.proofs.Searching.{none-unsound}
-use Rattle.histories.proofs.Reaching.{Reach, removal-reach}
 use Rattle.histories.proofs.Conforms.{Conforms, refused-conforms, allowed-conforms, accepted-conforms}
 
 module _ (p : Parameters) (m : Model) (t : Fitting p m) (caller k : ℕ) where

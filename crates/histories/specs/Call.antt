@@ -6,8 +6,8 @@ use Rattle.hashing.specs.declared.Growth.{Growth}
 use Rattle.placement.specs.File.{File}
 use Rattle.calls.specs.declared.answers.Answer.{Answer}
 use Rattle.calls.specs.Answers.{Pool, After}
-use Rattle.calls.specs.Calls.{lookUpOf, enterOf, changeOf, removeOf, growOf, shrinkOf, dueOf, checkOf}
-use Rattle.histories.specs.Model.{Request, lookUp, enter, change, remove, grow, shrink, due, check}
+use Rattle.calls.specs.Calls.{lookUpOf, enterOf, cascadeOf, changeOf, removeOf, growOf, shrinkOf, dueOf, checkOf}
+use Rattle.histories.specs.Model.{Request, lookUp, enter, cascade, change, remove, grow, shrink, due, check}
 
 -- "any number, position and pool", and any caller: look-ups, changes and Dues leave the pool alone
 pub record Call : Type 0 where
@@ -21,6 +21,7 @@ callOf pool r = record { request = r; pool = pool }
 unfoldable pub step : Parameters → Growth → File → Pool → Request → After
 step p g f pool (lookUp k) = lookUpOf p g f pool k
 step p g f pool (enter caller k q) = enterOf p g f pool caller k q
+step p g f pool (cascade caller k q) = cascadeOf p g f pool caller k q
 step p g f pool (change caller k q) = changeOf p g f pool caller k q
 step p g f pool (remove caller k) = removeOf p g f pool caller k
 step p g f pool grow = growOf p g f pool

@@ -13,7 +13,7 @@ use Rattle.placement.specs.Rule.{left}
 use Rattle.placement.specs.File.{File, Clean}
 use Rattle.calls.specs.Answers.{Pool, acceptedAt, refusedAt}
 use Rattle.calls.specs.Calls.{hash, poolFits, makeOf}
-use Rattle.histories.specs.Model.{lookUp, enter, change, remove, shrink, check, setPosition, heldPosition, heldOwner, heldEntry, entryStars, pageFor, placeOn, answered}
+use Rattle.histories.specs.Model.{lookUp, enter, cascade, change, remove, shrink, check, setPosition, heldPosition, heldOwner, heldEntry, entryStars, pageFor, placeOn, answered}
 use Rattle.histories.specs.Call.{Call, callOf}
 use Rattle.histories.specs.Run.{HistoryState, Event, initial, outcome, next, events, end}
 
@@ -50,6 +50,11 @@ pub record InHistory (now : HistoryState) : Type 0 where
       (pool : Pool) (caller k : ℕ) (q r : Position) → poolFits (now .parameters) pool ≡ true → validPosition q ≡ true
       → heldPosition k (now .model .entries) ≡ some r → (r ≡ q → ⊥)
       → outcome now (callOf pool (enter caller k q)) .answer ≡ refusedAt 6 0 (placeOn (now .parameters) (now .model) k)
+  -- a cascade answers and leaves what the entry does, and counts as one
+  pub cascades :
+      (pool : Pool) (caller k : ℕ) (q : Position)
+      → (outcome now (callOf pool (cascade caller k q)) ≡ outcome now (callOf pool (enter caller k q)))
+      × (next now (callOf pool (cascade caller k q)) ≡ next now (callOf pool (enter caller k q)))
   -- a change or a removal of a held star by one who is neither its owner nor 0 is refused with 13
   pub notOwner :
       (pool : Pool) (caller k : ℕ) (r : Position) → heldPosition k (now .model .entries) ≡ some r

@@ -10,9 +10,10 @@ pub record Demand3 : Type 0 where
   -- so they depend only on what the book holds, "star numbers, each once with a position, and an (e, x) of its own" (01)
   pub historyIndependence : HistoryIndependence
   -- before each call and at the end the file is "a file that the check accepts (a clean file)" (02 (i)), "8 needs a star carried past
-  -- M−1" (01), an entry of a held star with its stored position "counts as no step", any other being 6 (02 (v)), a change or a removal of
-  -- one is 13 "when the caller .. is neither the star's owner nor 0" and else accepted (02 (x)), and a shrink is refused with 9 exactly
-  -- "when (e, x) is (0, 0)", and else with 8 exactly "if a star is carried past M−1" (02 (i))
+  -- M−1" (01), an entry of a held star with its stored position "counts as no step", any other being 6 (02 (v)), a cascade is as
+  -- the entry, and "histories count it as one" (02 (ix)), a change or a removal of a held star is 13 "when the caller .. is neither the star's
+  -- owner nor 0" and else accepted (02 (x)), and a shrink is refused with 9 exactly "when (e, x) is (0, 0)", and else with 8 exactly "if a star
+  -- is carried past M−1" (02 (i))
   pub eachState : EachState
   -- look-ups "that are alike" (02 (xiii)) get one answer: alike in number, parameters, (e, x), lengths, separators and the page named
   pub lookUpsAlike : LookUpsAlike

@@ -7,3 +7,4 @@ pub mod Alike
 pub mod Others
 pub mod Demand3
 pub mod RoundTrips
+pub mod Cascade

@@ -59,10 +59,11 @@ unfoldable pub heldEntry : ℕ → List Entry → Option Entry
 heldEntry k [] = none
 heldEntry k (e ∷ es) = cond (eqb (e .number) k) (some e) (heldEntry k es)
 
--- A call's kind, number and position, and the caller of an entry, a change or a removal before them.
+-- A call's kind, number and position, and the caller of an entry, a change or a removal before them. A cascade "runs beside the present entry":
+-- document 02 (ix).
 pub data Request : Type 0 where
   lookUp : ℕ → Request
-  enter : ℕ → ℕ → Position → Request
+  enter cascade : ℕ → ℕ → Position → Request
   change : ℕ → ℕ → Position → Request
   remove : ℕ → ℕ → Request
   grow shrink due check : Request
@@ -71,6 +72,7 @@ pub data Request : Type 0 where
 unfoldable pub callerOf : Request → Option ℕ
 callerOf (lookUp k) = none
 callerOf (enter caller k q) = some caller
+callerOf (cascade caller k q) = some caller
 callerOf (change caller k q) = some caller
 callerOf (remove caller k) = some caller
 callerOf grow = none
@@ -78,10 +80,12 @@ callerOf shrink = none
 callerOf due = none
 callerOf check = none
 
--- what an accepted call makes of the model; "Any other call leaves it as it is"; a shrink is "taking the book's (e, x) back": document 02 (i)
+-- what an accepted call makes of the model; "Any other call leaves it as it is"; a shrink is "taking the book's (e, x) back": document 02 (i);
+-- of a cascade "histories count it as one", an entry: document 02 (ix)
 unfoldable pub updated : Parameters → Request → Model → Model
 updated p (lookUp k) m = m
 updated p (enter caller k q) m = record { entries = setPosition caller k q (m .entries); growth = m .growth }
+updated p (cascade caller k q) m = record { entries = setPosition caller k q (m .entries); growth = m .growth }
 updated p (change caller k q) m = record { entries = setPosition caller k q (m .entries); growth = m .growth }
 updated p (remove caller k) m = record { entries = strike k (m .entries); growth = m .growth }
 updated p grow m = record { entries = m .entries; growth = grown p (m .growth) }

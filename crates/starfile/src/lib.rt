@@ -11,5 +11,6 @@ pub use growth::shrink;
 pub use lookup::change;
 pub use lookup::due;
 pub use lookup::look_up;
+pub use updating::cascade;
 pub use updating::enter;
 pub use updating::remove;

@@ -1,9 +1,9 @@
-// The look-up, the entry and the removal for C programs, on numbers and slices. include/starfile.h declares them.
+// The look-up, the two entries and the removal for C programs, on numbers and slices. include/starfile.h declares them.
 // Each refuses every bad length and value itself. A contract gives the reply and every lent item at exit by the definitions of crate calls.
 ghost use mathlib.Core.Path.{_≡_};
 ghost use Rattle.placement.specs.Lent.{before, after};
 ghost use Rattle.calls.specs.Answers.{unpooled};
-ghost use Rattle.calls.specs.Calls.{lookUpOf, enterOf, removeOf};
+ghost use Rattle.calls.specs.Calls.{lookUpOf, enterOf, cascadeOf, removeOf};
 ghost use Rattle.calls.specs.Lent.{poolBefore, poolAfter};
 ghost use Rattle.starfile_c.specs.Reply.{Replies, replyOf, parametersOf, growthOf, positionOf};
 use calls::answers::Answer;
@@ -114,6 +114,65 @@ pub extern "C" fn heatherplane_enter(
         expanded,
     };
     let answer = starfile::enter(
+        parameters,
+        growth,
+        separators,
+        numbers,
+        words,
+        owners,
+        poolnumbers,
+        poolwords,
+        poolowners,
+        caller,
+        number,
+        Position { ra, dec },
+    );
+    reply_of(placed_answer(answer))
+}
+
+#[no_mangle]
+pub extern "C" fn heatherplane_cascade(
+    places: u32,
+    groups: u32,
+    width: u32,
+    step: u32,
+    bits: u32,
+    load: u32,
+    pages: u32,
+    multiplier: u32,
+    expansions: u32,
+    expanded: u32,
+    separators: &mut [u8],
+    numbers: &mut [u32],
+    words: &mut [u64],
+    owners: &mut [u8],
+    poolnumbers: &mut [u32],
+    poolwords: &mut [u64],
+    poolowners: &mut [u8],
+    caller: u8,
+    number: u32,
+    ra: u32,
+    dec: i32,
+) -> Reply
+    ensures { λ r. ⌜ Replies (cascadeOf (parametersOf places groups width step bits load pages multiplier) (growthOf expansions expanded)
+        (before separators numbers words owners) (poolBefore poolnumbers poolwords poolowners) caller number (positionOf ra dec))
+        r (after separators numbers words owners) (poolAfter poolnumbers poolwords poolowners) ⌝ }
+{
+    let parameters = Parameters {
+        places,
+        groups,
+        width,
+        step,
+        bits,
+        load,
+        pages,
+        multiplier,
+    };
+    let growth = Growth {
+        expansions,
+        expanded,
+    };
+    let answer = starfile::cascade(
         parameters,
         growth,
         separators,

@@ -160,6 +160,40 @@ pub extern "C" fn sft_enter(
 }
 
 #[no_mangle]
+pub extern "C" fn sft_cascade(
+    parameters: Parameters,
+    growth: Growth,
+    separators: &mut [u8],
+    numbers: &mut [u32],
+    words: &mut [u64],
+    owners: &mut [u8],
+    poolnumbers: &mut [u32],
+    poolwords: &mut [u64],
+    poolowners: &mut [u8],
+    caller: u8,
+    number: u32,
+    ra: u32,
+    dec: i32,
+) -> Outcome {
+    let state = growth_from(growth);
+    let answer = starfile::cascade(
+        parameters_from(parameters),
+        state,
+        separators,
+        numbers,
+        words,
+        owners,
+        poolnumbers,
+        poolwords,
+        poolowners,
+        caller,
+        number,
+        Position { ra, dec },
+    );
+    outcome_of(placed_answer(answer), state)
+}
+
+#[no_mangle]
 pub extern "C" fn sft_change(
     parameters: Parameters,
     growth: Growth,

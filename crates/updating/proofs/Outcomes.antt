@@ -17,16 +17,18 @@ use Rattle.placement.specs.Rule.{Star, Contents, pages, without}
 use Rattle.placement.specs.File.{File, gathered, replaced}
 use Rattle.placement.specs.Hash.{hashOf, soundAt}
 use Rattle.placement.proofs.Composition.{length-pages}
-use Rattle.reach.specs.Reach.{firstSuch, storedTop, pagesTo, removalEnd, entering, entersWithin, entryEnd, firstUnsound, hasNumber, holding}
+use Rattle.reach.specs.Reach.{firstSuch, storedTop, pagesTo, removalEnd, entering, entersWithin, entryEnd, firstUnsound, isEmpty, hasNumber, holding}
 use Rattle.reach.proofs.Search.{such}
 use Rattle.entering.specs.declared.stretch.Entered.the-variants.{On, Unsound, Overflows}
 use Rattle.entering.specs.Entry.{entryAnswer, entryFile}
 use Rattle.entering.specs.Entry as entry
+use Rattle.cascading.specs.Cascade.{visited, overflow, stopOf, unsoundOf, cascadeAnswer, cascadeFile}
+use Rattle.reach.proofs.Cascading.{length-cascaded}
 use Rattle.replacing.specs.declared.Replaced.the-variants.{Done, Unsound as replaced·Unsound}
 use Rattle.replacing.specs.Calls.{removalAnswer, removalFile}
 use Rattle.replacing.specs.Calls as removal
 use Rattle.calls.specs.Answers.{Pool, placed, refusedBy, acceptedAt, refusedAt}
-use Rattle.calls.specs.Calls.{hash, unchanged, enterTo, removeTo}
+use Rattle.calls.specs.Calls.{hash, unchanged, enterTo, cascadeFrom, removeTo}
 use Rattle.updating.specs.Outcomes.{EntrySmall, entryPlaced, ReplacedSmall, replacedPlaced}
 
 holding-most : (k from : ℕ) (cs : List Contents) → holding k from cs ≤ from + length cs
@@ -80,6 +82,18 @@ module _ (p : Parameters) (g : Growth) (f : File) (v : validParameters p ≡ tru
         go false true = page-small
         go false false = tt
 
+  pub cascade-small : (s : Star) (page : ℕ) → page < p .pages → EntrySmall (cascadeAnswer p g f s page)
+  unfolding cascadeAnswer
+  cascade-small s page h = go (ltb (unsoundOf p g f s page) (stopOf p g f s page)) (isEmpty (overflow p g f s page))
+    where
+      few : stopOf p g f s page ≤ p .pages
+      few = omega (arith, length-cascaded (hash p g) f page (p .pages - page) (s ∷ []))
+
+      go : (t u : Bool) → EntrySmall (cond t (Unsound (unsoundOf p g f s page)) (cond u (On (holding (s .number) page (visited p g f s page))) Overflows))
+      go true u = omega (arith, unsound-most p g f page (length (visited p g f s page)), few, limits p v .pages-most)
+      go false true = omega (arith, holding-most (s .number) page (visited p g f s page), few, limits p v .pages-most)
+      go false false = tt
+
   pub removal-small : (k : ℕ) → ReplacedSmall (removalAnswer p g f k)
   unfolding removalAnswer hashOf
   removal-small k = go (ltb (removal.unsoundOf p g f k) (removal.startOf p g k + removal.countOf p g f k))
@@ -113,6 +127,19 @@ module _ (p : Parameters) (g : Growth) (f : File) (pool : Pool) where
         (holding (s .number) (entry.startOf p g (s .number)) (entry.contentsOf p g f s))
         place
         (replaced (p .places) f (entry.startOf p g (s .number)) (entry.contentsOf p g f s))
+
+    pub cascaded-is : (place page : ℕ)
+        → (placed (entryPlaced (cascadeAnswer p g f s page) place) ≡ cascadeFrom p g f pool s place page .answer)
+        × (cascadeFile p g f s page ≡ cascadeFrom p g f pool s place page .file)
+    unfolding cascadeAnswer cascadeFile cascadeFrom
+    cascaded-is place page =
+        entered-cases
+        (ltb (unsoundOf p g f s page) (stopOf p g f s page))
+        (isEmpty (overflow p g f s page))
+        (unsoundOf p g f s page)
+        (holding (s .number) page (visited p g f s page))
+        place
+        (replaced (p .places) f page (visited p g f s page))
 
   removed-cases : (t : Bool) (bad page place : ℕ) (next : File)
       → (placed (replacedPlaced (cond t (replaced·Unsound bad) Done) page place) ≡ cond t (unchanged g f pool (refusedAt 5 bad place)) (record { answer = acceptedAt page place; growth = g; file = next; pool = pool }) .answer)

@@ -7,14 +7,17 @@ use lib.Dec.{ltb}
 use lib.ListN.{length, replicate}
 use Rattle.hashing.specs.declared.Parameters.{Parameters}
 use Rattle.hashing.specs.declared.Growth.{Growth}
+use Rattle.pages.specs.declared.position.Position.{Position}
 use Rattle.placement.specs.Rule.{Star, left}
 use Rattle.placement.specs.File.{File}
 use Rattle.entering.specs.Entry.{Unheld}
 use Rattle.lookup.proofs.Admitting.{readable-facts}
+use Rattle.cascading.specs.Cascade.{overflow, stopOf, unsoundOf}
 use Rattle.reach.specs.Reach.{pagesTo, entryEnd, removalEnd, entersWithin, firstUnsound, isEmpty}
 use Rattle.calls.specs.declared.answers.Answer.{Answer}
 use Rattle.calls.specs.Answers.{After, Pool, Leaves, Stores, pooled, cleared, zeros}
-use Rattle.calls.specs.Calls.{hash, named, readable, holds, ownerFor, mayAlter, allowed, enterOn, enterTo, removeOn, removeTo, regrowTo, allStars}
+use Rattle.calls.specs.Calls.{hash, guarded, named, readable, holds, placeFor, entryRefusal, entered, ownerFor, mayAlter, allowed, enterOf, enterOn, enterTo, cascadeOf, cascadeOn, cascadeFrom, removeOn, removeTo, regrowTo, allStars}
+use Rattle.updating.specs.Outcomes.{entryFrom, entryOn, entryOf}
 
 pub unheld : (p : Parameters) (g : Growth) (f : File) (k : ℕ) → readable p g f (named p g f k) ≡ true → holds p f (named p g f k) k ≡ false → Unheld p g f k
 unfolding holds
@@ -42,15 +45,33 @@ named-pool true false a b c pool ea eb ec = eb
 named-pool false u a b c pool ea eb ec = ec
 
 module _ (p : Parameters) (g : Growth) (f : File) (pool : Pool) where
-  pub enter-pool : (page : ℕ) (s : Star) → enterOn p g f pool page s .pool ≡ pool
-  unfolding enterOn enterTo
-  enter-pool page s =
-      let H = hash p g in
-      let from = H .home (s .number) in
-      let to = entryEnd H (p .pages) f s in
-      named-pool (readable p g f page) (holds p f page (s .number)) _ _ _ pool refl
-      (cases-pool (ltb (firstUnsound p g f from (pagesTo from to)) (from + pagesTo from to)) (entersWithin H f s to) _ _ _ pool refl refl refl)
-      refl
+  pub entry-pool : (cascading : Bool) (page : ℕ) (s : Star) → entryOn cascading p g f pool page s .pool ≡ pool
+  entry-pool cascading page s =
+      named-pool (readable p g f page) (holds p f page (s .number)) _ _ _ pool refl (either cascading) refl
+    where
+      pushed : cascadeFrom p g f pool s (placeFor p f page (s .number)) page .pool ≡ pool
+      pushed =
+          unfold cascadeFrom in
+          cases-pool (ltb (unsoundOf p g f s page) (stopOf p g f s page)) (isEmpty (overflow p g f s page)) _ _ _ pool refl refl refl
+
+      reached : enterTo p g f pool s (placeFor p f page (s .number)) (entryEnd (hash p g) (p .pages) f s) .pool ≡ pool
+      reached =
+          let H = hash p g in
+          let from = H .home (s .number) in
+          let to = entryEnd H (p .pages) f s in
+          unfold enterTo in
+          cases-pool (ltb (firstUnsound p g f from (pagesTo from to)) (from + pagesTo from to)) (entersWithin H f s to) _ _ _ pool refl refl refl
+
+      either : (t : Bool) → entryFrom t p g f pool page s .pool ≡ pool
+      either true = pushed
+      either false = reached
+
+  -- both ways of an entry meet refusals 1 to 4
+  pub entry-way : (cascading : Bool) (caller k : ℕ) (position : Position)
+      → entryOf cascading p g f pool caller k position ≡ guarded g f pool (entryRefusal p g f pool k position) (entryOn cascading p g f (cleared pool) (named p g f k) (entered caller k position))
+  unfolding cascadeOf cascadeOn enterOf enterOn
+  entry-way true caller k position = refl
+  entry-way false caller k position = refl
 
   removed-pool : (t : Bool) (a b : After) → a .pool ≡ pool → b .pool ≡ pool → cond t a b .pool ≡ pool
   removed-pool true a b ea eb = ea

@@ -5,8 +5,8 @@ ghost use Rattle.pages.specs.Position.{validNumber};
 ghost use Rattle.placement.specs.Lent.{held, before, after};
 ghost use Rattle.placement.specs.Ready.{Pooled};
 ghost use Rattle.calls.specs.Answers.{Leaves, Stores, cleared, placed};
-ghost use Rattle.calls.specs.Calls.{enterOf, enterOn, named};
-ghost use Rattle.updating.specs.Outcomes.{EntrySmall, entryPlaced};
+ghost use Rattle.calls.specs.Calls.{enterOf, cascadeOf, named};
+ghost use Rattle.updating.specs.Outcomes.{EntrySmall, entryPlaced, entryOn, entryOf};
 ghost use Rattle.calls.specs.Lent.{Admitted, poolBefore, poolAfter};
 use calls::answers::Admission;
 use calls::answers::Placed;
@@ -38,6 +38,77 @@ pub fn enter(
     ensures { λ r. ⌜ Leaves (enterOf parameters growth (before separators numbers words owners) (poolBefore poolnumbers poolwords poolowners) caller number position)
         (placed r) (after separators numbers words owners) (poolAfter poolnumbers poolwords poolowners) ⌝ }
 {
+    enter_by(
+        parameters,
+        growth,
+        false,
+        separators,
+        numbers,
+        words,
+        owners,
+        poolnumbers,
+        poolwords,
+        poolowners,
+        caller,
+        number,
+        position,
+    )
+}
+
+// The same by a cascade: it reads the pages from the named one upward, one at a time, until none has a star to push on.
+pub fn cascade(
+    parameters: Parameters,
+    growth: Growth,
+    separators: &mut [u8],
+    numbers: &mut [u32],
+    words: &mut [u64],
+    owners: &mut [u8],
+    poolnumbers: &mut [u32],
+    poolwords: &mut [u64],
+    poolowners: &mut [u8],
+    caller: u8,
+    number: u32,
+    position: Position,
+) -> Placed
+    ensures { λ r. ⌜ Leaves (cascadeOf parameters growth (before separators numbers words owners) (poolBefore poolnumbers poolwords poolowners) caller number position)
+        (placed r) (after separators numbers words owners) (poolAfter poolnumbers poolwords poolowners) ⌝ }
+{
+    enter_by(
+        parameters,
+        growth,
+        true,
+        separators,
+        numbers,
+        words,
+        owners,
+        poolnumbers,
+        poolwords,
+        poolowners,
+        caller,
+        number,
+        position,
+    )
+}
+
+// An entry over its reach, or `cascading`.
+fn enter_by(
+    parameters: Parameters,
+    growth: Growth,
+    cascading: bool,
+    separators: &mut [u8],
+    numbers: &mut [u32],
+    words: &mut [u64],
+    owners: &mut [u8],
+    poolnumbers: &mut [u32],
+    poolwords: &mut [u64],
+    poolowners: &mut [u8],
+    caller: u8,
+    number: u32,
+    position: Position,
+) -> Placed
+    ensures { λ r. ⌜ Leaves (entryOf cascading parameters growth (before separators numbers words owners) (poolBefore poolnumbers poolwords poolowners) caller number position)
+        (placed r) (after separators numbers words owners) (poolAfter poolnumbers poolwords poolowners) ⌝ }
+{
     let fits = all_fit(
         parameters,
         separators.len(),
@@ -61,6 +132,7 @@ pub fn enter(
     let answer = enter_star(
         parameters,
         growth,
+        cascading,
         separators,
         numbers,
         words,
@@ -76,10 +148,11 @@ pub fn enter(
     answer
 }
 
-// The named page first, then whether the star is held, then the reach, which a held star's entry does not read.
+// The named page first, then whether the star is held, then the reach or the pages of the cascade, which a held star's entry does not read.
 fn enter_star(
     parameters: Parameters,
     growth: Growth,
+    cascading: bool,
     separators: &mut [u8],
     numbers: &mut [u32],
     words: &mut [u64],
@@ -94,7 +167,7 @@ fn enter_star(
     requires { ⌜ Admitted parameters growth (held separators numbers words owners) ⌝ }
     requires { ⌜ Pooled parameters (now poolnumbers) (now poolwords) (now poolowners) ⌝ }
     requires { ⌜ validNumber number ≡ true ⌝ }
-    ensures { λ r. ⌜ Stores (enterOn parameters growth (before separators numbers words owners) (cleared (poolBefore poolnumbers poolwords poolowners))
+    ensures { λ r. ⌜ Stores (entryOn cascading parameters growth (before separators numbers words owners) (cleared (poolBefore poolnumbers poolwords poolowners))
         (named parameters growth (before separators numbers words owners) number) (record { number = number; word = word; owner = caller }))
         (placed r) (after separators numbers words owners) ⌝ }
 {
@@ -110,6 +183,27 @@ fn enter_star(
             return Placed::On(page, named.place);
         }
         return Placed::Refused(Refusal::Held, named.place);
+    }
+    if cascading {
+        return entry_placed(
+            cascading::cascade(
+                &table,
+                geometry,
+                separators,
+                numbers,
+                words,
+                owners,
+                poolnumbers,
+                poolwords,
+                poolowners,
+                number,
+                word,
+                caller,
+                named.home,
+                named.page,
+            ),
+            named.place,
+        );
     }
     entry_placed(
         entering::enter_stretch(

@@ -3,5 +3,6 @@
 mod entry;
 mod removal;
 
+pub use entry::cascade;
 pub use entry::enter;
 pub use removal::remove;

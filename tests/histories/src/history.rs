@@ -1,11 +1,12 @@
 //! A history with the plain book beside it.
 
 use crate::tester::Tester;
-use model::files::{random_caller, random_pool, random_star};
+use model::files::{random_caller, random_entry, random_pool, random_star};
 use model::hashing::{grown, highest_address, home, shrunk, signature};
-use model::placement::{lay_out, pack, unpack, Star};
+use model::placement::{entered_stretch, lay_out, pack, unpack, Star};
 use model::{Buffers, Call, Growth, Kind, Outcome, Parameters};
 use std::collections::BTreeMap;
+use std::ops::RangeInclusive;
 
 pub struct History {
     pub parameters: Parameters,
@@ -48,7 +49,7 @@ impl History {
         self.rising ^= tester.random.once_in(60);
         let seldom = tester.random.once_in(5);
         let kind = match tester.random.below(100) {
-            0..=37 => Kind::Enter,
+            0..=37 => random_entry(&mut tester.random),
             38..=57 => Kind::Remove,
             58..=75 => Kind::LookUp,
             76..=82 => Kind::Change,
@@ -102,11 +103,8 @@ impl History {
         if kind.takes_number() {
             tester.expect(self.first_place(number) == outcome.place as usize, "a call answers another place");
         }
-        let resend = kind == Kind::Enter && self.book.contains_key(&number);
-        if (kind == Kind::LookUp || resend) && outcome.refusal == 0 {
-            self.call_alike(tester, &call, &outcome);
-        }
         if outcome.refusal == 0 {
+            self.check_pages_read(tester, &call, &outcome, &after);
             self.undo(tester, &call, &outcome, &after);
         }
         (self.lent, self.growth) = (after, outcome.growth());
@@ -122,7 +120,7 @@ impl History {
         let word = pack(call.ra, call.dec);
         match call.kind {
             // A resend leaves the star as it is.
-            Kind::Enter => {
+            Kind::Enter | Kind::Cascade => {
                 self.book.entry(call.number).or_insert(Star { number: call.number, word, owner: call.caller });
             }
             Kind::Change => self.book.get_mut(&call.number).unwrap().word = word,
@@ -145,7 +143,7 @@ impl History {
                 tester.expect(outcome.refusal == 0 && answer == book, "a look-up differs from the book");
                 tester.expect(self.first_page(call.number) == outcome.page.into(), "a look-up names another page");
             }
-            Kind::Enter => {
+            Kind::Enter | Kind::Cascade => {
                 let as_held = match held {
                     Some(star) if star.word == pack(call.ra, call.dec) => outcome.refusal == 0,
                     _ => (outcome.refusal == 6) == held.is_some(),
@@ -239,16 +237,41 @@ impl History {
         tester.expect(same && self.same_file(&restored), "a growth and a shrink do not undo each other");
     }
 
-    /// The same look-up or resend where every other page has other contents gets the same answer.
-    fn call_alike(&self, tester: &mut Tester, call: &Call, outcome: &Outcome) {
-        let mut lent = self.lent.clone();
+    /// The pages whose contents an accepted call reads, where the documents name them: one by a look-up or a resend; by a
+    /// cascade those from the named one to the first past which nothing is carried.
+    fn pages_read(&self, call: &Call, after: &Buffers) -> Option<RangeInclusive<usize>> {
+        let named = || self.first_page(call.number) as usize;
+        let (places, before) = (self.parameters.places as usize, &self.lent.numbers);
+        match call.kind {
+            Kind::LookUp => Some(named()..=named()),
+            kind if kind.enters() && self.book.contains_key(&call.number) => Some(named()..=named()),
+            Kind::Cascade => Some(entered_stretch(places, named(), before, &after.numbers, |_| true)),
+            _ => None,
+        }
+    }
+
+    /// The same call where every page that it does not read has other contents answers and writes the same; where one page
+    /// that it reads is damaged, that page is 5.
+    fn check_pages_read(&self, tester: &mut Tester, call: &Call, outcome: &Outcome, after: &Buffers) {
+        let Some(read) = self.pages_read(call, after) else {
+            return;
+        };
         let places = self.parameters.places as usize;
-        for item in (0..lent.numbers.len()).filter(|item| item / places != outcome.page as usize) {
+        let (mut lent, mut expected) = (self.lent.clone(), after.clone());
+        for item in (0..lent.numbers.len()).filter(|item| !read.contains(&(item / places))) {
             lent.numbers[item] = tester.random.draw() as u32;
             lent.words[item] = tester.random.draw();
             lent.owners[item] = tester.random.draw() as u8;
+            expected.numbers[item] = lent.numbers[item];
+            expected.words[item] = lent.words[item];
+            expected.owners[item] = lent.owners[item];
         }
-        let (other, _) = tester.compare(call, &lent);
-        tester.expect(other == *outcome, "a look-up or resend depends on another page");
+        let other = tester.compare(call, &lent);
+        tester.expect(other == (*outcome, expected), "a call depends on a page that it does not read");
+        let damaged = tester.random.pick(&Vec::from_iter(read));
+        lent.words[damaged * places] = u64::MAX;
+        let (refused, _) = tester.compare(call, &lent);
+        let met = (refused.refusal, refused.page as usize) == (5, damaged);
+        tester.expect(met, "a call does not meet the damage on a page that it reads");
     }
 }

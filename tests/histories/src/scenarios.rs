@@ -77,14 +77,20 @@ pub fn all_sizes(tester: &mut Tester) {
 /// At each size some entries on the way up, some removals on the way down.
 fn through_sizes(tester: &mut Tester, parameters: Parameters, calls: u64) {
     let mut history = History::new(tester, parameters);
-    for (kind, at_each_size, end) in [(Kind::Grow, Kind::Enter, 8), (Kind::Shrink, Kind::Remove, 9)] {
+    let up = (Kind::Grow, &Kind::ENTRIES[..], 8);
+    let down = (Kind::Shrink, &[Kind::Remove][..], 9);
+    for (kind, at_each_size, end) in [up, down] {
         for _ in parameters.width * parameters.groups..parameters.pages {
             for _ in 0..calls {
                 let number = tester.random.pick(&history.numbers);
-                history.call(tester, at_each_size, number);
+                let at_this_size = tester.random.pick(at_each_size);
+                history.call(tester, at_this_size, number);
             }
-            // Where the stars do not fit, with fewer of them.
+            // Where the stars do not fit, with fewer of them; a call that fails may leave no way on.
             while history.call(tester, kind, 0).refusal != 0 {
+                if !tester.failures.is_empty() {
+                    return;
+                }
                 let (&number, _) = history.book.first_key_value().expect("no stars always fit");
                 history.call(tester, Kind::Remove, number);
             }
@@ -238,7 +244,8 @@ fn full_entries(tester: &mut Tester, parameters: Parameters) {
                 break number;
             }
         };
-        history.call(tester, Kind::Enter, number);
+        let entry = random_entry(&mut tester.random);
+        history.call(tester, entry, number);
         if entered % 2 == 1 {
             let number = tester.random.pick(&history.numbers);
             history.call(tester, Kind::Remove, number);
@@ -262,11 +269,12 @@ pub fn same_stars(tester: &mut Tester) {
         for Star { number, owner, .. } in missing {
             let passing = random_star(&mut tester.random);
             let stays = first.book.contains_key(&passing.number);
-            if !stays && second.call_as(tester, passing.owner, Kind::Enter, passing.number).refusal == 0 {
-                second.call_as(tester, owner, Kind::Enter, number);
+            let [entry, other] = [(); 2].map(|_| random_entry(&mut tester.random));
+            if !stays && second.call_as(tester, passing.owner, entry, passing.number).refusal == 0 {
+                second.call_as(tester, owner, other, number);
                 second.call_as(tester, passing.owner, Kind::Remove, passing.number);
             }
-            second.call_as(tester, owner, Kind::Enter, number);
+            second.call_as(tester, owner, entry, number);
             if tester.random.once_in(3) {
                 second.call(tester, Kind::Grow, 0);
             }

@@ -15,7 +15,7 @@ pub struct Tester {
     pub random: Random,
     pub calls: u64,
     /// How often each kind of call got each refusal.
-    pub refusals: [[u64; 14]; 9],
+    pub refusals: [[u64; 14]; Kind::ALL.len()],
     /// How many pairs of histories ended in the same stars, positions, owners and growth state.
     pub alike: u64,
     pub failures: Vec<String>,
@@ -24,7 +24,8 @@ pub struct Tester {
 
 impl Tester {
     pub fn new() -> Tester {
-        Tester { random: Random(0), calls: 0, refusals: [[0; 14]; 9], alike: 0, failures: Vec::new(), saved: 0 }
+        let refusals = [[0; 14]; Kind::ALL.len()];
+        Tester { random: Random(0), calls: 0, refusals, alike: 0, failures: Vec::new(), saved: 0 }
     }
 
     /// The outcome, with the growth state after the call, and the buffers that the model leaves.
@@ -44,6 +45,12 @@ impl Tester {
         if call.kind == Kind::Grow {
             self.compare_marks(call, outcome.refusal == 0, before, &vector.after);
         }
+        // A refusal with 5 tells that the file is not clean.
+        if call.kind == Kind::Cascade && outcome.refusal != 5 && clean(call, before) {
+            let entered = self.compare(&Call { kind: Kind::Enter, ..*call }, before);
+            let alike = (entered.0, &entered.1) == (outcome, &vector.after);
+            self.expect(alike, "a cascade into a clean file differs from the entry");
+        }
         if outcome.refusal == 0 {
             self.check_others(call, before, &vector.after);
         }
@@ -52,7 +59,7 @@ impl Tester {
 
     /// An observer's entry, change or removal leaves the stars of others as they are, on whatever page.
     fn check_others(&mut self, call: &Call, before: &Buffers, after: &Buffers) {
-        let alters = matches!(call.kind, Kind::Enter | Kind::Change | Kind::Remove);
+        let alters = call.kind.enters() || matches!(call.kind, Kind::Change | Kind::Remove);
         let kept = || others(call.caller, before) == others(call.caller, after);
         self.expect(!alters || call.caller == 0 || kept(), "an observer altered another's star");
     }
@@ -68,8 +75,7 @@ impl Tester {
             let refusal = model::backup::mark_changed(p, growth, &before.separators, new, &mut expected);
             let answer = interface::mark_changed(p, growth, &before.separators, new, &mut marks);
             self.expect((answer, &marks) == (refusal, &expected), "marks of altered pages differ");
-            let clean = || model::run(&Call { kind: Kind::Check, ..*call }, &mut before.clone()).refusal == 0;
-            if !accepted || new != &after.separators || !clean() {
+            if !accepted || new != &after.separators || !clean(call, before) {
                 continue;
             }
             for page in (0..p.pages as usize).filter(|&page| marks[page] == 0) {
@@ -108,7 +114,7 @@ impl Tester {
                 let caller = random_caller(&mut self.random);
                 let call = Call { kind, parameters, growth, caller, number, ra, dec };
                 self.compare(&call, lent);
-                if let (Kind::Enter, Some((ra, dec))) = (kind, stored(lent, number)) {
+                if let (true, Some((ra, dec))) = (kind.enters(), stored(lent, number)) {
                     self.compare(&Call { ra, dec, ..call }, lent);
                 }
             }
@@ -155,6 +161,11 @@ impl Tester {
             }
         }
     }
+}
+
+/// Whether the model's check accepts the buffers of a call.
+fn clean(call: &Call, lent: &Buffers) -> bool {
+    model::run(&Call { kind: Kind::Check, ..*call }, &mut lent.clone()).refusal == 0
 }
 
 /// The stars of all but one owner, in rising order.

@@ -3,7 +3,7 @@
 use model::{Buffers, Call, Growth, Kind, Outcome, Parameters};
 
 /// The requests of document 02 that have landed in the library.
-pub const LANDED: &[u32] = &[1, 2, 3, 4, 5, 7, 10, 14];
+pub const LANDED: &[u32] = &[1, 2, 3, 4, 5, 7, 9, 10, 14];
 
 // Each slice is a pointer and a length in items.
 #[rustfmt::skip]
@@ -24,6 +24,17 @@ extern "C" {
         number: u32,
     ) -> Outcome;
     fn sft_enter(
+        parameters: Parameters, growth: Growth,
+        separators: *mut u8, separators_length: usize,
+        numbers: *mut u32, numbers_length: usize,
+        words: *mut u64, words_length: usize,
+        owners: *mut u8, owners_length: usize,
+        pool_numbers: *mut u32, pool_numbers_length: usize,
+        pool_words: *mut u64, pool_words_length: usize,
+        pool_owners: *mut u8, pool_owners_length: usize,
+        caller: u8, number: u32, ra: u32, dec: i32,
+    ) -> Outcome;
+    fn sft_cascade(
         parameters: Parameters, growth: Growth,
         separators: *mut u8, separators_length: usize,
         numbers: *mut u32, numbers_length: usize,
@@ -141,7 +152,9 @@ pub fn run(call: &Call, lent: &mut Buffers) -> Outcome {
             Kind::Shrink => sft_shrink(p, g, s, sl, n, nl, w, wl, o, ol, pn, pnl, pw, pwl, po, pol),
             Kind::Due => sft_due(p, g, s, sl, n, nl, w, wl, o, ol),
             Kind::Check => sft_check(p, g, s, sl, n, nl, w, wl, o, ol, pn, pnl, pw, pwl, po, pol),
-            Kind::Cascade => panic!("the library has no cascading entry yet"),
+            Kind::Cascade => {
+                sft_cascade(p, g, s, sl, n, nl, w, wl, o, ol, pn, pnl, pw, pwl, po, pol, c, number, ra, dec)
+            }
         }
     }
 }

@@ -3,7 +3,7 @@
 use crate::hashing::{grown, highest_address, home, signature, MULTIPLIERS};
 use crate::placement::{lay_out, pack, write, Page, Star};
 use crate::random::Random;
-use crate::{Buffers, Growth, Parameters};
+use crate::{Buffers, Growth, Kind, Parameters};
 
 /// One of the two multipliers.
 pub fn random_multiplier(random: &mut Random) -> u32 {
@@ -62,6 +62,10 @@ pub fn random_growth(random: &mut Random, parameters: &Parameters) -> Growth {
     let growths = random.below(possible + 1);
     let growths = random.pick(&[0, growths, growths, possible]);
     growth_after(parameters, growths)
+}
+
+pub fn random_entry(random: &mut Random) -> Kind {
+    random.pick(&Kind::ENTRIES)
 }
 
 /// The institute or one of a few observers.

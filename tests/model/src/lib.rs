@@ -83,8 +83,7 @@ pub enum Kind {
 }
 
 impl Kind {
-    /// The calls that the library has; it has no cascading entry yet.
-    pub const ALL: [Kind; 9] = [
+    pub const ALL: [Kind; 10] = [
         Kind::Make,
         Kind::LookUp,
         Kind::Enter,
@@ -94,22 +93,28 @@ impl Kind {
         Kind::Shrink,
         Kind::Due,
         Kind::Check,
+        Kind::Cascade,
     ];
+    pub const ENTRIES: [Kind; 2] = [Kind::Enter, Kind::Cascade];
 
     pub fn name(self) -> &'static str {
         ["make", "look_up", "enter", "change", "remove", "grow", "shrink", "due", "check", "cascade"][self as usize]
     }
 
+    pub fn enters(self) -> bool {
+        Kind::ENTRIES.contains(&self)
+    }
+
     pub fn takes_pool(self) -> bool {
-        matches!(self, Kind::Enter | Kind::Remove | Kind::Grow | Kind::Shrink | Kind::Check | Kind::Cascade)
+        self.enters() || matches!(self, Kind::Remove | Kind::Grow | Kind::Shrink | Kind::Check)
     }
 
     pub fn takes_number(self) -> bool {
-        matches!(self, Kind::LookUp | Kind::Enter | Kind::Change | Kind::Remove | Kind::Cascade)
+        self.enters() || matches!(self, Kind::LookUp | Kind::Change | Kind::Remove)
     }
 
     pub fn takes_position(self) -> bool {
-        matches!(self, Kind::Enter | Kind::Change | Kind::Cascade)
+        self.enters() || self == Kind::Change
     }
 }
 

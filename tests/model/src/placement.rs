@@ -78,6 +78,24 @@ pub fn rule(
     (pages, without_homes(waiting))
 }
 
+/// The pages of an accepted entry, from `first` on to the first that may be the last and past which nothing was carried. Past
+/// a page went the new star and those that stood from `first` to there before, less those that stand there after.
+pub fn entered_stretch(
+    places: usize,
+    first: usize,
+    before: &[u32],
+    after: &[u32],
+    may_be_last: impl Fn(usize) -> bool,
+) -> std::ops::RangeInclusive<usize> {
+    let stars = |numbers: &[u32], page: usize| numbers[page * places..][..places].iter().filter(|&&n| n != 0).count();
+    let mut carried = 1;
+    let last = |&page: &usize| {
+        carried = carried + stars(before, page) - stars(after, page);
+        carried == 0 && may_be_last(page)
+    };
+    first..=(first..before.len() / places).find(last).expect("an accepted entry carries nothing past the end")
+}
+
 /// Writes pages from `first` on, empty places last.
 pub fn write(parameters: &Parameters, lent: &mut Buffers, first: usize, pages: &[Page]) {
     let places = parameters.places as usize;

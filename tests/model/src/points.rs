@@ -70,26 +70,28 @@ pub fn homes(run: Run) {
 
 /// The limits of positions and of star numbers.
 pub fn value_limits(run: Run) {
-    let mut session = Session::new(run, [4, 2, 2, 1, 8, 80, 8]);
-    for kind in [Kind::Enter, Kind::Change] {
-        let mut refusal = |number, ra, dec| session.call(kind, number, ra, dec).refusal;
-        assert_eq!(refusal(1, 0, -324_000_000), 0);
-        assert_eq!(refusal(2, 0, 324_000_000), 0);
-        assert_eq!(refusal(2_147_483_646, 1_295_999_999, 0), 0);
-        assert_eq!(refusal(3, 0, -324_000_001), 4);
-        assert_eq!(refusal(3, 0, 324_000_001), 4);
-        assert_eq!(refusal(3, 0, i32::MIN), 4);
-        assert_eq!(refusal(3, 1_296_000_000, 0), 4);
-        assert_eq!(refusal(3, u32::MAX, 0), 4);
-        assert_eq!(refusal(0, u32::MAX, 0), 3);
-    }
-    for kind in Kind::ALL.into_iter().filter(|kind| kind.takes_number()) {
-        for number in [0, 2_147_483_647, u32::MAX] {
-            assert_eq!(session.call(kind, number, 0, 0).refusal, 3);
+    for entry in Kind::ENTRIES {
+        let mut session = Session::new(run, [4, 2, 2, 1, 8, 80, 8]);
+        for kind in [entry, Kind::Change] {
+            let mut refusal = |number, ra, dec| session.call(kind, number, ra, dec).refusal;
+            assert_eq!(refusal(1, 0, -324_000_000), 0);
+            assert_eq!(refusal(2, 0, 324_000_000), 0);
+            assert_eq!(refusal(2_147_483_646, 1_295_999_999, 0), 0);
+            assert_eq!(refusal(3, 0, -324_000_001), 4);
+            assert_eq!(refusal(3, 0, 324_000_001), 4);
+            assert_eq!(refusal(3, 0, i32::MIN), 4);
+            assert_eq!(refusal(3, 1_296_000_000, 0), 4);
+            assert_eq!(refusal(3, u32::MAX, 0), 4);
+            assert_eq!(refusal(0, u32::MAX, 0), 3);
         }
+        for kind in Kind::ALL.into_iter().filter(|kind| kind.takes_number()) {
+            for number in [0, 2_147_483_647, u32::MAX] {
+                assert_eq!(session.call(kind, number, 0, 0).refusal, 3);
+            }
+        }
+        let found = session.look_up(2_147_483_646);
+        assert_eq!((found.found, found.ra, found.dec), (1, 1_295_999_999, 0));
     }
-    let found = session.look_up(2_147_483_646);
-    assert_eq!((found.found, found.ra, found.dec), (1, 1_295_999_999, 0));
 }
 
 /// The limits of document 01's seven parameters, for every call.
@@ -191,8 +193,8 @@ pub fn second_star_of_a_home(run: Run) {
         let mut homes = Vec::new();
         for number in 1..200 {
             let home = session.home(number);
-            let refusal = session.enter(number).refusal;
-            assert_eq!(refusal, if homes.contains(&home) { 8 } else { 0 });
+            let refusals = [session.clone().cascade(number).refusal, session.enter(number).refusal];
+            assert_eq!(refusals, if homes.contains(&home) { [8; 2] } else { [0; 2] });
             homes.push(home);
             assert_eq!(session.check().refusal, 0);
         }
@@ -351,9 +353,10 @@ pub fn entry_into_full_file(run: Run) {
     }
     let newcomer = (number + 1..).find(|&number| session.home(number) == 0).unwrap();
     assert_eq!(answers(session.check()), (0, 0));
-    assert_eq!(answers(session.enter(newcomer)), (8, 0));
-    session.lent.words[7] = u64::MAX;
-    assert_eq!(answers(session.enter(newcomer)), (5, 3));
+    for (word, refused) in [(session.lent.words[7], (8, 0)), (u64::MAX, (5, 3))] {
+        session.lent.words[7] = word;
+        assert_eq!((answers(session.enter(newcomer)), answers(session.cascade(newcomer))), (refused, refused));
+    }
 }
 
 /// What the check names, in its order: unsound pages first, then places, then the separator.
@@ -429,42 +432,51 @@ pub fn resends(run: Run) {
     for (damage, caller) in [(pack(1, 0), 0), (pack(1, 0), 9), (u64::MAX, 0), (u64::MAX, 9)] {
         session.lent.words[0] = damage;
         session.caller = caller;
-        session.lent.pool_words.fill(7);
-        let mut expected = session.clone();
-        expected.lent.pool_words.fill(0);
-        assert_eq!(spot(session.enter(32)), (0, 1, 0));
-        assert!(session.lent == expected.lent && session.growth == expected.growth);
-        assert_eq!(answers(session.call(Kind::Enter, 32, 1, 1)), (6, 0));
-        assert_eq!(answers(session.call(Kind::Enter, 32, 2, 0)), (6, 0));
-        assert!(session.lent == expected.lent);
+        for kind in Kind::ENTRIES {
+            session.lent.pool_words.fill(7);
+            let mut expected = session.clone();
+            expected.lent.pool_words.fill(0);
+            assert_eq!(spot(session.call(kind, 32, 1, 0)), (0, 1, 0));
+            assert!(session.lent == expected.lent && session.growth == expected.growth);
+            assert_eq!(answers(session.call(kind, 32, 1, 1)), (6, 0));
+            assert_eq!(answers(session.call(kind, 32, 2, 0)), (6, 0));
+            assert!(session.lent == expected.lent);
+        }
     }
-    assert_eq!(answers(session.enter(170)), (5, 0));
+    assert_eq!((answers(session.enter(170)), answers(session.cascade(170))), ((5, 0), (5, 0)));
 }
 
-/// A cascading entry is the entry on a clean file; on others it raises no separator and reads no page below the named one.
+/// A cascading entry is the entry on a clean file; on others it raises no separator and reads no page below the named one,
+/// nor above the first past which nothing is carried.
 pub fn cascades(run: Run) {
-    let cascade = |session: &mut Session, number, ra| spot(session.call(Kind::Cascade, number, ra, 0));
-    let mut session = Session::new(run, TWO_PAGES);
-    assert_eq!(cascade(&mut session, 32, 1), (0, 0, 0));
-    assert_eq!(cascade(&mut session, 170, 1), (0, 0, 1));
-    assert_eq!((&session.lent.separators[..], &session.lent.numbers[..]), (&[223, 255][..], &[170, 32][..]));
-    assert_eq!(cascade(&mut session, 32, 1), (0, 1, 0));
-    assert_eq!(cascade(&mut session, 32, 2), (6, 0, 0));
-    let before = session.clone();
-    assert_eq!(cascade(&mut session, 1, 1), (8, 0, 0));
-    assert!(session.lent == before.lent);
-    session.lent.words[1] = u64::MAX;
-    assert_eq!(cascade(&mut session, 1, 1), (5, 1, 0));
-    let mut session = Session::new(run, TWO_PAGES);
-    session.lent.separators[0] = 0;
-    session.lent.words[0] = 7;
-    assert_eq!(answers(session.enter(32)), (5, 0));
-    assert_eq!(cascade(&mut session, 32, 1), (0, 1, 0));
-    assert_eq!((&session.lent.separators[..], &session.lent.numbers[..]), (&[0, 255][..], &[0, 32][..]));
-    let mut session = Session::new(run, TWO_PAGES);
-    session.lent.separators[0] = 200;
-    assert_eq!(cascade(&mut session, 170, 1), (0, 0, 0));
-    assert_eq!((&session.lent.separators[..], &session.lent.numbers[..]), (&[200, 255][..], &[170, 0][..]));
+    let file = |session: &Session| (session.lent.separators.clone(), session.lent.numbers.clone());
+    for (first, second, page, place) in [(32, 170, 0, 1), (170, 32, 1, 0)] {
+        let mut session = Session::new(run, TWO_PAGES);
+        assert_eq!(spot(session.cascade(first)), (0, 0, 0));
+        assert_eq!(spot(session.cascade(second)), (0, page, place));
+        assert_eq!(file(&session), (vec![223, 255], vec![170, 32]));
+        let before = session.clone();
+        assert_eq!(spot(session.cascade(1)), (8, 0, 0));
+        assert!(session.lent == before.lent);
+        session.lent.words[1] = u64::MAX;
+        assert_eq!(spot(session.cascade(1)), (5, 1, 0));
+    }
+    // Neither the page that passes every star on nor the one above the named page is read.
+    let mut session = Session::new(run, [1, 1, 1, 1, 8, 50, 3]);
+    session.lent.separators = vec![0, 200, 255];
+    session.lent.words = vec![7, 0, 7];
+    assert_eq!((answers(session.enter(32)), spot(session.cascade(32))), ((5, 0), (0, 1, 0)));
+    assert_eq!(file(&session), (vec![0, 200, 255], vec![0, 32, 0]));
+    assert_eq!(session.lent.words, [7, pack(1, 0), 7]);
+    // Star 13 (signature 146) pushes 170 on, whose 215 passes page 1: that page is visited and keeps its separator.
+    let mut session = Session::new(run, [1, 1, 1, 1, 8, 50, 3]);
+    assert_eq!(spot(session.cascade(170)), (0, 0, 0));
+    session.lent.separators[1] = 200;
+    session.lent.words[1] = 7;
+    assert_eq!(spot(session.cascade(13)), (5, 1, 0));
+    session.lent.words[1] = 0;
+    assert_eq!(spot(session.cascade(13)), (0, 0, 0));
+    assert_eq!(file(&session), (vec![149, 200, 255], vec![13, 0, 170]));
 }
 
 /// A star on a page above the highest address makes that page one in use.
@@ -547,15 +559,17 @@ pub fn strangers_before_reach(run: Run) {
 
 /// Owners travel with stars that an entry, a removal, a growth or a shrink moves.
 pub fn owners_travel(run: Run) {
-    let mut session = Session::new(run, TWO_PAGES);
-    let mut after = |caller, kind, number| {
-        session.caller = caller;
-        assert_eq!(session.call(kind, number, 1, 0).refusal, 0);
-        (session.lent.numbers.clone(), session.lent.owners.clone())
-    };
-    assert_eq!(after(5, Kind::Enter, 32), (vec![32, 0], vec![5, 0]));
-    assert_eq!(after(7, Kind::Enter, 170), (vec![170, 32], vec![7, 5]));
-    assert_eq!(after(7, Kind::Remove, 170), (vec![32, 0], vec![5, 0]));
+    for entry in Kind::ENTRIES {
+        let mut session = Session::new(run, TWO_PAGES);
+        let mut after = |caller, kind, number| {
+            session.caller = caller;
+            assert_eq!(session.call(kind, number, 1, 0).refusal, 0);
+            (session.lent.numbers.clone(), session.lent.owners.clone())
+        };
+        assert_eq!(after(5, entry, 32), (vec![32, 0], vec![5, 0]));
+        assert_eq!(after(7, entry, 170), (vec![170, 32], vec![7, 5]));
+        assert_eq!(after(7, Kind::Remove, 170), (vec![32, 0], vec![5, 0]));
+    }
     let mut session = Session::new(run, [1, 2, 2, 1, 8, 80, 5]);
     session.caller = 5;
     assert_eq!(answers(session.enter(1)), (0, 3));
@@ -573,7 +587,7 @@ pub fn owner_of_an_empty_place(run: Run) {
     assert_eq!(spot(session.enter(number)), (0, 1, 0));
     session.lent.owners[3] = 128;
     assert_eq!(spot(session.check()), (5, 1, 2));
-    for kind in [Kind::LookUp, Kind::Enter, Kind::Change, Kind::Remove] {
+    for kind in Kind::ALL.into_iter().filter(|kind| kind.takes_number()) {
         assert_eq!(spot(session.call(kind, number, 1, 0)), (5, 1, 0));
     }
     assert_eq!(answers(session.grow()), (5, 1));
@@ -610,8 +624,8 @@ macro_rules! point_tests {
         $crate::point_tests!($run: empty_file homes multipliers value_limits parameter_limits multiplier_limits growth_limits
             second_star_of_a_home growth_without_room pages_given_back there_and_back shrinking_without_room
             nothing_to_give_back growth_repairs entry_below_named_page removal_raises_separator
-            entry_without_room_in_its_reach entry_into_full_file check_order damaged_values places resends pages_in_use
-            pool_contents strangers strangers_before_reach owners_travel owner_of_an_empty_place owner_lengths);
+            entry_without_room_in_its_reach entry_into_full_file check_order damaged_values places resends cascades
+            pages_in_use pool_contents strangers strangers_before_reach owners_travel owner_of_an_empty_place owner_lengths);
     };
     ($run:path: $($name:ident)*) => {
         $(#[test] fn $name() { $crate::points::$name($run) })*

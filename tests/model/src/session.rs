@@ -38,6 +38,10 @@ impl Session {
         self.call(Kind::Enter, number, 1, 0)
     }
 
+    pub fn cascade(&mut self, number: u32) -> Outcome {
+        self.call(Kind::Cascade, number, 1, 0)
+    }
+
     pub fn look_up(&mut self, number: u32) -> Outcome {
         self.call(Kind::LookUp, number, 0, 0)
     }

@@ -97,8 +97,7 @@ impl<'a> Reader<'a> {
             self.owned = needed.contains(&10);
         }
         let name = self.fields("call")?.concat();
-        let cascade = landed.contains(&9).then_some(Kind::Cascade);
-        let kind = Kind::ALL.into_iter().chain(cascade).find(|kind| kind.name() == name);
+        let kind = Kind::ALL.into_iter().find(|kind| kind.name() == name);
         let kind = kind.ok_or_else(|| format!("no call '{name}'"))?;
         let (parameters, growth, before) = (self.parameters()?, self.growth()?, self.buffers(kind)?);
         let args = self.counted("args", 3, 6)?;

@@ -5,7 +5,7 @@ use model::hashing::{grown, highest_address, home, rank, shrunk, signature, x};
 use model::placement::{pack, separator, unpack, word_valid};
 use model::random::Random;
 use model::session::Session;
-use model::{points, starline::starline, vectors, Growth, Kind, Parameters, LANDED};
+use model::{points, starline::starline, vectors, Growth, Parameters, LANDED};
 use std::fs;
 
 const FOLDER: &str = concat!(env!("CARGO_MANIFEST_DIR"), "/../vectors");
@@ -81,8 +81,7 @@ fn cascades_as_entries() {
         let mut entered = Session { run: model::run, parameters, growth, lent, caller: 0 };
         for _ in 0..10 {
             let (number, mut cascaded) = (random.star_number(), entered.clone());
-            let outcome = cascaded.call(Kind::Cascade, number, 1, 0);
-            assert_eq!((outcome, &cascaded.lent), (entered.enter(number), &entered.lent));
+            assert_eq!((cascaded.cascade(number), &cascaded.lent), (entered.enter(number), &entered.lent));
         }
     }
 }
@@ -99,7 +98,7 @@ fn position_words() {
 
 #[test]
 fn call_vectors() {
-    for name in ["3-x", "4-i"] {
+    for name in ["3-x", "4-i", "5-ix-xiv"] {
         let text = fs::read_to_string(format!("{FOLDER}/{name}.txt")).unwrap();
         let vectors = vectors::parse(&text, LANDED);
         assert_eq!(vectors.len(), 900);

@@ -1,15 +1,17 @@
 -- `starfile::entry::enter_star` meets its contract.
-use mathlib.Core.Path.{sym, ap, _∙_}
+use mathlib.Core.Path.{_≡_, sym, ap, _∙_}
+use mathlib.Core.Bool.{true, false}
 use native.Mathlib.Omega.{arith}
 use borrow.Author.Tests.{not-true, not-false, eq-eqb, ne-eqb}
 use denote.Ref.{now}
 use Rattle.hashing.proofs.Bounds.{limits}
 use Rattle.placement.specs.File.{File}
 use Rattle.placement.specs.Hash.{lent}
-use Rattle.entering.specs.Entry.{newStar}
+use Rattle.placement.specs.Rule.{Star}
+use Rattle.entering.specs.Entry.{Unheld, newStar}
 use Rattle.calls.specs.Answers.{Pool, placed, refusedBy, pooled, cleared}
-use Rattle.calls.specs.Calls.{enterOn, enteredAgain, named, placeFor}
-use Rattle.updating.proofs.Outcomes.{entry-small, entered-is}
+use Rattle.calls.specs.Calls.{readable, holds, enteredAgain, named, placeFor}
+use Rattle.updating.proofs.Outcomes.{entry-small, cascade-small, entered-is, cascaded-is}
 use Rattle.lookup.proofs.Admitting.{prepared, tabled}
 use Rattle.updating.proofs.Pools.{unheld}
 use borrow.Author.Needs.{needs}
@@ -46,7 +48,7 @@ same-length-4 : tie.Need-same-length-4
 same-length-4 c = search needs
 
 returns : tie.Need-returns
-unfolding enterOn placed refusedBy
+unfolding placed refusedBy
 returns c =
     let found = c .before .before .before .find .ensures in
     let unread = sym (found .readableIs) ∙ not-true _ (c .if1 .taken) in
@@ -65,7 +67,7 @@ same-length-8 : tie.Need-same-length-8
 same-length-8 c = search needs
 
 returns-2 : tie.Need-returns-2
-unfolding enterOn enteredAgain placed
+unfolding enteredAgain placed
 returns-2 c =
     let found = c .before .before .before .before .before .before .find .ensures in
     let opened = not-false _ (c .before .before .before .if1 .left) in
@@ -88,7 +90,7 @@ same-length-12 : tie.Need-same-length-12
 same-length-12 c = search needs
 
 returns-3 : tie.Need-returns-3
-unfolding enterOn enteredAgain placed refusedBy
+unfolding enteredAgain placed refusedBy
 returns-3 c =
     let found = c .before .before .before .before .before .before .find .ensures in
     let opened = not-false _ (c .before .before .before .if1 .left) in
@@ -98,29 +100,47 @@ returns-3 c =
     let other = ne-eqb _ _ (λ e. c .if3 .left (found .wordIs there ∙ e)) in
     record { answers = rw (read, held, other, ← found .placeIs opened); files = rw (read, held) }
 
-enter-stretch-requires : tie.Need-enter-stretch-requires
-enter-stretch-requires c κs =
-    let s = c .before .before .before .before .before .before .before .before .before .before .before .before .before .before .before .before .before .before .before .before .before .before .before .before .before .before in
-    let found = c .before .before .before .before .before .before .before .before .before .before .before .before .find .ensures in
-    let opened = not-false _ (c .before .before .before .before .before .before .before .before .before .if1 .left) in (
-      prepared (c .before .before .before .before .before .before .before .before .before .before .before .before .before .before .before .before .before .before .first-multipliers .ensures) (s .pre .0),
-      (
-        s .pre .1 .0,
-        (
-          s .pre .1 .1,
-          (
-            unheld (s .args .parameters) (s .args .growth) (fileOf s) (s .args .number) (sym (found .readableIs) ∙ opened) (sym (found .heldIs opened) ∙ c .before .before .before .before .before .before .before .before .if2 .left),
-            found .homeIs,
-          ),
-        ),
-      ),
+-- past the test of the named page: it does not hold the star
+module _ (c : tie.Else2) where
+  abbrev begun : tie.Start
+  begun = c .before .before .before .before .before .before .before .before .before .before .before .before .before .before .before .before .before .before
+
+  abbrev star : Star
+  star = newStar (begun .args .number) (begun .args .word) (begun .args .caller)
+
+  opened : c .before .before .before .before .find .result .readable ≡ true
+  opened = not-false _ (c .before .if1 .left)
+
+  read : readable (begun .args .parameters) (begun .args .growth) (fileOf begun) (named (begun .args .parameters) (begun .args .growth) (fileOf begun) (begun .args .number)) ≡ true
+  read = sym (c .before .before .before .before .find .ensures .readableIs) ∙ opened
+
+  held : holds (begun .args .parameters) (fileOf begun) (named (begun .args .parameters) (begun .args .growth) (fileOf begun) (begun .args .number)) (begun .args .number) ≡ false
+  held = sym (c .before .before .before .before .find .ensures .heldIs opened) ∙ c .if2 .left
+
+  missing : Unheld (begun .args .parameters) (begun .args .growth) (fileOf begun) (begun .args .number)
+  missing = unheld (begun .args .parameters) (begun .args .growth) (fileOf begun) (begun .args .number) read held
+
+cascade-requires : tie.Need-cascade-requires
+cascade-requires c κs =
+    let e = c .before .before .before .before .before .before .before .before .before in
+    let s = begun e in
+    let found = c .before .before .before .before .before .before .before .before .before .before .before .before .before .find .ensures in (
+      record {
+        ready = prepared (c .before .before .before .before .before .before .before .before .before .before .before .before .before .before .before .before .before .before .before .first-multipliers .ensures) (s .pre .0);
+        number = s .pre .1 .1;
+        unheld = missing e;
+        homed = found .homeIs;
+        here = found .pageIs;
+      },
+      s .pre .1 .0,
     )
 
 entry-placed-requires : tie.Need-entry-placed-requires
 entry-placed-requires c κs =
-    let s = c .before .before .before .before .before .before .before .before .before .before .before .before .before .before .before .before .before .before .before .before .before .before .before .before .before .before .before .before .before .before .before .before .before .before .before .before .before .before .before .before .before in
-    rw (c .before .before .before .before .before .before .before .before .before .before .before .before .before .before .enter-stretch .ensures .0)
-    (entry-small (s .args .parameters) (s .args .growth) (fileOf s) (s .pre .0 .homing .valid) (s .pre .0 .homing .growth) (newStar (s .args .number) (s .args .word) (s .args .caller)))
+    let e = c .before .before .before .before .before .before .before .before .before .before .before .before .before .before .before .before .before .before .before .before .before .before .before .before in
+    let s = begun e in
+    rw (c .before .before .before .before .before .before .before .before .before .before .before .before .before .before .cascade .ensures .0)
+    (cascade-small (s .args .parameters) (s .args .growth) (fileOf s) (s .pre .0 .homing .valid) (s .pre .0 .homing .growth) (star e) (c .before .before .before .before .before .before .before .before .before .before .before .before .before .before .before .before .before .before .before .before .before .before .before .before .before .before .before .before .find .result .page) (omega (arith, c .before .before .before .before .before .before .before .before .before .before .before .before .before .before .before .before .before .before .before .before .before .before .before .before .before .before .before .before .find .ensures .pageIs, missing e .named)))
 
 same-length-13 : tie.Need-same-length-13
 same-length-13 c = search needs
@@ -144,18 +164,61 @@ same-length-19 : tie.Need-same-length-19
 same-length-19 c = search needs
 
 returns-4 : tie.Need-returns-4
-unfolding enterOn
 returns-4 c =
-    let s = c .before .before .before .before .before .before .before .before .before .before .before .before .before .before .before .before .before .before .before .before .before .before .before .before .before .before .before .before .before .before .before .before .before .before .before .before .before .before .before .before .before .before in
-    let found = c .before .before .before .before .before .before .before .before .before .before .before .before .before .before .before .before .before .before .before .before .before .before .before .before .before .before .before .before .find .ensures in
-    let opened = not-false _ (c .before .before .before .before .before .before .before .before .before .before .before .before .before .before .before .before .before .before .before .before .before .before .before .before .before .if1 .left) in
-    let read = sym (found .readableIs) ∙ opened in
-    let held = sym (found .heldIs opened) ∙ c .before .before .before .before .before .before .before .before .before .before .before .before .before .before .before .before .before .before .before .before .before .before .before .before .if2 .left in
-    let done = c .before .before .before .before .before .before .before .before .before .before .before .before .before .before .before .enter-stretch .ensures in
-    let is = entered-is (s .args .parameters) (s .args .growth) (fileOf s) (cleared (poolOf s)) (newStar (s .args .number) (s .args .word) (s .args .caller)) (placeFor (s .args .parameters) (fileOf s) (named (s .args .parameters) (s .args .growth) (fileOf s) (s .args .number)) (s .args .number)) in
+    let e = c .before .before .before .before .before .before .before .before .before .before .before .before .before .before .before .before .before .before .before .before .before .before .before .before .before in
+    let s = begun e in
+    let found = c .before .before .before .before .before .before .before .before .before .before .before .before .before .before .before .before .before .before .before .before .before .before .before .before .before .before .before .before .before .find .ensures in
+    let done = rw (found .pageIs) at (c .before .before .before .before .before .before .before .before .before .before .before .before .before .before .before .cascade .ensures) in
+    let is = cascaded-is (s .args .parameters) (s .args .growth) (fileOf s) (cleared (poolOf s)) (star e) (placeFor (s .args .parameters) (fileOf s) (named (s .args .parameters) (s .args .growth) (fileOf s) (s .args .number)) (s .args .number)) (named (s .args .parameters) (s .args .growth) (fileOf s) (s .args .number)) in
     record {
-      answers = rw (read, held) (ap placed (rw (done .0, found .placeIs opened) at (c .entry-placed .ensures)) ∙ is .0);
-      files = rw (read, held) (done .1 ∙ is .1);
+      answers = rw (read e, held e, c .before .before .before .before .before .before .before .before .before .before .before .before .before .before .before .before .before .before .before .before .before .before .before .before .if4 .taken) (ap placed (rw (done .0, found .placeIs (opened e)) at (c .entry-placed .ensures)) ∙ is .0);
+      files = rw (read e, held e, c .before .before .before .before .before .before .before .before .before .before .before .before .before .before .before .before .before .before .before .before .before .before .before .before .if4 .taken) (done .1 ∙ is .1);
+    }
+
+enter-stretch-requires : tie.Need-enter-stretch-requires
+enter-stretch-requires c κs =
+    let e = c .before .before .before .before .before .before .before .before .before in
+    let s = begun e in
+    (prepared (c .before .before .before .before .before .before .before .before .before .before .before .before .before .before .before .before .before .before .before .first-multipliers .ensures) (s .pre .0), (s .pre .1 .0, (s .pre .1 .1, (missing e, c .before .before .before .before .before .before .before .before .before .before .before .before .before .find .ensures .homeIs))))
+
+entry-placed-requires-2 : tie.Need-entry-placed-requires-2
+entry-placed-requires-2 c κs =
+    let e = c .before .before .before .before .before .before .before .before .before .before .before .before .before .before .before .before .before .before .before .before .before .before .before .before in
+    let s = begun e in
+    rw (c .before .before .before .before .before .before .before .before .before .before .before .before .before .before .enter-stretch .ensures .0)
+    (entry-small (s .args .parameters) (s .args .growth) (fileOf s) (s .pre .0 .homing .valid) (s .pre .0 .homing .growth) (star e))
+
+same-length-20 : tie.Need-same-length-20
+same-length-20 c = search needs
+
+same-length-21 : tie.Need-same-length-21
+same-length-21 c = search needs
+
+same-length-22 : tie.Need-same-length-22
+same-length-22 c = search needs
+
+same-length-23 : tie.Need-same-length-23
+same-length-23 c = search needs
+
+same-length-24 : tie.Need-same-length-24
+same-length-24 c = search needs
+
+same-length-25 : tie.Need-same-length-25
+same-length-25 c = search needs
+
+same-length-26 : tie.Need-same-length-26
+same-length-26 c = search needs
+
+returns-5 : tie.Need-returns-5
+returns-5 c =
+    let e = c .before .before .before .before .before .before .before .before .before .before .before .before .before .before .before .before .before .before .before .before .before .before .before .before .before in
+    let s = begun e in
+    let found = c .before .before .before .before .before .before .before .before .before .before .before .before .before .before .before .before .before .before .before .before .before .before .before .before .before .before .before .before .before .find .ensures in
+    let done = c .before .before .before .before .before .before .before .before .before .before .before .before .before .before .before .enter-stretch .ensures in
+    let is = entered-is (s .args .parameters) (s .args .growth) (fileOf s) (cleared (poolOf s)) (star e) (placeFor (s .args .parameters) (fileOf s) (named (s .args .parameters) (s .args .growth) (fileOf s) (s .args .number)) (s .args .number)) in
+    record {
+      answers = rw (read e, held e, c .before .before .before .before .before .before .before .before .before .before .before .before .before .before .before .before .before .before .before .before .before .before .before .before .if4 .left) (ap placed (rw (done .0, found .placeIs (opened e)) at (c .entry-placed2 .ensures)) ∙ is .0);
+      files = rw (read e, held e, c .before .before .before .before .before .before .before .before .before .before .before .before .before .before .before .before .before .before .before .before .before .before .before .before .if4 .left) (done .1 ∙ is .1);
     }
 
 pub enter-star-spec : {M : Type 1} → statement M
@@ -180,7 +243,7 @@ enter-star-spec =
     same-length-11
     same-length-12
     returns-3
-    enter-stretch-requires
+    cascade-requires
     entry-placed-requires
     same-length-13
     same-length-14
@@ -189,4 +252,14 @@ enter-star-spec =
     same-length-17
     same-length-18
     same-length-19
-    returns-4)
+    returns-4
+    enter-stretch-requires
+    entry-placed-requires-2
+    same-length-20
+    same-length-21
+    same-length-22
+    same-length-23
+    same-length-24
+    same-length-25
+    same-length-26
+    returns-5)

@@ -1,4 +1,4 @@
--- `starfile::enter` meets its contract.
+-- `starfile::entry::enter_by` meets its contract.
 use mathlib.Core.Path.{_≡_}
 use mathlib.Core.Bool.{true, _&&_}
 use denote.Ref.{now}
@@ -9,18 +9,25 @@ use Rattle.placement.specs.Hash.{lent}
 use Rattle.placement.specs.Ready.{Pooled}
 use Rattle.calls.specs.Answers.{Pool, placed, refusedBy, pooled, cleared}
 use Rattle.calls.specs.Lent.{Admitted}
-use Rattle.calls.specs.Calls.{unlent, enterOf, fileFits, poolFits}
+use Rattle.calls.specs.Calls.{unlent, guarded, entryRefusal, named, entered, fileFits, poolFits}
+use Rattle.updating.specs.Outcomes.{entryOn, entryOf}
 use Rattle.calls.proofs.Refusals.{turned-away-first, refusal-is, none-is, admitted-pool, leaves}
-use Rattle.updating.proofs.Pools.{cleared-is, leaves-cleared, enter-pool}
+use Rattle.updating.proofs.Pools.{cleared-is, leaves-cleared, entry-pool, entry-way}
 use borrow.Author.Needs.{needs}
-use Rattle.updating.proofs.entry.enter.Statement.{statement}
-use Rattle.updating.proofs.entry.enter.Tie as tie
+use Rattle.updating.proofs.entry.enter_by.Statement.{statement}
+use Rattle.updating.proofs.entry.enter_by.Tie as tie
 
 abbrev fileOf : tie.Start → File
 fileOf s = lent (now (s .args .separators)) (now (s .args .numbers)) (now (s .args .words)) (now (s .args .owners))
 
 abbrev poolOf : tie.Start → Pool
 poolOf s = pooled (now (s .args .poolnumbers)) (now (s .args .poolwords)) (now (s .args .poolowners))
+
+way : (s : tie.Start)
+    → entryOf (s .args .cascading) (s .args .parameters) (s .args .growth) (fileOf s) (poolOf s) (s .args .caller) (s .args .number) (s .args .position)
+    ≡ guarded (s .args .growth) (fileOf s) (poolOf s) (entryRefusal (s .args .parameters) (s .args .growth) (fileOf s) (poolOf s) (s .args .number) (s .args .position))
+    (entryOn (s .args .cascading) (s .args .parameters) (s .args .growth) (fileOf s) (cleared (poolOf s)) (named (s .args .parameters) (s .args .growth) (fileOf s) (s .args .number)) (entered (s .args .caller) (s .args .number) (s .args .position)))
+way s = entry-way (s .args .parameters) (s .args .growth) (fileOf s) (poolOf s) (s .args .cascading) (s .args .caller) (s .args .number) (s .args .position)
 
 all-fit-requires : tie.Need-all-fit-requires
 all-fit-requires c κs = search needs
@@ -32,8 +39,8 @@ enum-known-refusal : tie.Need-enum-known-refusal
 enum-known-refusal c = search needs
 
 returns : tie.Need-returns
-unfolding enterOf placed fileFits poolFits
-returns c = leaves _ _ _ _ _ (turned-away-first _ _ _ _ _ _ _ _ (refusal-is _ _ (c .before .before .before .guard .ensures) (c .before .before .before .before .all-fit .ensures) (c .before .refusal .given .1)))
+unfolding placed fileFits poolFits
+returns c = rw (way (c .before .before .before .before .before .before .before .before .before .before .before .before)) (leaves _ _ _ _ _ (turned-away-first _ _ _ _ _ _ _ _ (refusal-is _ _ (c .before .before .before .guard .ensures) (c .before .before .before .before .all-fit .ensures) (c .before .refusal .given .1))))
 
 enum-told : tie.Need-enum-told
 enum-told c = search needs
@@ -53,10 +60,11 @@ number-valid-requires : tie.Need-number-valid-requires
 number-valid-requires c κs = search needs
 
 returns-2 : tie.Need-returns-2
-unfolding enterOf placed refusedBy
+unfolding placed refusedBy
 returns-2 c =
     leaves _ _ (c .before .before .before .before .before .before .before .before .before .before .before .before .before .args .growth) _ _
     (rw (
+      way (c .before .before .before .before .before .before .before .before .before .before .before .before .before),
       none (c .before .before),
       failed _ _ (c .before .number-valid .ensures) (c .if1 .taken),
     ))
@@ -65,10 +73,11 @@ position-valid-requires : tie.Need-position-valid-requires
 position-valid-requires c κs = search needs
 
 returns-3 : tie.Need-returns-3
-unfolding enterOf placed refusedBy
+unfolding placed refusedBy
 returns-3 c =
     leaves _ _ (c .before .before .before .before .before .before .before .before .before .before .before .before .before .before .before .args .growth) _ _
     (rw (
+      way (c .before .before .before .before .before .before .before .before .before .before .before .before .before .before .before),
       none (c .before .before .before .before),
       passed _ _ (c .before .before .before .number-valid .ensures) (c .before .before .if1 .left),
       failed _ _ (c .before .position-valid .ensures) (c .if2 .taken),
@@ -116,19 +125,18 @@ same-length-7 : tie.Need-same-length-7
 same-length-7 c = search needs
 
 returns-4 : tie.Need-returns-4
-unfolding enterOf
 returns-4 c =
     let d = c .before .before .before .before .before .before .before .before .before .before .before .before .before .before .before .before .before .before .before .before .before .before .before .before .before .before .before .before .before .before .before .before .before in
     let s = begun (told d) in
     let done = c .before .before .before .before .before .before .before .before .before .before .before .before .before .before .before .before .before .before .before .before .before .before .before .before .enter-star in
-    rw (none (told d), numbered d, positioned d)
+    rw (way s, none (told d), numbered d, positioned d)
     (leaves-cleared _ _ _ (poolOf s) _ (rw (c .before .before .before .before .before .before .before .before .before .before .before .before .before .before .before .before .before .before .before .before .before .before .before .before .before .before .before .before .before .before .before .before .pack .ensures) at (done .ensures))
-    (enter-pool (s .args .parameters) (s .args .growth) (fileOf s) (cleared (poolOf s)) _ _)
+    (entry-pool (s .args .parameters) (s .args .growth) (fileOf s) (cleared (poolOf s)) (s .args .cascading) _ _)
     (cleared-is _ _ _ _ _ _ _ _ _ (c .before .before .before .before .before .before .clear .ensures .0) (c .before .before .before .before .before .before .clear .ensures .1 .0) (c .before .before .before .before .before .before .clear .ensures .1 .1)
-    (done .kept .1 .1 .1 .1 .1 .1 .0) (done .kept .1 .1 .1 .1 .1 .1 .1 .0) (done .kept .1 .1 .1 .1 .1 .1 .1 .1 .0)))
+    (done .kept .1 .1 .1 .1 .1 .1 .1 .0) (done .kept .1 .1 .1 .1 .1 .1 .1 .1 .0) (done .kept .1 .1 .1 .1 .1 .1 .1 .1 .1 .0)))
 
-pub enter-spec : {M : Type 1} → statement M
-enter-spec =
+pub enter-by-spec : {M : Type 1} → statement M
+enter-by-spec =
     tie.close
     (tie.spec
     all-fit-requires

@@ -1,0 +1,115 @@
+-- A page value as loaded: its places are the page's items, and its stars' words those of the page.
+use mathlib.Core.Path.{_≡_, refl, sym, ap, _∙_}
+use mathlib.Core.Bool.{true}
+use mathlib.Core.List.{List}
+use Prim.Native.Nat.{ℕ, _+_, _-_, _*_, _^_, _≤_, _<_}
+use native.Mathlib.Nat.{one-mul, mul-le-mul}
+use native.Mathlib.Omega.{arith}
+use lib.Dec.{ltb}
+use lib.ListN.{length, take, drop, replicate, length-map, length-take, getD-replicate}
+use lib.Seq.{slice, getD-take}
+use borrow.Author.Tests.{lt-ltb, ltb-true}
+use Rattle.hashing.specs.declared.Parameters.{Parameters}
+use Rattle.hashing.specs.declared.Growth.{Growth}
+use Rattle.hashing.specs.Limits.{validParameters}
+use Rattle.hashing.proofs.Bounds.{limits}
+use Rattle.pages.specs.declared.page.Page.{Page}
+use Rattle.pages.specs.Page.{part, filled, pageAt}
+use Rattle.pages.proofs.Parts.{page-fits, take-filled, filled-length}
+use Rattle.placement.specs.File.{File, Sized}
+use Rattle.placement.specs.Hash.{soundAt, homesOf, homeIn}
+use Rattle.waiting.specs.Lists.{all, allBelow}
+use Rattle.waiting.specs.Gather.{stretch, wordsFrom, starsIn}
+use Rattle.waiting.proofs.Lists.{all-mono}
+use Rattle.waiting.proofs.Items.{words-count, words-length}
+use Rattle.planning.proofs.Slots.{drop-take}
+use Rattle.entering.specs.Entry.{blockNumbers, blockWords}
+use Rattle.entering.proofs.Items.{all-items, numbers-count, stretch-homes, homes-below}
+use Rattle.cascading.specs.Arriving.{pageWords}
+use Rattle.cascading.proofs.PageWords.{page-numbers}
+
+-- all zeros
+pub zeros-below : (n : ℕ) → n ≤ 32 → allBelow 1024 (take n (replicate 32 0)) ≡ true
+zeros-below n h =
+    all-items (λ x. ltb x 1024) (take n (replicate 32 0))
+    (λ i a.
+    let short : i < n = omega (arith, length-take n (replicate {A = ℕ} 32 0)) in
+    rw (getD-take {A = ℕ} n (replicate 32 0) i 0 short, getD-replicate {A = ℕ} 32 i 0 0 (omega arith)))
+
+module _ (p : Parameters) (g : Growth) (f : File) (valid : validParameters p ≡ true) (sized : Sized (p .places) (p .pages) f) (q : ℕ) (inside : q < p .pages) where
+  page-part : (l : List ℕ) → stretch (p .places) q 1 l ≡ part (p .places) q l
+  unfolding part
+  page-part l = ap (λ (n : ℕ). take n (drop (q * p .places) l)) (one-mul (p .places))
+
+  -- the page's items, as they are counted
+  pub slice-page : slice (q * p .places) (q * p .places + p .places) (f .numbers) ≡ blockNumbers p f q 1
+  slice-page =
+      let count : q * p .places + p .places - q * p .places ≡ 1 * p .places = omega (arith, one-mul (p .places)) in
+      drop-take (q * p .places) (q * p .places + p .places) (f .numbers) ∙ ap (λ (n : ℕ). take n (drop (q * p .places) (f .numbers))) count
+
+  pub stars-count : length (pageWords p g f q) ≡ starsIn 0 (blockNumbers p f q 1)
+  unfolding blockWords homesOf
+  stars-count =
+      rw (stretch-homes p g f valid sized q 1 (omega arith))
+      (words-count (q * p .places) 0 (blockNumbers p f q 1) (homesOf p g (blockNumbers p f q 1)) (omega (arith, length-map (blockNumbers p f q 1) (homeIn p g))))
+
+  pub stars-room : length (pageWords p g f q) ≤ p .places
+  unfolding blockWords
+  stars-room =
+      omega (
+        arith,
+        words-length (q * p .places) 0 (blockNumbers p f q 1) (stretch (p .places) q 1 (homesOf p g (f .numbers))),
+        numbers-count p g f valid sized q 1 (omega arith),
+        one-mul (p .places),
+      )
+
+  pub page-few : q * p .places + p .places < 2 ^ 16
+  page-few =
+      let l = limits p valid in
+      omega (arith, page-fits (p .places) (p .pages) q inside (sized .ofNumbers), sized .ofNumbers, mul-le-mul (l .pages-most) (l .places-most))
+
+  module _ (v : Page) (loaded : v ≡ pageAt (p .places) q (f .numbers) (f .words) (f .owners)) where
+    pub loaded-numbers : take (p .places) (v .numbers) ≡ blockNumbers p f q 1
+    loaded-numbers =
+        ap (λ (x : Page). take (p .places) (x .numbers)) loaded
+        ∙ take-filled (p .places) q (f .numbers) (page-fits (p .places) (p .pages) q inside (sized .ofNumbers))
+        ∙ sym (page-part (f .numbers))
+
+    pub loaded-long : p .places ≤ length (v .numbers)
+    loaded-long =
+        omega (
+          arith,
+          ap (λ (x : Page). length (x .numbers)) loaded,
+          filled-length (p .places) q (f .numbers) (page-fits (p .places) (p .pages) q inside (sized .ofNumbers)) (limits p valid .places-most),
+          limits p valid .places-most,
+        )
+
+    module _ (sound : soundAt p g f q ≡ true) where
+      pub loaded-below : allBelow (2 ^ 31) (take (p .places) (v .numbers)) ≡ true
+      loaded-below = rw loaded-numbers (page-numbers p g f valid sized q inside sound)
+
+      -- with the homes that the test of the page tells
+      module _ (hs : List ℕ) (homes : take (p .places) hs ≡ homesOf p g (take (p .places) (v .numbers))) where
+        pub homes-long : p .places ≤ length hs
+        unfolding homesOf
+        homes-long =
+            omega (
+              arith,
+              ap length homes,
+              length-map (take (p .places) (v .numbers)) (homeIn p g),
+              ap length loaded-numbers,
+              numbers-count p g f valid sized q 1 (omega arith),
+              one-mul (p .places),
+              length-take (p .places) hs,
+            )
+
+        pub homes-small : allBelow 1024 (take (p .places) hs) ≡ true
+        homes-small =
+            rw (homes, loaded-numbers)
+            (all-mono (λ x. ltb x (q + 1)) (λ x. ltb x 1024) (homesOf p g (blockNumbers p f q 1))
+            (λ x e. lt-ltb x 1024 (omega (arith, ltb-true x (q + 1) e, limits p valid .pages-most)))
+            (homes-below p g f valid sized q 1 (omega arith) (λ r a b. let same : r ≡ q = omega arith in rw same sound)))
+
+        pub loaded-words : wordsFrom (q * p .places) 0 (take (p .places) (v .numbers)) (take (p .places) hs) ≡ pageWords p g f q
+        unfolding blockWords
+        loaded-words = rw (homes, loaded-numbers, stretch-homes p g f valid sized q 1 (omega arith))

@@ -1,0 +1,73 @@
+// An entry by a cascade.
+ghost use mathlib.Core.Path.{_≡_};
+ghost use Rattle.placement.specs.Lent.{held, before, after};
+ghost use Rattle.placement.specs.Ready.{Pooled};
+ghost use Rattle.entering.specs.Entry.{newStar};
+ghost use Rattle.cascading.specs.Cascade.{Enters, cascadeAnswer, cascadeFile};
+use crate::pushing::push;
+use entering::Entered;
+use entering::Reach;
+use hashing::Geometry;
+
+// Enters a number that the file does not hold, from the page that the separators name for it. Nothing is written before the cascade has ended.
+pub fn cascade(
+    table: &[u32; 90],
+    geometry: Geometry,
+    separators: &mut [u8],
+    numbers: &mut [u32],
+    words: &mut [u64],
+    owners: &mut [u8],
+    pool: &mut [u32],
+    waiting: &mut [u64],
+    poolowners: &mut [u8],
+    number: u32,
+    word: u64,
+    owner: u8,
+    home: u32,
+    page: usize,
+) -> Entered
+    requires { ⌜ Enters geometry (now table) (held separators numbers words owners) number home page ⌝ }
+    requires { ⌜ Pooled (geometry .parameters) (now pool) (now waiting) (now poolowners) ⌝ }
+    ensures { λ r. ⌜ r ≡ cascadeAnswer (geometry .parameters) (geometry .growth) (before separators numbers words owners) (newStar number word owner) page ⌝ }
+    ensures { λ _. ⌜ after separators numbers words owners ≡ cascadeFile (geometry .parameters) (geometry .growth) (before separators numbers words owners) (newStar number word owner) page ⌝ }
+{
+    let places = geometry.parameters.places as usize;
+    let mut planned = [0u8; 1024];
+    match push(
+        table,
+        geometry,
+        separators,
+        numbers,
+        words,
+        owners,
+        pool,
+        waiting,
+        &mut planned,
+        number,
+        home,
+        page,
+    ) {
+        Reach::Unsound(bad) => Entered::Unsound(bad),
+        Reach::Overflows => Entered::Overflows,
+        Reach::Ends(last) => {
+            planning::apply(
+                separators,
+                numbers,
+                words,
+                owners,
+                pool,
+                waiting,
+                poolowners,
+                &planned,
+                places,
+                page,
+                last + 1 - page,
+                number,
+                word,
+                owner,
+            );
+            let on = placement::named_from(table, geometry, separators, number, home);
+            Entered::On(on)
+        }
+    }
+}

@@ -1,0 +1,8 @@
+// An entry that pushes stars from page to page through one page value, from the page that the separators name upward.
+mod arriving;
+mod entry;
+mod filling;
+mod keeping;
+mod pushing;
+
+pub use entry::cascade;

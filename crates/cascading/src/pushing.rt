@@ -1,0 +1,135 @@
+// The cascade planned: page after page, until nothing is carried on.
+ghost use mathlib.Core.Path.{_≡_};
+ghost use Prim.Native.Nat.{_*_, _≤_};
+ghost use lib.ListN.{length};
+ghost use Rattle.placement.specs.Lent.{held, before};
+ghost use Rattle.placement.specs.Ready.{Signing};
+ghost use Rattle.cascading.specs.Cascade.{Enters, Plans};
+use crate::arriving::Taken;
+use crate::arriving::take_in;
+use crate::filling::fill_page;
+use crate::keeping::settle_page;
+use entering::Reach;
+use hashing::Geometry;
+
+// The words carried on stand from `from` up to `end`; those of the next page come behind them.
+fn push_along(
+    table: &[u32; 90],
+    signs: &[u32; 2049],
+    geometry: Geometry,
+    separators: &[u8],
+    numbers: &[u32],
+    words: &[u64],
+    owners: &[u8],
+    pool: &mut [u32],
+    waiting: &mut [u64],
+    planned: &mut [u8],
+    number: u32,
+    home: u32,
+    page: usize,
+) -> Reach
+    requires { ⌜ Enters geometry (now table) (held separators numbers words owners) number home page ⌝ }
+    requires { ⌜ Signing (geometry .parameters) (now signs) ⌝ }
+    requires { ⌜ (length (now pool) ≡ geometry .parameters .pages * geometry .parameters .places) × (length (now waiting) ≡ geometry .parameters .pages * geometry .parameters .places) ⌝ }
+    requires { ⌜ geometry .parameters .pages ≤ length (now planned) ⌝ }
+    ensures { λ r. ⌜ Plans (geometry .parameters) (geometry .growth) (before separators numbers words owners) number page (now (pool .exit)) (now (planned .exit)) r ⌝ }
+{
+    let parameters = geometry.parameters;
+    let pages = parameters.pages as usize;
+    waiting[0] = waiting::pack(home, number, numbers.len() + 1);
+    let mut at = page;
+    let mut from = 0;
+    let mut end = 1;
+    while at < pages {
+        match take_in(
+            table,
+            geometry,
+            separators,
+            numbers,
+            words,
+            owners,
+            waiting,
+            at,
+            end,
+        ) {
+            Taken::Unsound => return Reach::Unsound(at),
+            Taken::Crowded => return Reach::Overflows,
+            Taken::Joined(reach) => {
+                let most = separators[at] as u32;
+                from = settle_page(
+                    signs,
+                    parameters,
+                    most,
+                    pool,
+                    waiting,
+                    planned,
+                    from,
+                    reach,
+                    at,
+                );
+                if from == reach {
+                    return Reach::Ends(at);
+                }
+                end = reach;
+                at += 1;
+            }
+        }
+    }
+    Reach::Overflows
+}
+
+// The table of signatures is made only where the first page is full.
+pub fn push(
+    table: &[u32; 90],
+    geometry: Geometry,
+    separators: &[u8],
+    numbers: &[u32],
+    words: &[u64],
+    owners: &[u8],
+    pool: &mut [u32],
+    waiting: &mut [u64],
+    planned: &mut [u8],
+    number: u32,
+    home: u32,
+    page: usize,
+) -> Reach
+    requires { ⌜ Enters geometry (now table) (held separators numbers words owners) number home page ⌝ }
+    requires { ⌜ (length (now pool) ≡ geometry .parameters .pages * geometry .parameters .places) × (length (now waiting) ≡ geometry .parameters .pages * geometry .parameters .places) ⌝ }
+    requires { ⌜ geometry .parameters .pages ≤ length (now planned) ⌝ }
+    ensures { λ r. ⌜ Plans (geometry .parameters) (geometry .growth) (before separators numbers words owners) number page (now (pool .exit)) (now (planned .exit)) r ⌝ }
+{
+    let places = geometry.parameters.places as usize;
+    if numbers[page * places + places - 1] == 0 {
+        fill_page(
+            table,
+            geometry,
+            separators,
+            numbers,
+            words,
+            owners,
+            pool,
+            waiting,
+            planned,
+            number,
+            home,
+            page,
+        );
+        return Reach::Ends(page);
+    }
+    let signs = hashing::multipliers(geometry.parameters.multiplier);
+    push_along(
+        table,
+        &signs,
+        geometry,
+        separators,
+        numbers,
+        words,
+        owners,
+        pool,
+        waiting,
+        planned,
+        number,
+        home,
+        page,
+    )
+}
