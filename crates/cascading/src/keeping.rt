@@ -5,9 +5,8 @@ ghost use Prim.Native.Nat.{_+_, _*_, _≤_, _<_};
 ghost use lib.ListN.{length, take};
 ghost use lib.Seq.{slice};
 ghost use Rattle.placement.specs.File.{padded, written};
-ghost use Rattle.placement.specs.Ready.{Signing};
 ghost use Rattle.waiting.specs.Words.{sourceOf};
-ghost use Rattle.waiting.specs.Settle.{Probing};
+ghost use Rattle.waiting.specs.Settle.{Signers, Probing};
 ghost use Rattle.planning.specs.Plans.{slotSource};
 ghost use Rattle.cascading.specs.Cascade.{Lowered};
 use hashing::Parameters;
@@ -39,7 +38,7 @@ pub fn store_sources(pool: &mut [u32], slots: &[u64; 32], at: usize, places: usi
 
 // Settles the page under its stored separator, `most`. The words carried on stand from the answer up to `reach`.
 pub fn settle_page(
-    table: &[u32; 2049],
+    table: &[u32; 63],
     parameters: Parameters,
     most: u32,
     pool: &mut [u32],
@@ -49,7 +48,7 @@ pub fn settle_page(
     reach: usize,
     page: usize,
 ) -> usize
-    requires { ⌜ Signing parameters (now table) ⌝ }
+    requires { ⌜ Signers parameters (now table) ⌝ }
     requires { ⌜ Probing page from reach (now waiting) ⌝ }
     requires { ⌜ (most ≤ 255) × ((page < length (now planned)) × (page * parameters .places + parameters .places ≤ length (now pool))) ⌝ }
     ensures { λ r. ⌜ Lowered parameters page most (slice from reach (now (waiting .entry))) reach (now (pool .entry)) (now (pool .exit)) (now (planned .entry)) (now (planned .exit)) (now (waiting .exit)) r ⌝ }

@@ -52,7 +52,7 @@ the-other a v f = go (eqb a 16807) (eqb a 48271) refl refl v
     go false true e e′ v = absurd (f (eqb-true a 48271 e′))
     go false false e e′ v = absurd (false≢true v)
 
-chain-at : (a p n j : ℕ) → j < n → getD (chain a p n) j 0 ≡ p * a ^ suc j % modulus
+pub chain-at : (a p n j : ℕ) → j < n → getD (chain a p n) j 0 ≡ p * a ^ suc j % modulus
 unfolding chain
 chain-at a p zero j h = absurd (not-suc-le-zero h)
 chain-at a p (suc n) zero h = rw (pow-suc a zero, pow-zero, one-mul)

@@ -7,7 +7,6 @@ ghost use lib.ListN.{length, take};
 ghost use lib.Seq.{slice};
 ghost use Rattle.hashing.specs.Limits.{validParameters};
 ghost use Rattle.placement.specs.File.{padded, written};
-ghost use Rattle.placement.specs.Ready.{Signing};
 ghost use Rattle.waiting.specs.Words.{sourceOf};
 ghost use Rattle.waiting.specs.Lists.{allBelow};
 ghost use Rattle.waiting.specs.Gather.{stretch, starsIn};
@@ -58,7 +57,6 @@ fn close_up(waiting: &mut [u64], from: usize, end: usize) -> usize
 
 // One page of the plan. The words that pass on stand from the answer up to `reach`.
 fn settle_page(
-    table: &[u32; 2049],
     parameters: Parameters,
     pool: &mut [u32],
     waiting: &mut [u64],
@@ -67,14 +65,14 @@ fn settle_page(
     reach: usize,
     page: usize,
 ) -> usize
-    requires { ⌜ Signing parameters (now table) ⌝ }
+    requires { ⌜ validParameters parameters ≡ true ⌝ }
     requires { ⌜ Probing page from reach (now waiting) ⌝ }
     requires { ⌜ (page < length (now planned)) × (page * parameters .places + parameters .places ≤ length (now pool)) ⌝ }
     ensures { λ r. ⌜ PlansPage parameters page from reach waiting pool planned r ⌝ }
 {
     let places = parameters.places as usize;
     let mut slots = [0u64; 32];
-    let settled = settle(table, parameters, waiting, from, reach, page, &mut slots);
+    let settled = settle(parameters, waiting, from, reach, page, &mut slots);
     planned[page] = settled.separator as u8;
     store_sources(pool, &slots, page * places, places, settled.kept);
     settled.from
@@ -102,7 +100,6 @@ pub fn plan(
     requires { ⌜ homesUpTo lo (take carried (now waiting)) ≡ true ⌝ }
     ensures { λ r. ⌜ PlansStretch parameters lo count without carried numbers pool waiting planned r ⌝ }
 {
-    let table = hashing::multipliers(parameters.multiplier);
     let places = parameters.places as usize;
     let mut ends = [0u32; 1024];
     let end = gather(
@@ -120,16 +117,7 @@ pub fn plan(
     let mut v = 0;
     while v < count {
         let reach = ends[v] as usize;
-        from = settle_page(
-            &table,
-            parameters,
-            pool,
-            waiting,
-            planned,
-            from,
-            reach,
-            lo + v,
-        );
+        from = settle_page(parameters, pool, waiting, planned, from, reach, lo + v);
         v += 1;
     }
     close_up(waiting, from, end)

@@ -19,12 +19,12 @@ use Rattle.planning.proofs.layout.plan.Statement.{statement}
 use Rattle.planning.proofs.layout.plan.Tie as tie
 
 abbrev Inv-loop : tie.InvT-loop
-Inv-loop parameters numbers pool₀ waiting₀ planned₀ lo count without carried table places ends end from₀ v₀ pool waiting planned from v =
+Inv-loop parameters numbers pool₀ waiting₀ planned₀ lo count without carried places ends end from₀ v₀ pool waiting planned from v =
     Settling parameters lo count carried (stretchWords (parameters .places) lo count without numbers pool₀)
     waiting₀ pool₀ planned₀ pool waiting planned from v
 
 abbrev μ-loop : tie.MeasureT-loop
-μ-loop parameters numbers pool₀ waiting₀ planned₀ lo count without carried table places ends end from₀ v₀ pool waiting planned from v =
+μ-loop parameters numbers pool₀ waiting₀ planned₀ lo count without carried places ends end from₀ v₀ pool waiting planned from v =
     count - v
 
 -- the stretch's words
@@ -51,7 +51,7 @@ abbrev ends : tie.After-slice-known4 Inv-loop μ-loop → List ℕ
 ends c = c .before .before .gather .last .1 .1 .1 .0
 
 abbrev start : tie.After-slice-known4 Inv-loop μ-loop → tie.Start Inv-loop μ-loop
-start c = c .before .before .before .before .before .before .before .before .before .before .before .before
+start c = c .before .before .before .before .before .before .before .before .before .before .before
 
 ready : (c : tie.After-slice-known4 Inv-loop μ-loop) → Started (start c .args .lo) (start c .args .count) (start c .args .carried) (L (start c)) (W c) (ends c)
 ready c = started _ _ _ _ (now (start c .args .waiting)) _ _ (c .before .before .gather .ensures .1) (enough (start c)) (c .before .before .gather .kept .1 .1 .0)
@@ -83,15 +83,12 @@ near-here c =
     rw (reach-is c)
     (probed-near _ _ _ _ _ _ _ _ _ (ready b) _ _ _ _ _ (c .before .loop .inv) (c .loop-test .taken) (rw (carried-here b) p))
 
-multipliers-requires : tie.Need-multipliers-requires Inv-loop μ-loop
-multipliers-requires c κs = limits _ (c .before .before .before .before .pre .0) .multiplier-valid
-
 cast-places : tie.Need-cast-places Inv-loop μ-loop
 cast-places c = search needs
 
 gather-requires : tie.Need-gather-requires Inv-loop μ-loop
 gather-requires c κs =
-    let p = c .before .before .before .before .before .before .before .before .before .pre in (
+    let p = c .before .before .before .before .before .before .before .before .pre in (
       (limits _ (p .0) .places-most, (p .1 .0 .0, p .1 .0 .1 .0)),
       (p .1 .1 .0, (p .1 .1 .1 .0, (p .1 .1 .1 .1 .0, ((refl, omega (arith, p)), p .1 .1 .1 .1 .1 .0 .0)))),
     )
@@ -109,16 +106,16 @@ cast-reach : tie.Need-cast-reach Inv-loop μ-loop
 cast-reach c = record { fits = omega (arith, reached c, few (c .before)) }
 
 add-settle-page : tie.Need-add-settle-page Inv-loop μ-loop
-add-settle-page c = record { fits = omega (arith, start (c .before .before .before .before .before .before) .pre) }
+add-settle-page c = record { fits = omega (arith, start (c .before .before .before .before .before) .pre) }
 
 settle-page-requires : tie.Need-settle-page-requires Inv-loop μ-loop
 settle-page-requires c κs =
-    let i = c .before .before .before .before in
+    let i = c .before .before .before in
     let s = start (i .before .before) in
     let p = s .pre in
     let a = s .args in
     let inv = i .before .loop .inv in (
-      record { table = i .before .before .before .before .before .before .before .before .before .multipliers .ensures; valid = p .0 },
+      p .0,
       (
         record {
           order = rw (reach-is i) (probed-inside _ _ _ _ _ _ _ _ _ (ready (i .before .before)) _ _ _ _ _ inv (i .loop-test .taken));
@@ -132,17 +129,17 @@ settle-page-requires c κs =
     )
 
 add-v : tie.Need-add-v Inv-loop μ-loop
-add-v c = record { fits = omega (arith, c .before .before .before .before .before .before .before .before .before .before .before .loop-test .taken, start (c .before .before .before .before .before .before .before .before .before .before .before .before .before) .pre) }
+add-v c = record { fits = omega (arith, c .before .before .before .before .before .before .before .before .before .before .loop-test .taken, start (c .before .before .before .before .before .before .before .before .before .before .before .before) .pre) }
 
 loop-less : tie.Need-loop-less Inv-loop μ-loop
-loop-less c = omega (arith, c .before .before .before .before .before .before .before .before .before .before .before .loop-test .taken)
+loop-less c = omega (arith, c .before .before .before .before .before .before .before .before .before .before .loop-test .taken)
 
 loop-again : tie.Need-loop-again Inv-loop μ-loop
 loop-again c =
-    let i = c .before .before .before .before .before .before .before .before .before .before .before in
+    let i = c .before .before .before .before .before .before .before .before .before .before in
     let s = start (i .before .before) in
     let d = c .before .before .before .before .before .before .settle-page in
-    settling-next _ _ _ _ _ _ _ _ _ (ready (i .before .before)) _ _ _ _ _ (i .before .loop .inv) (i .loop-test .taken) _ (reach-is i) _ _ _ _ (d .ensures) (s .pre .1 .1 .0 .1) (s .pre .1 .0 .1 .1) (d .kept .1 .1 .0) (d .kept .1 .1 .1 .0) (d .kept .1 .1 .1 .1 .0)
+    settling-next _ _ _ _ _ _ _ _ _ (ready (i .before .before)) _ _ _ _ _ (i .before .loop .inv) (i .loop-test .taken) _ (reach-is i) _ _ _ _ (d .ensures) (s .pre .1 .1 .0 .1) (s .pre .1 .0 .1 .1) (d .kept .1 .0) (d .kept .1 .1 .0) (d .kept .1 .1 .1 .0)
 
 close-up-requires : tie.Need-close-up-requires Inv-loop μ-loop
 close-up-requires c κs =
@@ -180,7 +177,6 @@ plan-spec =
     (tie.spec
     Inv-loop
     μ-loop
-    multipliers-requires
     cast-places
     gather-requires
     loop-holds
