@@ -11,7 +11,7 @@ ghost use Rattle.waiting.specs.Words.{sourceOf};
 ghost use Rattle.waiting.specs.Lists.{allBelow};
 ghost use Rattle.waiting.specs.Gather.{stretch, starsIn};
 ghost use Rattle.waiting.specs.Settle.{homesUpTo, Probing};
-ghost use Rattle.planning.specs.Plans.{slotSource, PlansPage, PlansStretch};
+ghost use Rattle.planning.specs.Plans.{slotSource, Plannable, PlansPage, PlansStretch};
 use hashing::Parameters;
 use waiting::gather;
 use waiting::settle;
@@ -78,8 +78,48 @@ fn settle_page(
     settled.from
 }
 
+// Settles the stretch page by page; `ends` has a place for each.
+fn plan_pages(
+    parameters: Parameters,
+    numbers: &[u32],
+    pool: &mut [u32],
+    waiting: &mut [u64],
+    planned: &mut [u8],
+    ends: &mut [u32],
+    lo: usize,
+    count: usize,
+    without: u32,
+    carried: usize,
+) -> usize
+    requires { ⌜ Plannable parameters lo count without carried (now numbers) (now pool) (now waiting) (now planned) ⌝ }
+    requires { ⌜ count ≤ length (now ends) ⌝ }
+    ensures { λ r. ⌜ PlansStretch parameters lo count without carried numbers pool waiting planned r ⌝ }
+{
+    let places = parameters.places as usize;
+    let end = gather(
+        numbers,
+        pool,
+        waiting,
+        ends,
+        places,
+        lo,
+        count,
+        without,
+        carried,
+    );
+    let mut from = 0;
+    let mut v = 0;
+    while v < count {
+        let reach = ends[v] as usize;
+        from = settle_page(parameters, pool, waiting, planned, from, reach, lo + v);
+        v += 1;
+    }
+    close_up(waiting, from, end)
+}
+
 // Plans the stretch of `count` pages from page lo, with the words carried in at the front of `waiting` and the stars of the stretch but `without`.
 // The pool holds the homes of the stretch's items, and sources afterwards. The words carried past the stretch are left at the front; the answer is their count.
+// Most stretches are short, and for these no long list is cleared.
 pub fn plan(
     parameters: Parameters,
     numbers: &[u32],
@@ -100,25 +140,32 @@ pub fn plan(
     requires { ⌜ homesUpTo lo (take carried (now waiting)) ≡ true ⌝ }
     ensures { λ r. ⌜ PlansStretch parameters lo count without carried numbers pool waiting planned r ⌝ }
 {
-    let places = parameters.places as usize;
+    if count <= 32 {
+        let mut ends = [0u32; 32];
+        return plan_pages(
+            parameters,
+            numbers,
+            pool,
+            waiting,
+            planned,
+            &mut ends,
+            lo,
+            count,
+            without,
+            carried,
+        );
+    }
     let mut ends = [0u32; 1024];
-    let end = gather(
+    plan_pages(
+        parameters,
         numbers,
         pool,
         waiting,
+        planned,
         &mut ends,
-        places,
         lo,
         count,
         without,
         carried,
-    );
-    let mut from = 0;
-    let mut v = 0;
-    while v < count {
-        let reach = ends[v] as usize;
-        from = settle_page(parameters, pool, waiting, planned, from, reach, lo + v);
-        v += 1;
-    }
-    close_up(waiting, from, end)
+    )
 }
