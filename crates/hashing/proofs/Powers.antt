@@ -3,7 +3,7 @@ use mathlib.Core.Path.{_≡_, _∙_, refl, ap}
 use mathlib.Core.Bool.{Bool, true, false, _&&_, _||_, false≢true}
 use mathlib.Core.List.{List, [], _∷_}
 use Prim.Native.Nat.{ℕ, zero, suc, _+_, _-_, _*_, _%_, _^_, _≤_, _<_}
-use native.Mathlib.Nat.{add-comm, pow-zero, pow-suc, pow-succ', one-mul, mul-assoc, not-suc-le-zero, le-of-suc-le-suc}
+use native.Mathlib.Nat.{pow-zero, pow-suc, pow-succ', one-mul, mul-assoc, not-suc-le-zero, le-of-suc-le-suc}
 use native.Mathlib.Omega.{arith}
 use lib.Dec.{T, eqb, eqb→eq}
 use lib.ListN.{getD}
