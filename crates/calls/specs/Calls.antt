@@ -31,7 +31,6 @@ use Rattle.calls.specs.Answers.{
 }
 use Rattle.calls.specs.Due.{stars, isDue}
 use Rattle.calls.specs.Reach.{
-  firstSuch,
   isEmpty,
   pagesTo,
   removalEnd,

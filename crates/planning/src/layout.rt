@@ -28,7 +28,7 @@ fn source_at(slots: &[u64; 32], kept: usize, i: usize) -> u32
 }
 
 // The sources of a page's places, empty places last.
-fn store_sources(pool: &mut [u32], slots: &[u64; 32], at: usize, places: usize, kept: usize)
+pub fn store_sources(pool: &mut [u32], slots: &[u64; 32], at: usize, places: usize, kept: usize)
     requires { ⌜ (at + places ≤ length (now pool)) × (places ≤ 32) ⌝ }
     requires { ⌜ (kept ≤ places) × (kept ≤ length (now slots)) ⌝ }
     ensures { λ _. ⌜ now (pool .exit) ≡ written at (padded places (map sourceOf (take kept (now (slots .entry))))) (now (pool .entry)) ⌝ }
