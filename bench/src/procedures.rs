@@ -1,5 +1,5 @@
 //! The report's procedures `insert` and `expand` (CS-84-23, section 4), with the pages that they read and write counted. Plain
-//! Rust, to compare with: where they differ from the report's section 2, documents 01 and 02 follow that section.
+//! Rust, to compare with.
 
 use model::hashing::{grown, highest_address, home, rank, shape, signature};
 use model::{Growth, Parameters};
@@ -9,6 +9,15 @@ use model::{Growth, Parameters};
 pub struct Accesses {
     pub read: usize,
     pub written: usize,
+}
+
+/// What a full page does.
+#[derive(Clone, Copy, PartialEq, Eq)]
+pub enum Cut {
+    /// Its highest group goes, also where the newcomer is higher still and goes as well.
+    AsPrinted,
+    /// The highest of them all go, as in the report's section 2 and in documents 01 and 02.
+    SectionTwo,
 }
 
 /// An entry of the record pool: the page that a star tries next, and its signature there.
@@ -22,6 +31,7 @@ struct Waiting {
 /// A file without a last page: those above the highest address are taken into use as stars come to them.
 pub struct Procedures {
     parameters: Parameters,
+    cut: Cut,
     pub growth: Growth,
     separators: Vec<u64>,
     pages: Vec<Vec<u32>>,
@@ -30,10 +40,10 @@ pub struct Procedures {
 }
 
 impl Procedures {
-    pub fn new(parameters: Parameters) -> Procedures {
+    pub fn new(parameters: Parameters, cut: Cut) -> Procedures {
         let (growth, accesses) = (Growth::default(), Accesses::default());
         let (separators, pages, pool) = (Vec::new(), Vec::new(), Vec::new());
-        let mut file = Procedures { parameters, growth, separators, pages, pool, accesses };
+        let mut file = Procedures { parameters, cut, growth, separators, pages, pool, accesses };
         file.take_into_use(highest_address(&parameters, &growth) as usize);
         file
     }
@@ -82,18 +92,14 @@ impl Procedures {
             } else if self.pages[page].len() < self.parameters.places as usize {
                 self.pages[page].push(number);
             } else {
-                // Where the page is full, its highest group goes, also if the newcomer is higher still and goes as well.
-                let stars = std::mem::take(&mut self.pages[page]);
+                let mut stars = std::mem::take(&mut self.pages[page]);
                 let highest = stars.iter().map(|&star| self.signature(star, page)).max().unwrap();
-                let goes = |&star: &u32| self.signature(star, page) == highest;
-                let (going, staying): (Vec<u32>, Vec<u32>) = stars.into_iter().partition(goes);
-                (self.pages[page], self.separators[page]) = (staying, highest);
+                let separator = if self.cut == Cut::SectionTwo { highest.max(signature) } else { highest };
+                stars.push(number);
+                let stays = |&star: &u32| self.signature(star, page) < separator;
+                let (staying, going): (Vec<u32>, Vec<u32>) = stars.into_iter().partition(stays);
+                (self.pages[page], self.separators[page]) = (staying, separator);
                 going.into_iter().for_each(|star| self.wait_for(page + 1, star));
-                if signature < highest {
-                    self.pages[page].push(number);
-                } else {
-                    self.wait_for(page + 1, number);
-                }
             }
         }
     }
@@ -146,6 +152,14 @@ impl Procedures {
             self.fill(page);
             self.accesses.written += 1;
         }
+    }
+
+    /// A page's separator and its stars in rising order.
+    pub fn page(&self, page: usize) -> (u64, Vec<u32>) {
+        let separator = self.separators.get(page).copied().unwrap_or(self.parameters.top());
+        let mut stars = self.pages.get(page).cloned().unwrap_or_default();
+        stars.sort();
+        (separator, stars)
     }
 
     /// Whether so many stars are more than the load over the pages in use.

@@ -2,8 +2,8 @@
 //! length. Beside its figures stand those of the library's cascading entry and growth, counted as the report counts, and
 //! those of the report's own procedures. Prints a plain table and two plots.
 
-use bench::procedures::{Accesses, Procedures};
-use model::hashing::{highest_address, home, rank, shape};
+use bench::procedures::{Accesses, Cut, Procedures};
+use model::hashing::highest_address;
 use model::placement::entered_stretch;
 use model::random::Random;
 use model::session::Session;
@@ -43,11 +43,10 @@ struct Entered {
 }
 
 /// Means over the stars entered.
-#[derive(Clone, Copy)]
 struct Costs {
     read: f64,
+    written: f64,
     changed: f64,
-    insertion: f64,
     expansion: f64,
 }
 
@@ -57,10 +56,14 @@ impl Costs {
         let mean = |value: fn(&Entered) -> usize| list.clone().map(value).sum::<usize>() as f64 / count;
         Costs {
             read: mean(|entered| entered.insertion.read),
+            written: mean(|entered| entered.insertion.written),
             changed: mean(|entered| entered.changed),
-            insertion: mean(|entered| entered.insertion.read + entered.insertion.written),
             expansion: mean(|entered| entered.expansion.read + entered.expansion.written),
         }
+    }
+
+    fn insertion(&self) -> f64 {
+        self.read + self.written
     }
 }
 
@@ -72,47 +75,21 @@ fn stars(numbers: &[u32], page: usize) -> &[u32] {
     &numbers[..numbers.iter().take_while(|&&number| number != 0).count()]
 }
 
-/// Enters a star by a cascade: the pages that it visits, and how many of them hold other stars after it. The report's procedure
-/// reads and writes every page that it visits.
-fn enter(session: &mut Session, number: u32) -> (Accesses, usize) {
+/// Enters a star by a cascade: how many pages it visits, and how many of them hold other stars after it.
+fn enter(session: &mut Session, number: u32) -> (usize, usize) {
     let named = session.look_up(number).page as usize;
     let before = session.lent.numbers.clone();
     assert_eq!(session.cascade(number).refusal, 0, "a star is entered");
     let after = &session.lent.numbers;
     let visited = entered_stretch(PLACES, named, &before, after, |_| true);
     let changed = visited.clone().filter(|&page| stars(&before, page) != stars(after, page)).count();
-    let pages = visited.count();
-    (Accesses { read: pages, written: pages }, changed)
+    (visited.count(), changed)
 }
 
-/// Grows the file: the pages that the report's procedure reads and writes for it.
-fn grow(session: &mut Session) -> Accesses {
-    let before = session.clone();
-    let new_page = session.grow();
-    assert_eq!(new_page.refusal, 0, "a growth that is due has room");
-    let Parameters { step, pages, .. } = session.parameters;
-    let (n, groups) = shape(&session.parameters, before.growth.expansions);
-    let turn = |&group: &u64| rank(step.into(), groups, group) == before.growth.expanded.into();
-    let group = (0..groups).find(turn).unwrap();
-    let mut accesses = Accesses::default();
-    for i in 0..n {
-        // One scan to the first page that has not overflowed, a second to the last that holds a star which is not at home.
-        let first = (group + i * groups) as usize;
-        let top = |&page: &usize| u64::from(before.lent.separators[page]) == session.parameters.top();
-        let last = (first..).find(top).unwrap();
-        let away = |page: usize, star: u32| home(&session.parameters, &session.growth, star.into()) != page as u64;
-        let modified = |&page: &usize| stars(&before.lent.numbers, page).iter().any(|&star| away(page, star));
-        let second = (first..=last).rev().find(modified).map_or(0, |page| page - first + 1);
-        // A single page is still in the buffer.
-        accesses.read += last - first + 1 + if first == last { 0 } else { second };
-        accesses.written += second;
-    }
-    // From the new page to the last on which a star stands that stood lower before.
-    let first = new_page.page as usize;
-    let stood = |star: u32| before.lent.numbers.iter().position(|&other| other == star).unwrap() / PLACES;
-    let risen = |&page: &usize| stars(&session.lent.numbers, page).iter().any(|&star| stood(star) < page);
-    let third = (first..pages as usize).rev().find(risen).map_or(0, |page| page - first + 1);
-    Accesses { read: accesses.read + third, written: accesses.written + third }
+/// Whether the procedures have left the library's file.
+fn same_file(session: &Session, procedures: &Procedures) -> bool {
+    let page = |page: usize| (session.lent.separators[page].into(), stars(&session.lent.numbers, page).to_vec());
+    (0..session.lent.separators.len()).all(|number| page(number) == procedures.page(number))
 }
 
 /// The stars entered over a full expansion, from the first growth on.
@@ -121,24 +98,34 @@ fn over_expansion(mut list: Vec<Entered>) -> Vec<Entered> {
     list.split_off(first)
 }
 
+/// The procedures run beside the library, with section 2's cut: they read and write the pages that its cascades visit, and
+/// leave the same file, so that what they read and write for an expansion is told of its growth.
 fn by_library(step: u32, random: &mut Random) -> Vec<Entered> {
     let mut session = Session::with(interface::run, parameters(step));
+    let mut procedures = Procedures::new(parameters(step), Cut::SectionTwo);
     let mut list = Vec::new();
     while session.growth != FULL {
         let number = random.star_number();
-        if session.look_up(number).found == 1 {
+        if !procedures.insert(number) {
             continue;
         }
         let addressed = highest_address(&session.parameters, &session.growth) + 1;
-        let (insertion, changed) = enter(&mut session, number);
-        let expansion = if session.due().due == 1 { grow(&mut session) } else { Accesses::default() };
-        list.push(Entered { addressed, insertion, changed, expansion });
+        let (visited, changed) = enter(&mut session, number);
+        let insertion = take(&mut procedures.accesses);
+        assert_eq!(insertion, Accesses { read: visited, written: visited }, "the procedures visit the same pages");
+        if session.due().due == 1 {
+            assert_eq!(session.grow().refusal, 0, "a growth that is due has room");
+            procedures.expand();
+            assert!(same_file(&session, &procedures), "the procedures leave the same file");
+        }
+        list.push(Entered { addressed, insertion, changed, expansion: take(&mut procedures.accesses) });
     }
     over_expansion(list)
 }
 
+/// The procedures as they are printed.
 fn by_procedures(step: u32, random: &mut Random) -> Vec<Entered> {
-    let mut file = Procedures::new(parameters(step));
+    let mut file = Procedures::new(parameters(step), Cut::AsPrinted);
     let (mut list, mut stars) = (Vec::new(), 0);
     while file.growth != FULL {
         let addressed = highest_address(&parameters(step), &file.growth) + 1;
@@ -155,7 +142,7 @@ fn by_procedures(step: u32, random: &mut Random) -> Vec<Entered> {
     over_expansion(list)
 }
 
-/// The stars of all loadings of a step; each step has the same random numbers.
+/// The stars of all loadings; each step has the same random numbers.
 fn loadings(step: u32, load: fn(u32, &mut Random) -> Vec<Entered>) -> Vec<Entered> {
     (0..LOADINGS).flat_map(|seed| load(step, &mut Random(seed))).collect()
 }
@@ -189,9 +176,9 @@ fn print_pages_met(random: &mut Random) {
             }
         }
         let met = sampled.then(|| pages_met(&session, Kind::Cascade, number));
-        let (accesses, _) = enter(&mut session, number);
+        let (visited, _) = enter(&mut session, number);
         if let Some(met) = met {
-            assert_eq!(met, accesses.read, "a cascade reads the pages that are counted");
+            assert_eq!(met, visited, "a cascade reads the pages that are counted");
             cascades += 1;
         }
         if session.due().due == 1 {
@@ -201,22 +188,20 @@ fn print_pages_met(random: &mut Random) {
     println!("Each of {look_ups} look-ups met damage on exactly 1 page, each of {cascades} cascades on as many as were counted.");
 }
 
+/// For each step the library's costs and those of the report's procedures.
 fn print_table(rows: &[(Costs, Costs)]) {
     println!("{:>4} | {:^26} | {:^51} | {:^26}", "", "the report", "the library", "the report's procedures");
     let columns = format!("{:>9} {:>9} {:>6}", "insertion", "expansion", "total");
-    println!("{:>4} | {columns} | {:>7} {:>7} {:>7}  {columns} | {columns}", "step", "read", "written", "changed");
+    let pages = format!("{:>7} {:>7} {:>7}", "read", "written", "changed");
+    println!("{:>4} | {columns} | {pages}  {columns} | {columns}", "step");
     let costs =
         |insertion: f64, expansion: f64| format!("{insertion:>9.2} {expansion:>9.2} {:>6.2}", insertion + expansion);
     for (&(step, insertion, expansion), (library, procedures)) in TABLE.iter().zip(rows) {
-        println!(
-            "{step:>4} | {} | {:>7.2} {:>7.2} {:>7.2}  {} | {}",
-            costs(insertion, expansion),
-            library.read,
-            library.insertion - library.read,
-            library.changed,
-            costs(library.insertion, library.expansion),
-            costs(procedures.insertion, procedures.expansion),
-        );
+        let report = costs(insertion, expansion);
+        let pages = format!("{:>7.2} {:>7.2} {:>7.2}", library.read, library.written, library.changed);
+        let library = costs(library.insertion(), library.expansion);
+        let procedures = costs(procedures.insertion(), procedures.expansion);
+        println!("{step:>4} | {report} | {pages}  {library} | {procedures}");
     }
 }
 
@@ -243,7 +228,7 @@ fn main() {
     println!("\n# by entries, + by growths, ten marks for an access.\n");
     for (&(step, insertion, expansion), (library, _)) in TABLE.iter().zip(&rows) {
         println!("step {step:>2}  report   {}", bar(10.0, insertion, expansion));
-        println!("         library  {}", bar(10.0, library.insertion, library.expansion));
+        println!("         library  {}", bar(10.0, library.insertion(), library.expansion));
     }
 
     println!("\nThe library's by the pages addressed, as in the report's Figure 2, five marks for an access.\n");
@@ -252,7 +237,7 @@ fn main() {
         let [left, right] = [0, 1].map(|i| {
             let here = |entered: &&Entered| (first..first + 15).contains(&entered.addressed);
             let costs = Costs::of(plotted[i].iter().filter(here));
-            bar(5.0, costs.insertion, costs.expansion)
+            bar(5.0, costs.insertion(), costs.expansion)
         });
         println!("{:>10}  {left:<40}  {right}", format!("{first} to {}", first + 14));
     }

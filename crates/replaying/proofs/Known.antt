@@ -21,18 +21,18 @@ pub record Known (kinds : List ℕ) (i : ℕ) : Type 0 where
 pub known-none : (kinds : List ℕ) → Known kinds 0
 known-none kinds = record { most = omega arith; rest = refl }
 
-pub known-more : (kinds : List ℕ) (i : ℕ) → Known kinds i → i < length kinds → getD kinds i 0 ≤ 7 → Known kinds (i + 1)
+pub known-more : (kinds : List ℕ) (i : ℕ) → Known kinds i → i < length kinds → getD kinds i 0 ≤ 8 → Known kinds (i + 1)
 unfolding allKinds
 known-more kinds i t l h =
     rw (add-one i)
     (record {
       most = omega arith;
-      rest = t .rest ∙ rw (drop-cons kinds i 0 l, lt-ltb (getD kinds i 0) 8 (omega arith));
+      rest = t .rest ∙ rw (drop-cons kinds i 0 l, lt-ltb (getD kinds i 0) 9 (omega arith));
     })
 
-pub known-not : (kinds : List ℕ) (i : ℕ) → Known kinds i → i < length kinds → 7 < getD kinds i 0 → allKinds kinds ≡ false
+pub known-not : (kinds : List ℕ) (i : ℕ) → Known kinds i → i < length kinds → 8 < getD kinds i 0 → allKinds kinds ≡ false
 unfolding allKinds
-known-not kinds i t l h = t .rest ∙ rw (drop-cons kinds i 0 l, le-ltb (getD kinds i 0) 8 (omega arith))
+known-not kinds i t l h = t .rest ∙ rw (drop-cons kinds i 0 l, le-ltb (getD kinds i 0) 9 (omega arith))
 
 pub known-all : (kinds : List ℕ) (i : ℕ) → Known kinds i → length kinds ≤ i → allKinds kinds ≡ true
 unfolding allKinds

@@ -1,18 +1,20 @@
 -- One step of a replay: each kind's call, at the pool lent to all of them.
 use mathlib.Core.Path.{_≡_, refl, sym, ap, _∙_}
 use mathlib.Core.Bool.{Bool, true, false, cond, _&&_}
-use mathlib.Core.List.{List}
-use Prim.Native.Nat.{ℕ, zero, suc, _+_}
-use lib.Dec.{ltb}
+use mathlib.Core.List.{List, [], _∷_}
+use Prim.Native.Nat.{ℕ, zero, suc, _+_, _-_}
+use lib.Dec.{eqb, ltb}
+use lib.ListN.{length}
 use lib.Seq.{paste}
-use borrow.Author.Tests.{ne-eqb}
+use borrow.Author.Tests.{ne-eqb, eqb-true}
 use Rattle.hashing.specs.declared.Parameters.{Parameters}
 use Rattle.hashing.specs.declared.Growth.{Growth}
 use Rattle.pages.specs.declared.position.Position.{Position}
 use Rattle.pages.specs.Position.{validNumber, validPosition, packed}
 use Rattle.placement.specs.Rule.{Star}
 use Rattle.placement.specs.File.{File}
-use Rattle.reach.specs.Reach.{pagesTo, entryEnd, removalEnd, entersWithin, firstUnsound}
+use Rattle.reach.specs.Reach.{pagesTo, entryEnd, removalEnd, entersWithin, firstUnsound, isEmpty}
+use Rattle.reach.specs.Cascade.{cascaded, carriedPast}
 use Rattle.calls.specs.declared.answers.Answer.{Answer}
 use Rattle.calls.specs.Answers.{Pool, After, Leaves, unpooled}
 use Rattle.calls.specs.Calls.{
@@ -35,6 +37,9 @@ use Rattle.calls.specs.Calls.{
   enterTo,
   enterOn,
   enterOf,
+  cascadeFrom,
+  cascadeOn,
+  cascadeOf,
   changeOn,
   changeOf,
   removeTo,
@@ -48,7 +53,7 @@ use Rattle.calls.specs.Calls.{
 use Rattle.replaying.specs.declared.calling.Stepped.{Stepped}
 use Rattle.histories.specs.Call.{step}
 use Rattle.replaying.specs.Replay.{requestOf, encoded}
-use Rattle.replaying.specs.Steps.{Steps, Recorded}
+use Rattle.replaying.specs.Steps.{pooledRequest, wholeRequest, entryRequest, Steps, Recorded}
 
 -- A call that only answers leaves every pool as it was.
 only-answers : (g : Growth) (f : File) (pool : Pool) (n : ℕ) (a : Answer)
@@ -113,6 +118,22 @@ module _ (p : Parameters) (g : Growth) (f : File) (pool : Pool) where
       (cond-growth (entersWithin (hash p g) f s to) _ _ g refl refl)))
       refl)
 
+  cascade-growth : (caller k : ℕ) (q : Position) → cascadeOf p g f pool caller k q .growth ≡ g
+  unfolding cascadeOf cascadeOn cascadeFrom
+  cascade-growth caller k q =
+      let H = hash p g in
+      let page = named p g f k in
+      let n = p .pages - page in
+      let s : Star = record { number = k; word = packed q; owner = caller } in
+      let visited = length (cascaded H f page n (s ∷ [])) in
+      guarded-growth g f pool
+      (orElse (unlent p g (fileFits p f && poolFits p pool)) (orElse (unless (validNumber k) 3) (unless (validPosition q) 4))) _
+      (cond-growth (readable p g f page) _ _ g
+      (cond-growth (holds p f page k) _ _ g refl
+      (cond-growth (ltb (firstUnsound p g f page visited) (page + visited)) _ _ g refl
+      (cond-growth (isEmpty (carriedPast H f page n (s ∷ []))) _ _ g refl refl)))
+      refl)
+
   remove-growth : (caller k : ℕ) → removeOf p g f pool caller k .growth ≡ g
   unfolding removeOf removeOn removeTo allowed
   remove-growth caller k =
@@ -149,42 +170,67 @@ module _ (p : Parameters) (g : Growth) (f : File) (pool : Pool) where
       unfolding step requestOf
       change-steps file e l = rw (e, change-over caller k q) (record { answers = h ∙ l .answers; growths = refl; files = l .files; pools = refl })
 
-      pub enter-steps : (file : File) (left : Pool) → kind ≡ 1 → Leaves (enterOf p g f pool caller k q) said-so file left
-          → Steps (step p g f pool (requestOf kind caller k q)) (record { answer = a; growth = g }) file left
-      unfolding step requestOf
-      enter-steps file left e l = rw e (record { answers = h ∙ l .answers; growths = sym (enter-growth caller k q); files = l .files; pools = l .pools })
+      pub enter-steps : (file : File) (left : Pool) → (kind ≡ 8 → ⊥) → Leaves (enterOf p g f pool caller k q) said-so file left
+          → Steps (step p g f pool (entryRequest kind caller k q)) (record { answer = a; growth = g }) file left
+      unfolding step entryRequest
+      enter-steps file left e l =
+          rw (ne-eqb _ _ e) (record { answers = h ∙ l .answers; growths = sym (enter-growth caller k q); files = l .files; pools = l .pools })
+
+      pub cascade-steps : (file : File) (left : Pool) → kind ≡ 8 → Leaves (cascadeOf p g f pool caller k q) said-so file left
+          → Steps (step p g f pool (entryRequest kind caller k q)) (record { answer = a; growth = g }) file left
+      unfolding step entryRequest
+      cascade-steps file left e l = rw e (record { answers = h ∙ l .answers; growths = sym (cascade-growth caller k q); files = l .files; pools = l .pools })
 
       pub remove-steps : (file : File) (left : Pool) → kind ≡ 3 → Leaves (removeOf p g f pool caller k) said-so file left
-          → Steps (step p g f pool (requestOf kind caller k q)) (record { answer = a; growth = g }) file left
-      unfolding step requestOf
+          → Steps (step p g f pool (pooledRequest kind caller k q)) (record { answer = a; growth = g }) file left
+      unfolding step pooledRequest
       remove-steps file left e l = rw e (record { answers = h ∙ l .answers; growths = sym (remove-growth caller k); files = l .files; pools = l .pools })
 
-      -- a call that may move the growth state
-      moving-steps : (after : After) → step p g f pool (requestOf kind caller k q) ≡ after → (file : File) (left : Pool) (next : Growth) → next ≡ after .growth
-          → Leaves after said-so file left
-          → Steps (step p g f pool (requestOf kind caller k q)) (record { answer = a; growth = next }) file left
-      moving-steps after e file left next n l = rw e (record { answers = h ∙ l .answers; growths = n; files = l .files; pools = l .pools })
+  -- The kinds left over, by the requests of those that are lent the pool.
+  module _ (kind caller k : ℕ) (q : Position) (r : Stepped) (file : File) (left : Pool) where
+    pub pooled-steps : (kind ≡ 0 → ⊥) → (kind ≡ 2 → ⊥) → (kind ≡ 5 → ⊥)
+        → Steps (step p g f pool (pooledRequest kind caller k q)) r file left → Steps (step p g f pool (requestOf kind caller k q)) r file left
+    unfolding requestOf pooledRequest wholeRequest
+    pooled-steps e0 e2 e5 s = rw (ne-eqb _ _ e0, ne-eqb _ _ e2, ne-eqb _ _ e5) s
 
-      pub grow-steps : (file : File) (left : Pool) → kind ≡ 4 → (next : Growth) → next ≡ growOf p g f pool .growth
-          → Leaves (growOf p g f pool) said-so file left
-          → Steps (step p g f pool (requestOf kind caller k q)) (record { answer = a; growth = next }) file left
-      unfolding step requestOf
-      grow-steps file left e = moving-steps (growOf p g f pool) (rw e) file left
+    -- either entry
+    module _ (s : Steps (step p g f pool (entryRequest kind caller k q)) r file left) where
+      pub entered-steps : kind ≡ 1 → Steps (step p g f pool (pooledRequest kind caller k q)) r file left
+      unfolding entryRequest pooledRequest
+      entered-steps e = rw e (rw e at s)
 
-      pub shrink-steps : (file : File) (left : Pool) → kind ≡ 7 → (next : Growth) → next ≡ shrinkOf p g f pool .growth
-          → Leaves (shrinkOf p g f pool) said-so file left
-          → Steps (step p g f pool (requestOf kind caller k q)) (record { answer = a; growth = next }) file left
-      unfolding step requestOf
-      shrink-steps file left e = moving-steps (shrinkOf p g f pool) (rw e) file left
+      pub cascaded-steps : eqb kind 8 ≡ true → Steps (step p g f pool (pooledRequest kind caller k q)) r file left
+      unfolding entryRequest pooledRequest
+      cascaded-steps e = let eight : kind ≡ 8 = eqb-true kind 8 e in rw eight (rw eight at s)
 
-      pub check-steps : (left : Pool) → (kind ≡ 0 → ⊥) → (kind ≡ 1 → ⊥) → (kind ≡ 2 → ⊥)
-          → (kind ≡ 3 → ⊥) → (kind ≡ 4 → ⊥) → (kind ≡ 5 → ⊥) → (kind ≡ 7 → ⊥)
-          → Leaves (checkOf p g f pool) said-so f left
-          → Steps (step p g f pool (requestOf kind caller k q)) (record { answer = a; growth = g }) f left
-      unfolding step requestOf
-      check-steps left e0 e1 e2 e3 e4 e5 e7 l =
-          rw (ne-eqb _ _ e0, ne-eqb _ _ e1, ne-eqb _ _ e2, ne-eqb _ _ e3, ne-eqb _ _ e4, ne-eqb _ _ e5, ne-eqb _ _ e7)
-          (record { answers = h ∙ l .answers; growths = sym check-growth; files = l .files; pools = l .pools })
+    pub whole-steps : (kind ≡ 1 → ⊥) → eqb kind 8 ≡ false → (kind ≡ 3 → ⊥)
+        → Steps (step p g f pool (wholeRequest kind)) r file left → Steps (step p g f pool (pooledRequest kind caller k q)) r file left
+    unfolding pooledRequest
+    whole-steps e1 e8 e3 s = rw (ne-eqb _ _ e1, e8, ne-eqb _ _ e3) s
+
+  -- a call that may move the growth state
+  module _ (kind : ℕ) (a said-so : Answer) (h : a ≡ said-so) (file : File) (left : Pool) where
+    moving-steps : (after : After) → step p g f pool (wholeRequest kind) ≡ after → (next : Growth) → next ≡ after .growth
+        → Leaves after said-so file left
+        → Steps (step p g f pool (wholeRequest kind)) (record { answer = a; growth = next }) file left
+    moving-steps after e next n l = rw e (record { answers = h ∙ l .answers; growths = n; files = l .files; pools = l .pools })
+
+    pub grow-steps : kind ≡ 4 → (next : Growth) → next ≡ growOf p g f pool .growth
+        → Leaves (growOf p g f pool) said-so file left
+        → Steps (step p g f pool (wholeRequest kind)) (record { answer = a; growth = next }) file left
+    unfolding step wholeRequest
+    grow-steps e = moving-steps (growOf p g f pool) (rw e)
+
+    pub shrink-steps : kind ≡ 7 → (next : Growth) → next ≡ shrinkOf p g f pool .growth
+        → Leaves (shrinkOf p g f pool) said-so file left
+        → Steps (step p g f pool (wholeRequest kind)) (record { answer = a; growth = next }) file left
+    unfolding step wholeRequest
+    shrink-steps e = moving-steps (shrinkOf p g f pool) (rw e)
+
+    pub check-steps : (kind ≡ 4 → ⊥) → (kind ≡ 7 → ⊥) → Leaves (checkOf p g f pool) said-so file left
+        → Steps (step p g f pool (wholeRequest kind)) (record { answer = a; growth = g }) file left
+    unfolding step wholeRequest
+    check-steps e4 e7 = moving-steps (checkOf p g f pool) (rw (ne-eqb _ _ e4, ne-eqb _ _ e7)) g (sym check-growth)
 
 -- the answers of a step, recorded
 pub recorded : (after : After) (r : Stepped) (file : File) (pool : Pool) (before answers : List ℕ) (at : ℕ)

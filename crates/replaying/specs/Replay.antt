@@ -16,7 +16,7 @@ use Rattle.calls.specs.Answers.{Pool, numberOf, unpooled}
 use Rattle.calls.specs.Calls.{unless, orElse, makeOf}
 use Rattle.replaying.specs.declared.replaying.Replayed.{Replayed}
 use Rattle.replaying.specs.declared.replaying.Replayed.the-variants.{Done, BadKind, Refused}
-use Rattle.histories.specs.Model.{modelFile, Request, lookUp, enter, change, remove, grow, shrink, due, check}
+use Rattle.histories.specs.Model.{modelFile, Request, lookUp, enter, cascade, change, remove, grow, shrink, due, check}
 use Rattle.histories.specs.Call.{Call, callOf}
 use Rattle.histories.specs.Run.{HistoryState, Event, initial, outcome, next, events, end}
 use Rattle.histories.specs.Theorem.{AsModel}
@@ -32,21 +32,23 @@ pub record LentHistory : Type 0 where
 abbrev pub lentHistory : List ℕ → List ℕ → List ℕ → List ℕ → List ℤ → LentHistory
 lentHistory kinds callers stars ras decs = record { kinds = kinds; callers = callers; stars = stars; ras = ras; decs = decs }
 
--- every kind is one of the eight
+-- every kind is one of the nine
 unfoldable pub allKinds : List ℕ → Bool
 allKinds [] = true
-allKinds (kind ∷ kinds) = ltb kind 8 && allKinds kinds
+allKinds (kind ∷ kinds) = ltb kind 9 && allKinds kinds
 
--- kinds: 0 look-up, 1 enter, 2 change, 3 remove, 4 grow, 5 due, 6 check, 7 shrink
+-- kinds: 0 look-up, 1 enter, 2 change, 3 remove, 4 grow, 5 due, 6 check, 7 shrink, 8 enter by a cascade
 unfoldable pub requestOf : ℕ → ℕ → ℕ → Position → Request
 requestOf kind caller k q =
     cond (eqb kind 0)
     (lookUp k)
     (cond (eqb kind 1)
     (enter caller k q)
+    (cond (eqb kind 8)
+    (cascade caller k q)
     (cond (eqb kind 2)
     (change caller k q)
-    (cond (eqb kind 3) (remove caller k) (cond (eqb kind 4) grow (cond (eqb kind 5) due (cond (eqb kind 7) shrink check))))))
+    (cond (eqb kind 3) (remove caller k) (cond (eqb kind 4) grow (cond (eqb kind 5) due (cond (eqb kind 7) shrink check)))))))
 
 abbrev pub requestAt : LentHistory → ℕ → Request
 requestAt h i =

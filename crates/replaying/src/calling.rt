@@ -6,7 +6,7 @@ ghost use Rattle.placement.specs.Lent.{before, after};
 ghost use Rattle.histories.specs.Call.{step};
 ghost use Rattle.calls.specs.Lent.{poolBefore, poolAfter};
 ghost use Rattle.replaying.specs.Replay.{requestOf};
-ghost use Rattle.replaying.specs.Steps.{Steps, Recorded};
+ghost use Rattle.replaying.specs.Steps.{pooledRequest, wholeRequest, entryRequest, Steps, Recorded};
 use calls::answers::Answer;
 use calls::answers::checked_answer;
 use calls::answers::due_answer;
@@ -22,7 +22,7 @@ pub struct Stepped {
     pub growth: Growth,
 }
 
-// Runs the call of a kind: 0 look-up, 1 enter, 2 change, 3 remove, 4 grow, 5 due, 6 check, 7 shrink.
+// Runs the call of a kind: 0 look-up, 1 enter, 2 change, 3 remove, 4 grow, 5 due, 6 check, 7 shrink, 8 enter by a cascade.
 fn run_call(
     parameters: Parameters,
     growth: Growth,
@@ -45,23 +45,6 @@ fn run_call(
         let found = starfile::look_up(parameters, growth, separators, numbers, words, owners, star);
         return unmoved(sought_answer(found), growth);
     }
-    if kind == 1 {
-        let entered = starfile::enter(
-            parameters,
-            growth,
-            separators,
-            numbers,
-            words,
-            owners,
-            poolnumbers,
-            poolwords,
-            poolowners,
-            caller,
-            star,
-            position,
-        );
-        return unmoved(placed_answer(entered), growth);
-    }
     if kind == 2 {
         let changed = starfile::change(
             parameters,
@@ -75,6 +58,63 @@ fn run_call(
             position,
         );
         return unmoved(placed_answer(changed), growth);
+    }
+    if kind == 5 {
+        let due = starfile::due(parameters, growth, separators, numbers, words, owners);
+        return unmoved(due_answer(due), growth);
+    }
+    run_pooled(
+        parameters,
+        growth,
+        separators,
+        numbers,
+        words,
+        owners,
+        poolnumbers,
+        poolwords,
+        poolowners,
+        kind,
+        caller,
+        star,
+        position,
+    )
+}
+
+// The kinds whose call is lent the pool.
+fn run_pooled(
+    parameters: Parameters,
+    growth: Growth,
+    separators: &mut [u8],
+    numbers: &mut [u32],
+    words: &mut [u64],
+    owners: &mut [u8],
+    poolnumbers: &mut [u32],
+    poolwords: &mut [u64],
+    poolowners: &mut [u8],
+    kind: u8,
+    caller: u8,
+    star: u32,
+    position: Position,
+) -> Stepped
+    ensures { λ r. ⌜ Steps (step parameters growth (before separators numbers words owners) (poolBefore poolnumbers poolwords poolowners) (pooledRequest kind caller star position))
+        r (after separators numbers words owners) (poolAfter poolnumbers poolwords poolowners) ⌝ }
+{
+    if kind == 1 || kind == 8 {
+        return run_entry(
+            parameters,
+            growth,
+            separators,
+            numbers,
+            words,
+            owners,
+            poolnumbers,
+            poolwords,
+            poolowners,
+            kind,
+            caller,
+            star,
+            position,
+        );
     }
     if kind == 3 {
         let removed = starfile::remove(
@@ -92,6 +132,89 @@ fn run_call(
         );
         return unmoved(placed_answer(removed), growth);
     }
+    run_whole(
+        parameters,
+        growth,
+        separators,
+        numbers,
+        words,
+        owners,
+        poolnumbers,
+        poolwords,
+        poolowners,
+        kind,
+    )
+}
+
+// Either entry, of which kind 8 is the cascading one.
+fn run_entry(
+    parameters: Parameters,
+    growth: Growth,
+    separators: &mut [u8],
+    numbers: &mut [u32],
+    words: &mut [u64],
+    owners: &mut [u8],
+    poolnumbers: &mut [u32],
+    poolwords: &mut [u64],
+    poolowners: &mut [u8],
+    kind: u8,
+    caller: u8,
+    star: u32,
+    position: Position,
+) -> Stepped
+    ensures { λ r. ⌜ Steps (step parameters growth (before separators numbers words owners) (poolBefore poolnumbers poolwords poolowners) (entryRequest kind caller star position))
+        r (after separators numbers words owners) (poolAfter poolnumbers poolwords poolowners) ⌝ }
+{
+    if kind == 8 {
+        let cascaded = starfile::cascade(
+            parameters,
+            growth,
+            separators,
+            numbers,
+            words,
+            owners,
+            poolnumbers,
+            poolwords,
+            poolowners,
+            caller,
+            star,
+            position,
+        );
+        return unmoved(placed_answer(cascaded), growth);
+    }
+    let entered = starfile::enter(
+        parameters,
+        growth,
+        separators,
+        numbers,
+        words,
+        owners,
+        poolnumbers,
+        poolwords,
+        poolowners,
+        caller,
+        star,
+        position,
+    );
+    unmoved(placed_answer(entered), growth)
+}
+
+// The kinds of those that are about no one star.
+fn run_whole(
+    parameters: Parameters,
+    growth: Growth,
+    separators: &mut [u8],
+    numbers: &mut [u32],
+    words: &mut [u64],
+    owners: &mut [u8],
+    poolnumbers: &mut [u32],
+    poolwords: &mut [u64],
+    poolowners: &mut [u8],
+    kind: u8,
+) -> Stepped
+    ensures { λ r. ⌜ Steps (step parameters growth (before separators numbers words owners) (poolBefore poolnumbers poolwords poolowners) (wholeRequest kind))
+        r (after separators numbers words owners) (poolAfter poolnumbers poolwords poolowners) ⌝ }
+{
     if kind == 4 {
         let grown = starfile::grow(
             parameters,
@@ -106,10 +229,6 @@ fn run_call(
         );
         let answer = grown.answer;
         return unmoved(placed_answer(answer), grown.growth);
-    }
-    if kind == 5 {
-        let due = starfile::due(parameters, growth, separators, numbers, words, owners);
-        return unmoved(due_answer(due), growth);
     }
     if kind == 7 {
         let shrunk = starfile::shrink(

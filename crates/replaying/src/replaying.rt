@@ -17,14 +17,14 @@ use pages::position::Position;
 pub enum Replayed {
     // with the growth state after the last call
     Done(Growth),
-    // a kind is none of the eight
+    // a kind is none of the nine
     BadKind,
     // for a length of what is lent, or as make refused
     Refused(Refusal),
 }
 
-// Kinds: 0 look-up, 1 enter, 2 change, 3 remove, 4 grow, 5 due, 6 check, 7 shrink; a caller, a number and a position for each call, which
-// the kinds that take none ignore. Answers: refusal, page, place, found, right ascension, declination + 2^31, due, stars.
+// Kinds: 0 look-up, 1 enter, 2 change, 3 remove, 4 grow, 5 due, 6 check, 7 shrink, 8 enter by a cascade; a caller, a number and a position
+// for each call, which the kinds that take none ignore. Answers: refusal, page, place, found, right ascension, declination + 2^31, due, stars.
 pub fn replay(
     parameters: Parameters,
     separators: &mut [u8],
@@ -149,7 +149,7 @@ fn kinds_known(kinds: &[u8]) -> bool
 {
     let mut i = 0;
     while i < kinds.len() {
-        if 7 < kinds[i] {
+        if 8 < kinds[i] {
             return false;
         }
         i += 1;
