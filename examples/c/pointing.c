@@ -151,7 +151,7 @@ int main(void)
     enter(&file, SECOND_OBSERVER, 118219, 860000000, -120000);
     remove_star(&file, INSTITUTE, 118219);
 
-    /* the cascading entry: a star, the same again, and one whose page is full */
+    /* the cascading entry: a star, the same again, another position for it, and two more */
     cascade(&file, INSTITUTE, 3, 30, 6);
     cascade(&file, INSTITUTE, 3, 30, 6);
     cascade(&file, INSTITUTE, 3, 30, 7);
