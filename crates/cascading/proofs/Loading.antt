@@ -20,11 +20,11 @@ use Rattle.placement.specs.File.{File, Sized}
 use Rattle.placement.specs.Hash.{soundAt, homesOf, homeIn}
 use Rattle.waiting.specs.Lists.{allBelow}
 use Rattle.waiting.specs.Gather.{stretch, wordsFrom, starsIn}
-use Rattle.waiting.proofs.Lists.{all-mono}
+use Rattle.waiting.proofs.Lists.{all-mono, all-items}
 use Rattle.waiting.proofs.Items.{words-count, words-length}
 use Rattle.planning.proofs.Slots.{drop-take}
 use Rattle.entering.specs.Entry.{blockNumbers, blockWords}
-use Rattle.entering.proofs.Items.{all-items, numbers-count, stretch-homes, homes-below}
+use Rattle.entering.proofs.Items.{numbers-count, stretch-homes, homes-below}
 use Rattle.cascading.specs.Arriving.{pageWords}
 use Rattle.cascading.proofs.PageWords.{page-numbers}
 

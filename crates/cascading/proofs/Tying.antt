@@ -13,12 +13,13 @@ use Rattle.placement.proofs.Order.{pour-pour}
 use Rattle.waiting.specs.Lists.{filter, all}
 use Rattle.waiting.specs.Words.{lowOf}
 use Rattle.waiting.specs.Settle.{under, staying, passing, separatorFrom, homesUpTo, pourLow, slotsOf, insertLow}
-use Rattle.waiting.proofs.Lists.{and-true, all-head, all-tail, all-append}
+use Rattle.waiting.proofs.Lists.{all-head, all-tail, all-append}
 use Rattle.waiting.proofs.Order.{pour-append}
 use Rattle.planning.specs.Plans.{starOf, waits, homed}
 use Rattle.planning.proofs.Pouring.{pour-cons, length-waits}
 use Rattle.planning.proofs.RuleOverWords.{Probes, beyond, staying-tie, passing-tie}
 use Rattle.planning.proofs.Sourcing.{leads, led, ordered, waits-cons, waits-poured}
+use Rattle.placement.proofs.Filters.{and-true}
 
 module _ (H : Hash) (q : Parameters) (real : Probes H q) (g : Star → Star) (keeps : Keeps g) (p : ℕ) (l : List ℕ) (hl : homed H l ≡ true) (nl : homesUpTo p l ≡ true) where
   none-homed : homed H [] ≡ true
