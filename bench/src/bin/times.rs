@@ -110,7 +110,7 @@ fn cascade_row(report: &mut Report, table: &Table, name: &str, file: &File, numb
     // With two decimals where there are any.
     let mean = |pages: usize| (100.0 * pages as f64 / numbers.len() as f64).round() / 100.0;
     report.note(format!(
-        "{}{name}: cascade / enter {:.2}; a cascade visits {} pages, of which {} change; the entry's reach has {}",
+        "{}{name}: cascade / enter {:.3}; a cascade visits {} pages, of which {} change; the entry's reach has {}",
         file.size(),
         cascades.by(&entries),
         mean(visited),

@@ -1,10 +1,10 @@
 -- document 02 (xiv), for files.
 use mathlib.Core.Path.{_≡_, sym, ap, _∙_, subst}
 use mathlib.Core.Bool.{true, false}
-use mathlib.Core.List.{List, [], _++_, append-nil}
-use Prim.Native.Nat.{ℕ, suc, _+_, _-_, _<_}
+use mathlib.Core.List.{List, []}
+use Prim.Native.Nat.{ℕ, suc, _-_, _<_}
 use native.Mathlib.Omega.{arith}
-use lib.ListN.{length, getD, drop-of-length-le}
+use lib.ListN.{length, getD}
 use borrow.Author.Tests.{eq-eqb}
 use Rattle.hashing.specs.declared.Parameters.{Parameters}
 use Rattle.hashing.specs.declared.Growth.{Growth}
@@ -12,12 +12,12 @@ use Rattle.hashing.specs.Generator.{topOf}
 use Rattle.hashing.specs.Geometry.{grown}
 use Rattle.pages.specs.Position.{validWord}
 use Rattle.placement.specs.Rule.{Star, Contents, pages, left, separators, blank}
-use Rattle.placement.specs.File.{File, gathered, written, replaced, fileOf, laid}
+use Rattle.placement.specs.File.{File, gathered, replaced, fileOf, laid}
 use Rattle.placement.specs.Hash.{hashOf}
 use Rattle.placement.proofs.Composition.{length-pages}
 use Rattle.placement.proofs.Standing.{length-separators}
 use Rattle.placement.proofs.Writing.{Roomy, part-column, getD-separators}
-use Rattle.placement.proofs.Files.{numberOf, wordOf, ownerOf, replaced-of, roomy-pages}
+use Rattle.placement.proofs.Files.{numberOf, wordOf, ownerOf, roomy-pages, all-replaced}
 use Rattle.placement.proofs.Probing.{bounded-real}
 use Rattle.placement.proofs.Sound.{clean-list}
 use Rattle.backup.specs.Stretches.{topAt, topTwice, mayChange}
@@ -26,14 +26,6 @@ use Rattle.backup.proofs.Ranges.{ends-passing}
 use Rattle.backup.proofs.Last.{last-top}
 use Rattle.backup.proofs.Moved.{page-stays}
 use Rattle.backup.proofs.Accepted.{Accepted, accepted-growth}
-
--- All pages replaced.
-all-replaced : (b : ℕ) (cs ds : List Contents) → Roomy b cs → Roomy b ds → length ds ≡ length cs → replaced b (fileOf b cs) 0 ds ≡ fileOf b ds
-unfolding written
-all-replaced b cs ds rc rd e = replaced-of b cs ds 0 rc rd (omega arith) ∙ ap (fileOf b) whole
-  where
-    whole : written 0 ds cs ≡ ds
-    whole = ap (λ (l : List Contents). ds ++ l) (drop-of-length-le cs {i = 0 + length ds} (omega arith)) ∙ append-nil ds
 
 -- A page that two layouts have in common.
 same-part : (b : ℕ) (cs ds : List Contents) (page : ℕ) → Roomy b cs → Roomy b ds → page < length cs → page < length ds

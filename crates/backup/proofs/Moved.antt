@@ -23,7 +23,8 @@ use Rattle.placement.proofs.Probing.{bounded-real}
 use Rattle.backup.specs.Stretches.{expands, topAt, topTwice, inStretch, nearGroup, mayChange}
 use Rattle.backup.proofs.Agreeing.{Alike}
 use Rattle.backup.proofs.Settled.{Settled, Outside, Unmoved, settled-zero, settled-top, settled-fewer, same-page}
-use Rattle.backup.proofs.Ranges.{either-false, any-none, Ender, ended-before, Start, start}
+use Rattle.backup.proofs.Ranges.{any-none, Ender, ended-before, Start, start}
+use Rattle.placement.proofs.Filters.{either-false}
 
 module _ (p : Parameters) (g : Growth) (valid : validParameters p ≡ true) (grows : validGrowth p g ≡ true) where
   abbrev old : Hash

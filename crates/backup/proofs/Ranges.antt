@@ -1,6 +1,6 @@
 -- Tests over a range of pages: none passes, the page that ends a stretch, and the last that passes below another.
 use mathlib.Core.Path.{_≡_, refl, sym, _∙_}
-use mathlib.Core.Bool.{Bool, true, false, _||_, true≢false}
+use mathlib.Core.Bool.{Bool, true, false, true≢false}
 use mathlib.Core.Logic.{_⊎_, inl, inr}
 use Prim.Native.Nat.{ℕ, zero, suc, _+_, _-_, _≤_, _<_}
 use native.Mathlib.Nat.{le-refl}
@@ -16,10 +16,7 @@ use Rattle.hashing.proofs.Bounds.{bounds-within, limits, growth-within, spread}
 use Rattle.reach.specs.Reach.{firstSuch}
 use Rattle.reach.proofs.Search.{Such, such}
 use Rattle.backup.specs.Stretches.{endFrom, inStretch, anyBelow}
-
-pub either-false : (s t : Bool) → s || t ≡ false → (s ≡ false) × (t ≡ false)
-either-false true t e = absurd (true≢false e)
-either-false false t e = (refl, e)
+use Rattle.placement.proofs.Filters.{either-false}
 
 -- One that passes is not overlooked.
 pub any-none : (test : ℕ → Bool) (n : ℕ) → anyBelow test n ≡ false → (q : ℕ) → q < n → test q ≡ false

@@ -14,6 +14,7 @@ use Rattle.reach.specs.Reach.{firstSuch}
 use Rattle.reach.proofs.Search.{Such, such}
 use Rattle.calls.specs.Spots.{differ, differAt, spotIn}
 use Rattle.calls.proofs.Spots.{spot-page, spot-place, spot-within, item-within}
+use Rattle.placement.proofs.Filters.{either-false}
 
 -- no number passes the test
 pub none-such : (test : ℕ → Bool) (from n : ℕ) → ((q : ℕ) → q < from + n → test q ≡ false) → firstSuch test from n ≡ from + n
@@ -97,10 +98,6 @@ pub no-spot : (count places : ℕ) (f : File) → spotIn count places f f ≡ co
 no-spot count places f =
     none-such (differAt places f f) 0 (count * suc places) (λ j h. same-spot places f (j / suc places) (j % suc places))
     ∙ zero-add (count * suc places)
-
-either-false : (s t : Bool) → s || t ≡ false → (s ≡ false) × (t ≡ false)
-either-false true t e = absurd (true≢false e)
-either-false false t e = (refl, e)
 
 -- files that differ at no spot are alike
 module _ (count places : ℕ) (f l : File) (none : spotIn count places f l ≡ count * suc places) where

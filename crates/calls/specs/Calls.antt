@@ -1,5 +1,5 @@
 -- The calls, each as what it answers and leaves of the lent buffers: document 01, "The cut" and "Where each refusal is met".
-use mathlib.Core.Bool.{Bool, true, false, not, cond, _&&_, _||_}
+use mathlib.Core.Bool.{Bool, cond, _&&_, _||_}
 use mathlib.Core.List.{List, [], _∷_}
 use Prim.Native.Nat.{ℕ, zero, suc, _+_, _-_, _*_, _/_, _%_}
 use lib.Dec.{eqb, ltb}
@@ -31,7 +31,6 @@ use Rattle.calls.specs.Answers.{
 }
 use Rattle.calls.specs.Due.{stars, isDue}
 use Rattle.calls.specs.Reach.{
-  firstSuch,
   isEmpty,
   pagesTo,
   removalEnd,

@@ -1,9 +1,9 @@
 -- What the cascade answers, by where it stops.
 use mathlib.Core.Path.{_≡_, refl, sym, ap, _∙_}
-use mathlib.Core.Bool.{Bool, true, false, not, cond, false≢true}
-use mathlib.Core.List.{List, [], _∷_, _++_, map, append-nil}
+use mathlib.Core.Bool.{true, false, not}
+use mathlib.Core.List.{List, [], _∷_, _++_, append-nil}
 use Prim.Native.Nat.{ℕ, suc, _+_, _-_, _*_, _≤_, _<_}
-use native.Mathlib.Nat.{add-zero, add-mul, suc-mul, mul-le-mul-right}
+use native.Mathlib.Nat.{suc-mul, mul-le-mul-right}
 use native.Mathlib.Decide.{decLt}
 use native.Mathlib.Omega.{arith}
 use lib.ListN.{length, getD, length-map, length-append}
@@ -19,8 +19,7 @@ use Rattle.placement.proofs.Mapping.{mapped}
 use Rattle.reach.specs.Reach.{isEmpty, pagesTo, firstUnsound}
 use Rattle.reach.specs.Cascade.{cascaded, carriedPast}
 use Rattle.waiting.proofs.Cutting.{separator-fits}
-use Rattle.waiting.specs.Settle.{staying, passing, separatorFrom}
-use Rattle.planning.specs.Plans.{waits}
+use Rattle.waiting.specs.Settle.{separatorFrom}
 use Rattle.planning.specs.Sources.{renamed}
 use Rattle.planning.proofs.Applying.{applied, applied-is}
 use Rattle.entering.specs.declared.blocks.Reach.the-variants.{Ends}
@@ -30,7 +29,7 @@ use Rattle.cascading.specs.Arriving.{pageWords}
 use Rattle.cascading.specs.Cascade.{visited, overflow, stopOf, unsoundOf, Stopped, Spilled, Kept, Plans, loweredTo, loweredOn}
 use Rattle.cascading.proofs.Visiting.{cascaded-none, carried-none, cascaded-add, carried-add, visits-some}
 use Rattle.cascading.proofs.Tying.{parted}
-use Rattle.cascading.proofs.Pushed.{Pushed, pushed-next, carried-length, page-inside}
+use Rattle.cascading.proofs.Pushed.{Pushed, pushed-next, carried-length}
 
 not-empty : (l : List Star) → 0 < length l → isEmpty l ≡ false
 not-empty [] h = absurd (omega arith)

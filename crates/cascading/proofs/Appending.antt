@@ -1,20 +1,20 @@
 -- The stars of a page's items appended as words, item after item.
 use mathlib.Core.Path.{_≡_, refl, sym, ap, _∙_}
-use mathlib.Core.Bool.{Bool, true, false, cond, _||_}
+use mathlib.Core.Bool.{Bool, true, false, cond}
 use mathlib.Core.List.{List, [], _∷_, _++_, map, append-nil}
 use Prim.Native.Nat.{ℕ, zero, suc, _+_, _-_, _^_, _≤_, _<_}
 use native.Mathlib.Nat.{add-zero}
 use native.Mathlib.Numerals.{add-one}
 use native.Mathlib.Omega.{arith}
 use lib.Dec.{ltb, eqb}
-use lib.ListN.{length, getD, take, drop, set, length-append, length-set}
+use lib.ListN.{length, getD, take, set, length-append, length-set}
 use lib.Seq.{slice, slice-cons, slice-empty, take-suc-set, append-snoc, length-take-le}
 use borrow.Author.Tests.{eq-eqb, ne-eqb, ltb-true}
 use Rattle.waiting.specs.Lists.{allBelow}
 use Rattle.waiting.specs.Words.{pack, lowOf}
 use Rattle.waiting.specs.Gather.{skipped, wordsFrom, starsIn}
 use Rattle.waiting.proofs.Lists.{all-head, all-tail}
-use Rattle.waiting.proofs.Items.{slice-all, stars-next, stars-none}
+use Rattle.waiting.proofs.Items.{slice-all, stars-next}
 use Rattle.waiting.proofs.Packing.{low-pack}
 
 unskipped : (n : ℕ) (t : Bool) → eqb n 0 ≡ t → skipped 0 n ≡ t

@@ -2,21 +2,20 @@
 use mathlib.Core.Path.{_≡_, refl, sym, ap, _∙_}
 use mathlib.Core.Bool.{true}
 use mathlib.Core.List.{List, [], _∷_}
-use Prim.Native.Nat.{ℕ, _+_, _-_, _*_, _≤_, _<_}
+use Prim.Native.Nat.{ℕ, _-_, _≤_}
 use native.Mathlib.Omega.{arith}
-use lib.Dec.{eqb}
-use lib.ListN.{length, take, drop}
+use lib.ListN.{length}
 use borrow.Author.Tests.{le-ltb, lt-ltb, eq-eqb}
 use Rattle.hashing.specs.declared.Parameters.{Parameters}
 use Rattle.hashing.specs.declared.Growth.{Growth}
-use Rattle.placement.specs.Rule.{Star, first, separators}
-use Rattle.placement.specs.File.{File, written, replaced}
+use Rattle.placement.specs.Rule.{Star, separators}
+use Rattle.placement.specs.File.{File, replaced}
 use Rattle.placement.specs.Hash.{namedPage}
 use Rattle.placement.proofs.Standing.{length-separators}
-use Rattle.reach.specs.Reach.{isEmpty, hasNumber, holding}
+use Rattle.reach.specs.Reach.{hasNumber, holding}
 use Rattle.entering.specs.declared.stretch.Entered.the-variants.{On, Unsound, Overflows}
 use Rattle.entering.specs.Entry.{hash, newStar}
-use Rattle.cascading.specs.Cascade.{visited, overflow, stopOf, cascadeAnswer, cascadeFile, Stopped, Spilled, Kept}
+use Rattle.cascading.specs.Cascade.{visited, stopOf, cascadeAnswer, cascadeFile, Stopped, Spilled, Kept}
 use Rattle.cascading.proofs.Naming.{held-first, first-written}
 
 module _ (p : Parameters) (g : Growth) (f : File) (s : Star) (page : ℕ) where

@@ -1,11 +1,11 @@
 -- The named page has room: the cascade ends there, with all its stars and the new one under the stored separator.
 use mathlib.Core.Path.{_≡_, refl, sym, ap, _∙_}
-use mathlib.Core.Bool.{Bool, true}
+use mathlib.Core.Bool.{true}
 use mathlib.Core.List.{List, [], _∷_, _++_, map}
-use Prim.Native.Nat.{ℕ, suc, _+_, _-_, _*_, _^_, _≤_, _<_}
+use Prim.Native.Nat.{ℕ, _+_, _-_, _*_, _≤_, _<_}
 use native.Mathlib.Nat.{add-zero, zero-add, one-mul, sub-zero, mul-le-mul-right}
 use native.Mathlib.Omega.{arith}
-use lib.Dec.{ltb, eqb}
+use lib.Dec.{eqb}
 use lib.ListN.{length, take, drop, getD, set, replicate, length-map}
 use lib.Seq.{slice, getD-take, getD-drop, take-suc-set, length-take-le}
 use borrow.Author.Tests.{lt-ltb, eqb-true, eq-eqb}
@@ -43,7 +43,7 @@ use Rattle.cascading.proofs.Appending.{stars-fewer, words-low}
 use Rattle.cascading.proofs.PageWords.{page-numbers, page-homed, page-named, items-few}
 use Rattle.cascading.proofs.Settled.{sources-column, set-written}
 use Rattle.cascading.proofs.Loading.{stars-count, loaded-numbers}
-use Rattle.cascading.proofs.Pushed.{Pushed, pushed-none, pushed-next, page-inside, small, few}
+use Rattle.cascading.proofs.Pushed.{pushed-none, pushed-next, page-inside, small, few}
 use Rattle.cascading.proofs.Answers.{plans-ends}
 
 -- waiting stars are known by the low parts of their words

@@ -1,5 +1,5 @@
 -- A page value as loaded: its places are the page's items, and its stars' words those of the page.
-use mathlib.Core.Path.{_≡_, refl, sym, ap, _∙_}
+use mathlib.Core.Path.{_≡_, sym, ap, _∙_}
 use mathlib.Core.Bool.{true}
 use mathlib.Core.List.{List}
 use Prim.Native.Nat.{ℕ, _+_, _-_, _*_, _^_, _≤_, _<_}
@@ -14,17 +14,17 @@ use Rattle.hashing.specs.declared.Growth.{Growth}
 use Rattle.hashing.specs.Limits.{validParameters}
 use Rattle.hashing.proofs.Bounds.{limits}
 use Rattle.pages.specs.declared.page.Page.{Page}
-use Rattle.pages.specs.Page.{part, filled, pageAt}
+use Rattle.pages.specs.Page.{part, pageAt}
 use Rattle.pages.proofs.Parts.{page-fits, take-filled, filled-length}
 use Rattle.placement.specs.File.{File, Sized}
 use Rattle.placement.specs.Hash.{soundAt, homesOf, homeIn}
-use Rattle.waiting.specs.Lists.{all, allBelow}
+use Rattle.waiting.specs.Lists.{allBelow}
 use Rattle.waiting.specs.Gather.{stretch, wordsFrom, starsIn}
-use Rattle.waiting.proofs.Lists.{all-mono}
+use Rattle.waiting.proofs.Lists.{all-mono, all-items}
 use Rattle.waiting.proofs.Items.{words-count, words-length}
 use Rattle.planning.proofs.Slots.{drop-take}
 use Rattle.entering.specs.Entry.{blockNumbers, blockWords}
-use Rattle.entering.proofs.Items.{all-items, numbers-count, stretch-homes, homes-below}
+use Rattle.entering.proofs.Items.{numbers-count, stretch-homes, homes-below}
 use Rattle.cascading.specs.Arriving.{pageWords}
 use Rattle.cascading.proofs.PageWords.{page-numbers}
 

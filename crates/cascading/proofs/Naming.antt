@@ -7,10 +7,10 @@ use native.Mathlib.Nat.{add-zero, zero-add, add-suc, suc-add}
 use native.Mathlib.Omega.{arith}
 use lib.Dec.{leb, eqb}
 use lib.ListN.{length, take, drop}
-use borrow.Author.Tests.{eqb-true, eq-eqb}
+use borrow.Author.Tests.{eqb-true}
 use Rattle.placement.specs.Rule.{Star, Hash, Contents, keep, filter, below, staying, passing, insert, pour, first, separators}
 use Rattle.placement.specs.File.{File, starsAt, written}
-use Rattle.placement.proofs.Standing.{length-separators, first-append}
+use Rattle.placement.proofs.Standing.{first-append}
 use Rattle.reach.specs.Reach.{hasNumber, holding}
 use Rattle.reach.specs.Cascade.{meeting, lowered, pushedTo, pushedOn, cascaded, carriedPast}
 

@@ -1,12 +1,12 @@
 -- The words of a sound page's stars, and what they make of the words carried to it.
 use mathlib.Core.Path.{_≡_, refl, sym, ap, _∙_}
-use mathlib.Core.Bool.{Bool, true, false, not, cond, _||_, false≢true, true≢false}
+use mathlib.Core.Bool.{Bool, true, false, not, cond, _||_}
 use mathlib.Core.List.{List, [], _∷_, _++_, map}
 use Prim.Native.Nat.{ℕ, suc, _+_, _*_, _^_, _≤_, _<_}
 use native.Mathlib.Nat.{add-mul, one-mul, mul-le-mul, mul-le-mul-right}
 use native.Mathlib.Omega.{arith}
 use lib.Dec.{leb, ltb, eqb}
-use lib.ListN.{length, take, drop, getD, length-map}
+use lib.ListN.{length, drop, getD, length-map}
 use lib.Seq.{getD-take, getD-drop}
 use borrow.Author.Tests.{le-leb, lt-ltb, ltb-true, eq-eqb, ne-eqb, eqb-true, eqb-false, not-true}
 use Rattle.hashing.specs.declared.Parameters.{Parameters}
@@ -14,7 +14,7 @@ use Rattle.hashing.specs.declared.Growth.{Growth}
 use Rattle.hashing.specs.Limits.{validParameters}
 use Rattle.hashing.proofs.Bounds.{limits}
 use Rattle.pages.specs.Position.{validWord}
-use Rattle.placement.specs.Rule.{Star, Hash, pour, without}
+use Rattle.placement.specs.Rule.{Star, pour, without}
 use Rattle.placement.specs.File.{File, Sized, starsAt, gathered}
 use Rattle.placement.specs.Hash.{hashOf, soundAt, namedPage, homesOf, homeIn}
 use Rattle.placement.proofs.Filters.{filter-all-on}
@@ -27,7 +27,7 @@ use Rattle.waiting.specs.Lists.{all, allBelow}
 use Rattle.waiting.specs.Words.{pack, homeOf, numberOf}
 use Rattle.waiting.specs.Gather.{stretch, skipped, wordsFrom, groupOf}
 use Rattle.waiting.specs.Settle.{homesUpTo}
-use Rattle.waiting.proofs.Lists.{all-head, all-tail, all-cons, all-append, all-filter, all-mono, and-true}
+use Rattle.waiting.proofs.Lists.{all-head, all-tail, all-cons, all-append, all-mono}
 use Rattle.waiting.proofs.Packing.{number-pack}
 use Rattle.planning.specs.Plans.{waits, homed}
 use Rattle.planning.specs.Sources.{renamed, sourced}

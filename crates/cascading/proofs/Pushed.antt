@@ -1,10 +1,9 @@
 -- The cascade after d pages: what is planned of them, and the words carried on.
 use mathlib.Core.Path.{_≡_, refl, sym, ap, _∙_}
-use mathlib.Core.Bool.{Bool, true, false, not, _||_}
+use mathlib.Core.Bool.{Bool, true, not, _||_}
 use mathlib.Core.List.{List, [], _∷_, _++_, map, map-append}
 use Prim.Native.Nat.{ℕ, suc, _+_, _-_, _*_, _^_, _≤_, _<_}
-use native.Mathlib.Nat.{add-zero, add-suc, zero-mul, mul-le-mul, mul-le-mul-right}
-use native.Mathlib.Numerals.{add-one}
+use native.Mathlib.Nat.{add-zero, zero-mul, mul-le-mul}
 use native.Mathlib.Decide.{decLt}
 use native.Mathlib.Omega.{arith}
 use lib.Dec.{leb, ltb, eqb}
@@ -17,13 +16,13 @@ use Rattle.hashing.specs.Home.{home}
 use Rattle.hashing.specs.Limits.{validParameters}
 use Rattle.hashing.proofs.Bounds.{limits}
 use Rattle.pages.specs.Position.{validNumber}
-use Rattle.placement.specs.Rule.{Star, Hash, Contents, separators, first, insert}
+use Rattle.placement.specs.Rule.{Star, Contents, separators, insert}
 use Rattle.placement.specs.File.{File, Sized, column, written, every}
 use Rattle.placement.specs.Hash.{hashOf, soundAt, namedPage}
 use Rattle.placement.proofs.Mapping.{mapped}
 use Rattle.placement.proofs.Standing.{first-home}
 use Rattle.placement.proofs.Writing.{column-append, separators-append}
-use Rattle.reach.specs.Cascade.{pushedTo, pushedOn, cascaded, carriedPast}
+use Rattle.reach.specs.Cascade.{cascaded, carriedPast}
 use Rattle.waiting.specs.Lists.{filter, all}
 use Rattle.waiting.specs.Words.{pack, homeOf, numberOf, sourceOf}
 use Rattle.waiting.specs.Gather.{stretch}

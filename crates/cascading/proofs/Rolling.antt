@@ -1,7 +1,7 @@
 -- The loop of the cascade: what stands when it comes to page `at`, and what each of its ways out answers.
-use mathlib.Core.Path.{_≡_, refl, sym, ap, _∙_}
+use mathlib.Core.Path.{_≡_, sym, ap, _∙_}
 use mathlib.Core.Bool.{true, false}
-use mathlib.Core.List.{List, [], _∷_, _++_}
+use mathlib.Core.List.{List, [], _++_}
 use Prim.Native.Nat.{ℕ, suc, _+_, _-_, _*_, _≤_, _<_}
 use native.Mathlib.Nat.{add-zero, suc-mul, mul-le-mul, mul-le-mul-right}
 use native.Mathlib.Numerals.{add-one}
@@ -14,11 +14,10 @@ use Rattle.hashing.specs.declared.Growth.{Growth}
 use Rattle.hashing.specs.Limits.{validParameters}
 use Rattle.hashing.proofs.Bounds.{limits}
 use Rattle.pages.specs.Position.{validNumber}
-use Rattle.placement.specs.Rule.{Star}
 use Rattle.placement.specs.File.{File, Sized}
 use Rattle.placement.specs.Hash.{soundAt, namedPage}
 use Rattle.waiting.specs.Words.{homeOf}
-use Rattle.waiting.specs.Settle.{Probing, homesUpTo, staying, separatorFrom}
+use Rattle.waiting.specs.Settle.{Probing, separatorFrom}
 use Rattle.waiting.proofs.Lists.{all-append}
 use Rattle.waiting.proofs.Cutting.{separator-fits}
 use Rattle.entering.specs.declared.blocks.Reach.the-variants.{Ends}

@@ -1,27 +1,26 @@
 -- What a page of the cascade keeps and carries on, over the words and over their stars, and where its sources and its separator are written.
 use mathlib.Core.Path.{_≡_, refl, sym, ap, _∙_}
-use mathlib.Core.Bool.{true, not}
+use mathlib.Core.Bool.{true}
 use mathlib.Core.List.{List, [], _∷_, _++_, map, append-nil}
-use Prim.Native.Nat.{ℕ, suc, _+_, _-_, _*_, _≤_, _<_}
+use Prim.Native.Nat.{ℕ, _+_, _-_, _*_, _≤_, _<_}
 use native.Mathlib.Nat.{le-refl, mul-one, one-mul}
 use native.Mathlib.Numerals.{add-one}
-use native.Mathlib.Omega.{arith}
 use lib.Dec.{leb}
 use lib.ListN.{length, take, drop, getD, set}
-use lib.Seq.{slice, set-split, take-at, drop-at, length-take-le}
+use lib.Seq.{set-split, take-at, drop-at, length-take-le}
 use Rattle.hashing.specs.declared.Parameters.{Parameters}
 use Rattle.hashing.specs.declared.Growth.{Growth}
 use Rattle.hashing.specs.Limits.{validParameters}
-use Rattle.placement.specs.Rule.{Star, Hash, Contents, separators}
+use Rattle.placement.specs.Rule.{Star, Contents, separators}
 use Rattle.placement.specs.File.{File, Sized, padded, column, written}
 use Rattle.placement.specs.Hash.{soundAt}
 use Rattle.placement.proofs.Mapping.{mapped}
 use Rattle.placement.proofs.Writing.{length-column}
 use Rattle.reach.specs.Cascade.{lowered, pushedTo, pushedOn}
-use Rattle.waiting.specs.Words.{sourceOf, numberOf, homeOf}
+use Rattle.waiting.specs.Words.{sourceOf, homeOf}
 use Rattle.waiting.specs.Gather.{stretch}
 use Rattle.waiting.specs.declared.settling.Settled.{Settled}
-use Rattle.waiting.specs.Settle.{Settlement, under, staying, passing, separatorFrom, slotsOf, homesUpTo}
+use Rattle.waiting.specs.Settle.{Settlement, staying, separatorFrom, slotsOf, homesUpTo}
 use Rattle.waiting.proofs.Lists.{all-append}
 use Rattle.waiting.proofs.Cutting.{separator-fits}
 use Rattle.planning.specs.Plans.{starOf, waits, homed}

@@ -1,8 +1,8 @@
 -- What the rule selects of the waiting stars, with the words and owners that their sources name, it selects of their words.
 use mathlib.Core.Path.{_≡_, refl, sym, ap, _∙_}
-use mathlib.Core.Bool.{Bool, true, false, not, cond, _&&_}
+use mathlib.Core.Bool.{Bool, true, false, not, cond}
 use mathlib.Core.List.{List, [], _∷_, _++_, map, map-append, append-nil}
-use Prim.Native.Nat.{ℕ, zero, suc, _+_, _≤_}
+use Prim.Native.Nat.{ℕ, zero, suc, _+_}
 use native.Mathlib.Omega.{arith}
 use lib.ListN.{length, length-map}
 use Rattle.hashing.specs.declared.Parameters.{Parameters}
@@ -11,14 +11,15 @@ use Rattle.placement.specs.Rule.{staying as rule·staying, passing as rule·pas
 use Rattle.placement.proofs.Mapping.{Keeps, filter-map, staying-map}
 use Rattle.placement.proofs.Order.{pour-pour}
 use Rattle.waiting.specs.Lists.{filter, all}
-use Rattle.waiting.specs.Words.{homeOf, numberOf, lowOf}
+use Rattle.waiting.specs.Words.{lowOf}
 use Rattle.waiting.specs.Settle.{under, staying, passing, separatorFrom, homesUpTo, pourLow, slotsOf, insertLow}
-use Rattle.waiting.proofs.Lists.{and-true, all-head, all-tail, all-append}
+use Rattle.waiting.proofs.Lists.{all-head, all-tail, all-append}
 use Rattle.waiting.proofs.Order.{pour-append}
 use Rattle.planning.specs.Plans.{starOf, waits, homed}
 use Rattle.planning.proofs.Pouring.{pour-cons, length-waits}
 use Rattle.planning.proofs.RuleOverWords.{Probes, beyond, staying-tie, passing-tie}
 use Rattle.planning.proofs.Sourcing.{leads, led, ordered, waits-cons, waits-poured}
+use Rattle.placement.proofs.Filters.{and-true}
 
 module _ (H : Hash) (q : Parameters) (real : Probes H q) (g : Star → Star) (keeps : Keeps g) (p : ℕ) (l : List ℕ) (hl : homed H l ≡ true) (nl : homesUpTo p l ≡ true) where
   none-homed : homed H [] ≡ true

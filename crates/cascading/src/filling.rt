@@ -6,7 +6,6 @@ ghost use Rattle.placement.specs.Lent.{held, before};
 ghost use Rattle.entering.specs.declared.blocks.Reach.the-variants.{Ends};
 ghost use Rattle.cascading.specs.Cascade.{Enters, Plans};
 use crate::arriving::append;
-use crate::keeping::store_sources;
 use hashing::Geometry;
 
 // The page's stars and the new one all stay, under the stored separator: no signature is needed, and so no home.
@@ -40,5 +39,5 @@ pub fn fill_page(
     let reach = append(waiting, &there, &homes, places, at, 1);
     waiting::keep_all(waiting, 0, reach, &mut slots);
     planned[page] = separators[page];
-    store_sources(pool, &slots, at, places, reach);
+    planning::store_sources(pool, &slots, at, places, reach);
 }

@@ -3,7 +3,7 @@ ghost use mathlib.Core.Path.{_≡_};
 ghost use Prim.Native.Nat.{_*_, _≤_};
 ghost use lib.ListN.{length};
 ghost use Rattle.placement.specs.Lent.{held, before};
-ghost use Rattle.placement.specs.Ready.{Signing};
+ghost use Rattle.waiting.specs.Settle.{Signers};
 ghost use Rattle.cascading.specs.Cascade.{Enters, Plans};
 use crate::arriving::Taken;
 use crate::arriving::take_in;
@@ -15,7 +15,7 @@ use hashing::Geometry;
 // The words carried on stand from `from` up to `end`; those of the next page come behind them.
 fn push_along(
     table: &[u32; 90],
-    signs: &[u32; 2049],
+    signs: &[u32; 63],
     geometry: Geometry,
     separators: &[u8],
     numbers: &[u32],
@@ -29,7 +29,7 @@ fn push_along(
     page: usize,
 ) -> Reach
     requires { ⌜ Enters geometry (now table) (held separators numbers words owners) number home page ⌝ }
-    requires { ⌜ Signing (geometry .parameters) (now signs) ⌝ }
+    requires { ⌜ Signers (geometry .parameters) (now signs) ⌝ }
     requires { ⌜ (length (now pool) ≡ geometry .parameters .pages * geometry .parameters .places) × (length (now waiting) ≡ geometry .parameters .pages * geometry .parameters .places) ⌝ }
     requires { ⌜ geometry .parameters .pages ≤ length (now planned) ⌝ }
     ensures { λ r. ⌜ Plans (geometry .parameters) (geometry .growth) (before separators numbers words owners) number page (now (pool .exit)) (now (planned .exit)) r ⌝ }
@@ -116,7 +116,7 @@ pub fn push(
         );
         return Reach::Ends(page);
     }
-    let signs = hashing::multipliers(geometry.parameters.multiplier);
+    let signs = hashing::probe_multipliers(geometry.parameters.multiplier);
     push_along(
         table,
         &signs,

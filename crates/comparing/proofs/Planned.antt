@@ -2,8 +2,8 @@
 use mathlib.Core.Path.{_≡_, refl, sym, ap, _∙_}
 use mathlib.Core.Bool.{Bool, true, false, not, cond}
 use mathlib.Core.List.{List, [], _∷_, map}
-use Prim.Native.Nat.{ℕ, suc, _+_, _-_, _*_, _/_, _%_, _^_, _≤_, _<_}
-use native.Mathlib.Nat.{zero-add, zero-mul, mod-lt, div-add-mod', div-lt-iff-lt-mul, mul-le-mul}
+use Prim.Native.Nat.{ℕ, _+_, _-_, _*_, _/_, _%_, _^_, _≤_, _<_}
+use native.Mathlib.Nat.{zero-add, zero-mul, mod-lt, div-add-mod', div-lt-iff-lt-mul}
 use native.Mathlib.Omega.{arith}
 use lib.Dec.{eqb, ltb}
 use lib.ListN.{length, take, drop, getD, length-map}
@@ -23,11 +23,11 @@ use Rattle.placement.proofs.Filters.{filter-all-on}
 use Rattle.placement.proofs.Sound.{gathered-proper}
 use Rattle.placement.proofs.Tested.{item-on, real-facts}
 use Rattle.waiting.specs.Lists.{all, allBelow}
-use Rattle.waiting.specs.Gather.{skipped, starsIn, stretch, stretchWords}
-use Rattle.waiting.proofs.Lists.{all-cons}
+use Rattle.waiting.specs.Gather.{starsIn, stretch, stretchWords}
+use Rattle.waiting.proofs.Lists.{all-cons, all-items}
 use Rattle.planning.specs.Sources.{named, sourced}
 use Rattle.planning.specs.Plans.{Planned}
-use Rattle.planning.proofs.Copies.{paste-written}
+use Rattle.planning.proofs.Copies.{pasted-whole}
 use Rattle.planning.proofs.Applying.{applied}
 use Rattle.planning.proofs.Sourcing.{itemHome}
 use Rattle.planning.proofs.Placed.{Gatherable, probes-real, homes-real, stretch-sourced, placed, layout, applied-layout}
@@ -35,16 +35,12 @@ use Rattle.reach.specs.Reach.{firstUnsound}
 use Rattle.calls.specs.Spots.{spotIn, firstSpot, ruled}
 use Rattle.calls.proofs.Alike.{Alike, spot-alike}
 use Rattle.calls.proofs.Ruled.{all-sound, written-whole}
+use Rattle.calls.proofs.Refusals.{items-most}
+use Rattle.waiting.proofs.Gathered.{starsIn-most}
 
 -- a list of all pages' items is their stretch
 pub whole : (b n : ℕ) (l : List ℕ) → length l ≡ n * b → stretch b 0 n l ≡ l
 whole b n l e = rw (zero-mul b) (take-all (n * b) l (omega (arith, e)))
-
-pub pasted-whole : (d s : List ℕ) (n : ℕ) → length d ≡ n → length s ≡ n → paste d 0 s n ≡ s
-pasted-whole d s n ed es =
-    paste-written d 0 s n (omega (arith, es))
-    ∙ ap (λ (l : List ℕ). written 0 l d) (take-all n s (omega (arith, es)))
-    ∙ written-whole s d (es ∙ sym ed)
 
 -- a surveyed file's homes
 pub homes-whole : (p : Parameters) (g : Growth) (d ns : List ℕ) (n : ℕ) → length d ≡ n * p .places → length ns ≡ n * p .places
@@ -55,31 +51,13 @@ homes-whole p g d ns n ed en =
     let same : n - 0 ≡ n = omega arith in
     rw (none, same) (pasted-whole d (map (homeIn p g) ns) (n * p .places) ed (length-map ns (homeIn p g) ∙ en))
 
-all-items : (q : ℕ → Bool) (l : List ℕ) → ((i : ℕ) → i < length l → q (getD l i 0) ≡ true) → all q l ≡ true
-unfolding all
-all-items q [] t = refl
-all-items q (x ∷ l) t = all-cons q x l (t 0 (omega arith)) (all-items q l (λ i h. t (suc i) (omega arith)))
-
 all-map : (q : ℕ → Bool) (f : ℕ → ℕ) (l : List ℕ) → ((n : ℕ) → q (f n) ≡ true) → all q (map f l) ≡ true
 unfolding all
 all-map q f [] t = refl
 all-map q f (x ∷ l) t = all-cons q (f x) (map f l) (t x) (all-map q f l t)
 
--- at most as many stars as items
-stars-fit : (k : ℕ) (l : List ℕ) → starsIn k l ≤ length l
-unfolding starsIn
-stars-fit k [] = omega arith
-stars-fit k (n ∷ l) = go (skipped k n) (stars-fit k l)
-  where
-    go : (t : Bool) → starsIn k l ≤ length l → cond t (starsIn k l) (suc (starsIn k l)) ≤ suc (length l)
-    go true h = omega arith
-    go false h = omega arith
-
 pub some-pages : (p : Parameters) (g : Growth) → validParameters p ≡ true → validGrowth p g ≡ true → 0 < p .pages
 some-pages p g valid grows = omega (arith, home-pages (multiplierOf p) p g 0 valid grows)
-
-pub few-items : (p : Parameters) → validParameters p ≡ true → p .pages * p .places ≤ 32768
-few-items p valid = let l = limits p valid in mul-le-mul (l .pages-most) (l .places-most)
 
 module _ (p : Parameters) (g : Growth) (f : File) (valid : validParameters p ≡ true) (grows : validGrowth p g ≡ true)
     (sized : Sized (p .places) (p .pages) f) (sound : firstUnsound p g f 0 (p .pages) ≡ p .pages) (hs : List ℕ) (homes : hs ≡ homesOf p g (f .numbers)) where
@@ -113,7 +91,7 @@ module _ (p : Parameters) (g : Growth) (f : File) (valid : validParameters p ≡
   homes-long = ap length homes ∙ length-map (f .numbers) (homeIn p g) ∙ sized .ofNumbers
 
   pub stars-inside : starsIn 0 (stretch (p .places) 0 (p .pages) (f .numbers)) ≤ p .pages * p .places
-  stars-inside = rw (whole (p .places) (p .pages) (f .numbers) (sized .ofNumbers)) (omega (arith, stars-fit 0 (f .numbers), sized .ofNumbers))
+  stars-inside = rw (whole (p .places) (p .pages) (f .numbers) (sized .ofNumbers)) (omega (arith, starsIn-most 0 (f .numbers), sized .ofNumbers))
 
   -- the file can be planned as one stretch
   pub ready : Gatherable (hashOf p g) (p .places) 0 (p .pages) f hs
@@ -123,7 +101,7 @@ module _ (p : Parameters) (g : Growth) (f : File) (valid : validParameters p ≡
       let homes-all = whole (p .places) (p .pages) hs homes-long in
       record {
         some = some-pages p g valid grows;
-        few = rw none (omega (arith, few-items p valid));
+        few = rw none (omega (arith, items-most p valid));
         numbers = rw none (omega (arith, sized .ofNumbers));
         words = rw none (omega (arith, sized .ofWords));
         owners = rw none (omega (arith, sized .ofOwners));

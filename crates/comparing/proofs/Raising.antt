@@ -23,7 +23,7 @@ use Rattle.placement.proofs.Domination.{Holds}
 use Rattle.placement.proofs.Order.{Sorted, filter-pour, length-pour, sorted-pour}
 use Rattle.placement.proofs.Writing.{getD-separators, length-part}
 use Rattle.placement.proofs.Files.{length-pagesAt}
-use Rattle.placement.proofs.Sound.{Sound, AllSound, gathered-add, stands-gathered, sound-holds, clean-said}
+use Rattle.placement.proofs.Sound.{AllSound, gathered-add, stands-gathered, sound-holds, clean-said}
 use Rattle.comparing.specs.Raising.{passed, counted, countOf, countTo, raisable}
 
 -- ---- the rule's separators are those that hold the stars and could not be one greater

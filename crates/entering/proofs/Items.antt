@@ -28,7 +28,7 @@ use Rattle.placement.proofs.Tested.{ItemOn, item-on, real-facts}
 use Rattle.waiting.specs.Lists.{all, allBelow}
 use Rattle.waiting.specs.Words.{pack, homeOf, numberOf}
 use Rattle.waiting.specs.Gather.{stretch, skipped, wordsFrom, groupOf, groupsBelow}
-use Rattle.waiting.proofs.Lists.{all-cons}
+use Rattle.waiting.proofs.Lists.{all-cons, all-items}
 use Rattle.waiting.proofs.Packing.{home-pack, number-pack}
 use Rattle.reach.proofs.Pastes.{map-take, map-drop}
 use Rattle.planning.specs.Plans.{homed}
@@ -39,11 +39,6 @@ use Rattle.planning.proofs.Placed.{homes-real}
 use Rattle.entering.specs.Entry.{Unheld, hash, blockNumbers, blockWords}
 
 -- a test that every item passes, every word of the items
-pub all-items : (q : ℕ → Bool) (l : List ℕ) → ((i : ℕ) → i < length l → q (getD l i 0) ≡ true) → all q l ≡ true
-unfolding all
-all-items q [] t = refl
-all-items q (x ∷ l) t = all-cons q x l (t 0 (omega arith)) (all-items q l (λ i h. t (suc i) (omega arith)))
-
 all-words : (q : ℕ → Bool) (at k : ℕ) (ns hs : List ℕ)
     → ((i : ℕ) → i < length ns → i < length hs → skipped k (getD ns i 0) ≡ false → q (pack (getD hs i 0) (getD ns i 0) (suc (at + i))) ≡ true)
     → all q (wordsFrom at k ns hs) ≡ true

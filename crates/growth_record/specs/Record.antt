@@ -1,6 +1,5 @@
 -- The growth state that a caller keeps after growth or shrinking.
 use Rattle.hashing.specs.declared.Growth.{Growth}
-use Rattle.calls.specs.declared.answers.Grown.{Grown}
 use Rattle.calls.specs.declared.answers.Placed.{Placed}
 use Rattle.calls.specs.declared.answers.Placed.the-variants.{On, Refused}
 

@@ -190,7 +190,7 @@ start-size : (p : Parameters) → sizeAt p 0 ≡ p .width
 unfolding sizeAt
 start-size p = rw (zero-mod (p .width)) (add-zero (p .width))
 
-start-count : (p : Parameters) → countAt p 0 ≡ p .groups
+pub start-count : (p : Parameters) → countAt p 0 ≡ p .groups
 unfolding countAt
 start-count p = rw (zero-div (p .width)) (mul-one (p .groups))
 

@@ -4,4 +4,5 @@ pub mod Laws
 pub mod Numbers
 pub mod Points
 pub mod Powers
+pub mod Products
 pub mod Shrinking

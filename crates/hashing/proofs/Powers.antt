@@ -3,7 +3,7 @@ use mathlib.Core.Path.{_≡_, _∙_, refl, ap}
 use mathlib.Core.Bool.{Bool, true, false, _&&_, _||_, false≢true}
 use mathlib.Core.List.{List, [], _∷_}
 use Prim.Native.Nat.{ℕ, zero, suc, _+_, _-_, _*_, _%_, _^_, _≤_, _<_}
-use native.Mathlib.Nat.{add-comm, pow-zero, pow-suc, pow-succ', one-mul, mul-assoc, not-suc-le-zero, le-of-suc-le-suc}
+use native.Mathlib.Nat.{pow-zero, pow-suc, pow-succ', one-mul, mul-assoc, not-suc-le-zero, le-of-suc-le-suc}
 use native.Mathlib.Omega.{arith}
 use lib.Dec.{T, eqb, eqb→eq}
 use lib.ListN.{getD}
@@ -52,7 +52,7 @@ the-other a v f = go (eqb a 16807) (eqb a 48271) refl refl v
     go false true e e′ v = absurd (f (eqb-true a 48271 e′))
     go false false e e′ v = absurd (false≢true v)
 
-chain-at : (a p n j : ℕ) → j < n → getD (chain a p n) j 0 ≡ p * a ^ suc j % modulus
+pub chain-at : (a p n j : ℕ) → j < n → getD (chain a p n) j 0 ≡ p * a ^ suc j % modulus
 unfolding chain
 chain-at a p zero j h = absurd (not-suc-le-zero h)
 chain-at a p (suc n) zero h = rw (pow-suc a zero, pow-zero, one-mul)

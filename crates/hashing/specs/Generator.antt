@@ -1,5 +1,5 @@
 -- The number generator and the signature: document 01, "Home and signature". The multiplier is a parameter of every definition.
-use mathlib.Core.List.{List, [], _∷_}
+use mathlib.Core.List.{List, [], _∷_, _++_}
 use Prim.Native.Nat.{ℕ, zero, suc, _+_, _-_, _*_, _%_, _^_}
 use Rattle.hashing.specs.declared.Parameters.{Parameters}
 
@@ -39,3 +39,7 @@ multipliers a = chain a 1 2049
 -- its first ninety, which homes need: X1, and X(2i) for up to 33 steps
 unfoldable pub firstMultipliers : ℕ → List ℕ
 firstMultipliers a = chain a 1 90
+
+-- for signatures: X(2t+1) for the first 32 pages probed, and X(64u), which takes one of these 32·u pages further
+unfoldable pub probeMultipliers : ℕ → List ℕ
+probeMultipliers a = chain (a ^ 2) a 32 ++ chain (a ^ 64) 1 31

@@ -1,13 +1,15 @@
 // The tables of multipliers, and scrambled star numbers and signatures over them.
 ghost use mathlib.Core.Path.{_≡_};
 ghost use mathlib.Core.Bool.{true};
-ghost use Prim.Native.Nat.{_*_, _%_, _≤_, _<_};
-ghost use Rattle.hashing.specs.Generator.{modulus, multiplierOf, topOf, firstMultipliers};
+ghost use Prim.Native.Nat.{_+_, _*_, _%_, _≤_, _<_};
+ghost use Rattle.hashing.specs.Generator.{modulus, multiplierOf, power, topOf, firstMultipliers, probeMultipliers};
 ghost use Rattle.hashing.specs.Generator.{multipliers as Generator·multipliers, scrambled as Generator·scrambled, signature as Generator·signature};
 ghost use Rattle.hashing.specs.Limits.{validMultiplier};
 use crate::Parameters;
 use crate::firsts::FIRST_16807;
 use crate::firsts::FIRST_48271;
+use crate::probes::PROBES_16807;
+use crate::probes::PROBES_48271;
 use crate::table::MULTIPLIERS_16807;
 use crate::table::MULTIPLIERS_48271;
 
@@ -31,6 +33,17 @@ pub fn first_multipliers(multiplier: u32) -> [u32; 90]
         return FIRST_48271;
     }
     FIRST_16807
+}
+
+// The same of those of signatures.
+pub fn probe_multipliers(multiplier: u32) -> [u32; 63]
+    requires { ⌜ validMultiplier multiplier ≡ true ⌝ }
+    ensures { λ r. ⌜ r ≡ probeMultipliers multiplier ⌝ }
+{
+    if multiplier == 48271 {
+        return PROBES_48271;
+    }
+    PROBES_16807
 }
 
 // A product mod m. As 2^31 is 1 mod m, the product's two halves are added in place of a division.
@@ -94,4 +107,26 @@ pub fn signature(table: &[u32; 2049], parameters: Parameters, number: u32, probe
 {
     let x = residue(table[2 * probe], number % 2147483647);
     below_top(x, parameters.bits)
+}
+
+// The multiplier of a number's signature on the probe-th page probed. Past page 32 it is a product of two entries.
+pub fn probe_multiplier(table: &[u32; 63], multiplier: u32, probe: usize) -> u32
+    requires { ⌜ now table ≡ probeMultipliers multiplier ⌝ }
+    requires { ⌜ (1 ≤ probe) × (probe ≤ 1024) ⌝ }
+    ensures { λ r. ⌜ r ≡ power multiplier (2 * probe + 1) ⌝ }
+{
+    let passed = probe - 1;
+    let near = table[passed % 32];
+    if passed < 32 {
+        return near;
+    }
+    residue(table[31 + passed / 32], near)
+}
+
+// A signature by the multiplier of its page.
+pub fn signature_by(factor: u32, bits: u32, number: u32) -> u32
+    requires { ⌜ (factor < modulus) × ((1 ≤ bits) × (bits ≤ 8)) ⌝ }
+    ensures { λ r. ⌜ r ≡ factor * number % modulus % topOf bits ⌝ }
+{
+    below_top(residue(factor, number % 2147483647), bits)
 }

@@ -1,21 +1,18 @@
 -- Checks: the model's own file is what the rule gives its stars.
-use mathlib.Core.Path.{_≡_, refl, sym, ap, _∙_}
+use mathlib.Core.Path.{_≡_, refl, sym, _∙_}
 use mathlib.Core.Bool.{Bool, true, false}
-use mathlib.Core.List.{List, _++_, append-nil}
-use Prim.Native.Nat.{ℕ, suc, _+_, _*_}
+use Prim.Native.Nat.{suc, _*_}
 use native.Mathlib.Nat.{zero-add, le-refl}
 use native.Mathlib.Omega.{arith}
-use lib.ListN.{length, drop-of-length-le}
 use borrow.Author.Tests.{le-ltb}
 use Rattle.hashing.specs.declared.Parameters.{Parameters}
 use Rattle.hashing.specs.declared.Growth.{Growth}
 use Rattle.pages.specs.Position.{validWord}
-use Rattle.placement.specs.Rule.{Contents, pages}
-use Rattle.placement.specs.File.{written, laid, replaced, fileOf}
+use Rattle.placement.specs.Rule.{pages}
+use Rattle.placement.specs.File.{laid, replaced}
 use Rattle.placement.specs.Hash.{hashOf}
 use Rattle.placement.proofs.Composition.{length-pages}
-use Rattle.placement.proofs.Writing.{Roomy}
-use Rattle.placement.proofs.Files.{gathered-laid, replaced-of, roomy-pages}
+use Rattle.placement.proofs.Files.{gathered-laid, roomy-pages, all-replaced}
 use Rattle.calls.specs.Answers.{Pool, spotted, refused, cleared, accepted}
 use Rattle.reach.specs.Reach.{firstUnsound}
 use Rattle.calls.specs.Spots.{firstSpot, ruled}
@@ -25,14 +22,6 @@ use Rattle.histories.proofs.Fitting.{Fitting, hashFor, starsFor, rising
 use Rattle.histories.proofs.Guards.{lent-pool}
 use Rattle.histories.proofs.Searching.{none-unsound, no-spot}
 use Rattle.histories.proofs.Conforms.{Conforms, refused-conforms, accepted-conforms}
-
--- All pages replaced.
-replaced-all : (b : ℕ) (cs ds : List Contents) → Roomy b cs → Roomy b ds → length ds ≡ length cs → replaced b (fileOf b cs) 0 ds ≡ fileOf b ds
-unfolding written
-replaced-all b cs ds rc rd e = replaced-of b cs ds 0 rc rd (omega arith) ∙ ap (fileOf b) whole
-  where
-    whole : written 0 ds cs ≡ ds
-    whole = ap (λ (l : List Contents). ds ++ l) (drop-of-length-le cs {i = 0 + length ds} (omega arith)) ∙ append-nil ds
 
 module _ (p : Parameters) (m : Model) (t : Fitting p m) where
   -- The file's stars are the model's.
@@ -44,7 +33,7 @@ module _ (p : Parameters) (m : Model) (t : Fitting p m) where
   pub placed-anew : (g : Growth) → replaced (p .places) (modelFile p m) 0 (pages (hash p g) 0 (p .pages) (starsFor m)) ≡ laid (p .places) (hash p g) (p .pages) (starsFor m)
   unfolding modelFile laid hashOf
   placed-anew g =
-      replaced-all (p .places) (pages (hashFor p m) 0 (p .pages) (starsFor m)) (pages (hash p g) 0 (p .pages) (starsFor m))
+      all-replaced (p .places) (pages (hashFor p m) 0 (p .pages) (starsFor m)) (pages (hash p g) 0 (p .pages) (starsFor m))
       (roomy-pages (hashFor p m) 0 (p .pages) (starsFor m))
       (roomy-pages (hash p g) 0 (p .pages) (starsFor m))
       (length-pages (hash p g) 0 (p .pages) (starsFor m) ∙ sym (length-pages (hashFor p m) 0 (p .pages) (starsFor m)))

@@ -2,25 +2,16 @@
 use mathlib.Core.Path.{_≡_, sym, ap, _∙_}
 use mathlib.Core.Bool.{true, false, true≢false}
 use mathlib.Core.List.{List, []}
-use Prim.Native.Nat.{ℕ, zero, suc, _≤_, _<_}
-use native.Mathlib.Nat.{zero-add, le-trans}
+use Prim.Native.Nat.{ℕ, zero, suc, _<_}
+use native.Mathlib.Nat.{zero-add}
 use native.Mathlib.Decide.{decLt}
 use native.Mathlib.Omega.{arith}
 use lib.ListN.{length, getD}
 use borrow.Author.Tests.{le-leb}
-use Rattle.placement.specs.Rule.{Star, Hash, below, staying, passing, separatorOf, contentsOf, onward, pages, left, first, separators}
-use Rattle.placement.proofs.Filters.{length-filter, length-split}
-use Rattle.placement.proofs.Separator.{Bounded, stays, probes, sep-fits, probing-top, below-top}
+use Rattle.placement.specs.Rule.{Star, Hash, below, contentsOf, onward, pages, left, first, separators}
+use Rattle.placement.proofs.Separator.{Bounded, below-top, stay-all}
 use Rattle.placement.proofs.Composition.{length-pages}
 use Rattle.placement.proofs.Standing.{length-separators, first-before}
-
--- Where nothing passes a page, its separator is the top.
-stay-all : (H : Hash) → Bounded H → (p : ℕ) (w : List Star) → onward H p w ≡ [] → separatorOf H p w ≡ H .top
-unfolding onward passing staying
-stay-all H b p w e = probing-top H b p w (le-trans (length-filter (probes H p) w) few)
-  where
-    few : length w ≤ H .room
-    few = omega (arith, length-split (stays H p (separatorOf H p w)) w, ap length e, sep-fits H p w)
 
 pub last-top : (H : Hash) → Bounded H → (p n : ℕ) (w : List Star) → left H p (suc n) w ≡ [] → getD (separators (pages H p (suc n) w)) n 0 ≡ H .top
 unfolding left pages separators contentsOf

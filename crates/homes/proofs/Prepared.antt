@@ -3,7 +3,7 @@ use mathlib.Core.Path.{_≡_, _∙_, refl, sym, ap}
 use mathlib.Core.Bool.{Bool, true, false}
 use mathlib.Core.Logic.{inl, inr}
 use Prim.Native.Nat.{ℕ, suc, _+_, _-_, _*_, _/_, _%_, _^_, _≤_, _<_}
-use native.Mathlib.Nat.{zero-mod, zero-div, mul-one, add-zero, mul-assoc, mul-comm, pow-suc, mul-le-mul}
+use native.Mathlib.Nat.{zero-mod, add-zero, mul-assoc, mul-comm, pow-suc, mul-le-mul}
 use native.Mathlib.Nat.{mul-le-mul-left, le-trans, div-div-eq-div-mul, div-one, div-le-self, div-lt-self, div-le-of-le-mul, le-div-iff-mul-le}
 use native.Mathlib.Decide.{decLe}
 use native.Mathlib.Numerals.{add-one}
@@ -75,10 +75,6 @@ sweep-quotient s t h l b = go (leb s 64) refl
 pub size-start : (p : Parameters) → sizeAt p 0 ≡ p .width
 unfolding sizeAt
 size-start p = rw (zero-mod (p .width)) (add-zero (p .width))
-
-pub count-start : (p : Parameters) → countAt p 0 ≡ p .groups
-unfolding countAt
-count-start p = rw (zero-div (p .width)) (mul-one (p .groups))
 
 pub grown-size : (p : Parameters) (i : ℕ) → Limits p → sizeAt p i + 1 < 2 * p .width → (sizeAt p (i + 1) ≡ sizeAt p i + 1) × (countAt p (i + 1) ≡ countAt p i)
 unfolding sizeAt countAt

@@ -1,11 +1,11 @@
 -- Files under the rule: what they say, their soundness, and entry and removal in them.
 use mathlib.Core.Path.{_≡_, refl, sym, ap, _∙_, subst}
 use mathlib.Core.Bool.{Bool}
-use mathlib.Core.List.{List, [], _∷_, _++_, map, List·Memᴰ}
+use mathlib.Core.List.{List, [], _∷_, _++_, map, List·Memᴰ, append-nil}
 use Prim.Native.Nat.{ℕ, zero, suc, _+_, _*_, _≤_, _<_}
 use native.Mathlib.Nat.{add-mul, mul-le-mul-right}
 use native.Mathlib.Omega.{arith}
-use lib.ListN.{length, take, drop, getD}
+use lib.ListN.{length, take, drop, getD, drop-of-length-le}
 use lib.Seq.{drop-cons, take-all, length-take-le}
 use Rattle.pages.specs.Page.{part}
 use Rattle.placement.specs.Rule.{Star, Hash, Contents, contentsOf, onward, pages, left, pour, collected, separators, blank}
@@ -78,6 +78,14 @@ replaced-of b cs ds p rc rd h =
     }
 
 -- Two adjacent stretches, one after the other.
+-- All pages replaced.
+pub all-replaced : (b : ℕ) (cs ds : List Contents) → Roomy b cs → Roomy b ds → length ds ≡ length cs → replaced b (fileOf b cs) 0 ds ≡ fileOf b ds
+unfolding written
+all-replaced b cs ds rc rd e = replaced-of b cs ds 0 rc rd (omega arith) ∙ ap (fileOf b) whole
+  where
+    whole : written 0 ds cs ≡ ds
+    whole = ap (λ (l : List Contents). ds ++ l) (drop-of-length-le cs {i = 0 + length ds} (omega arith)) ∙ append-nil ds
+
 pub replaced-add : (b M : ℕ) (f : File) (p : ℕ) (cs ds : List Contents) → Sized b M f → Roomy b cs → p ≤ M
     → replaced b (replaced b f p cs) (p + length cs) ds ≡ replaced b f p (cs ++ ds)
 unfolding replaced

@@ -1,7 +1,7 @@
 -- Laws of a page's separator: it fits, is the greatest that fits, and rises when stars go.
-use mathlib.Core.Path.{_≡_, refl}
+use mathlib.Core.Path.{_≡_, refl, ap}
 use mathlib.Core.Bool.{Bool, true, false, cond, _&&_, and-false}
-use mathlib.Core.List.{List}
+use mathlib.Core.List.{List, []}
 use Prim.Native.Nat.{ℕ, zero, suc, _≤_, _<_}
 use native.Mathlib.Nat.{le-antisymm, le-refl, le-trans}
 use native.Mathlib.Decide.{decLe}
@@ -9,8 +9,8 @@ use native.Mathlib.Omega.{arith}
 use lib.Dec.{leb, ltb}
 use lib.ListN.{length}
 use borrow.Author.Tests.{leb-true, leb-false, ltb-true, le-leb, lt-leb, lt-ltb, le-ltb}
-use Rattle.placement.specs.Rule.{Star, Hash, filter, below, staying, separatorFrom, separatorOf}
-use Rattle.placement.proofs.Filters.{and-true, filter-ext, filter-comm, filter-none, filter-absorb, length-filter, length-within}
+use Rattle.placement.specs.Rule.{Star, Hash, filter, below, staying, passing, onward, separatorFrom, separatorOf}
+use Rattle.placement.proofs.Filters.{and-true, filter-ext, filter-comm, filter-none, filter-absorb, length-filter, length-split, length-within}
 
 -- The one fact of the hash that the rule needs.
 abbrev pub Bounded : Hash → Type 0
@@ -150,3 +150,11 @@ top-all H b p w e = rw e (staying-top H b p w)
 
 pub all-top : (H : Hash) → Bounded H → (p : ℕ) (w : List Star) → staying H p (separatorOf H p w) w ≡ filter (probes H p) w → separatorOf H p w ≡ H .top
 all-top H b p w e = probing-top H b p w (rw e at (sep-fits H p w))
+
+-- Where nothing passes a page, its separator is the top.
+pub stay-all : (H : Hash) → Bounded H → (p : ℕ) (w : List Star) → onward H p w ≡ [] → separatorOf H p w ≡ H .top
+unfolding onward passing staying
+stay-all H b p w e = probing-top H b p w (le-trans (length-filter (probes H p) w) few)
+  where
+    few : length w ≤ H .room
+    few = omega (arith, length-split (stays H p (separatorOf H p w)) w, ap length e, sep-fits H p w)

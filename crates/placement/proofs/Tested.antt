@@ -1,13 +1,13 @@
 -- What a sound page tells of its items, under the file's hash.
 use mathlib.Core.Path.{_≡_, refl, sym, _∙_}
-use mathlib.Core.Bool.{Bool, true, false, not, cond, _&&_, false≢true}
-use mathlib.Core.List.{List, [], _∷_, List·Memᴰ, List·Memᴰ·head, List·Memᴰ·tail}
+use mathlib.Core.Bool.{Bool, true, false, cond, _&&_, false≢true}
+use mathlib.Core.List.{List, [], _∷_, List·Memᴰ}
 use Prim.Native.Nat.{ℕ, zero, suc, _+_, _-_, _*_, _≤_, _<_}
 use native.Mathlib.Nat.{zero-add}
 use native.Mathlib.Omega.{arith}
 use lib.Dec.{leb, ltb, eqb}
 use lib.ListN.{length, getD, List·getD-map}
-use borrow.Author.Tests.{leb-true, ltb-true, eqb-true, eqb-false, le-leb, ne-eqb}
+use borrow.Author.Tests.{leb-true, ltb-true, eqb-true, eqb-false, le-leb}
 use Rattle.hashing.specs.declared.Parameters.{Parameters}
 use Rattle.hashing.specs.declared.Growth.{Growth}
 use Rattle.hashing.specs.Generator.{multiplierOf, signature}
@@ -15,8 +15,8 @@ use Rattle.hashing.specs.Home.{home}
 use Rattle.pages.specs.Position.{validNumber, validWord}
 use Rattle.pages.specs.Page.{part}
 use Rattle.pages.proofs.Parts.{page-fits, part-length, part-item}
-use Rattle.placement.specs.Rule.{Star, keep}
-use Rattle.placement.specs.File.{File, Sized, starsOf, starsAt, greatest, orderly}
+use Rattle.placement.specs.Rule.{Star}
+use Rattle.placement.specs.File.{File, Sized, starsAt, greatest, orderly}
 use Rattle.placement.specs.Hash.{hashOf, soundAt, namedPage, homeIn, homesOf}
 use Rattle.placement.specs.Survey.{lastAfter}
 use Rattle.placement.proofs.Filters.{and-true}

@@ -20,6 +20,7 @@ use Rattle.planning.specs.Sources.{named, renamed, sourced}
 use Rattle.planning.specs.Plans.{starOf, waits, settled, carriedOn, plans}
 use Rattle.planning.proofs.Pouring.{pour-cons}
 use Rattle.planning.proofs.RuleOverWords.{number-low}
+use Rattle.placement.proofs.Change.{separators-map}
 
 -- every star of these pages has the number that its source names
 abbrev pub Sourced : List ℕ → ℕ → List Contents → Type 0
@@ -91,11 +92,6 @@ named-column b l new g h (c ∷ cs) e =
     (map-padded b (named l new) (map (λ (s : Star). s .word) (c .stars)) (map h (map g (c .stars))) (named-zero l new) (e .0))
     ∙ ap (λ (r : List ℕ). padded b (map h (map g (c .stars))) ++ r) (named-column b l new g h cs (e .1))
 
-separators-mapped : (g : Star → Star) (cs : List Contents) → separators (map (mapped g) cs) ≡ separators cs
-unfolding separators
-separators-mapped g [] = refl
-separators-mapped g (c ∷ cs) = ap (λ (r : List ℕ). c .separator ∷ r) (separators-mapped g cs)
-
 -- the lists that `apply` leaves
 unfoldable pub applied : ℕ → ℕ → ℕ → ℕ → ℕ → ℕ → List ℕ → List ℕ → File → File
 applied places lo count newnumber newword newowner pool planned f =
@@ -115,7 +111,7 @@ applied-is places lo count newnumber newword newowner pool planned f cs ep es so
     rw (
       es,
       ep,
-      separators-mapped g cs,
+      separators-map g cs,
       named-column places (f .numbers) newnumber g (λ (s : Star). s .number) cs (names-sourced (f .numbers) newnumber g (renamed-keeps (f .words) (f .owners) newword newowner) cs so),
       named-column places (f .words) newword g (λ (s : Star). s .word) cs (names-all (f .words) newword g (λ (s : Star). s .word) (λ (s : Star). unfold renamed in refl) cs),
       named-column places (f .owners) newowner g (λ (s : Star). s .owner) cs (names-all (f .owners) newowner g (λ (s : Star). s .owner) (λ (s : Star). unfold renamed in refl) cs),

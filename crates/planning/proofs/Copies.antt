@@ -2,12 +2,12 @@
 use mathlib.Core.Path.{_≡_, refl, sym, ap, _∙_}
 use mathlib.Core.List.{List, [], _∷_, _++_, map, append-nil, append-assoc}
 use Prim.Native.Nat.{ℕ, zero, suc, _+_, _-_, _≤_, _<_}
-use native.Mathlib.Nat.{not-suc-le-zero, le-antisymm}
+use native.Mathlib.Nat.{not-suc-le-zero, le-antisymm, zero-add}
 use native.Mathlib.Numerals.{add-one}
 use native.Mathlib.Omega.{arith}
 use borrow.Author.Fill.{fill-none, fill-more}
 use lib.ListN.{length, replicate, getD, set, take, drop, length-set, length-drop, length-map, List·getD-map, List·getD-eq-default}
-use lib.Seq.{paste, paste-zero, paste-suc, getD-drop, getD-at, length-paste-head, drop-cons, drop-length, length-take-le, drop-at, take-at}
+use lib.Seq.{paste, paste-zero, paste-suc, getD-drop, getD-at, length-paste-head, drop-cons, drop-length, length-take-le, drop-at, take-at, take-all}
 use Rattle.placement.specs.File.{written}
 use Rattle.planning.specs.Sources.{named}
 
@@ -131,3 +131,9 @@ pub fetched-back : (d e l s : List ℕ) (new at n : ℕ) → at + n ≤ length e
 fetched-back d e l s new at n he hs =
     through d e at n (map (named l new) (drop at s)) (omega arith) (rw (length-map (drop at s) (named l new), length-drop at s) (omega arith))
     ∙ ap (λ (m : List ℕ). written at m d) (map-take (named l new) n (drop at s))
+
+-- a list pasted over another of its length
+pub pasted-whole : (d s : List ℕ) (n : ℕ) → length d ≡ n → length s ≡ n → paste d 0 s n ≡ s
+pasted-whole d s n ed es =
+    let none : drop n d ≡ [] = rw (← ed) (drop-length d) in
+    rw (zero-add n, take-all n s (omega arith), none) (append-nil s)

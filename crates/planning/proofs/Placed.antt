@@ -22,7 +22,7 @@ use Rattle.waiting.specs.Words.{pack}
 use Rattle.waiting.specs.Gather.{stretch, wordsFrom, group, grouped, groupsBelow, stretchWords}
 use Rattle.waiting.specs.Settle.{homesUpTo}
 use Rattle.waiting.proofs.Packing.{home-pack, number-pack, source-pack}
-use Rattle.planning.specs.Sources.{named, renamed, sourced}
+use Rattle.planning.specs.Sources.{renamed, sourced}
 use Rattle.planning.specs.Plans.{waits, homed, carriedOn, plans, remains, Planned}
 use Rattle.planning.proofs.Copies.{paste-written, map-take}
 use Rattle.planning.proofs.Pouring.{waits-grouped, length-waits}

@@ -1,6 +1,6 @@
 -- The plan over words is the rule over their stars.
 use mathlib.Core.Path.{_≡_, refl, ap, _∙_}
-use mathlib.Core.Bool.{Bool, true, false, not, _&&_, false≢true}
+use mathlib.Core.Bool.{Bool, true, false, not, _&&_}
 use mathlib.Core.List.{List, [], _∷_, _++_, append-assoc, append-nil}
 use Prim.Native.Nat.{ℕ, zero, suc, _+_, _-_, _≤_, _<_}
 use native.Mathlib.Nat.{add-suc}
@@ -18,6 +18,7 @@ use Rattle.waiting.specs.Settle.{signatureOf, under, staying, passing, separato
 use Rattle.waiting.proofs.Lists.{filter-append, all-head, all-tail, all-append, all-filter, all-filtered, all-mono}
 use Rattle.planning.specs.Plans.{starOf, waits, homed, settled, carriedOn, plans, remains}
 use Rattle.planning.proofs.Pouring.{select-waits, length-waits}
+use Rattle.placement.proofs.Filters.{and-true}
 
 -- A hash whose signatures are the generator's on the page's probe, t = 1 at home.
 pub record Probes (H : Hash) (q : Parameters) : Type 0 where
@@ -53,10 +54,6 @@ all-both : (q r : ℕ → Bool) (l : List ℕ) → all q l ≡ true → all r l 
 unfolding all
 all-both q r [] a b = refl
 all-both q r (x ∷ l) a b = rw (all-head q x l a, all-head r x l b) (all-both q r l (all-tail q x l a) (all-tail r x l b))
-
-both-true : (s t : Bool) → s && t ≡ true → (s ≡ true) × (t ≡ true)
-both-true true t e = (refl, e)
-both-true false t e = absurd (false≢true e)
 
 near-filter : (p : ℕ) (q : ℕ → Bool) (l : List ℕ) → homesUpTo p l ≡ true → homesUpTo p (filter q l) ≡ true
 near-filter p q l = all-filter (λ w. leb (homeOf w) p) q l
@@ -95,7 +92,7 @@ module _ (H : Hash) (q : Parameters) (real : Probes H q) where
       → below H p v (starOf (lowOf w) .number) ≡ under q p v w
   unfolding below under signatureOf
   below-near p v w e =
-      let b = both-true (eqb (H .home (numberOf w)) (homeOf w)) (leb (homeOf w) p) e in
+      let b = and-true (eqb (H .home (numberOf w)) (homeOf w)) (leb (homeOf w) p) e in
       let h : H .home (numberOf w) ≡ homeOf w = eqb-true (H .home (numberOf w)) (homeOf w) (b .0) in
       rw (number-low w, real .signatures (numberOf w) p, h, b .1)
 
@@ -103,7 +100,7 @@ module _ (H : Hash) (q : Parameters) (real : Probes H q) where
       → below H p v (starOf (lowOf w) .number) ≡ false
   unfolding below
   below-beyond p v w e =
-      let b = both-true (eqb (H .home (numberOf w)) (homeOf w)) (ltb p (homeOf w)) e in
+      let b = and-true (eqb (H .home (numberOf w)) (homeOf w)) (ltb p (homeOf w)) e in
       let h : H .home (numberOf w) ≡ homeOf w = eqb-true (H .home (numberOf w)) (homeOf w) (b .0) in
       rw (number-low w, h, lt-leb (homeOf w) p (ltb-true p (homeOf w) (b .1)))
 

@@ -30,6 +30,7 @@ use Rattle.planning.proofs.Pouring.{pour-cons}
 use Rattle.planning.proofs.Copies.{within}
 use Rattle.planning.proofs.Applying.{renamed-keeps}
 use Rattle.planning.proofs.Blocks.{from}
+use Rattle.placement.proofs.Filters.{and-true}
 
 -- a test that every word of the items passes
 all-words : (q : ℕ → Bool) (at k : ℕ) (ns hs : List ℕ)
@@ -153,15 +154,11 @@ waits-cons x l e =
     ap (map starOf) (pour-cons (lowOf x) (map lowOf l) [])
     ∙ star-insert (lowOf x) (slotsOf l) (all-slots (leads (lowOf x)) l e)
 
-both : (s t : Bool) → s && t ≡ true → (s ≡ true) × (t ≡ true)
-both true t e = (refl, e)
-both false t e = absurd (false≢true e)
-
 pub waits-poured : (l : List ℕ) → ordered l ≡ true → waits l ≡ pour (map (λ w. starOf (lowOf w)) l) []
 unfolding ordered pour
 waits-poured [] e = unfold waits slotsOf pourLow in refl
 waits-poured (x ∷ l) e =
-    let t = both (led x l) (ordered l) e in
+    let t = and-true (led x l) (ordered l) e in
     waits-cons x l (t .0) ∙ ap (insert (starOf (lowOf x))) (waits-poured l (t .1))
 
 -- words of items in order, and a word whose number is none of theirs

@@ -1,20 +1,21 @@
 -- The plan of a stretch of pages, over the words of its waiting stars. Assumes nothing.
 use mathlib.Core.Path.{_≡_}
-use mathlib.Core.Bool.{Bool, cond}
+use mathlib.Core.Bool.{Bool, true, cond}
 use mathlib.Core.List.{List, [], _∷_, _++_, map}
-use Prim.Native.Nat.{ℕ, zero, suc, _+_, _/_, _%_, _*_, _^_, _≤_}
+use Prim.Native.Nat.{ℕ, zero, suc, _+_, _/_, _%_, _*_, _^_, _≤_, _<_}
 use lib.Dec.{eqb, leb}
 use lib.ListN.{length, getD, take, drop}
 use lib.Seq.{slice}
 use denote.Ref.{now}
 use Rattle.hashing.specs.declared.Parameters.{Parameters}
+use Rattle.hashing.specs.Limits.{validParameters}
 use Rattle.placement.specs.Rule.{Star, Hash, Contents, separators}
 use Rattle.placement.specs.File.{column, written}
 use Rattle.placement.specs.Lent.{Lent}
-use Rattle.waiting.specs.Lists.{all}
+use Rattle.waiting.specs.Lists.{all, allBelow}
 use Rattle.waiting.specs.Words.{homeOf, numberOf, sourceOf}
-use Rattle.waiting.specs.Gather.{group, stretchWords}
-use Rattle.waiting.specs.Settle.{staying, passing, separatorOf, slotsOf}
+use Rattle.waiting.specs.Gather.{group, stretch, stretchWords, starsIn}
+use Rattle.waiting.specs.Settle.{homesUpTo, staying, passing, separatorOf, slotsOf}
 
 -- the star that a word's low part stands for: its number, and its source in place of position word and owner
 unfoldable pub starOf : ℕ → Star
@@ -65,6 +66,21 @@ abbrev pub PlansPage : Parameters → ℕ → ℕ → ℕ → Lent → Lent → 
 PlansPage q p from reach waiting pool planned r =
     PagePlanned q p (slice from reach (now (waiting .entry))) reach (now (waiting .entry)) (now (waiting .exit)) (now (pool .entry)) (now (pool .exit))
     (now (planned .entry)) (now (planned .exit)) r
+
+-- What planning `count` pages from page lo needs of the lists, the star k left out: items of numbers and of homes in the stretch or below it,
+-- room for all words, and those carried in homed at page lo or lower.
+pub record Plannable (q : Parameters) (lo count k carried : ℕ) (numbers pool W planned : List ℕ) : Type 0 where
+  pub valid : validParameters q ≡ true
+  pub some : 0 < count
+  pub pages : lo + count ≤ 1024
+  pub ofPlanned : lo + count ≤ length planned
+  pub ofNumbers : (lo + count) * q .places ≤ length numbers
+  pub ofPool : (lo + count) * q .places ≤ length pool
+  pub numbered : allBelow (2 ^ 31) (stretch (q .places) lo count numbers) ≡ true
+  pub within : allBelow (lo + count) (stretch (q .places) lo count pool) ≡ true
+  pub room : carried + starsIn k (stretch (q .places) lo count numbers) ≤ length W
+  pub few : length W ≤ 32768
+  pub near : homesUpTo lo (take carried W) ≡ true
 
 -- What planning `count` pages from page lo leaves, of the words w carried in and the stretch's words l: the source of each place's star in
 -- the pool, the new separators, and at the front of W′ the r words that are carried past the stretch.

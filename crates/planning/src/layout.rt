@@ -7,12 +7,11 @@ ghost use lib.ListN.{length, take};
 ghost use lib.Seq.{slice};
 ghost use Rattle.hashing.specs.Limits.{validParameters};
 ghost use Rattle.placement.specs.File.{padded, written};
-ghost use Rattle.placement.specs.Ready.{Signing};
 ghost use Rattle.waiting.specs.Words.{sourceOf};
 ghost use Rattle.waiting.specs.Lists.{allBelow};
 ghost use Rattle.waiting.specs.Gather.{stretch, starsIn};
 ghost use Rattle.waiting.specs.Settle.{homesUpTo, Probing};
-ghost use Rattle.planning.specs.Plans.{slotSource, PlansPage, PlansStretch};
+ghost use Rattle.planning.specs.Plans.{slotSource, Plannable, PlansPage, PlansStretch};
 use hashing::Parameters;
 use waiting::gather;
 use waiting::settle;
@@ -29,7 +28,7 @@ fn source_at(slots: &[u64; 32], kept: usize, i: usize) -> u32
 }
 
 // The sources of a page's places, empty places last.
-fn store_sources(pool: &mut [u32], slots: &[u64; 32], at: usize, places: usize, kept: usize)
+pub fn store_sources(pool: &mut [u32], slots: &[u64; 32], at: usize, places: usize, kept: usize)
     requires { ⌜ (at + places ≤ length (now pool)) × (places ≤ 32) ⌝ }
     requires { ⌜ (kept ≤ places) × (kept ≤ length (now slots)) ⌝ }
     ensures { λ _. ⌜ now (pool .exit) ≡ written at (padded places (map sourceOf (take kept (now (slots .entry))))) (now (pool .entry)) ⌝ }
@@ -58,7 +57,6 @@ fn close_up(waiting: &mut [u64], from: usize, end: usize) -> usize
 
 // One page of the plan. The words that pass on stand from the answer up to `reach`.
 fn settle_page(
-    table: &[u32; 2049],
     parameters: Parameters,
     pool: &mut [u32],
     waiting: &mut [u64],
@@ -67,21 +65,61 @@ fn settle_page(
     reach: usize,
     page: usize,
 ) -> usize
-    requires { ⌜ Signing parameters (now table) ⌝ }
+    requires { ⌜ validParameters parameters ≡ true ⌝ }
     requires { ⌜ Probing page from reach (now waiting) ⌝ }
     requires { ⌜ (page < length (now planned)) × (page * parameters .places + parameters .places ≤ length (now pool)) ⌝ }
     ensures { λ r. ⌜ PlansPage parameters page from reach waiting pool planned r ⌝ }
 {
     let places = parameters.places as usize;
     let mut slots = [0u64; 32];
-    let settled = settle(table, parameters, waiting, from, reach, page, &mut slots);
+    let settled = settle(parameters, waiting, from, reach, page, &mut slots);
     planned[page] = settled.separator as u8;
     store_sources(pool, &slots, page * places, places, settled.kept);
     settled.from
 }
 
+// Settles the stretch page by page; `ends` has a place for each.
+fn plan_pages(
+    parameters: Parameters,
+    numbers: &[u32],
+    pool: &mut [u32],
+    waiting: &mut [u64],
+    planned: &mut [u8],
+    ends: &mut [u32],
+    lo: usize,
+    count: usize,
+    without: u32,
+    carried: usize,
+) -> usize
+    requires { ⌜ Plannable parameters lo count without carried (now numbers) (now pool) (now waiting) (now planned) ⌝ }
+    requires { ⌜ count ≤ length (now ends) ⌝ }
+    ensures { λ r. ⌜ PlansStretch parameters lo count without carried numbers pool waiting planned r ⌝ }
+{
+    let places = parameters.places as usize;
+    let end = gather(
+        numbers,
+        pool,
+        waiting,
+        ends,
+        places,
+        lo,
+        count,
+        without,
+        carried,
+    );
+    let mut from = 0;
+    let mut v = 0;
+    while v < count {
+        let reach = ends[v] as usize;
+        from = settle_page(parameters, pool, waiting, planned, from, reach, lo + v);
+        v += 1;
+    }
+    close_up(waiting, from, end)
+}
+
 // Plans the stretch of `count` pages from page lo, with the words carried in at the front of `waiting` and the stars of the stretch but `without`.
 // The pool holds the homes of the stretch's items, and sources afterwards. The words carried past the stretch are left at the front; the answer is their count.
+// Most stretches are short, and for these no long list is cleared.
 pub fn plan(
     parameters: Parameters,
     numbers: &[u32],
@@ -102,35 +140,32 @@ pub fn plan(
     requires { ⌜ homesUpTo lo (take carried (now waiting)) ≡ true ⌝ }
     ensures { λ r. ⌜ PlansStretch parameters lo count without carried numbers pool waiting planned r ⌝ }
 {
-    let table = hashing::multipliers(parameters.multiplier);
-    let places = parameters.places as usize;
+    if count <= 32 {
+        let mut ends = [0u32; 32];
+        return plan_pages(
+            parameters,
+            numbers,
+            pool,
+            waiting,
+            planned,
+            &mut ends,
+            lo,
+            count,
+            without,
+            carried,
+        );
+    }
     let mut ends = [0u32; 1024];
-    let end = gather(
+    plan_pages(
+        parameters,
         numbers,
         pool,
         waiting,
+        planned,
         &mut ends,
-        places,
         lo,
         count,
         without,
         carried,
-    );
-    let mut from = 0;
-    let mut v = 0;
-    while v < count {
-        let reach = ends[v] as usize;
-        from = settle_page(
-            &table,
-            parameters,
-            pool,
-            waiting,
-            planned,
-            from,
-            reach,
-            lo + v,
-        );
-        v += 1;
-    }
-    close_up(waiting, from, end)
+    )
 }

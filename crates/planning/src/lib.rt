@@ -3,6 +3,7 @@ mod layout;
 mod moving;
 
 pub use layout::plan;
+pub use layout::store_sources;
 pub use moving::apply;
 pub use moving::clear;
 pub use moving::fetch;

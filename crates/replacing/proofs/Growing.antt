@@ -1,13 +1,13 @@
 -- A growth or a shrinking: the homes under the growth state `next`, and that the rule over all pages is what the code leaves.
 use mathlib.Core.Path.{_≡_, refl, sym, ap, _∙_}
 use mathlib.Core.Bool.{Bool, true, false, not, cond}
-use mathlib.Core.List.{List, [], map, append-nil}
+use mathlib.Core.List.{List, [], map}
 use Prim.Native.Nat.{ℕ, _+_, _-_, _*_, _^_, _≤_, _<_}
 use native.Mathlib.Nat.{zero-add, zero-mul, sub-zero}
 use native.Mathlib.Omega.{arith}
 use lib.Dec.{ltb, eqb}
 use lib.ListN.{length, getD, set, take, drop, length-map, List·getD-map}
-use lib.Seq.{paste, take-all, drop-length}
+use lib.Seq.{paste}
 use borrow.Author.Tests.{lt-ltb, le-ltb, ne-eqb}
 use Rattle.hashing.specs.declared.Parameters.{Parameters}
 use Rattle.hashing.specs.declared.Growth.{Growth}
@@ -28,7 +28,7 @@ use Rattle.reach.specs.Reach.{isEmpty, firstUnsound}
 use Rattle.reach.proofs.Search.{such}
 use Rattle.reach.proofs.Surveyed.{unsound}
 use Rattle.reach.proofs.Pastes.{map-take, map-drop}
-use Rattle.planning.proofs.Copies.{Copied, turn, unread}
+use Rattle.planning.proofs.Copies.{Copied, turn, unread, pasted-whole}
 use Rattle.planning.proofs.Sourcing.{itemHome}
 use Rattle.planning.proofs.Placed.{Gatherable, probes-real, homes-real}
 use Rattle.replacing.specs.declared.Replaced.the-variants.{Done, Unsound, Overflows}
@@ -36,12 +36,6 @@ use Rattle.replacing.specs.Stretch.{Plannable, fitting, restretched}
 use Rattle.replacing.specs.Calls.{hash, nextOf, Movable, growthAnswer, growthFile}
 use Rattle.replacing.proofs.Ruled.{fitting-is, restretched-is}
 use Rattle.replacing.proofs.Items.{all-below, all-sound, real-sound, numbers-below, plannable-stretch, ready-stretch}
-
--- a list pasted over another of its length
-whole : (d s : List ℕ) (n : ℕ) → length d ≡ n → length s ≡ n → paste d 0 s n ≡ s
-whole d s n ed es =
-    let none : drop n d ≡ [] = rw (← ed) (drop-length d) in
-    rw (zero-add n, take-all n s (omega arith), none) (append-nil s)
 
 -- ---- homes, item by item
 
@@ -74,7 +68,7 @@ module _ (p : Parameters) (g next : Growth) (ns homes : List ℕ) (i : ℕ) (R :
   unfolding homesOf
   rehomed-all e =
       R .is
-      ∙ whole (homesOf p g ns) (homesOf p next ns) i
+      ∙ pasted-whole (homesOf p g ns) (homesOf p next ns) i
       (length-map ns (homeIn p g) ∙ sym e) (length-map ns (homeIn p next) ∙ sym e)
 
 pub next-valid : (back : Bool) (p : Parameters) (g : Growth) → validParameters p ≡ true → validGrowth p g ≡ true → Movable back p g → validGrowth p (nextOf back p g) ≡ true
@@ -102,7 +96,7 @@ module _ (p : Parameters) (g : Growth) (f : File) (valid : validParameters p ≡
     surveyed-all pool pool′ size homes =
         homes (omega (arith, such (unsound p g f) 0 (p .pages - 0) .high))
         ∙ rw (sub-zero (p .pages), zero-mul (p .places))
-        (whole pool (homesOf p g (f .numbers)) (p .pages * p .places) size (length-map (f .numbers) (homeIn p g) ∙ sized .ofNumbers))
+        (pasted-whole pool (homesOf p g (f .numbers)) (p .pages * p .places) size (length-map (f .numbers) (homeIn p g) ∙ sized .ofNumbers))
 
     sound-pages : 0 + p .pages ≤ firstUnsound p g f 0 (p .pages)
     sound-pages =

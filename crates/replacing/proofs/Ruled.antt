@@ -1,6 +1,6 @@
 -- A stretch planned over its own stars and applied: what the code leaves, and that it is the rule over these stars, for any hash.
 use mathlib.Core.Path.{_≡_, refl, sym, ap, _∙_}
-use mathlib.Core.Bool.{Bool, true, false, cond}
+use mathlib.Core.Bool.{true, false, cond}
 use mathlib.Core.List.{List, [], _∷_, map}
 use Prim.Native.Nat.{ℕ, suc, _+_, _*_, _≤_}
 use native.Mathlib.Nat.{add-mul, mul-le-mul}
@@ -12,7 +12,7 @@ use Rattle.hashing.specs.declared.Parameters.{Parameters}
 use Rattle.placement.specs.Rule.{Star, Hash, pages, left, without}
 use Rattle.placement.specs.File.{File, gathered, replaced, written}
 use Rattle.placement.specs.Hash.{lent}
-use Rattle.waiting.specs.Gather.{stretch, skipped, starsIn, stretchWords}
+use Rattle.waiting.specs.Gather.{stretch, starsIn, stretchWords}
 use Rattle.reach.specs.Reach.{isEmpty}
 use Rattle.planning.specs.Sources.{named, renamed, sourced}
 use Rattle.planning.specs.Plans.{remains, Planned}
@@ -21,16 +21,7 @@ use Rattle.planning.proofs.Applying.{applied}
 use Rattle.planning.proofs.Sourcing.{words-sourced, named-stretch, length-stretch}
 use Rattle.planning.proofs.Placed.{Gatherable, placed, left-count, layout, applied-layout}
 use Rattle.replacing.specs.Stretch.{Plannable, newPages, fitting, restretched}
-
--- the stars of some items are at most the items
-pub stars-most : (k : ℕ) (l : List ℕ) → starsIn k l ≤ length l
-unfolding starsIn
-stars-most k [] = omega arith
-stars-most k (x ∷ l) = go (skipped k x) (stars-most k l)
-  where
-    go : (t : Bool) → starsIn k l ≤ length l → cond t (starsIn k l) (suc (starsIn k l)) ≤ suc (length l)
-    go true h = omega arith
-    go false h = omega arith
+use Rattle.waiting.proofs.Gathered.{starsIn-most}
 
 module _ (q : Parameters) (lo n : ℕ) (f : File) (pool waiting poolowners : List ℕ) (L : Plannable q lo n f pool waiting poolowners) (k : ℕ) where
   -- the waiting list has (q .places) for the stretch's stars
@@ -38,7 +29,7 @@ module _ (q : Parameters) (lo n : ℕ) (f : File) (pool waiting poolowners : Lis
   stars-fit =
       omega (
         arith,
-        stars-most k (stretch (q .places) lo n (f .numbers)),
+        starsIn-most k (stretch (q .places) lo n (f .numbers)),
         length-stretch (q .places) lo n (f .numbers) (L .numbers-long),
         add-mul lo n (q .places),
         L .waiting-long,

@@ -1,6 +1,6 @@
 -- What the program's own calls write is what `every-input` says of its input.
 use Prim.Native.Nat.{ℕ}
-use mathlib.Core.List.{List, [], _∷_, _++_, map}
+use mathlib.Core.List.{List, [], _∷_, map}
 use mathlib.Core.Path.{_≡_, refl, ap, _∙_}
 use Rattle.lines.specs.Grammar.{commandOf, linesOf}
 use Rattle.sessions.specs.Commands.{newFile}

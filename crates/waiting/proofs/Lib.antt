@@ -6,6 +6,7 @@ pub mod Order
 pub mod Grouping
 pub mod Placing
 pub mod Scattering
+pub mod Factors
 pub mod Gathered
 pub mod Inserting
 pub mod Cutting

@@ -1,16 +1,13 @@
 -- Laws of `filter` and `all`. Assumes nothing.
 use mathlib.Core.Path.{_≡_, refl, ap, _∙_}
-use mathlib.Core.Bool.{Bool, true, false, cond, _&&_, false≢true}
+use mathlib.Core.Bool.{Bool, true, false, cond}
 use mathlib.Core.List.{List, [], _∷_, _++_}
 use Prim.Native.Nat.{ℕ, zero, suc, _≤_, _<_, zero-le}
 use native.Mathlib.Nat.{not-suc-le-zero, le-of-suc-le-suc}
 use native.Mathlib.Omega.{arith}
 use lib.ListN.{length, getD}
 use Rattle.waiting.specs.Lists.{filter, all}
-
-pub and-true : (s t : Bool) → s && t ≡ true → (s ≡ true) × (t ≡ true)
-and-true true t e = (refl, e)
-and-true false t e = absurd (false≢true e)
+use Rattle.placement.proofs.Filters.{and-true}
 
 module _ (q : ℕ → Bool) where
   pub filter-append : (a b : List ℕ) → filter q (a ++ b) ≡ filter q a ++ filter q b
@@ -97,3 +94,9 @@ pub all-mono : (q r : ℕ → Bool) (l : List ℕ) → ((x : ℕ) → q x ≡ tr
 unfolding all
 all-mono q r [] f e = refl
 all-mono q r (x ∷ l) f e = all-cons r x l (f x (all-head q x l e)) (all-mono q r l f (all-tail q x l e))
+
+-- a test that every item passes
+pub all-items : (q : ℕ → Bool) (l : List ℕ) → ((i : ℕ) → i < length l → q (getD l i 0) ≡ true) → all q l ≡ true
+unfolding all
+all-items q [] t = refl
+all-items q (x ∷ l) t = all-cons q x l (t 0 (omega arith)) (all-items q l (λ i h. t (suc i) (omega arith)))

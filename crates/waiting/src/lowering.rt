@@ -3,8 +3,7 @@ ghost use mathlib.Core.Path.{_≡_};
 ghost use Prim.Native.Nat.{_≤_};
 ghost use lib.ListN.{length};
 ghost use lib.Seq.{slice};
-ghost use Rattle.placement.specs.Ready.{Signing};
-ghost use Rattle.waiting.specs.Settle.{Settlement, Probing, separatorFrom};
+ghost use Rattle.waiting.specs.Settle.{Settlement, Signers, Probing, separatorFrom};
 use crate::settling::Settled;
 use crate::settling::cut;
 use crate::settling::sift;
@@ -13,7 +12,7 @@ use hashing::Parameters;
 
 // Where there is room for all words that probe the page, the separator stays as it is.
 fn separator_under(
-    table: &[u32; 2049],
+    table: &[u32; 63],
     parameters: Parameters,
     most: u32,
     waiting: &[u64],
@@ -21,7 +20,7 @@ fn separator_under(
     reach: usize,
     page: usize,
 ) -> u32
-    requires { ⌜ Signing parameters (now table) ⌝ }
+    requires { ⌜ Signers parameters (now table) ⌝ }
     requires { ⌜ Probing page from reach (now waiting) ⌝ }
     requires { ⌜ most ≤ 255 ⌝ }
     ensures { λ r. ⌜ r ≡ separatorFrom parameters page (slice from reach (now (waiting .entry))) most ⌝ }
@@ -37,7 +36,7 @@ fn separator_under(
 
 // Settles page `page`, which the words from `from` up to `reach` probe, under the greatest separator up to `most`.
 pub fn settle_under(
-    table: &[u32; 2049],
+    table: &[u32; 63],
     parameters: Parameters,
     most: u32,
     waiting: &mut [u64],
@@ -46,7 +45,7 @@ pub fn settle_under(
     page: usize,
     slots: &mut [u64; 32],
 ) -> Settled
-    requires { ⌜ Signing parameters (now table) ⌝ }
+    requires { ⌜ Signers parameters (now table) ⌝ }
     requires { ⌜ Probing page from reach (now waiting) ⌝ }
     requires { ⌜ (most ≤ 255) × (length (now slots) ≡ 32) ⌝ }
     ensures { λ r. ⌜ Settlement parameters page (separatorFrom parameters page (slice from reach (now (waiting .entry))) most)

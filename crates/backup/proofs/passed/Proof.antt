@@ -1,5 +1,5 @@
 -- `backup::passed` meets its contract.
-use mathlib.Core.Path.{_≡_, _∙_}
+use mathlib.Core.Path.{_∙_}
 use borrow.Author.Needs.{needs}
 use Rattle.backup.proofs.passed.Statement.{statement}
 use Rattle.backup.proofs.passed.Tie as tie

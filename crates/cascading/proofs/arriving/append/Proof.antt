@@ -2,7 +2,7 @@
 use mathlib.Core.Path.{_≡_}
 use Prim.Native.Nat.{_-_, _^_, _≤_, _<_}
 use native.Mathlib.Omega.{arith}
-use lib.ListN.{getD, length}
+use lib.ListN.{length}
 use Rattle.cascading.proofs.Appending.{Appended, appended-none, appended-skip, appended-inside, appended-star, appended-all, item-below}
 use Rattle.cascading.proofs.arriving.append.Statement.{statement}
 use Rattle.cascading.proofs.arriving.append.Tie as tie

@@ -2,7 +2,7 @@
 use mathlib.Core.Path.{_≡_, refl, _∙_}
 use Prim.Native.Nat.{ℕ, _+_, _*_, _≤_, _<_}
 use native.Mathlib.Omega.{arith}
-use lib.ListN.{length, replicate, length-set}
+use lib.ListN.{length, length-set}
 use denote.Ref.{now}
 use borrow.Author.Needs.{needs}
 use Rattle.hashing.specs.Generator.{multiplierOf}
@@ -10,7 +10,7 @@ use Rattle.hashing.proofs.Bounds.{Limits, limits}
 use Rattle.hashing.proofs.Laws.{home-pages}
 use Rattle.pages.proofs.Parts.{page-fits}
 use Rattle.placement.specs.File.{File}
-use Rattle.placement.specs.Hash.{lent, soundAt}
+use Rattle.placement.specs.Hash.{lent}
 use Rattle.entering.proofs.Reached.{some-items}
 use Rattle.cascading.specs.Arriving.{pageWords}
 use Rattle.cascading.proofs.Loading.{zeros-below, page-few, loaded-long, loaded-below}

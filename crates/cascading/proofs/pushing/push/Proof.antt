@@ -63,13 +63,13 @@ same-length-3 c = search needs
 returns : tie.Need-returns
 returns c = c .before .before .before .before .before .before .fill-page .ensures
 
-multipliers-requires : tie.Need-multipliers-requires
-multipliers-requires c κs = bounds (c .before .before .before .before .before .before .before .before .before .before) .multiplier-valid
+probe-multipliers-requires : tie.Need-probe-multipliers-requires
+probe-multipliers-requires c κs = bounds (c .before .before .before .before .before .before .before .before .before .before) .multiplier-valid
 
 push-along-requires : tie.Need-push-along-requires
 push-along-requires c κs =
     let s = c .before .before .before .before .before .before .before .before .before .before .before .before .before .before .before in
-    (s .pre .0, (record { table = c .before .before .before .before .multipliers .ensures; valid = s .pre .0 .ready .homing .valid }, s .pre .1))
+    (s .pre .0, (record { table = c .before .before .before .before .probe-multipliers .ensures; valid = s .pre .0 .ready .homing .valid }, s .pre .1))
 
 same-length-4 : tie.Need-same-length-4
 same-length-4 c = search needs
@@ -98,7 +98,7 @@ push-spec =
     same-length-2
     same-length-3
     returns
-    multipliers-requires
+    probe-multipliers-requires
     push-along-requires
     same-length-4
     same-length-5

@@ -8,10 +8,11 @@ use Rattle.placement.specs.File.{File}
 use Rattle.placement.specs.Hash.{hashOf, lent}
 use Rattle.waiting.specs.Lists.{all}
 use Rattle.planning.proofs.Placed.{Gatherable}
-use Rattle.comparing.proofs.Planned.{few-items, homes-long, stars-inside, ready, planned-ruled, spot-ruled}
+use Rattle.comparing.proofs.Planned.{homes-long, stars-inside, ready, planned-ruled, spot-ruled}
 use borrow.Author.Needs.{needs}
 use Rattle.comparing.proofs.checking.compare_planned.Statement.{statement}
 use Rattle.comparing.proofs.checking.compare_planned.Tie as tie
+use Rattle.calls.proofs.Refusals.{items-most}
 
 abbrev file : tie.Start → File
 file s = lent (now (s .args .separators)) (now (s .args .numbers)) (now (s .args .words)) (now (s .args .owners))
@@ -45,14 +46,14 @@ plan-requires c κs =
           (R .numbers, R .homes),
           (
             R .valid,
-            (R .within, ((omega (arith, stars, s .pre .1 .1 .1 .0), omega (arith, few-items _ (s .pre .0 .homing .valid), s .pre .1 .1 .1 .0)), refl)),
+            (R .within, ((omega (arith, stars, s .pre .1 .1 .1 .0), omega (arith, items-most _ (s .pre .0 .homing .valid), s .pre .1 .1 .1 .0)), refl)),
           ),
         ),
       ),
     )
 
 mul-fetch : tie.Need-mul-fetch
-mul-fetch c = omega (arith, few-items _ (c .before .before .before .before .before .before .before .before .before .before .before .before .before .before .before .before .before .before .before .before .before .pre .0 .homing .valid))
+mul-fetch c = omega (arith, items-most _ (c .before .before .before .before .before .before .before .before .before .before .before .before .before .before .before .before .before .before .before .before .before .pre .0 .homing .valid))
 
 fetch-requires : tie.Need-fetch-requires
 fetch-requires c κs =

@@ -9,10 +9,10 @@ use Rattle.hashing.proofs.Bounds.{limits}
 use Rattle.placement.specs.Hash.{hashOf}
 use Rattle.comparing.specs.Raising.{hashUnder}
 use Rattle.calls.proofs.Spots.{item-within}
-use Rattle.comparing.proofs.Planned.{few-items}
 use Rattle.comparing.proofs.Counters.{PlacesCounted, places-none, places-empty, places-star, places-fits, places-counts, places-all, home-item, homes-count}
 use Rattle.comparing.proofs.counts.count_page.Statement.{statement}
 use Rattle.comparing.proofs.counts.count_page.Tie as tie
+use Rattle.calls.proofs.Refusals.{items-most}
 
 abbrev Inv-loop : tie.InvT-loop
 Inv-loop table geometry separators numbers homes counts₀ page places first i₀ counts i =
@@ -40,7 +40,7 @@ inside c = omega (arith, within c, start (c .before) .pre .1 .0 .numbers)
 few : (c : tie.In-loop Inv-loop μ-loop) →
     let a = start (c .before) .args in
     a .page * a .geometry .parameters .places + c .before .loop .i < 32768
-few c = omega (arith, within c, few-items (start (c .before) .args .geometry .parameters) (start (c .before) .pre .0 .valid))
+few c = omega (arith, within c, items-most (start (c .before) .args .geometry .parameters) (start (c .before) .pre .0 .valid))
 
 low-page : (s : tie.Start Inv-loop μ-loop) → s .args .page < 1024
 low-page s = omega (arith, s .pre .1 .1 .1, limits (s .args .geometry .parameters) (s .pre .0 .valid) .pages-most)
@@ -51,7 +51,7 @@ cast-places c = omega (arith, limits _ (c .before .before .before .before .pre .
 mul-first : tie.Need-mul-first Inv-loop μ-loop
 mul-first c =
     let s = c .before .before .before .before in
-    omega (arith, mul-le-mul-right (s .args .geometry .parameters .places) (s .pre .1 .1 .1), suc-mul (s .args .page) (s .args .geometry .parameters .places), few-items _ (s .pre .0 .valid))
+    omega (arith, mul-le-mul-right (s .args .geometry .parameters .places) (s .pre .1 .1 .1), suc-mul (s .args .page) (s .args .geometry .parameters .places), items-most _ (s .pre .0 .valid))
 
 loop-holds : tie.Need-loop-holds Inv-loop μ-loop
 loop-holds c = (omega arith, places-none _ _ _ _ _ (c .before .before .before .before .pre .1 .1 .0 .0))

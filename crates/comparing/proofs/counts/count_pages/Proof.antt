@@ -5,10 +5,10 @@ use native.Mathlib.Omega.{arith}
 use Rattle.hashing.proofs.Bounds.{limits}
 use Rattle.placement.specs.Hash.{hashOf}
 use Rattle.comparing.specs.Raising.{countTo, Added, hashUnder}
-use Rattle.comparing.proofs.Planned.{few-items}
 use Rattle.comparing.proofs.Counters.{pages-none, pages-next, pages-counts, pages-all}
 use Rattle.comparing.proofs.counts.count_pages.Statement.{statement}
 use Rattle.comparing.proofs.counts.count_pages.Tie as tie
+use Rattle.calls.proofs.Refusals.{items-most}
 
 abbrev Inv-loop : tie.InvT-loop
 Inv-loop table geometry separators numbers homes counts₀ pages page₀ counts page =
@@ -28,7 +28,7 @@ unfolding hashOf
 count-page-requires c κs =
     let k = c .before .before in
     let s = k .before .before .before .before .before in
-    let few = few-items (s .args .geometry .parameters) (s .pre .0 .valid) in (
+    let few = items-most (s .args .geometry .parameters) (s .pre .0 .valid) in (
       s .pre .0,
       (
         s .pre .1 .0,

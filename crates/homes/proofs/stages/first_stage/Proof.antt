@@ -3,9 +3,10 @@ use native.Mathlib.Nat.{div-le-self, mod-le}
 use native.Mathlib.Omega.{arith}
 use Rattle.hashing.proofs.Bounds.{Limits, limits}
 use Rattle.homes.specs.Stages.{stageAt}
-use Rattle.homes.proofs.Prepared.{size-start, count-start}
+use Rattle.homes.proofs.Prepared.{size-start}
 use Rattle.homes.proofs.stages.first_stage.Statement.{statement}
 use Rattle.homes.proofs.stages.first_stage.Tie as tie
+use Rattle.hashing.proofs.Laws.{start-count}
 
 bounds : (c : tie.Start) → Limits (c .args .parameters)
 bounds c = limits _ (c .pre)
@@ -30,7 +31,7 @@ cast-t7 c = let s = c .before .before .before .before in omega (arith, bounds s 
 
 returns : tie.Need-returns
 unfolding stageAt
-returns c = let s = c .before .before .before .before in rw (size-start (s .args .parameters), count-start (s .args .parameters))
+returns c = let s = c .before .before .before .before in rw (size-start (s .args .parameters), start-count (s .args .parameters))
 
 pub first-stage-spec : {M : Type 1} → statement M
 first-stage-spec = tie.close (tie.spec cast-t2 cast-t3 div-t4 cast-t5 rem-t6 cast-t7 returns)

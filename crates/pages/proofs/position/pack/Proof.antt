@@ -3,7 +3,7 @@
 use borrow.Author.Needs.{needs}
 use native.Mathlib.Omega.{arith}
 use mir.Facts.{toZ-ofZ}
-use Rattle.pages.specs.Position.{raised, packed}
+use Rattle.pages.specs.Position.{packed}
 use Rattle.pages.proofs.Words.{Valid, valid, raised-back}
 use Rattle.pages.proofs.position.pack.Statement.{statement}
 use Rattle.pages.proofs.position.pack.Tie as tie

@@ -25,7 +25,7 @@ cast-planned c =
           omega (
             arith,
             c .before .before .before .settle .ensures .0 .separator,
-            separator-byte (a .parameters) (a .page) (slice (a .from) (a .reach) (now (a .waiting))) (limits _ (s .pre .0 .valid) .bits-most),
+            separator-byte (a .parameters) (a .page) (slice (a .from) (a .reach) (now (a .waiting))) (limits _ (s .pre .0) .bits-most),
           );
     }
 
@@ -38,7 +38,7 @@ mul-store-sources c = search needs
 store-sources-requires : tie.Need-store-sources-requires
 store-sources-requires c κs =
     let s = c .before .before .before .before .before .before .before .before .before .before .before .before in
-    let most = limits _ (s .pre .0 .valid) .places-most in
+    let most = limits _ (s .pre .0) .places-most in
     let done = c .before .before .before .before .before .settle .ensures in
     ((s .pre .1 .1 .1, most), (done .1, omega (arith, done .0 .size, done .1, most)))
 
@@ -56,7 +56,7 @@ returns c =
     let s = c .before .before .before .before .before .before .before .before .before .before .before .before .before .before .before in
     let a = s .args in
     let d = c .before .before .before .before .before .before .before .before .settle in
-    page-planned (a .parameters) (a .page) (slice (a .from) (a .reach) (now (a .waiting))) (a .reach) (now (a .waiting)) (d .last .1 .1 .0) (d .last .1 .1 .1 .1 .1 .1 .0) (now (a .pool)) (c .before .before .store-sources .last .0) (now (a .planned)) (d .result) (d .ensures .0) (c .before .before .store-sources .ensures) (omega (arith, s .pre))
+    page-planned (a .parameters) (a .page) (slice (a .from) (a .reach) (now (a .waiting))) (a .reach) (now (a .waiting)) (d .last .1 .0) (d .last .1 .1 .1 .1 .1 .0) (now (a .pool)) (c .before .before .store-sources .last .0) (now (a .planned)) (d .result) (d .ensures .0) (c .before .before .store-sources .ensures) (omega (arith, s .pre))
 
 pub settle-page-spec : {M : Type 1} → statement M
 settle-page-spec =
