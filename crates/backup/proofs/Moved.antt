@@ -11,12 +11,12 @@ use lib.ListN.{getD}
 use borrow.Author.Tests.{leb-false, lt-ltb, eqb-true}
 use Rattle.hashing.specs.declared.Parameters.{Parameters}
 use Rattle.hashing.specs.declared.Growth.{Growth}
-use Rattle.hashing.specs.Generator.{multiplierOf}
+use Rattle.hashing.specs.Geometry.{multiplierOf}
 use Rattle.hashing.specs.Geometry.{groupSize, groupCount, pageCount, grown}
 use Rattle.hashing.specs.Limits.{validParameters, validGrowth}
 use Rattle.hashing.specs.Home.{home, rankAt, chosen}
 use Rattle.hashing.proofs.Bounds.{both}
-use Rattle.hashing.proofs.Laws.{home-regrown}
+use Rattle.hashing.proofs.Homes.{home-regrown}
 use Rattle.placement.specs.Rule.{Star, Hash, pages, separators, blank}
 use Rattle.placement.specs.Hash.{hashOf}
 use Rattle.placement.proofs.Probing.{bounded-real}

@@ -13,7 +13,7 @@ use Rattle.hashing.specs.declared.Parameters.{Parameters}
 use Rattle.hashing.specs.declared.Growth.{Growth}
 use Rattle.hashing.specs.Geometry.{pageCount}
 use Rattle.hashing.specs.Limits.{within}
-use Rattle.hashing.specs.Generator.{topOf}
+use Rattle.generator.specs.Generator.{topOf}
 use Rattle.homes.specs.Lanes.{lanes}
 use Rattle.homes.proofs.Lists.{lane-none, lane-next, lane-end}
 use Rattle.reach.specs.Reach.{firstSuch}

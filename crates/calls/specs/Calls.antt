@@ -6,7 +6,7 @@ use lib.Dec.{eqb, ltb}
 use lib.ListN.{length, getD, set, replicate}
 use Rattle.hashing.specs.declared.Parameters.{Parameters}
 use Rattle.hashing.specs.declared.Growth.{Growth}
-use Rattle.hashing.specs.Generator.{topOf}
+use Rattle.generator.specs.Generator.{topOf}
 use Rattle.hashing.specs.Limits.{validParameters, validGrowth}
 use Rattle.hashing.specs.Geometry.{pageCount, highest, grown, ungrown, isUngrown, shrunk}
 use Rattle.pages.specs.declared.position.Position.{Position}

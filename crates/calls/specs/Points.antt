@@ -5,7 +5,7 @@ use Prim.Native.Nat.{ℕ}
 use lib.IntN.{pos}
 use lib.ListN.{length, getD}
 use Rattle.hashing.specs.declared.Parameters.{Parameters}
-use Rattle.hashing.specs.Generator.{scrambled, signature, topOf}
+use Rattle.generator.specs.Generator.{scrambled, signature, topOf}
 use Rattle.hashing.specs.Geometry.{grown, ungrown, rank}
 use Rattle.hashing.specs.Home.{home}
 use Rattle.pages.specs.Position.{packed}

@@ -12,7 +12,7 @@ use lib.ListN.{length, getD, set, take, drop, length-set, length-drop, length-ma
 use lib.Seq.{getD-set-same, getD-set-other, getD-drop}
 use borrow.Author.Tests.{le-leb, lt-leb, lt-ltb, le-ltb, eq-eqb, ne-eqb, eqb-true, eqb-false}
 use Rattle.hashing.specs.declared.Geometry.{Geometry}
-use Rattle.hashing.specs.Generator.{topOf}
+use Rattle.generator.specs.Generator.{topOf}
 use Rattle.pages.specs.Page.{part}
 use Rattle.placement.specs.Rule.{Hash, keep, filter}
 use Rattle.placement.specs.Hash.{hashOf, homeIn, homesOf, homeUnder}

@@ -11,10 +11,10 @@ use lib.Seq.{paste, take-all, length-take-le, getD-take}
 use borrow.Author.Tests.{lt-ltb, ne-eqb}
 use Rattle.hashing.specs.declared.Parameters.{Parameters}
 use Rattle.hashing.specs.declared.Growth.{Growth}
-use Rattle.hashing.specs.Generator.{multiplierOf}
+use Rattle.hashing.specs.Geometry.{multiplierOf}
 use Rattle.hashing.specs.Limits.{validParameters, validGrowth}
 use Rattle.hashing.proofs.Bounds.{limits}
-use Rattle.hashing.proofs.Laws.{home-pages}
+use Rattle.hashing.proofs.Homes.{home-pages}
 use Rattle.pages.specs.Position.{validWord}
 use Rattle.placement.specs.Rule.{Star, pages, without}
 use Rattle.placement.specs.File.{File, Sized, greatest, gathered, replaced, written}

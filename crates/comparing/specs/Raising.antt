@@ -8,7 +8,7 @@ use lib.ListN.{length, getD}
 use denote.Ref.{now}
 use Rattle.hashing.specs.declared.Parameters.{Parameters}
 use Rattle.hashing.specs.declared.Geometry.{Geometry}
-use Rattle.hashing.specs.Generator.{topOf}
+use Rattle.generator.specs.Generator.{topOf}
 use Rattle.pages.specs.Page.{part}
 use Rattle.placement.specs.Rule.{Hash, filter}
 use Rattle.placement.specs.Hash.{hashOf, homesOf}

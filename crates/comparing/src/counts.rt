@@ -30,7 +30,13 @@ fn count_passed(
     while next < page {
         let probed = next;
         next += 1;
-        let signature = hashing::signature(table, geometry.parameters, number, probed - home + 1);
+        let signature = generator::signature(
+            table,
+            geometry.parameters.multiplier,
+            geometry.parameters.bits,
+            number,
+            probed - home + 1,
+        );
         if signature == separators[probed] as u32 {
             counts[probed] += 1;
         }
@@ -123,7 +129,7 @@ pub fn first_raisable(
     requires { ⌜ Homed geometry (now separators) (now numbers) (now homes) ⌝ }
     ensures { λ r. ⌜ r ≡ firstRaisable geometry (now (separators .entry)) (now (numbers .entry)) ⌝ }
 {
-    let table = hashing::multipliers(geometry.parameters.multiplier);
+    let table = generator::multipliers(geometry.parameters.multiplier);
     let mut counts = [0u32; 1024];
     count_pages(&table, geometry, separators, numbers, homes, &mut counts);
     first_rising(geometry.parameters, separators, &counts)

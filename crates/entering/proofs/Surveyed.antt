@@ -9,7 +9,7 @@ use lib.ListN.{take, length-append, length, drop, length-map, length-drop}
 use lib.Seq.{take-at, take-append-le, length-take-le, drop-paste, paste, slice}
 use Rattle.hashing.specs.declared.Parameters.{Parameters}
 use Rattle.hashing.specs.declared.Growth.{Growth}
-use Rattle.hashing.specs.Generator.{topOf}
+use Rattle.generator.specs.Generator.{topOf}
 use Rattle.hashing.specs.Limits.{validParameters}
 use Rattle.placement.specs.Rule.{Star, separators}
 use Rattle.placement.specs.File.{File, Sized, column, written}

@@ -14,19 +14,16 @@ use lib.Arith.{digits-div, digits-mod, mod-mul}
 use Rattle.hashing.specs.declared.Parameters.{Parameters}
 use Rattle.hashing.specs.declared.Growth.{Growth}
 use Rattle.hashing.specs.declared.moves.Landing.{Landing}
-use Rattle.hashing.specs.Generator.{modulus, scrambled}
+use Rattle.generator.specs.Generator.{modulus}
+use Rattle.generator.proofs.Scrambling.{scrambled-key}
 use Rattle.hashing.specs.Geometry.{sizeAt, countAt, rank}
 use Rattle.hashing.specs.Home.{rankAt, chosen, movedIf, stepFrom, afterSteps, home}
 use Rattle.hashing.specs.Moves.{codeAt, moves, countOf, pageOf, movedTo, followed, landing, Narrow, Landed, Rising}
-use Rattle.hashing.proofs.Numbers.{next, Next, mul-mod-right, div-mono}
+use Rattle.generator.proofs.Numbers.{next, Next, mul-mod-right, div-mono}
 use Rattle.hashing.proofs.Bounds.{Limits, Within, size-most}
-use Rattle.hashing.proofs.Laws.{step-over, steps-one, rank-below, span-most, count-fits}
+use Rattle.hashing.proofs.Homes.{step-over, steps-one, rank-below, span-most, count-fits}
 
 -- only the remainder of a number mod m counts
-
-pub scrambled-key : (a j k : ℕ) → scrambled a j (k % modulus) ≡ scrambled a j k
-unfolding scrambled
-scrambled-key a j k = mul-mod-right (a ^ j) modulus k
 
 pub chosen-key : (a : ℕ) (p : Parameters) (k i : ℕ) → chosen a p (k % modulus) i ≡ chosen a p k i
 unfolding chosen

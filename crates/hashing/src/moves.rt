@@ -4,13 +4,14 @@ ghost use mathlib.Core.Bool.{true};
 ghost use Prim.Native.Nat.{_+_, _*_, _/_, _%_, _≤_, _<_};
 ghost use lib.ListN.{length, take};
 ghost use lib.Dec.{leb};
-ghost use Rattle.hashing.specs.Generator.{modulus, multiplierOf, firstMultipliers};
+ghost use Rattle.generator.specs.Generator.{modulus, firstMultipliers};
+ghost use Rattle.hashing.specs.Geometry.{multiplierOf};
 ghost use Rattle.hashing.specs.Geometry.{rank};
 ghost use Rattle.hashing.specs.Limits.{validParameters};
 ghost use Rattle.hashing.specs.Moves.{codeAt, moves, countOf, pageOf, inverseOf, landing, Landed, Rising};
 use crate::Parameters;
-use crate::generator::residue;
 use crate::ranks::swept;
+use generator::residue;
 
 // The steps that choose a number: how many there are, and the code of the step after all those tested.
 pub struct Choice {

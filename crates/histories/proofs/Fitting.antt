@@ -8,9 +8,10 @@ use lib.Dec.{leb}
 use borrow.Author.Tests.{leb-true, lt-ltb, eq-eqb}
 use Rattle.hashing.specs.declared.Parameters.{Parameters}
 use Rattle.hashing.specs.declared.Growth.{Growth}
-use Rattle.hashing.specs.Generator.{multiplierOf}
+use Rattle.hashing.specs.Geometry.{multiplierOf}
 use Rattle.hashing.specs.Limits.{validParameters, validGrowth}
-use Rattle.hashing.proofs.Laws.{signature-below, home-pages}
+use Rattle.generator.proofs.Scrambling.{signature-below}
+use Rattle.hashing.proofs.Homes.{home-pages}
 use Rattle.hashing.proofs.Bounds.{limits}
 use Rattle.pages.specs.Position.{validNumber, validWord}
 use Rattle.placement.specs.Rule.{Star, Hash, pages, left}

@@ -13,7 +13,7 @@ use Rattle.hashing.specs.declared.Growth.{Growth}
 use Rattle.hashing.specs.Geometry.{pageCount, highest, grown, ungrown, isUngrown, shrunk}
 use Rattle.hashing.specs.Limits.{validGrowth}
 use Rattle.hashing.proofs.Bounds.{growth-within}
-use Rattle.hashing.proofs.Laws.{grown-valid}
+use Rattle.hashing.proofs.Homes.{grown-valid}
 use Rattle.hashing.proofs.Shrinking.{new-is, shrunk-valid}
 use Rattle.placement.specs.Rule.{Star, left}
 use Rattle.reach.specs.Reach.{isEmpty}

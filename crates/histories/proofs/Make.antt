@@ -9,7 +9,7 @@ use lib.ListN.{replicate, replicate-append-replicate}
 use Rattle.hashing.specs.declared.Parameters.{Parameters}
 use Rattle.hashing.specs.Geometry.{ungrown}
 use Rattle.hashing.specs.Limits.{validParameters}
-use Rattle.hashing.proofs.Laws.{start-valid}
+use Rattle.hashing.proofs.Homes.{start-valid}
 use Rattle.placement.specs.Rule.{Star, Hash, Contents, filter, passing, contentsOf, staying, onward, pages, left, separators}
 use Rattle.placement.specs.File.{File, padded, column, laid, fileOf}
 use Rattle.placement.specs.Hash.{hashOf}

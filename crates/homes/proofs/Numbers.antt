@@ -6,8 +6,8 @@ use native.Mathlib.Nat.{mod-eq-of-lt, mod-eq-sub-mod, div-add-mod', div-mul-le-s
 use native.Mathlib.Decide.{decLe, decLt}
 use native.Mathlib.Omega.{arith}
 use lib.Arith.{digits-div, digits-mod}
-use Rattle.hashing.specs.Generator.{modulus}
-use Rattle.hashing.proofs.Numbers.{halves}
+use Rattle.generator.specs.Generator.{modulus}
+use Rattle.generator.proofs.Numbers.{halves}
 
 -- the product of two numbers doubled, folded twice at 31 bits
 abbrev pub folded : ℕ → ℕ

@@ -14,12 +14,12 @@ use lib.Pow.{pow-mono}
 use borrow.Author.Tests.{leb-true, leb-false}
 use Rattle.hashing.specs.declared.Parameters.{Parameters}
 use Rattle.hashing.specs.declared.Growth.{Growth}
-use Rattle.hashing.specs.Generator.{modulus, power, firstMultipliers}
+use Rattle.generator.specs.Generator.{modulus, power, firstMultipliers}
 use Rattle.hashing.specs.Geometry.{sizeAt, countAt}
 use Rattle.hashing.specs.Limits.{validParameters, validGrowth}
-use Rattle.hashing.proofs.Numbers.{next, Next, div-mono}
+use Rattle.generator.proofs.Numbers.{next, Next, div-mono}
 use Rattle.hashing.proofs.Bounds.{Limits, limits, growth-within, spread, size-most, size-least, count-least}
-use Rattle.hashing.proofs.Powers.{entry}
+use Rattle.generator.proofs.Powers.{entry}
 use Rattle.homes.specs.declared.stages.Stage.{Stage}
 use Rattle.homes.specs.declared.stages.Sweep.{Sweep}
 use Rattle.homes.specs.Stages.{stageAt, sweepBy, sweepOf, Ready}

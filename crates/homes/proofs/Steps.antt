@@ -11,12 +11,12 @@ use lib.ListN.{length, getD}
 use borrow.Author.Tests.{le-leb, lt-leb, lt-ltb, le-ltb}
 use Rattle.hashing.specs.declared.Parameters.{Parameters}
 use Rattle.hashing.specs.declared.Growth.{Growth}
-use Rattle.hashing.specs.Generator.{modulus, power, scrambled}
+use Rattle.generator.specs.Generator.{modulus, power, scrambled}
 use Rattle.hashing.specs.Geometry.{sizeAt, countAt, rank}
 use Rattle.hashing.specs.Home.{rankAt, chosen, expandedAt, stepFrom, afterSteps, home}
-use Rattle.hashing.proofs.Numbers.{mul-mod}
+use Rattle.generator.proofs.Numbers.{mul-mod}
 use Rattle.hashing.proofs.Bounds.{Limits}
-use Rattle.hashing.proofs.Laws.{rank-below, rank-at-below, steps-one, steps-below}
+use Rattle.hashing.proofs.Homes.{rank-below, rank-at-below, steps-one, steps-below}
 use Rattle.homes.specs.declared.stages.Stage.{Stage}
 use Rattle.homes.specs.declared.stages.Sweep.{Sweep}
 use Rattle.homes.specs.Stages.{stageAt, sweepOf, limitAt, Ready}

@@ -3,7 +3,7 @@ ghost use mathlib.Core.Path.{_≡_};
 ghost use Prim.Native.Nat.{_+_, _*_, _%_, _≤_, _<_};
 ghost use lib.ListN.{length, getD};
 ghost use lib.Seq.{paste};
-ghost use Rattle.hashing.specs.Generator.{modulus};
+ghost use Rattle.generator.specs.Generator.{modulus};
 ghost use Rattle.hashing.specs.Geometry.{rank};
 ghost use Rattle.homes.specs.Stages.{Ready};
 ghost use Rattle.homes.specs.Lanes.{lanes, Under, hitOf, movedBy};

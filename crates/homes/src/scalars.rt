@@ -1,7 +1,7 @@
 // What becomes of one number, in forms that vectorise: no division and no jump is left.
 ghost use mathlib.Core.Path.{_≡_};
 ghost use Prim.Native.Nat.{_+_, _*_, _/_, _%_, _≤_, _<_, min};
-ghost use Rattle.hashing.specs.Generator.{modulus};
+ghost use Rattle.generator.specs.Generator.{modulus};
 ghost use Rattle.hashing.specs.Geometry.{rank};
 ghost use Rattle.homes.specs.Stages.{sweepOf, Ready};
 ghost use Rattle.homes.specs.Lanes.{hitOf, movedBy};

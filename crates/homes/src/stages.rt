@@ -2,7 +2,7 @@
 ghost use mathlib.Core.Path.{_≡_};
 ghost use mathlib.Core.Bool.{true};
 ghost use Prim.Native.Nat.{_+_, _*_, _/_, _%_, _≤_};
-ghost use Rattle.hashing.specs.Generator.{modulus};
+ghost use Rattle.generator.specs.Generator.{modulus};
 ghost use Rattle.hashing.specs.Geometry.{countAt};
 ghost use Rattle.hashing.specs.Limits.{validParameters};
 ghost use Rattle.homes.specs.Stages.{stageAt, sweepOf, limitAt};

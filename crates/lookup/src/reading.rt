@@ -38,7 +38,7 @@ pub fn look_up(
     if !pages::position::number_valid(number) {
         return Found::Refused(Refusal::BadNumber, 0);
     }
-    let table = hashing::first_multipliers(parameters.multiplier);
+    let table = generator::first_multipliers(parameters.multiplier);
     let named = find(
         &table,
         Geometry { parameters, growth },

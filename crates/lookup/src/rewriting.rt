@@ -46,7 +46,7 @@ pub fn change(
     if !pages::position::position_valid(position) {
         return Placed::Refused(Refusal::BadPosition, 0);
     }
-    let table = hashing::first_multipliers(parameters.multiplier);
+    let table = generator::first_multipliers(parameters.multiplier);
     let named = find(
         &table,
         Geometry { parameters, growth },

@@ -12,7 +12,7 @@ use lib.Seq.{drop-cons, length-take-le, getD-take, take-suc, take-suc-set, take-
 use borrow.Author.Tests.{eq-eqb, ne-eqb}
 use Rattle.hashing.specs.declared.Parameters.{Parameters}
 use Rattle.hashing.specs.declared.Growth.{Growth}
-use Rattle.hashing.specs.Generator.{topOf}
+use Rattle.generator.specs.Generator.{topOf}
 use Rattle.hashing.specs.Home.{home}
 use Rattle.pages.specs.Position.{validWord}
 use Rattle.pages.specs.Page.{part, pageAt}

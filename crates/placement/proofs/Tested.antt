@@ -10,7 +10,8 @@ use lib.ListN.{length, getD, List·getD-map}
 use borrow.Author.Tests.{leb-true, ltb-true, eqb-true, eqb-false, le-leb}
 use Rattle.hashing.specs.declared.Parameters.{Parameters}
 use Rattle.hashing.specs.declared.Growth.{Growth}
-use Rattle.hashing.specs.Generator.{multiplierOf, signature}
+use Rattle.generator.specs.Generator.{signature}
+use Rattle.hashing.specs.Geometry.{multiplierOf}
 use Rattle.hashing.specs.Home.{home}
 use Rattle.pages.specs.Position.{validNumber, validWord}
 use Rattle.pages.specs.Page.{part}

@@ -9,7 +9,8 @@ use lib.Seq.{paste}
 use Rattle.hashing.specs.declared.Parameters.{Parameters}
 use Rattle.hashing.specs.declared.Growth.{Growth}
 use Rattle.hashing.specs.declared.Geometry.{Geometry}
-use Rattle.hashing.specs.Generator.{multiplierOf, topOf}
+use Rattle.generator.specs.Generator.{topOf}
+use Rattle.hashing.specs.Geometry.{multiplierOf}
 use Rattle.hashing.specs.Home.{home}
 use Rattle.pages.specs.declared.page.Page.{Page}
 use Rattle.pages.specs.Page.{part}

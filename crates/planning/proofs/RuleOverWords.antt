@@ -8,7 +8,8 @@ use native.Mathlib.Omega.{arith}
 use lib.Dec.{leb, ltb, eqb}
 use borrow.Author.Tests.{le-leb, lt-leb, lt-ltb, leb-true, ltb-true, eqb-true}
 use Rattle.hashing.specs.declared.Parameters.{Parameters}
-use Rattle.hashing.specs.Generator.{multiplierOf, signature, topOf}
+use Rattle.generator.specs.Generator.{signature, topOf}
+use Rattle.hashing.specs.Geometry.{multiplierOf}
 use Rattle.placement.specs.Rule.{Star, Hash, below, onward, contentsOf, pages, left}
 use Rattle.placement.specs.Rule.{staying as rule·staying, passing as rule·passing, separatorFrom as rule·separatorFrom, separatorOf as rule·separatorOf}
 use Rattle.waiting.specs.Lists.{filter, all}

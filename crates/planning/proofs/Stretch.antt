@@ -10,7 +10,7 @@ use lib.ListN.{length, getD, take, drop, set, length-append, take-append-drop}
 use lib.Seq.{slice, length-slice, length-take-le, take-take, take-at, drop-at, drop-drop, set-split, take-add}
 use lib.Pow.{pow-mono}
 use Rattle.hashing.specs.declared.Parameters.{Parameters}
-use Rattle.hashing.specs.Generator.{topOf}
+use Rattle.generator.specs.Generator.{topOf}
 use Rattle.placement.specs.Rule.{Star, Contents, separators}
 use Rattle.placement.specs.File.{padded, column, written}
 use Rattle.placement.proofs.Standing.{length-separators}

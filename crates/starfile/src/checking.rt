@@ -43,7 +43,7 @@ pub fn check(
     if let Admission::Refused(refusal) = guard(parameters, growth, fits) {
         return Checked::Refused(refusal, 0);
     }
-    let table = hashing::first_multipliers(parameters.multiplier);
+    let table = generator::first_multipliers(parameters.multiplier);
     let verdict = comparing::check_file(
         &table,
         Geometry { parameters, growth },

@@ -174,7 +174,7 @@ fn regrow_file(
     match step {
         Step::Not(refusal) => unmoved(growth, refusal),
         Step::To(next, page) => {
-            let table = hashing::first_multipliers(parameters.multiplier);
+            let table = generator::first_multipliers(parameters.multiplier);
             let replaced = replacing::regrow(
                 &table,
                 geometry,

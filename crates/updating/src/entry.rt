@@ -171,7 +171,7 @@ fn enter_star(
         (named parameters growth (before separators numbers words owners) number) (record { number = number; word = word; owner = caller }))
         (placed r) (after separators numbers words owners) ⌝ }
 {
-    let table = hashing::first_multipliers(parameters.multiplier);
+    let table = generator::first_multipliers(parameters.multiplier);
     let geometry = Geometry { parameters, growth };
     let named = find(&table, geometry, separators, numbers, words, owners, number);
     let page = named.page as u32;

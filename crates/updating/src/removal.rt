@@ -92,7 +92,7 @@ fn remove_held(
         (named parameters growth (before separators numbers words owners) number) caller number)
         (placed r) (after separators numbers words owners) ⌝ }
 {
-    let table = hashing::first_multipliers(parameters.multiplier);
+    let table = generator::first_multipliers(parameters.multiplier);
     let geometry = Geometry { parameters, growth };
     let named = find(&table, geometry, separators, numbers, words, owners, number);
     let page = named.page as u32;

@@ -9,8 +9,9 @@ use lib.Dec.{leb, ltb, eqb}
 use lib.ListN.{length, getD}
 use borrow.Author.Tests.{leb-true, leb-false, ltb-true, ltb-false, eqb-true, eqb-false, le-leb, lt-leb, lt-ltb, le-ltb}
 use Rattle.hashing.specs.declared.Parameters.{Parameters}
-use Rattle.hashing.specs.Generator.{multiplierOf, topOf}
-use Rattle.hashing.proofs.Laws.{signature-below}
+use Rattle.generator.specs.Generator.{topOf}
+use Rattle.hashing.specs.Geometry.{multiplierOf}
+use Rattle.generator.proofs.Scrambling.{signature-below}
 use Rattle.waiting.specs.Lists.{filter, alike, sumTo}
 use Rattle.waiting.specs.Words.{homeOf, numberOf}
 use Rattle.waiting.specs.Settle.{signatureOf, under, staying, passing, separatorFrom, separatorOf}

@@ -2,9 +2,10 @@
 use mathlib.Core.Path.{_≡_, ap, sym, _∙_}
 use Prim.Native.Nat.{ℕ, _+_, _-_, _*_, _%_, _<_}
 use Rattle.hashing.specs.declared.Parameters.{Parameters}
-use Rattle.hashing.specs.Generator.{modulus, multiplierOf, topOf}
-use Rattle.hashing.proofs.Powers.{power-below}
-use Rattle.hashing.proofs.Products.{signature-by}
+use Rattle.generator.specs.Generator.{modulus, topOf}
+use Rattle.hashing.specs.Geometry.{multiplierOf}
+use Rattle.generator.proofs.Powers.{power-below}
+use Rattle.generator.proofs.Products.{signature-by}
 use Rattle.waiting.specs.declared.settling.Factor.{Factor}
 use Rattle.waiting.specs.Words.{homeOf, numberOf}
 use Rattle.waiting.specs.Settle.{factorOf, signatureOf}

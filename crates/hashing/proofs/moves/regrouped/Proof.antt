@@ -6,7 +6,7 @@ use native.Mathlib.Omega.{arith}
 use borrow.Author.Needs.{needs}
 use lib.Pow.{pow-pos}
 use Rattle.hashing.specs.Moves.{countOf}
-use Rattle.hashing.proofs.Numbers.{shifted}
+use Rattle.generator.proofs.Numbers.{shifted}
 use Rattle.hashing.proofs.Bounds.{limits, few-doublings}
 use Rattle.hashing.proofs.Codes.{regroup}
 use Rattle.hashing.proofs.moves.regrouped.Statement.{statement}

@@ -4,10 +4,11 @@ use native.Mathlib.Nat.{mul-le-mul}
 use native.Mathlib.Omega.{arith}
 use borrow.Author.Needs.{needs}
 use lib.ListN.{getD}
-use Rattle.hashing.specs.Generator.{multiplierOf, power}
+use Rattle.generator.specs.Generator.{power}
+use Rattle.hashing.specs.Geometry.{multiplierOf}
 use Rattle.hashing.proofs.Bounds.{Limits, limits}
 use Rattle.homes.proofs.Prepared.{first-factor}
-use Rattle.hashing.proofs.Powers.{power-below}
+use Rattle.generator.proofs.Powers.{power-below}
 use Rattle.homes.proofs.Steps.{starts-are, homes-are}
 use Rattle.homes.proofs.blocks.homes.Statement.{statement}
 use Rattle.homes.proofs.blocks.homes.Tie as tie

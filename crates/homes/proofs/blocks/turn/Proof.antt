@@ -4,12 +4,13 @@ use Prim.Native.Nat.{suc, _+_, _*_, _≤_}
 use native.Mathlib.Omega.{arith}
 use borrow.Author.Needs.{needs}
 use lib.ListN.{getD}
-use Rattle.hashing.specs.Generator.{multiplierOf, power}
+use Rattle.generator.specs.Generator.{power}
+use Rattle.hashing.specs.Geometry.{multiplierOf}
 use Rattle.hashing.proofs.Bounds.{Limits, limits}
 use Rattle.homes.specs.Lanes.{pagesAfter}
 use Rattle.homes.proofs.Lists.{lanes-length}
 use Rattle.homes.proofs.Prepared.{Steady, steady, ready, expanded-most, factor-is, stage-count}
-use Rattle.hashing.proofs.Powers.{power-below}
+use Rattle.generator.proofs.Powers.{power-below}
 use Rattle.homes.proofs.Steps.{groups-under, pages-under, groups-known, pages-length, steps-are}
 use Rattle.homes.proofs.blocks.turn.Statement.{statement}
 use Rattle.homes.proofs.blocks.turn.Tie as tie

@@ -5,7 +5,7 @@ use Prim.Native.Nat.{ℕ, _+_, _-_, _%_, _≤_}
 use native.Mathlib.Omega.{arith}
 use lib.ListN.{length, take}
 use lib.Seq.{length-paste}
-use Rattle.hashing.specs.Generator.{multiplierOf}
+use Rattle.hashing.specs.Geometry.{multiplierOf}
 use Rattle.hashing.specs.Home.{home}
 use Rattle.hashing.proofs.Bounds.{Limits, limits}
 use Rattle.homes.proofs.Lists.{lanes-length, filled-more, filled-part}

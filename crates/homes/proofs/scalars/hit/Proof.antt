@@ -2,7 +2,7 @@
 use Prim.Native.Nat.{_%_}
 use borrow.Author.Tests.{le-leb, lt-leb}
 use borrow.Author.Needs.{needs}
-use Rattle.hashing.specs.Generator.{modulus}
+use Rattle.generator.specs.Generator.{modulus}
 use Rattle.homes.specs.Lanes.{hitOf}
 use Rattle.homes.proofs.Numbers.{passes, fails}
 use Rattle.homes.proofs.scalars.hit.Statement.{statement}

@@ -3,7 +3,7 @@ use Prim.Native.Nat.{_-_}
 use native.Mathlib.Nat.{mod-lt, mod-eq-of-lt}
 use native.Mathlib.Omega.{arith}
 use borrow.Author.Needs.{needs}
-use Rattle.hashing.specs.Generator.{modulus}
+use Rattle.generator.specs.Generator.{modulus}
 use Rattle.homes.proofs.Numbers.{over}
 use Rattle.homes.proofs.scalars.start.Statement.{statement}
 use Rattle.homes.proofs.scalars.start.Tie as tie

@@ -1,8 +1,8 @@
 use mathlib.Core.Path.{_∙_}
 use native.Mathlib.Omega.{arith}
-use Rattle.hashing.specs.Generator.{multiplierOf}
+use Rattle.hashing.specs.Geometry.{multiplierOf}
 use Rattle.hashing.proofs.Bounds.{limits}
-use Rattle.hashing.proofs.Laws.{home-pages}
+use Rattle.hashing.proofs.Homes.{home-pages}
 use Rattle.placement.specs.Hash.{hashOf, lent}
 use Rattle.replacing.proofs.Removing.{Reached, reached, removal-refused, removal-plannable, removal-done}
 use borrow.Author.Needs.{needs}
