@@ -9,11 +9,11 @@ use calls::answers::Admission;
 use calls::answers::Checked;
 use calls::answers::Refusal;
 use comparing::Verdict;
+use guarding::all_fit;
+use guarding::guard;
 use hashing::Geometry;
 use hashing::Growth;
 use hashing::Parameters;
-use lookup::all_fit;
-use lookup::guard;
 
 // The file is only read. A refusal of the file itself tells the lowest unsound page, or the first page and place that differ from the rule.
 pub fn check(

@@ -7,10 +7,10 @@ ghost use Rattle.calls.specs.Calls.{makeOf};
 use calls::answers::Admission;
 use calls::answers::Grown;
 use calls::answers::Placed;
+use guarding::file_fits;
+use guarding::guard;
 use hashing::Growth;
 use hashing::Parameters;
-use lookup::file_fits;
-use lookup::guard;
 
 // The file is left as document 01's empty file. No growth state is read: a new file's is (0, 0).
 pub fn make(

@@ -13,11 +13,11 @@ use calls::answers::Admission;
 use calls::answers::Grown;
 use calls::answers::Placed;
 use calls::answers::Refusal;
+use guarding::all_fit;
+use guarding::guard;
 use hashing::Geometry;
 use hashing::Growth;
 use hashing::Parameters;
-use lookup::all_fit;
-use lookup::guard;
 use replacing::Replaced;
 
 // The answer of an accepted growth is the new page, with the new growth state.

@@ -5,11 +5,11 @@ mod emptying;
 mod growth;
 
 pub use checking::check;
+pub use counting::due;
 pub use emptying::make;
 pub use growth::grow;
 pub use growth::shrink;
 pub use lookup::change;
-pub use lookup::due;
 pub use lookup::look_up;
 pub use updating::cascade;
 pub use updating::enter;

@@ -11,7 +11,7 @@ use Rattle.pages.specs.declared.position.Position.{Position}
 use Rattle.placement.specs.Rule.{Star, left}
 use Rattle.placement.specs.File.{File}
 use Rattle.entering.specs.Entry.{Unheld}
-use Rattle.lookup.proofs.Admitting.{readable-facts}
+use Rattle.guarding.proofs.Admitting.{readable-facts}
 use Rattle.cascading.specs.Cascade.{overflow, stopOf, unsoundOf}
 use Rattle.reach.specs.Reach.{pagesTo, entryEnd, removalEnd, entersWithin, firstUnsound, isEmpty}
 use Rattle.calls.specs.declared.answers.Answer.{Answer}

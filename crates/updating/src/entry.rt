@@ -12,12 +12,12 @@ use calls::answers::Admission;
 use calls::answers::Placed;
 use calls::answers::Refusal;
 use entering::Entered;
+use guarding::all_fit;
+use guarding::guard;
 use hashing::Geometry;
 use hashing::Growth;
 use hashing::Parameters;
-use lookup::all_fit;
 use lookup::find;
-use lookup::guard;
 use pages::position::Position;
 
 // The answer of an accepted entry is the page where the star now stands, its caller's. Entering a held star with its own position changes nothing.

@@ -12,12 +12,12 @@ ghost use Rattle.calls.specs.Lent.{Admitted, poolBefore, poolAfter};
 use calls::answers::Admission;
 use calls::answers::Placed;
 use calls::answers::Refusal;
+use guarding::all_fit;
+use guarding::guard;
 use hashing::Geometry;
 use hashing::Growth;
 use hashing::Parameters;
-use lookup::all_fit;
 use lookup::find;
-use lookup::guard;
 use lookup::may_alter;
 use replacing::Replaced;
 

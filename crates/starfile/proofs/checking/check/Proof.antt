@@ -11,7 +11,7 @@ use Rattle.calls.specs.Calls.{unlent, checkOf, fileFits, poolFits}
 use Rattle.starfile.specs.Outcomes.{verdictChecked}
 use Rattle.starfile.proofs.Outcomes.{verdict-is, verdict-small}
 use Rattle.calls.proofs.Refusals.{turned-away, refusal-is, none-is, admitted-pool, leaves}
-use Rattle.lookup.proofs.Admitting.{prepared, tabled}
+use Rattle.guarding.proofs.Admitting.{prepared, tabled}
 use Rattle.updating.proofs.Pools.{cleared-is}
 use borrow.Author.Needs.{needs}
 use Rattle.starfile.proofs.checking.check.Statement.{statement}

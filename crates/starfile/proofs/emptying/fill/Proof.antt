@@ -4,7 +4,7 @@ use Prim.Native.Nat.{_≤_, _-_}
 use native.Mathlib.Omega.{arith}
 use lib.ListN.{length, drop, replicate, length-set}
 use borrow.Author.Fill.{fill-more}
-use Rattle.lookup.proofs.Tallies.{filled-all}
+use Rattle.counting.proofs.Tallies.{filled-all}
 use Rattle.starfile.proofs.emptying.fill.Statement.{statement}
 use Rattle.starfile.proofs.emptying.fill.Tie as tie
 

@@ -5,7 +5,7 @@ use Rattle.placement.specs.File.{File}
 use Rattle.placement.specs.Hash.{lent}
 use Rattle.calls.specs.Answers.{Pool, pooled, cleared}
 use Rattle.starfile.proofs.Outcomes.{growth-small}
-use Rattle.lookup.proofs.Admitting.{prepared, tabled}
+use Rattle.guarding.proofs.Admitting.{prepared, tabled}
 use Rattle.starfile.proofs.Stepping.{step-movable, regrow-refused, regrow-stored}
 use borrow.Author.Needs.{needs}
 use Rattle.starfile.proofs.growth.regrow_file.Statement.{statement}

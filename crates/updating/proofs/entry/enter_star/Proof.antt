@@ -12,7 +12,7 @@ use Rattle.entering.specs.Entry.{Unheld, newStar}
 use Rattle.calls.specs.Answers.{Pool, placed, refusedBy, pooled, cleared}
 use Rattle.calls.specs.Calls.{readable, holds, enteredAgain, named, placeFor}
 use Rattle.updating.proofs.Outcomes.{entry-small, cascade-small, entered-is, cascaded-is}
-use Rattle.lookup.proofs.Admitting.{prepared, tabled}
+use Rattle.guarding.proofs.Admitting.{prepared, tabled}
 use Rattle.updating.proofs.Pools.{unheld}
 use borrow.Author.Needs.{needs}
 use Rattle.updating.proofs.entry.enter_star.Statement.{statement}

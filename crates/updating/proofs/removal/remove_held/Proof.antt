@@ -10,7 +10,7 @@ use Rattle.calls.specs.Answers.{Pool, placed, refusedBy, pooled, cleared}
 use Rattle.calls.specs.Calls.{removeOn, allowed, named, placeFor}
 use Rattle.lookup.proofs.Finding.{altered}
 use Rattle.updating.proofs.Outcomes.{removal-small, removed-is}
-use Rattle.lookup.proofs.Admitting.{prepared, tabled}
+use Rattle.guarding.proofs.Admitting.{prepared, tabled}
 use borrow.Author.Needs.{needs}
 use Rattle.updating.proofs.removal.remove_held.Statement.{statement}
 use Rattle.updating.proofs.removal.remove_held.Tie as tie
