@@ -33,7 +33,7 @@ use Rattle.calls.specs.Calls.{
   removeOn,
   removeTo,
 }
-use Rattle.sessions.specs.Commands.{starline, State, stateOf, called, unlessRefused, foundReply, replyWith, replyOf, nextOf, Follows}
+use Rattle.sessions.specs.Commands.{starline, State, stateOf, called, unlessRefused, foundReply, replyWith, replyTo, nextSession, Follows}
 use Rattle.sessions.specs.declared.commands.Replied.{Replied}
 
 -- what a look-up shows, by whether the star was found
@@ -95,7 +95,7 @@ pub follows :
     (s : State) (c : Command) (r : Replied) (a : Answer) (pool : Pool) →
     Leaves (called s c) a (lent (r .file .separators) (r .file .numbers) (r .file .words) (r .file .owners)) pool →
     r .file .growth ≡ called s c .growth → r .reply ≡ replyWith c a → Follows s c r
-unfolding stateOf replyOf nextOf
+unfolding stateOf replyTo nextSession
 follows s c r a pool l g e =
     record {
       replies = e ∙ ap (replyWith c) (l .answers);
@@ -103,8 +103,8 @@ follows s c r a pool l g e =
     }
 
 -- a look-up leaves all as it was
-pub looked-keeps : (s : State) (k : ℕ) → nextOf s (LookUp k) ≡ s
-unfolding nextOf called lookUpOf
+pub looked-keeps : (s : State) (k : ℕ) → nextSession s (LookUp k) ≡ s
+unfolding nextSession called lookUpOf
 looked-keeps s k =
     go (orElse (unlent starline (s .growth) (fileFits starline (s .file))) (unless (validNumber k) 3))
     (lookedUp starline (s .growth) (s .file) (named starline (s .growth) (s .file) k) k)

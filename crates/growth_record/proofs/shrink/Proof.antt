@@ -6,7 +6,7 @@ use Rattle.calls.specs.Calls.{shrinkOf}
 use Rattle.starfile.proofs.shrink.Symbol as callee-def
 use Rattle.starfile.proofs.shrink.Symbol.{name as #callee}
 use Rattle.starfile.proofs.shrink.Met as callee-thm
-use Rattle.growth_record.proofs.Laws.{shrink-keeps}
+use Rattle.growth_record.proofs.Keeping.{shrink-keeps}
 use Rattle.growth_record.proofs.Walk.{Called, Kept, meets}
 use Rattle.growth_record.proofs.kept.Symbol as kept-def
 use Rattle.growth_record.proofs.kept.Symbol.{name as #growth-record·kept}

@@ -9,14 +9,14 @@ use borrow.Author.Tests.{eqb-true}
 use lib.Dec.{eqb, leb, ltb}
 use lib.IntN.{pos, negℤ}
 use lib.ListN.{length, drop}
-use Rattle.lines.specs.Grammar.{fields, fieldLength, isDigit, allDigits, isEmpty, isDecimal, isUpTo, naturalOf, declinationOf, value, numberOf, numberWith, enterOf, enterWith}
+use Rattle.lines.specs.Grammar.{fields, fieldLength, isDigit, allDigits, noBytes, isDecimal, isUpTo, naturalOf, declinationOf, value, numberFrom, numberWith, enterFrom, enterWith}
 use Rattle.lines.specs.declared.Command.{Command}
 use Rattle.lines.specs.declared.Command.the-variants.{Bad}
 use Rattle.lines.specs.declared.Natural.{Natural}
 use Rattle.lines.specs.declared.Natural.the-variants.{Of, Wrong}
 use Rattle.lines.specs.declared.Declination.the-variants.{At, Nowhere}
 use Rattle.lines.proofs.Numbers.{and-false}
-use Rattle.lines.proofs.Split.{fields-last, fields-more, fields-some, field-within}
+use Rattle.lines.proofs.Fields.{fields-last, fields-more, fields-some, field-within}
 
 not-digits : (l : List ℕ) → fieldLength l < length l → allDigits l ≡ false
 unfolding fieldLength allDigits isDigit
@@ -30,7 +30,7 @@ not-digits (c ∷ l) h = go (eqb c 32) refl h (not-digits l)
     go false e p rest = rw (rest (omega arith), and-false)
 
 not-decimal : (l : List ℕ) → fieldLength l < length l → isDecimal l ≡ false
-unfolding fieldLength isDecimal isEmpty
+unfolding fieldLength isDecimal noBytes
 not-decimal [] h = refl
 not-decimal (c ∷ []) h = go (eqb c 48) refl
   where
@@ -76,9 +76,9 @@ alone command w l one more = go (decLt (fieldLength l) (length l))
         rw (fields-more l p, after .2) (more p _ _ _)
     go (no p) = rw (fields-last l (omega (arith, field-within l))) one
 
-pub number-alone : (make : ℕ → Command) (l : List ℕ) → numberOf make (fields l) ≡ numberWith make (naturalOf l)
-unfolding numberOf numberWith
-number-alone make l = alone (numberOf make) _ l refl (λ p a b fs. rw (not-natural l p))
+pub number-alone : (make : ℕ → Command) (l : List ℕ) → numberFrom make (fields l) ≡ numberWith make (naturalOf l)
+unfolding numberFrom numberWith
+number-alone make l = alone (numberFrom make) _ l refl (λ p a b fs. rw (not-natural l p))
 
 pub nowhere : (x y : Natural) → enterWith x y Nowhere ≡ Bad
 unfolding enterWith
@@ -88,8 +88,8 @@ nowhere (Of n) (Of m) = refl
 
 pub enter-alone :
     (number ra l : List ℕ) →
-    enterOf (number ∷ ra ∷ fields l) ≡ enterWith (naturalOf number) (naturalOf ra) (declinationOf l)
-unfolding enterOf
+    enterFrom (number ∷ ra ∷ fields l) ≡ enterWith (naturalOf number) (naturalOf ra) (declinationOf l)
+unfolding enterFrom
 enter-alone number ra l =
-    alone (λ fs. enterOf (number ∷ ra ∷ fs)) _ l refl
+    alone (λ fs. enterFrom (number ∷ ra ∷ fs)) _ l refl
     (λ p a b fs. rw (not-declination l p) (sym (nowhere (naturalOf number) (naturalOf ra))))
