@@ -2,7 +2,7 @@
 use mathlib.Core.Path.{_≡_, refl, ap, sym, _∙_}
 use mathlib.Core.Bool.{Bool, true, false}
 use mathlib.Core.List.{List, [], _∷_}
-use Prim.Native.Nat.{ℕ, zero, suc, _+_, _≤_, _<_}
+use Prim.Native.Nat.{ℕ, zero, suc, _+_, _-_, _≤_, _<_}
 use native.Mathlib.Nat.{add-zero, zero-add, le-of-suc-le-suc, not-suc-le-zero}
 use native.Mathlib.Numerals.{add-one}
 use native.Mathlib.Omega.{arith}
@@ -61,6 +61,14 @@ sum-mono (suc m) (suc n) (x ∷ l) h = let r : sumTo m l ≤ sumTo n l = sum-mon
 pub sum-none : (l : List ℕ) → sumTo 0 l ≡ 0
 unfolding sumTo
 sum-none l = refl
+
+pub sum-last : (v : ℕ) (l : List ℕ) → 0 < v → sumTo v l ≡ sumTo (v - 1) l + getD l (v - 1) 0
+sum-last zero l h = absurd (not-suc-le-zero h)
+sum-last (suc v) l h = let e : suc v - 1 ≡ v = omega arith in rw e (sum-next v l)
+
+pub sum-some : (v n : ℕ) (l : List ℕ) → n < sumTo v l → 0 < v
+sum-some zero n l h = omega (arith, sum-none l)
+sum-some (suc v) n l h = omega arith
 
 -- a list that is known below v, and is set at v
 pub set-first : (l : List ℕ) (v x : ℕ) (e : ℕ → ℕ) → v < length l → ((u : ℕ) → u < v → getD l u 0 ≡ e u) → x ≡ e v

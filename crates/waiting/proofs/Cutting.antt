@@ -150,3 +150,7 @@ module _ (q : Parameters) (p : ℕ) where
     pub passing-top : (l : List ℕ) → passing q p (topOf (q .bits)) l ≡ []
     passing-top [] = passing-nil (topOf (q .bits))
     passing-top (w ∷ l) = passes-not (topOf (q .bits)) w l (signature-small w) ∙ passing-top l
+
+    pub staying-full : (l : List ℕ) (v : ℕ) → topOf (q .bits) ≤ v → length (staying q p v l) ≡ length l
+    staying-full l v h =
+        omega (arith, ap length (staying-top l), staying-mono l (topOf (q .bits)) v h, staying-length v l)
