@@ -12,6 +12,10 @@ use Rattle.pages.specs.declared.page.Place.{Place}
 unfoldable pub part : ℕ → ℕ → List ℕ → List ℕ
 part places page l = take places (drop (page * places) l)
 
+-- the items of `count` pages from page lo
+abbrev pub stretch : ℕ → ℕ → ℕ → List ℕ → List ℕ
+stretch places lo count l = take (count * places) (drop (lo * places) l)
+
 -- "one value of 32 places, unused ones empty"; 0 marks an empty place, whose word and owner are 0
 unfoldable pub filled : List ℕ → List ℕ
 filled l = l ++ replicate (32 - length l) 0
