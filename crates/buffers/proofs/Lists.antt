@@ -1,11 +1,12 @@
 -- Laws of lists that the library lacks: parts of parts, mapped parts, and places that are not there.
-use mathlib.Core.Path.{_≡_, refl, sym, ap}
+use mathlib.Core.Path.{_≡_, refl, sym, ap, _∙_}
 use mathlib.Core.List.{List, [], _∷_, _++_, map}
-use Prim.Native.Nat.{ℕ, zero, suc, _+_, _-_, _<_}
+use Prim.Native.Nat.{ℕ, zero, suc, _-_, _≤_, _<_}
 use native.Mathlib.Nat.{not-suc-le-zero, sub-zero, zero-sub, suc-sub-suc}
 use native.Mathlib.Omega.{arith}
-use lib.ListN.{length, getD, take, drop, replicate}
+use lib.ListN.{length, getD, take, drop, replicate, length-append, length-replicate}
 use lib.Seq.{take-nil}
+use Rattle.buffers.specs.Lists.{padded}
 
 pub drop-take : {A : Type 0} (f t : ℕ) (l : List A) → drop f (take t l) ≡ take (t - f) (drop f l)
 drop-take zero t l = rw (sub-zero t)
@@ -29,13 +30,21 @@ within [] new item h = absurd (not-suc-le-zero h)
 within (x ∷ xs) new zero h = refl
 within (x ∷ xs) new (suc i) h = within xs new i (omega arith)
 
-pub getD-zeros : (n i : ℕ) → getD (replicate {A = ℕ} n 0) i 0 ≡ 0
-getD-zeros zero i = refl
-getD-zeros (suc n) zero = refl
-getD-zeros (suc n) (suc i) = getD-zeros n i
+zeros-item : (n i : ℕ) → getD (replicate {A = ℕ} n 0) i 0 ≡ 0
+zeros-item zero i = refl
+zeros-item (suc n) zero = refl
+zeros-item (suc n) (suc i) = zeros-item n i
 
 -- zeros behind a list read as what is not there
-pub getD-before-zeros : (l : List ℕ) (n i : ℕ) → getD (l ++ replicate n 0) i 0 ≡ getD l i 0
-getD-before-zeros [] n i = getD-zeros n i
-getD-before-zeros (x ∷ l) n zero = refl
-getD-before-zeros (x ∷ l) n (suc i) = getD-before-zeros l n i
+pub padded-item : (n : ℕ) (l : List ℕ) (i : ℕ) → getD (padded n l) i 0 ≡ getD l i 0
+unfolding padded
+padded-item n l i = go l (n - length l) i
+  where
+    go : (l : List ℕ) (z i : ℕ) → getD (l ++ replicate z 0) i 0 ≡ getD l i 0
+    go [] z i = zeros-item z i
+    go (x ∷ l) z zero = refl
+    go (x ∷ l) z (suc i) = go l z i
+
+pub length-padded : (n : ℕ) (l : List ℕ) → length l ≤ n → length (padded n l) ≡ n
+unfolding padded
+length-padded n l h = length-append l (replicate (n - length l) 0) ∙ omega (arith, length-replicate {A = ℕ} (n - length l) 0)

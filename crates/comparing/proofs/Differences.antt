@@ -1,6 +1,6 @@
 -- The search of the first spot at which two files differ: what is known at a place of a page.
 use mathlib.Core.Path.{_≡_, ap}
-use mathlib.Core.Bool.{true, false, not, or-true}
+use mathlib.Core.Bool.{Bool, true, false, not, or-true}
 use Prim.Native.Nat.{ℕ, suc, _+_, _*_, _≤_, _<_}
 use native.Mathlib.Nat.{zero-mul, zero-add, add-suc, suc-mul, mul-le-mul-right}
 use native.Mathlib.Numerals.{add-one}

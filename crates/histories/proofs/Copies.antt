@@ -9,17 +9,18 @@ use lib.Dec.{leb, eqb}
 use lib.ListN.{length, take, drop, getD, set, length-append, length-drop, length-map}
 use lib.Seq.{length-take-le}
 use borrow.Author.Tests.{eqb-true}
+use Rattle.buffers.proofs.Lists.{length-padded}
 use Rattle.buffers.proofs.Tests.{and-true}
 use Rattle.buffers.proofs.Written.{around}
-use Rattle.buffers.specs.Lists.{written}
+use Rattle.buffers.specs.Lists.{written, padded}
 use Rattle.pages.specs.Page.{part, stretch}
 use Rattle.pages.proofs.Parts.{stretch-suc}
 use Rattle.placement.specs.Rule.{Star, Hash, Contents, keep, filter, staying, passing, separatorOf, contentsOf, onward, pages, left, insert, pour, collected}
-use Rattle.placement.specs.File.{File, starsOf, starsAt, gathered, padded, column, replaced, Sized}
+use Rattle.placement.specs.File.{File, starsOf, starsAt, gathered, column, replaced, Sized}
 use Rattle.placement.proofs.Filters.{filter-comm, filter-append, filter-all-on, length-split, member-filter}
 use Rattle.placement.proofs.Separator.{stays}
 use Rattle.placement.proofs.Composition.{length-pages}
-use Rattle.placement.proofs.Writing.{Roomy, length-part, length-padded, length-column}
+use Rattle.placement.proofs.Writing.{Roomy, length-part, length-column}
 use Rattle.placement.proofs.Pages.{Numbered, starsOf-padded}
 use Rattle.placement.proofs.Files.{numberOf, wordOf, ownerOf, AllNumbered, roomy-pages, page-member}
 use Rattle.placement.proofs.Search.{Even, starsOf-append}

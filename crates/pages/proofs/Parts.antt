@@ -6,9 +6,10 @@ use Prim.Native.Nat.{ℕ, suc, _+_, _*_, _-_, _≤_, _<_}
 use native.Mathlib.Nat.{mul-le-mul-right, suc-mul, add-comm}
 use native.Mathlib.Numerals.{add-one}
 use native.Mathlib.Omega.{arith}
-use lib.ListN.{length, take, drop, set, getD, replicate, length-append, length-drop, length-set, length-replicate}
+use lib.ListN.{length, take, drop, set, getD, replicate, length-drop, length-set}
 use lib.Seq.{length-take-le, take-at, take-add, drop-drop, take-suc, getD-take, getD-drop, append-snoc, set-at}
-use Rattle.buffers.proofs.Lists.{getD-before-zeros}
+use Rattle.buffers.specs.Lists.{padded}
+use Rattle.buffers.proofs.Lists.{padded-item, length-padded}
 use Rattle.pages.specs.Page.{part, stretch, filled}
 
 -- a page that stands before another ends where the other begins, or before
@@ -25,11 +26,10 @@ module _ (places p : ℕ) (l : List ℕ) (fits : p * places + places ≤ length 
   part-length = length-take-le places (drop (p * places) l) (rw length-drop (omega arith))
 
   pub filled-length : places ≤ 32 → length (filled (part places p l)) ≡ 32
-  unfolding filled
-  filled-length h = rw (length-append, length-replicate, part-length) (omega arith)
+  filled-length h = length-padded 32 (part places p l) (rw part-length h)
 
   pub take-filled : take places (filled (part places p l)) ≡ part places p l
-  unfolding filled
+  unfolding padded
   take-filled = take-at (part places p l) _ places part-length
 
 -- a stretch is its first page and the others
@@ -47,8 +47,7 @@ part-item places p l i h = rw (getD-take, getD-drop)
 
 -- what is read at any place of the page value is what the list has there, or 0
 pub filled-item : (l : List ℕ) (i : ℕ) → getD (filled l) i 0 ≡ getD l i 0
-unfolding filled
-filled-item l i = getD-before-zeros l (32 - length l) i
+filled-item l i = padded-item 32 l i
 
 -- the first i items from `at` are in the value v, whose other places are empty
 pub record Loaded (l : List ℕ) (at i : ℕ) (v : List ℕ) : Type 0 where
@@ -90,5 +89,5 @@ loaded-more {l} {v} {at} {i} h k before =
     rest = omega arith
 
 pub loaded-all : (places p : ℕ) (l : List ℕ) {v : List ℕ} {i : ℕ} → p * places + places ≤ length l → i ≡ places → Loaded l (p * places) i v → v ≡ filled (part places p l)
-unfolding filled part
+unfolding padded part
 loaded-all places p l fits e done = rw (done .is, e, part-length places p l fits)

@@ -10,10 +10,11 @@ use lib.Dec.{eqb}
 use lib.ListN.{length, getD, set, take, drop, replicate, length-map, length-set, List·getD-eq-default, List·getD-map}
 use lib.Seq.{drop-set-add, drop-set-lt, take-set-le, take-set-lt}
 use borrow.Author.Tests.{eq-eqb, ne-eqb}
-use Rattle.buffers.proofs.Lists.{getD-before-zeros}
+use Rattle.buffers.specs.Lists.{padded}
+use Rattle.buffers.proofs.Lists.{padded-item}
 use Rattle.pages.specs.Page.{part}
 use Rattle.placement.specs.Rule.{Star, Hash, Contents, pages, separators, blank, reworded, changed}
-use Rattle.placement.specs.File.{padded, column, fileOf, laid}
+use Rattle.placement.specs.File.{column, fileOf, laid}
 use Rattle.placement.proofs.Order.{Rising, Absent, rising-member}
 use Rattle.placement.proofs.Mapping.{Keeps, mapped, pages-map}
 use Rattle.placement.proofs.Composition.{length-pages}
@@ -84,20 +85,16 @@ page-changed b k v i c l h r g e =
 
 -- A number that stands in a page's items is one of its stars'.
 number-at : (b k i : ℕ) (l : List Star) → 1 ≤ k → getD (padded b (map numberOf l)) i 0 ≡ k → (i < length l) × (getD (map numberOf l) i 0 ≡ k)
-unfolding padded
 number-at b k i l h e = go (decLt i (length (map numberOf l)))
   where
     size : length (map numberOf l) ≡ length l
     size = length-map l numberOf
 
-    z : ℕ
-    z = b - length (map numberOf l)
-
     go : Dec (i < length (map numberOf l)) → (i < length l) × (getD (map numberOf l) i 0 ≡ k)
-    go (yes d) = (omega (arith, size), sym (getD-before-zeros (map numberOf l) z i) ∙ e)
+    go (yes d) = (omega (arith, size), sym (padded-item b (map numberOf l) i) ∙ e)
     go (no d) =
         let past : length (map numberOf l) ≤ i = omega arith in
-        absurd (omega (arith, e, getD-before-zeros (map numberOf l) z i, List·getD-eq-default (map numberOf l) 0 past))
+        absurd (omega (arith, e, padded-item b (map numberOf l) i, List·getD-eq-default (map numberOf l) 0 past))
 
 star-number : (l : List Star) (i : ℕ) → i < length l → (s : Star) × List·Memᴰ s l × (s .number ≡ getD (map numberOf l) i 0)
 star-number [] i h = absurd (omega arith)

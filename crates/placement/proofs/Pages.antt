@@ -9,9 +9,10 @@ use native.Mathlib.Omega.{arith}
 use lib.Dec.{leb, ltb, eqb}
 use lib.ListN.{length, replicate, length-map}
 use borrow.Author.Tests.{leb-true, ltb-true, eqb-true, le-leb, lt-ltb, ne-eqb}
+use Rattle.buffers.specs.Lists.{padded}
 use Rattle.buffers.proofs.Tests.{and-true}
 use Rattle.placement.specs.Rule.{Star, keep, filter, insert}
-use Rattle.placement.specs.File.{starsOf, greatest, orderly, every, padded}
+use Rattle.placement.specs.File.{starsOf, greatest, orderly, every}
 use Rattle.placement.proofs.Filters.{member-filter}
 use Rattle.placement.proofs.Order.{Rising, rising-less, member-insert}
 

@@ -9,11 +9,12 @@ use native.Mathlib.Omega.{arith}
 use lib.Dec.{eqb}
 use lib.ListN.{length, getD}
 use borrow.Author.Tests.{lt-ltb, eqb-false, ne-eqb}
+use Rattle.buffers.specs.Lists.{padded}
 use Rattle.pages.specs.Page as page
 use Rattle.pages.specs.Page.{part, placeOf, heldAt}
 use Rattle.pages.proofs.Places.{held-there, place-is, held-at, rising-orderly}
 use Rattle.placement.specs.Rule.{Star, Hash, keep, pages, left, first, separators}
-use Rattle.placement.specs.File.{starsOf, starsAt, orderly, greatest, padded, fileOf, laid}
+use Rattle.placement.specs.File.{starsOf, starsAt, orderly, greatest, fileOf, laid}
 use Rattle.placement.proofs.Standing.{looked-up}
 use Rattle.placement.proofs.Order.{Rising, Absent}
 use Rattle.placement.proofs.Writing.{length-part}

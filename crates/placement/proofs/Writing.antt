@@ -4,14 +4,15 @@ use mathlib.Core.List.{List, [], _∷_, _++_, map, append-assoc}
 use Prim.Native.Nat.{ℕ, zero, suc, _+_, _-_, _*_, _≤_, _<_}
 use native.Mathlib.Nat.{add-comm, suc-mul, zero-mul, add-mul}
 use native.Mathlib.Omega.{arith}
-use lib.ListN.{length, take, drop, getD, replicate, length-append, length-drop, length-map, length-replicate, take-append-drop, List·getD-map}
+use lib.ListN.{length, take, drop, getD, length-append, length-drop, length-map, take-append-drop, List·getD-map}
 use lib.Seq.{take-at, drop-at, take-append-le, drop-append-le, length-take-le, drop-drop}
-use Rattle.buffers.specs.Lists.{written}
+use Rattle.buffers.specs.Lists.{written, padded}
+use Rattle.buffers.proofs.Lists.{length-padded}
 use Rattle.buffers.proofs.Written.{around, written-middle}
 use Rattle.placement.specs.Rule.{Star, Contents, separators, blank}
 use Rattle.pages.specs.Page.{part}
 use Rattle.pages.proofs.Parts.{part-length, page-fits}
-use Rattle.placement.specs.File.{padded, column}
+use Rattle.placement.specs.File.{column}
 use Rattle.placement.proofs.Standing.{length-separators}
 
 pub part-zero : (b : ℕ) (l : List ℕ) → part b 0 l ≡ take b l
@@ -68,10 +69,6 @@ roomy-append b (c ∷ cs) ds r = ((r .0, roomy-append b cs ds (r .1) .0), roomy-
 pub append-roomy : (b : ℕ) (cs ds : List Contents) → Roomy b cs → Roomy b ds → Roomy b (cs ++ ds)
 append-roomy b [] ds r s = s
 append-roomy b (c ∷ cs) ds r s = (r .0, append-roomy b cs ds (r .1) s)
-
-pub length-padded : (n : ℕ) (l : List ℕ) → length l ≤ n → length (padded n l) ≡ n
-unfolding padded
-length-padded n l h = length-append l (replicate (n - length l) 0) ∙ omega (arith, length-replicate {A = ℕ} (n - length l) 0)
 
 pub separators-append : (cs ds : List Contents) → separators (cs ++ ds) ≡ separators cs ++ separators ds
 unfolding separators

@@ -7,10 +7,10 @@ use native.Mathlib.Omega.{arith}
 use lib.Dec.{leb, eqb}
 use lib.ListN.{length, take, drop, replicate, length-map}
 use borrow.Author.Tests.{eqb-true}
-use Rattle.buffers.specs.Lists.{written}
+use Rattle.buffers.specs.Lists.{written, padded}
 use Rattle.hashing.specs.declared.Parameters.{Parameters}
 use Rattle.placement.specs.Rule.{Star, Contents, separators}
-use Rattle.placement.specs.File.{File, every, padded, column, replaced}
+use Rattle.placement.specs.File.{File, every, column, replaced}
 use Rattle.placement.proofs.Mapping.{Keeps, mapped}
 use Rattle.waiting.specs.Lists.{filter, all}
 use Rattle.waiting.specs.Words.{lowOf, numberOf, sourceOf}

@@ -6,20 +6,19 @@ use Prim.Native.Nat.{ℕ, _+_, _-_, _≤_, _<_}
 use native.Mathlib.Nat.{zero-add, add-comm}
 use native.Mathlib.Omega.{arith}
 use lib.Dec.{leb}
-use lib.ListN.{length, getD, set, take, drop, replicate, length-drop, length-map, List·getD-map, List·getD-eq-default}
+use lib.ListN.{length, getD, set, take, drop, length-drop, length-map, List·getD-map, List·getD-eq-default}
 use lib.Seq.{slice, getD-take, getD-drop, getD-append-add, length-take-le, take-at}
 use borrow.Author.Tests.{leb-true, leb-false}
+use Rattle.buffers.specs.Lists.{padded}
 use Rattle.buffers.proofs.Copies.{Copied, turn}
-use Rattle.buffers.proofs.Lists.{drop-take, getD-before-zeros}
+use Rattle.buffers.proofs.Lists.{drop-take, padded-item, length-padded}
 pub use Rattle.buffers.proofs.Written.{all-written}
-use Rattle.placement.specs.File.{padded}
-use Rattle.placement.proofs.Writing.{length-padded}
 use Rattle.waiting.specs.Words.{sourceOf}
 use Rattle.planning.specs.Plans.{slotSource}
 
 pub slot-item : (slots : List ℕ) (kept places i : ℕ) → kept ≤ length slots
     → slotSource slots kept i ≡ getD (padded places (map sourceOf (take kept slots))) i 0
-unfolding slotSource padded sourceOf
+unfolding slotSource sourceOf
 slot-item slots kept places i h = go (leb kept i) refl
   where
     page : List ℕ
@@ -28,13 +27,13 @@ slot-item slots kept places i h = go (leb kept i) refl
     size : length page ≡ kept
     size = length-map (take kept slots) sourceOf ∙ length-take-le kept slots h
 
-    go : (t : Bool) → leb kept i ≡ t → cond t 0 (sourceOf (getD slots i 0)) ≡ getD (page ++ replicate (places - length page) 0) i 0
+    go : (t : Bool) → leb kept i ≡ t → cond t 0 (sourceOf (getD slots i 0)) ≡ getD (padded places page) i 0
     go true e =
         let past : length page ≤ i = omega (arith, size, leb-true kept i e) in
-        sym (getD-before-zeros page (places - length page) i ∙ List·getD-eq-default page 0 past)
+        sym (padded-item places page i ∙ List·getD-eq-default page 0 past)
     go false e =
         let under : i < kept = leb-false kept i e in
-        sym (getD-before-zeros page (places - length page) i
+        sym (padded-item places page i
         ∙ List·getD-map sourceOf (take kept slots) i 0
         ∙ ap sourceOf (getD-take kept slots i 0 under))
 

@@ -35,7 +35,7 @@ use Rattle.planning.proofs.Applying.{renamed-keeps}
 use Rattle.planning.proofs.Blocks.{from}
 
 -- a test that every word of the items passes
-all-words : (q : ℕ → Bool) (at k : ℕ) (ns hs : List ℕ)
+pub all-words : (q : ℕ → Bool) (at k : ℕ) (ns hs : List ℕ)
     → ((i : ℕ) → i < length ns → i < length hs → skipped k (getD ns i 0) ≡ false → q (pack (getD hs i 0) (getD ns i 0) (suc (at + i))) ≡ true)
     → all q (wordsFrom at k ns hs) ≡ true
 unfolding wordsFrom

@@ -11,11 +11,11 @@ use lib.Seq.{slice, length-slice, length-take-le, take-take, take-at, drop-at, d
 use lib.Pow.{pow-mono}
 use Rattle.buffers.proofs.Lists.{drop-take}
 use Rattle.buffers.proofs.Written.{written-none, set-written, written-add}
-use Rattle.buffers.specs.Lists.{written}
+use Rattle.buffers.specs.Lists.{written, padded}
 use Rattle.hashing.specs.declared.Parameters.{Parameters}
 use Rattle.hashing.specs.Generator.{topOf}
 use Rattle.placement.specs.Rule.{Star, Contents, separators}
-use Rattle.placement.specs.File.{padded, column}
+use Rattle.placement.specs.File.{column}
 use Rattle.placement.proofs.Standing.{length-separators}
 use Rattle.placement.proofs.Writing.{Roomy, column-append, length-column, separators-append}
 use Rattle.waiting.specs.Words.{sourceOf}
