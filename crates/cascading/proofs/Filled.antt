@@ -9,6 +9,7 @@ use lib.Dec.{eqb}
 use lib.ListN.{length, take, drop, getD, set, replicate, length-map}
 use lib.Seq.{slice, getD-take, getD-drop, take-suc-set, length-take-le}
 use borrow.Author.Tests.{lt-ltb, eqb-true, eq-eqb}
+use Rattle.buffers.proofs.Written.{set-written}
 use Rattle.hashing.specs.declared.Parameters.{Parameters}
 use Rattle.hashing.specs.declared.Growth.{Growth}
 use Rattle.hashing.specs.Limits.{validParameters}
@@ -31,6 +32,7 @@ use Rattle.waiting.proofs.Items.{words-count}
 use Rattle.waiting.proofs.Packing.{number-pack}
 use Rattle.planning.specs.Plans.{waits, homed}
 use Rattle.planning.proofs.RuleOverWords.{homed-append}
+use Rattle.planning.proofs.Stretch.{sources-column}
 use Rattle.planning.proofs.Placed.{probes-real, new-homed}
 use Rattle.entering.specs.declared.blocks.Reach.the-variants.{Ends}
 use Rattle.entering.specs.Entry.{Unheld, hash, startOf, blockNumbers, blockWords}
@@ -41,7 +43,6 @@ use Rattle.cascading.specs.Cascade.{Plans, loweredTo, loweredOn}
 use Rattle.cascading.proofs.Tying.{parted}
 use Rattle.cascading.proofs.Appending.{stars-fewer, words-low}
 use Rattle.cascading.proofs.PageWords.{page-numbers, page-homed, page-named, items-few}
-use Rattle.cascading.proofs.Settled.{sources-column, set-written}
 use Rattle.cascading.proofs.Loading.{stars-count, loaded-numbers}
 use Rattle.cascading.proofs.Pushed.{pushed-none, pushed-next, page-inside, small, few}
 use Rattle.cascading.proofs.Answers.{plans-ends}

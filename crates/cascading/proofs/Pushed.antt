@@ -1,6 +1,6 @@
 -- The cascade after d pages: what is planned of them, and the words carried on.
 use mathlib.Core.Path.{_≡_, refl, sym, ap, _∙_}
-use mathlib.Core.Bool.{Bool, true, not, _||_}
+use mathlib.Core.Bool.{true, not, _||_}
 use mathlib.Core.List.{List, [], _∷_, _++_, map, map-append}
 use Prim.Native.Nat.{ℕ, suc, _+_, _-_, _*_, _^_, _≤_, _<_}
 use native.Mathlib.Nat.{add-zero, zero-mul, mul-le-mul}
@@ -23,15 +23,15 @@ use Rattle.placement.proofs.Mapping.{mapped}
 use Rattle.placement.proofs.Standing.{first-home}
 use Rattle.placement.proofs.Writing.{column-append, separators-append}
 use Rattle.reach.specs.Cascade.{cascaded, carriedPast}
-use Rattle.waiting.specs.Lists.{filter, all}
-use Rattle.waiting.specs.Words.{pack, homeOf, numberOf, sourceOf}
+use Rattle.waiting.specs.Lists.{all}
+use Rattle.waiting.specs.Words.{pack, homeOf, numberOf}
 use Rattle.waiting.specs.Gather.{stretch}
 use Rattle.waiting.specs.Settle.{under, staying, passing, separatorFrom, homesUpTo, slotsOf, pourLow}
 use Rattle.waiting.proofs.Lists.{all-filter, all-mono}
 use Rattle.waiting.proofs.Packing.{number-pack}
 use Rattle.planning.specs.Plans.{waits, homed}
 use Rattle.planning.specs.Sources.{named, renamed, sourced}
-use Rattle.planning.proofs.Applying.{Sourced, sourced-waits, sourced-append}
+use Rattle.planning.proofs.Applying.{Sourced, sourced-waits, sourced-append, sourced-filter}
 use Rattle.planning.proofs.Pouring.{length-waits}
 use Rattle.planning.proofs.Sourcing.{fresh, new-star, named-past}
 use Rattle.planning.proofs.Placed.{new-homed, new-near, new-sourced}
@@ -58,10 +58,6 @@ pub record Pushed (p : Parameters) (g : Growth) (f : File) (k page : ℕ) (pool 
   pub near : homesUpTo (page + d) w ≡ true
   pub true-sources : sourced (f .numbers) k w ≡ true
   pub before : apart p g f k (page + d) w ≡ true
-
-sourced-filter : (ns : List ℕ) (new : ℕ) (q : ℕ → Bool) (l : List ℕ) → sourced ns new l ≡ true → sourced ns new (filter q l) ≡ true
-unfolding sourced
-sourced-filter ns new q l = all-filter (λ w. eqb (named ns new (sourceOf w)) (numberOf w)) q l
 
 sourced-more : (ns : List ℕ) (new : ℕ) (cs : List Contents) (c : Contents) → Sourced ns new cs
     → every (λ (s : Star). eqb (named ns new (s .word)) (s .number)) (c .stars) ≡ true → Sourced ns new (cs ++ (c ∷ []))

@@ -1,13 +1,11 @@
 -- What a page of the cascade keeps and carries on, over the words and over their stars, and where its sources and its separator are written.
-use mathlib.Core.Path.{_≡_, refl, sym, ap, _∙_}
+use mathlib.Core.Path.{_≡_, refl, ap, _∙_}
 use mathlib.Core.Bool.{true}
-use mathlib.Core.List.{List, [], _∷_, _++_, map, append-nil}
+use mathlib.Core.List.{List, [], _∷_, _++_, map}
 use Prim.Native.Nat.{ℕ, _+_, _-_, _*_, _≤_, _<_}
-use native.Mathlib.Nat.{le-refl, mul-one, one-mul}
-use native.Mathlib.Numerals.{add-one}
 use lib.Dec.{leb}
 use lib.ListN.{length, take, drop, getD, set}
-use lib.Seq.{set-split, take-at, drop-at, length-take-le}
+use Rattle.buffers.proofs.Written.{set-written}
 use Rattle.hashing.specs.declared.Parameters.{Parameters}
 use Rattle.hashing.specs.declared.Growth.{Growth}
 use Rattle.hashing.specs.Limits.{validParameters}
@@ -20,15 +18,16 @@ use Rattle.reach.specs.Cascade.{lowered, pushedTo, pushedOn}
 use Rattle.waiting.specs.Words.{sourceOf, homeOf}
 use Rattle.waiting.specs.Gather.{stretch}
 use Rattle.waiting.specs.declared.settling.Settled.{Settled}
-use Rattle.waiting.specs.Settle.{Settlement, staying, separatorFrom, slotsOf, homesUpTo}
+use Rattle.waiting.specs.Settle.{Settlement, staying, separatorFrom, homesUpTo}
 use Rattle.waiting.proofs.Lists.{all-append}
 use Rattle.waiting.proofs.Cutting.{separator-fits}
-use Rattle.planning.specs.Plans.{starOf, waits, homed}
+use Rattle.planning.specs.Plans.{waits, homed}
 use Rattle.planning.specs.Sources.{renamed}
 use Rattle.planning.proofs.Applying.{renamed-keeps}
 use Rattle.planning.proofs.Pouring.{length-waits}
 use Rattle.planning.proofs.RuleOverWords.{homed-append}
-use Rattle.planning.proofs.Placed.{probes-real, stretch-add, stretch-before}
+use Rattle.planning.proofs.Stretch.{sources-column}
+use Rattle.planning.proofs.Placed.{probes-real, stretch-on, taken-on}
 use Rattle.entering.specs.Entry.{Unheld, hash}
 use Rattle.cascading.specs.Arriving.{pageWords}
 use Rattle.cascading.specs.Cascade.{loweredTo, loweredOn, Lowered}
@@ -36,25 +35,6 @@ use Rattle.cascading.proofs.Tying.{stay-tie, pass-tie, lower-tie}
 use Rattle.cascading.proofs.PageWords.{apart, page-homed, page-near, page-meets}
 
 -- ---- where it is written
-
-words-waits : (l : List ℕ) → map (λ (s : Star). s .word) (waits l) ≡ map sourceOf (slotsOf l)
-unfolding waits starOf sourceOf
-words-waits l = go (slotsOf l)
-  where
-    go : (l : List ℕ) → map (λ (s : Star). s .word) (map starOf l) ≡ map sourceOf l
-    go [] = refl
-    go (x ∷ l) = ap (λ (s : List ℕ). sourceOf x ∷ s) (go l)
-
--- the sources of the slots are the page's column
-pub sources-column : (b v kept : ℕ) (slots l : List ℕ) → take kept slots ≡ slotsOf l
-    → padded b (map sourceOf (take kept slots)) ≡ column b (λ (s : Star). s .word) (record { separator = v; stars = waits l } ∷ [])
-unfolding column
-sources-column b v kept slots l e =
-    ap (padded b) (ap (map sourceOf) e ∙ sym (words-waits l)) ∙ sym (append-nil (padded b (map (λ (s : Star). s .word) (waits l))))
-
-pub set-written : (l : List ℕ) (i x : ℕ) → i < length l → set l i x ≡ written i (x ∷ []) l
-unfolding written
-set-written l i x h = set-split l i x h ∙ ap (λ (k : ℕ). take i l ++ (x ∷ drop k l)) (sym (add-one i))
 
 pub page-lowered : (p : Parameters) (q most : ℕ) (l : List ℕ) (reach : ℕ) (W W′ slots pool pool′ planned : List ℕ) (r : Settled)
     → Settlement p q (separatorFrom p q l most) l reach W W′ slots r
@@ -78,28 +58,15 @@ unfolding loweredTo
 lowered-roomy p q most l = rw (length-waits (staying p q (separatorFrom p q l most) l)) (separator-fits p q l most)
 
 -- a stretch that goes on with one page
-stretch-there : (b lo n : ℕ) (s d : List ℕ) → length s ≡ n * b → lo * b ≤ length d → stretch b lo n (written (lo * b) s d) ≡ s
-unfolding written
-stretch-there b lo n s d e h =
-    ap (take (n * b)) (drop-at (take (lo * b) d) (s ++ drop (lo * b + length s) d) (lo * b) (length-take-le (lo * b) d h))
-    ∙ take-at s (drop (lo * b + length s) d) (n * b) e
-
-stretch-on : (b lo n : ℕ) (s d : List ℕ) → length s ≡ b → (lo + n) * b ≤ length d
-    → stretch b lo (n + 1) (written ((lo + n) * b) s d) ≡ stretch b lo n d ++ s
-stretch-on b lo n s d e h =
-    stretch-add b lo n 1 (written ((lo + n) * b) s d)
-    ∙ ap (λ (x : List ℕ). x ++ stretch b (lo + n) 1 (written ((lo + n) * b) s d)) (stretch-before b lo n ((lo + n) * b) s d (le-refl ((lo + n) * b)) h)
-    ∙ ap (λ (x : List ℕ). stretch b lo n d ++ x) (stretch-there b (lo + n) 1 s d (e ∙ sym (one-mul b)) h)
-
 pub sources-on : (b lo n : ℕ) (c : Contents) (d : List ℕ) → length (c .stars) ≤ b → (lo + n) * b ≤ length d
     → stretch b lo (n + 1) (written ((lo + n) * b) (column b (λ (s : Star). s .word) (c ∷ [])) d) ≡ stretch b lo n d ++ column b (λ (s : Star). s .word) (c ∷ [])
 sources-on b lo n c d r h =
-    stretch-on b lo n (column b (λ (s : Star). s .word) (c ∷ [])) d (length-column b (λ (s : Star). s .word) (c ∷ []) (r, tt) ∙ one-mul b) h
+    stretch-on b lo n 1 (column b (λ (s : Star). s .word) (c ∷ [])) d (length-column b (λ (s : Star). s .word) (c ∷ []) (r, tt)) h
 
 pub separators-on : (lo n : ℕ) (c : Contents) (d : List ℕ) → lo + n ≤ length d
     → take (n + 1) (drop lo (written (lo + n) (separators (c ∷ [])) d)) ≡ take n (drop lo d) ++ separators (c ∷ [])
 unfolding separators
-separators-on lo n c d h = simp mul-one at (stretch-on 1 lo n (c .separator ∷ []) d refl (rw (mul-one (lo + n)) h))
+separators-on lo n c d h = taken-on lo n 1 (c .separator ∷ []) d refl h
 
 -- ---- what it is
 

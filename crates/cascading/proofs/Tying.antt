@@ -5,6 +5,7 @@ use mathlib.Core.List.{List, [], _∷_, _++_, map, map-append, append-nil}
 use Prim.Native.Nat.{ℕ, zero, suc, _+_}
 use native.Mathlib.Omega.{arith}
 use lib.ListN.{length, length-map}
+use Rattle.buffers.proofs.Tests.{and-true}
 use Rattle.hashing.specs.declared.Parameters.{Parameters}
 use Rattle.placement.specs.Rule.{Star, Hash, below, insert, pour}
 use Rattle.placement.specs.Rule.{staying as rule·staying, passing as rule·passing, separatorFrom as rule·separatorFrom}
@@ -19,7 +20,6 @@ use Rattle.planning.specs.Plans.{starOf, waits, homed}
 use Rattle.planning.proofs.Pouring.{pour-cons, length-waits}
 use Rattle.planning.proofs.RuleOverWords.{Probes, beyond, staying-tie, passing-tie}
 use Rattle.planning.proofs.Sourcing.{leads, led, ordered, waits-cons, waits-poured}
-use Rattle.placement.proofs.Filters.{and-true}
 
 module _ (H : Hash) (q : Parameters) (real : Probes H q) (g : Star → Star) (keeps : Keeps g) (p : ℕ) (l : List ℕ) (hl : homed H l ≡ true) (nl : homesUpTo p l ≡ true) where
   none-homed : homed H [] ≡ true

@@ -23,8 +23,6 @@ one-most : (t : Bool) → one t ≤ 1
 one-most true = omega arith
 one-most false = omega arith
 
--- ---- counters
-
 pub added-none : (more : ℕ → ℕ) (l : List ℕ) → length l ≡ 1024 → ((p : ℕ) → more p ≡ 0) → Added more l l
 added-none more l e h = record { size = e; each = λ p k. omega (arith, h p) }
 
@@ -43,8 +41,6 @@ added-one l g e h = record { size = length-set l g (getD l g 0 + 1) ∙ e; each 
         let same : g ≡ p = eqb-true g p q in
         rw same (getD-set-same l p (getD l p 0 + 1) 0 (omega (arith, e)))
     go p k false q = getD-set-other l g p (getD l g 0 + 1) 0 (λ r. eqb-false g p q (sym r)) ∙ sym (add-zero (getD l p 0))
-
--- ---- the pages that a number passed
 
 module _ (H : Hash) (vs : List ℕ) (k : ℕ) where
   -- those below home and from q on are none of them
@@ -147,8 +143,6 @@ module _ (H : Hash) (vs : List ℕ) (k : ℕ) where
         go p (no d) (no g) =
             let low : p < H .home k = omega (arith, c .high (omega arith)) in
             rw (passed-low p page low, passed-low p next low)
-
--- ---- the numbers of a page
 
 -- a star's home among those of a file's numbers
 pub home-item : (g : Geometry) (ns : List ℕ) (j : ℕ) → (getD ns j 0 ≡ 0 → ⊥) → getD (homesOf (g .parameters) (g .growth) ns) j 0 ≡ homeUnder g (getD ns j 0)
@@ -253,8 +247,6 @@ module _ (H : Hash) (vs ns : List ℕ) (page : ℕ) where
   places-all i entry exit c h =
       let e : H .room ≡ i = omega (arith, c .upto) in
       added-same (some i) (some (H .room)) entry exit (c .added) (λ p. ap (λ (j : ℕ). some j p) e)
-
--- ---- all pages
 
 pub pages-none : (H : Hash) (vs ns l : List ℕ) → length l ≡ 1024 → Added (λ p. countTo H vs ns p 0) l l
 unfolding countTo

@@ -9,6 +9,8 @@ use lib.Dec.{eqb, ltb}
 use lib.ListN.{length, take, drop, getD, length-map}
 use lib.Seq.{paste, take-all, length-take-le, getD-take}
 use borrow.Author.Tests.{lt-ltb, ne-eqb}
+use Rattle.buffers.proofs.Written.{pasted-whole, written-whole}
+use Rattle.buffers.specs.Lists.{written}
 use Rattle.hashing.specs.declared.Parameters.{Parameters}
 use Rattle.hashing.specs.declared.Growth.{Growth}
 use Rattle.hashing.specs.Geometry.{multiplierOf}
@@ -17,7 +19,7 @@ use Rattle.hashing.proofs.Bounds.{limits}
 use Rattle.hashing.proofs.Homes.{home-pages}
 use Rattle.pages.specs.Position.{validWord}
 use Rattle.placement.specs.Rule.{Star, pages, without}
-use Rattle.placement.specs.File.{File, Sized, greatest, gathered, replaced, written}
+use Rattle.placement.specs.File.{File, Sized, greatest, gathered, replaced}
 use Rattle.placement.specs.Hash.{hashOf, homeIn, homesOf, lent}
 use Rattle.placement.proofs.Filters.{filter-all-on}
 use Rattle.placement.proofs.Sound.{gathered-proper}
@@ -27,14 +29,13 @@ use Rattle.waiting.specs.Gather.{starsIn, stretch, stretchWords}
 use Rattle.waiting.proofs.Lists.{all-cons, all-items}
 use Rattle.planning.specs.Sources.{named, sourced}
 use Rattle.planning.specs.Plans.{Planned}
-use Rattle.planning.proofs.Copies.{pasted-whole}
 use Rattle.planning.proofs.Applying.{applied}
 use Rattle.planning.proofs.Sourcing.{itemHome}
 use Rattle.planning.proofs.Placed.{Gatherable, probes-real, homes-real, stretch-sourced, placed, layout, applied-layout}
 use Rattle.reach.specs.Reach.{firstUnsound}
 use Rattle.calls.specs.Spots.{spotIn, firstSpot, ruled}
 use Rattle.calls.proofs.Alike.{Alike, spot-alike}
-use Rattle.calls.proofs.Ruled.{all-sound, written-whole}
+use Rattle.calls.proofs.Ruled.{all-sound}
 use Rattle.calls.proofs.Refusals.{items-most}
 use Rattle.waiting.proofs.Gathered.{starsIn-most}
 

@@ -26,8 +26,6 @@ use Rattle.placement.proofs.Files.{length-pagesAt}
 use Rattle.placement.proofs.Sound.{AllSound, gathered-add, stands-gathered, sound-holds, clean-said}
 use Rattle.comparing.specs.Raising.{passed, counted, countOf, countTo, raisable}
 
--- ---- the rule's separators are those that hold the stars and could not be one greater
-
 -- Of the separators vs, from page p, each below top would keep more than room of w if it were one greater.
 abbrev pub Unraisable : Hash → ℕ → List ℕ → List Star → Type 0
 Unraisable H p [] w = Unit {0}
@@ -48,8 +46,6 @@ rule-unraisable H p (suc n) w = (λ h. go (decLe (length (staying H p (suc (sepa
     go : Dec (length (staying H p (suc (separatorOf H p w)) w) ≤ H .room) → separatorOf H p w < H .top → H .room < length (staying H p (suc (separatorOf H p w)) w)
     go (yes d) h = absurd (omega (arith, sep-great H p w (suc (separatorOf H p w)) h d))
     go (no d) h = omega arith
-
--- ---- the same, page by page
 
 -- The star is on no page below p + i, and would be below that page's separator if it were one greater.
 abbrev within : Hash → ℕ → List ℕ → ℕ → Star → Bool
@@ -87,8 +83,6 @@ unraisable-each : (H : Hash) (p : ℕ) (vs : List ℕ) (w : List Star) → Unrai
 unraisable-each H p [] w t i k h = absurd (omega arith)
 unraisable-each H p (v ∷ vs) w t zero k h = rw (within-here H p v vs w) (t .0 h)
 unraisable-each H p (v ∷ vs) w t (suc i) k h = rw (within-later H p v i vs w) (unraisable-each H (suc p) vs (passing H p v w) (t .1) i (omega arith) h)
-
--- ---- what counts on a page
 
 -- A signature not below v is below v + 1 if it is v.
 next-signature : (x v : ℕ) → v ≤ x → ltb x (suc v) ≡ eqb x v
@@ -164,8 +158,6 @@ count-next q b f n =
     ap (λ (l : List Star). length (filter q l)) (gathered-next b f n)
     ∙ length-poured q (gathered b f 0 n) (pour (starsAt b f n) []) (sorted-pour (starsAt b f n) [] tt)
     ∙ ap (λ (k : ℕ). length (filter q (gathered b f 0 n)) + k) (length-poured q (starsAt b f n) [] tt ∙ add-zero (length (filter q (starsAt b f n))))
-
--- ---- a file of sound pages
 
 getD-pagesAt : (b : ℕ) (f : File) (p n i : ℕ) → i < n → getD (pagesAt b f p n) i blank ≡ contentsAt b f (p + i)
 unfolding pagesAt

@@ -56,8 +56,6 @@ abbrev pub firstRising : Parameters → List ℕ → List ℕ → ℕ
 firstRising q vs counts =
     firstSuch (λ (p : ℕ). rises (topOf (q .bits)) (q .places) (getD vs p 0) (getD counts p 0)) 0 (q .pages)
 
--- ---- counters, one for each page
-
 abbrev pub one : Bool → ℕ
 one t = cond t 1 0
 

@@ -1,13 +1,13 @@
 -- The loops that count stars, scan for the last one and fill a slice with one value.
 use mathlib.Core.Path.{_≡_, refl, ap, _∙_}
 use mathlib.Core.Bool.{Bool, true, false, cond}
-use mathlib.Core.List.{List, [], _∷_, _++_, append-nil}
+use mathlib.Core.List.{List, [], _∷_}
 use Prim.Native.Nat.{ℕ, zero, suc, _+_, _-_, _≤_, _<_}
 use native.Mathlib.Numerals.{add-one}
 use native.Mathlib.Nat.{zero-add}
 use native.Mathlib.Omega.{arith}
 use lib.Dec.{eqb}
-use lib.ListN.{length, getD, take, drop, replicate, drop-of-length-le}
+use lib.ListN.{length, getD, take, drop, drop-of-length-le}
 use lib.Seq.{drop-cons, drop-drop, drop-length}
 use borrow.Author.Tests.{eqb-true, eq-eqb, ne-eqb}
 use Rattle.calls.specs.Due.{stars}
@@ -47,9 +47,6 @@ module _ (l : List ℕ) (count i : ℕ) (c : Counted l count i) (h : i < length 
 pub counted-all : (l : List ℕ) (count i : ℕ) → Counted l count i → length l ≤ i → count ≡ stars l
 unfolding stars
 counted-all l count i c h = omega (arith, rw (drop-of-length-le l h) at (c .whole))
-
-pub filled-all : (d l : List ℕ) (v i : ℕ) → l ≡ replicate i v ++ drop i d → i ≡ length d → l ≡ replicate (length d) v
-filled-all d l v i h e = h ∙ rw (e, drop-length, append-nil)
 
 pub stars-most : (l : List ℕ) → stars l ≤ length l
 unfolding stars

@@ -3,22 +3,27 @@ use mathlib.Core.Path.{_≡_, refl, sym, ap, _∙_}
 use mathlib.Core.Bool.{Bool, true, false, not, cond}
 use mathlib.Core.List.{List, [], _∷_, _++_, map, List·Memᴰ}
 use Prim.Native.Nat.{ℕ, zero, suc, _+_, _*_, _≤_}
-use native.Mathlib.Nat.{add-comm, zero-mul, suc-mul, add-mul, mul-le-mul-right}
+use native.Mathlib.Nat.{zero-mul, add-mul, mul-le-mul-right}
 use native.Mathlib.Omega.{arith}
 use lib.Dec.{leb, eqb}
 use lib.ListN.{length, take, drop, getD, set, length-append, length-drop, length-map}
-use lib.Seq.{take-add, drop-drop, length-take-le}
+use lib.Seq.{length-take-le}
 use borrow.Author.Tests.{eqb-true}
-use Rattle.pages.specs.Page.{part}
+use Rattle.buffers.proofs.Lists.{length-padded}
+use Rattle.buffers.proofs.Tests.{and-true}
+use Rattle.buffers.proofs.Written.{around}
+use Rattle.buffers.specs.Lists.{written, padded}
+use Rattle.pages.specs.Page.{part, stretch}
+use Rattle.pages.proofs.Parts.{stretch-suc}
 use Rattle.placement.specs.Rule.{Star, Hash, Contents, keep, filter, staying, passing, separatorOf, contentsOf, onward, pages, left, insert, pour, collected}
-use Rattle.placement.specs.File.{File, starsOf, starsAt, gathered, padded, column, written, replaced, Sized}
-use Rattle.placement.proofs.Filters.{and-true, filter-comm, filter-append, filter-all-on, length-split, member-filter}
+use Rattle.placement.specs.File.{File, starsOf, starsAt, gathered, column, replaced, Sized}
+use Rattle.placement.proofs.Filters.{filter-comm, filter-append, filter-all-on, length-split, member-filter}
 use Rattle.placement.proofs.Separator.{stays}
 use Rattle.placement.proofs.Composition.{length-pages}
-use Rattle.placement.proofs.Writing.{Roomy, around, length-part, length-padded, length-column}
+use Rattle.placement.proofs.Writing.{Roomy, length-part, length-column}
 use Rattle.placement.proofs.Pages.{Numbered, starsOf-padded}
 use Rattle.placement.proofs.Files.{numberOf, wordOf, ownerOf, AllNumbered, roomy-pages, page-member}
-use Rattle.placement.proofs.Search.{Even}
+use Rattle.placement.proofs.Search.{Even, starsOf-append}
 use Rattle.reach.specs.Cascade.{meeting, lowered, pushedTo, pushedOn, cascaded, carriedPast}
 use Rattle.reach.proofs.Cascading.{length-cascaded, roomy-cascaded, numbered-cascaded}
 use Rattle.histories.specs.Others.{isStar, copies}
@@ -39,23 +44,6 @@ other-owner s t h = go (isStar s t) refl
     go true e = absurd (h (same-owner s t e))
     go false e = refl
 
--- ---- the stars of parallel lists
-
-pub starsOf-append : (ns ws os ns′ ws′ os′ : List ℕ) → Even ns ws os → starsOf (ns ++ ns′) (ws ++ ws′) (os ++ os′) ≡ starsOf ns ws os ++ starsOf ns′ ws′ os′
-unfolding starsOf
-starsOf-append [] [] [] ns′ ws′ os′ h = refl
-starsOf-append [] (w ∷ ws) os ns′ ws′ os′ h = absurd (omega arith)
-starsOf-append [] [] (o ∷ os) ns′ ws′ os′ h = absurd (omega arith)
-starsOf-append (n ∷ ns) [] os ns′ ws′ os′ h = absurd (omega arith)
-starsOf-append (n ∷ ns) (w ∷ ws) [] ns′ ws′ os′ h = absurd (omega arith)
-starsOf-append (n ∷ ns) (w ∷ ws) (o ∷ os) ns′ ws′ os′ h = go (not (eqb n 0)) (starsOf-append ns ws os ns′ ws′ os′ (omega arith, omega arith))
-  where
-    go : (t : Bool) → starsOf (ns ++ ns′) (ws ++ ws′) (os ++ os′) ≡ starsOf ns ws os ++ starsOf ns′ ws′ os′
-        → keep t (record { number = n; word = w; owner = o }) (starsOf (ns ++ ns′) (ws ++ ws′) (os ++ os′))
-        ≡ keep t (record { number = n; word = w; owner = o }) (starsOf ns ws os) ++ starsOf ns′ ws′ os′
-    go true ih = ap (λ (l : List Star). record { number = n; word = w; owner = o } ∷ l) ih
-    go false ih = ih
-
 -- the same items of the three columns of a file
 pub even : (b M : ℕ) (f : File) → Sized b M f → (g : List ℕ → List ℕ) (n : ℕ) → ((l : List ℕ) → length l ≡ M * b → length (g l) ≡ n)
     → Even (g (f .numbers)) (g (f .words)) (g (f .owners))
@@ -63,20 +51,7 @@ even b M f z g n h =
     let e = h (f .numbers) (z .ofNumbers) in
     (e ∙ sym (h (f .words) (z .ofWords)), e ∙ sym (h (f .owners) (z .ofOwners)))
 
--- the items of n pages from p
-abbrev stretch : ℕ → ℕ → ℕ → List ℕ → List ℕ
-stretch b p n l = take (n * b) (drop (p * b) l)
-
-stretch-suc : (b p n : ℕ) (l : List ℕ) → stretch b p (suc n) l ≡ part b p l ++ stretch b (suc p) n l
-unfolding part
-stretch-suc b p n l =
-    ap (λ (k : ℕ). take k (drop (p * b) l)) (suc-mul n b ∙ add-comm (n * b) b)
-    ∙ take-add b (n * b) (drop (p * b) l)
-    ∙ ap (λ (m : List ℕ). take b (drop (p * b) l) ++ take (n * b) m) (drop-drop b (p * b) l ∙ ap (λ (k : ℕ). drop k l) (sym (suc-mul p b)))
-
 module _ (s : Star) where
-  -- ---- lists
-
   pub count-append : (xs ys : List Star) → count s (xs ++ ys) ≡ count s xs + count s ys
   count-append xs ys = ap length (filter-append (isStar s) xs ys) ∙ length-append (filter (isStar s) xs) (filter (isStar s) ys)
 
@@ -140,8 +115,6 @@ module _ (s : Star) where
         count-pour (starsAt (H .room) f p) (t ∷ a),
         count-pour (starsAt (H .room) f p) (gathered (H .room) f (suc p) (length (cascaded H f (suc p) n (pushedOn H f p (t ∷ a))))),
       )
-
-  -- ---- items
 
   -- a word set at an item of another owner
   pub count-set : (i v : ℕ) (ns ws os : List ℕ) → (getD os i 0 ≡ s .owner → ⊥) → count s (starsOf ns (set ws i v) os) ≡ count s (starsOf ns ws os)

@@ -6,12 +6,13 @@ use Prim.Native.Nat.{ℕ, zero, suc, _*_}
 use native.Mathlib.Nat.{suc-mul, zero-mul, sub-zero, add-comm}
 use native.Mathlib.Omega.{arith}
 use lib.ListN.{replicate, replicate-append-replicate}
+use Rattle.buffers.specs.Lists.{padded}
 use Rattle.hashing.specs.declared.Parameters.{Parameters}
 use Rattle.hashing.specs.Geometry.{ungrown}
 use Rattle.hashing.specs.Limits.{validParameters}
 use Rattle.hashing.proofs.Homes.{start-valid}
 use Rattle.placement.specs.Rule.{Star, Hash, Contents, filter, passing, contentsOf, staying, onward, pages, left, separators}
-use Rattle.placement.specs.File.{File, padded, column, laid, fileOf}
+use Rattle.placement.specs.File.{File, column, laid, fileOf}
 use Rattle.placement.specs.Hash.{hashOf}
 use Rattle.placement.proofs.Separator.{Bounded, probing-top}
 use Rattle.calls.specs.Answers.{Pool, spotted}

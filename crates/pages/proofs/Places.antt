@@ -2,7 +2,7 @@
 -- number is held exactly if it occurs. `Passed` is what the loop of `search` keeps.
 -- Assumes nothing.
 use mathlib.Core.Path.{_≡_, refl, sym, _∙_}
-use mathlib.Core.Bool.{Bool, true, false, cond, _&&_, _||_, true≢false, and-eq-true-iff}
+use mathlib.Core.Bool.{Bool, true, false, cond, _&&_, or-true, true≢false, and-eq-true-iff}
 use mathlib.Core.List.{List, [], _∷_, _++_, List·Memᴰ, List·Memᴰ·head, List·Memᴰ·tail, Memᴰ·cast}
 use Prim.Native.Nat.{ℕ, zero, suc, _+_, _≤_, _<_, zero-le, suc-le-suc}
 use native.Mathlib.Nat.{zero-add, suc-add, add-suc, add-zero, not-suc-le-zero, le-of-suc-le-suc}
@@ -46,8 +46,6 @@ held-member k ns e =
     let h = held-there k ns e in
     Memᴰ·cast (sym (h .1)) (member-at ns (placeOf k ns) (h .0))
 
--- ---- orderly pages
-
 empty-at : (ns : List ℕ) (i : ℕ) → empties ns ≡ true → getD ns i 0 ≡ 0
 unfolding empties
 empty-at [] i e = refl
@@ -82,10 +80,6 @@ orderly-above low (n ∷ ns) i e h = go i (begins low n ns e) h (λ (j : ℕ) o.
 
 stops-at : (k n : ℕ) → k ≤ n → stops k n ≡ true
 stops-at k n h = rw (le-leb k n h) (or-true (eqb n 0))
-  where
-    or-true : (t : Bool) → t || true ≡ true
-    or-true true = refl
-    or-true false = refl
 
 passes : (k n : ℕ) → 0 < n → n < k → stops k n ≡ false
 passes k n h b = rw (ne-eqb n 0 (omega arith), lt-leb k n b)
@@ -133,8 +127,6 @@ rising-orderly low (n ∷ rs) z e =
     let h = and-eq-true-iff (ltb low n) (rising n rs) .0 e in
     let l : low < n = ltb-true low n (h .0) in
     rw (ne-eqb n 0 (omega arith), h .0) (rising-orderly n rs z (h .1))
-
--- ---- the search
 
 -- the search of k has passed i of the first `places` numbers
 pub record Passed (places k : ℕ) (ns : List ℕ) (i : ℕ) : Type 0 where

@@ -150,8 +150,6 @@ module _ (p : Parameters) (g : Growth) (seps : List ℕ) (page : ℕ) where
         let none : drop i (take places ns) ≡ [] = drop-of-length-le (take places ns) {i = i} (omega (arith, length-take-le places ns (done .numbered))) in
         done .is ∙ rw none
 
--- ---- the page as loaded
-
 module _ (p : Parameters) (g : Growth) (f : File) (page : ℕ) where
   -- by the page's items
   pub sound-items : soundIn p g (f .separators) page (part (p .places) page (f .numbers)) (part (p .places) page (f .words)) (part (p .places) page (f .owners)) ≡ soundAt p g f page

@@ -9,9 +9,11 @@ use native.Mathlib.Omega.{arith}
 use lib.Dec.{leb, ltb, eqb}
 use lib.ListN.{length, replicate, length-map}
 use borrow.Author.Tests.{leb-true, ltb-true, eqb-true, le-leb, lt-ltb, ne-eqb}
+use Rattle.buffers.specs.Lists.{padded}
+use Rattle.buffers.proofs.Tests.{and-true}
 use Rattle.placement.specs.Rule.{Star, keep, filter, insert}
-use Rattle.placement.specs.File.{starsOf, greatest, orderly, every, padded}
-use Rattle.placement.proofs.Filters.{and-true, member-filter}
+use Rattle.placement.specs.File.{starsOf, greatest, orderly, every}
+use Rattle.placement.proofs.Filters.{member-filter}
 use Rattle.placement.proofs.Order.{Rising, rising-less, member-insert}
 
 pub every-member : {A : Type 0} (q : A → Bool) (l : List A) → every q l ≡ true → (x : A) → List·Memᴰ x l → q x ≡ true
@@ -45,8 +47,6 @@ proper-filter ok q l h t m = h t (member-filter q l t m .0)
 pub rising-one : (l : List Star) → Rising 0 l → Numbered l → Rising 1 l
 rising-one [] r h = tt
 rising-one (s ∷ l) r h = (h s (List·Memᴰ·head refl), r .1)
-
--- ---- from the items to the stars
 
 -- What an item of an orderly page is: empty, or a star.
 data Item (ok : ℕ → Bool) (last n w o : ℕ) (ns ws os : List ℕ) : Type 0 where
@@ -183,8 +183,6 @@ orderly-columns ok last (n ∷ ns) (w ∷ ws) (o ∷ os) h k e =
           longer w ws (map (λ (s : Star). s .word) (starsOf ns ws os)) (E .1),
           longer o os (map (λ (s : Star). s .owner) (starsOf ns ws os)) (E .2),
         )
-
--- ---- from the stars to the items
 
 none-made : (i j k : ℕ) → starsOf (replicate i 0) (replicate j 0) (replicate k 0) ≡ []
 unfolding starsOf

@@ -1,7 +1,7 @@
 -- A page's stars against the search of its numbers (crate pages), and look-ups in the file that the rule lays.
 use mathlib.Core.Path.{_≡_, refl, sym, ap, _∙_}
 use mathlib.Core.Bool.{Bool, true, false, not, true≢false}
-use mathlib.Core.List.{List, [], _∷_, map, List·Memᴰ, List·Memᴰ·head, List·Memᴰ·tail, List·Memᴰ·cases-cons, List·Memᴰ·not-nil, Memᴰ·cast}
+use mathlib.Core.List.{List, [], _∷_, _++_, map, List·Memᴰ, List·Memᴰ·head, List·Memᴰ·tail, List·Memᴰ·cases-cons, List·Memᴰ·not-nil, Memᴰ·cast}
 use mathlib.Core.Logic.{⊎-elim}
 use Prim.Native.Nat.{ℕ, zero, suc, _-_, _≤_, _<_}
 use native.Mathlib.Nat.{zero-add}
@@ -9,11 +9,12 @@ use native.Mathlib.Omega.{arith}
 use lib.Dec.{eqb}
 use lib.ListN.{length, getD}
 use borrow.Author.Tests.{lt-ltb, eqb-false, ne-eqb}
+use Rattle.buffers.specs.Lists.{padded}
 use Rattle.pages.specs.Page as page
 use Rattle.pages.specs.Page.{part, placeOf, heldAt}
 use Rattle.pages.proofs.Places.{held-there, place-is, held-at, rising-orderly}
 use Rattle.placement.specs.Rule.{Star, Hash, keep, pages, left, first, separators}
-use Rattle.placement.specs.File.{starsOf, starsAt, orderly, greatest, padded, fileOf, laid}
+use Rattle.placement.specs.File.{starsOf, starsAt, orderly, greatest, fileOf, laid}
 use Rattle.placement.proofs.Standing.{looked-up}
 use Rattle.placement.proofs.Order.{Rising, Absent}
 use Rattle.placement.proofs.Writing.{length-part}
@@ -29,6 +30,24 @@ rising-numbers last (s ∷ l) r = rw (lt-ltb last (s .number) (r .0)) (rising-nu
 -- A word and an owner for each number.
 abbrev pub Even : List ℕ → List ℕ → List ℕ → Type 0
 Even ns ws os = (length ns ≡ length ws) × (length ns ≡ length os)
+
+-- The stars of parallel lists, one after the other.
+pub starsOf-append : (ns ws os ns′ ws′ os′ : List ℕ) → Even ns ws os → starsOf (ns ++ ns′) (ws ++ ws′) (os ++ os′) ≡ starsOf ns ws os ++ starsOf ns′ ws′ os′
+unfolding starsOf
+starsOf-append [] [] [] ns′ ws′ os′ h = refl
+starsOf-append [] (w ∷ ws) os ns′ ws′ os′ h = absurd (omega arith)
+starsOf-append [] [] (o ∷ os) ns′ ws′ os′ h = absurd (omega arith)
+starsOf-append (n ∷ ns) [] os ns′ ws′ os′ h = absurd (omega arith)
+starsOf-append (n ∷ ns) (w ∷ ws) [] ns′ ws′ os′ h = absurd (omega arith)
+starsOf-append (n ∷ ns) (w ∷ ws) (o ∷ os) ns′ ws′ os′ h = go (not (eqb n 0)) (starsOf-append ns ws os ns′ ws′ os′ (omega arith, omega arith))
+  where
+    star : Star
+    star = record { number = n; word = w; owner = o }
+
+    go : (t : Bool) → starsOf (ns ++ ns′) (ws ++ ws′) (os ++ os′) ≡ starsOf ns ws os ++ starsOf ns′ ws′ os′
+        → keep t star (starsOf (ns ++ ns′) (ws ++ ws′) (os ++ os′)) ≡ keep t star (starsOf ns ws os) ++ starsOf ns′ ws′ os′
+    go true ih = rw ih
+    go false ih = ih
 
 -- The numbers of an orderly page are orderly in the sense of the search.
 pub orderly-numbers : (ok : ℕ → Bool) (last : ℕ) (ns ws os : List ℕ) → last ≤ greatest → Even ns ws os → orderly ok last ns ws os ≡ true → page.orderly last ns ≡ true
@@ -114,8 +133,6 @@ held-absent ns ws os k l h none = go (heldAt k ns) refl
     go : (t : Bool) → heldAt k ns ≡ t → heldAt k ns ≡ false
     go true e = absurd (none (starFor ns ws os k) (held-star ns ws os k l h e) refl)
     go false e = e
-
--- ---- look-ups in a laid file
 
 module _ (ok : ℕ → Bool) (H : Hash) (M : ℕ) (t : List Star) (rising : Rising 0 t) (proper : Proper ok t) (fits : left H 0 M t ≡ []) where
   sizes : (q : ℕ) → q < M

@@ -2,9 +2,10 @@
 use mathlib.Core.Path.{_≡_}
 use mathlib.Core.Bool.{Bool, true, false, not, cond, _&&_}
 use mathlib.Core.List.{List, [], _∷_, _++_, map}
-use Prim.Native.Nat.{ℕ, zero, suc, _+_, _-_, _*_, _<_}
+use Prim.Native.Nat.{ℕ, zero, suc, _*_, _<_}
 use lib.Dec.{leb, ltb, eqb}
-use lib.ListN.{length, take, drop, getD, replicate}
+use lib.ListN.{length, getD}
+unfoldable pub use Rattle.buffers.specs.Lists.{padded, written}
 use Rattle.pages.specs.Page.{part}
 use Rattle.placement.specs.Rule.{Star, Hash, Contents, keep, pages, first, pour, separators}
 
@@ -63,18 +64,10 @@ sound ok H f p =
     && (leb (getD (f .separators) p 0) (H .top)
     && every (λ (s : Star). eqb (first H 0 (f .separators) (s .number)) p) (starsAt (H .room) f p))
 
--- "Empty places last."
-unfoldable pub padded : ℕ → List ℕ → List ℕ
-padded n l = l ++ replicate (n - length l) 0
-
--- One item for each place of these pages: numbers, words or owners, by g.
+-- One item for each place of these pages: numbers, words or owners, by g. "Empty places last."
 unfoldable pub column : ℕ → (Star → ℕ) → List Contents → List ℕ
 column places g [] = []
 column places g (c ∷ cs) = padded places (map g (c .stars)) ++ column places g cs
-
--- d with s in the place of its items from `at` on.
-unfoldable pub written : {A : Type 0} → ℕ → List A → List A → List A
-written at s d = take at d ++ (s ++ drop (at + length s) d)
 
 -- The pages cs as a whole file.
 unfoldable pub fileOf : ℕ → List Contents → File

@@ -1,10 +1,9 @@
 // The soundness of a page. Its stars' homes are computed once and at once, for the test, and kept.
 ghost use mathlib.Core.Path.{_≡_};
 ghost use mathlib.Core.Bool.{true, _&&_};
-ghost use Prim.Native.Nat.{_+_, _*_, _≤_, _<_};
+ghost use Prim.Native.Nat.{_+_, _*_, _<_};
 ghost use lib.Dec.{eqb, leb, ltb};
 ghost use lib.ListN.{length};
-ghost use lib.Seq.{paste};
 ghost use Rattle.generator.specs.Generator.{firstMultipliers, topOf};
 ghost use Rattle.hashing.specs.Geometry.{multiplierOf};
 ghost use Rattle.hashing.specs.Home.{home as Home·home};
@@ -190,19 +189,6 @@ pub fn survey(
         return false;
     }
     let values = found.homes;
-    keep(homes, page * places, values, places);
+    buffers::copy_32(homes, page * places, &values, 0, places);
     true
-}
-
-// The first values go to the items from `first` on.
-fn keep(homes: &mut [u32], first: usize, values: [u32; 32], places: usize)
-    requires { ⌜ places ≤ 32 ⌝ }
-    requires { ⌜ first + places ≤ length (now homes) ⌝ }
-    ensures { λ _. ⌜ now (homes .exit) ≡ paste (now (homes .entry)) first values places ⌝ }
-{
-    let mut i = 0;
-    while i < places {
-        homes[first + i] = values[i];
-        i += 1;
-    }
 }

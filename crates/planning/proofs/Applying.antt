@@ -7,9 +7,10 @@ use native.Mathlib.Omega.{arith}
 use lib.Dec.{leb, eqb}
 use lib.ListN.{length, take, drop, replicate, length-map}
 use borrow.Author.Tests.{eqb-true}
+use Rattle.buffers.specs.Lists.{written, padded}
 use Rattle.hashing.specs.declared.Parameters.{Parameters}
 use Rattle.placement.specs.Rule.{Star, Contents, separators}
-use Rattle.placement.specs.File.{File, every, padded, column, written, replaced}
+use Rattle.placement.specs.File.{File, every, column, replaced}
 use Rattle.placement.proofs.Mapping.{Keeps, mapped}
 use Rattle.waiting.specs.Lists.{filter, all}
 use Rattle.waiting.specs.Words.{lowOf, numberOf, sourceOf}
@@ -120,8 +121,6 @@ applied-is places lo count newnumber newword newowner pool planned f cs ep es so
     g : Star → Star
     g = renamed (f .words) (f .owners) newword newowner
 
--- ---- the plan's stars have sources that name their numbers
-
 every-insert : (q : Star → Bool) (x : ℕ) (l : List ℕ) → q (starOf x) ≡ true → every q (map starOf l) ≡ true → every q (map starOf (insertLow x l)) ≡ true
 unfolding every insertLow
 every-insert q x [] e h = rw e
@@ -150,7 +149,7 @@ sourced-waits ns new l e =
     (all-mono (λ w. eqb (named ns new (sourceOf w)) (numberOf w)) (λ w. eqb (named ns new (starOf (lowOf w) .word)) (starOf (lowOf w) .number)) l
     (λ w t. rw (word-low w, number-low w) t) e)
 
-sourced-filter : (ns : List ℕ) (new : ℕ) (q : ℕ → Bool) (l : List ℕ) → sourced ns new l ≡ true → sourced ns new (filter q l) ≡ true
+pub sourced-filter : (ns : List ℕ) (new : ℕ) (q : ℕ → Bool) (l : List ℕ) → sourced ns new l ≡ true → sourced ns new (filter q l) ≡ true
 unfolding sourced
 sourced-filter ns new q l = all-filter (λ w. eqb (named ns new (sourceOf w)) (numberOf w)) q l
 

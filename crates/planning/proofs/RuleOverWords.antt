@@ -7,6 +7,7 @@ use native.Mathlib.Nat.{add-suc}
 use native.Mathlib.Omega.{arith}
 use lib.Dec.{leb, ltb, eqb}
 use borrow.Author.Tests.{le-leb, lt-leb, lt-ltb, leb-true, ltb-true, eqb-true}
+use Rattle.buffers.proofs.Tests.{and-true}
 use Rattle.hashing.specs.declared.Parameters.{Parameters}
 use Rattle.generator.specs.Generator.{signature, topOf}
 use Rattle.hashing.specs.Geometry.{multiplierOf}
@@ -19,7 +20,6 @@ use Rattle.waiting.specs.Settle.{signatureOf, under, staying, passing, separato
 use Rattle.waiting.proofs.Lists.{filter-append, all-head, all-tail, all-append, all-filter, all-filtered, all-mono}
 use Rattle.planning.specs.Plans.{starOf, waits, homed, settled, carriedOn, plans, remains}
 use Rattle.planning.proofs.Pouring.{select-waits, length-waits}
-use Rattle.placement.proofs.Filters.{and-true}
 
 -- A hash whose signatures are the generator's on the page's probe, t = 1 at home.
 pub record Probes (H : Hash) (q : Parameters) : Type 0 where

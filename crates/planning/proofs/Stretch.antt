@@ -6,15 +6,18 @@ use Prim.Native.Nat.{ℕ, zero, suc, _+_, _-_, _*_, _^_, _≤_, _<_, zero-le}
 use native.Mathlib.Nat.{add-zero, zero-add, add-suc, suc-add, add-mul, suc-mul, mul-le-mul-right}
 use native.Mathlib.Numerals.{add-one}
 use native.Mathlib.Omega.{arith}
-use lib.ListN.{length, getD, take, drop, set, length-append, take-append-drop}
-use lib.Seq.{slice, length-slice, length-take-le, take-take, take-at, drop-at, drop-drop, set-split, take-add}
+use lib.ListN.{length, getD, take, drop, set, length-append}
+use lib.Seq.{slice, length-slice, length-take-le, take-take, take-at, drop-at, drop-drop, take-add}
 use lib.Pow.{pow-mono}
+use Rattle.buffers.proofs.Lists.{drop-take}
+use Rattle.buffers.proofs.Written.{written-none, set-written, written-add}
+use Rattle.buffers.specs.Lists.{written, padded}
 use Rattle.hashing.specs.declared.Parameters.{Parameters}
 use Rattle.generator.specs.Generator.{topOf}
 use Rattle.placement.specs.Rule.{Star, Contents, separators}
-use Rattle.placement.specs.File.{padded, column, written}
+use Rattle.placement.specs.File.{column}
 use Rattle.placement.proofs.Standing.{length-separators}
-use Rattle.placement.proofs.Writing.{Roomy, column-append, length-column, separators-append, written-add}
+use Rattle.placement.proofs.Writing.{Roomy, column-append, length-column, separators-append}
 use Rattle.waiting.specs.Words.{sourceOf}
 use Rattle.waiting.specs.Gather.{group, grouped, Scattered}
 use Rattle.waiting.specs.declared.settling.Settled.{Settled}
@@ -24,9 +27,6 @@ use Rattle.waiting.proofs.Cutting.{separator-fits, separator-most}
 use Rattle.planning.specs.Plans.{starOf, waits, settled, carriedOn, plans, remains, PagePlanned, Planned}
 use Rattle.planning.proofs.Pouring.{length-waits}
 use Rattle.planning.proofs.RuleOverWords.{near-probing, near-onward}
-use Rattle.planning.proofs.Slots.{drop-take}
-
--- ---- the plan with one more page
 
 -- the last page comes after the others
 module _ (q : Parameters) (lo : ℕ) (l : List ℕ) where
@@ -74,8 +74,6 @@ unfolding separatorOf topOf
 separator-byte q p l h =
     let power : 2 ^ q .bits ≤ 2 ^ 8 = pow-mono h in
     omega (arith, separator-most q p l (topOf (q .bits)))
-
--- ---- parts of the waiting list
 
 pub slice-join : (f m t : ℕ) (l : List ℕ) → f ≤ m → m ≤ t → t ≤ length l → slice f t l ≡ slice f m l ++ slice m t l
 slice-join f m t l a b c =
@@ -167,10 +165,6 @@ pub record Settling (q : Parameters) (lo count carried : ℕ) (l W pool planned 
   pub long-waiting : length W′ ≡ length W
   pub long-planned : length planned′ ≡ length planned
 
-written-none : (at : ℕ) (d : List ℕ) → d ≡ written at [] d
-unfolding written
-written-none at d = sym (ap (λ (k : ℕ). take at d ++ drop k d) (add-zero at) ∙ take-append-drop at d)
-
 pub settling-none : (q : Parameters) (lo count carried : ℕ) (l W pool planned : List ℕ) → Settling q lo count carried l W pool planned pool W planned 0 0
 unfolding remains plans column separators grouped
 settling-none q lo count carried l W pool planned =
@@ -212,8 +206,6 @@ module _ (q : Parameters) (lo count carried : ℕ) (l W pool planned ends : List
   pub probed-within : endOf carried lo l (suc v) ≤ length W′
   probed-within = omega (arith, ends-within lo count carried l W ends S (suc v) more, S .room, I .long-waiting)
 
--- ---- one page
-
 words-waits : (l : List ℕ) → map (λ (s : Star). s .word) (waits l) ≡ map sourceOf (slotsOf l)
 unfolding waits starOf sourceOf
 words-waits l = go (slotsOf l)
@@ -222,9 +214,12 @@ words-waits l = go (slotsOf l)
     go [] = refl
     go (x ∷ l) = ap (λ (s : List ℕ). sourceOf x ∷ s) (go l)
 
-set-written : (l : List ℕ) (i x : ℕ) → i < length l → set l i x ≡ written i (x ∷ []) l
-unfolding written
-set-written l i x h = set-split l i x h ∙ ap (λ (k : ℕ). take i l ++ (x ∷ drop k l)) (sym (add-one i))
+-- the sources of the slots are the page's column
+pub sources-column : (b v kept : ℕ) (slots l : List ℕ) → take kept slots ≡ slotsOf l
+    → padded b (map sourceOf (take kept slots)) ≡ column b (λ (s : Star). s .word) (record { separator = v; stars = waits l } ∷ [])
+unfolding column
+sources-column b v kept slots l e =
+    ap (padded b) (ap (map sourceOf) e ∙ sym (words-waits l)) ∙ sym (append-nil (padded b (map (λ (s : Star). s .word) (waits l))))
 
 pub page-planned : (q : Parameters) (p : ℕ) (l : List ℕ) (reach : ℕ) (W W′ slots pool pool′ planned : List ℕ) (r : Settled)
     → Settlement q p (separatorOf q p l) l reach W W′ slots r
@@ -236,15 +231,12 @@ page-planned q p l reach W W′ slots pool pool′ planned r S e h =
     record {
       sources =
           e ∙ ap (λ (s : List ℕ). written (p * q .places) s pool)
-          (ap (padded (q .places)) (ap (map sourceOf) (S .page) ∙ sym (words-waits (staying q p v l)))
-          ∙ sym (append-nil (padded (q .places) (map (λ (s : Star). s .word) (waits (staying q p v l))))));
+          (sources-column (q .places) v (r .kept) slots (staying q p v l) (S .page));
       separator = set-written planned p (r .separator) h ∙ ap (λ (s : ℕ). written p (s ∷ []) planned) (S .separator);
       order = omega (arith, S .start);
       passed = S .passed;
       behind = S .behind;
     }
-
--- ---- from one page to the next
 
 module _ (q : Parameters) (lo count carried : ℕ) (l W pool planned ends : List ℕ) (S : Started lo count carried l W ends)
     (pool′ W′ planned′ : List ℕ) (from v : ℕ) (I : Settling q lo count carried l W pool planned pool′ W′ planned′ from v) (more : v < count)

@@ -4,7 +4,7 @@ ghost use mathlib.Core.List.{map};
 ghost use Prim.Native.Nat.{_+_, _*_, _≤_};
 ghost use lib.ListN.{length, take, drop, replicate};
 ghost use lib.Seq.{paste};
-ghost use Rattle.placement.specs.File.{written};
+ghost use Rattle.buffers.specs.Lists.{written};
 ghost use Rattle.waiting.specs.Gather.{stretch};
 ghost use Rattle.planning.specs.Sources.{named};
 
@@ -96,42 +96,6 @@ fn fetch_numbers(numbers: &[u32], pool: &mut [u32], at: usize, items: usize, new
     }
 }
 
-fn copy_words(words: &mut [u64], waiting: &[u64], at: usize, items: usize)
-    requires { ⌜ at + items ≤ length (now words) ⌝ }
-    requires { ⌜ at + items ≤ length (now waiting) ⌝ }
-    ensures { λ _. ⌜ now (words .exit) ≡ paste (now (words .entry)) at (drop at (now (waiting .entry))) items ⌝ }
-{
-    let mut i = 0;
-    while i < items {
-        words[at + i] = waiting[at + i];
-        i += 1;
-    }
-}
-
-fn copy_numbers(numbers: &mut [u32], pool: &[u32], at: usize, items: usize)
-    requires { ⌜ at + items ≤ length (now numbers) ⌝ }
-    requires { ⌜ at + items ≤ length (now pool) ⌝ }
-    ensures { λ _. ⌜ now (numbers .exit) ≡ paste (now (numbers .entry)) at (drop at (now (pool .entry))) items ⌝ }
-{
-    let mut i = 0;
-    while i < items {
-        numbers[at + i] = pool[at + i];
-        i += 1;
-    }
-}
-
-fn copy_bytes(bytes: &mut [u8], from: &[u8], at: usize, items: usize)
-    requires { ⌜ at + items ≤ length (now bytes) ⌝ }
-    requires { ⌜ at + items ≤ length (now from) ⌝ }
-    ensures { λ _. ⌜ now (bytes .exit) ≡ paste (now (bytes .entry)) at (drop at (now (from .entry))) items ⌝ }
-{
-    let mut i = 0;
-    while i < items {
-        bytes[at + i] = from[at + i];
-        i += 1;
-    }
-}
-
 // Words and owners first: the sources stand where the numbers go.
 pub fn fetch(
     numbers: &[u32],
@@ -178,9 +142,9 @@ fn put_back(
     ensures { λ _. ⌜ now (words .exit) ≡ paste (now (words .entry)) at (drop at (now (waiting .entry))) items ⌝ }
     ensures { λ _. ⌜ now (owners .exit) ≡ paste (now (owners .entry)) at (drop at (now (poolowners .entry))) items ⌝ }
 {
-    copy_words(words, waiting, at, items);
-    copy_numbers(numbers, pool, at, items);
-    copy_bytes(owners, poolowners, at, items);
+    buffers::copy_64(words, at, waiting, at, items);
+    buffers::copy_32(numbers, at, pool, at, items);
+    buffers::copy_8(owners, at, poolowners, at, items);
 }
 
 // The stretch of `count` pages from page lo becomes what the planned sources and separators say.
@@ -226,37 +190,7 @@ pub fn apply(
         newowner,
     );
     put_back(numbers, words, owners, pool, waiting, poolowners, at, items);
-    copy_bytes(separators, planned, lo, count);
-}
-
-fn clear_numbers(pool: &mut [u32])
-    ensures { λ _. ⌜ now (pool .exit) ≡ replicate (length (now (pool .entry))) 0 ⌝ }
-{
-    let mut i = 0;
-    while i < pool.len() {
-        pool[i] = 0;
-        i += 1;
-    }
-}
-
-fn clear_words(waiting: &mut [u64])
-    ensures { λ _. ⌜ now (waiting .exit) ≡ replicate (length (now (waiting .entry))) 0 ⌝ }
-{
-    let mut i = 0;
-    while i < waiting.len() {
-        waiting[i] = 0;
-        i += 1;
-    }
-}
-
-fn clear_owners(poolowners: &mut [u8])
-    ensures { λ _. ⌜ now (poolowners .exit) ≡ replicate (length (now (poolowners .entry))) 0 ⌝ }
-{
-    let mut i = 0;
-    while i < poolowners.len() {
-        poolowners[i] = 0;
-        i += 1;
-    }
+    buffers::copy_8(separators, lo, planned, lo, count);
 }
 
 // Zeros in all three lists: the pool after a call that used it, and the places of an empty file.
@@ -265,7 +199,7 @@ pub fn clear(pool: &mut [u32], waiting: &mut [u64], poolowners: &mut [u8])
     ensures { λ _. ⌜ now (waiting .exit) ≡ replicate (length (now (waiting .entry))) 0 ⌝ }
     ensures { λ _. ⌜ now (poolowners .exit) ≡ replicate (length (now (poolowners .entry))) 0 ⌝ }
 {
-    clear_numbers(pool);
-    clear_words(waiting);
-    clear_owners(poolowners);
+    buffers::fill_32(pool, 0);
+    buffers::fill_64(waiting, 0);
+    buffers::fill_8(poolowners, 0);
 }

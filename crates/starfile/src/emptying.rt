@@ -1,6 +1,5 @@
 // Making an empty file.
 ghost use mathlib.Core.Path.{_≡_};
-ghost use lib.ListN.{length, replicate};
 ghost use Rattle.placement.specs.Lent.{before, after};
 ghost use Rattle.calls.specs.Answers.{Leaves, unpooled, placed};
 ghost use Rattle.calls.specs.Calls.{makeOf};
@@ -41,20 +40,11 @@ pub fn make(
             growth,
         };
     }
-    fill(separators, placement::top_of(parameters));
+    let top = placement::top_of(parameters);
+    buffers::fill_8(separators, top);
     planning::clear(numbers, words, owners);
     Grown {
         answer: Placed::On(0, 0),
         growth,
-    }
-}
-
-fn fill(separators: &mut [u8], top: u8)
-    ensures { λ _. ⌜ now (separators .exit) ≡ replicate (length (now (separators .entry))) top ⌝ }
-{
-    let mut i = 0;
-    while i < separators.len() {
-        separators[i] = top;
-        i += 1;
     }
 }
