@@ -45,8 +45,8 @@ module _ (b M : ℕ) (f : File) (cs : List Contents) (sized : Sized b M f) (room
       λ i. record {
         separators = written-whole (separators cs) (f .separators) (length-separators cs ∙ count ∙ sym (sized .ofSeparators)) i;
         numbers = column-written (λ (s : Star). s .number) (f .numbers) (sized .ofNumbers) i;
-        words = column-written (λ (s : Star). s .word) (f .words) (sized .ofWords) i;
-        owners = column-written (λ (s : Star). s .owner) (f .owners) (sized .ofOwners) i;
+        words = column-written (λ (s : Star). s .payload .word) (f .words) (sized .ofWords) i;
+        owners = column-written (λ (s : Star). s .payload .owner) (f .owners) (sized .ofOwners) i;
       }
 
 module _ (p : Parameters) (g : Growth) (f : File) (sized : Sized (p .places) (p .pages) f) where

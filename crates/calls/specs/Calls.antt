@@ -12,7 +12,7 @@ use Rattle.hashing.specs.Geometry.{pageCount, highest, grown, ungrown, isUngrow
 use Rattle.pages.specs.declared.position.Position.{Position}
 use Rattle.pages.specs.Position.{validNumber, validPosition, packed, unpacked}
 use Rattle.pages.specs.Page.{part, placeOf, heldAt}
-use Rattle.placement.specs.Rule.{Star, Hash, pages, left, without}
+use Rattle.placement.specs.Rule.{Star, Hash, pages, left, without, starWith}
 use Rattle.placement.specs.File.{File, gathered, replaced}
 use Rattle.placement.specs.Hash.{hashOf, soundAt, namedPage}
 pub use Rattle.calls.specs.Spots.{firstSpot, ruled}
@@ -170,7 +170,7 @@ enterTo p g f pool s place to =
 unfoldable pub enteredAgain : Parameters → File → ℕ → Star → Answer
 enteredAgain p f page s =
     let place = placeFor p f page (s .number) in
-    cond (eqb (getD (f .words) (itemOf p f page (s .number)) 0) (s .word)) (acceptedAt page place) (refusedAt 6 0 place)
+    cond (eqb (getD (f .words) (itemOf p f page (s .number)) 0) (s .payload .word)) (acceptedAt page place) (refusedAt 6 0 place)
 
 -- an entry past refusal 4: the named page is refused with 5, a held star's entry is a resend or 6, and a star not held comes to `after`
 abbrev pub unlessHeld : Parameters → Growth → File → Pool → ℕ → Star → After → After
@@ -192,7 +192,7 @@ entryRefusal p g f pool k position =
 
 -- "An entered star is its caller's": document 02 (x)
 abbrev pub entered : ℕ → ℕ → Position → Star
-entered caller k position = record { number = k; word = packed position; owner = caller }
+entered caller k position = starWith k (packed position) caller
 
 unfoldable pub enterOf : Parameters → Growth → File → Pool → ℕ → ℕ → Position → After
 enterOf p g f pool caller k position =

@@ -198,7 +198,7 @@ module _ (p : Parameters) (g : Growth) (f : File) (k page : ℕ) (valid : validP
       stored = getD (f .separators) (page + d) 0
 
       pool″ : List ℕ
-      pool″ = written ((page + d) * p .places) (column (p .places) (λ (s : Star). s .word) (loweredTo p (page + d) stored met ∷ [])) pool
+      pool″ = written ((page + d) * p .places) (column (p .places) (λ (s : Star). s .payload .word) (loweredTo p (page + d) stored met ∷ [])) pool
 
       planned″ : List ℕ
       planned″ = written (page + d) (separators (loweredTo p (page + d) stored met ∷ [])) planned

@@ -114,7 +114,7 @@ module _ (p : Parameters) (g : Growth) (f : File) (k page : ℕ) (valid : validP
     none-on = omega (arith, ap (λ (v : ℕ). length (passing p page v met)) same-separator, parted p page stored met, ap length all-stay)
 
     pub plans-filled : (pool planned pool′ planned′ : List ℕ) → length pool ≡ p .pages * p .places → p .pages ≤ length planned
-        → pool′ ≡ written (page * p .places) (column (p .places) (λ (s : Star). s .word) (record { separator = stored; stars = waits met } ∷ [])) pool
+        → pool′ ≡ written (page * p .places) (column (p .places) (λ (s : Star). s .payload .word) (record { separator = stored; stars = waits met } ∷ [])) pool
         → planned′ ≡ written page (stored ∷ []) planned → Plans p g f k page pool′ planned′ (Ends page)
     plans-filled pool planned pool′ planned′ lp ln ep en =
         plans-ends p g f k page pool′ planned′ (loweredOn p (page + 0) (getD (f .separators) (page + 0) 0) (newWord p g f k ∷ pageWords p g f (page + 0))) 1
@@ -172,10 +172,10 @@ module _ (p : Parameters) (g : Growth) (f : File) (k page : ℕ) (valid : validP
           slots-are : take reach slots ≡ slotsOf (newWord p g f k ∷ unhomed)
           slots-are = ap (λ (n : ℕ). take n slots) (sym (sub-zero reach)) ∙ es ∙ ap slotsOf (ew ∙ ap (λ (l : List ℕ). l ++ unhomed) front)
 
-          same-column : column (p .places) (λ (s : Star). s .word) (record { separator = stored; stars = waits (newWord p g f k ∷ unhomed) } ∷ [])
-              ≡ column (p .places) (λ (s : Star). s .word) (record { separator = stored; stars = waits met } ∷ [])
+          same-column : column (p .places) (λ (s : Star). s .payload .word) (record { separator = stored; stars = waits (newWord p g f k ∷ unhomed) } ∷ [])
+              ≡ column (p .places) (λ (s : Star). s .payload .word) (record { separator = stored; stars = waits met } ∷ [])
           same-column =
-              ap (λ (l : List Star). column (p .places) (λ (s : Star). s .word) (record { separator = stored; stars = l } ∷ []))
+              ap (λ (l : List Star). column (p .places) (λ (s : Star). s .payload .word) (record { separator = stored; stars = l } ∷ []))
               (waits-low (newWord p g f k ∷ unhomed) met (ap (λ (l : List ℕ). lowOf (newWord p g f k) ∷ l) unhomed-low))
 
       pub fill-reach : (reach : ℕ) → reach ≡ 1 + length unhomed → reach ≤ p .places

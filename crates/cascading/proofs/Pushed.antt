@@ -49,7 +49,7 @@ pub record Pushed (p : Parameters) (g : Growth) (f : File) (k page : ℕ) (pool 
   pub sound : (q : ℕ) → page ≤ q → q < page + d → soundAt p g f q ≡ true
   pub contents : List Contents
   pub size : length contents ≡ d
-  pub sources : stretch (p .places) page d pool ≡ column (p .places) (λ (s : Star). s .word) contents
+  pub sources : stretch (p .places) page d pool ≡ column (p .places) (λ (s : Star). s .payload .word) contents
   pub separators-are : take d (drop page planned) ≡ separators contents
   pub all-sourced : Sourced (f .numbers) k contents
   pub are : (word owner : ℕ) → map (mapped (renamed (f .words) (f .owners) word owner)) contents ≡ cascaded (hash p g) f page d (newStar k word owner ∷ [])
@@ -60,7 +60,7 @@ pub record Pushed (p : Parameters) (g : Growth) (f : File) (k page : ℕ) (pool 
   pub before : apart p g f k (page + d) w ≡ true
 
 sourced-more : (ns : List ℕ) (new : ℕ) (cs : List Contents) (c : Contents) → Sourced ns new cs
-    → every (λ (s : Star). eqb (named ns new (s .word)) (s .number)) (c .stars) ≡ true → Sourced ns new (cs ++ (c ∷ []))
+    → every (λ (s : Star). eqb (named ns new (s .payload .word)) (s .number)) (c .stars) ≡ true → Sourced ns new (cs ++ (c ∷ []))
 sourced-more ns new [] c s e = (e, tt)
 sourced-more ns new (x ∷ cs) c s e = (s .0, sourced-more ns new cs c (s .1) e)
 
@@ -161,7 +161,7 @@ module _ (p : Parameters) (g : Growth) (f : File) (k page : ℕ) (valid : validP
         (rw next at (apart-joined p g f valid sized (page + d) inside sound k unheld w (P .before)))
 
     pub pushed-next : (pool′ planned′ : List ℕ) → (page + d) * p .places ≤ length pool → page + d ≤ length planned
-        → pool′ ≡ written ((page + d) * p .places) (column (p .places) (λ (s : Star). s .word) (new ∷ [])) pool
+        → pool′ ≡ written ((page + d) * p .places) (column (p .places) (λ (s : Star). s .payload .word) (new ∷ [])) pool
         → planned′ ≡ written (page + d) (separators (new ∷ [])) planned
         → Pushed p g f k page pool′ planned′ (loweredOn p (page + d) stored met) (d + 1)
     pushed-next pool′ planned′ lp ln ep en =
@@ -173,8 +173,8 @@ module _ (p : Parameters) (g : Growth) (f : File) (k page : ℕ) (valid : validP
           sources =
               ap (stretch (p .places) page (d + 1)) ep
               ∙ sources-on (p .places) page d new pool (lowered-roomy p (page + d) stored met) lp
-              ∙ ap (λ (l : List ℕ). l ++ column (p .places) (λ (s : Star). s .word) (new ∷ [])) (P .sources)
-              ∙ sym (column-append (p .places) (λ (s : Star). s .word) (P .contents) (new ∷ []));
+              ∙ ap (λ (l : List ℕ). l ++ column (p .places) (λ (s : Star). s .payload .word) (new ∷ [])) (P .sources)
+              ∙ sym (column-append (p .places) (λ (s : Star). s .payload .word) (P .contents) (new ∷ []));
           separators-are =
               ap (λ (l : List ℕ). take (d + 1) (drop page l)) en
               ∙ separators-on page d new planned ln

@@ -59,9 +59,9 @@ lowered-roomy p q most l = rw (length-waits (staying p q (separatorFrom p q l mo
 
 -- a stretch that goes on with one page
 pub sources-on : (b lo n : ℕ) (c : Contents) (d : List ℕ) → length (c .stars) ≤ b → (lo + n) * b ≤ length d
-    → stretch b lo (n + 1) (written ((lo + n) * b) (column b (λ (s : Star). s .word) (c ∷ [])) d) ≡ stretch b lo n d ++ column b (λ (s : Star). s .word) (c ∷ [])
+    → stretch b lo (n + 1) (written ((lo + n) * b) (column b (λ (s : Star). s .payload .word) (c ∷ [])) d) ≡ stretch b lo n d ++ column b (λ (s : Star). s .payload .word) (c ∷ [])
 sources-on b lo n c d r h =
-    stretch-on b lo n 1 (column b (λ (s : Star). s .word) (c ∷ [])) d (length-column b (λ (s : Star). s .word) (c ∷ []) (r, tt)) h
+    stretch-on b lo n 1 (column b (λ (s : Star). s .payload .word) (c ∷ [])) d (length-column b (λ (s : Star). s .payload .word) (c ∷ []) (r, tt)) h
 
 pub separators-on : (lo n : ℕ) (c : Contents) (d : List ℕ) → lo + n ≤ length d
     → take (n + 1) (drop lo (written (lo + n) (separators (c ∷ [])) d)) ≡ take n (drop lo d) ++ separators (c ∷ [])

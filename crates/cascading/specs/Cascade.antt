@@ -96,7 +96,7 @@ loweredOn p q most l = passing p q (separatorFrom p q l most) l
 
 -- what settling page q leaves: its sources, its separator, and from r up to `reach` the words carried on
 pub record Lowered (p : Parameters) (q most : ℕ) (l : List ℕ) (reach : ℕ) (pool pool′ planned planned′ W′ : List ℕ) (r : ℕ) : Type 0 where
-  pub sources : pool′ ≡ written (q * p .places) (column (p .places) (λ (s : Star). s .word) (loweredTo p q most l ∷ [])) pool
+  pub sources : pool′ ≡ written (q * p .places) (column (p .places) (λ (s : Star). s .payload .word) (loweredTo p q most l ∷ [])) pool
   pub separator : planned′ ≡ written q (separators (loweredTo p q most l ∷ [])) planned
   pub start : r ≡ reach - length (loweredOn p q most l)
   pub passed : slice r reach W′ ≡ loweredOn p q most l

@@ -13,7 +13,7 @@ use lib.ListN.{length, getD, take, drop}
 use lib.Seq.{ext-getD, take-all}
 use borrow.Author.Tests.{leb-false, ltb-false, le-leb, lt-leb, lt-ltb, le-ltb, eq-eqb, ne-eqb, eqb-true, eqb-false}
 use Rattle.pages.specs.Page.{part}
-use Rattle.placement.specs.Rule.{Star, Hash, keep, filter, below, staying, passing, separatorOf, contentsOf, onward, pages, first, pour, separators, blank}
+use Rattle.placement.specs.Rule.{Star, Hash, keep, filter, below, staying, passing, separatorOf, contentsOf, onward, pages, first, pour, separators, blank, starWith}
 use Rattle.placement.specs.File.{File, starsOf, starsAt, contentsAt, pagesAt, gathered, laid, fileOf, Sized, Clean}
 use Rattle.placement.proofs.Filters.{filter-ext, filter-ext-on, filter-filter}
 use Rattle.placement.proofs.Separator.{stays, below-mono, sep-great, sep-unique}
@@ -136,12 +136,12 @@ count-stars q (n ∷ ns) (w ∷ ws) (o ∷ os) e eo = go (eqb n 0) (count-stars 
   where
     go : (t : Bool) → length (filter (λ (m : ℕ). not (eqb m 0) && q m) ns) ≡ length (filter (λ (s : Star). q (s .number)) (starsOf ns ws os))
         → length (keep (not t && q n) n (filter (λ (m : ℕ). not (eqb m 0) && q m) ns))
-        ≡ length (filter (λ (s : Star). q (s .number)) (keep (not t) (record { number = n; word = w; owner = o }) (starsOf ns ws os)))
+        ≡ length (filter (λ (s : Star). q (s .number)) (keep (not t) (starWith n w o) (starsOf ns ws os)))
     go true ih = ih
     go false ih =
         length-keep (q n) n (filter (λ (m : ℕ). not (eqb m 0) && q m) ns)
         ∙ ap (λ (k : ℕ). cond (q n) 1 0 + k) ih
-        ∙ sym (length-keep (q n) (record { number = n; word = w; owner = o }) (filter (λ (s : Star). q (s .number)) (starsOf ns ws os)))
+        ∙ sym (length-keep (q n) (starWith n w o) (filter (λ (s : Star). q (s .number)) (starsOf ns ws os)))
 
 gathered-next : (b : ℕ) (f : File) (n : ℕ) → gathered b f 0 (suc n) ≡ pour (gathered b f 0 n) (pour (starsAt b f n) [])
 unfolding gathered

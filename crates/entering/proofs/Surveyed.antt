@@ -110,12 +110,12 @@ module _ (p : Parameters) (g : Growth) (f : File) (valid : validParameters p ≡
           renewed = rw found-homes at plan
 
           items : List ℕ
-          items = column (p .places) (λ (s : Star). s .word) (plans p lo 0 (last + 1 - lo) w (blockWords p g f lo (last + 1 - lo)))
+          items = column (p .places) (λ (s : Star). s .payload .word) (plans p lo 0 (last + 1 - lo) w (blockWords p g f lo (last + 1 - lo)))
 
           items-long : length items ≡ (last + 1 - lo) * p .places
           unfolding items
           items-long =
-              length-column (p .places) (λ (s : Star). s .word) (plans p lo 0 (last + 1 - lo) w (blockWords p g f lo (last + 1 - lo)))
+              length-column (p .places) (λ (s : Star). s .payload .word) (plans p lo 0 (last + 1 - lo) w (blockWords p g f lo (last + 1 - lo)))
               (plans-roomy p lo 0 (last + 1 - lo) w (blockWords p g f lo (last + 1 - lo)))
               ∙ ap (λ (n : ℕ). n * p .places) (length-plans p lo 0 (last + 1 - lo) w (blockWords p g f lo (last + 1 - lo)))
 

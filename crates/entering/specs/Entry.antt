@@ -10,7 +10,7 @@ use Rattle.hashing.specs.declared.Parameters.{Parameters}
 use Rattle.hashing.specs.declared.Growth.{Growth}
 use Rattle.hashing.specs.declared.Geometry.{Geometry}
 use Rattle.pages.specs.Page.{part, heldAt}
-use Rattle.placement.specs.Rule.{Star, Hash, Contents, pages}
+use Rattle.placement.specs.Rule.{Star, Hash, Contents, pages, starWith}
 use Rattle.placement.specs.File.{File, replaced}
 use Rattle.placement.specs.Hash.{hashOf, soundAt, namedPage, homesOf}
 use Rattle.placement.specs.Lent.{Lent}
@@ -35,7 +35,7 @@ abbrev pub hash : Parameters → Growth → Hash
 hash p g = hashOf p g
 
 abbrev pub newStar : ℕ → ℕ → ℕ → Star
-newStar k word owner = record { number = k; word = word; owner = owner }
+newStar k word owner = starWith k word owner
 
 -- the reach: its first page, its last page, how many pages it has, the first unsound one of them, and what the rule gives them
 abbrev pub startOf : Parameters → Growth → ℕ → ℕ

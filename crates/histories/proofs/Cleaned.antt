@@ -10,7 +10,7 @@ use Rattle.hashing.specs.Limits.{validParameters, validGrowth}
 use Rattle.hashing.proofs.Bounds.{both}
 use Rattle.pages.specs.Position.{validNumber, validWord, unpacked}
 use Rattle.pages.proofs.Words.{pack-unpack, unpack-valid}
-use Rattle.placement.specs.Rule.{Star}
+use Rattle.placement.specs.Rule.{Star, starWith}
 use Rattle.placement.specs.File.{File, Sized, Clean, greatest, laid}
 use Rattle.placement.specs.Hash.{hashOf}
 use Rattle.placement.proofs.Order.{Rising}
@@ -26,7 +26,7 @@ use Rattle.histories.proofs.Fitting.{Fitting}
 use Rattle.histories.proofs.Guards.{guard-passed}
 
 entryOf : Star → Entry
-entryOf s = record { number = s .number; position = unpacked (s .word); owner = s .owner }
+entryOf s = record { number = s .number; position = unpacked (s .payload .word); owner = s .payload .owner }
 
 abbrev entriesOf : List Star → List Entry
 entriesOf w = map entryOf w
@@ -38,9 +38,9 @@ same-stars : (w : List Star) → Proper validWord w → entryStars (entriesOf w)
 unfolding entryStars entryOf
 same-stars [] h = refl
 same-stars (s ∷ w) h =
-    let one = pack-unpack (s .word) (h s (List·Memᴰ·head refl) .2) in
+    let one = pack-unpack (s .payload .word) (h s (List·Memᴰ·head refl) .2) in
     let more = same-stars w (proper-tail s w h) in
-    λ i. record { number = s .number; word = one i; owner = s .owner } ∷ more i
+    λ i. starWith (s .number) (one i) (s .payload .owner) ∷ more i
 
 number-valid : (k : ℕ) → 1 ≤ k → k ≤ greatest → validNumber k ≡ true
 unfolding validNumber
@@ -51,7 +51,7 @@ unfolding entryOf
 in-order low [] r h = tt
 in-order low (s ∷ w) r h =
     let v = h s (List·Memᴰ·head refl) in
-    (r .0, record { number = number-valid (s .number) (v .0) (v .1); position = unpack-valid (s .word) (v .2) }, in-order (suc (s .number)) w (r .1) (proper-tail s w h))
+    (r .0, record { number = number-valid (s .number) (v .0) (v .1); position = unpack-valid (s .payload .word) (v .2) }, in-order (suc (s .number)) w (r .1) (proper-tail s w h))
 
 -- a model with this growth state and file
 pub record Modelled (p : Parameters) (g : Growth) (f : File) : Type 0 where

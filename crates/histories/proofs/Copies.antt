@@ -15,7 +15,7 @@ use Rattle.buffers.proofs.Written.{around}
 use Rattle.buffers.specs.Lists.{written, padded}
 use Rattle.pages.specs.Page.{part, stretch}
 use Rattle.pages.proofs.Parts.{stretch-suc}
-use Rattle.placement.specs.Rule.{Star, Hash, Contents, keep, filter, staying, passing, separatorOf, contentsOf, onward, pages, left, insert, pour, collected}
+use Rattle.placement.specs.Rule.{Star, Hash, Contents, keep, filter, staying, passing, separatorOf, contentsOf, onward, pages, left, insert, pour, collected, starWith}
 use Rattle.placement.specs.File.{File, starsOf, starsAt, gathered, column, replaced, Sized}
 use Rattle.placement.proofs.Filters.{filter-comm, filter-append, filter-all-on, length-split, member-filter}
 use Rattle.placement.proofs.Separator.{stays}
@@ -31,13 +31,13 @@ use Rattle.histories.specs.Others.{isStar, copies}
 abbrev pub count : Star → List Star → ℕ
 count s l = length (filter (isStar s) l)
 
-pub same-owner : (s t : Star) → isStar s t ≡ true → t .owner ≡ s .owner
+pub same-owner : (s t : Star) → isStar s t ≡ true → t .payload .owner ≡ s .payload .owner
 unfolding isStar
 same-owner s t e =
     let r = and-true (eqb (t .number) (s .number)) _ e .1 in
-    eqb-true (t .owner) (s .owner) (and-true (eqb (t .word) (s .word)) _ r .1)
+    eqb-true (t .payload .owner) (s .payload .owner) (and-true (eqb (t .payload .word) (s .payload .word)) _ r .1)
 
-pub other-owner : (s t : Star) → (t .owner ≡ s .owner → ⊥) → isStar s t ≡ false
+pub other-owner : (s t : Star) → (t .payload .owner ≡ s .payload .owner → ⊥) → isStar s t ≡ false
 other-owner s t h = go (isStar s t) refl
   where
     go : (b : Bool) → isStar s t ≡ b → b ≡ false
@@ -84,7 +84,7 @@ module _ (s : Star) where
       h t (r .0) (r .1)))
 
   -- a star of another owner is not s
-  pub count-other : (t : Star) → (t .owner ≡ s .owner → ⊥) → count s (t ∷ []) ≡ 0
+  pub count-other : (t : Star) → (t .payload .owner ≡ s .payload .owner → ⊥) → count s (t ∷ []) ≡ 0
   unfolding filter
   count-other t h = rw (other-owner s t h)
 
@@ -117,7 +117,7 @@ module _ (s : Star) where
       )
 
   -- a word set at an item of another owner
-  pub count-set : (i v : ℕ) (ns ws os : List ℕ) → (getD os i 0 ≡ s .owner → ⊥) → count s (starsOf ns (set ws i v) os) ≡ count s (starsOf ns ws os)
+  pub count-set : (i v : ℕ) (ns ws os : List ℕ) → (getD os i 0 ≡ s .payload .owner → ⊥) → count s (starsOf ns (set ws i v) os) ≡ count s (starsOf ns ws os)
   unfolding starsOf filter
   count-set i v [] ws os h = refl
   count-set i v (n ∷ ns) [] os h = refl
@@ -125,14 +125,14 @@ module _ (s : Star) where
   count-set (suc i) v (n ∷ ns) (w ∷ ws) [] h = refl
   count-set zero v (n ∷ ns) (w ∷ ws) (o ∷ os) h = go (not (eqb n 0))
     where
-      go : (t : Bool) → count s (keep t (record { number = n; word = v; owner = o }) (starsOf ns ws os)) ≡ count s (keep t (record { number = n; word = w; owner = o }) (starsOf ns ws os))
-      go true = rw (other-owner s (record { number = n; word = v; owner = o }) h, other-owner s (record { number = n; word = w; owner = o }) h)
+      go : (t : Bool) → count s (keep t (starWith n v o) (starsOf ns ws os)) ≡ count s (keep t (starWith n w o) (starsOf ns ws os))
+      go true = rw (other-owner s (starWith n v o) h, other-owner s (starWith n w o) h)
       go false = refl
   count-set (suc i) v (n ∷ ns) (w ∷ ws) (o ∷ os) h = go (not (eqb n 0)) (count-set i v ns ws os h)
     where
       go : (t : Bool) → count s (starsOf ns (set ws i v) os) ≡ count s (starsOf ns ws os)
-          → count s (keep t (record { number = n; word = w; owner = o }) (starsOf ns (set ws i v) os)) ≡ count s (keep t (record { number = n; word = w; owner = o }) (starsOf ns ws os))
-      go true ih = count-append (record { number = n; word = w; owner = o } ∷ []) (starsOf ns (set ws i v) os) ∙ omega (arith, ih, count-append (record { number = n; word = w; owner = o } ∷ []) (starsOf ns ws os))
+          → count s (keep t (starWith n w o) (starsOf ns (set ws i v) os)) ≡ count s (keep t (starWith n w o) (starsOf ns ws os))
+      go true ih = count-append (starWith n w o ∷ []) (starsOf ns (set ws i v) os) ∙ omega (arith, ih, count-append (starWith n w o ∷ []) (starsOf ns ws os))
       go false ih = ih
 
   count-joined : (ns ws os ns′ ws′ os′ : List ℕ) → Even ns ws os → count s (starsOf (ns ++ ns′) (ws ++ ws′) (os ++ os′)) ≡ count s (starsOf ns ws os) + count s (starsOf ns′ ws′ os′)

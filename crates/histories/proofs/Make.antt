@@ -50,7 +50,7 @@ pub laid-none : (b : ℕ) (H : Hash) → Bounded H → (n : ℕ)
     → laid b H n [] ≡ record { separators = replicate n (H .top); numbers = replicate (n * b) 0; words = replicate (n * b) 0; owners = replicate (n * b) 0 }
 unfolding laid fileOf
 laid-none b H bounds n =
-    rw (pages-none H bounds 0 n, separators-none n (vacant H), column-none b (λ (s : Star). s .number) n (H .top), column-none b (λ (s : Star). s .word) n (H .top), column-none b (λ (s : Star). s .owner) n (H .top))
+    rw (pages-none H bounds 0 n, separators-none n (vacant H), column-none b (λ (s : Star). s .number) n (H .top), column-none b (λ (s : Star). s .payload .word) n (H .top), column-none b (λ (s : Star). s .payload .owner) n (H .top))
 
 empty-is : (p : Parameters) → validParameters p ≡ true → emptyFile p ≡ modelFile p emptyModel
 unfolding emptyFile modelFile emptyModel entryStars hashOf

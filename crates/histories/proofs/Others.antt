@@ -54,7 +54,7 @@ given : (t : Bool) (n : ℕ) → unless t (suc n) ≡ 0 → t ≡ true
 given true n e = refl
 given false n e = absurd (omega arith)
 
-module _ (p : Parameters) (g : Growth) (f : File) (caller : ℕ) (observer : caller ≡ 0 → ⊥) (s : Star) (other : s .owner ≡ caller → ⊥) where
+module _ (p : Parameters) (g : Growth) (f : File) (caller : ℕ) (observer : caller ≡ 0 → ⊥) (s : Star) (other : s .payload .owner ≡ caller → ⊥) where
   -- what a call leaves holds s as often
   record Kept (a : After) : Type 0 where
     same : copies s (a .file) ≡ copies s f
@@ -120,7 +120,7 @@ module _ (p : Parameters) (g : Growth) (f : File) (caller : ℕ) (observer : cal
     unfolding hashOf
     ruled-kept w = ruled-copies s (hash p g) (p .pages) from n f w (t .sizes) inside
 
-    enters-kept : (new : Star) → new .owner ≡ caller → 1 ≤ new .number → left (hash p g) from n (insert new standing) ≡ []
+    enters-kept : (new : Star) → new .payload .owner ≡ caller → 1 ≤ new .number → left (hash p g) from n (insert new standing) ≡ []
         → copies s (replaced (p .places) f from (pages (hash p g) from n (insert new standing))) ≡ copies s f
     enters-kept new mine valid e =
         ruled-kept (insert new standing)
@@ -128,7 +128,7 @@ module _ (p : Parameters) (g : Growth) (f : File) (caller : ℕ) (observer : cal
         (omega (arith, count-insert s new standing, count-other s new (λ d. other (sym d ∙ mine))))
 
     -- a star of number k stands on the page named for it, where the search finds its owner
-    owner-standing : (k : ℕ) (x : Star) → List·Memᴰ x standing → x .number ≡ k → x .owner ≡ ownerFor p f (named p g f k) k
+    owner-standing : (k : ℕ) (x : Star) → List·Memᴰ x standing → x .number ≡ k → x .payload .owner ≡ ownerFor p f (named p g f k) k
     unfolding hashOf namedPage itemOf starsAt
     owner-standing k x m d =
         let q = gathered-member (p .places) f from n x m in
@@ -152,7 +152,7 @@ module _ (p : Parameters) (g : Growth) (f : File) (caller : ℕ) (observer : cal
         (count-kept s (λ (x : Star). not (eqb (x .number) k)) standing
         (λ x m e. ap not (ne-eqb (x .number) k (λ d. other (sym (same-owner s x e) ∙ owner-standing k x m d ∙ mine)))))
 
-  entered-kept : Lent → (pool : Pool) (new : Star) (place : ℕ) → new .owner ≡ caller → 1 ≤ new .number
+  entered-kept : Lent → (pool : Pool) (new : Star) (place : ℕ) → new .payload .owner ≡ caller → 1 ≤ new .number
       → Kept (enterTo p g f pool new place (entryEnd (hash p g) (p .pages) f new))
   unfolding enterTo hashOf entering entersWithin
   entered-kept t pool new place mine valid =
@@ -182,7 +182,7 @@ module _ (p : Parameters) (g : Growth) (f : File) (caller : ℕ) (observer : cal
       n = pagesTo from (removalEnd (hash p g) (p .pages) f from)
 
   -- from the page named on, which may be the page past the last
-  pushed-kept : Lent → (pool : Pool) (new : Star) (place : ℕ) → new .owner ≡ caller → 1 ≤ new .number
+  pushed-kept : Lent → (pool : Pool) (new : Star) (place : ℕ) → new .payload .owner ≡ caller → 1 ≤ new .number
       → Kept (cascadeFrom p g f pool new place (named p g f (new .number)))
   unfolding cascadeFrom hashOf namedPage
   pushed-kept t pool new place mine valid =

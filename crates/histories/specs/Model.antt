@@ -9,7 +9,7 @@ use Rattle.hashing.specs.declared.Growth.{Growth}
 use Rattle.hashing.specs.Geometry.{grown, ungrown, shrunk}
 use Rattle.pages.specs.declared.position.Position.{Position}
 use Rattle.pages.specs.Position.{packed}
-use Rattle.placement.specs.Rule.{Star, first, filter}
+use Rattle.placement.specs.Rule.{Star, first, filter, starWith}
 use Rattle.placement.specs.File.{File, laid}
 use Rattle.calls.specs.declared.answers.Answer.{Answer}
 use Rattle.calls.specs.Answers.{acceptedAt, foundAt}
@@ -100,7 +100,7 @@ fed p r false m = m
 
 -- "its stars, .. positions packed into words"
 unfoldable pub entryStars : List Entry → List Star
-entryStars es = map (λ (e : Entry). record { number = e .number; word = packed (e .position); owner = e .owner }) es
+entryStars es = map (λ (e : Entry). starWith (e .number) (packed (e .position)) (e .owner)) es
 
 -- "Its separators and pages are what the rule over pages 0 to M−1 gives its stars, homes being taken under its (e, x)"
 unfoldable pub modelFile : Parameters → Model → File

@@ -13,7 +13,7 @@ use borrow.Author.Tests.{eq-eqb, ne-eqb}
 use Rattle.buffers.specs.Lists.{padded}
 use Rattle.buffers.proofs.Lists.{padded-item}
 use Rattle.pages.specs.Page.{part}
-use Rattle.placement.specs.Rule.{Star, Hash, Contents, pages, separators, blank, reworded, changed}
+use Rattle.placement.specs.Rule.{Star, Hash, Contents, pages, separators, blank, reworded, changed, starWith}
 use Rattle.placement.specs.File.{column, fileOf, laid}
 use Rattle.placement.proofs.Order.{Rising, Absent, rising-member}
 use Rattle.placement.proofs.Mapping.{Keeps, mapped, pages-map}
@@ -27,15 +27,15 @@ pub reworded-keeps : (k v : ℕ) → Keeps (reworded k v)
 unfolding reworded
 reworded-keeps k v s = go (eqb (s .number) k)
   where
-    go : (t : Bool) → (cond t (record { number = s .number; word = v; owner = s .owner }) s) .number ≡ s .number
+    go : (t : Bool) → (cond t (starWith (s .number) v (s .payload .owner)) s) .number ≡ s .number
     go true = refl
     go false = refl
 
-owner-kept : (k v : ℕ) (s : Star) → reworded k v s .owner ≡ s .owner
+owner-kept : (k v : ℕ) (s : Star) → reworded k v s .payload .owner ≡ s .payload .owner
 unfolding reworded
 owner-kept k v s = go (eqb (s .number) k)
   where
-    go : (t : Bool) → (cond t (record { number = s .number; word = v; owner = s .owner }) s) .owner ≡ s .owner
+    go : (t : Bool) → (cond t (starWith (s .number) v (s .payload .owner)) s) .payload .owner ≡ s .payload .owner
     go true = refl
     go false = refl
 
@@ -43,7 +43,7 @@ pub reworded-other : (k v : ℕ) (s : Star) → (s .number ≡ k → ⊥) → re
 unfolding reworded
 reworded-other k v s h = rw (ne-eqb (s .number) k h)
 
-pub reworded-same : (k v : ℕ) (s : Star) → s .number ≡ k → reworded k v s .word ≡ v
+pub reworded-same : (k v : ℕ) (s : Star) → s .number ≡ k → reworded k v s .payload .word ≡ v
 unfolding reworded
 reworded-same k v s h = rw (eq-eqb (s .number) k h)
 
@@ -68,8 +68,8 @@ page-words k v z zero c (s ∷ l) h r g e =
     ap (λ (x : ℕ). x ∷ (map wordOf (changed k v l) ++ replicate z 0)) (reworded-same k v s e)
     ∙ ap (λ (m : List Star). v ∷ (map wordOf m ++ replicate z 0)) (changed-absent k v l (λ t m d. omega (arith, d, e, rising-member (suc (s .number)) l (r .1) t m)))
 page-words k v z (suc i) c (s ∷ l) h r g e =
-    ap (λ (x : Star). x .word ∷ (map wordOf (changed k v l) ++ replicate z 0)) (reworded-other k v s (λ d. omega (arith, d, above)))
-    ∙ ap (λ (m : List ℕ). s .word ∷ m) (page-words k v z i (suc (s .number)) l h (r .1) (omega arith) e)
+    ap (λ (x : Star). x .payload .word ∷ (map wordOf (changed k v l) ++ replicate z 0)) (reworded-other k v s (λ d. omega (arith, d, above)))
+    ∙ ap (λ (m : List ℕ). s .payload .word ∷ m) (page-words k v z i (suc (s .number)) l h (r .1) (omega arith) e)
   where
     above : s .number < k
     above = rw e at (number-above (suc (s .number)) l i (r .1) (omega arith))

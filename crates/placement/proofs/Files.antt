@@ -25,10 +25,10 @@ abbrev pub numberOf : Star → ℕ
 numberOf s = s .number
 
 abbrev pub wordOf : Star → ℕ
-wordOf s = s .word
+wordOf s = s .payload .word
 
 abbrev pub ownerOf : Star → ℕ
-ownerOf s = s .owner
+ownerOf s = s .payload .owner
 
 pub gathered-collected : (b : ℕ) (f : File) (p n : ℕ) → gathered b f p n ≡ collected (pagesAt b f p n)
 unfolding gathered pagesAt collected contentsAt

@@ -135,7 +135,7 @@ module _ (p : Parameters) (g : Growth) (f : File) (page : ℕ) where
   facts-real c = facts-sound validWord (hashOf p g) f page c
 
   module _ (sized : Sized (p .places) (p .pages) f) (inside : page < p .pages) (e : soundAt p g f page ≡ true) where
-    pub star-on : (s : Star) → List·Memᴰ s (starsAt (p .places) f page) → StarOn p g f page (s .number) (s .word)
+    pub star-on : (s : Star) → List·Memᴰ s (starsAt (p .places) f page) → StarOn p g f page (s .number) (s .payload .word)
     unfolding validNumber namedPage hashOf
     star-on s m =
         let c = real-facts e in

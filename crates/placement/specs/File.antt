@@ -7,7 +7,7 @@ use lib.Dec.{leb, ltb, eqb}
 use lib.ListN.{length, getD}
 unfoldable pub use Rattle.buffers.specs.Lists.{padded, written}
 use Rattle.pages.specs.Page.{part}
-use Rattle.placement.specs.Rule.{Star, Hash, Contents, keep, pages, first, pour, separators}
+use Rattle.placement.specs.Rule.{Star, Hash, Contents, keep, pages, first, pour, separators, starWith}
 
 pub record File : Type 0 where
   pub separators : List ℕ
@@ -20,7 +20,7 @@ unfoldable pub starsOf : List ℕ → List ℕ → List ℕ → List Star
 starsOf [] ws os = []
 starsOf (n ∷ ns) [] os = []
 starsOf (n ∷ ns) (w ∷ ws) [] = []
-starsOf (n ∷ ns) (w ∷ ws) (o ∷ os) = keep (not (eqb n 0)) (record { number = n; word = w; owner = o }) (starsOf ns ws os)
+starsOf (n ∷ ns) (w ∷ ws) (o ∷ os) = keep (not (eqb n 0)) (starWith n w o) (starsOf ns ws os)
 
 unfoldable pub starsAt : ℕ → File → ℕ → List Star
 starsAt places f p = starsOf (part places p (f .numbers)) (part places p (f .words)) (part places p (f .owners))
@@ -75,8 +75,8 @@ fileOf places cs =
     record {
       separators = separators cs;
       numbers = column places (λ (s : Star). s .number) cs;
-      words = column places (λ (s : Star). s .word) cs;
-      owners = column places (λ (s : Star). s .owner) cs;
+      words = column places (λ (s : Star). s .payload .word) cs;
+      owners = column places (λ (s : Star). s .payload .owner) cs;
     }
 
 -- "Other pages stay": the file with the pages from p on replaced by cs.
@@ -85,8 +85,8 @@ replaced places f p cs =
     record {
       separators = written p (separators cs) (f .separators);
       numbers = written (p * places) (column places (λ (s : Star). s .number) cs) (f .numbers);
-      words = written (p * places) (column places (λ (s : Star). s .word) cs) (f .words);
-      owners = written (p * places) (column places (λ (s : Star). s .owner) cs) (f .owners);
+      words = written (p * places) (column places (λ (s : Star). s .payload .word) cs) (f .words);
+      owners = written (p * places) (column places (λ (s : Star). s .payload .owner) cs) (f .owners);
     }
 
 -- The whole file under the rule.

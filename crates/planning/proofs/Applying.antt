@@ -26,7 +26,7 @@ use Rattle.placement.proofs.Change.{separators-map}
 -- every star of these pages has the number that its source names
 abbrev pub Sourced : List ℕ → ℕ → List Contents → Type 0
 Sourced ns new [] = Unit {0}
-Sourced ns new (c ∷ cs) = (every (λ (s : Star). eqb (named ns new (s .word)) (s .number)) (c .stars) ≡ true) × Sourced ns new cs
+Sourced ns new (c ∷ cs) = (every (λ (s : Star). eqb (named ns new (s .payload .word)) (s .number)) (c .stars) ≡ true) × Sourced ns new cs
 
 every-head : (q : Star → Bool) (s : Star) (l : List Star) → every q (s ∷ l) ≡ true → (q s ≡ true) × (every q l ≡ true)
 unfolding every
@@ -56,22 +56,22 @@ named-zero l new = refl
 -- what the sources of these pages name in l is the field h of the stars that g makes of them
 abbrev Names : List ℕ → ℕ → (Star → Star) → (Star → ℕ) → List Contents → Type 0
 Names l new g h [] = Unit {0}
-Names l new g h (c ∷ cs) = (map (named l new) (map (λ (s : Star). s .word) (c .stars)) ≡ map h (map g (c .stars))) × Names l new g h cs
+Names l new g h (c ∷ cs) = (map (named l new) (map (λ (s : Star). s .payload .word) (c .stars)) ≡ map h (map g (c .stars))) × Names l new g h cs
 
-names-all : (l : List ℕ) (new : ℕ) (g : Star → Star) (h : Star → ℕ) → ((s : Star) → named l new (s .word) ≡ h (g s)) → (cs : List Contents) → Names l new g h cs
+names-all : (l : List ℕ) (new : ℕ) (g : Star → Star) (h : Star → ℕ) → ((s : Star) → named l new (s .payload .word) ≡ h (g s)) → (cs : List Contents) → Names l new g h cs
 names-all l new g h e [] = tt
 names-all l new g h e (c ∷ cs) = (go (c .stars), names-all l new g h e cs)
   where
-    go : (t : List Star) → map (named l new) (map (λ (s : Star). s .word) t) ≡ map h (map g t)
+    go : (t : List Star) → map (named l new) (map (λ (s : Star). s .payload .word) t) ≡ map h (map g t)
     go [] = refl
     go (s ∷ t) = rw (e s, go t)
 
-numbers-of : (ns : List ℕ) (new : ℕ) (g : Star → Star) → Keeps g → (l : List Star) → every (λ (s : Star). eqb (named ns new (s .word)) (s .number)) l ≡ true
-    → map (named ns new) (map (λ (s : Star). s .word) l) ≡ map (λ (s : Star). s .number) (map g l)
+numbers-of : (ns : List ℕ) (new : ℕ) (g : Star → Star) → Keeps g → (l : List Star) → every (λ (s : Star). eqb (named ns new (s .payload .word)) (s .number)) l ≡ true
+    → map (named ns new) (map (λ (s : Star). s .payload .word) l) ≡ map (λ (s : Star). s .number) (map g l)
 numbers-of ns new g keeps [] e = refl
 numbers-of ns new g keeps (s ∷ l) e =
-    let t = every-head (λ (x : Star). eqb (named ns new (x .word)) (x .number)) s l e in
-    ap (λ (n : ℕ). n ∷ map (named ns new) (map (λ (x : Star). x .word) l)) (eqb-true (named ns new (s .word)) (s .number) (t .0) ∙ sym (keeps s))
+    let t = every-head (λ (x : Star). eqb (named ns new (x .payload .word)) (x .number)) s l e in
+    ap (λ (n : ℕ). n ∷ map (named ns new) (map (λ (x : Star). x .payload .word) l)) (eqb-true (named ns new (s .payload .word)) (s .number) (t .0) ∙ sym (keeps s))
     ∙ ap (λ (r : List ℕ). g s .number ∷ r) (numbers-of ns new g keeps l (t .1))
 
 names-sourced : (ns : List ℕ) (new : ℕ) (g : Star → Star) → Keeps g → (cs : List Contents) → Sourced ns new cs → Names ns new g (λ (s : Star). s .number) cs
@@ -84,13 +84,13 @@ renamed-keeps ws os newword newowner s = refl
 
 -- numbers, words or owners of the pages by their sources
 named-column : (b : ℕ) (l : List ℕ) (new : ℕ) (g : Star → Star) (h : Star → ℕ) (cs : List Contents) → Names l new g h cs
-    → map (named l new) (column b (λ (s : Star). s .word) cs) ≡ column b h (map (mapped g) cs)
+    → map (named l new) (column b (λ (s : Star). s .payload .word) cs) ≡ column b h (map (mapped g) cs)
 unfolding column
 named-column b l new g h [] e = refl
 named-column b l new g h (c ∷ cs) e =
-    map-append (named l new) (padded b (map (λ (s : Star). s .word) (c .stars))) (column b (λ (s : Star). s .word) cs)
-    ∙ ap (λ (r : List ℕ). r ++ map (named l new) (column b (λ (s : Star). s .word) cs))
-    (map-padded b (named l new) (map (λ (s : Star). s .word) (c .stars)) (map h (map g (c .stars))) (named-zero l new) (e .0))
+    map-append (named l new) (padded b (map (λ (s : Star). s .payload .word) (c .stars))) (column b (λ (s : Star). s .payload .word) cs)
+    ∙ ap (λ (r : List ℕ). r ++ map (named l new) (column b (λ (s : Star). s .payload .word) cs))
+    (map-padded b (named l new) (map (λ (s : Star). s .payload .word) (c .stars)) (map h (map g (c .stars))) (named-zero l new) (e .0))
     ∙ ap (λ (r : List ℕ). padded b (map h (map g (c .stars))) ++ r) (named-column b l new g h cs (e .1))
 
 -- the lists that `apply` leaves
@@ -105,7 +105,7 @@ applied places lo count newnumber newword newowner pool planned f =
 
 -- applying the plan of the pages cs replaces them
 pub applied-is : (places lo count newnumber newword newowner : ℕ) (pool planned : List ℕ) (f : File) (cs : List Contents)
-    → stretch places lo count pool ≡ column places (λ (s : Star). s .word) cs → take count (drop lo planned) ≡ separators cs → Sourced (f .numbers) newnumber cs
+    → stretch places lo count pool ≡ column places (λ (s : Star). s .payload .word) cs → take count (drop lo planned) ≡ separators cs → Sourced (f .numbers) newnumber cs
     → applied places lo count newnumber newword newowner pool planned f ≡ replaced places f lo (map (mapped (renamed (f .words) (f .owners) newword newowner)) cs)
 unfolding applied replaced
 applied-is places lo count newnumber newword newowner pool planned f cs ep es so =
@@ -114,8 +114,8 @@ applied-is places lo count newnumber newword newowner pool planned f cs ep es so
       ep,
       separators-map g cs,
       named-column places (f .numbers) newnumber g (λ (s : Star). s .number) cs (names-sourced (f .numbers) newnumber g (renamed-keeps (f .words) (f .owners) newword newowner) cs so),
-      named-column places (f .words) newword g (λ (s : Star). s .word) cs (names-all (f .words) newword g (λ (s : Star). s .word) (λ (s : Star). unfold renamed in refl) cs),
-      named-column places (f .owners) newowner g (λ (s : Star). s .owner) cs (names-all (f .owners) newowner g (λ (s : Star). s .owner) (λ (s : Star). unfold renamed in refl) cs),
+      named-column places (f .words) newword g (λ (s : Star). s .payload .word) cs (names-all (f .words) newword g (λ (s : Star). s .payload .word) (λ (s : Star). unfold renamed in refl) cs),
+      named-column places (f .owners) newowner g (λ (s : Star). s .payload .owner) cs (names-all (f .owners) newowner g (λ (s : Star). s .payload .owner) (λ (s : Star). unfold renamed in refl) cs),
     )
   where
     g : Star → Star
@@ -138,15 +138,15 @@ every-waits q (x ∷ l) e =
     ap (λ (s : List ℕ). every q (map starOf s)) (pour-cons (lowOf x) (map lowOf l) [])
     ∙ every-insert q (lowOf x) (pourLow (map lowOf l) []) (all-head (λ w. q (starOf (lowOf w))) x l e) (every-waits q l (all-tail (λ w. q (starOf (lowOf w))) x l e))
 
-word-low : (w : ℕ) → starOf (lowOf w) .word ≡ sourceOf w
+word-low : (w : ℕ) → starOf (lowOf w) .payload .word ≡ sourceOf w
 unfolding starOf lowOf sourceOf
 word-low w = omega arith
 
-pub sourced-waits : (ns : List ℕ) (new : ℕ) (l : List ℕ) → sourced ns new l ≡ true → every (λ (s : Star). eqb (named ns new (s .word)) (s .number)) (waits l) ≡ true
+pub sourced-waits : (ns : List ℕ) (new : ℕ) (l : List ℕ) → sourced ns new l ≡ true → every (λ (s : Star). eqb (named ns new (s .payload .word)) (s .number)) (waits l) ≡ true
 unfolding sourced
 sourced-waits ns new l e =
-    every-waits (λ (s : Star). eqb (named ns new (s .word)) (s .number)) l
-    (all-mono (λ w. eqb (named ns new (sourceOf w)) (numberOf w)) (λ w. eqb (named ns new (starOf (lowOf w) .word)) (starOf (lowOf w) .number)) l
+    every-waits (λ (s : Star). eqb (named ns new (s .payload .word)) (s .number)) l
+    (all-mono (λ w. eqb (named ns new (sourceOf w)) (numberOf w)) (λ w. eqb (named ns new (starOf (lowOf w) .payload .word)) (starOf (lowOf w) .number)) l
     (λ w t. rw (word-low w, number-low w) t) e)
 
 pub sourced-filter : (ns : List ℕ) (new : ℕ) (q : ℕ → Bool) (l : List ℕ) → sourced ns new l ≡ true → sourced ns new (filter q l) ≡ true

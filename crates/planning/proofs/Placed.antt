@@ -14,7 +14,7 @@ use Rattle.buffers.specs.Lists.{written}
 use Rattle.hashing.specs.declared.Parameters.{Parameters}
 use Rattle.hashing.specs.declared.Growth.{Growth}
 use Rattle.hashing.specs.Home.{home}
-use Rattle.placement.specs.Rule.{Star, Hash, Contents, pages, left, insert, without, separators}
+use Rattle.placement.specs.Rule.{Star, Hash, Contents, pages, left, insert, without, separators, starWith}
 use Rattle.placement.specs.File.{File, gathered, column, replaced}
 use Rattle.placement.specs.Hash.{hashOf, homesOf}
 use Rattle.placement.proofs.Mapping.{mapped, pages-map, left-map}
@@ -120,14 +120,14 @@ module _ (H : Hash) (q : Parameters) (real : Probes H q) (lo n : ℕ) (f : File)
   -- .. and with the new star k, whose source is past the items
   pub placed-new : (h : ℕ) → h ≡ H .home k → h ≤ lo → k < 2 ^ 31 → length (f .words) + 1 < 2 ^ 16 → length (f .owners) ≡ length (f .words)
       → (map (mapped (renamed (f .words) (f .owners) newword newowner)) (plans q lo 0 n (pack h k (length (f .words) + 1) ∷ []) (stretchWords (q .places) lo n k (f .numbers) hs))
-      ≡ pages H lo n (insert (record { number = k; word = newword; owner = newowner }) (without k (gathered (q .places) f lo n))))
+      ≡ pages H lo n (insert (starWith k newword newowner) (without k (gathered (q .places) f lo n))))
       × (map (renamed (f .words) (f .owners) newword newowner) (waits (remains q lo 0 n (pack h k (length (f .words) + 1) ∷ []) (stretchWords (q .places) lo n k (f .numbers) hs)))
-      ≡ left H lo n (insert (record { number = k; word = newword; owner = newowner }) (without k (gathered (q .places) f lo n))))
+      ≡ left H lo n (insert (starWith k newword newowner) (without k (gathered (q .places) f lo n))))
   placed-new h eh near hk few same =
       let s : ℕ = length (f .words) + 1 in
       let x : ℕ = pack h k s in
       let l : List ℕ = stretchWords (q .places) lo n k (f .numbers) hs in
-      placed-with (x ∷ []) (insert (record { number = k; word = newword; owner = newowner }) (without k (gathered (q .places) f lo n)))
+      placed-with (x ∷ []) (insert (starWith k newword newowner) (without k (gathered (q .places) f lo n)))
       (new-homed H h k s eh hk few) (new-near lo h k s near hk few)
       (new-star (f .words) (f .owners) newword newowner h k s l hk few stretch-fresh
       ∙ rw (named-past (f .words) newword s refl, named-past (f .owners) newowner s (ap (λ (m : ℕ). m + 1) (sym same)), stretch-stars))
@@ -166,14 +166,14 @@ taken-on lo n m s d e h = simp mul-one at (stretch-on 1 lo n m s d (e ∙ sym (m
 
 -- what has been planned of n pages from lo: the sources in the pool, the separators, and the r words carried past
 pub record Layout (q : Parameters) (lo n : ℕ) (w l pool planned W : List ℕ) (r : ℕ) : Type 0 where
-  pub sources : stretch (q .places) lo n pool ≡ column (q .places) (λ (s : Star). s .word) (plans q lo 0 n w l)
+  pub sources : stretch (q .places) lo n pool ≡ column (q .places) (λ (s : Star). s .payload .word) (plans q lo 0 n w l)
   pub separators-are : take n (drop lo planned) ≡ separators (plans q lo 0 n w l)
   pub passed : take r W ≡ remains q lo 0 n w l
   pub counted : r ≡ length (remains q lo 0 n w l)
 
-length-sources : (q : Parameters) (lo n : ℕ) (w l : List ℕ) → length (column (q .places) (λ (s : Star). s .word) (plans q lo 0 n w l)) ≡ n * q .places
+length-sources : (q : Parameters) (lo n : ℕ) (w l : List ℕ) → length (column (q .places) (λ (s : Star). s .payload .word) (plans q lo 0 n w l)) ≡ n * q .places
 length-sources q lo n w l =
-    length-column (q .places) (λ (s : Star). s .word) (plans q lo 0 n w l) (plans-roomy q lo 0 n w l)
+    length-column (q .places) (λ (s : Star). s .payload .word) (plans q lo 0 n w l) (plans-roomy q lo 0 n w l)
     ∙ ap (λ (m : ℕ). m * q .places) (length-plans q lo 0 n w l)
 
 length-planned : (q : Parameters) (lo n : ℕ) (w l : List ℕ) → length (separators (plans q lo 0 n w l)) ≡ n
@@ -186,7 +186,7 @@ layout q lo n w l pool pool′ planned planned′ W′ r P hp hd =
     record {
       sources =
           ap (stretch (q .places) lo n) (P .sources)
-          ∙ taken-written (lo * q .places) (n * q .places) (column (q .places) (λ (s : Star). s .word) (plans q lo 0 n w l)) pool (length-sources q lo n w l) (omega (arith, add-mul lo n (q .places)));
+          ∙ taken-written (lo * q .places) (n * q .places) (column (q .places) (λ (s : Star). s .payload .word) (plans q lo 0 n w l)) pool (length-sources q lo n w l) (omega (arith, add-mul lo n (q .places)));
       separators-are =
           ap (λ (m : List ℕ). take n (drop lo m)) (P .separators-are)
           ∙ taken-written lo n (separators (plans q lo 0 n w l)) planned (length-planned q lo n w l) (omega arith);
@@ -210,10 +210,10 @@ layout-next q lo n m w a b pool pool′ planned planned′ W W′ r r′ ga fb h
     record {
       sources =
           ap (stretch (q .places) lo (n + m)) (P .sources)
-          ∙ stretch-on (q .places) lo n m (column (q .places) (λ (s : Star). s .word) ds) pool (length-sources q (lo + n) m (take r W) b) hp
-          ∙ ap (λ (x : List ℕ). x ++ column (q .places) (λ (s : Star). s .word) ds) (A .sources)
-          ∙ sym (column-append (q .places) (λ (s : Star). s .word) cs ds)
-          ∙ ap (column (q .places) (λ (s : Star). s .word)) (sym all-pages);
+          ∙ stretch-on (q .places) lo n m (column (q .places) (λ (s : Star). s .payload .word) ds) pool (length-sources q (lo + n) m (take r W) b) hp
+          ∙ ap (λ (x : List ℕ). x ++ column (q .places) (λ (s : Star). s .payload .word) ds) (A .sources)
+          ∙ sym (column-append (q .places) (λ (s : Star). s .payload .word) cs ds)
+          ∙ ap (column (q .places) (λ (s : Star). s .payload .word)) (sym all-pages);
       separators-are =
           ap (λ (x : List ℕ). take (n + m) (drop lo x)) (P .separators-are)
           ∙ taken-on lo n m (separators ds) planned (length-planned q (lo + n) m (take r W) b) hd

@@ -13,7 +13,7 @@ use lib.Seq.{getD-take, getD-drop, length-take-le}
 use borrow.Author.Tests.{le-leb, lt-leb, lt-ltb, leb-true, leb-false, ltb-true, eq-eqb, eqb-false, not-true}
 use Rattle.buffers.proofs.Tests.{and-true, either-false}
 use Rattle.buffers.proofs.Lists.{within}
-use Rattle.placement.specs.Rule.{Star, Hash, keep, insert, pour, without}
+use Rattle.placement.specs.Rule.{Star, Hash, keep, insert, pour, without, starWith}
 use Rattle.placement.specs.Rule.{filter as select}
 use Rattle.pages.specs.Page.{part}
 use Rattle.pages.proofs.Parts.{part-length, pages-apart, stretch-suc}
@@ -219,7 +219,7 @@ words-fresh at k ns hs valid items =
     rw (number-pack (getD hs i 0) (getD ns i 0) (suc (at + i)) (item-below (2 ^ 31) ns i valid a) (omega arith), unskipped k (getD ns i 0) s .1))
 
 star-pack : (ws os : List ℕ) (newword newowner h k s : ℕ) → k < 2 ^ 31 → s < 2 ^ 16
-    → renamed ws os newword newowner (starOf (lowOf (pack h k s))) ≡ record { number = k; word = named ws newword s; owner = named os newowner s }
+    → renamed ws os newword newowner (starOf (lowOf (pack h k s))) ≡ starWith k (named ws newword s) (named os newowner s)
 unfolding renamed starOf
 star-pack ws os newword newowner h k s hk hs =
     let e : lowOf (pack h k s) ≡ k * 2 ^ 16 + s = low-of-pack h k s hk hs in
@@ -242,8 +242,8 @@ words-stars W O newword newowner at k (n ∷ ns) (x ∷ hs) (w ∷ ws) (o ∷ os
     (λ i a. rw (suc-add at i, ← add-suc at i) (words-are (suc i) (omega arith)))
     (λ i a. rw (suc-add at i, ← add-suc at i) (owners-are (suc i) (omega arith))))
     (star-pack W O newword newowner x n (suc at) (ltb-true n (2 ^ 31) (all-head (λ y. ltb y (2 ^ 31)) n ns v)) (omega arith)
-    ∙ ap (λ (y : ℕ). record { number = n; word = y; owner = named O newowner (suc at) }) (rw (add-zero at) at (words-are 0 (omega arith)))
-    ∙ ap (λ (y : ℕ). record { number = n; word = w; owner = y }) (rw (add-zero at) at (owners-are 0 (omega arith))))
+    ∙ ap (λ (y : ℕ). starWith n y (named O newowner (suc at))) (rw (add-zero at) at (words-are 0 (omega arith)))
+    ∙ ap (λ (y : ℕ). starWith n w y) (rw (add-zero at) at (owners-are 0 (omega arith))))
   where
     f : ℕ → Star
     f y = renamed W O newword newowner (starOf (lowOf y))
@@ -252,7 +252,7 @@ words-stars W O newword newowner at k (n ∷ ns) (x ∷ hs) (w ∷ ws) (o ∷ os
     q y = not (eqb (y .number) k)
 
     star : Star
-    star = record { number = n; word = w; owner = o }
+    star = starWith n w o
 
     go : (s t : Bool) → eqb n k ≡ t → map f (wordsFrom (suc at) k ns hs) ≡ select q (starsOf ns ws os)
         → f (pack x n (suc at)) ≡ star
@@ -347,7 +347,7 @@ true-stars b lo n k newword newowner f hs valid items hn hw ho hh =
 -- .. and with the new star of an entry
 pub new-star : (ws os : List ℕ) (newword newowner h k s : ℕ) (l : List ℕ) → k < 2 ^ 31 → s < 2 ^ 16 → fresh k l ≡ true
     → map (renamed ws os newword newowner) (waits (pack h k s ∷ l))
-    ≡ insert (record { number = k; word = named ws newword s; owner = named os newowner s }) (map (renamed ws os newword newowner) (waits l))
+    ≡ insert (starWith k (named ws newword s) (named os newowner s)) (map (renamed ws os newword newowner) (waits l))
 new-star ws os newword newowner h k s l hk hs e =
     let g : Star → Star = renamed ws os newword newowner in
     ap (map g) (waits-cons (pack h k s) l (fresh-led (pack h k s) l (rw (number-pack h k s hk hs) e)))

@@ -159,7 +159,7 @@ pub record Settling (q : Parameters) (lo count carried : ℕ) (l W pool planned 
   pub start : from ≤ endOf carried lo l v
   pub waiting : slice from (endOf carried lo l v) W′ ≡ remains q lo 0 v (take carried W) l
   pub ahead : drop (endOf carried lo l v) W′ ≡ drop (endOf carried lo l v) W
-  pub sources : pool′ ≡ written (lo * q .places) (column (q .places) (λ (s : Star). s .word) (plans q lo 0 v (take carried W) l)) pool
+  pub sources : pool′ ≡ written (lo * q .places) (column (q .places) (λ (s : Star). s .payload .word) (plans q lo 0 v (take carried W) l)) pool
   pub planned-are : planned′ ≡ written lo (separators (plans q lo 0 v (take carried W) l)) planned
   pub long-pool : length pool′ ≡ length pool
   pub long-waiting : length W′ ≡ length W
@@ -206,20 +206,20 @@ module _ (q : Parameters) (lo count carried : ℕ) (l W pool planned ends : List
   pub probed-within : endOf carried lo l (suc v) ≤ length W′
   probed-within = omega (arith, ends-within lo count carried l W ends S (suc v) more, S .room, I .long-waiting)
 
-words-waits : (l : List ℕ) → map (λ (s : Star). s .word) (waits l) ≡ map sourceOf (slotsOf l)
+words-waits : (l : List ℕ) → map (λ (s : Star). s .payload .word) (waits l) ≡ map sourceOf (slotsOf l)
 unfolding waits starOf sourceOf
 words-waits l = go (slotsOf l)
   where
-    go : (l : List ℕ) → map (λ (s : Star). s .word) (map starOf l) ≡ map sourceOf l
+    go : (l : List ℕ) → map (λ (s : Star). s .payload .word) (map starOf l) ≡ map sourceOf l
     go [] = refl
     go (x ∷ l) = ap (λ (s : List ℕ). sourceOf x ∷ s) (go l)
 
 -- the sources of the slots are the page's column
 pub sources-column : (b v kept : ℕ) (slots l : List ℕ) → take kept slots ≡ slotsOf l
-    → padded b (map sourceOf (take kept slots)) ≡ column b (λ (s : Star). s .word) (record { separator = v; stars = waits l } ∷ [])
+    → padded b (map sourceOf (take kept slots)) ≡ column b (λ (s : Star). s .payload .word) (record { separator = v; stars = waits l } ∷ [])
 unfolding column
 sources-column b v kept slots l e =
-    ap (padded b) (ap (map sourceOf) e ∙ sym (words-waits l)) ∙ sym (append-nil (padded b (map (λ (s : Star). s .word) (waits l))))
+    ap (padded b) (ap (map sourceOf) e ∙ sym (words-waits l)) ∙ sym (append-nil (padded b (map (λ (s : Star). s .payload .word) (waits l))))
 
 pub page-planned : (q : Parameters) (p : ℕ) (l : List ℕ) (reach : ℕ) (W W′ slots pool pool′ planned : List ℕ) (r : Settled)
     → Settlement q p (separatorOf q p l) l reach W W′ slots r
@@ -257,21 +257,21 @@ module _ (q : Parameters) (lo count carried : ℕ) (l W pool planned ends : List
   unfolding here
   one-more = rw (zero-add v) at (plans-last q lo l 0 v w)
 
-  next-sources : pool″ ≡ written (lo * q .places) (column (q .places) (λ (s : Star). s .word) (plans q lo 0 (suc v) w l)) pool
+  next-sources : pool″ ≡ written (lo * q .places) (column (q .places) (λ (s : Star). s .payload .word) (plans q lo 0 (suc v) w l)) pool
   unfolding here w
   next-sources =
-      let done : List ℕ = column (q .places) (λ (s : Star). s .word) (plans q lo 0 v w l) in
+      let done : List ℕ = column (q .places) (λ (s : Star). s .payload .word) (plans q lo 0 v w l) in
       let size : length done ≡ v * q .places
-      = length-column (q .places) (λ (s : Star). s .word) (plans q lo 0 v w l) (plans-roomy q lo 0 v w l) ∙ ap (λ (n : ℕ). n * q .places) (length-plans q lo 0 v w l) in
+      = length-column (q .places) (λ (s : Star). s .payload .word) (plans q lo 0 v w l) (plans-roomy q lo 0 v w l) ∙ ap (λ (n : ℕ). n * q .places) (length-plans q lo 0 v w l) in
       let seam : (lo + v) * q .places ≡ lo * q .places + length done = add-mul lo v (q .places) ∙ ap (λ (n : ℕ). lo * q .places + n) (sym size) in
       P .sources
-      ∙ ap (λ (m : List ℕ). written ((lo + v) * q .places) (column (q .places) (λ (s : Star). s .word) (settled q (lo + v) m ∷ [])) pool′) is-here
-      ∙ ap (λ (m : List ℕ). written ((lo + v) * q .places) (column (q .places) (λ (s : Star). s .word) (here ∷ [])) m) (I .sources)
-      ∙ ap (λ (k : ℕ). written k (column (q .places) (λ (s : Star). s .word) (here ∷ [])) (written (lo * q .places) done pool)) seam
-      ∙ written-add (lo * q .places) done (column (q .places) (λ (s : Star). s .word) (here ∷ [])) pool (omega (arith, add-mul lo count (q .places)))
+      ∙ ap (λ (m : List ℕ). written ((lo + v) * q .places) (column (q .places) (λ (s : Star). s .payload .word) (settled q (lo + v) m ∷ [])) pool′) is-here
+      ∙ ap (λ (m : List ℕ). written ((lo + v) * q .places) (column (q .places) (λ (s : Star). s .payload .word) (here ∷ [])) m) (I .sources)
+      ∙ ap (λ (k : ℕ). written k (column (q .places) (λ (s : Star). s .payload .word) (here ∷ [])) (written (lo * q .places) done pool)) seam
+      ∙ written-add (lo * q .places) done (column (q .places) (λ (s : Star). s .payload .word) (here ∷ [])) pool (omega (arith, add-mul lo count (q .places)))
       ∙ ap (λ (m : List ℕ). written (lo * q .places) m pool)
-      (sym (column-append (q .places) (λ (s : Star). s .word) (plans q lo 0 v w l) (here ∷ []))
-      ∙ ap (column (q .places) (λ (s : Star). s .word)) (sym one-more))
+      (sym (column-append (q .places) (λ (s : Star). s .payload .word) (plans q lo 0 v w l) (here ∷ []))
+      ∙ ap (column (q .places) (λ (s : Star). s .payload .word)) (sym one-more))
 
   next-planned : planned″ ≡ written lo (separators (plans q lo 0 (suc v) w l)) planned
   unfolding here w
@@ -332,7 +332,7 @@ planned-all q lo count carried l W pool planned ends S pool′ W′ planned′ f
     let left : slice from end W′ ≡ remains q lo 0 count (take carried W) l
     = ap (λ (k : ℕ). slice from k W′) (sym last) ∙ I .waiting ∙ ap (λ (n : ℕ). remains q lo 0 n (take carried W) l) ev in
     record {
-      sources = I .sources ∙ ap (λ (n : ℕ). written (lo * q .places) (column (q .places) (λ (s : Star). s .word) (plans q lo 0 n (take carried W) l)) pool) ev;
+      sources = I .sources ∙ ap (λ (n : ℕ). written (lo * q .places) (column (q .places) (λ (s : Star). s .payload .word) (plans q lo 0 n (take carried W) l)) pool) ev;
       separators-are = I .planned-are ∙ ap (λ (n : ℕ). written lo (separators (plans q lo 0 n (take carried W) l)) planned) ev;
       passed = et ∙ left;
       counted = er ∙ sym (length-slice from end W′ (omega (arith, S .room, I .long-waiting))) ∙ ap length left;

@@ -9,7 +9,7 @@ use lib.Seq.{slice}
 use denote.Ref.{now}
 use Rattle.hashing.specs.declared.Parameters.{Parameters}
 use Rattle.hashing.specs.Limits.{validParameters}
-use Rattle.placement.specs.Rule.{Star, Hash, Contents, separators}
+use Rattle.placement.specs.Rule.{Star, Hash, Contents, separators, starWith}
 use Rattle.placement.specs.File.{column, written}
 use Rattle.placement.specs.Lent.{Lent}
 use Rattle.waiting.specs.Lists.{all, allBelow}
@@ -19,7 +19,7 @@ use Rattle.waiting.specs.Settle.{homesUpTo, staying, passing, separatorOf, slot
 
 -- the star that a word's low part stands for: its number, and its source in place of position word and owner
 unfoldable pub starOf : ℕ → Star
-starOf low = record { number = low / 2 ^ 16; word = low % 2 ^ 16; owner = 0 }
+starOf low = starWith (low / 2 ^ 16) (low % 2 ^ 16) 0
 
 -- the rule's waiting list, of the stars whose words wait in the pool
 unfoldable pub waits : List ℕ → List Star
@@ -56,7 +56,7 @@ remains q lo v (suc n) w l = remains q lo (suc v) n (carriedOn q (lo + v) (w ++ 
 
 -- What planning page p leaves of the lists: the words l that probed it stand in W from some place up to `reach`.
 pub record PagePlanned (q : Parameters) (p : ℕ) (l : List ℕ) (reach : ℕ) (W W′ pool pool′ planned planned′ : List ℕ) (r : ℕ) : Type 0 where
-  pub sources : pool′ ≡ written (p * q .places) (column (q .places) (λ (s : Star). s .word) (settled q p l ∷ [])) pool
+  pub sources : pool′ ≡ written (p * q .places) (column (q .places) (λ (s : Star). s .payload .word) (settled q p l ∷ [])) pool
   pub separator : planned′ ≡ written p (separators (settled q p l ∷ [])) planned
   pub order : r ≤ reach
   pub passed : slice r reach W′ ≡ carriedOn q p l
@@ -85,7 +85,7 @@ pub record Plannable (q : Parameters) (lo count k carried : ℕ) (numbers pool W
 -- What planning `count` pages from page lo leaves, of the words w carried in and the stretch's words l: the source of each place's star in
 -- the pool, the new separators, and at the front of W′ the r words that are carried past the stretch.
 pub record Planned (q : Parameters) (lo count : ℕ) (w l pool pool′ planned planned′ W′ : List ℕ) (r : ℕ) : Type 0 where
-  pub sources : pool′ ≡ written (lo * q .places) (column (q .places) (λ (s : Star). s .word) (plans q lo 0 count w l)) pool
+  pub sources : pool′ ≡ written (lo * q .places) (column (q .places) (λ (s : Star). s .payload .word) (plans q lo 0 count w l)) pool
   pub separators-are : planned′ ≡ written lo (separators (plans q lo 0 count w l)) planned
   pub passed : take r W′ ≡ remains q lo 0 count w l
   pub counted : r ≡ length (remains q lo 0 count w l)

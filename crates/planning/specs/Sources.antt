@@ -4,7 +4,7 @@ use mathlib.Core.List.{List, _∷_}
 use Prim.Native.Nat.{ℕ}
 use lib.Dec.{eqb}
 use lib.ListN.{getD}
-use Rattle.placement.specs.Rule.{Star}
+use Rattle.placement.specs.Rule.{Star, starWith}
 use Rattle.waiting.specs.Lists.{all}
 use Rattle.waiting.specs.Words.{numberOf, sourceOf}
 
@@ -15,7 +15,7 @@ named l new source = getD (0 ∷ l) source new
 -- a planned star with the position word and the owner that its source names
 unfoldable pub renamed : List ℕ → List ℕ → ℕ → ℕ → Star → Star
 renamed words owners newword newowner s =
-    record { number = s .number; word = named words newword (s .word); owner = named owners newowner (s .word) }
+    starWith (s .number) (named words newword (s .payload .word)) (named owners newowner (s .payload .word))
 
 -- every word's source names its number
 unfoldable pub sourced : List ℕ → ℕ → List ℕ → Bool

@@ -12,7 +12,7 @@ use lib.Seq.{drop-drop}
 use borrow.Author.Tests.{eqb-false}
 use Rattle.buffers.specs.Lists.{written}
 use Rattle.buffers.proofs.Tests.{not-mono}
-use Rattle.placement.specs.Rule.{Star, Hash, Contents, keep, filter, below, staying, passing, separatorFrom, separatorOf, contentsOf, onward, pages, left, first, insert, pour}
+use Rattle.placement.specs.Rule.{Star, Hash, Contents, keep, filter, below, staying, passing, separatorFrom, separatorOf, contentsOf, onward, pages, left, first, insert, pour, starWith}
 use Rattle.placement.specs.File.{File, starsOf, starsAt, contentsAt, pagesAt, fileOf, replaced, laid}
 use Rattle.placement.proofs.Filters.{filter-ext, filter-comm, filter-absorb, filter-rest, member-filter}
 use Rattle.placement.proofs.Separator.{stays, below-mono, sep-le, sep-fits, sep-great}
@@ -73,11 +73,11 @@ numbered-stars (n ∷ ns) [] os s m = absurd (List·Memᴰ·not-nil m)
 numbered-stars (n ∷ ns) (w ∷ ws) [] s m = absurd (List·Memᴰ·not-nil m)
 numbered-stars (n ∷ ns) (w ∷ ws) (o ∷ os) s m = go (eqb n 0) refl (numbered-stars ns ws os s) m
   where
-    go : (t : Bool) → eqb n 0 ≡ t → (List·Memᴰ s (starsOf ns ws os) → 1 ≤ s .number) → List·Memᴰ s (keep (not t) (record { number = n; word = w; owner = o }) (starsOf ns ws os)) → 1 ≤ s .number
+    go : (t : Bool) → eqb n 0 ≡ t → (List·Memᴰ s (starsOf ns ws os) → 1 ≤ s .number) → List·Memᴰ s (keep (not t) (starWith n w o) (starsOf ns ws os)) → 1 ≤ s .number
     go true e ih m = ih m
     go false e ih m =
         let other : (n ≡ 0 → ⊥) = eqb-false n 0 e in
-        ⊎-elim (λ (d : s ≡ record { number = n; word = w; owner = o }). omega (arith, other, ap (λ (t : Star). t .number) d)) ih (List·Memᴰ·cases-cons m)
+        ⊎-elim (λ (d : s ≡ starWith n w o). omega (arith, other, ap (λ (t : Star). t .number) d)) ih (List·Memᴰ·cases-cons m)
 
 numbered-met : (H : Hash) (f : File) (p : ℕ) (a : List Star) → Numbered a → Numbered (meeting H f p a)
 unfolding meeting starsAt

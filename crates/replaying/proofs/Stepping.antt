@@ -11,7 +11,7 @@ use Rattle.hashing.specs.declared.Parameters.{Parameters}
 use Rattle.hashing.specs.declared.Growth.{Growth}
 use Rattle.pages.specs.declared.position.Position.{Position}
 use Rattle.pages.specs.Position.{validNumber, validPosition, packed}
-use Rattle.placement.specs.Rule.{Star}
+use Rattle.placement.specs.Rule.{Star, starWith}
 use Rattle.placement.specs.File.{File}
 use Rattle.reach.specs.Reach.{pagesTo, entryEnd, removalEnd, entersWithin, firstUnsound, isEmpty}
 use Rattle.reach.specs.Cascade.{cascaded, carriedPast}
@@ -107,7 +107,7 @@ module _ (p : Parameters) (g : Growth) (f : File) (pool : Pool) where
   enter-growth : (caller k : ℕ) (q : Position) → enterOf p g f pool caller k q .growth ≡ g
   unfolding enterOf enterOn enterTo
   enter-growth caller k q =
-      let s : Star = record { number = k; word = packed q; owner = caller } in
+      let s : Star = starWith k (packed q) caller in
       let from = hash p g .home k in
       let to = entryEnd (hash p g) (p .pages) f s in
       guarded-growth g f pool
@@ -124,7 +124,7 @@ module _ (p : Parameters) (g : Growth) (f : File) (pool : Pool) where
       let H = hash p g in
       let page = named p g f k in
       let n = p .pages - page in
-      let s : Star = record { number = k; word = packed q; owner = caller } in
+      let s : Star = starWith k (packed q) caller in
       let visited = length (cascaded H f page n (s ∷ [])) in
       guarded-growth g f pool
       (orElse (unlent p g (fileFits p f && poolFits p pool)) (orElse (unless (validNumber k) 3) (unless (validPosition q) 4))) _

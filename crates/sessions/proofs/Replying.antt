@@ -11,7 +11,7 @@ use Rattle.lines.specs.declared.Reply.the-variants.{Found, Missing}
 use Rattle.pages.specs.Position.{validNumber, validPosition, packed}
 use Rattle.pages.specs.declared.position.Position.{Position}
 use Rattle.placement.specs.File.{File}
-use Rattle.placement.specs.Rule.{Star}
+use Rattle.placement.specs.Rule.{Star, starWith}
 use Rattle.calls.specs.declared.answers.Answer.{Answer}
 use Rattle.calls.specs.Answers.{After, Pool, cleared, Leaves, lent, unpooled}
 use Rattle.calls.specs.Calls.{
@@ -74,7 +74,7 @@ enter-keeps p g f pool caller k position =
     (orElse (unlent p g (fileFits p f && poolFits p pool))
     (orElse (unless (validNumber k) 3) (unless (validPosition position) 4)))
     _
-    (enter-on-keeps p g f (cleared pool) (named p g f k) (record { number = k; word = packed position; owner = caller }))
+    (enter-on-keeps p g f (cleared pool) (named p g f k) (starWith k (packed position) caller))
 
 remove-on-keeps :
     (p : Parameters) (g : Growth) (f : File) (pool : Pool) (page caller k : ℕ) → removeOn p g f pool page caller k .growth ≡ g

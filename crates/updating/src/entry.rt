@@ -4,6 +4,7 @@ ghost use mathlib.Core.Bool.{true};
 ghost use Rattle.pages.specs.Position.{validNumber};
 ghost use Rattle.placement.specs.Lent.{held, before, after};
 ghost use Rattle.placement.specs.Ready.{Pooled};
+ghost use Rattle.placement.specs.Rule.{starWith};
 ghost use Rattle.calls.specs.Answers.{Leaves, Stores, cleared, placed};
 ghost use Rattle.calls.specs.Calls.{enterOf, cascadeOf, named};
 ghost use Rattle.updating.specs.Outcomes.{EntrySmall, entryPlaced, entryOn, entryOf};
@@ -168,7 +169,7 @@ fn enter_star(
     requires { ⌜ Pooled parameters (now poolnumbers) (now poolwords) (now poolowners) ⌝ }
     requires { ⌜ validNumber number ≡ true ⌝ }
     ensures { λ r. ⌜ Stores (entryOn cascading parameters growth (before separators numbers words owners) (cleared (poolBefore poolnumbers poolwords poolowners))
-        (named parameters growth (before separators numbers words owners) number) (record { number = number; word = word; owner = caller }))
+        (named parameters growth (before separators numbers words owners) number) (starWith number word caller))
         (placed r) (after separators numbers words owners) ⌝ }
 {
     let table = generator::first_multipliers(parameters.multiplier);
