@@ -43,9 +43,6 @@ use Rattle.calls.specs.Reach.{
   carriedPast,
 }
 
-abbrev pub hash : Parameters → Growth → Hash
-hash p g = hashOf p g
-
 -- Refusals 1 to 4, of which the first is met
 
 -- M·b numbers, M·b words and M·b owners
@@ -150,7 +147,7 @@ lookUpOf p g f pool k =
 -- the rule applied to the reach that ends at page `to`; `place` is where the star was sought
 unfoldable pub enterTo : Parameters → Growth → File → Pool → Star → ℕ → ℕ → After
 enterTo p g f pool s place to =
-    let H = hash p g in
+    let H = hashOf p g in
     let from = H .home (s .number) in
     let n = pagesTo from to in
     let bad = firstUnsound p g f from n in
@@ -182,7 +179,7 @@ unlessHeld p g f pool page s after =
 unfoldable pub enterOn : Parameters → Growth → File → Pool → ℕ → Star → After
 enterOn p g f pool page s =
     unlessHeld p g f pool page s
-    (enterTo p g f pool s (placeFor p f page (s .number)) (entryEnd (hash p g) (p .pages) f s))
+    (enterTo p g f pool s (placeFor p f page (s .number)) (entryEnd (hashOf p g) (p .pages) f s))
 
 -- refusals 1 to 4 of an entry
 abbrev pub entryRefusal : Parameters → Growth → File → Pool → ℕ → Position → ℕ
@@ -204,7 +201,7 @@ enterOf p g f pool caller k position =
 -- from the page that the separators name; "a visited page that is unsound is 5", "5 and 8 leave the file unchanged"
 unfoldable pub cascadeFrom : Parameters → Growth → File → Pool → Star → ℕ → ℕ → After
 cascadeFrom p g f pool s place page =
-    let H = hash p g in
+    let H = hashOf p g in
     let n = p .pages - page in
     let cs = cascaded H f page n (s ∷ []) in
     let bad = firstUnsound p g f page (length cs) in
@@ -277,7 +274,7 @@ changeOf p g f pool caller k position =
 
 unfoldable pub removeTo : Parameters → Growth → File → Pool → ℕ → ℕ → ℕ → ℕ → After
 removeTo p g f pool page k place to =
-    let H = hash p g in
+    let H = hashOf p g in
     let from = H .home k in
     let n = pagesTo from to in
     let bad = firstUnsound p g f from n in
@@ -295,7 +292,7 @@ removeOn p g f pool page caller k =
     let place = placeFor p f page k in
     cond (readable p g f page)
     (cond (holds p f page k)
-    (allowed p g f pool page caller k (removeTo p g f pool page k place (removalEnd (hash p g) (p .pages) f (hash p g .home k))))
+    (allowed p g f pool page caller k (removeTo p g f pool page k place (removalEnd (hashOf p g) (p .pages) f (hashOf p g .home k))))
     (unchanged g f pool (refusedAt 7 0 place)))
     (unchanged g f pool (refused 5 page))
 
@@ -318,11 +315,11 @@ regrowTo p g f pool next page =
     let w = allStars p f in
     cond (ltb bad (p .pages))
     (unchanged g f pool (refused 5 bad))
-    (cond (isEmpty (left (hash p next) 0 (p .pages) w))
+    (cond (isEmpty (left (hashOf p next) 0 (p .pages) w))
     (record {
       answer = accepted page;
       growth = next;
-      file = replaced (p .places) f 0 (pages (hash p next) 0 (p .pages) w);
+      file = replaced (p .places) f 0 (pages (hashOf p next) 0 (p .pages) w);
       pool = pool;
     })
     (unchanged g f pool (refused 8 0)))

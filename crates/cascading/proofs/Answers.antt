@@ -19,7 +19,7 @@ use Rattle.placement.proofs.Mapping.{mapped}
 use Rattle.reach.specs.Reach.{isEmpty, pagesTo, firstUnsound}
 use Rattle.reach.specs.Cascade.{cascaded, carriedPast}
 use Rattle.waiting.proofs.Cutting.{separator-fits}
-use Rattle.waiting.specs.Settle.{separatorFrom}
+use Rattle.waiting.specs.Settle.{wordsSeparatorFrom}
 use Rattle.planning.specs.Sources.{renamed}
 use Rattle.planning.proofs.Applying.{applied, applied-is}
 use Rattle.entering.specs.declared.blocks.Reach.the-variants.{Ends}
@@ -218,7 +218,7 @@ module _ (p : Parameters) (g : Growth) (f : File) (k page : ℕ) (valid : validP
       carries =
           omega (
             arith,
-            parted p (page + d) (separatorFrom p (page + d) met stored) met,
+            parted p (page + d) (wordsSeparatorFrom p (page + d) met stored) met,
             separator-fits p (page + d) met stored,
             length-append w (pageWords p g f (page + d)),
             suc-mul d (p .places),

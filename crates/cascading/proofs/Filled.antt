@@ -23,9 +23,9 @@ use Rattle.placement.specs.Hash.{hashOf, soundAt, namedPage, homesOf, homeIn}
 use Rattle.placement.proofs.Standing.{first-below}
 use Rattle.placement.proofs.Separator.{below-signature}
 use Rattle.waiting.specs.Lists.{all}
-use Rattle.waiting.specs.Words.{homeOf, numberOf, sourceOf, lowOf}
+use Rattle.waiting.specs.Words.{homeOf, numberIn, sourceOf, lowOf}
 use Rattle.waiting.specs.Gather.{wordsFrom, starsIn}
-use Rattle.waiting.specs.Settle.{signatureOf, under, staying, passing, separatorFrom, slotsOf}
+use Rattle.waiting.specs.Settle.{signatureOf, under, stayingWords, passingWords, wordsSeparatorFrom, slotsOf}
 use Rattle.waiting.proofs.Lists.{all-head, all-tail, all-cons, filter-all}
 use Rattle.waiting.proofs.Cutting.{separator-found}
 use Rattle.waiting.proofs.Items.{words-count}
@@ -67,12 +67,12 @@ module _ (p : Parameters) (g : Growth) (f : File) (k page : ℕ) (valid : validP
   sound = rw here (unheld .sound)
 
   -- a word whose star stands on the page has a signature below its separator
-  stands-under : (w : ℕ) → eqb (hash p g .home (numberOf w)) (homeOf w) ≡ true → eqb (namedPage p g (f .separators) (numberOf w)) page ≡ true → under p page stored w ≡ true
+  stands-under : (w : ℕ) → eqb (hash p g .home (numberIn w)) (homeOf w) ≡ true → eqb (namedPage p g (f .separators) (numberIn w)) page ≡ true → under p page stored w ≡ true
   unfolding under signatureOf namedPage hashOf
   stands-under w h n =
-      let low = below-signature (hash p g) page stored (numberOf w)
-      (rw (zero-add page) at (first-below (hash p g) 0 page (f .separators) (numberOf w) (omega (arith, sized .ofSeparators, inside)) (eqb-true (namedPage p g (f .separators) (numberOf w)) page n ∙ sym (zero-add page)))) in
-      lt-ltb (signatureOf p page w) stored (rw (eqb-true (hash p g .home (numberOf w)) (homeOf w) h) at low)
+      let low = below-signature (hash p g) page stored (numberIn w)
+      (rw (zero-add page) at (first-below (hash p g) 0 page (f .separators) (numberIn w) (omega (arith, sized .ofSeparators, inside)) (eqb-true (namedPage p g (f .separators) (numberIn w)) page n ∙ sym (zero-add page)))) in
+      lt-ltb (signatureOf p page w) stored (rw (eqb-true (hash p g .home (numberIn w)) (homeOf w) h) at low)
 
   met-homed : homed (hash p g) met ≡ true
   met-homed =
@@ -80,9 +80,9 @@ module _ (p : Parameters) (g : Growth) (f : File) (k page : ℕ) (valid : validP
       (new-homed (hash p g) (startOf p g k) k (length (f .numbers) + 1) refl (small p g f k page valid sized number unheld here) (few p g f k page valid sized number unheld here))
       (page-homed p g f valid sized page inside sound)
 
-  met-named : all (λ w. eqb (namedPage p g (f .separators) (numberOf w)) page) met ≡ true
+  met-named : all (λ w. eqb (namedPage p g (f .separators) (numberIn w)) page) met ≡ true
   met-named =
-      all-cons (λ w. eqb (namedPage p g (f .separators) (numberOf w)) page) (newWord p g f k) (pageWords p g f page)
+      all-cons (λ w. eqb (namedPage p g (f .separators) (numberIn w)) page) (newWord p g f k) (pageWords p g f page)
       (rw (number-pack (startOf p g k) k (length (f .numbers) + 1) (small p g f k page valid sized number unheld here) (few p g f k page valid sized number unheld here))
       (eq-eqb (namedPage p g (f .separators) k) page (sym here)))
       (page-named p g f valid sized page inside sound)
@@ -90,19 +90,19 @@ module _ (p : Parameters) (g : Growth) (f : File) (k page : ℕ) (valid : validP
   met-under : all (under p page stored) met ≡ true
   met-under = go met (unfold homed in met-homed) met-named
     where
-      go : (l : List ℕ) → all (λ w. eqb (hash p g .home (numberOf w)) (homeOf w)) l ≡ true → all (λ w. eqb (namedPage p g (f .separators) (numberOf w)) page) l ≡ true → all (under p page stored) l ≡ true
+      go : (l : List ℕ) → all (λ w. eqb (hash p g .home (numberIn w)) (homeOf w)) l ≡ true → all (λ w. eqb (namedPage p g (f .separators) (numberIn w)) page) l ≡ true → all (under p page stored) l ≡ true
       go [] a b = unfold all in refl
       go (w ∷ l) a b =
           all-cons (under p page stored) w l
-          (stands-under w (all-head (λ x. eqb (hash p g .home (numberOf x)) (homeOf x)) w l a) (all-head (λ x. eqb (namedPage p g (f .separators) (numberOf x)) page) w l b))
-          (go l (all-tail (λ x. eqb (hash p g .home (numberOf x)) (homeOf x)) w l a) (all-tail (λ x. eqb (namedPage p g (f .separators) (numberOf x)) page) w l b))
+          (stands-under w (all-head (λ x. eqb (hash p g .home (numberIn x)) (homeOf x)) w l a) (all-head (λ x. eqb (namedPage p g (f .separators) (numberIn x)) page) w l b))
+          (go l (all-tail (λ x. eqb (hash p g .home (numberIn x)) (homeOf x)) w l a) (all-tail (λ x. eqb (namedPage p g (f .separators) (numberIn x)) page) w l b))
 
-  all-stay : staying p page stored met ≡ met
-  unfolding staying
+  all-stay : stayingWords p page stored met ≡ met
+  unfolding stayingWords
   all-stay = filter-all (under p page stored) met met-under
 
   module _ (room : length (pageWords p g f page) < p .places) where
-    same-separator : separatorFrom p page met stored ≡ stored
+    same-separator : wordsSeparatorFrom p page met stored ≡ stored
     same-separator = separator-found p page met stored stored (omega arith) (rw all-stay (omega arith)) (λ h. absurd (omega arith))
 
     filled-to : loweredTo p page stored met ≡ record { separator = stored; stars = waits met }
@@ -111,7 +111,7 @@ module _ (p : Parameters) (g : Growth) (f : File) (k page : ℕ) (valid : validP
 
     none-on : length (loweredOn p page stored met) ≡ 0
     unfolding loweredOn
-    none-on = omega (arith, ap (λ (v : ℕ). length (passing p page v met)) same-separator, parted p page stored met, ap length all-stay)
+    none-on = omega (arith, ap (λ (v : ℕ). length (passingWords p page v met)) same-separator, parted p page stored met, ap length all-stay)
 
     pub plans-filled : (pool planned pool′ planned′ : List ℕ) → length pool ≡ p .pages * p .places → p .pages ≤ length planned
         → pool′ ≡ written (page * p .places) (column (p .places) (λ (s : Star). s .payload .word) (record { separator = stored; stars = waits met } ∷ [])) pool

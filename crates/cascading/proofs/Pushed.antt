@@ -9,6 +9,7 @@ use native.Mathlib.Omega.{arith}
 use lib.Dec.{leb, ltb, eqb}
 use lib.ListN.{length, take, drop, getD, length-map, length-append}
 use borrow.Author.Tests.{eq-eqb, le-leb, leb-true}
+use Rattle.pages.specs.Page.{stretch}
 use Rattle.hashing.specs.declared.Parameters.{Parameters}
 use Rattle.hashing.specs.declared.Growth.{Growth}
 use Rattle.hashing.specs.Geometry.{multiplierOf}
@@ -24,13 +25,12 @@ use Rattle.placement.proofs.Standing.{first-home}
 use Rattle.placement.proofs.Writing.{column-append, separators-append}
 use Rattle.reach.specs.Cascade.{cascaded, carriedPast}
 use Rattle.waiting.specs.Lists.{all}
-use Rattle.waiting.specs.Words.{pack, homeOf, numberOf}
-use Rattle.waiting.specs.Gather.{stretch}
-use Rattle.waiting.specs.Settle.{under, staying, passing, separatorFrom, homesUpTo, slotsOf, pourLow}
+use Rattle.waiting.specs.Words.{pack, homeOf, numberIn}
+use Rattle.waiting.specs.Settle.{under, stayingWords, passingWords, wordsSeparatorFrom, homesUpTo, slotsOf, pourLow}
 use Rattle.waiting.proofs.Lists.{all-filter, all-mono}
 use Rattle.waiting.proofs.Packing.{number-pack}
 use Rattle.planning.specs.Plans.{waits, homed}
-use Rattle.planning.specs.Sources.{named, renamed, sourced}
+use Rattle.planning.specs.Sources.{namedItem, renamed, sourced}
 use Rattle.planning.proofs.Applying.{Sourced, sourced-waits, sourced-append, sourced-filter}
 use Rattle.planning.proofs.Pouring.{length-waits}
 use Rattle.planning.proofs.Sourcing.{fresh, new-star, named-past}
@@ -60,7 +60,7 @@ pub record Pushed (p : Parameters) (g : Growth) (f : File) (k page : ℕ) (pool 
   pub before : apart p g f k (page + d) w ≡ true
 
 sourced-more : (ns : List ℕ) (new : ℕ) (cs : List Contents) (c : Contents) → Sourced ns new cs
-    → every (λ (s : Star). eqb (named ns new (s .payload .word)) (s .number)) (c .stars) ≡ true → Sourced ns new (cs ++ (c ∷ []))
+    → every (λ (s : Star). eqb (namedItem ns new (s .payload .word)) (s .number)) (c .stars) ≡ true → Sourced ns new (cs ++ (c ∷ []))
 sourced-more ns new [] c s e = (e, tt)
 sourced-more ns new (x ∷ cs) c s e = (s .0, sourced-more ns new cs c (s .1) e)
 
@@ -154,10 +154,10 @@ module _ (p : Parameters) (g : Growth) (f : File) (k page : ℕ) (valid : validP
         go (no l) = let same : q ≡ page + d = omega arith in rw same sound
 
     before-next : apart p g f k (page + (d + 1)) (loweredOn p (page + d) stored met) ≡ true
-    unfolding apart loweredOn passing
+    unfolding apart loweredOn passingWords
     before-next =
         let next : suc (page + d) ≡ page + (d + 1) = omega arith in
-        all-filter (λ x. eqb (numberOf x) k || ltb (namedPage p g (f .separators) (numberOf x)) (page + (d + 1))) (λ x. not (under p (page + d) (separatorFrom p (page + d) met stored) x)) met
+        all-filter (λ x. eqb (numberIn x) k || ltb (namedPage p g (f .separators) (numberIn x)) (page + (d + 1))) (λ x. not (under p (page + d) (wordsSeparatorFrom p (page + d) met stored) x)) met
         (rw next at (apart-joined p g f valid sized (page + d) inside sound k unheld w (P .before)))
 
     pub pushed-next : (pool′ planned′ : List ℕ) → (page + d) * p .places ≤ length pool → page + d ≤ length planned
@@ -182,8 +182,8 @@ module _ (p : Parameters) (g : Growth) (f : File) (k page : ℕ) (valid : validP
               ∙ sym (separators-append (P .contents) (new ∷ []));
           all-sourced =
               sourced-more (f .numbers) k (P .contents) new (P .all-sourced)
-              (unfold loweredTo staying in sourced-waits (f .numbers) k (staying p (page + d) (separatorFrom p (page + d) met stored) met)
-              (sourced-filter (f .numbers) k (under p (page + d) (separatorFrom p (page + d) met stored)) met met-sourced));
+              (unfold loweredTo stayingWords in sourced-waits (f .numbers) k (stayingWords p (page + d) (wordsSeparatorFrom p (page + d) met stored) met)
+              (sourced-filter (f .numbers) k (under p (page + d) (wordsSeparatorFrom p (page + d) met stored)) met met-sourced));
           are = λ word owner.
               map-append (mapped (rename word owner)) (P .contents) (new ∷ [])
               ∙ ap (λ (cs : List Contents). cs ++ (mapped (rename word owner) new ∷ [])) (P .are word owner)
@@ -191,13 +191,13 @@ module _ (p : Parameters) (g : Growth) (f : File) (k page : ℕ) (valid : validP
               ∙ sym (cascaded-add (hash p g) f page d 1 (newStar k word owner ∷ []));
           carried = λ word owner. sym (carried-past word owner) ∙ sym (carried-add (hash p g) f page d 1 (newStar k word owner ∷ []));
           true-homes =
-              unfold loweredOn passing homed in all-filter (λ x. eqb (hash p g .home (numberOf x)) (homeOf x)) (λ x. not (under p (page + d) (separatorFrom p (page + d) met stored) x)) met
+              unfold loweredOn passingWords homed in all-filter (λ x. eqb (hash p g .home (numberIn x)) (homeOf x)) (λ x. not (under p (page + d) (wordsSeparatorFrom p (page + d) met stored) x)) met
               (met-homed p g f valid sized (page + d) inside sound k unheld w (P .true-homes) (P .near) (P .before));
           near =
-              unfold loweredOn passing in all-filter (λ x. leb (homeOf x) (page + (d + 1))) (λ x. not (under p (page + d) (separatorFrom p (page + d) met stored) x)) met
+              unfold loweredOn passingWords in all-filter (λ x. leb (homeOf x) (page + (d + 1))) (λ x. not (under p (page + d) (wordsSeparatorFrom p (page + d) met stored) x)) met
               (all-mono (λ x. leb (homeOf x) (page + d)) (λ x. leb (homeOf x) (page + (d + 1))) met
               (λ x e. le-leb (homeOf x) (page + (d + 1)) (omega (arith, leb-true (homeOf x) (page + d) e)))
               (met-near p g f valid sized (page + d) inside sound k unheld w (P .true-homes) (P .near) (P .before)));
-          true-sources = unfold loweredOn passing in sourced-filter (f .numbers) k (λ x. not (under p (page + d) (separatorFrom p (page + d) met stored) x)) met met-sourced;
+          true-sources = unfold loweredOn passingWords in sourced-filter (f .numbers) k (λ x. not (under p (page + d) (wordsSeparatorFrom p (page + d) met stored) x)) met met-sourced;
           before = before-next;
         }

@@ -5,6 +5,7 @@ use mathlib.Core.List.{List, [], _∷_, _++_, map}
 use Prim.Native.Nat.{ℕ, _+_, _-_, _*_, _≤_, _<_}
 use lib.Dec.{leb}
 use lib.ListN.{length, take, drop, getD, set}
+use Rattle.pages.specs.Page.{stretch}
 use Rattle.buffers.proofs.Written.{set-written}
 use Rattle.hashing.specs.declared.Parameters.{Parameters}
 use Rattle.hashing.specs.declared.Growth.{Growth}
@@ -16,9 +17,8 @@ use Rattle.placement.proofs.Mapping.{mapped}
 use Rattle.placement.proofs.Writing.{length-column}
 use Rattle.reach.specs.Cascade.{lowered, pushedTo, pushedOn}
 use Rattle.waiting.specs.Words.{sourceOf, homeOf}
-use Rattle.waiting.specs.Gather.{stretch}
 use Rattle.waiting.specs.declared.settling.Settled.{Settled}
-use Rattle.waiting.specs.Settle.{Settlement, staying, separatorFrom, homesUpTo}
+use Rattle.waiting.specs.Settle.{Settlement, stayingWords, wordsSeparatorFrom, homesUpTo}
 use Rattle.waiting.proofs.Lists.{all-append}
 use Rattle.waiting.proofs.Cutting.{separator-fits}
 use Rattle.planning.specs.Plans.{waits, homed}
@@ -37,7 +37,7 @@ use Rattle.cascading.proofs.PageWords.{apart, page-homed, page-near, pa
 -- ---- where it is written
 
 pub page-lowered : (p : Parameters) (q most : ℕ) (l : List ℕ) (reach : ℕ) (W W′ slots pool pool′ planned : List ℕ) (r : Settled)
-    → Settlement p q (separatorFrom p q l most) l reach W W′ slots r
+    → Settlement p q (wordsSeparatorFrom p q l most) l reach W W′ slots r
     → pool′ ≡ written (q * p .places) (padded (p .places) (map sourceOf (take (r .kept) slots))) pool → q < length planned
     → Lowered p q most l reach pool pool′ planned (set planned q (r .separator)) W′ (r .from)
 unfolding loweredTo loweredOn separators
@@ -46,7 +46,7 @@ page-lowered p q most l reach W W′ slots pool pool′ planned r S e h =
       sources =
           e
           ∙ ap (λ (s : List ℕ). written (q * p .places) s pool)
-          (sources-column (p .places) (separatorFrom p q l most) (r .kept) slots (staying p q (separatorFrom p q l most) l) (S .page));
+          (sources-column (p .places) (wordsSeparatorFrom p q l most) (r .kept) slots (stayingWords p q (wordsSeparatorFrom p q l most) l) (S .page));
       separator = set-written planned q (r .separator) h ∙ ap (λ (s : ℕ). written q (s ∷ []) planned) (S .separator);
       start = S .start;
       passed = S .passed;
@@ -55,7 +55,7 @@ page-lowered p q most l reach W W′ slots pool pool′ planned r S e h =
 -- at most b stay
 pub lowered-roomy : (p : Parameters) (q most : ℕ) (l : List ℕ) → length (loweredTo p q most l .stars) ≤ p .places
 unfolding loweredTo
-lowered-roomy p q most l = rw (length-waits (staying p q (separatorFrom p q l most) l)) (separator-fits p q l most)
+lowered-roomy p q most l = rw (length-waits (stayingWords p q (wordsSeparatorFrom p q l most) l)) (separator-fits p q l most)
 
 -- a stretch that goes on with one page
 pub sources-on : (b lo n : ℕ) (c : Contents) (d : List ℕ) → length (c .stars) ≤ b → (lo + n) * b ≤ length d
@@ -89,7 +89,7 @@ module _ (p : Parameters) (g : Growth) (f : File) (valid : validParameters p ≡
     abbrev rename : Star → Star
     rename = renamed (f .words) (f .owners) word owner
 
-    lowers : lowered (hash p g) f q (map rename (waits w)) ≡ separatorFrom p q met stored
+    lowers : lowered (hash p g) f q (map rename (waits w)) ≡ wordsSeparatorFrom p q met stored
     unfolding lowered
     lowers =
         rw (← page-meets p g f valid sized q inside sound k unheld w before word owner)
@@ -101,11 +101,11 @@ module _ (p : Parameters) (g : Growth) (f : File) (valid : validParameters p ≡
         rw (
           lowers,
           ← page-meets p g f valid sized q inside sound k unheld w before word owner,
-          stay-tie (hash p g) p (probes-real p g) rename (renamed-keeps (f .words) (f .owners) word owner) q met met-homed met-near (separatorFrom p q met stored),
+          stay-tie (hash p g) p (probes-real p g) rename (renamed-keeps (f .words) (f .owners) word owner) q met met-homed met-near (wordsSeparatorFrom p q met stored),
         )
 
     pub pushes-on : pushedOn (hash p g) f q (map rename (waits w)) ≡ map rename (waits (loweredOn p q stored met))
     unfolding pushedOn loweredOn
     pushes-on =
         rw (lowers, ← page-meets p g f valid sized q inside sound k unheld w before word owner)
-        (pass-tie (hash p g) p (probes-real p g) rename (renamed-keeps (f .words) (f .owners) word owner) q met met-homed met-near (separatorFrom p q met stored))
+        (pass-tie (hash p g) p (probes-real p g) rename (renamed-keeps (f .words) (f .owners) word owner) q met met-homed met-near (wordsSeparatorFrom p q met stored))

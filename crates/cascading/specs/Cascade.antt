@@ -16,7 +16,7 @@ use Rattle.placement.specs.Hash.{namedPage, homeUnder}
 use Rattle.placement.specs.Ready.{Ready}
 use Rattle.reach.specs.Reach.{isEmpty, pagesTo, firstUnsound, holding}
 use Rattle.reach.specs.Cascade.{cascaded, carriedPast}
-use Rattle.waiting.specs.Settle.{staying, passing, separatorFrom}
+use Rattle.waiting.specs.Settle.{stayingWords, passingWords, wordsSeparatorFrom}
 use Rattle.planning.specs.Plans.{waits}
 use Rattle.planning.proofs.Applying.{applied}
 use Rattle.entering.specs.declared.blocks.Reach.{Reach}
@@ -89,10 +89,10 @@ Plans p g f k page pool planned (Ends last) =
 
 -- what a page gets of the words l that probe it, under the greatest separator up to `most`, and what it carries on
 unfoldable pub loweredTo : Parameters → ℕ → ℕ → List ℕ → Contents
-loweredTo p q most l = record { separator = separatorFrom p q l most; stars = waits (staying p q (separatorFrom p q l most) l) }
+loweredTo p q most l = record { separator = wordsSeparatorFrom p q l most; stars = waits (stayingWords p q (wordsSeparatorFrom p q l most) l) }
 
 unfoldable pub loweredOn : Parameters → ℕ → ℕ → List ℕ → List ℕ
-loweredOn p q most l = passing p q (separatorFrom p q l most) l
+loweredOn p q most l = passingWords p q (wordsSeparatorFrom p q l most) l
 
 -- what settling page q leaves: its sources, its separator, and from r up to `reach` the words carried on
 pub record Lowered (p : Parameters) (q most : ℕ) (l : List ℕ) (reach : ℕ) (pool pool′ planned planned′ W′ : List ℕ) (r : ℕ) : Type 0 where

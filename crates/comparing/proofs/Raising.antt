@@ -24,7 +24,7 @@ use Rattle.placement.proofs.Order.{Sorted, filter-pour, length-pour, sorted-pou
 use Rattle.placement.proofs.Writing.{getD-separators, length-part}
 use Rattle.placement.proofs.Files.{length-pagesAt}
 use Rattle.placement.proofs.Sound.{AllSound, gathered-add, stands-gathered, sound-holds, clean-said}
-use Rattle.comparing.specs.Raising.{passed, counted, countOf, countTo, raisable}
+use Rattle.comparing.specs.Raising.{passed, countsOn, countOn, countTo, raisable}
 
 -- Of the separators vs, from page p, each below top would keep more than room of w if it were one greater.
 abbrev pub Unraisable : Hash → ℕ → List ℕ → List Star → Type 0
@@ -102,8 +102,8 @@ below-next H p v k e = go (leb (H .home k) p) e
 
 -- Of the numbers with a first page, those within are those that count.
 within-counted : (H : Hash) (vs : List ℕ) (p k : ℕ) → p < length vs
-    → leb (0 + p) (first H 0 vs k) && below H (0 + p) (suc (getD vs p 0)) k ≡ counted H vs p (first H 0 vs k) k
-unfolding counted passed
+    → leb (0 + p) (first H 0 vs k) && below H (0 + p) (suc (getD vs p 0)) k ≡ countsOn H vs p (first H 0 vs k) k
+unfolding countsOn passed
 within-counted H vs p k h = rw (zero-add p) (go (decLt (first H 0 vs k) p) (decLt p (first H 0 vs k)))
   where
     F : ℕ
@@ -170,17 +170,17 @@ module _ (ok : ℕ → Bool) (H : Hash) (M : ℕ) (f : File) (sized : Sized (H .
   G = gathered (H .room) f 0 M
 
   abbrev here : ℕ → Star → Bool
-  here p s = counted H (f .separators) p (first H 0 (f .separators) (s .number)) (s .number)
+  here p s = countsOn H (f .separators) p (first H 0 (f .separators) (s .number)) (s .number)
 
-  count-page : (p q : ℕ) → q < M → countOf H (f .separators) (f .numbers) p q ≡ length (filter (here p) (starsAt (H .room) f q))
-  unfolding countOf starsAt
+  count-page : (p q : ℕ) → q < M → countOn H (f .separators) (f .numbers) p q ≡ length (filter (here p) (starsAt (H .room) f q))
+  unfolding countOn starsAt
   count-page p q h =
-      count-stars (counted H (f .separators) p q) (part (H .room) q (f .numbers)) (part (H .room) q (f .words)) (part (H .room) q (f .owners))
+      count-stars (countsOn H (f .separators) p q) (part (H .room) q (f .numbers)) (part (H .room) q (f .words)) (part (H .room) q (f .owners))
       (length-part (H .room) q M (f .numbers) (sized .ofNumbers) h ∙ sym (length-part (H .room) q M (f .words) (sized .ofWords) h))
       (length-part (H .room) q M (f .numbers) (sized .ofNumbers) h ∙ sym (length-part (H .room) q M (f .owners) (sized .ofOwners) h))
       ∙ ap length
-      (filter-ext-on (λ (s : Star). counted H (f .separators) p q (s .number)) (here p) (starsOf (part (H .room) q (f .numbers)) (part (H .room) q (f .words)) (part (H .room) q (f .owners)))
-      (λ s m. ap (λ (r : ℕ). counted H (f .separators) p r (s .number)) (sym (all q (omega arith) (omega arith) .here s m))))
+      (filter-ext-on (λ (s : Star). countsOn H (f .separators) p q (s .number)) (here p) (starsOf (part (H .room) q (f .numbers)) (part (H .room) q (f .words)) (part (H .room) q (f .owners)))
+      (λ s m. ap (λ (r : ℕ). countsOn H (f .separators) p r (s .number)) (sym (all q (omega arith) (omega arith) .here s m))))
 
   count-pages : (p n : ℕ) → n ≤ M → countTo H (f .separators) (f .numbers) p n ≡ length (filter (here p) (gathered (H .room) f 0 n))
   unfolding countTo gathered filter

@@ -6,7 +6,7 @@ ghost use lib.ListN.{length};
 ghost use Rattle.hashing.specs.Limits.{validParameters};
 ghost use Rattle.placement.specs.Hash.{homeUnder};
 ghost use Rattle.placement.specs.Ready.{Signing};
-ghost use Rattle.comparing.specs.Raising.{passed, countOf, countTo, rises, one, Counts, Adds, Homed, hashUnder, firstRaisable, firstRising};
+ghost use Rattle.comparing.specs.Raising.{passed, countOn, countTo, mayRise, one, Counts, Adds, Homed, hashUnder, firstRaisable, firstRising};
 use hashing::Geometry;
 use hashing::Parameters;
 
@@ -57,7 +57,7 @@ fn count_page(
     requires { ⌜ Homed geometry (now separators) (now numbers) (now homes) ⌝ }
     requires { ⌜ Counts 32768 (now counts) ⌝ }
     requires { ⌜ page < geometry .parameters .pages ⌝ }
-    ensures { λ _. ⌜ Adds (λ p. countOf (hashUnder geometry) (now (separators .entry)) (now (numbers .entry)) p page) counts ⌝ }
+    ensures { λ _. ⌜ Adds (λ p. countOn (hashUnder geometry) (now (separators .entry)) (now (numbers .entry)) p page) counts ⌝ }
 {
     let places = geometry.parameters.places as usize;
     let first = page * places;
@@ -95,7 +95,7 @@ fn count_pages(
 }
 
 fn could_rise(separator: u8, top: u8, count: u32, places: u32) -> bool
-    ensures { λ r. ⌜ r ≡ rises top places separator count ⌝ }
+    ensures { λ r. ⌜ r ≡ mayRise top places separator count ⌝ }
 {
     separator < top && count <= places
 }

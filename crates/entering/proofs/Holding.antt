@@ -10,6 +10,7 @@ use lib.Dec.{eqb, ltb}
 use lib.ListN.{length, take, drop, getD, length-append}
 use lib.Seq.{drop-at, length-take-le}
 use borrow.Author.Tests.{eqb-true, eq-eqb}
+use Rattle.pages.specs.Page.{stretch}
 use Rattle.hashing.specs.declared.Parameters.{Parameters}
 use Rattle.hashing.specs.declared.Growth.{Growth}
 use Rattle.placement.specs.Rule.{Star, Hash, Contents, separators, pages, left, first, blank}
@@ -18,8 +19,7 @@ use Rattle.placement.specs.Hash.{namedPage, lent}
 use Rattle.placement.proofs.Composition.{length-pages}
 use Rattle.placement.proofs.Order.{inserted}
 use Rattle.placement.proofs.Standing.{length-separators, looked-up, one-place, first-home-on, first-append}
-use Rattle.waiting.specs.Gather.{stretch}
-use Rattle.planning.specs.Sources.{named}
+use Rattle.planning.specs.Sources.{namedItem}
 use Rattle.planning.proofs.Applying.{applied}
 use Rattle.reach.specs.Reach.{pagesTo, entering, entersWithin, entryEnd, hasNumber, holding}
 use Rattle.reach.proofs.Search.{such}
@@ -179,16 +179,16 @@ module _ (p : Parameters) (g : Growth) (f : File) (k word owner : ℕ) where
 -- ---- the lists that applying the plan leaves
 
 pub lists-applied : (places lo count k word owner : ℕ) (pool planned : List ℕ) (f : File) (s n w o : List ℕ) → s ≡ written lo (take count (drop lo planned)) (f .separators)
-    → n ≡ written (lo * places) (map (named (f .numbers) k) (stretch places lo count pool)) (f .numbers)
-    → w ≡ written (lo * places) (map (named (f .words) word) (stretch places lo count pool)) (f .words)
-    → o ≡ written (lo * places) (map (named (f .owners) owner) (stretch places lo count pool)) (f .owners)
+    → n ≡ written (lo * places) (map (namedItem (f .numbers) k) (stretch places lo count pool)) (f .numbers)
+    → w ≡ written (lo * places) (map (namedItem (f .words) word) (stretch places lo count pool)) (f .words)
+    → o ≡ written (lo * places) (map (namedItem (f .owners) owner) (stretch places lo count pool)) (f .owners)
     → lent s n w o ≡ applied places lo count k word owner pool planned f
 unfolding applied
 lists-applied places lo count k word owner pool planned f s n w o es en ew eo = λ i. record { separators = es i; numbers = en i; words = ew i; owners = eo i }
 
 module _ (p : Parameters) (g : Growth) (f : File) (k word owner : ℕ) (pool planned : List ℕ) (last : ℕ) (e : Ends last ≡ reachAnswer p g f (newStar k word owner)) where
   abbrev Applied : List ℕ → ℕ → List ℕ → Type 0
-  Applied l new d = d ≡ written (startOf p g k * p .places) (map (named l new) (stretch (p .places) (startOf p g k) (last + 1 - startOf p g k) pool)) l
+  Applied l new d = d ≡ written (startOf p g k * p .places) (map (namedItem l new) (stretch (p .places) (startOf p g k) (last + 1 - startOf p g k) pool)) l
 
   pub entry-file : Applies p g f k pool planned (Ends last) → (s n w o : List ℕ)
       → s ≡ written (startOf p g k) (take (last + 1 - startOf p g k) (drop (startOf p g k) planned)) (f .separators)

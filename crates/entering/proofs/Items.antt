@@ -16,7 +16,7 @@ use Rattle.hashing.specs.Home.{home}
 use Rattle.hashing.specs.Limits.{validParameters}
 use Rattle.hashing.proofs.Bounds.{limits}
 use Rattle.pages.specs.Position.{validWord}
-use Rattle.pages.specs.Page.{part, heldAt}
+use Rattle.pages.specs.Page.{part, heldAt, stretch}
 use Rattle.pages.proofs.Parts.{part-item, part-length, page-fits}
 use Rattle.pages.proofs.Places.{held-at}
 use Rattle.placement.specs.File.{File, Sized}
@@ -26,8 +26,8 @@ use Rattle.placement.proofs.Search.{orderly-numbers}
 use Rattle.placement.proofs.Probing.{bounded-real}
 use Rattle.placement.proofs.Tested.{ItemOn, item-on, real-facts}
 use Rattle.waiting.specs.Lists.{all, allBelow}
-use Rattle.waiting.specs.Words.{pack, homeOf, numberOf}
-use Rattle.waiting.specs.Gather.{stretch, skipped, wordsFrom, groupOf, groupsBelow}
+use Rattle.waiting.specs.Words.{pack, homeOf, numberIn}
+use Rattle.waiting.specs.Gather.{skipped, wordsFrom, groupOf, groupsBelow}
 use Rattle.waiting.proofs.Lists.{all-cons, all-items}
 use Rattle.waiting.proofs.Packing.{home-pack, number-pack}
 use Rattle.reach.proofs.Pastes.{map-take, map-drop}
@@ -70,7 +70,7 @@ pub record WordOn (p : Parameters) (g : Growth) (f : File) (lo n w : ℕ) : Type
   pub most : page < lo + n
   pub homed : homeOf w ≤ page
   pub above : (e : ℕ) → e < page → getD (f .separators) e 0 ≡ hash p g .top → e < homeOf w
-  pub other : (k : ℕ) → Unheld p g f k → numberOf w ≡ k → ⊥
+  pub other : (k : ℕ) → Unheld p g f k → numberIn w ≡ k → ⊥
 
 module _ (p : Parameters) (g : Growth) (f : File) (valid : validParameters p ≡ true) (sized : Sized (p .places) (p .pages) f) (lo n : ℕ) (inside : lo + n ≤ p .pages) where
   numbers-long : (lo + n) * p .places ≤ length (f .numbers)
@@ -202,7 +202,7 @@ module _ (p : Parameters) (g : Growth) (f : File) (valid : validParameters p ≡
         let small : k < 2 ^ 31 = omega (arith, item-there i short .most) in
         let few : suc (lo * p .places + i) < 2 ^ 16 = omega (arith, items-few) in
         let star : (k ≡ 0 → ⊥) = eqb-false k 0 (unskipped k s) in
-        let number : numberOf w ≡ k = number-pack h k (suc (lo * p .places + i)) small few in
+        let number : numberIn w ≡ k = number-pack h k (suc (lo * p .places + i)) small few in
         let there : homeOf w ≡ home (multiplierOf p) p g k = home-pack h k (suc (lo * p .places + i)) small few ∙ home-there i ∙ rw (ne-eqb k 0 star) in
         each w
         (record {
@@ -225,4 +225,4 @@ module _ (p : Parameters) (g : Growth) (f : File) (valid : validParameters p ≡
 
     pub block-fresh : (k : ℕ) → Unheld p g f k → fresh k (blockWords p g f lo n) ≡ true
     unfolding fresh
-    block-fresh k u = words-all (λ w. not (eqb (numberOf w) k)) (λ w o. ap not (ne-eqb (numberOf w) k (λ e. o .other k u e)))
+    block-fresh k u = words-all (λ w. not (eqb (numberIn w) k)) (λ w o. ap not (ne-eqb (numberIn w) k (λ e. o .other k u e)))

@@ -8,6 +8,7 @@ use native.Mathlib.Omega.{arith}
 use lib.Dec.{leb, eqb}
 use lib.ListN.{length, length-map, length-append}
 use borrow.Author.Tests.{ne-eqb, leb-true}
+use Rattle.pages.specs.Page.{stretch}
 use Rattle.hashing.specs.declared.Parameters.{Parameters}
 use Rattle.hashing.specs.declared.Growth.{Growth}
 use Rattle.hashing.specs.Limits.{validParameters}
@@ -22,11 +23,11 @@ use Rattle.placement.proofs.Mapping.{mapped, pages-map, left-map}
 use Rattle.placement.proofs.Sound.{AllSound, gathered-proper}
 use Rattle.placement.proofs.Tested.{real-facts}
 use Rattle.waiting.specs.Words.{pack}
-use Rattle.waiting.specs.Gather.{stretch, starsIn}
+use Rattle.waiting.specs.Gather.{starsIn}
 use Rattle.waiting.specs.Settle.{homesUpTo}
 use Rattle.waiting.proofs.Items.{words-count, words-length}
 use Rattle.planning.specs.Plans.{plans, remains, waits}
-use Rattle.planning.specs.Sources.{named, renamed, sourced}
+use Rattle.planning.specs.Sources.{namedItem, renamed, sourced}
 use Rattle.planning.proofs.Applying.{renamed-keeps}
 use Rattle.planning.proofs.Sourcing.{true-stars, new-star, named-past}
 use Rattle.planning.proofs.Placed.{probes-real, new-homed, new-near, new-sourced, stretch-words-add, left-count}
@@ -75,7 +76,7 @@ module _ (p : Parameters) (g : Growth) (f : File) (k : ℕ) (valid : validParame
   new-named = new-sourced (f .numbers) (startOf p g k) k small few
 
   -- past the items a source names the new star
-  past-items : (l : List ℕ) (new : ℕ) → length l ≡ p .pages * p .places → named l new (length (f .numbers) + 1) ≡ new
+  past-items : (l : List ℕ) (new : ℕ) → length l ≡ p .pages * p .places → namedItem l new (length (f .numbers) + 1) ≡ new
   past-items l new e = named-past l new (length (f .numbers) + 1) (omega (arith, sized .ofNumbers, e))
 
   module _ (n : ℕ) (inside : startOf p g k + n ≤ p .pages) (sound : (q : ℕ) → startOf p g k ≤ q → q < startOf p g k + n → soundAt p g f q ≡ true) where

@@ -7,6 +7,7 @@ use native.Mathlib.Nat.{add-mul, mul-le-mul-right}
 use native.Mathlib.Omega.{arith}
 use lib.ListN.{take, length-append, length, drop, length-map, length-drop}
 use lib.Seq.{take-at, take-append-le, length-take-le, drop-paste, paste, slice}
+use Rattle.pages.specs.Page.{stretch}
 use Rattle.hashing.specs.declared.Parameters.{Parameters}
 use Rattle.hashing.specs.declared.Growth.{Growth}
 use Rattle.generator.specs.Generator.{topOf}
@@ -16,7 +17,7 @@ use Rattle.placement.specs.File.{File, Sized, column, written}
 use Rattle.placement.specs.Hash.{hashOf, soundAt, homesOf, homeIn}
 use Rattle.placement.proofs.Writing.{length-column}
 use Rattle.waiting.specs.Lists.{allBelow}
-use Rattle.waiting.specs.Gather.{stretch, starsIn, stretchWords}
+use Rattle.waiting.specs.Gather.{starsIn, stretchWords}
 use Rattle.waiting.proofs.Gathered.{stretch-slice}
 use Rattle.planning.specs.Plans.{plans, Planned}
 use Rattle.planning.proofs.Stretch.{plans-roomy, length-plans}

@@ -9,13 +9,13 @@ use denote.Ref.{now}
 use Rattle.hashing.specs.declared.Parameters.{Parameters}
 use Rattle.hashing.specs.declared.Growth.{Growth}
 use Rattle.hashing.specs.declared.Geometry.{Geometry}
-use Rattle.pages.specs.Page.{part, heldAt}
+use Rattle.pages.specs.Page.{part, heldAt, stretch}
 use Rattle.placement.specs.Rule.{Star, Hash, Contents, pages, starWith}
 use Rattle.placement.specs.File.{File, replaced}
 use Rattle.placement.specs.Hash.{hashOf, soundAt, namedPage, homesOf}
 use Rattle.placement.specs.Lent.{Lent}
 use Rattle.reach.specs.Reach.{pagesTo, removalEnd, entering, entersWithin, entryEnd, firstUnsound, holding}
-use Rattle.waiting.specs.Gather.{stretch, starsIn, stretchWords}
+use Rattle.waiting.specs.Gather.{starsIn, stretchWords}
 use Rattle.planning.specs.Plans.{Planned}
 use Rattle.planning.proofs.Applying.{applied}
 use Rattle.entering.specs.declared.blocks.Reach.{Reach}

@@ -5,6 +5,7 @@ use mathlib.Core.List.{List}
 use Prim.Native.Nat.{ℕ, zero, suc, _≤_, _-_}
 use native.Mathlib.Omega.{arith}
 use lib.Dec.{eqb, ltb}
+use Rattle.placement.specs.Hash.{hashOf}
 use Rattle.hashing.specs.declared.Parameters.{Parameters}
 use Rattle.hashing.specs.declared.Growth.{Growth}
 use Rattle.hashing.specs.Geometry.{pageCount, highest, grown, isUngrown, shrunk}
@@ -15,8 +16,8 @@ use Rattle.calls.specs.declared.answers.Placed.{Placed}
 use Rattle.calls.specs.declared.answers.Placed.the-variants.{On, Refused}
 use Rattle.calls.proofs.Numbers.{numbered}
 use Rattle.calls.specs.declared.answers.Answer.{Answer}
-use Rattle.calls.specs.Answers.{After, Pool, accepted, refused, spotted, placed, refusedBy, numberOf, cleared}
-use Rattle.calls.specs.Calls.{hash, fileFits, poolFits, unlent, guarded, unchanged, allStars, regrowTo, growOn, growOf, shrinkOn, shrinkOf}
+use Rattle.calls.specs.Answers.{After, Pool, accepted, refused, spotted, placed, refusedBy, refusalNumber, cleared}
+use Rattle.calls.specs.Calls.{fileFits, poolFits, unlent, guarded, unchanged, allStars, regrowTo, growOn, growOf, shrinkOn, shrinkOf}
 use Rattle.growth_record.specs.Record.{keptBy}
 
 -- refused, a call left the growth state g
@@ -52,8 +53,8 @@ unfolding regrowTo
 regrow-keeps p g f pool next page =
     let bad : ℕ = firstUnsound p g f 0 (p .pages) in
     let stars : List Star = allStars p f in
-    replaced-keeps g next (ltb bad (p .pages)) (isEmpty (left (hash p next) 0 (p .pages) stars)) (refused 5 bad) (refused 8 0) page
-    f (replaced (p .places) f 0 (pages (hash p next) 0 (p .pages) stars)) pool
+    replaced-keeps g next (ltb bad (p .pages)) (isEmpty (left (hashOf p next) 0 (p .pages) stars)) (refused 5 bad) (refused 8 0) page
+    f (replaced (p .places) f 0 (pages (hashOf p next) 0 (p .pages) stars)) pool
 
 pub grow-keeps : (p : Parameters) (g : Growth) (f : File) (pool : Pool) → Keeps g (growOf p g f pool)
 unfolding growOf
@@ -72,5 +73,5 @@ pub keeps : (g : Growth) (t : After) → Keeps g t → (answer : Placed) (new : 
 unfolding placed refusedBy spotted Keeps
 keeps g t kept (On page place) new said grew = grew
 keeps g t kept (Refused r place) new said grew =
-    let number : numberOf r ≡ t .answer .refusal = ap (λ (a : Answer). a .refusal) said in
+    let number : refusalNumber r ≡ t .answer .refusal = ap (λ (a : Answer). a .refusal) said in
     sym (kept (rw number at (numbered r)))

@@ -7,7 +7,7 @@ ghost use Rattle.hashing.specs.Geometry.{multiplierOf};
 ghost use Rattle.hashing.specs.Geometry.{grown};
 ghost use Rattle.hashing.specs.Limits.{validParameters, validGrowth};
 ghost use Rattle.hashing.specs.Home.{rankAt, stepFrom, chosen as Home·chosen, home as Home·home};
-ghost use Rattle.hashing.specs.Moves.{codeAt, pageOf, inverseOf, Landed};
+ghost use Rattle.hashing.specs.Moves.{codeAt, codePage, inverseOf, Landed};
 use crate::Geometry;
 use crate::Parameters;
 use crate::moves::Landing;
@@ -90,7 +90,7 @@ fn last_step(
     requires { ⌜ Landed (geometry .parameters) (landing .code) (landing .order) ⌝ }
     requires { ⌜ landing .code / 8 ≤ last / 8 ⌝ }
     ensures { λ r. ⌜ r ≡ stepFrom (multiplierOf (geometry .parameters)) (geometry .parameters) (geometry .growth) key (geometry .growth .expansions)
-        (pageOf (geometry .parameters) (landing .code) (landing .order)) ⌝ }
+        (codePage (geometry .parameters) (landing .code) (landing .order)) ⌝ }
 {
     let parameters = geometry.parameters;
     let page = page_of(parameters, landing.code, landing.order);

@@ -17,7 +17,7 @@ use Rattle.placement.proofs.Order.{Rising}
 use Rattle.placement.proofs.Pages.{Proper, rising-one}
 use Rattle.placement.proofs.Sound.{clean-list}
 use Rattle.calls.specs.Answers.{Pool}
-use Rattle.calls.specs.Calls.{hash, fileFits, poolFits, unlent, allStars, checkOf}
+use Rattle.calls.specs.Calls.{fileFits, poolFits, unlent, allStars, checkOf}
 use Rattle.calls.proofs.Refusals.{unlent-facts, sized}
 use Rattle.calls.proofs.Accepting.{check-clean}
 use Rattle.histories.specs.Model.{Entry, Model, entryStars, modelFile}
@@ -61,11 +61,11 @@ pub record Modelled (p : Parameters) (g : Growth) (f : File) : Type 0 where
   pub file : modelFile p model ≡ f
 
 pub clean-modelled : (p : Parameters) (g : Growth) (f : File) → validParameters p ≡ true → validGrowth p g ≡ true → Sized (p .places) (p .pages) f
-    → Clean validWord (hash p g) (p .pages) f → Modelled p g f
+    → Clean validWord (hashOf p g) (p .pages) f → Modelled p g f
 unfolding modelFile hashOf
 clean-modelled p g f v u z c =
     let w : List Star = allStars p f in
-    let t = clean-list validWord (hash p g) f (p .pages) z c in
+    let t = clean-list validWord (hashOf p g) f (p .pages) z c in
     let same : entryStars (entriesOf w) ≡ w = same-stars w (t .1) in
     record {
       model = record { entries = entriesOf w; growth = g };
@@ -77,7 +77,7 @@ clean-modelled p g f v u z c =
             fits = rw same (t .2);
           };
       growth = refl;
-      file = ap (laid (p .places) (hash p g) (p .pages)) same ∙ sym (c .byRule);
+      file = ap (laid (p .places) (hashOf p g) (p .pages)) same ∙ sym (c .byRule);
     }
 
 -- so is every file that the check accepts

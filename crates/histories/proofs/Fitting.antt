@@ -22,18 +22,18 @@ use Rattle.placement.proofs.Order.{Rising, rising-less}
 use Rattle.placement.proofs.Pages.{Proper}
 use Rattle.placement.proofs.Files.{sized-laid}
 use Rattle.placement.proofs.Sound.{sound-laid, facts-sound}
-use Rattle.calls.specs.Calls.{hash, fileFits, readable}
+use Rattle.calls.specs.Calls.{fileFits, readable}
 use Rattle.histories.specs.Model.{Model, entryStars, modelFile, pageFor}
 use Rattle.histories.proofs.Entries.{Ordered}
 use Rattle.histories.proofs.Stars.{stars-rise, stars-valid}
 use Rattle.histories.proofs.Naming.{page-named}
 
 -- Signatures are below the top, and homes are pages.
-pub bounded : (p : Parameters) (g : Growth) → validParameters p ≡ true → Bounded (hash p g)
+pub bounded : (p : Parameters) (g : Growth) → validParameters p ≡ true → Bounded (hashOf p g)
 unfolding hashOf
 bounded p g v k page = signature-below (multiplierOf p) (p .bits) k _ (limits p v .bits-least)
 
-pub homed : (p : Parameters) (g : Growth) (k : ℕ) → validParameters p ≡ true → validGrowth p g ≡ true → hash p g .home k < p .pages
+pub homed : (p : Parameters) (g : Growth) (k : ℕ) → validParameters p ≡ true → validGrowth p g ≡ true → hashOf p g .home k < p .pages
 unfolding hashOf
 homed p g k v w = home-pages (multiplierOf p) p g k v w
 
@@ -42,10 +42,10 @@ pub record Fitting (p : Parameters) (m : Model) : Type 0 where
   pub parameters : validParameters p ≡ true
   pub growth : validGrowth p (m .growth) ≡ true
   pub ordered : Ordered 1 (m .entries)
-  pub fits : left (hash p (m .growth)) 0 (p .pages) (entryStars (m .entries)) ≡ []
+  pub fits : left (hashOf p (m .growth)) 0 (p .pages) (entryStars (m .entries)) ≡ []
 
 abbrev pub hashFor : Parameters → Model → Hash
-hashFor p m = hash p (m .growth)
+hashFor p m = hashOf p (m .growth)
 
 abbrev pub starsFor : Model → List Star
 starsFor m = entryStars (m .entries)

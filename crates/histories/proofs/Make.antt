@@ -16,7 +16,7 @@ use Rattle.placement.specs.File.{File, column, laid, fileOf}
 use Rattle.placement.specs.Hash.{hashOf}
 use Rattle.placement.proofs.Separator.{Bounded, probing-top}
 use Rattle.calls.specs.Answers.{Pool, spotted}
-use Rattle.calls.specs.Calls.{hash, fileFits, unless, orElse, guarded, emptyFile, makeOf}
+use Rattle.calls.specs.Calls.{fileFits, unless, orElse, guarded, emptyFile, makeOf}
 use Rattle.histories.specs.Model.{emptyModel, entryStars, modelFile}
 use Rattle.histories.specs.Run.{initial}
 use Rattle.histories.proofs.Fitting.{bounded}
@@ -54,7 +54,7 @@ laid-none b H bounds n =
 
 empty-is : (p : Parameters) → validParameters p ≡ true → emptyFile p ≡ modelFile p emptyModel
 unfolding emptyFile modelFile emptyModel entryStars hashOf
-empty-is p v = sym (laid-none (p .places) (hash p ungrown) (bounded p ungrown v) (p .pages))
+empty-is p v = sym (laid-none (p .places) (hashOf p ungrown) (bounded p ungrown v) (p .pages))
 
 -- What make accepts.
 pub record Accepted (p : Parameters) (f : File) : Type 0 where
@@ -81,5 +81,5 @@ initial-agrees p f pool e =
     (record {
       growth = refl;
       file = empty-is p (a .parameters);
-      fitting = record { parameters = a .parameters; growth = start-valid p (a .parameters); ordered = tt; fits = left-none (hash p ungrown) 0 (p .pages) };
+      fitting = record { parameters = a .parameters; growth = start-valid p (a .parameters); ordered = tt; fits = left-none (hashOf p ungrown) 0 (p .pages) };
     })

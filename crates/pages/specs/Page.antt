@@ -54,6 +54,6 @@ rising low [] = true
 rising low (n ∷ ns) = ltb low n && rising n ns
 
 -- "its numbers rise strictly ... and precede the empty places": numbers above `low`, then empty places
-unfoldable pub orderly : ℕ → List ℕ → Bool
-orderly low [] = true
-orderly low (n ∷ ns) = cond (eqb n 0) (empties ns) (ltb low n && orderly n ns)
+unfoldable pub orderlyNumbers : ℕ → List ℕ → Bool
+orderlyNumbers low [] = true
+orderlyNumbers low (n ∷ ns) = cond (eqb n 0) (empties ns) (ltb low n && orderlyNumbers n ns)

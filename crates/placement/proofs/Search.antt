@@ -50,10 +50,10 @@ starsOf-append (n ∷ ns) (w ∷ ws) (o ∷ os) ns′ ws′ os′ h = go (not (e
     go false ih = ih
 
 -- The numbers of an orderly page are orderly in the sense of the search.
-pub orderly-numbers : (ok : ℕ → Bool) (last : ℕ) (ns ws os : List ℕ) → last ≤ greatest → Even ns ws os → orderly ok last ns ws os ≡ true → page.orderly last ns ≡ true
+pub orderly-numbers : (ok : ℕ → Bool) (last : ℕ) (ns ws os : List ℕ) → last ≤ greatest → Even ns ws os → orderly ok last ns ws os ≡ true → page.orderlyNumbers last ns ≡ true
 unfolding padded
 orderly-numbers ok last ns ws os h l e =
-    ap (page.orderly last) (orderly-columns ok last ns ws os (l .0) (l .1) e .0)
+    ap (page.orderlyNumbers last) (orderly-columns ok last ns ws os (l .0) (l .1) e .0)
     ∙ rising-orderly last (map numberOf (starsOf ns ws os)) (length ns - length (map numberOf (starsOf ns ws os)))
     (rising-numbers last (starsOf ns ws os) (orderly-rising ok last ns ws os h e))
 
@@ -107,7 +107,7 @@ pub star-held : (ok : ℕ → Bool) (ns ws os : List ℕ) (s : Star) → Even ns
     → (heldAt (s .number) ns ≡ true) × (getD ws (placeOf (s .number) ns) 0 ≡ s .payload .word) × (getD os (placeOf (s .number) ns) 0 ≡ s .payload .owner)
 star-held ok ns ws os s l e m =
     let r = star-at ns ws os s m in
-    let o : page.orderly 0 ns ≡ true = orderly-numbers ok 0 ns ws os (omega arith) l e in
+    let o : page.orderlyNumbers 0 ns ≡ true = orderly-numbers ok 0 ns ws os (omega arith) l e in
     let at : placeOf (s .number) ns ≡ r .0 = place-is 0 (s .number) ns (r .0) o (r .5) (r .1) (r .2) in (
       held-at 0 (s .number) ns (r .0) o (r .5) (r .1) (r .2),
       ap (λ (i : ℕ). getD ws i 0) at ∙ r .3,

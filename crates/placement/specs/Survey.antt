@@ -46,7 +46,7 @@ abbrev pub Homes : Geometry → List ℕ → List ℕ → Type 0
 Homes g ns hs = take (g .parameters .places) hs ≡ map (home (multiplierOf (g .parameters)) (g .parameters) (g .growth)) (take (g .parameters .places) ns)
 
 -- What is told of an item.
-pub record Admitted (p : Parameters) (g : Growth) (seps : List ℕ) (page low n w o : ℕ) (r : Item) : Type 0 where
+pub record TestedItem (p : Parameters) (g : Growth) (seps : List ℕ) (page low n w o : ℕ) (r : Item) : Type 0 where
   pub sound : r .sound ≡ admitsItem p g seps page low n w o
   pub home : r .sound ≡ true → r .home ≡ homeIn p g n
   pub last : r .sound ≡ true → r .last ≡ lastAfter n

@@ -13,7 +13,7 @@ ghost use Rattle.placement.specs.File.{greatest};
 ghost use Rattle.placement.specs.Hash.{soundAt};
 ghost use Rattle.placement.specs.Lent.{held, before};
 ghost use Rattle.placement.specs.Ready.{Homing, Ready};
-ghost use Rattle.placement.specs.Survey.{Homes, Admitted, Tested, surveyed};
+ghost use Rattle.placement.specs.Survey.{Homes, TestedItem, Tested, surveyed};
 use crate::naming::stands_on;
 use hashing::Geometry;
 use hashing::Parameters;
@@ -120,7 +120,7 @@ fn admitted(
     requires { ⌜ length (now separators) ≡ geometry .parameters .pages ⌝ }
     requires { ⌜ page < geometry .parameters .pages ⌝ }
     requires { ⌜ home ≡ Home·home (multiplierOf (geometry .parameters)) (geometry .parameters) (geometry .growth) number ⌝ }
-    ensures { λ r. ⌜ Admitted (geometry .parameters) (geometry .growth) (now (separators .entry)) page last number word owner r ⌝ }
+    ensures { λ r. ⌜ TestedItem (geometry .parameters) (geometry .growth) (now (separators .entry)) page last number word owner r ⌝ }
 {
     if number == 0 {
         return Item {

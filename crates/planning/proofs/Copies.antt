@@ -10,37 +10,37 @@ pub use Rattle.buffers.proofs.Copies.{Copied, none, turn, done, unread}
 use Rattle.buffers.proofs.Lists.{map-take, within}
 use Rattle.buffers.proofs.Written.{through}
 pub use Rattle.buffers.proofs.Written.{pasted-whole}
-use Rattle.planning.specs.Sources.{named}
+use Rattle.planning.specs.Sources.{namedItem}
 
 suc-sub : (i : ℕ) → suc i - 1 ≡ i
 suc-sub i = omega arith
 
 -- what a source names, item by item
-pub named-item : (l : List ℕ) (new at j : ℕ) (s : List ℕ) → named l new (getD s (at + j) 0) ≡ getD (map (named l new) (drop at s)) j 0
-unfolding named
-named-item l new at j s = rw (← getD-drop at s j 0) (sym (List·getD-map (named l new) (drop at s) j 0))
+pub named-item : (l : List ℕ) (new at j : ℕ) (s : List ℕ) → namedItem l new (getD s (at + j) 0) ≡ getD (map (namedItem l new) (drop at s)) j 0
+unfolding namedItem
+named-item l new at j s = rw (← getD-drop at s j 0) (sym (List·getD-map (namedItem l new) (drop at s) j 0))
 
-pub left-named : (l : List ℕ) (new at n j : ℕ) (s : List ℕ) → at + n ≤ length s → j < n → j < length (map (named l new) (drop at s))
-left-named l new at n j s h k = rw (length-map (drop at s) (named l new)) (rw (length-drop at s) (omega arith))
+pub left-named : (l : List ℕ) (new at n j : ℕ) (s : List ℕ) → at + n ≤ length s → j < n → j < length (map (namedItem l new) (drop at s))
+left-named l new at n j s h k = rw (length-map (drop at s) (namedItem l new)) (rw (length-drop at s) (omega arith))
 
 -- what a source names, by its three cases
-pub named-none : (l : List ℕ) (new source : ℕ) → source ≡ 0 → 0 ≡ named l new source
-unfolding named
+pub named-none : (l : List ℕ) (new source : ℕ) → source ≡ 0 → 0 ≡ namedItem l new source
+unfolding namedItem
 named-none l new source e = rw e
 
-pub named-item-of : (l : List ℕ) (new source : ℕ) → (source ≡ 0 → ⊥) → source - 1 < length l → getD l (source - 1) 0 ≡ named l new source
-unfolding named
+pub named-item-of : (l : List ℕ) (new source : ℕ) → (source ≡ 0 → ⊥) → source - 1 < length l → getD l (source - 1) 0 ≡ namedItem l new source
+unfolding namedItem
 named-item-of l new zero e h = absurd (e refl)
 named-item-of l new (suc i) e h = rw (suc-sub i) (sym (within l new i (rw (suc-sub i) at h)))
 
-pub named-new : (l : List ℕ) (new source : ℕ) → (source ≡ 0 → ⊥) → length l ≤ source - 1 → new ≡ named l new source
-unfolding named
+pub named-new : (l : List ℕ) (new source : ℕ) → (source ≡ 0 → ⊥) → length l ≤ source - 1 → new ≡ namedItem l new source
+unfolding namedItem
 named-new l new zero e h = absurd (e refl)
 named-new l new (suc i) e h = sym (List·getD-eq-default l new (rw (suc-sub i) at h))
 
 -- d's part becomes what the sources of s's part name, by way of e's part
 pub fetched-back : (d e l s : List ℕ) (new at n : ℕ) → at + n ≤ length e → at + n ≤ length s
-    → paste d at (drop at (paste e at (map (named l new) (drop at s)) n)) n ≡ written at (map (named l new) (take n (drop at s))) d
+    → paste d at (drop at (paste e at (map (namedItem l new) (drop at s)) n)) n ≡ written at (map (namedItem l new) (take n (drop at s))) d
 fetched-back d e l s new at n he hs =
-    through d e at n (map (named l new) (drop at s)) (omega arith) (rw (length-map (drop at s) (named l new), length-drop at s) (omega arith))
-    ∙ ap (λ (m : List ℕ). written at m d) (map-take (named l new) n (drop at s))
+    through d e at n (map (namedItem l new) (drop at s)) (omega arith) (rw (length-map (drop at s) (namedItem l new), length-drop at s) (omega arith))
+    ∙ ap (λ (m : List ℕ). written at m d) (map-take (namedItem l new) n (drop at s))

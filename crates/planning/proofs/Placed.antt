@@ -8,6 +8,7 @@ use native.Mathlib.Omega.{arith}
 use lib.ListN.{length, take, drop, length-map, length-drop, take-append-drop}
 use lib.Seq.{paste, length-take-le, drop-append-le, take-append-le, take-add, drop-drop}
 use borrow.Author.Tests.{eq-eqb, le-leb}
+use Rattle.pages.specs.Page.{stretch}
 use Rattle.buffers.proofs.Lists.{map-take}
 use Rattle.buffers.proofs.Written.{taken-written, paste-written}
 use Rattle.buffers.specs.Lists.{written}
@@ -22,7 +23,7 @@ use Rattle.placement.proofs.Standing.{length-separators}
 use Rattle.placement.proofs.Writing.{length-column, column-append, separators-append}
 use Rattle.waiting.specs.Lists.{all, allBelow}
 use Rattle.waiting.specs.Words.{pack}
-use Rattle.waiting.specs.Gather.{stretch, wordsFrom, group, grouped, groupsBelow, stretchWords}
+use Rattle.waiting.specs.Gather.{wordsFrom, group, grouped, groupsBelow, stretchWords}
 use Rattle.waiting.specs.Settle.{homesUpTo}
 use Rattle.waiting.proofs.Packing.{home-pack, number-pack, source-pack}
 use Rattle.planning.specs.Sources.{renamed, sourced}

@@ -15,7 +15,7 @@ use Rattle.buffers.proofs.Tests.{and-true, either-false}
 use Rattle.buffers.proofs.Lists.{within}
 use Rattle.placement.specs.Rule.{Star, Hash, keep, insert, pour, without, starWith}
 use Rattle.placement.specs.Rule.{filter as select}
-use Rattle.pages.specs.Page.{part}
+use Rattle.pages.specs.Page.{part, stretch}
 use Rattle.pages.proofs.Parts.{part-length, pages-apart, stretch-suc}
 use Rattle.placement.specs.File.{File, starsOf, starsAt, gathered}
 use Rattle.placement.proofs.Search.{starsOf-append}
@@ -23,12 +23,12 @@ use Rattle.placement.proofs.Order.{pour-append}
 use Rattle.placement.proofs.Order.{filter-pour as select-pour}
 use Rattle.placement.proofs.Mapping.{pour-map, insert-map}
 use Rattle.waiting.specs.Lists.{all, allBelow}
-use Rattle.waiting.specs.Words.{pack, homeOf, numberOf, sourceOf, lowOf}
-use Rattle.waiting.specs.Gather.{skipped, wordsFrom, groupOf, groupsBelow, stretch}
+use Rattle.waiting.specs.Words.{pack, homeOf, numberIn, sourceOf, lowOf}
+use Rattle.waiting.specs.Gather.{skipped, wordsFrom, groupOf, groupsBelow}
 use Rattle.waiting.specs.Settle.{insertLow, pourLow, slotsOf}
 use Rattle.waiting.proofs.Lists.{all-head, all-tail, all-cons, all-getD, all-mono}
 use Rattle.waiting.proofs.Packing.{home-pack, number-pack, source-pack}
-use Rattle.planning.specs.Sources.{named, renamed, sourced}
+use Rattle.planning.specs.Sources.{namedItem, renamed, sourced}
 use Rattle.planning.specs.Plans.{starOf, waits, homed}
 use Rattle.planning.proofs.Pouring.{pour-cons}
 use Rattle.planning.proofs.Applying.{renamed-keeps}
@@ -66,7 +66,7 @@ module _ (at k : ℕ) (ns hs : List ℕ) (valid : allBelow (2 ^ 31) ns ≡ true)
   pub words-homed : (H : Hash) → hs ≡ map (itemHome H) ns → homed H (wordsFrom at k ns hs) ≡ true
   unfolding homed itemHome
   words-homed H e =
-      all-words (λ w. eqb (H .home (numberOf w)) (homeOf w)) at k ns hs
+      all-words (λ w. eqb (H .home (numberIn w)) (homeOf w)) at k ns hs
       (λ i a b s.
       let small : getD ns i 0 < 2 ^ 31 = item-below (2 ^ 31) ns i valid a in
       let there : getD hs i 0 ≡ H .home (getD ns i 0) =
@@ -84,15 +84,15 @@ module _ (at k : ℕ) (ns hs : List ℕ) (valid : allBelow (2 ^ 31) ns ≡ true)
       rw (home-pack (getD hs i 0) (getD ns i 0) (suc (at + i)) small (omega arith))
       (lt-ltb (getD hs i 0 - lo) n (omega arith)))
 
-  pub words-sourced : (all-numbers : List ℕ) (new : ℕ) → ((i : ℕ) → i < length ns → named all-numbers new (suc (at + i)) ≡ getD ns i 0)
+  pub words-sourced : (all-numbers : List ℕ) (new : ℕ) → ((i : ℕ) → i < length ns → namedItem all-numbers new (suc (at + i)) ≡ getD ns i 0)
       → sourced all-numbers new (wordsFrom at k ns hs) ≡ true
   unfolding sourced
   words-sourced l new e =
-      all-words (λ w. eqb (named l new (sourceOf w)) (numberOf w)) at k ns hs
+      all-words (λ w. eqb (namedItem l new (sourceOf w)) (numberIn w)) at k ns hs
       (λ i a b s.
       let small : getD ns i 0 < 2 ^ 31 = item-below (2 ^ 31) ns i valid a in
       rw (number-pack (getD hs i 0) (getD ns i 0) (suc (at + i)) small (omega arith), source-pack (getD hs i 0) (getD ns i 0) (suc (at + i)) (omega arith))
-      (eq-eqb (named l new (suc (at + i))) (getD ns i 0) (e i a)))
+      (eq-eqb (namedItem l new (suc (at + i))) (getD ns i 0) (e i a)))
 
 -- the star of x goes before that of y, whichever is inserted later
 unfoldable pub leads : ℕ → ℕ → Bool
@@ -197,29 +197,29 @@ words-ordered at k (n ∷ ns) (x ∷ hs) v h =
 
 -- no word has the number k
 unfoldable pub fresh : ℕ → List ℕ → Bool
-fresh k l = all (λ w. not (eqb (numberOf w) k)) l
+fresh k l = all (λ w. not (eqb (numberIn w) k)) l
 
-pub fresh-led : (x : ℕ) (l : List ℕ) → fresh (numberOf x) l ≡ true → led x l ≡ true
+pub fresh-led : (x : ℕ) (l : List ℕ) → fresh (numberIn x) l ≡ true → led x l ≡ true
 unfolding fresh led
-fresh-led x l e = all-mono (λ w. not (eqb (numberOf w) (numberOf x))) (λ w. leads (lowOf x) (lowOf w)) l (λ w t. other w (not-true (eqb (numberOf w) (numberOf x)) t)) e
+fresh-led x l e = all-mono (λ w. not (eqb (numberIn w) (numberIn x))) (λ w. leads (lowOf x) (lowOf w)) l (λ w t. other w (not-true (eqb (numberIn w) (numberIn x)) t)) e
   where
-    other : (w : ℕ) → eqb (numberOf w) (numberOf x) ≡ false → leads (lowOf x) (lowOf w) ≡ true
-    other w t = go (leb (lowOf x) (lowOf w)) refl (eqb-false (numberOf w) (numberOf x) t)
+    other : (w : ℕ) → eqb (numberIn w) (numberIn x) ≡ false → leads (lowOf x) (lowOf w) ≡ true
+    other w t = go (leb (lowOf x) (lowOf w)) refl (eqb-false (numberIn w) (numberIn x) t)
       where
-        go : (s : Bool) → leb (lowOf x) (lowOf w) ≡ s → (numberOf w ≡ numberOf x → ⊥) → leads (lowOf x) (lowOf w) ≡ true
+        go : (s : Bool) → leb (lowOf x) (lowOf w) ≡ s → (numberIn w ≡ numberIn x → ⊥) → leads (lowOf x) (lowOf w) ≡ true
         go true a b = unfold leads in rw a
-        go false a b = unfold leads lowOf numberOf in rw (a, lt-ltb (lowOf w / 2 ^ 16) (lowOf x / 2 ^ 16) (omega (arith, leb-false (lowOf x) (lowOf w) a)))
+        go false a b = unfold leads lowOf numberIn in rw (a, lt-ltb (lowOf w / 2 ^ 16) (lowOf x / 2 ^ 16) (omega (arith, leb-false (lowOf x) (lowOf w) a)))
 
 -- the words without the number k have it not
 pub words-fresh : (at k : ℕ) (ns hs : List ℕ) → allBelow (2 ^ 31) ns ≡ true → at + length ns < 2 ^ 16 → fresh k (wordsFrom at k ns hs) ≡ true
 unfolding fresh
 words-fresh at k ns hs valid items =
-    all-words (λ w. not (eqb (numberOf w) k)) at k ns hs
+    all-words (λ w. not (eqb (numberIn w) k)) at k ns hs
     (λ i a b s.
     rw (number-pack (getD hs i 0) (getD ns i 0) (suc (at + i)) (item-below (2 ^ 31) ns i valid a) (omega arith), unskipped k (getD ns i 0) s .1))
 
 star-pack : (ws os : List ℕ) (newword newowner h k s : ℕ) → k < 2 ^ 31 → s < 2 ^ 16
-    → renamed ws os newword newowner (starOf (lowOf (pack h k s))) ≡ starWith k (named ws newword s) (named os newowner s)
+    → renamed ws os newword newowner (starOf (lowOf (pack h k s))) ≡ starWith k (namedItem ws newword s) (namedItem os newowner s)
 unfolding renamed starOf
 star-pack ws os newword newowner h k s hk hs =
     let e : lowOf (pack h k s) ≡ k * 2 ^ 16 + s = low-of-pack h k s hk hs in
@@ -229,7 +229,7 @@ star-pack ws os newword newowner h k s hk hs =
 
 words-stars : (W O : List ℕ) (newword newowner at k : ℕ) (ns hs ws os : List ℕ) → allBelow (2 ^ 31) ns ≡ true → at + length ns < 2 ^ 16
     → length hs ≡ length ns → length ws ≡ length ns → length os ≡ length ns
-    → ((i : ℕ) → i < length ns → named W newword (suc (at + i)) ≡ getD ws i 0) → ((i : ℕ) → i < length ns → named O newowner (suc (at + i)) ≡ getD os i 0)
+    → ((i : ℕ) → i < length ns → namedItem W newword (suc (at + i)) ≡ getD ws i 0) → ((i : ℕ) → i < length ns → namedItem O newowner (suc (at + i)) ≡ getD os i 0)
     → map (λ w. renamed W O newword newowner (starOf (lowOf w))) (wordsFrom at k ns hs) ≡ without k (starsOf ns ws os)
 unfolding wordsFrom starsOf without select skipped
 words-stars W O newword newowner at k [] hs ws os v h eh ew eo words-are owners-are = refl
@@ -242,7 +242,7 @@ words-stars W O newword newowner at k (n ∷ ns) (x ∷ hs) (w ∷ ws) (o ∷ os
     (λ i a. rw (suc-add at i, ← add-suc at i) (words-are (suc i) (omega arith)))
     (λ i a. rw (suc-add at i, ← add-suc at i) (owners-are (suc i) (omega arith))))
     (star-pack W O newword newowner x n (suc at) (ltb-true n (2 ^ 31) (all-head (λ y. ltb y (2 ^ 31)) n ns v)) (omega arith)
-    ∙ ap (λ (y : ℕ). starWith n y (named O newowner (suc at))) (rw (add-zero at) at (words-are 0 (omega arith)))
+    ∙ ap (λ (y : ℕ). starWith n y (namedItem O newowner (suc at))) (rw (add-zero at) at (words-are 0 (omega arith)))
     ∙ ap (λ (y : ℕ). starWith n w y) (rw (add-zero at) at (owners-are 0 (omega arith))))
   where
     f : ℕ → Star
@@ -291,8 +291,8 @@ length-stretch b lo n l h = length-take-le (n * b) (drop (lo * b) l) (rw (length
 
 -- the item's own source names it
 pub named-stretch : (b lo n new : ℕ) (l : List ℕ) → (lo + n) * b ≤ length l → (i : ℕ) → i < length (stretch b lo n l)
-    → named l new (suc (lo * b + i)) ≡ getD (stretch b lo n l) i 0
-unfolding named
+    → namedItem l new (suc (lo * b + i)) ≡ getD (stretch b lo n l) i 0
+unfolding namedItem
 named-stretch b lo n new l h i a =
     let short : i < n * b = rw (length-stretch b lo n l h) at a in
     within l new (lo * b + i) (omega (arith, add-mul lo n b))
@@ -347,7 +347,7 @@ true-stars b lo n k newword newowner f hs valid items hn hw ho hh =
 -- .. and with the new star of an entry
 pub new-star : (ws os : List ℕ) (newword newowner h k s : ℕ) (l : List ℕ) → k < 2 ^ 31 → s < 2 ^ 16 → fresh k l ≡ true
     → map (renamed ws os newword newowner) (waits (pack h k s ∷ l))
-    ≡ insert (starWith k (named ws newword s) (named os newowner s)) (map (renamed ws os newword newowner) (waits l))
+    ≡ insert (starWith k (namedItem ws newword s) (namedItem os newowner s)) (map (renamed ws os newword newowner) (waits l))
 new-star ws os newword newowner h k s l hk hs e =
     let g : Star → Star = renamed ws os newword newowner in
     ap (map g) (waits-cons (pack h k s) l (fresh-led (pack h k s) l (rw (number-pack h k s hk hs) e)))
@@ -355,6 +355,6 @@ new-star ws os newword newowner h k s l hk hs e =
     ∙ ap (λ (t : Star). insert t (map g (waits l))) (star-pack ws os newword newowner h k s hk hs)
 
 -- the source past all items names the new one
-pub named-past : (l : List ℕ) (new source : ℕ) → source ≡ length l + 1 → named l new source ≡ new
-unfolding named
+pub named-past : (l : List ℕ) (new source : ℕ) → source ≡ length l + 1 → namedItem l new source ≡ new
+unfolding namedItem
 named-past l new source e = rw (e, add-one (length l)) (List·getD-eq-default l new (le-refl (length l)))

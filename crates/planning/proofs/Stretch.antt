@@ -21,7 +21,7 @@ use Rattle.placement.proofs.Writing.{Roomy, column-append, length-column, separ
 use Rattle.waiting.specs.Words.{sourceOf}
 use Rattle.waiting.specs.Gather.{group, grouped, Scattered}
 use Rattle.waiting.specs.declared.settling.Settled.{Settled}
-use Rattle.waiting.specs.Settle.{Settlement, homesUpTo, staying, separatorOf, slotsOf}
+use Rattle.waiting.specs.Settle.{Settlement, homesUpTo, stayingWords, wordsSeparator, slotsOf}
 use Rattle.waiting.proofs.Grouping.{grouped-next, grouped-add}
 use Rattle.waiting.proofs.Cutting.{separator-fits, separator-most}
 use Rattle.planning.specs.Plans.{starOf, waits, settled, carriedOn, plans, remains, PagePlanned, Planned}
@@ -55,11 +55,11 @@ module _ (q : Parameters) (lo : ℕ) (l : List ℕ) where
 
 -- at most b stay
 pub plans-roomy : (q : Parameters) (lo v n : ℕ) (w l : List ℕ) → Roomy (q .places) (plans q lo v n w l)
-unfolding plans settled separatorOf
+unfolding plans settled wordsSeparator
 plans-roomy q lo v zero w l = tt
 plans-roomy q lo v (suc n) w l =
     let here : List ℕ = w ++ group lo v l in (
-      rw (length-waits (staying q (lo + v) (separatorOf q (lo + v) here) here)) (separator-fits q (lo + v) here (topOf (q .bits))),
+      rw (length-waits (stayingWords q (lo + v) (wordsSeparator q (lo + v) here) here)) (separator-fits q (lo + v) here (topOf (q .bits))),
       plans-roomy q lo (suc v) n (carriedOn q (lo + v) here) l,
     )
 
@@ -69,8 +69,8 @@ length-plans q lo v zero w l = refl
 length-plans q lo v (suc n) w l = ap suc (length-plans q lo (suc v) n (carriedOn q (lo + v) (w ++ group lo v l)) l)
 
 -- a separator is a byte
-pub separator-byte : (q : Parameters) (p : ℕ) (l : List ℕ) → q .bits ≤ 8 → separatorOf q p l < 256
-unfolding separatorOf topOf
+pub separator-byte : (q : Parameters) (p : ℕ) (l : List ℕ) → q .bits ≤ 8 → wordsSeparator q p l < 256
+unfolding wordsSeparator topOf
 separator-byte q p l h =
     let power : 2 ^ q .bits ≤ 2 ^ 8 = pow-mono h in
     omega (arith, separator-most q p l (topOf (q .bits)))
@@ -222,16 +222,16 @@ sources-column b v kept slots l e =
     ap (padded b) (ap (map sourceOf) e ∙ sym (words-waits l)) ∙ sym (append-nil (padded b (map (λ (s : Star). s .payload .word) (waits l))))
 
 pub page-planned : (q : Parameters) (p : ℕ) (l : List ℕ) (reach : ℕ) (W W′ slots pool pool′ planned : List ℕ) (r : Settled)
-    → Settlement q p (separatorOf q p l) l reach W W′ slots r
+    → Settlement q p (wordsSeparator q p l) l reach W W′ slots r
     → pool′ ≡ written (p * q .places) (padded (q .places) (map sourceOf (take (r .kept) slots))) pool → p < length planned
     → PagePlanned q p l reach W W′ pool pool′ planned (set planned p (r .separator)) (r .from)
 unfolding settled column carriedOn separators
 page-planned q p l reach W W′ slots pool pool′ planned r S e h =
-    let v : ℕ = separatorOf q p l in
+    let v : ℕ = wordsSeparator q p l in
     record {
       sources =
           e ∙ ap (λ (s : List ℕ). written (p * q .places) s pool)
-          (sources-column (q .places) v (r .kept) slots (staying q p v l) (S .page));
+          (sources-column (q .places) v (r .kept) slots (stayingWords q p v l) (S .page));
       separator = set-written planned p (r .separator) h ∙ ap (λ (s : ℕ). written p (s ∷ []) planned) (S .separator);
       order = omega (arith, S .start);
       passed = S .passed;

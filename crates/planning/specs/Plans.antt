@@ -7,15 +7,16 @@ use lib.Dec.{eqb, leb}
 use lib.ListN.{length, getD, take, drop}
 use lib.Seq.{slice}
 use denote.Ref.{now}
+use Rattle.pages.specs.Page.{stretch}
 use Rattle.hashing.specs.declared.Parameters.{Parameters}
 use Rattle.hashing.specs.Limits.{validParameters}
 use Rattle.placement.specs.Rule.{Star, Hash, Contents, separators, starWith}
 use Rattle.placement.specs.File.{column, written}
 use Rattle.placement.specs.Lent.{Lent}
 use Rattle.waiting.specs.Lists.{all, allBelow}
-use Rattle.waiting.specs.Words.{homeOf, numberOf, sourceOf}
-use Rattle.waiting.specs.Gather.{group, stretch, stretchWords, starsIn}
-use Rattle.waiting.specs.Settle.{homesUpTo, staying, passing, separatorOf, slotsOf}
+use Rattle.waiting.specs.Words.{homeOf, numberIn, sourceOf}
+use Rattle.waiting.specs.Gather.{group, stretchWords, starsIn}
+use Rattle.waiting.specs.Settle.{homesUpTo, stayingWords, passingWords, wordsSeparator, slotsOf}
 
 -- the star that a word's low part stands for: its number, and its source in place of position word and owner
 unfoldable pub starOf : ℕ → Star
@@ -31,16 +32,16 @@ slotSource slots kept i = cond (leb kept i) 0 (sourceOf (getD slots i 0))
 
 -- every word carries the home of its number
 unfoldable pub homed : Hash → List ℕ → Bool
-homed H l = all (λ w. eqb (H .home (numberOf w)) (homeOf w)) l
+homed H l = all (λ w. eqb (H .home (numberIn w)) (homeOf w)) l
 
 -- what settling leaves on page p of the words that probe it
 unfoldable pub settled : Parameters → ℕ → List ℕ → Contents
 settled q p l =
-    record { separator = separatorOf q p l; stars = waits (staying q p (separatorOf q p l) l) }
+    record { separator = wordsSeparator q p l; stars = waits (stayingWords q p (wordsSeparator q p l) l) }
 
 -- what it carries on
 unfoldable pub carriedOn : Parameters → ℕ → List ℕ → List ℕ
-carriedOn q p l = passing q p (separatorOf q p l) l
+carriedOn q p l = passingWords q p (wordsSeparator q p l) l
 
 -- what n pages from lo + v get: page lo + v is probed by the words w carried on to it and its own group of the stretch's words l
 unfoldable pub plans : Parameters → ℕ → ℕ → ℕ → List ℕ → List ℕ → List Contents

@@ -4,12 +4,12 @@ ghost use mathlib.Core.List.{map};
 ghost use Prim.Native.Nat.{_+_, _*_, _≤_};
 ghost use lib.ListN.{length, take, drop, replicate};
 ghost use lib.Seq.{paste};
+ghost use Rattle.pages.specs.Page.{stretch};
 ghost use Rattle.buffers.specs.Lists.{written};
-ghost use Rattle.waiting.specs.Gather.{stretch};
-ghost use Rattle.planning.specs.Sources.{named};
+ghost use Rattle.planning.specs.Sources.{namedItem};
 
 fn word_named(words: &[u64], source: u32, newword: u64) -> u64
-    ensures { λ r. ⌜ r ≡ named (now (words .entry)) newword source ⌝ }
+    ensures { λ r. ⌜ r ≡ namedItem (now (words .entry)) newword source ⌝ }
 {
     if source == 0 {
         return 0;
@@ -22,7 +22,7 @@ fn word_named(words: &[u64], source: u32, newword: u64) -> u64
 }
 
 fn number_named(numbers: &[u32], source: u32, newnumber: u32) -> u32
-    ensures { λ r. ⌜ r ≡ named (now (numbers .entry)) newnumber source ⌝ }
+    ensures { λ r. ⌜ r ≡ namedItem (now (numbers .entry)) newnumber source ⌝ }
 {
     if source == 0 {
         return 0;
@@ -35,7 +35,7 @@ fn number_named(numbers: &[u32], source: u32, newnumber: u32) -> u32
 }
 
 fn owner_named(owners: &[u8], source: u32, newowner: u8) -> u8
-    ensures { λ r. ⌜ r ≡ named (now (owners .entry)) newowner source ⌝ }
+    ensures { λ r. ⌜ r ≡ namedItem (now (owners .entry)) newowner source ⌝ }
 {
     if source == 0 {
         return 0;
@@ -57,7 +57,7 @@ fn fetch_words(
 )
     requires { ⌜ at + items ≤ length (now pool) ⌝ }
     requires { ⌜ at + items ≤ length (now waiting) ⌝ }
-    ensures { λ _. ⌜ now (waiting .exit) ≡ paste (now (waiting .entry)) at (map (named (now (words .entry)) newword) (drop at (now (pool .entry)))) items ⌝ }
+    ensures { λ _. ⌜ now (waiting .exit) ≡ paste (now (waiting .entry)) at (map (namedItem (now (words .entry)) newword) (drop at (now (pool .entry)))) items ⌝ }
 {
     let mut i = 0;
     while i < items {
@@ -76,7 +76,7 @@ fn fetch_owners(
 )
     requires { ⌜ at + items ≤ length (now pool) ⌝ }
     requires { ⌜ at + items ≤ length (now poolowners) ⌝ }
-    ensures { λ _. ⌜ now (poolowners .exit) ≡ paste (now (poolowners .entry)) at (map (named (now (owners .entry)) newowner) (drop at (now (pool .entry)))) items ⌝ }
+    ensures { λ _. ⌜ now (poolowners .exit) ≡ paste (now (poolowners .entry)) at (map (namedItem (now (owners .entry)) newowner) (drop at (now (pool .entry)))) items ⌝ }
 {
     let mut i = 0;
     while i < items {
@@ -87,7 +87,7 @@ fn fetch_owners(
 
 fn fetch_numbers(numbers: &[u32], pool: &mut [u32], at: usize, items: usize, newnumber: u32)
     requires { ⌜ at + items ≤ length (now pool) ⌝ }
-    ensures { λ _. ⌜ now (pool .exit) ≡ paste (now (pool .entry)) at (map (named (now (numbers .entry)) newnumber) (drop at (now (pool .entry)))) items ⌝ }
+    ensures { λ _. ⌜ now (pool .exit) ≡ paste (now (pool .entry)) at (map (namedItem (now (numbers .entry)) newnumber) (drop at (now (pool .entry)))) items ⌝ }
 {
     let mut i = 0;
     while i < items {
@@ -113,9 +113,9 @@ pub fn fetch(
     requires { ⌜ at + items ≤ length (now pool) ⌝ }
     requires { ⌜ at + items ≤ length (now waiting) ⌝ }
     requires { ⌜ at + items ≤ length (now poolowners) ⌝ }
-    ensures { λ _. ⌜ now (pool .exit) ≡ paste (now (pool .entry)) at (map (named (now (numbers .entry)) newnumber) (drop at (now (pool .entry)))) items ⌝ }
-    ensures { λ _. ⌜ now (waiting .exit) ≡ paste (now (waiting .entry)) at (map (named (now (words .entry)) newword) (drop at (now (pool .entry)))) items ⌝ }
-    ensures { λ _. ⌜ now (poolowners .exit) ≡ paste (now (poolowners .entry)) at (map (named (now (owners .entry)) newowner) (drop at (now (pool .entry)))) items ⌝ }
+    ensures { λ _. ⌜ now (pool .exit) ≡ paste (now (pool .entry)) at (map (namedItem (now (numbers .entry)) newnumber) (drop at (now (pool .entry)))) items ⌝ }
+    ensures { λ _. ⌜ now (waiting .exit) ≡ paste (now (waiting .entry)) at (map (namedItem (now (words .entry)) newword) (drop at (now (pool .entry)))) items ⌝ }
+    ensures { λ _. ⌜ now (poolowners .exit) ≡ paste (now (poolowners .entry)) at (map (namedItem (now (owners .entry)) newowner) (drop at (now (pool .entry)))) items ⌝ }
 {
     fetch_words(words, pool, waiting, at, items, newword);
     fetch_owners(owners, pool, poolowners, at, items, newowner);
@@ -170,9 +170,9 @@ pub fn apply(
     requires { ⌜ ((lo + count) * places ≤ length (now pool)) × ((lo + count) * places ≤ length (now waiting)) ⌝ }
     requires { ⌜ ((lo + count) * places ≤ length (now owners)) × ((lo + count) * places ≤ length (now poolowners)) ⌝ }
     ensures { λ _. ⌜ now (separators .exit) ≡ written lo (take count (drop lo (now (planned .entry)))) (now (separators .entry)) ⌝ }
-    ensures { λ _. ⌜ now (numbers .exit) ≡ written (lo * places) (map (named (now (numbers .entry)) newnumber) (stretch places lo count (now (pool .entry)))) (now (numbers .entry)) ⌝ }
-    ensures { λ _. ⌜ now (words .exit) ≡ written (lo * places) (map (named (now (words .entry)) newword) (stretch places lo count (now (pool .entry)))) (now (words .entry)) ⌝ }
-    ensures { λ _. ⌜ now (owners .exit) ≡ written (lo * places) (map (named (now (owners .entry)) newowner) (stretch places lo count (now (pool .entry)))) (now (owners .entry)) ⌝ }
+    ensures { λ _. ⌜ now (numbers .exit) ≡ written (lo * places) (map (namedItem (now (numbers .entry)) newnumber) (stretch places lo count (now (pool .entry)))) (now (numbers .entry)) ⌝ }
+    ensures { λ _. ⌜ now (words .exit) ≡ written (lo * places) (map (namedItem (now (words .entry)) newword) (stretch places lo count (now (pool .entry)))) (now (words .entry)) ⌝ }
+    ensures { λ _. ⌜ now (owners .exit) ≡ written (lo * places) (map (namedItem (now (owners .entry)) newowner) (stretch places lo count (now (pool .entry)))) (now (owners .entry)) ⌝ }
 {
     let at = lo * places;
     let items = count * places;

@@ -9,6 +9,7 @@ use lib.Dec.{ltb}
 use lib.ListN.{length, drop, getD, length-map, List·getD-map}
 use lib.Seq.{paste, getD-take, getD-drop}
 use borrow.Author.Tests.{lt-ltb, not-false}
+use Rattle.pages.specs.Page.{stretch}
 use Rattle.hashing.specs.declared.Parameters.{Parameters}
 use Rattle.hashing.specs.declared.Growth.{Growth}
 use Rattle.hashing.specs.Limits.{validParameters}
@@ -20,7 +21,6 @@ use Rattle.placement.specs.Hash.{hashOf, soundAt, homeIn, homesOf}
 use Rattle.placement.proofs.Sound.{AllSound}
 use Rattle.placement.proofs.Tested.{item-on, real-facts}
 use Rattle.waiting.specs.Lists.{all, allBelow}
-use Rattle.waiting.specs.Gather.{stretch}
 use Rattle.waiting.proofs.Lists.{all-cons}
 use Rattle.reach.specs.Reach.{firstUnsound}
 use Rattle.reach.proofs.Search.{such}

@@ -5,12 +5,13 @@ use mathlib.Core.List.{List, [], map}
 use Prim.Native.Nat.{ℕ, _+_, _*_, _^_, _≤_, _<_}
 use lib.Dec.{eqb}
 use lib.ListN.{length}
+use Rattle.pages.specs.Page.{stretch}
 use Rattle.hashing.specs.declared.Parameters.{Parameters}
 use Rattle.placement.specs.Rule.{Contents}
 use Rattle.placement.specs.File.{File, replaced}
 use Rattle.placement.proofs.Mapping.{mapped}
 use Rattle.waiting.specs.Lists.{allBelow}
-use Rattle.waiting.specs.Gather.{stretch, stretchWords}
+use Rattle.waiting.specs.Gather.{stretchWords}
 use Rattle.planning.specs.Sources.{renamed}
 use Rattle.planning.specs.Plans.{plans, remains}
 

@@ -14,7 +14,7 @@ use Rattle.placement.specs.File.{File}
 use Rattle.placement.specs.Hash.{lent}
 use Rattle.calls.specs.declared.answers.Refusal.{Refusal}
 use Rattle.calls.specs.declared.answers.Answer.{Answer}
-use Rattle.calls.specs.Answers.{After, Pool, Leaves, accepted, numberOf, refusedBy}
+use Rattle.calls.specs.Answers.{After, Pool, Leaves, accepted, refusalNumber, refusedBy}
 use Rattle.calls.specs.Calls.{unless, orElse, unlent, makeOf, fileFits, emptyFile}
 use Rattle.calls.proofs.Refusals.{leaves, sized, turned-away}
 
@@ -31,7 +31,7 @@ new-guard p lengths = go (validParameters p) refl
     go false e = refl
 
 module _ (p : Parameters) (f : File) (pool : Pool) where
-  pub make-refused : (r : Refusal) → numberOf r ≡ unlent p ungrown (fileFits p f) → Leaves (makeOf p f pool) (refusedBy r 0) f pool × (ungrown ≡ makeOf p f pool .growth)
+  pub make-refused : (r : Refusal) → refusalNumber r ≡ unlent p ungrown (fileFits p f) → Leaves (makeOf p f pool) (refusedBy r 0) f pool × (ungrown ≡ makeOf p f pool .growth)
   unfolding makeOf
   make-refused r e =
       made-by (makeOf p f pool) (refusedBy r 0) ungrown f pool

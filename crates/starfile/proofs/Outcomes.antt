@@ -7,6 +7,7 @@ use native.Mathlib.Nat.{mod-lt, div-lt-iff-lt-mul}
 use native.Mathlib.Omega.{arith}
 use lib.Dec.{ltb}
 use borrow.Author.Tests.{ltb-true}
+use Rattle.placement.specs.Hash.{hashOf}
 use Rattle.hashing.specs.declared.Parameters.{Parameters}
 use Rattle.hashing.specs.declared.Growth.{Growth}
 use Rattle.hashing.specs.Limits.{validParameters}
@@ -19,7 +20,7 @@ use Rattle.replacing.specs.Calls.{growthAnswer, growthFile}
 use Rattle.comparing.specs.declared.checking.Verdict.the-variants.{Clean, Differs, Unsound as verdict·Unsound}
 use Rattle.comparing.specs.Verdicts.{verdictOf}
 use Rattle.calls.specs.Answers.{Pool, placed, checked, refusedBy, accepted, refused, spotted}
-use Rattle.calls.specs.Calls.{hash, unchanged, regrowTo, checkedAt, allStars}
+use Rattle.calls.specs.Calls.{unchanged, regrowTo, checkedAt, allStars}
 use Rattle.updating.specs.Outcomes.{ReplacedSmall}
 use Rattle.updating.proofs.Outcomes.{unsound-most}
 use Rattle.starfile.specs.Outcomes.{replacedGrown, VerdictSmall, verdictChecked}
@@ -27,7 +28,7 @@ use Rattle.starfile.specs.Outcomes.{replacedGrown, VerdictSmall, verdict
 module _ (p : Parameters) (g : Growth) (f : File) (v : validParameters p ≡ true) where
   pub growth-small : (next : Growth) → ReplacedSmall (growthAnswer p g f next)
   unfolding growthAnswer
-  growth-small next = go (ltb (firstUnsound p g f 0 (p .pages)) (p .pages)) (isEmpty (left (hash p next) 0 (p .pages) (allStars p f)))
+  growth-small next = go (ltb (firstUnsound p g f 0 (p .pages)) (p .pages)) (isEmpty (left (hashOf p next) 0 (p .pages) (allStars p f)))
     where
       go : (t u : Bool) → ReplacedSmall (cond t (replaced·Unsound (firstUnsound p g f 0 (p .pages))) (cond u Done replaced·Overflows))
       go true u = omega (arith, unsound-most p g f 0 (p .pages), limits p v .pages-most)
@@ -56,11 +57,11 @@ module _ (p : Parameters) (g : Growth) (f : File) (pool : Pool) where
   regrown-is next page =
       grown-cases
       (ltb (firstUnsound p g f 0 (p .pages)) (p .pages))
-      (isEmpty (left (hash p next) 0 (p .pages) (allStars p f)))
+      (isEmpty (left (hashOf p next) 0 (p .pages) (allStars p f)))
       (firstUnsound p g f 0 (p .pages))
       page
       next
-      (replaced (p .places) f 0 (pages (hash p next) 0 (p .pages) (allStars p f)))
+      (replaced (p .places) f 0 (pages (hashOf p next) 0 (p .pages) (allStars p f)))
 
 module _ (p : Parameters) (v : validParameters p ≡ true) (bad spot : ℕ) where
   pub verdict-is : checked (verdictChecked (verdictOf p bad spot) (p .places)) ≡ checkedAt p bad spot

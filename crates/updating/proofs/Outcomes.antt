@@ -28,7 +28,7 @@ use Rattle.replacing.specs.declared.Replaced.the-variants.{Done, Unsound as rep
 use Rattle.replacing.specs.Calls.{removalAnswer, removalFile}
 use Rattle.replacing.specs.Calls as removal
 use Rattle.calls.specs.Answers.{Pool, placed, refusedBy, acceptedAt, refusedAt}
-use Rattle.calls.specs.Calls.{hash, unchanged, enterTo, cascadeFrom, removeTo}
+use Rattle.calls.specs.Calls.{unchanged, enterTo, cascadeFrom, removeTo}
 use Rattle.updating.specs.Outcomes.{EntrySmall, entryPlaced, ReplacedSmall, replacedPlaced}
 
 holding-most : (k from : ℕ) (cs : List Contents) → holding k from cs ≤ from + length cs
@@ -50,9 +50,9 @@ pub unsound-most : (p : Parameters) (g : Growth) (f : File) (from n : ℕ) → f
 unfolding firstUnsound
 unsound-most p g f from n = such (λ (q : ℕ). not (soundAt p g f q)) from n .high
 
-removal-most : (p : Parameters) (g : Growth) (f : File) (from : ℕ) → from < p .pages → from + pagesTo from (removalEnd (hash p g) (p .pages) f from) ≤ p .pages
+removal-most : (p : Parameters) (g : Growth) (f : File) (from : ℕ) → from < p .pages → from + pagesTo from (removalEnd (hashOf p g) (p .pages) f from) ≤ p .pages
 unfolding removalEnd
-removal-most p g f from h = stretch-most (storedTop (f .separators) (hash p g .top)) from (p .pages) h
+removal-most p g f from h = stretch-most (storedTop (f .separators) (hashOf p g .top)) from (p .pages) h
 
 module _ (p : Parameters) (g : Growth) (f : File) (v : validParameters p ≡ true) (w : validGrowth p g ≡ true) where
   module _ (s : Star) where
@@ -68,14 +68,14 @@ module _ (p : Parameters) (g : Growth) (f : File) (v : validParameters p ≡ tru
         omega (
           arith,
           holding-most (s .number) (entry.startOf p g (s .number)) (entry.contentsOf p g f s),
-          length-pages (hash p g) (entry.startOf p g (s .number)) (entry.countOf p g f s) (entering (hash p g) f s (entry.endOf p g f s)),
+          length-pages (hashOf p g) (entry.startOf p g (s .number)) (entry.countOf p g f s) (entering (hashOf p g) f s (entry.endOf p g f s)),
           inside,
           limits p v .pages-most,
         )
 
     pub entry-small : EntrySmall (entryAnswer p g f s)
     unfolding entryAnswer
-    entry-small = go (ltb (entry.unsoundOf p g f s) (entry.startOf p g (s .number) + entry.countOf p g f s)) (entersWithin (hash p g) f s (entry.endOf p g f s))
+    entry-small = go (ltb (entry.unsoundOf p g f s) (entry.startOf p g (s .number) + entry.countOf p g f s)) (entersWithin (hashOf p g) f s (entry.endOf p g f s))
       where
         go : (t u : Bool) → EntrySmall (cond t (Unsound (entry.unsoundOf p g f s)) (cond u (On (holding (s .number) (entry.startOf p g (s .number)) (entry.contentsOf p g f s))) Overflows))
         go true u = bad-small
@@ -87,7 +87,7 @@ module _ (p : Parameters) (g : Growth) (f : File) (v : validParameters p ≡ tru
   cascade-small s page h = go (ltb (unsoundOf p g f s page) (stopOf p g f s page)) (isEmpty (overflow p g f s page))
     where
       few : stopOf p g f s page ≤ p .pages
-      few = omega (arith, length-cascaded (hash p g) f page (p .pages - page) (s ∷ []))
+      few = omega (arith, length-cascaded (hashOf p g) f page (p .pages - page) (s ∷ []))
 
       go : (t u : Bool) → EntrySmall (cond t (Unsound (unsoundOf p g f s page)) (cond u (On (holding (s .number) page (visited p g f s page))) Overflows))
       go true u = omega (arith, unsound-most p g f page (length (visited p g f s page)), few, limits p v .pages-most)
@@ -122,7 +122,7 @@ module _ (p : Parameters) (g : Growth) (f : File) (pool : Pool) where
     entered-is place =
         entered-cases
         (ltb (entry.unsoundOf p g f s) (entry.startOf p g (s .number) + entry.countOf p g f s))
-        (entersWithin (hash p g) f s (entry.endOf p g f s))
+        (entersWithin (hashOf p g) f s (entry.endOf p g f s))
         (entry.unsoundOf p g f s)
         (holding (s .number) (entry.startOf p g (s .number)) (entry.contentsOf p g f s))
         place
@@ -149,8 +149,8 @@ module _ (p : Parameters) (g : Growth) (f : File) (pool : Pool) where
   removed-cases false bad page place next = (refl, refl)
 
   pub removed-is : (page k place : ℕ)
-      → (placed (replacedPlaced (removalAnswer p g f k) page place) ≡ removeTo p g f pool page k place (removalEnd (hash p g) (p .pages) f (hash p g .home k)) .answer)
-      × (removalFile p g f k ≡ removeTo p g f pool page k place (removalEnd (hash p g) (p .pages) f (hash p g .home k)) .file)
+      → (placed (replacedPlaced (removalAnswer p g f k) page place) ≡ removeTo p g f pool page k place (removalEnd (hashOf p g) (p .pages) f (hashOf p g .home k)) .answer)
+      × (removalFile p g f k ≡ removeTo p g f pool page k place (removalEnd (hashOf p g) (p .pages) f (hashOf p g .home k)) .file)
   unfolding removalAnswer removalFile removeTo
   removed-is page k place =
       removed-cases
@@ -159,4 +159,4 @@ module _ (p : Parameters) (g : Growth) (f : File) (pool : Pool) where
       page
       place
       (replaced (p .places) f (removal.startOf p g k)
-      (pages (hash p g) (removal.startOf p g k) (removal.countOf p g f k) (without k (gathered (p .places) f (removal.startOf p g k) (removal.countOf p g f k)))))
+      (pages (hashOf p g) (removal.startOf p g k) (removal.countOf p g f k) (without k (gathered (p .places) f (removal.startOf p g k) (removal.countOf p g f k)))))

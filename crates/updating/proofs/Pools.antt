@@ -5,6 +5,7 @@ use mathlib.Core.List.{List}
 use Prim.Native.Nat.{ℕ, _+_}
 use lib.Dec.{ltb}
 use lib.ListN.{length, replicate}
+use Rattle.placement.specs.Hash.{hashOf}
 use Rattle.hashing.specs.declared.Parameters.{Parameters}
 use Rattle.hashing.specs.declared.Growth.{Growth}
 use Rattle.pages.specs.declared.position.Position.{Position}
@@ -16,7 +17,7 @@ use Rattle.cascading.specs.Cascade.{overflow, stopOf, unsoundOf}
 use Rattle.reach.specs.Reach.{pagesTo, entryEnd, removalEnd, entersWithin, firstUnsound, isEmpty}
 use Rattle.calls.specs.declared.answers.Answer.{Answer}
 use Rattle.calls.specs.Answers.{After, Pool, Leaves, Stores, pooled, cleared, zeros}
-use Rattle.calls.specs.Calls.{hash, guarded, named, readable, holds, placeFor, entryRefusal, entered, ownerFor, mayAlter, allowed, enterOf, enterOn, enterTo, cascadeOf, cascadeOn, cascadeFrom, removeOn, removeTo, regrowTo, allStars}
+use Rattle.calls.specs.Calls.{guarded, named, readable, holds, placeFor, entryRefusal, entered, ownerFor, mayAlter, allowed, enterOf, enterOn, enterTo, cascadeOf, cascadeOn, cascadeFrom, removeOn, removeTo, regrowTo, allStars}
 use Rattle.updating.specs.Outcomes.{entryFrom, entryOn, entryOf}
 
 pub unheld : (p : Parameters) (g : Growth) (f : File) (k : ℕ) → readable p g f (named p g f k) ≡ true → holds p f (named p g f k) k ≡ false → Unheld p g f k
@@ -54,9 +55,9 @@ module _ (p : Parameters) (g : Growth) (f : File) (pool : Pool) where
           unfold cascadeFrom in
           cases-pool (ltb (unsoundOf p g f s page) (stopOf p g f s page)) (isEmpty (overflow p g f s page)) _ _ _ pool refl refl refl
 
-      reached : enterTo p g f pool s (placeFor p f page (s .number)) (entryEnd (hash p g) (p .pages) f s) .pool ≡ pool
+      reached : enterTo p g f pool s (placeFor p f page (s .number)) (entryEnd (hashOf p g) (p .pages) f s) .pool ≡ pool
       reached =
-          let H = hash p g in
+          let H = hashOf p g in
           let from = H .home (s .number) in
           let to = entryEnd H (p .pages) f s in
           unfold enterTo in
@@ -80,7 +81,7 @@ module _ (p : Parameters) (g : Growth) (f : File) (pool : Pool) where
   pub remove-pool : (page caller k : ℕ) → removeOn p g f pool page caller k .pool ≡ pool
   unfolding removeOn removeTo allowed
   remove-pool page caller k =
-      let H = hash p g in
+      let H = hashOf p g in
       let from = H .home k in
       let to = removalEnd H (p .pages) f from in
       named-pool (readable p g f page) (holds p f page k) _ _ _ pool
@@ -93,4 +94,4 @@ module _ (p : Parameters) (g : Growth) (f : File) (pool : Pool) where
   pub regrow-pool : (next : Growth) (page : ℕ) → regrowTo p g f pool next page .pool ≡ pool
   unfolding regrowTo
   regrow-pool next page =
-      cases-pool (ltb (firstUnsound p g f 0 (p .pages)) (p .pages)) (isEmpty (left (hash p next) 0 (p .pages) (allStars p f))) _ _ _ pool refl refl refl
+      cases-pool (ltb (firstUnsound p g f 0 (p .pages)) (p .pages)) (isEmpty (left (hashOf p next) 0 (p .pages) (allStars p f))) _ _ _ pool refl refl refl

@@ -1,6 +1,7 @@
 -- The answers of an entry and of a stretch placed anew, as answers of the calls. Their pages are small enough for 32 bits.
 use mathlib.Core.Bool.{Bool, cond}
 use Prim.Native.Nat.{ℕ, _^_, _<_}
+use Rattle.placement.specs.Hash.{hashOf}
 use Rattle.hashing.specs.declared.Parameters.{Parameters}
 use Rattle.hashing.specs.declared.Growth.{Growth}
 use Rattle.pages.specs.declared.position.Position.{Position}
@@ -15,7 +16,7 @@ use Rattle.calls.specs.declared.answers.Refusal.the-variants.{Damaged, Full}
 use Rattle.calls.specs.declared.answers.Placed.{Placed}
 use Rattle.calls.specs.declared.answers.Placed.the-variants.{On as placed·On, Refused}
 use Rattle.calls.specs.Answers.{Pool, After}
-use Rattle.calls.specs.Calls.{hash, placeFor, unlessHeld, enterTo, enterOf, cascadeFrom, cascadeOf}
+use Rattle.calls.specs.Calls.{placeFor, unlessHeld, enterTo, enterOf, cascadeFrom, cascadeOf}
 
 abbrev pub EntrySmall : Entered → Type 0
 EntrySmall (On page) = page < 2 ^ 32
@@ -32,7 +33,7 @@ abbrev pub entryFrom : Bool → Parameters → Growth → File → Pool → ℕ 
 entryFrom cascading p g f pool page s =
     cond cascading
     (cascadeFrom p g f pool s (placeFor p f page (s .number)) page)
-    (enterTo p g f pool s (placeFor p f page (s .number)) (entryEnd (hash p g) (p .pages) f s))
+    (enterTo p g f pool s (placeFor p f page (s .number)) (entryEnd (hashOf p g) (p .pages) f s))
 
 abbrev pub entryOn : Bool → Parameters → Growth → File → Pool → ℕ → Star → After
 entryOn cascading p g f pool page s = unlessHeld p g f pool page s (entryFrom cascading p g f pool page s)

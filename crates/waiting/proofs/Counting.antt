@@ -10,7 +10,7 @@ use lib.Dec.{eqb}
 use lib.ListN.{length, getD, set, length-set}
 use lib.Seq.{getD-set-same, getD-set-other, slice, slice-cons, slice-empty, length-slice}
 use borrow.Author.Tests.{eqb-true, eqb-false, eq-eqb, ne-eqb}
-use Rattle.waiting.specs.Lists.{filter, alike, sumTo}
+use Rattle.waiting.specs.Lists.{selected, alike, sumTo}
 use Rattle.waiting.proofs.Lists.{filter-length, filter-true, filter-false}
 
 pub alike-here : (f : ℕ → ℕ) (v x : ℕ) (l : List ℕ) → f x ≡ v → alike f v (x ∷ l) ≡ x ∷ alike f v l
@@ -111,5 +111,5 @@ module _ (f : ℕ → ℕ) (n : ℕ) (l : List ℕ) (from reach : ℕ) (counts :
       omega (arith, L .lacks g h, filter-length (λ x. eqb (f x) g) (slice from reach l), length-slice from reach l (L .inside))
 
   pub lacking-all : i ≡ reach → (v : ℕ) → v < n → getD counts v 0 ≡ length (alike f v (slice from reach l))
-  unfolding filter
+  unfolding selected
   lacking-all e v h = sym (add-zero (getD counts v 0)) ∙ rw (e, slice-empty reach l) at (L .lacks v h)

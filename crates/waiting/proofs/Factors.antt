@@ -13,7 +13,7 @@ use Rattle.hashing.specs.Geometry.{multiplierOf}
 use Rattle.generator.proofs.Powers.{power-below}
 use Rattle.generator.proofs.Products.{signature-by}
 use Rattle.waiting.specs.declared.signing.Factor.{Factor}
-use Rattle.waiting.specs.Words.{homeOf, numberOf}
+use Rattle.waiting.specs.Words.{homeOf, numberIn}
 use Rattle.waiting.specs.Settle.{Signed, factorOf, signatureOf}
 use Rattle.waiting.proofs.Counting.{set-here, set-elsewhere}
 
@@ -26,10 +26,10 @@ module _ (q : Parameters) (f : Factor) (t : ℕ) (e : f ≡ factorOf q t) where
   unfolding factorOf
   factor-below = rw (ap (λ (g : Factor). g .value) e) (power-below (multiplierOf q) (2 * t + 1))
 
-pub factor-signs : (q : Parameters) (p w : ℕ) (f : Factor) → f ≡ factorOf q (p - homeOf w + 1) → f .value * numberOf w % modulus % topOf (q .bits) ≡ signatureOf q p w
+pub factor-signs : (q : Parameters) (p w : ℕ) (f : Factor) → f ≡ factorOf q (p - homeOf w + 1) → f .value * numberIn w % modulus % topOf (q .bits) ≡ signatureOf q p w
 unfolding factorOf signatureOf
 factor-signs q p w f e =
-    ap (λ (g : Factor). g .value * numberOf w % modulus % topOf (q .bits)) e ∙ signature-by (multiplierOf q) (q .bits) (numberOf w) (p - homeOf w + 1)
+    ap (λ (g : Factor). g .value * numberIn w % modulus % topOf (q .bits)) e ∙ signature-by (multiplierOf q) (q .bits) (numberIn w) (p - homeOf w + 1)
 
 pub signed-none : (q : Parameters) (p from : ℕ) (W signatures : List ℕ) → length signatures ≡ 256 → Signed q p from from W signatures
 signed-none q p from W signatures size = record { size = size; signs = λ k lo hi near. omega arith }

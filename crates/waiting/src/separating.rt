@@ -4,7 +4,7 @@ ghost use Prim.Native.Nat.{ℕ, _+_, _≤_, _<_};
 ghost use lib.ListN.{length};
 ghost use lib.Seq.{slice};
 ghost use Rattle.waiting.specs.Lists.{sumTo};
-ghost use Rattle.waiting.specs.Settle.{Signers, Probing, Signed, separatorFrom};
+ghost use Rattle.waiting.specs.Settle.{Signers, Probing, Signed, wordsSeparatorFrom};
 use crate::signing::tally_signatures;
 use hashing::Parameters;
 use placement::top_of;
@@ -53,7 +53,7 @@ pub fn separator_under(
     requires { ⌜ Signers parameters (now table) ⌝ }
     requires { ⌜ Probing page from reach (now waiting) ⌝ }
     requires { ⌜ (most ≤ 255) × (length (now signatures) ≡ 256) ⌝ }
-    ensures { λ r. ⌜ r ≡ separatorFrom parameters page (slice from reach (now (waiting .entry))) most ⌝ }
+    ensures { λ r. ⌜ r ≡ wordsSeparatorFrom parameters page (slice from reach (now (waiting .entry))) most ⌝ }
     ensures { λ _. ⌜ Signed parameters page from reach (now (waiting .entry)) (now (signatures .exit)) ⌝ }
 {
     let mut counts = [0u16; 256];

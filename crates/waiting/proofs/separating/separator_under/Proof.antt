@@ -10,7 +10,7 @@ use Rattle.generator.specs.Generator.{topOf}
 use Rattle.hashing.proofs.Bounds.{Limits, limits}
 use Rattle.generator.proofs.Scrambling.{top-most}
 use Rattle.waiting.specs.Lists.{sumTo}
-use Rattle.waiting.specs.Settle.{staying}
+use Rattle.waiting.specs.Settle.{stayingWords}
 use Rattle.waiting.proofs.Cutting.{staying-sum, staying-length, staying-full, separator-found}
 use Rattle.waiting.proofs.separating.separator_under.Statement.{statement}
 use Rattle.waiting.proofs.separating.separator_under.Tie as tie
@@ -25,7 +25,7 @@ bounds : (s : tie.Start) → Limits (s .args .parameters)
 bounds s = limits (s .args .parameters) (s .pre .0 .valid)
 
 sums : (k : tie.After-tally-signatures) (v : ℕ) → v ≤ 256
-    → sumTo v (k .tally-signatures .last .1 .1 .1 .1 .1 .1 .0) ≡ length (staying (start k .args .parameters) (start k .args .page) v (probing (start k)))
+    → sumTo v (k .tally-signatures .last .1 .1 .1 .1 .1 .1 .0) ≡ length (stayingWords (start k .args .parameters) (start k .args .page) v (probing (start k)))
 sums k v h = staying-sum (start k .args .parameters) (start k .args .page) (probing (start k)) (k .tally-signatures .last .1 .1 .1 .1 .1 .1 .0) (k .tally-signatures .ensures .1 .0) v h
 
 -- all signatures are below the greatest separator
