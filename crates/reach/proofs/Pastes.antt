@@ -1,7 +1,7 @@
 -- Items pasted page by page are pasted in one.
 use mathlib.Core.Path.{_≡_}
-use mathlib.Core.List.{List, [], append-assoc}
-use Prim.Native.Nat.{ℕ, _+_, _-_, _≤_}
+use mathlib.Core.List.{List, append-assoc}
+use Prim.Native.Nat.{ℕ, _+_, _≤_}
 use native.Mathlib.Nat.{add-assoc}
 use lib.ListN.{length, take, drop}
 use lib.Seq.{paste, take-paste, drop-paste, drop-drop, take-add}

@@ -49,7 +49,7 @@ lent-well : (c : tie.After-enum-told) → Admitted (begun c .args .parameters) u
 lent-well c = admitted _ _ _ (none c)
 
 top-of-requires : tie.Need-top-of-requires
-top-of-requires c κs = lent-well (c .before) .homing .valid
+top-of-requires c κs = lent-well c .homing .valid
 
 fill-8-requires : tie.Need-fill-8-requires
 fill-8-requires c κs = search needs
@@ -77,7 +77,7 @@ returns-2 c =
     make-empty (s .args .parameters) (fileOf s) unpooled _ _ _ _
     (lent-well d .homing .valid)
     (unlent-facts _ _ _ (none d) .1)
-    (c .before .before .before .before .before .before .before .before .before .before .before .before .fill-8 .ensures ∙ ap (replicate {A = ℕ} (length (now (s .args .separators)))) (c .before .before .before .before .before .before .before .before .before .before .before .before .before .top-of .ensures))
+    (c .before .before .before .before .before .before .before .before .before .before .before .before .fill-8 .ensures ∙ ap (replicate {A = ℕ} (length (now (s .args .separators)))) (c .before .before .before .before .before .before .before .before .before .before .before .before .before .before .top-of .ensures))
     (c .before .before .before .before .before .before .clear .ensures .0)
     (c .before .before .before .before .before .before .clear .ensures .1 .0)
     (c .before .before .before .before .before .before .clear .ensures .1 .1)
