@@ -1,4 +1,4 @@
--- The multiplier of a signature, kept from word to word, and the signatures of the first words. Assumes nothing.
+-- The multiplier of a signature, kept from word to word, and the signatures of the last words. Assumes nothing.
 use mathlib.Core.Path.{_≡_, refl, ap, sym, _∙_}
 use mathlib.Core.Bool.{Bool, true, false}
 use mathlib.Core.List.{List}
@@ -34,22 +34,19 @@ factor-signs q p w f e =
 pub signed-none : (q : Parameters) (p from : ℕ) (W signatures : List ℕ) → length signatures ≡ 256 → Signed q p from from W signatures
 signed-none q p from W signatures size = record { size = size; signs = λ k lo hi near. omega arith }
 
-module _ (q : Parameters) (p from i : ℕ) (W signatures : List ℕ) (S : Signed q p from i W signatures) (least : from ≤ i) where
-  pub signed-next : (s : ℕ) → i - from < 256 → s ≡ signatureOf q p (getD W i 0) → Signed q p from (i + 1) W (set signatures (i - from) s)
-  signed-next s near e =
-      record {
-        size = length-set signatures (i - from) s ∙ S .size;
-        signs = λ k lo hi close. go k lo hi close (eqb i k) refl;
-      }
-    where
-      go : (k : ℕ) → from ≤ k → k < i + 1 → k - from < 256 → (t : Bool) → eqb i k ≡ t → getD (set signatures (i - from) s) (k - from) 0 ≡ signatureOf q p (getD W k 0)
-      go k lo hi close true f =
-          let same : i ≡ k = eqb-true i k f in
-          set-here signatures (i - from) (k - from) s (ap (λ (n : ℕ). n - from) same) (omega (arith, S .size)) ∙ e ∙ ap (λ (n : ℕ). signatureOf q p (getD W n 0)) same
-      go k lo hi close false f =
-          let other : i ≡ k → ⊥ = eqb-false i k f in
-          set-elsewhere signatures (i - from) (k - from) s (λ h. other (omega arith)) ∙ S .signs k lo (omega arith) close
-
-  -- what is far behind is not kept
-  pub signed-far : 256 ≤ i - from → Signed q p from (i + 1) W signatures
-  signed-far far = record { size = S .size; signs = λ k lo hi close. S .signs k lo (omega arith) close }
+pub signed-next : (q : Parameters) (p from i : ℕ) (W signatures : List ℕ) → Signed q p from i W signatures → (s : ℕ) → s ≡ signatureOf q p (getD W i 0)
+    → Signed q p from (i + 1) W (set signatures (i % 256) s)
+signed-next q p from i W signatures S s e =
+    record {
+      size = length-set signatures (i % 256) s ∙ S .size;
+      signs = λ k lo hi near. go k lo hi near (eqb i k) refl;
+    }
+  where
+    go : (k : ℕ) → from ≤ k → k < i + 1 → i + 1 ≤ k + 256 → (t : Bool) → eqb i k ≡ t → getD (set signatures (i % 256) s) (k % 256) 0 ≡ signatureOf q p (getD W k 0)
+    go k lo hi near true f =
+        let same : i ≡ k = eqb-true i k f in
+        set-here signatures (i % 256) (k % 256) s (ap (λ (n : ℕ). n % 256) same) (omega (arith, S .size)) ∙ e ∙ ap (λ (n : ℕ). signatureOf q p (getD W n 0)) same
+    go k lo hi near false f =
+        let other : i ≡ k → ⊥ = eqb-false i k f in
+        let less : k < i = omega arith in
+        set-elsewhere signatures (i % 256) (k % 256) s (λ h. omega arith) ∙ S .signs k lo less (omega arith)

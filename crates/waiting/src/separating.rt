@@ -39,7 +39,7 @@ fn cut(counts: &[u16; 256], top: u32, all: usize, room: usize) -> u32
     v
 }
 
-// The greatest separator up to `most` under which there is room for the words that stay. The signatures of the first words are kept.
+// The greatest separator up to `most` under which there is room for the words that stay. The signatures of the last words are kept.
 pub fn separator_under(
     table: &[u32; 63],
     parameters: Parameters,

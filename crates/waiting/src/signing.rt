@@ -1,7 +1,7 @@
-// The signatures of the words that probe a page, computed once and counted.
+// The signatures of the words that probe a page, and their counts.
 ghost use mathlib.Core.Path.{_≡_};
 ghost use mathlib.Core.Bool.{true};
-ghost use Prim.Native.Nat.{ℕ, _+_, _-_, _≤_, _<_};
+ghost use Prim.Native.Nat.{ℕ, _+_, _-_, _%_, _≤_, _<_};
 ghost use lib.ListN.{length, getD};
 ghost use lib.Seq.{slice};
 ghost use Rattle.hashing.specs.Limits.{validParameters};
@@ -29,7 +29,7 @@ pub fn first_factor(table: &[u32; 63], parameters: Parameters) -> Factor
 }
 
 // Words of one home mostly come one after the other, so that the last one's factor is the next one's.
-fn factor_for(
+pub fn factor_for(
     table: &[u32; 63],
     parameters: Parameters,
     last: Factor,
@@ -51,7 +51,7 @@ fn factor_for(
     }
 }
 
-fn signature_of(parameters: Parameters, factor: Factor, page: usize, word: u64) -> u32
+pub fn signature_of(parameters: Parameters, factor: Factor, page: usize, word: u64) -> u32
     requires { ⌜ validParameters parameters ≡ true ⌝ }
     requires { ⌜ factor ≡ factorOf parameters (page - homeOf word + 1) ⌝ }
     ensures { λ r. ⌜ r ≡ signatureOf parameters page word ⌝ }
@@ -59,7 +59,7 @@ fn signature_of(parameters: Parameters, factor: Factor, page: usize, word: u64) 
     generator::signature_by(factor.value, parameters.bits, number_of(word))
 }
 
-// How many words have each signature; those of the first 256 words are kept.
+// How many words have each signature; those of the last 256 words are kept.
 pub fn tally_signatures(
     table: &[u32; 63],
     parameters: Parameters,
@@ -85,46 +85,22 @@ pub fn tally_signatures(
         factor = factor_for(table, parameters, factor, page, word);
         let signature = signature_of(parameters, factor, page, word);
         counts[signature as usize] += 1;
-        let j = i - from;
+        signatures[i % 256] = signature as u8;
         i += 1;
-        if j < 256 {
-            signatures[j] = signature as u8;
-        }
     }
 }
 
-// A word's signature, and the factor to go on with.
-pub struct Signature {
-    pub factor: Factor,
-    pub value: u32,
-}
-
-// Word i's signature: one of those kept, or computed once more.
-pub fn signature_at(
-    table: &[u32; 63],
+// The signature that is kept of word i.
+pub fn signature_kept(
     parameters: Parameters,
     signatures: &[u8; 256],
-    last: Factor,
     page: usize,
-    j: usize,
+    i: usize,
     word: u64,
-) -> Signature
-    requires { ⌜ Signers parameters (now table) ⌝ }
-    requires { ⌜ last ≡ factorOf parameters (last .probe) ⌝ }
-    requires { ⌜ (homeOf word ≤ page) × (page < 1024) ⌝ }
-    requires { ⌜ (j < 256 → getD (now signatures) j 0 ≡ signatureOf parameters page word) ⌝ }
-    ensures { λ r. ⌜ r .factor ≡ factorOf parameters (r .factor .probe) ⌝ }
-    ensures { λ r. ⌜ r .value ≡ signatureOf parameters page word ⌝ }
+) -> u32
+    requires { ⌜ validParameters parameters ≡ true ⌝ }
+    requires { ⌜ getD (now signatures) (i % 256) 0 ≡ signatureOf parameters page word ⌝ }
+    ensures { λ r. ⌜ r ≡ signatureOf parameters page word ⌝ }
 {
-    if j < 256 {
-        return Signature {
-            factor: last,
-            value: signatures[j] as u32,
-        };
-    }
-    let factor = factor_for(table, parameters, last, page, word);
-    Signature {
-        factor,
-        value: signature_of(parameters, factor, page, word),
-    }
+    signatures[i % 256] as u32
 }

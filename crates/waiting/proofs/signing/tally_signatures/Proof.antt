@@ -10,7 +10,7 @@ use Rattle.generator.proofs.Scrambling.{top-most}
 use Rattle.waiting.specs.Words.{homeOf}
 use Rattle.waiting.specs.Settle.{Signed, factorOf, signatureOf}
 use Rattle.waiting.proofs.Counting.{Lacking, lacking-none, lacking-next, lacking-fits, lacking-all}
-use Rattle.waiting.proofs.Factors.{factor-kept, signed-none, signed-next, signed-far}
+use Rattle.waiting.proofs.Factors.{factor-kept, signed-none, signed-next}
 use Rattle.waiting.proofs.Items.{slice-all}
 use Rattle.waiting.proofs.Cutting.{signature-small}
 use Rattle.waiting.proofs.signing.tally_signatures.Statement.{statement}
@@ -85,43 +85,26 @@ add-counts c =
 element-write-counts : tie.Need-element-write-counts Inv-loop μ-loop
 element-write-counts c = omega (arith, below (c .before))
 
-sub-j : tie.Need-sub-j Inv-loop μ-loop
-sub-j c = c .before .before .before .before .before .loop .inv .1 .0 .least
+cast-signatures : tie.Need-cast-signatures Inv-loop μ-loop
+cast-signatures c = omega (arith, below (c .before))
+
+element-write-signatures : tie.Need-element-write-signatures Inv-loop μ-loop
+element-write-signatures c = omega arith
 
 add-i : tie.Need-add-i Inv-loop μ-loop
 add-i c = omega arith
-
-cast-signatures : tie.Need-cast-signatures Inv-loop μ-loop
-cast-signatures c = omega (arith, below (c .before .before))
-
-element-write-signatures : tie.Need-element-write-signatures Inv-loop μ-loop
-element-write-signatures c = c .if1 .taken
 
 loop-less : tie.Need-loop-less Inv-loop μ-loop
 loop-less c = omega arith
 
 loop-again : tie.Need-loop-again Inv-loop μ-loop
 loop-again c =
-    let d = c .before .before in
+    let d = c .before in
     let k = d .before .before .before .before in (
       factor-kept _ _ _ (d .before .factor-for .ensures),
       (
         lacking-next _ _ _ _ _ _ _ (k .loop .inv .1 .0) _ (omega arith) (sym (d .signature-of .ensures)),
-        signed-next _ _ _ _ _ _ (k .loop .inv .1 .1) (k .loop .inv .1 .0 .least) _ (c .if1 .taken) (d .signature-of .ensures),
-      ),
-    )
-
-loop-less-2 : tie.Need-loop-less-2 Inv-loop μ-loop
-loop-less-2 c = omega arith
-
-loop-again-2 : tie.Need-loop-again-2 Inv-loop μ-loop
-loop-again-2 c =
-    let d = c .before .before in
-    let k = d .before .before .before .before in (
-      factor-kept _ _ _ (d .before .factor-for .ensures),
-      (
-        lacking-next _ _ _ _ _ _ _ (k .loop .inv .1 .0) _ (omega arith) (sym (d .signature-of .ensures)),
-        signed-far _ _ _ _ _ _ (k .loop .inv .1 .1) (k .loop .inv .1 .0 .least) (c .if1 .left),
+        signed-next _ _ _ _ _ _ (k .loop .inv .1 .1) _ (d .signature-of .ensures),
       ),
     )
 
@@ -148,12 +131,9 @@ tally-signatures-spec =
     element-copy-out-counts
     add-counts
     element-write-counts
-    sub-j
-    add-i
     cast-signatures
     element-write-signatures
+    add-i
     loop-less
     loop-again
-    loop-less-2
-    loop-again-2
     returns)
