@@ -30,7 +30,7 @@ use Rattle.entering.proofs.Reached.{ending, empty-is, unsound-ends, ove
 
 -- ---- which page holds a number
 
-member-has : (k : ℕ) (l : List Star) (s : Star) → s .number ≡ k → List·Memᴰ s l → hasNumber k l ≡ true
+pub member-has : (k : ℕ) (l : List Star) (s : Star) → s .number ≡ k → List·Memᴰ s l → hasNumber k l ≡ true
 unfolding hasNumber
 member-has k [] s e m = absurd (List·Memᴰ·not-nil m)
 member-has k (t ∷ l) s e m =

@@ -7,15 +7,21 @@ use lib.Dec.{ltb}
 use Rattle.hashing.specs.declared.Parameters.{Parameters}
 use Rattle.hashing.specs.declared.Growth.{Growth}
 use Rattle.hashing.specs.Geometry.{pageCount, grown, isUngrown, shrunk}
+use Rattle.pages.specs.Page.{part, heldAt}
 use Rattle.placement.specs.Rule.{Star, Hash, pages, left, without}
 use Rattle.placement.specs.File.{File, gathered, replaced}
-use Rattle.placement.specs.Hash.{hashOf}
+use Rattle.placement.specs.Hash.{hashOf, soundAt, namedPage}
 use Rattle.reach.specs.Reach.{isEmpty, pagesTo, removalEnd, firstUnsound}
 use Rattle.replacing.specs.declared.Replaced.{Replaced}
 use Rattle.replacing.specs.declared.Replaced.the-variants.{Done, Unsound, Overflows}
 
 abbrev pub hash : Parameters → Growth → Hash
 hash p g = hashOf p g
+
+-- the page that the separators name for k is sound and holds it
+pub record Held (p : Parameters) (g : Growth) (f : File) (k : ℕ) : Type 0 where
+  pub sound : soundAt p g f (namedPage p g (f .separators) k) ≡ true
+  pub present : heldAt k (part (p .places) (namedPage p g (f .separators) k) (f .numbers)) ≡ true
 
 -- "The reach of a removal": its first page, how many pages it has, and the first unsound one of them
 abbrev pub startOf : Parameters → Growth → ℕ → ℕ

@@ -206,7 +206,7 @@ fn enter_star(
         );
     }
     entry_placed(
-        entering::enter_stretch(
+        entering::enter_star(
             &table,
             geometry,
             separators,
@@ -220,6 +220,7 @@ fn enter_star(
             word,
             caller,
             named.home,
+            named.place,
         ),
         named.place,
     )

@@ -106,7 +106,7 @@ fn remove_held(
         return Placed::Refused(Refusal::NotOwner, named.place);
     }
     replaced_placed(
-        replacing::remove_star(
+        replacing::remove_held(
             &table,
             geometry,
             separators,
@@ -118,6 +118,7 @@ fn remove_held(
             poolowners,
             number,
             named.home,
+            named.place,
         ),
         page,
         named.place,
