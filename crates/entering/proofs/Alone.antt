@@ -26,7 +26,7 @@ use Rattle.reach.specs.Reach.{pagesTo, entering, entersWithin, entryEnd, holdin
 use Rattle.shifting.specs.Shift.{numberAt, starsOn, Vacant}
 use Rattle.shifting.proofs.Shifted.{vacant-room}
 use Rattle.shifting.proofs.Alone.{file-alone, pages-alone, left-alone, first-here, named-home, ordered-page, homed-here, gathered-alone}
-use Rattle.entering.specs.declared.stretch.Entered.the-variants.{On, Unsound, Overflows}
+use Rattle.planning.specs.declared.outcome.Outcome.the-variants.{On, Unsound, Overflows}
 use Rattle.entering.specs.Entry.{Unheld, hash, newStar, startOf, endOf, unsoundOf, contentsOf, takesAlone, entryAnswer, entryFile}
 use Rattle.entering.proofs.Reached.{ending, by-reach}
 use Rattle.entering.proofs.Holding.{member-has}

@@ -24,8 +24,8 @@ use Rattle.entering.specs.declared.blocks.Reach.{Reach}
 use Rattle.entering.specs.declared.blocks.Reach.the-variants.{Ends, Unsound, Overflows}
 use Rattle.entering.specs.declared.blocks.Block.{Block}
 use Rattle.entering.specs.declared.blocks.Block.the-variants.{Planned as block·Planned, Unsound as block·Unsound, Crowded}
-use Rattle.entering.specs.declared.stretch.Entered.{Entered}
-use Rattle.entering.specs.declared.stretch.Entered.the-variants.{On, Unsound as entered·Unsound, Overflows as entered·Overflows}
+use Rattle.planning.specs.declared.outcome.Outcome.{Outcome}
+use Rattle.planning.specs.declared.outcome.Outcome.the-variants.{On, Unsound as outcome·Unsound, Overflows as outcome·Overflows}
 
 -- the page's stored separator is 2^k − 1, and its last place is empty
 unfoldable pub takesAlone : Parameters → List ℕ → List ℕ → ℕ → Bool
@@ -72,11 +72,11 @@ unfoldable pub reachAnswer : Parameters → Growth → File → Star → Reach
 reachAnswer p g f s = byReach p g f s (Unsound (unsoundOf p g f s)) Overflows (Ends (endOf p g f s))
 
 -- "Accepted, these calls answer the star's page"
-unfoldable pub entryAnswer : Parameters → Growth → File → Star → Entered
+unfoldable pub entryAnswer : Parameters → Growth → File → Star → Outcome
 entryAnswer p g f s =
     byReach p g f s
-    (entered·Unsound (unsoundOf p g f s))
-    entered·Overflows
+    (outcome·Unsound (unsoundOf p g f s))
+    outcome·Overflows
     (On (holding (s .number) (startOf p g (s .number)) (contentsOf p g f s)))
 
 -- "The rule is then applied to the reach .. Other pages stay."

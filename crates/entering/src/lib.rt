@@ -6,4 +6,3 @@ mod stretch;
 pub use blocks::Reach;
 pub use blocks::plan_entry;
 pub use star::enter_star;
-pub use stretch::Entered;

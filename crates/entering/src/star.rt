@@ -10,10 +10,10 @@ ghost use Rattle.placement.specs.Hash.{homeUnder, namedPage};
 ghost use Rattle.placement.specs.Lent.{held, before, after};
 ghost use Rattle.placement.specs.Ready.{Ready, Pooled};
 ghost use Rattle.entering.specs.Entry.{Unheld, newStar, takesAlone, entryAnswer, entryFile};
-use crate::stretch::Entered;
 use crate::stretch::enter_stretch;
 use hashing::Geometry;
 use hashing::Parameters;
+use planning::Outcome;
 
 // Whether a page takes one more star of its home alone: its separator is 2^k − 1, which ends the reach, and its last place is empty, so that
 // all stay under it.
@@ -47,7 +47,7 @@ pub fn enter_star(
     owner: u8,
     home: u32,
     place: u32,
-) -> Entered
+) -> Outcome
     requires { ⌜ Ready geometry (now table) (held separators numbers words owners) ⌝ }
     requires { ⌜ Pooled (geometry .parameters) (now pool) (now waiting) (now poolowners) ⌝ }
     requires { ⌜ validNumber number ≡ true ⌝ }
@@ -88,5 +88,5 @@ pub fn enter_star(
         word,
         owner,
     );
-    Entered::On(page)
+    Outcome::On(page)
 }

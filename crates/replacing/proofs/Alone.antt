@@ -25,7 +25,7 @@ use Rattle.placement.proofs.Probing.{bounded-real, homed-real}
 use Rattle.reach.specs.Reach.{pagesTo, storedTop, removalEnd}
 use Rattle.shifting.specs.Shift.{numberAt, starsOn, Occupied}
 use Rattle.shifting.proofs.Alone.{file-alone, pages-alone, first-here, named-home, ordered-page, homed-here, gathered-alone, unsound-alone}
-use Rattle.replacing.specs.declared.Replaced.the-variants.{Done}
+use Rattle.planning.specs.declared.outcome.Outcome.the-variants.{On}
 use Rattle.replacing.specs.Calls.{Held, hash, startOf, countOf, unsoundOf, removalAnswer, removalFile}
 
 module _ (p : Parameters) (g : Growth) (f : File) (k : ℕ) (valid : validParameters p ≡ true) (grows : validGrowth p g ≡ true) (sized : Sized (p .places) (p .pages) f) (number : validNumber k ≡ true)
@@ -95,23 +95,23 @@ module _ (p : Parameters) (g : Growth) (f : File) (k : ℕ) (valid : validParame
   none-unsound : unsoundOf p g f k ≡ suc (startOf p g k)
   none-unsound = rw count (unsound-alone p g f sized (startOf p g k) home-inside sound-there)
 
-  decided : (Done ≡ removalAnswer p g f k)
+  decided : (page : ℕ) → (On page ≡ removalAnswer p g f k page)
       × (removalFile p g f k ≡ replaced (p .places) f (startOf p g k) (record { separator = hash p g .top; stars = without k (starsAt (p .places) f (startOf p g k)) } ∷ []))
   unfolding removalAnswer removalFile hashOf
-  decided =
+  decided page =
       let past = le-ltb (unsoundOf p g f k) (startOf p g k + countOf p g f k) (omega (arith, none-unsound, count)) in
       (rw past, rw past (ap (replaced (p .places) f (startOf p g k)) contents))
 
   -- the lists without the star
-  pub alone-lists : (from taken : ℕ) → from ≡ startOf p g k → taken ≡ k → (ns ws os : List ℕ)
+  pub alone-lists : (page from taken : ℕ) → from ≡ startOf p g k → taken ≡ k → (ns ws os : List ℕ)
       → ns ≡ written (from * p .places) (padded (p .places) (map numberOf (without taken (starsOn (p .places) from (f .numbers) (f .words) (f .owners))))) (f .numbers)
       → ws ≡ written (from * p .places) (padded (p .places) (map wordOf (without taken (starsOn (p .places) from (f .numbers) (f .words) (f .owners))))) (f .words)
       → os ≡ written (from * p .places) (padded (p .places) (map ownerOf (without taken (starsOn (p .places) from (f .numbers) (f .words) (f .owners))))) (f .owners)
-      → (Done ≡ removalAnswer p g f k) × (lent (f .separators) ns ws os ≡ removalFile p g f k)
+      → (On page ≡ removalAnswer p g f k page) × (lent (f .separators) ns ws os ≡ removalFile p g f k)
   unfolding starsAt
-  alone-lists from taken e t ns ws os en ew eo = (
-    decided .0,
+  alone-lists page from taken e t ns ws os en ew eo = (
+    decided page .0,
     file-alone (p .places) f (startOf p g k) (hash p g .top) (without k (starsAt (p .places) f (startOf p g k))) ns ws os (omega (arith, home-inside, sized .ofSeparators)) stored-top
         (rw (e, t) at en) (rw (e, t) at ew) (rw (e, t) at eo)
-        ∙ sym (decided .1),
+        ∙ sym (decided page .1),
   )

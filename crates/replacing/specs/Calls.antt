@@ -12,8 +12,8 @@ use Rattle.placement.specs.Rule.{Star, Hash, pages, left, without}
 use Rattle.placement.specs.File.{File, gathered, replaced}
 use Rattle.placement.specs.Hash.{hashOf, soundAt, namedPage}
 use Rattle.reach.specs.Reach.{isEmpty, pagesTo, removalEnd, firstUnsound}
-use Rattle.replacing.specs.declared.Replaced.{Replaced}
-use Rattle.replacing.specs.declared.Replaced.the-variants.{Done, Unsound, Overflows}
+use Rattle.planning.specs.declared.outcome.Outcome.{Outcome}
+use Rattle.planning.specs.declared.outcome.Outcome.the-variants.{On, Unsound, Overflows}
 
 abbrev pub hash : Parameters → Growth → Hash
 hash p g = hashOf p g
@@ -37,8 +37,9 @@ unsoundOf p g f k = firstUnsound p g f (startOf p g k) (countOf p g f k)
 abbrev pub byReach : {A : Type 0} → Parameters → Growth → File → ℕ → A → A → A
 byReach p g f k unsound removes = cond (ltb (unsoundOf p g f k) (startOf p g k + countOf p g f k)) unsound removes
 
-unfoldable pub removalAnswer : Parameters → Growth → File → ℕ → Replaced
-removalAnswer p g f k = byReach p g f k (Unsound (unsoundOf p g f k)) Done
+-- accepted, the answer is the page given
+unfoldable pub removalAnswer : Parameters → Growth → File → ℕ → ℕ → Outcome
+removalAnswer p g f k page = byReach p g f k (Unsound (unsoundOf p g f k)) (On page)
 
 -- "The rule is then applied to the reach .. Other pages stay."
 unfoldable pub removalFile : Parameters → Growth → File → ℕ → File
@@ -67,8 +68,8 @@ byGrowth p g f next unsound overflows grows =
     unsound
     (cond (isEmpty (left (hash p next) 0 (p .pages) (allStars p f))) grows overflows)
 
-unfoldable pub growthAnswer : Parameters → Growth → File → Growth → Replaced
-growthAnswer p g f next = byGrowth p g f next (Unsound (firstUnsound p g f 0 (p .pages))) Overflows Done
+unfoldable pub growthAnswer : Parameters → Growth → File → Growth → ℕ → Outcome
+growthAnswer p g f next page = byGrowth p g f next (Unsound (firstUnsound p g f 0 (p .pages))) Overflows (On page)
 
 -- "The rule is then applied .. by growth to all pages under the new (e, x)"; shrinking "places all stars by the cut under it"
 unfoldable pub growthFile : Parameters → Growth → File → Growth → File

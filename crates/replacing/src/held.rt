@@ -7,12 +7,12 @@ ghost use Rattle.placement.specs.Hash.{homeUnder, namedPage};
 ghost use Rattle.placement.specs.Lent.{held, before, after};
 ghost use Rattle.placement.specs.Ready.{Ready, Pooled};
 ghost use Rattle.replacing.specs.Calls.{Held, removalAnswer, removalFile};
-use crate::Replaced;
 use crate::removal::remove_star;
 use hashing::Geometry;
+use planning::Outcome;
 
 // The removal of a star that its named page holds at this place. Where its home page's separator is 2^k − 1 that page is the whole reach, and
-// its other stars stay: so it is altered in place.
+// its other stars stay: so it is altered in place. The answer is the page given.
 pub fn remove_held(
     table: &[u32; 90],
     geometry: Geometry,
@@ -25,20 +25,21 @@ pub fn remove_held(
     poolowners: &mut [u8],
     number: u32,
     home: u32,
+    page: usize,
     place: u32,
-) -> Replaced
+) -> Outcome
     requires { ⌜ Ready geometry (now table) (held separators numbers words owners) ⌝ }
     requires { ⌜ Pooled (geometry .parameters) (now pool) (now waiting) (now poolowners) ⌝ }
     requires { ⌜ validNumber number ≡ true ⌝ }
     requires { ⌜ Held (geometry .parameters) (geometry .growth) (held separators numbers words owners) number ⌝ }
     requires { ⌜ home ≡ homeUnder geometry number ⌝ }
     requires { ⌜ place ≡ placeOf number (part (geometry .parameters .places) (namedPage (geometry .parameters) (geometry .growth) (now separators) number) (now numbers)) ⌝ }
-    ensures { λ r. ⌜ r ≡ removalAnswer (geometry .parameters) (geometry .growth) (before separators numbers words owners) number ⌝ }
+    ensures { λ r. ⌜ r ≡ removalAnswer (geometry .parameters) (geometry .growth) (before separators numbers words owners) number page ⌝ }
     ensures { λ r. ⌜ after separators numbers words owners ≡ removalFile (geometry .parameters) (geometry .growth) (before separators numbers words owners) number ⌝ }
 {
     let parameters = geometry.parameters;
-    let page = home as usize;
-    if separators[page] != placement::top_of(parameters) {
+    let first = home as usize;
+    if separators[first] != placement::top_of(parameters) {
         return remove_star(
             table,
             geometry,
@@ -51,9 +52,10 @@ pub fn remove_held(
             poolowners,
             number,
             home,
+            page,
         );
     }
     let places = parameters.places as usize;
-    shifting::take_star(numbers, words, owners, places, page, place as usize);
-    Replaced::Done
+    shifting::take_star(numbers, words, owners, places, first, place as usize);
+    Outcome::On(page)
 }

@@ -6,10 +6,3 @@ mod stretch;
 
 pub use growth::regrow;
 pub use held::remove_held;
-
-// What came of it; or the first unsound page; or a star is carried past the last page. Refusals leave the file as it was.
-pub enum Replaced {
-    Done,
-    Unsound(usize),
-    Overflows,
-}

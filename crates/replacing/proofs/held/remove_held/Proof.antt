@@ -96,7 +96,7 @@ returns-2 c =
     let s = begun d in
     let left = c .before .before .before .before .before .before .take-star .ensures in
     alone-lists (s .args .geometry .parameters) (s .args .geometry .growth) (file s) (s .args .number) (s .pre .0 .homing .valid) (s .pre .0 .homing .growth) (s .pre .0 .sized) (s .pre .1 .1 .0) (s .pre .1 .1 .1 .0) (stored d)
-    (s .args .home) (numberAt (s .args .geometry .parameters .places) (s .args .home) (s .args .place) (now (s .args .numbers))) (home-is s)
+    (s .args .page) (s .args .home) (numberAt (s .args .geometry .parameters .places) (s .args .home) (s .args .place) (now (s .args .numbers))) (home-is s)
     (ap (λ (q : ℕ). numberAt (s .args .geometry .parameters .places) q (s .args .place) (now (s .args .numbers))) (home-is s)
     ∙ taken-is (s .args .geometry .parameters) (s .args .geometry .growth) (file s) (s .args .number) (s .pre .0 .homing .valid) (s .pre .0 .homing .growth) (s .pre .0 .sized) (s .pre .1 .1 .0) (s .pre .1 .1 .1 .0) (stored d) (s .args .place) (s .pre .1 .1 .1 .1 .1))
     _ _ _ (left .ofNumbers) (left .ofWords) (left .ofOwners)

@@ -118,11 +118,13 @@ remove-held-requires c κs =
       ),
     )
 
-replaced-placed-requires : tie.Need-replaced-placed-requires
-replaced-placed-requires c κs =
+placed-from-requires : tie.Need-placed-from-requires
+placed-from-requires c κs =
     let s = c .before .before .before .before .before .before .before .before .before .before .before .before .before .before .before .before .before .before .before .before .before .before .before .before .before .before .before .before .before .before .before .before .before .before .before .before .before .before .before .before .before .before .before .before in
+    let found = c .before .before .before .before .before .before .before .before .before .before .before .before .before .before .before .before .before .before .before .before .before .before .before .before .before .before .before .before .before .before .find in
     rw (c .before .before .before .before .before .before .before .before .before .before .before .before .before .before .remove-held .ensures .0)
-    (removal-small (s .args .parameters) (s .args .growth) (fileOf s) (s .pre .0 .homing .valid) (s .pre .0 .homing .growth) (s .args .number))
+    (removal-small (s .args .parameters) (s .args .growth) (fileOf s) (s .pre .0 .homing .valid) (s .pre .0 .homing .growth) (s .args .number) (found .result .page)
+    (omega (arith, found .ensures .pageMost, limits _ (s .pre .0 .homing .valid) .pages-most)))
 
 same-length-13 : tie.Need-same-length-13
 same-length-13 c = search needs
@@ -158,7 +160,7 @@ returns-4 c =
     let done = c .before .before .before .before .before .before .before .before .before .before .before .before .before .before .before .remove-held .ensures in
     let is = removed-is (s .args .parameters) (s .args .growth) (fileOf s) (cleared (poolOf s)) (named (s .args .parameters) (s .args .growth) (fileOf s) (s .args .number)) (s .args .number) (placeFor (s .args .parameters) (fileOf s) (named (s .args .parameters) (s .args .growth) (fileOf s) (s .args .number)) (s .args .number)) in
     record {
-      answers = rw (read, held, may) (ap placed (rw (done .0, found .pageIs, found .placeIs opened) at (c .replaced-placed .ensures)) ∙ is .0);
+      answers = rw (read, held, may) (ap placed (rw (done .0, found .pageIs, found .placeIs opened) at (c .placed-from .ensures)) ∙ is .0);
       files = rw (read, held, may) (done .1 ∙ is .1);
     }
 
@@ -186,7 +188,7 @@ remove-held-spec =
     same-length-12
     returns-3
     remove-held-requires
-    replaced-placed-requires
+    placed-from-requires
     same-length-13
     same-length-14
     same-length-15
