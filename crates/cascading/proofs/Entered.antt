@@ -13,7 +13,7 @@ use Rattle.placement.specs.File.{File, replaced}
 use Rattle.placement.specs.Hash.{namedPage}
 use Rattle.placement.proofs.Standing.{length-separators}
 use Rattle.reach.specs.Reach.{hasNumber, holding}
-use Rattle.entering.specs.declared.stretch.Entered.the-variants.{On, Unsound, Overflows}
+use Rattle.planning.specs.declared.outcome.Outcome.the-variants.{On, Unsound, Overflows}
 use Rattle.entering.specs.Entry.{hash, newStar}
 use Rattle.cascading.specs.Cascade.{visited, stopOf, cascadeAnswer, cascadeFile, Stopped, Spilled, Kept}
 use Rattle.cascading.proofs.Naming.{held-first, first-written}

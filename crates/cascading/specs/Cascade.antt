@@ -21,8 +21,8 @@ use Rattle.planning.specs.Plans.{waits}
 use Rattle.planning.proofs.Applying.{applied}
 use Rattle.entering.specs.declared.blocks.Reach.{Reach}
 use Rattle.entering.specs.declared.blocks.Reach.the-variants.{Ends, Unsound, Overflows}
-use Rattle.entering.specs.declared.stretch.Entered.{Entered}
-use Rattle.entering.specs.declared.stretch.Entered.the-variants.{On, Unsound as entered·Unsound, Overflows as entered·Overflows}
+use Rattle.planning.specs.declared.outcome.Outcome.{Outcome}
+use Rattle.planning.specs.declared.outcome.Outcome.the-variants.{On, Unsound as outcome·Unsound, Overflows as outcome·Overflows}
 use Rattle.entering.specs.Entry.{Unheld, hash, newStar}
 
 -- a star that the file does not hold is to be entered, and `page` is the one that the separators name for it
@@ -53,11 +53,11 @@ byCascade p g f s page unsound overflows enters =
     cond (ltb (unsoundOf p g f s page) (stopOf p g f s page)) unsound (cond (isEmpty (overflow p g f s page)) enters overflows)
 
 -- "a visited page that is unsound is 5"; accepted, the answer is the star's page
-unfoldable pub cascadeAnswer : Parameters → Growth → File → Star → ℕ → Entered
+unfoldable pub cascadeAnswer : Parameters → Growth → File → Star → ℕ → Outcome
 cascadeAnswer p g f s page =
     byCascade p g f s page
-    (entered·Unsound (unsoundOf p g f s page))
-    entered·Overflows
+    (outcome·Unsound (unsoundOf p g f s page))
+    outcome·Overflows
     (On (holding (s .number) page (visited p g f s page)))
 
 -- "5 and 8 leave the file unchanged"

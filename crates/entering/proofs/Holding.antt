@@ -24,13 +24,13 @@ use Rattle.planning.proofs.Applying.{applied}
 use Rattle.reach.specs.Reach.{pagesTo, entering, entersWithin, entryEnd, hasNumber, holding}
 use Rattle.reach.proofs.Search.{such}
 use Rattle.entering.specs.declared.blocks.Reach.the-variants.{Ends, Unsound, Overflows}
-use Rattle.entering.specs.declared.stretch.Entered.the-variants.{On, Unsound as entered·Unsound, Overflows as entered·Overflows}
+use Rattle.planning.specs.declared.outcome.Outcome.the-variants.{On, Unsound as outcome·Unsound, Overflows as outcome·Overflows}
 use Rattle.entering.specs.Entry.{hash, newStar, startOf, endOf, countOf, unsoundOf, contentsOf, reachAnswer, entryAnswer, entryFile, Applies}
 use Rattle.entering.proofs.Reached.{ending, empty-is, unsound-ends, overflows-ends}
 
 -- ---- which page holds a number
 
-member-has : (k : ℕ) (l : List Star) (s : Star) → s .number ≡ k → List·Memᴰ s l → hasNumber k l ≡ true
+pub member-has : (k : ℕ) (l : List Star) (s : Star) → s .number ≡ k → List·Memᴰ s l → hasNumber k l ≡ true
 unfolding hasNumber
 member-has k [] s e m = absurd (List·Memᴰ·not-nil m)
 member-has k (t ∷ l) s e m =
@@ -129,17 +129,17 @@ module _ (p : Parameters) (g : Growth) (f : File) (k word owner : ℕ) where
   abbrev entersHere : Bool
   entersHere = entersWithin (hash p g) f (newStar k word owner) (endOf p g f (newStar k word owner))
 
-  pub unsound-answer : (page : ℕ) → Unsound page ≡ reachAnswer p g f (newStar k word owner) → (entered·Unsound page ≡ entryAnswer p g f (newStar k word owner)) × (f ≡ entryFile p g f (newStar k word owner))
+  pub unsound-answer : (page : ℕ) → Unsound page ≡ reachAnswer p g f (newStar k word owner) → (outcome·Unsound page ≡ entryAnswer p g f (newStar k word owner)) × (f ≡ entryFile p g f (newStar k word owner))
   unfolding reachAnswer entryAnswer entryFile
   unsound-answer page e =
-      let a = unsound-way unsoundHere entersHere page (unsoundOf p g f (newStar k word owner)) (endOf p g f (newStar k word owner)) (entered·Unsound (unsoundOf p g f (newStar k word owner))) (On (holding k (startOf p g k) (contentsOf p g f (newStar k word owner)))) entered·Overflows e in
+      let a = unsound-way unsoundHere entersHere page (unsoundOf p g f (newStar k word owner)) (endOf p g f (newStar k word owner)) (outcome·Unsound (unsoundOf p g f (newStar k word owner))) (On (holding k (startOf p g k) (contentsOf p g f (newStar k word owner)))) outcome·Overflows e in
       let b = unsound-way unsoundHere entersHere page (unsoundOf p g f (newStar k word owner)) (endOf p g f (newStar k word owner)) f (replaced (p .places) f (startOf p g k) (contentsOf p g f (newStar k word owner))) f e in
-      (ap entered·Unsound (a .0) ∙ sym (a .1), sym (b .1))
+      (ap outcome·Unsound (a .0) ∙ sym (a .1), sym (b .1))
 
-  pub overflows-answer : Overflows ≡ reachAnswer p g f (newStar k word owner) → (entered·Overflows ≡ entryAnswer p g f (newStar k word owner)) × (f ≡ entryFile p g f (newStar k word owner))
+  pub overflows-answer : Overflows ≡ reachAnswer p g f (newStar k word owner) → (outcome·Overflows ≡ entryAnswer p g f (newStar k word owner)) × (f ≡ entryFile p g f (newStar k word owner))
   unfolding reachAnswer entryAnswer entryFile
   overflows-answer e = (
-    sym (overflows-way unsoundHere entersHere (unsoundOf p g f (newStar k word owner)) (endOf p g f (newStar k word owner)) (entered·Unsound (unsoundOf p g f (newStar k word owner))) (On (holding k (startOf p g k) (contentsOf p g f (newStar k word owner)))) entered·Overflows e),
+    sym (overflows-way unsoundHere entersHere (unsoundOf p g f (newStar k word owner)) (endOf p g f (newStar k word owner)) (outcome·Unsound (unsoundOf p g f (newStar k word owner))) (On (holding k (startOf p g k) (contentsOf p g f (newStar k word owner)))) outcome·Overflows e),
     sym (overflows-way unsoundHere entersHere (unsoundOf p g f (newStar k word owner)) (endOf p g f (newStar k word owner)) f (replaced (p .places) f (startOf p g k) (contentsOf p g f (newStar k word owner))) f e),
   )
 
@@ -174,7 +174,7 @@ module _ (p : Parameters) (g : Growth) (f : File) (k word owner : ℕ) where
     unfolding reachAnswer entryAnswer
     ends-answer page h =
         ap On h
-        ∙ sym (ends-way unsoundHere entersHere last (unsoundOf p g f (newStar k word owner)) (endOf p g f (newStar k word owner)) (entered·Unsound (unsoundOf p g f (newStar k word owner))) (On (holding k (startOf p g k) (contentsOf p g f (newStar k word owner)))) entered·Overflows e .2)
+        ∙ sym (ends-way unsoundHere entersHere last (unsoundOf p g f (newStar k word owner)) (endOf p g f (newStar k word owner)) (outcome·Unsound (unsoundOf p g f (newStar k word owner))) (On (holding k (startOf p g k) (contentsOf p g f (newStar k word owner)))) outcome·Overflows e .2)
 
 -- ---- the lists that applying the plan leaves
 

@@ -31,7 +31,7 @@ use Rattle.reach.proofs.Pastes.{map-take, map-drop}
 use Rattle.planning.proofs.Copies.{Copied, turn, unread, pasted-whole}
 use Rattle.planning.proofs.Sourcing.{itemHome}
 use Rattle.planning.proofs.Placed.{Gatherable, probes-real, homes-real}
-use Rattle.replacing.specs.declared.Replaced.the-variants.{Done, Unsound, Overflows}
+use Rattle.planning.specs.declared.outcome.Outcome.the-variants.{On, Unsound, Overflows}
 use Rattle.replacing.specs.Stretch.{Plannable, fitting, restretched}
 use Rattle.replacing.specs.Calls.{hash, nextOf, Movable, growthAnswer, growthFile}
 use Rattle.replacing.proofs.Ruled.{fitting-is, restretched-is}
@@ -78,10 +78,10 @@ next-valid false p g v w m = grown-valid p g v w m
 -- ---- the file
 
 module _ (p : Parameters) (g : Growth) (f : File) (valid : validParameters p ≡ true) (sized : Sized (p .places) (p .pages) f) where
-  pub growth-refused : (next : Growth) (bad : ℕ) → bad ≡ firstUnsound p g f 0 (p .pages - 0) → bad < p .pages
-      → (Unsound bad ≡ growthAnswer p g f next) × (f ≡ growthFile p g f next)
+  pub growth-refused : (next : Growth) (page bad : ℕ) → bad ≡ firstUnsound p g f 0 (p .pages - 0) → bad < p .pages
+      → (Unsound bad ≡ growthAnswer p g f next page) × (f ≡ growthFile p g f next)
   unfolding growthAnswer growthFile
-  growth-refused next bad e h =
+  growth-refused next page bad e h =
       let is : bad ≡ firstUnsound p g f 0 (p .pages) = rw (sub-zero (p .pages)) at e in
       let t : ltb (firstUnsound p g f 0 (p .pages)) (p .pages) ≡ true = lt-ltb (firstUnsound p g f 0 (p .pages)) (p .pages) (omega arith) in
       rw (t, is) (refl, refl)
@@ -160,10 +160,10 @@ module _ (p : Parameters) (g : Growth) (f : File) (valid : validParameters p ≡
       growth-plannable waiting poolowners ew eo =
           plannable-stretch p f valid sized 0 (p .pages) (omega arith) (omega (arith, some-pages)) pool size below within waiting poolowners ew eo
 
-      pub growth-done : (r : Bool) → r ≡ fitting p 0 (p .pages) 0 f pool → (f′ : File) → f′ ≡ restretched p 0 (p .pages) 0 f pool
-          → (cond r Done Overflows ≡ growthAnswer p g f next) × (f′ ≡ growthFile p g f next)
+      pub growth-done : (page : ℕ) (r : Bool) → r ≡ fitting p 0 (p .pages) 0 f pool → (f′ : File) → f′ ≡ restretched p 0 (p .pages) 0 f pool
+          → (cond r (On page) Overflows ≡ growthAnswer p g f next page) × (f′ ≡ growthFile p g f next)
       unfolding growthAnswer growthFile
-      growth-done r er f′ ef =
+      growth-done page r er f′ ef =
           let H : Hash = hash p next in
           let is : r ≡ isEmpty (left H 0 (p .pages) (gathered (p .places) f 0 (p .pages))) =
           rw none-out at (er ∙ fitting-is H p (probes-real p next) 0 (p .pages) f pool ready 0) in

@@ -22,7 +22,7 @@ use Rattle.reach.specs.Reach.{firstSuch, storedTop, removalEnd, firstUnsound}
 use Rattle.reach.proofs.Search.{such}
 use Rattle.reach.proofs.Surveyed.{unsound}
 use Rattle.planning.proofs.Placed.{probes-real}
-use Rattle.replacing.specs.declared.Replaced.the-variants.{Done, Unsound}
+use Rattle.planning.specs.declared.outcome.Outcome.the-variants.{On, Unsound}
 use Rattle.replacing.specs.Stretch.{Plannable, restretched}
 use Rattle.replacing.specs.Calls.{hash, startOf, countOf, unsoundOf, removalAnswer, removalFile}
 use Rattle.replacing.proofs.Ruled.{restretched-is}
@@ -59,10 +59,10 @@ module _ (p : Parameters) (g : Growth) (f : File) (k : ℕ) where
     same-unsound : firstUnsound p g f from (last + 1 - from) ≡ unsoundOf p g f k
     same-unsound = rw (count, R .start)
 
-    pub removal-refused : (bad : ℕ) → bad ≡ firstUnsound p g f from (last + 1 - from) → bad < last + 1
-        → (Unsound bad ≡ removalAnswer p g f k) × (f ≡ removalFile p g f k)
+    pub removal-refused : (page bad : ℕ) → bad ≡ firstUnsound p g f from (last + 1 - from) → bad < last + 1
+        → (Unsound bad ≡ removalAnswer p g f k page) × (f ≡ removalFile p g f k)
     unfolding removalAnswer removalFile
-    removal-refused bad e h =
+    removal-refused page bad e h =
         let is : bad ≡ unsoundOf p g f k = e ∙ same-unsound in
         let t : ltb (unsoundOf p g f k) (startOf p g k + countOf p g f k) ≡ true =
         lt-ltb (unsoundOf p g f k) (startOf p g k + countOf p g f k) (omega (arith, stop)) in
@@ -107,9 +107,9 @@ module _ (p : Parameters) (g : Growth) (f : File) (k : ℕ) where
       removal-plannable waiting poolowners ew eo =
           plannable-surveyed p g f valid sized from n some inside sound-stretch pool pool′ size kept waiting poolowners size′ ew eo
 
-      pub removal-done : (Done ≡ removalAnswer p g f k) × (restretched p from (last + 1 - from) k f pool′ ≡ removalFile p g f k)
+      pub removal-done : (page : ℕ) → (On page ≡ removalAnswer p g f k page) × (restretched p from (last + 1 - from) k f pool′ ≡ removalFile p g f k)
       unfolding removalAnswer removalFile n
-      removal-done =
+      removal-done page =
           let t : ltb (unsoundOf p g f k) (startOf p g k + countOf p g f k) ≡ false =
           le-ltb (unsoundOf p g f k) (startOf p g k + countOf p g f k) (omega (arith, stop, same-unsound)) in
           let done : restretched p from n k f pool′ ≡ replaced (p .places) f from (pages (hash p g) from n (without k (gathered (p .places) f from n))) =

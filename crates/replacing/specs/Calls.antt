@@ -7,15 +7,21 @@ use lib.Dec.{ltb}
 use Rattle.hashing.specs.declared.Parameters.{Parameters}
 use Rattle.hashing.specs.declared.Growth.{Growth}
 use Rattle.hashing.specs.Geometry.{pageCount, grown, isUngrown, shrunk}
+use Rattle.pages.specs.Page.{part, heldAt}
 use Rattle.placement.specs.Rule.{Star, Hash, pages, left, without}
 use Rattle.placement.specs.File.{File, gathered, replaced}
-use Rattle.placement.specs.Hash.{hashOf}
+use Rattle.placement.specs.Hash.{hashOf, soundAt, namedPage}
 use Rattle.reach.specs.Reach.{isEmpty, pagesTo, removalEnd, firstUnsound}
-use Rattle.replacing.specs.declared.Replaced.{Replaced}
-use Rattle.replacing.specs.declared.Replaced.the-variants.{Done, Unsound, Overflows}
+use Rattle.planning.specs.declared.outcome.Outcome.{Outcome}
+use Rattle.planning.specs.declared.outcome.Outcome.the-variants.{On, Unsound, Overflows}
 
 abbrev pub hash : Parameters → Growth → Hash
 hash p g = hashOf p g
+
+-- the page that the separators name for k is sound and holds it
+pub record Held (p : Parameters) (g : Growth) (f : File) (k : ℕ) : Type 0 where
+  pub sound : soundAt p g f (namedPage p g (f .separators) k) ≡ true
+  pub present : heldAt k (part (p .places) (namedPage p g (f .separators) k) (f .numbers)) ≡ true
 
 -- "The reach of a removal": its first page, how many pages it has, and the first unsound one of them
 abbrev pub startOf : Parameters → Growth → ℕ → ℕ
@@ -31,8 +37,9 @@ unsoundOf p g f k = firstUnsound p g f (startOf p g k) (countOf p g f k)
 abbrev pub byReach : {A : Type 0} → Parameters → Growth → File → ℕ → A → A → A
 byReach p g f k unsound removes = cond (ltb (unsoundOf p g f k) (startOf p g k + countOf p g f k)) unsound removes
 
-unfoldable pub removalAnswer : Parameters → Growth → File → ℕ → Replaced
-removalAnswer p g f k = byReach p g f k (Unsound (unsoundOf p g f k)) Done
+-- accepted, the answer is the page given
+unfoldable pub removalAnswer : Parameters → Growth → File → ℕ → ℕ → Outcome
+removalAnswer p g f k page = byReach p g f k (Unsound (unsoundOf p g f k)) (On page)
 
 -- "The rule is then applied to the reach .. Other pages stay."
 unfoldable pub removalFile : Parameters → Growth → File → ℕ → File
@@ -61,8 +68,8 @@ byGrowth p g f next unsound overflows grows =
     unsound
     (cond (isEmpty (left (hash p next) 0 (p .pages) (allStars p f))) grows overflows)
 
-unfoldable pub growthAnswer : Parameters → Growth → File → Growth → Replaced
-growthAnswer p g f next = byGrowth p g f next (Unsound (firstUnsound p g f 0 (p .pages))) Overflows Done
+unfoldable pub growthAnswer : Parameters → Growth → File → Growth → ℕ → Outcome
+growthAnswer p g f next page = byGrowth p g f next (Unsound (firstUnsound p g f 0 (p .pages))) Overflows (On page)
 
 -- "The rule is then applied .. by growth to all pages under the new (e, x)"; shrinking "places all stars by the cut under it"
 unfoldable pub growthFile : Parameters → Growth → File → Growth → File

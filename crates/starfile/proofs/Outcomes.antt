@@ -2,7 +2,7 @@
 use mathlib.Core.Path.{_≡_, refl}
 use mathlib.Core.Bool.{Bool, true, false, cond}
 use mathlib.Core.List.{[]}
-use Prim.Native.Nat.{ℕ, suc, _-_, _*_, _/_, _%_}
+use Prim.Native.Nat.{ℕ, suc, _-_, _*_, _^_, _/_, _%_, _<_}
 use native.Mathlib.Nat.{mod-lt, div-lt-iff-lt-mul}
 use native.Mathlib.Omega.{arith}
 use lib.Dec.{ltb}
@@ -15,34 +15,36 @@ use Rattle.hashing.proofs.Bounds.{limits}
 use Rattle.placement.specs.Rule.{pages, left}
 use Rattle.placement.specs.File.{File, replaced}
 use Rattle.reach.specs.Reach.{firstUnsound, isEmpty}
-use Rattle.replacing.specs.declared.Replaced.the-variants.{Done, Unsound as replaced·Unsound, Overflows as replaced·Overflows}
+use Rattle.planning.specs.declared.outcome.Outcome.the-variants.{On, Unsound, Overflows}
 use Rattle.replacing.specs.Calls.{growthAnswer, growthFile}
 use Rattle.comparing.specs.declared.checking.Verdict.the-variants.{Clean, Differs, Unsound as verdict·Unsound}
 use Rattle.comparing.specs.Verdicts.{verdictOf}
 use Rattle.calls.specs.Answers.{Pool, placed, checked, refusedBy, accepted, refused, spotted}
 use Rattle.calls.specs.Calls.{unchanged, regrowTo, checkedAt, allStars}
-use Rattle.updating.specs.Outcomes.{ReplacedSmall}
-use Rattle.updating.proofs.Outcomes.{unsound-most}
-use Rattle.starfile.specs.Outcomes.{replacedGrown, VerdictSmall, verdictChecked}
+use Rattle.updating.specs.Outcomes.{OutcomeSmall}
+use Rattle.updating.proofs.Outcomes.{unsound-most, cases-small}
+use Rattle.starfile.specs.Outcomes.{outcomeGrown, VerdictSmall, verdictChecked}
 
 module _ (p : Parameters) (g : Growth) (f : File) (v : validParameters p ≡ true) where
-  pub growth-small : (next : Growth) → ReplacedSmall (growthAnswer p g f next)
+  pub growth-small : (next : Growth) (page : ℕ) → page < 2 ^ 32 → OutcomeSmall (growthAnswer p g f next page)
   unfolding growthAnswer
-  growth-small next = go (ltb (firstUnsound p g f 0 (p .pages)) (p .pages)) (isEmpty (left (hashOf p next) 0 (p .pages) (allStars p f)))
-    where
-      go : (t u : Bool) → ReplacedSmall (cond t (replaced·Unsound (firstUnsound p g f 0 (p .pages))) (cond u Done replaced·Overflows))
-      go true u = omega (arith, unsound-most p g f 0 (p .pages), limits p v .pages-most)
-      go false true = tt
-      go false false = tt
+  growth-small next page h =
+      cases-small
+      (ltb (firstUnsound p g f 0 (p .pages)) (p .pages))
+      (isEmpty (left (hashOf p next) 0 (p .pages) (allStars p f)))
+      (firstUnsound p g f 0 (p .pages))
+      page
+      (omega (arith, unsound-most p g f 0 (p .pages), limits p v .pages-most))
+      h
 
 -- the answers and files are those of the definitions
 module _ (p : Parameters) (g : Growth) (f : File) (pool : Pool) where
   grown-cases : (t u : Bool) (bad page : ℕ) (next : Growth) (to : File)
-      → (placed (replacedGrown (cond t (replaced·Unsound bad) (cond u Done replaced·Overflows)) page g next .answer)
+      → (placed (outcomeGrown (cond t (Unsound bad) (cond u (On page) Overflows)) g next .answer)
       ≡ cond t (unchanged g f pool (refused 5 bad)) (cond u (record { answer = accepted page; growth = next; file = to; pool = pool }) (unchanged g f pool (refused 8 0))) .answer)
       × (cond t f (cond u to f)
       ≡ cond t (unchanged g f pool (refused 5 bad)) (cond u (record { answer = accepted page; growth = next; file = to; pool = pool }) (unchanged g f pool (refused 8 0))) .file)
-      × (replacedGrown (cond t (replaced·Unsound bad) (cond u Done replaced·Overflows)) page g next .growth
+      × (outcomeGrown (cond t (Unsound bad) (cond u (On page) Overflows)) g next .growth
       ≡ cond t (unchanged g f pool (refused 5 bad)) (cond u (record { answer = accepted page; growth = next; file = to; pool = pool }) (unchanged g f pool (refused 8 0))) .growth)
   unfolding placed refusedBy
   grown-cases true u bad page next to = (refl, refl, refl)
@@ -50,9 +52,9 @@ module _ (p : Parameters) (g : Growth) (f : File) (pool : Pool) where
   grown-cases false false bad page next to = (refl, refl, refl)
 
   pub regrown-is : (next : Growth) (page : ℕ)
-      → (placed (replacedGrown (growthAnswer p g f next) page g next .answer) ≡ regrowTo p g f pool next page .answer)
+      → (placed (outcomeGrown (growthAnswer p g f next page) g next .answer) ≡ regrowTo p g f pool next page .answer)
       × (growthFile p g f next ≡ regrowTo p g f pool next page .file)
-      × (replacedGrown (growthAnswer p g f next) page g next .growth ≡ regrowTo p g f pool next page .growth)
+      × (outcomeGrown (growthAnswer p g f next page) g next .growth ≡ regrowTo p g f pool next page .growth)
   unfolding growthAnswer growthFile regrowTo
   regrown-is next page =
       grown-cases

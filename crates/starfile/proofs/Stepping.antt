@@ -1,17 +1,17 @@
 -- Growth and shrinking as one call: by the step that they take, or that is refused.
 use mathlib.Core.Path.{_≡_, refl, sym, ap, _∙_}
 use mathlib.Core.Bool.{Bool, true, false, cond, _&&_, false≢true}
-use Prim.Native.Nat.{ℕ, _-_, _<_}
+use Prim.Native.Nat.{ℕ, _-_, _^_, _≤_, _<_}
 use native.Mathlib.Omega.{arith}
 use lib.Dec.{eqb}
 use borrow.Author.Tests.{eqb-false}
 use Rattle.hashing.specs.declared.Parameters.{Parameters}
 use Rattle.hashing.specs.declared.Growth.{Growth}
 use Rattle.hashing.specs.Geometry.{pageCount, highest, grown, ungrown, isUngrown, shrunk}
-use Rattle.hashing.specs.Limits.{validGrowth}
-use Rattle.hashing.proofs.Bounds.{growth-within}
+use Rattle.hashing.specs.Limits.{validParameters, validGrowth}
+use Rattle.hashing.proofs.Bounds.{limits, growth-within}
 use Rattle.placement.specs.File.{File}
-use Rattle.replacing.specs.declared.Replaced.{Replaced}
+use Rattle.planning.specs.declared.outcome.Outcome.{Outcome}
 use Rattle.replacing.specs.Calls.{nextOf, Movable, growthAnswer, growthFile}
 use Rattle.calls.specs.declared.answers.Refusal.{Refusal}
 use Rattle.calls.specs.declared.answers.Refusal.the-variants.{Full, Ungrown}
@@ -20,7 +20,7 @@ use Rattle.starfile.specs.declared.growth.Step.{Step}
 use Rattle.starfile.specs.declared.growth.Step.the-variants.{To, Not}
 use Rattle.calls.specs.Answers.{After, Pool, Stores, placed, refusedBy, refused, cleared}
 use Rattle.calls.specs.Calls.{unlent, guarded, unchanged, fileFits, poolFits, growOf, shrinkOf, regrowTo}
-use Rattle.starfile.specs.Outcomes.{replacedGrown, unmovedBy, stepOf, regrowOn, regrowOf}
+use Rattle.starfile.specs.Outcomes.{outcomeGrown, unmovedBy, stepOf, regrowOn, regrowOf}
 use Rattle.starfile.proofs.Outcomes.{regrown-is}
 use Rattle.updating.proofs.Pools.{regrow-pool}
 
@@ -69,6 +69,23 @@ state-is false p g = go (eqb (highest p g) (p .pages - 1))
     go true h = absurd (false≢true h)
     go false h = refl
 
+pageIn : Step → ℕ
+pageIn (To next page) = page
+pageIn (Not r) = 0
+
+page-most : (back : Bool) (p : Parameters) (g : Growth) → validGrowth p g ≡ true → pageIn (stepOf back p g) ≤ p .pages
+unfolding stepOf pageIn highest
+page-most true p g w = go (isUngrown g)
+  where
+    go : (t : Bool) → pageIn (cond t (Not Ungrown) (To (shrunk p g) (highest p g))) ≤ p .pages
+    go true = omega arith
+    go false = omega (arith, growth-within p g w .pages-fit)
+page-most false p g w = go (eqb (highest p g) (p .pages - 1))
+  where
+    go : (t : Bool) → pageIn (cond t (Not Full) (To (grown p g) (pageCount p g))) ≤ p .pages
+    go true = omega arith
+    go false = omega (arith, growth-within p g w .pages-fit)
+
 -- what the call does by its step
 steppedOn : Parameters → Growth → File → Pool → Step → After
 steppedOn p g f pool (To next page) = regrowTo p g f pool next page
@@ -113,8 +130,14 @@ module _ (back : Bool) (p : Parameters) (g : Growth) where
     unfolding stateIn
     state = sym (state-is back p g to) ∙ ap stateIn e
 
-    pub regrow-stored : (f : File) (pool : Pool) {f′ : File} {r : Replaced} {a : Grown}
-        → r ≡ growthAnswer p g f (nextOf back p g) → f′ ≡ growthFile p g f (nextOf back p g) → a ≡ replacedGrown r page g next
+    pub step-small : validParameters p ≡ true → validGrowth p g ≡ true → page < 2 ^ 32
+    unfolding pageIn
+    step-small v w =
+        let is : pageIn (stepOf back p g) ≡ page = ap pageIn e in
+        omega (arith, is, page-most back p g w, limits p v .pages-most)
+
+    pub regrow-stored : (f : File) (pool : Pool) {f′ : File} {r : Outcome} {a : Grown}
+        → r ≡ growthAnswer p g f (nextOf back p g) page → f′ ≡ growthFile p g f (nextOf back p g) → a ≡ outcomeGrown r g next
         → Stores (regrowOn back p g f pool) (placed (a .answer)) f′ × (a .growth ≡ regrowOn back p g f pool .growth)
     unfolding steppedOn
     regrow-stored f pool answered filed told =

@@ -6,8 +6,8 @@ ghost use Rattle.placement.specs.Lent.{held, before, after};
 ghost use Rattle.placement.specs.Ready.{Pooled};
 ghost use Rattle.calls.specs.Answers.{Leaves, Stores, cleared, placed};
 ghost use Rattle.calls.specs.Calls.{growOf, shrinkOf};
-ghost use Rattle.updating.specs.Outcomes.{ReplacedSmall};
-ghost use Rattle.starfile.specs.Outcomes.{replacedGrown, unmovedBy, stepOf, regrowOn, regrowOf};
+ghost use Rattle.updating.specs.Outcomes.{OutcomeSmall};
+ghost use Rattle.starfile.specs.Outcomes.{outcomeGrown, unmovedBy, stepOf, regrowOn, regrowOf};
 ghost use Rattle.calls.specs.Lent.{Admitted, poolBefore, poolAfter};
 use calls::answers::Admission;
 use calls::answers::Grown;
@@ -18,7 +18,8 @@ use guarding::guard;
 use hashing::Geometry;
 use hashing::Growth;
 use hashing::Parameters;
-use replacing::Replaced;
+use planning::Outcome;
+use updating::placed_from;
 
 // The answer of an accepted growth is the new page, with the new growth state.
 pub fn grow(
@@ -175,7 +176,7 @@ fn regrow_file(
         Step::Not(refusal) => unmoved(growth, refusal),
         Step::To(next, page) => {
             let table = generator::first_multipliers(parameters.multiplier);
-            let replaced = replacing::regrow(
+            let outcome = replacing::regrow(
                 &table,
                 geometry,
                 back,
@@ -186,24 +187,24 @@ fn regrow_file(
                 poolnumbers,
                 poolwords,
                 poolowners,
+                page as usize,
             );
-            grown_by(replaced, page, growth, next)
+            grown_by(outcome, growth, next)
         }
     }
 }
 
 // The new state only if the stars were placed anew.
-fn grown_by(replaced: Replaced, page: u32, growth: Growth, next: Growth) -> Grown
-    requires { ⌜ ReplacedSmall replaced ⌝ }
-    ensures { λ r. ⌜ r ≡ replacedGrown replaced page growth next ⌝ }
+fn grown_by(outcome: Outcome, growth: Growth, next: Growth) -> Grown
+    requires { ⌜ OutcomeSmall outcome ⌝ }
+    ensures { λ r. ⌜ r ≡ outcomeGrown outcome growth next ⌝ }
 {
-    match replaced {
-        Replaced::Done => Grown {
-            answer: Placed::On(page, 0),
+    match placed_from(outcome, 0) {
+        Placed::On(page, place) => Grown {
+            answer: Placed::On(page, place),
             growth: next,
         },
-        Replaced::Unsound(bad) => unmoved(growth, Refusal::Damaged(bad as u32)),
-        Replaced::Overflows => unmoved(growth, Refusal::Full),
+        Placed::Refused(refusal, _) => unmoved(growth, refusal),
     }
 }
 

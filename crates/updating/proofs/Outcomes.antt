@@ -19,17 +19,16 @@ use Rattle.placement.specs.Hash.{hashOf, soundAt}
 use Rattle.placement.proofs.Composition.{length-pages}
 use Rattle.reach.specs.Reach.{firstSuch, storedTop, pagesTo, removalEnd, entering, entersWithin, entryEnd, firstUnsound, isEmpty, hasNumber, holding}
 use Rattle.reach.proofs.Search.{such}
-use Rattle.entering.specs.declared.stretch.Entered.the-variants.{On, Unsound, Overflows}
+use Rattle.planning.specs.declared.outcome.Outcome.the-variants.{On, Unsound, Overflows}
 use Rattle.entering.specs.Entry.{entryAnswer, entryFile}
 use Rattle.entering.specs.Entry as entry
 use Rattle.cascading.specs.Cascade.{visited, overflow, stopOf, unsoundOf, cascadeAnswer, cascadeFile}
 use Rattle.reach.proofs.Cascading.{length-cascaded}
-use Rattle.replacing.specs.declared.Replaced.the-variants.{Done, Unsound as replaced·Unsound}
 use Rattle.replacing.specs.Calls.{removalAnswer, removalFile}
 use Rattle.replacing.specs.Calls as removal
 use Rattle.calls.specs.Answers.{Pool, placed, refusedBy, acceptedAt, refusedAt}
 use Rattle.calls.specs.Calls.{unchanged, enterTo, cascadeFrom, removeTo}
-use Rattle.updating.specs.Outcomes.{EntrySmall, entryPlaced, ReplacedSmall, replacedPlaced}
+use Rattle.updating.specs.Outcomes.{OutcomeSmall, outcomePlaced}
 
 holding-most : (k from : ℕ) (cs : List Contents) → holding k from cs ≤ from + length cs
 unfolding holding
@@ -54,6 +53,11 @@ removal-most : (p : Parameters) (g : Growth) (f : File) (from : ℕ) → from < 
 unfolding removalEnd
 removal-most p g f from h = stretch-most (storedTop (f .separators) (hashOf p g .top)) from (p .pages) h
 
+pub cases-small : (t u : Bool) (bad page : ℕ) → bad < 2 ^ 32 → page < 2 ^ 32 → OutcomeSmall (cond t (Unsound bad) (cond u (On page) Overflows))
+cases-small true u bad page b h = b
+cases-small false true bad page b h = h
+cases-small false false bad page b h = tt
+
 module _ (p : Parameters) (g : Growth) (f : File) (v : validParameters p ≡ true) (w : validGrowth p g ≡ true) where
   module _ (s : Star) where
     inside : entry.startOf p g (s .number) + entry.countOf p g f s ≤ p .pages
@@ -73,54 +77,59 @@ module _ (p : Parameters) (g : Growth) (f : File) (v : validParameters p ≡ tru
           limits p v .pages-most,
         )
 
-    pub entry-small : EntrySmall (entryAnswer p g f s)
+    pub entry-small : OutcomeSmall (entryAnswer p g f s)
     unfolding entryAnswer
-    entry-small = go (ltb (entry.unsoundOf p g f s) (entry.startOf p g (s .number) + entry.countOf p g f s)) (entersWithin (hashOf p g) f s (entry.endOf p g f s))
-      where
-        go : (t u : Bool) → EntrySmall (cond t (Unsound (entry.unsoundOf p g f s)) (cond u (On (holding (s .number) (entry.startOf p g (s .number)) (entry.contentsOf p g f s))) Overflows))
-        go true u = bad-small
-        go false true = page-small
-        go false false = tt
+    entry-small =
+        cases-small
+        (ltb (entry.unsoundOf p g f s) (entry.startOf p g (s .number) + entry.countOf p g f s))
+        (entersWithin (hashOf p g) f s (entry.endOf p g f s))
+        (entry.unsoundOf p g f s)
+        (holding (s .number) (entry.startOf p g (s .number)) (entry.contentsOf p g f s))
+        bad-small
+        page-small
 
-  pub cascade-small : (s : Star) (page : ℕ) → page < p .pages → EntrySmall (cascadeAnswer p g f s page)
+  pub cascade-small : (s : Star) (page : ℕ) → page < p .pages → OutcomeSmall (cascadeAnswer p g f s page)
   unfolding cascadeAnswer
-  cascade-small s page h = go (ltb (unsoundOf p g f s page) (stopOf p g f s page)) (isEmpty (overflow p g f s page))
-    where
-      few : stopOf p g f s page ≤ p .pages
-      few = omega (arith, length-cascaded (hashOf p g) f page (p .pages - page) (s ∷ []))
+  cascade-small s page h =
+      let few : stopOf p g f s page ≤ p .pages = omega (arith, length-cascaded (hashOf p g) f page (p .pages - page) (s ∷ [])) in
+      cases-small
+      (ltb (unsoundOf p g f s page) (stopOf p g f s page))
+      (isEmpty (overflow p g f s page))
+      (unsoundOf p g f s page)
+      (holding (s .number) page (visited p g f s page))
+      (omega (arith, unsound-most p g f page (length (visited p g f s page)), few, limits p v .pages-most))
+      (omega (arith, holding-most (s .number) page (visited p g f s page), few, limits p v .pages-most))
 
-      go : (t u : Bool) → EntrySmall (cond t (Unsound (unsoundOf p g f s page)) (cond u (On (holding (s .number) page (visited p g f s page))) Overflows))
-      go true u = omega (arith, unsound-most p g f page (length (visited p g f s page)), few, limits p v .pages-most)
-      go false true = omega (arith, holding-most (s .number) page (visited p g f s page), few, limits p v .pages-most)
-      go false false = tt
-
-  pub removal-small : (k : ℕ) → ReplacedSmall (removalAnswer p g f k)
+  pub removal-small : (k page : ℕ) → page < 2 ^ 32 → OutcomeSmall (removalAnswer p g f k page)
   unfolding removalAnswer hashOf
-  removal-small k = go (ltb (removal.unsoundOf p g f k) (removal.startOf p g k + removal.countOf p g f k))
-    where
-      go : (t : Bool) → ReplacedSmall (cond t (replaced·Unsound (removal.unsoundOf p g f k)) Done)
-      go true =
-          omega (arith, unsound-most p g f (removal.startOf p g k) (removal.countOf p g f k), removal-most p g f (removal.startOf p g k) (home-pages (multiplierOf p) p g k v w), limits p v .pages-most)
-      go false = tt
+  removal-small k page h =
+      cases-small
+      (ltb (removal.unsoundOf p g f k) (removal.startOf p g k + removal.countOf p g f k))
+      true
+      (removal.unsoundOf p g f k)
+      page
+      (omega (arith, unsound-most p g f (removal.startOf p g k) (removal.countOf p g f k), removal-most p g f (removal.startOf p g k) (home-pages (multiplierOf p) p g k v w), limits p v .pages-most))
+      h
 
+-- the three ways of placing pages anew: a page is unsound, a star is carried past the last page, or none
 module _ (p : Parameters) (g : Growth) (f : File) (pool : Pool) where
-  module _ (s : Star) where
-    entered-cases : (t u : Bool) (bad page place : ℕ) (next : File)
-        → (placed (entryPlaced (cond t (Unsound bad) (cond u (On page) Overflows)) place)
-        ≡ cond t (unchanged g f pool (refusedAt 5 bad place)) (cond u (record { answer = acceptedAt page place; growth = g; file = next; pool = pool }) (unchanged g f pool (refusedAt 8 0 place))) .answer)
-        × (cond t f (cond u next f)
-        ≡ cond t (unchanged g f pool (refusedAt 5 bad place)) (cond u (record { answer = acceptedAt page place; growth = g; file = next; pool = pool }) (unchanged g f pool (refusedAt 8 0 place))) .file)
-    unfolding placed refusedBy
-    entered-cases true u bad page place next = (refl, refl)
-    entered-cases false true bad page place next = (refl, refl)
-    entered-cases false false bad page place next = (refl, refl)
+  outcome-cases : (t u : Bool) (bad page place : ℕ) (next : File)
+      → (placed (outcomePlaced (cond t (Unsound bad) (cond u (On page) Overflows)) place)
+      ≡ cond t (unchanged g f pool (refusedAt 5 bad place)) (cond u (record { answer = acceptedAt page place; growth = g; file = next; pool = pool }) (unchanged g f pool (refusedAt 8 0 place))) .answer)
+      × (cond t f (cond u next f)
+      ≡ cond t (unchanged g f pool (refusedAt 5 bad place)) (cond u (record { answer = acceptedAt page place; growth = g; file = next; pool = pool }) (unchanged g f pool (refusedAt 8 0 place))) .file)
+  unfolding placed refusedBy
+  outcome-cases true u bad page place next = (refl, refl)
+  outcome-cases false true bad page place next = (refl, refl)
+  outcome-cases false false bad page place next = (refl, refl)
 
+  module _ (s : Star) where
     pub entered-is : (place : ℕ)
-        → (placed (entryPlaced (entryAnswer p g f s) place) ≡ enterTo p g f pool s place (entry.endOf p g f s) .answer)
+        → (placed (outcomePlaced (entryAnswer p g f s) place) ≡ enterTo p g f pool s place (entry.endOf p g f s) .answer)
         × (entryFile p g f s ≡ enterTo p g f pool s place (entry.endOf p g f s) .file)
     unfolding entryAnswer entryFile enterTo
     entered-is place =
-        entered-cases
+        outcome-cases
         (ltb (entry.unsoundOf p g f s) (entry.startOf p g (s .number) + entry.countOf p g f s))
         (entersWithin (hashOf p g) f s (entry.endOf p g f s))
         (entry.unsoundOf p g f s)
@@ -129,11 +138,11 @@ module _ (p : Parameters) (g : Growth) (f : File) (pool : Pool) where
         (replaced (p .places) f (entry.startOf p g (s .number)) (entry.contentsOf p g f s))
 
     pub cascaded-is : (place page : ℕ)
-        → (placed (entryPlaced (cascadeAnswer p g f s page) place) ≡ cascadeFrom p g f pool s place page .answer)
+        → (placed (outcomePlaced (cascadeAnswer p g f s page) place) ≡ cascadeFrom p g f pool s place page .answer)
         × (cascadeFile p g f s page ≡ cascadeFrom p g f pool s place page .file)
     unfolding cascadeAnswer cascadeFile cascadeFrom
     cascaded-is place page =
-        entered-cases
+        outcome-cases
         (ltb (unsoundOf p g f s page) (stopOf p g f s page))
         (isEmpty (overflow p g f s page))
         (unsoundOf p g f s page)
@@ -141,20 +150,14 @@ module _ (p : Parameters) (g : Growth) (f : File) (pool : Pool) where
         place
         (replaced (p .places) f page (visited p g f s page))
 
-  removed-cases : (t : Bool) (bad page place : ℕ) (next : File)
-      → (placed (replacedPlaced (cond t (replaced·Unsound bad) Done) page place) ≡ cond t (unchanged g f pool (refusedAt 5 bad place)) (record { answer = acceptedAt page place; growth = g; file = next; pool = pool }) .answer)
-      × (cond t f next ≡ cond t (unchanged g f pool (refusedAt 5 bad place)) (record { answer = acceptedAt page place; growth = g; file = next; pool = pool }) .file)
-  unfolding placed refusedBy
-  removed-cases true bad page place next = (refl, refl)
-  removed-cases false bad page place next = (refl, refl)
-
   pub removed-is : (page k place : ℕ)
-      → (placed (replacedPlaced (removalAnswer p g f k) page place) ≡ removeTo p g f pool page k place (removalEnd (hashOf p g) (p .pages) f (hashOf p g .home k)) .answer)
+      → (placed (outcomePlaced (removalAnswer p g f k page) place) ≡ removeTo p g f pool page k place (removalEnd (hashOf p g) (p .pages) f (hashOf p g .home k)) .answer)
       × (removalFile p g f k ≡ removeTo p g f pool page k place (removalEnd (hashOf p g) (p .pages) f (hashOf p g .home k)) .file)
   unfolding removalAnswer removalFile removeTo
   removed-is page k place =
-      removed-cases
+      outcome-cases
       (ltb (removal.unsoundOf p g f k) (removal.startOf p g k + removal.countOf p g f k))
+      true
       (removal.unsoundOf p g f k)
       page
       place

@@ -1,4 +1,4 @@
--- The pool after a call that uses it, and a star that is not held.
+-- The pool after a call that uses it, and a star that is held or not.
 use mathlib.Core.Path.{_≡_, refl, sym, _∙_}
 use mathlib.Core.Bool.{Bool, true, false, cond}
 use mathlib.Core.List.{List}
@@ -12,6 +12,7 @@ use Rattle.pages.specs.declared.position.Position.{Position}
 use Rattle.placement.specs.Rule.{Star, left}
 use Rattle.placement.specs.File.{File}
 use Rattle.entering.specs.Entry.{Unheld}
+use Rattle.replacing.specs.Calls.{Held}
 use Rattle.guarding.proofs.Admitting.{readable-facts}
 use Rattle.cascading.specs.Cascade.{overflow, stopOf, unsoundOf}
 use Rattle.reach.specs.Reach.{pagesTo, entryEnd, removalEnd, entersWithin, firstUnsound, isEmpty}
@@ -25,6 +26,10 @@ unfolding holds
 unheld p g f k e h =
     let t = readable-facts p g f (named p g f k) e in
     record { named = t .0; sound = t .1; absent = h }
+
+pub held-star : (p : Parameters) (g : Growth) (f : File) (k : ℕ) → readable p g f (named p g f k) ≡ true → holds p f (named p g f k) k ≡ true → Held p g f k
+unfolding holds
+held-star p g f k e h = record { sound = readable-facts p g f (named p g f k) e .1; present = h }
 
 -- zeros of the lengths that the pool had
 pub cleared-is : (ns ws os ns′ ws′ os′ : List ℕ) (n m l : ℕ) → ns′ ≡ replicate n 0 → ws′ ≡ replicate m 0 → os′ ≡ replicate l 0

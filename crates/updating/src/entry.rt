@@ -7,12 +7,12 @@ ghost use Rattle.placement.specs.Ready.{Pooled};
 ghost use Rattle.placement.specs.Rule.{starWith};
 ghost use Rattle.calls.specs.Answers.{Leaves, Stores, cleared, placed};
 ghost use Rattle.calls.specs.Calls.{enterOf, cascadeOf, named};
-ghost use Rattle.updating.specs.Outcomes.{EntrySmall, entryPlaced, entryOn, entryOf};
+ghost use Rattle.updating.specs.Outcomes.{entryOn, entryOf};
 ghost use Rattle.calls.specs.Lent.{Admitted, poolBefore, poolAfter};
+use crate::outcome::placed_from;
 use calls::answers::Admission;
 use calls::answers::Placed;
 use calls::answers::Refusal;
-use entering::Entered;
 use guarding::all_fit;
 use guarding::guard;
 use hashing::Geometry;
@@ -186,7 +186,7 @@ fn enter_star(
         return Placed::Refused(Refusal::Held, named.place);
     }
     if cascading {
-        return entry_placed(
+        return placed_from(
             cascading::cascade(
                 &table,
                 geometry,
@@ -206,8 +206,8 @@ fn enter_star(
             named.place,
         );
     }
-    entry_placed(
-        entering::enter_stretch(
+    placed_from(
+        entering::enter_star(
             &table,
             geometry,
             separators,
@@ -221,19 +221,8 @@ fn enter_star(
             word,
             caller,
             named.home,
+            named.place,
         ),
         named.place,
     )
-}
-
-// The page where the star now stands, with the place given, at which it was sought.
-fn entry_placed(entered: Entered, place: u32) -> Placed
-    requires { ⌜ EntrySmall entered ⌝ }
-    ensures { λ r. ⌜ r ≡ entryPlaced entered place ⌝ }
-{
-    match entered {
-        Entered::On(page) => Placed::On(page as u32, place),
-        Entered::Unsound(page) => Placed::Refused(Refusal::Damaged(page as u32), place),
-        Entered::Overflows => Placed::Refused(Refusal::Full, place),
-    }
 }

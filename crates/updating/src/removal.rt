@@ -7,8 +7,8 @@ ghost use Rattle.placement.specs.Lent.{held, before, after};
 ghost use Rattle.placement.specs.Ready.{Pooled};
 ghost use Rattle.calls.specs.Answers.{Leaves, Stores, cleared, placed};
 ghost use Rattle.calls.specs.Calls.{removeOf, removeOn, named};
-ghost use Rattle.updating.specs.Outcomes.{ReplacedSmall, replacedPlaced};
 ghost use Rattle.calls.specs.Lent.{Admitted, poolBefore, poolAfter};
+use crate::outcome::placed_from;
 use calls::answers::Admission;
 use calls::answers::Placed;
 use calls::answers::Refusal;
@@ -19,7 +19,6 @@ use hashing::Growth;
 use hashing::Parameters;
 use lookup::find;
 use lookup::may_alter;
-use replacing::Replaced;
 
 // The answer of an accepted removal is the page where the star stood.
 pub fn remove(
@@ -105,8 +104,8 @@ fn remove_held(
     if !may_alter(caller, named.owner) {
         return Placed::Refused(Refusal::NotOwner, named.place);
     }
-    replaced_placed(
-        replacing::remove_star(
+    placed_from(
+        replacing::remove_held(
             &table,
             geometry,
             separators,
@@ -118,20 +117,9 @@ fn remove_held(
             poolowners,
             number,
             named.home,
+            named.page,
+            named.place,
         ),
-        page,
         named.place,
     )
-}
-
-// What is answered if the stretch was placed anew: the page and the place given.
-pub fn replaced_placed(replaced: Replaced, page: u32, place: u32) -> Placed
-    requires { ⌜ ReplacedSmall replaced ⌝ }
-    ensures { λ r. ⌜ r ≡ replacedPlaced replaced page place ⌝ }
-{
-    match replaced {
-        Replaced::Done => Placed::On(page, place),
-        Replaced::Unsound(bad) => Placed::Refused(Refusal::Damaged(bad as u32), place),
-        Replaced::Overflows => Placed::Refused(Refusal::Full, place),
-    }
 }

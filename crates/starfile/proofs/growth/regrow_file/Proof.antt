@@ -6,7 +6,7 @@ use Rattle.placement.specs.Hash.{lent}
 use Rattle.calls.specs.Answers.{Pool, pooled, cleared}
 use Rattle.starfile.proofs.Outcomes.{growth-small}
 use Rattle.guarding.proofs.Admitting.{prepared, tabled}
-use Rattle.starfile.proofs.Stepping.{step-movable, regrow-refused, regrow-stored}
+use Rattle.starfile.proofs.Stepping.{step-movable, step-small, regrow-refused, regrow-stored}
 use borrow.Author.Needs.{needs}
 use Rattle.starfile.proofs.growth.regrow_file.Statement.{statement}
 use Rattle.starfile.proofs.growth.regrow_file.Tie as tie
@@ -35,6 +35,9 @@ enum-known-step-2 c = search needs
 first-multipliers-requires : tie.Need-first-multipliers-requires
 first-multipliers-requires c κs = tabled (start (c .before) .pre .0)
 
+cast-regrow : tie.Need-cast-regrow
+cast-regrow c = search needs
+
 regrow-requires : tie.Need-regrow-requires
 regrow-requires c κs =
     let stepped = c .before .before .before .before .before .before .before .before .before .before in
@@ -44,8 +47,11 @@ regrow-requires c κs =
 
 grown-by-requires : tie.Need-grown-by-requires
 grown-by-requires c κs =
-    let s = start (c .before .before .before .before .before .before .before .before .before .before .before .before .before .before .before .before .before .before .before .before .before .before .before .before .before) in
-    rw (c .before .before .before .before .before .before .before .before .before .before .before .before .before .before .regrow .ensures .0) (growth-small (s .args .parameters) (s .args .growth) (fileOf s) (s .pre .0 .homing .valid) _)
+    let stepped = c .before .before .before .before .before .before .before .before .before .before .before .before .before .before .before .before .before .before .before .before .before .before .before .before .before in
+    let s = start stepped in
+    let e = sym (stepped .before .before .step-of .ensures) ∙ stepped .step2 .given .1 in
+    rw (c .before .before .before .before .before .before .before .before .before .before .before .before .before .before .regrow .ensures .0)
+    (growth-small (s .args .parameters) (s .args .growth) (fileOf s) (s .pre .0 .homing .valid) _ _ (step-small _ _ _ e (s .pre .0 .homing .valid) (s .pre .0 .homing .growth)))
 
 returns : tie.Need-returns
 returns c =
@@ -90,6 +96,7 @@ regrow-file-spec =
     unmoved-requires
     enum-known-step-2
     first-multipliers-requires
+    cast-regrow
     regrow-requires
     grown-by-requires
     returns

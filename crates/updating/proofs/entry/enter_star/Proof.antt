@@ -135,8 +135,8 @@ cascade-requires c κs =
       s .pre .1 .0,
     )
 
-entry-placed-requires : tie.Need-entry-placed-requires
-entry-placed-requires c κs =
+placed-from-requires : tie.Need-placed-from-requires
+placed-from-requires c κs =
     let e = c .before .before .before .before .before .before .before .before .before .before .before .before .before .before .before .before .before .before .before .before .before .before .before .before in
     let s = begun e in
     rw (c .before .before .before .before .before .before .before .before .before .before .before .before .before .before .cascade .ensures .0)
@@ -171,21 +171,24 @@ returns-4 c =
     let done = rw (found .pageIs) at (c .before .before .before .before .before .before .before .before .before .before .before .before .before .before .before .cascade .ensures) in
     let is = cascaded-is (s .args .parameters) (s .args .growth) (fileOf s) (cleared (poolOf s)) (star e) (placeFor (s .args .parameters) (fileOf s) (named (s .args .parameters) (s .args .growth) (fileOf s) (s .args .number)) (s .args .number)) (named (s .args .parameters) (s .args .growth) (fileOf s) (s .args .number)) in
     record {
-      answers = rw (read e, held e, c .before .before .before .before .before .before .before .before .before .before .before .before .before .before .before .before .before .before .before .before .before .before .before .before .if4 .taken) (ap placed (rw (done .0, found .placeIs (opened e)) at (c .entry-placed .ensures)) ∙ is .0);
+      answers = rw (read e, held e, c .before .before .before .before .before .before .before .before .before .before .before .before .before .before .before .before .before .before .before .before .before .before .before .before .if4 .taken) (ap placed (rw (done .0, found .placeIs (opened e)) at (c .placed-from .ensures)) ∙ is .0);
       files = rw (read e, held e, c .before .before .before .before .before .before .before .before .before .before .before .before .before .before .before .before .before .before .before .before .before .before .before .before .if4 .taken) (done .1 ∙ is .1);
     }
 
-enter-stretch-requires : tie.Need-enter-stretch-requires
-enter-stretch-requires c κs =
+enter-star-requires : tie.Need-enter-star-requires
+enter-star-requires c κs =
     let e = c .before .before .before .before .before .before .before .before .before in
     let s = begun e in
-    (prepared (c .before .before .before .before .before .before .before .before .before .before .before .before .before .before .before .before .before .before .before .first-multipliers .ensures) (s .pre .0), (s .pre .1 .0, (s .pre .1 .1, (missing e, c .before .before .before .before .before .before .before .before .before .before .before .before .before .find .ensures .homeIs))))
+    let found = c .before .before .before .before .before .before .before .before .before .before .before .before .before .find .ensures in (
+      prepared (c .before .before .before .before .before .before .before .before .before .before .before .before .before .before .before .before .before .before .before .first-multipliers .ensures) (s .pre .0),
+      (s .pre .1 .0, (s .pre .1 .1, (missing e, (found .homeIs, found .placeIs (opened e))))),
+    )
 
-entry-placed-requires-2 : tie.Need-entry-placed-requires-2
-entry-placed-requires-2 c κs =
+placed-from-requires-2 : tie.Need-placed-from-requires-2
+placed-from-requires-2 c κs =
     let e = c .before .before .before .before .before .before .before .before .before .before .before .before .before .before .before .before .before .before .before .before .before .before .before .before in
     let s = begun e in
-    rw (c .before .before .before .before .before .before .before .before .before .before .before .before .before .before .enter-stretch .ensures .0)
+    rw (c .before .before .before .before .before .before .before .before .before .before .before .before .before .before .enter-star .ensures .0)
     (entry-small (s .args .parameters) (s .args .growth) (fileOf s) (s .pre .0 .homing .valid) (s .pre .0 .homing .growth) (star e))
 
 same-length-20 : tie.Need-same-length-20
@@ -214,10 +217,10 @@ returns-5 c =
     let e = c .before .before .before .before .before .before .before .before .before .before .before .before .before .before .before .before .before .before .before .before .before .before .before .before .before in
     let s = begun e in
     let found = c .before .before .before .before .before .before .before .before .before .before .before .before .before .before .before .before .before .before .before .before .before .before .before .before .before .before .before .before .before .find .ensures in
-    let done = c .before .before .before .before .before .before .before .before .before .before .before .before .before .before .before .enter-stretch .ensures in
+    let done = c .before .before .before .before .before .before .before .before .before .before .before .before .before .before .before .enter-star .ensures in
     let is = entered-is (s .args .parameters) (s .args .growth) (fileOf s) (cleared (poolOf s)) (star e) (placeFor (s .args .parameters) (fileOf s) (named (s .args .parameters) (s .args .growth) (fileOf s) (s .args .number)) (s .args .number)) in
     record {
-      answers = rw (read e, held e, c .before .before .before .before .before .before .before .before .before .before .before .before .before .before .before .before .before .before .before .before .before .before .before .before .if4 .left) (ap placed (rw (done .0, found .placeIs (opened e)) at (c .entry-placed2 .ensures)) ∙ is .0);
+      answers = rw (read e, held e, c .before .before .before .before .before .before .before .before .before .before .before .before .before .before .before .before .before .before .before .before .before .before .before .before .if4 .left) (ap placed (rw (done .0, found .placeIs (opened e)) at (c .placed-from2 .ensures)) ∙ is .0);
       files = rw (read e, held e, c .before .before .before .before .before .before .before .before .before .before .before .before .before .before .before .before .before .before .before .before .before .before .before .before .if4 .left) (done .1 ∙ is .1);
     }
 
@@ -244,7 +247,7 @@ enter-star-spec =
     same-length-12
     returns-3
     cascade-requires
-    entry-placed-requires
+    placed-from-requires
     same-length-13
     same-length-14
     same-length-15
@@ -253,8 +256,8 @@ enter-star-spec =
     same-length-18
     same-length-19
     returns-4
-    enter-stretch-requires
-    entry-placed-requires-2
+    enter-star-requires
+    placed-from-requires-2
     same-length-20
     same-length-21
     same-length-22

@@ -11,6 +11,7 @@ use Rattle.calls.specs.Calls.{removeOn, allowed, named, placeFor}
 use Rattle.lookup.proofs.Finding.{altered}
 use Rattle.updating.proofs.Outcomes.{removal-small, removed-is}
 use Rattle.guarding.proofs.Admitting.{prepared, tabled}
+use Rattle.updating.proofs.Pools.{held-star}
 use borrow.Author.Needs.{needs}
 use Rattle.updating.proofs.removal.remove_held.Statement.{statement}
 use Rattle.updating.proofs.removal.remove_held.Tie as tie
@@ -98,18 +99,32 @@ returns-3 c =
     let may = altered _ _ _ _ _ (found .ownerIs there) (c .before .may-alter .ensures) (not-true _ (c .if3 .taken)) in
     record { answers = rw (read, held, may, ← found .placeIs opened); files = rw (read, held, may) }
 
-remove-star-requires : tie.Need-remove-star-requires
-remove-star-requires c κs =
-    let s = c .before .before .before .before .before .before .before .before .before .before .before .before .before .before .before .before .before .before .before .before .before .before .before .before .before .before .before .before .before in (
+remove-held-requires : tie.Need-remove-held-requires
+remove-held-requires c κs =
+    let s = c .before .before .before .before .before .before .before .before .before .before .before .before .before .before .before .before .before .before .before .before .before .before .before .before .before .before .before .before .before in
+    let found = c .before .before .before .before .before .before .before .before .before .before .before .before .before .before .before .find .ensures in
+    let opened = not-false _ (c .before .before .before .before .before .before .before .before .before .before .before .before .if1 .left) in
+    let there = not-false _ (c .before .before .before .before .before .before .before .before .before .before .if2 .left) in (
       prepared (c .before .before .before .before .before .before .before .before .before .before .before .before .before .before .before .before .before .before .before .before .before .first-multipliers .ensures) (s .pre .0),
-      (s .pre .1 .0, c .before .before .before .before .before .before .before .before .before .before .before .before .before .before .before .find .ensures .homeIs),
+      (
+        s .pre .1 .0,
+        (
+          s .pre .1 .1,
+          (
+            held-star (s .args .parameters) (s .args .growth) (fileOf s) (s .args .number) (sym (found .readableIs) ∙ opened) (sym (found .heldIs opened) ∙ there),
+            (found .homeIs, found .placeIs opened),
+          ),
+        ),
+      ),
     )
 
-replaced-placed-requires : tie.Need-replaced-placed-requires
-replaced-placed-requires c κs =
+placed-from-requires : tie.Need-placed-from-requires
+placed-from-requires c κs =
     let s = c .before .before .before .before .before .before .before .before .before .before .before .before .before .before .before .before .before .before .before .before .before .before .before .before .before .before .before .before .before .before .before .before .before .before .before .before .before .before .before .before .before .before .before .before in
-    rw (c .before .before .before .before .before .before .before .before .before .before .before .before .before .before .remove-star .ensures .0)
-    (removal-small (s .args .parameters) (s .args .growth) (fileOf s) (s .pre .0 .homing .valid) (s .pre .0 .homing .growth) (s .args .number))
+    let found = c .before .before .before .before .before .before .before .before .before .before .before .before .before .before .before .before .before .before .before .before .before .before .before .before .before .before .before .before .before .before .find in
+    rw (c .before .before .before .before .before .before .before .before .before .before .before .before .before .before .remove-held .ensures .0)
+    (removal-small (s .args .parameters) (s .args .growth) (fileOf s) (s .pre .0 .homing .valid) (s .pre .0 .homing .growth) (s .args .number) (found .result .page)
+    (omega (arith, found .ensures .pageMost, limits _ (s .pre .0 .homing .valid) .pages-most)))
 
 same-length-13 : tie.Need-same-length-13
 same-length-13 c = search needs
@@ -142,10 +157,10 @@ returns-4 c =
     let there = not-false _ (c .before .before .before .before .before .before .before .before .before .before .before .before .before .before .before .before .before .before .before .before .before .before .before .before .before .before .if2 .left) in
     let held = sym (found .heldIs opened) ∙ there in
     let may = altered _ _ _ _ _ (found .ownerIs there) (c .before .before .before .before .before .before .before .before .before .before .before .before .before .before .before .before .before .before .before .before .before .before .before .before .before .may-alter .ensures) (not-false _ (c .before .before .before .before .before .before .before .before .before .before .before .before .before .before .before .before .before .before .before .before .before .before .before .before .if3 .left)) in
-    let done = c .before .before .before .before .before .before .before .before .before .before .before .before .before .before .before .remove-star .ensures in
+    let done = c .before .before .before .before .before .before .before .before .before .before .before .before .before .before .before .remove-held .ensures in
     let is = removed-is (s .args .parameters) (s .args .growth) (fileOf s) (cleared (poolOf s)) (named (s .args .parameters) (s .args .growth) (fileOf s) (s .args .number)) (s .args .number) (placeFor (s .args .parameters) (fileOf s) (named (s .args .parameters) (s .args .growth) (fileOf s) (s .args .number)) (s .args .number)) in
     record {
-      answers = rw (read, held, may) (ap placed (rw (done .0, found .pageIs, found .placeIs opened) at (c .replaced-placed .ensures)) ∙ is .0);
+      answers = rw (read, held, may) (ap placed (rw (done .0, found .pageIs, found .placeIs opened) at (c .placed-from .ensures)) ∙ is .0);
       files = rw (read, held, may) (done .1 ∙ is .1);
     }
 
@@ -172,8 +187,8 @@ remove-held-spec =
     same-length-11
     same-length-12
     returns-3
-    remove-star-requires
-    replaced-placed-requires
+    remove-held-requires
+    placed-from-requires
     same-length-13
     same-length-14
     same-length-15
