@@ -16,9 +16,10 @@ use Rattle.hashing.specs.Limits.{validParameters, validGrowth}
 use Rattle.hashing.proofs.Bounds.{limits}
 use Rattle.pages.specs.Page.{part, placeOf}
 use Rattle.placement.specs.Rule.{Star, pages, insert}
-use Rattle.placement.specs.File.{File, Sized, starsAt, padded, written, replaced}
+use Rattle.placement.specs.File.{File, Sized, starsAt, replaced}
 use Rattle.placement.specs.Hash.{hashOf, soundAt, namedPage, lent}
-use Rattle.placement.proofs.Filters.{and-true}
+use Rattle.buffers.specs.Lists.{padded, written}
+use Rattle.buffers.proofs.Tests.{and-true}
 use Rattle.placement.proofs.Order.{member-insert, inserted, length-insert}
 use Rattle.placement.proofs.Probing.{bounded-real, homed-real}
 use Rattle.placement.proofs.Files.{numberOf, wordOf, ownerOf}

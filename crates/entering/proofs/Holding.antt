@@ -10,11 +10,12 @@ use lib.Dec.{eqb, ltb}
 use lib.ListN.{length, take, drop, getD, length-append}
 use lib.Seq.{drop-at, length-take-le}
 use borrow.Author.Tests.{eqb-true, eq-eqb}
+use Rattle.buffers.specs.Lists.{written}
 use Rattle.pages.specs.Page.{stretch}
 use Rattle.hashing.specs.declared.Parameters.{Parameters}
 use Rattle.hashing.specs.declared.Growth.{Growth}
 use Rattle.placement.specs.Rule.{Star, Hash, Contents, separators, pages, left, first, blank}
-use Rattle.placement.specs.File.{File, gathered, written, replaced}
+use Rattle.placement.specs.File.{File, gathered, replaced}
 use Rattle.placement.specs.Hash.{namedPage, lent}
 use Rattle.placement.proofs.Composition.{length-pages}
 use Rattle.placement.proofs.Order.{inserted}

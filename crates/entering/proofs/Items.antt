@@ -30,7 +30,7 @@ use Rattle.waiting.specs.Words.{pack, homeOf, numberIn}
 use Rattle.waiting.specs.Gather.{skipped, wordsFrom, groupOf, groupsBelow}
 use Rattle.waiting.proofs.Lists.{all-cons, all-items}
 use Rattle.waiting.proofs.Packing.{home-pack, number-pack}
-use Rattle.reach.proofs.Pastes.{map-take, map-drop}
+use Rattle.buffers.proofs.Lists.{map-take, map-drop}
 use Rattle.planning.specs.Plans.{homed}
 use Rattle.planning.specs.Sources.{sourced}
 use Rattle.planning.proofs.Blocks.{from}

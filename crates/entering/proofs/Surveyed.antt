@@ -7,13 +7,14 @@ use native.Mathlib.Nat.{add-mul, mul-le-mul-right}
 use native.Mathlib.Omega.{arith}
 use lib.ListN.{take, length-append, length, drop, length-map, length-drop}
 use lib.Seq.{take-at, take-append-le, length-take-le, drop-paste, paste, slice}
+use Rattle.buffers.specs.Lists.{written}
 use Rattle.pages.specs.Page.{stretch}
 use Rattle.hashing.specs.declared.Parameters.{Parameters}
 use Rattle.hashing.specs.declared.Growth.{Growth}
 use Rattle.generator.specs.Generator.{topOf}
 use Rattle.hashing.specs.Limits.{validParameters}
 use Rattle.placement.specs.Rule.{Star, separators}
-use Rattle.placement.specs.File.{File, Sized, column, written}
+use Rattle.placement.specs.File.{File, Sized, column}
 use Rattle.placement.specs.Hash.{hashOf, soundAt, homesOf, homeIn}
 use Rattle.placement.proofs.Writing.{length-column}
 use Rattle.waiting.specs.Lists.{allBelow}

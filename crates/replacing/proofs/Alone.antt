@@ -7,6 +7,8 @@ use native.Mathlib.Omega.{arith}
 use lib.Dec.{leb, eqb}
 use lib.ListN.{length, getD}
 use borrow.Author.Tests.{leb-true, eq-eqb, le-ltb}
+use Rattle.buffers.specs.Lists.{padded, written}
+use Rattle.buffers.proofs.Tests.{and-true}
 use Rattle.hashing.specs.declared.Parameters.{Parameters}
 use Rattle.hashing.specs.declared.Growth.{Growth}
 use Rattle.generator.specs.Generator.{topOf}
@@ -15,9 +17,9 @@ use Rattle.pages.specs.Page.{part, placeOf}
 use Rattle.pages.specs.Position.{validNumber, validWord}
 use Rattle.pages.proofs.Places.{held-there}
 use Rattle.placement.specs.Rule.{Star, pages, without}
-use Rattle.placement.specs.File.{File, Sized, starsAt, gathered, padded, written, replaced}
+use Rattle.placement.specs.File.{File, Sized, starsAt, gathered, replaced}
 use Rattle.placement.specs.Hash.{hashOf, soundAt, namedPage, lent}
-use Rattle.placement.proofs.Filters.{and-true, length-filter}
+use Rattle.placement.proofs.Filters.{length-filter}
 use Rattle.placement.proofs.Order.{member-without}
 use Rattle.placement.proofs.Files.{numberOf, wordOf, ownerOf}
 use Rattle.placement.proofs.Sound.{length-starsAt}

@@ -27,8 +27,9 @@ use Rattle.waiting.specs.Lists.{allBelow}
 use Rattle.reach.specs.Reach.{isEmpty, firstUnsound}
 use Rattle.reach.proofs.Search.{such}
 use Rattle.reach.proofs.Surveyed.{unsound}
-use Rattle.reach.proofs.Pastes.{map-take, map-drop}
-use Rattle.planning.proofs.Copies.{Copied, turn, unread, pasted-whole}
+use Rattle.buffers.proofs.Lists.{map-take, map-drop}
+use Rattle.buffers.proofs.Copies.{Copied, turn, unread}
+use Rattle.buffers.proofs.Written.{pasted-whole}
 use Rattle.planning.proofs.Sourcing.{itemHome}
 use Rattle.planning.proofs.Placed.{Gatherable, probes-real, homes-real}
 use Rattle.planning.specs.declared.outcome.Outcome.the-variants.{On, Unsound, Overflows}

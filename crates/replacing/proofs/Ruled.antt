@@ -8,10 +8,11 @@ use native.Mathlib.Omega.{arith}
 use lib.Dec.{eqb}
 use lib.ListN.{length, drop, take}
 use borrow.Author.Tests.{eq-eqb, ne-eqb}
+use Rattle.buffers.specs.Lists.{written}
 use Rattle.pages.specs.Page.{stretch}
 use Rattle.hashing.specs.declared.Parameters.{Parameters}
 use Rattle.placement.specs.Rule.{Star, Hash, pages, left, without}
-use Rattle.placement.specs.File.{File, gathered, replaced, written}
+use Rattle.placement.specs.File.{File, gathered, replaced}
 use Rattle.placement.specs.Hash.{lent}
 use Rattle.waiting.specs.Gather.{starsIn, stretchWords}
 use Rattle.reach.specs.Reach.{isEmpty}

@@ -17,13 +17,14 @@ use Rattle.hashing.specs.Limits.{validParameters}
 use Rattle.pages.specs.Position.{validWord}
 use Rattle.pages.proofs.Parts.{page-fits}
 use Rattle.placement.specs.Rule.{Star, Hash, separators, filter, below, passing, separatorOf, contentsOf, onward, pages, left, first}
-use Rattle.placement.specs.File.{File, Sized, starsAt, gathered, padded, column, written, replaced}
+use Rattle.placement.specs.File.{File, Sized, starsAt, gathered, column, replaced}
 use Rattle.placement.specs.Hash.{hashOf, soundAt, namedPage, lent}
 use Rattle.placement.proofs.Filters.{filter-all-on, filter-none-on}
 use Rattle.placement.proofs.Order.{rising-sorted, pour-nil}
 use Rattle.placement.proofs.Separator.{Bounded, probes, below-top, probing-top, top-all}
 use Rattle.placement.proofs.Standing.{first-home, past-top}
-use Rattle.placement.proofs.Writing.{written-same}
+use Rattle.buffers.specs.Lists.{padded, written}
+use Rattle.buffers.proofs.Written.{written-same}
 use Rattle.placement.proofs.Files.{numberOf, wordOf, ownerOf}
 use Rattle.placement.proofs.Sound.{Sound, sound-rising}
 use Rattle.placement.proofs.Tested.{real-facts}

@@ -6,8 +6,9 @@ use native.Mathlib.Omega.{arith}
 use lib.ListN.{length, take, drop, replicate, length-append, length-map, length-replicate, replicate-append-replicate}
 use lib.Seq.{length-take-le}
 use Rattle.placement.specs.Rule.{Star}
-use Rattle.placement.specs.File.{padded, written}
-use Rattle.placement.proofs.Writing.{around, length-padded}
+use Rattle.buffers.specs.Lists.{padded, written}
+use Rattle.buffers.proofs.Written.{around}
+use Rattle.buffers.proofs.Lists.{length-padded}
 use Rattle.shifting.specs.Shift.{opened, closed}
 use Rattle.shifting.proofs.Moving.{opened-is, closed-is}
 

@@ -8,7 +8,7 @@ use Rattle.pages.specs.Page.{part, placeOf}
 use Rattle.pages.specs.Position.{validWord}
 use Rattle.pages.proofs.Parts.{part-length}
 use Rattle.placement.specs.Rule.{Star, insert, without, starWith}
-use Rattle.placement.specs.File.{padded, written}
+use Rattle.buffers.specs.Lists.{padded, written}
 use Rattle.placement.proofs.Order.{Rising}
 use Rattle.placement.proofs.Pages.{Numbered, Columns, orderly-rising, orderly-proper, orderly-columns, length-starsOf}
 use Rattle.placement.proofs.Files.{numberOf, wordOf, ownerOf}

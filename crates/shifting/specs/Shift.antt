@@ -6,10 +6,11 @@ use Prim.Native.Nat.{ℕ, _+_, _-_, _*_, _≤_, _<_}
 use lib.ListN.{length, take, drop, getD}
 use lib.Seq.{paste}
 use denote.Ref.{now}
+use Rattle.buffers.specs.Lists.{padded, written}
 use Rattle.pages.specs.Page.{part, placeOf}
 use Rattle.pages.specs.Position.{validWord}
 use Rattle.placement.specs.Rule.{Star}
-use Rattle.placement.specs.File.{starsOf, orderly, padded, written}
+use Rattle.placement.specs.File.{starsOf, orderly}
 use Rattle.placement.specs.Lent.{Lent}
 
 -- x at `from`, and the items from there, up to the one before from + count, moved up by one
