@@ -75,7 +75,7 @@ module _ (p : Parameters) (g : Growth) (f : File) (pool : Pool) where
         × (entryFile p g f s ≡ enterTo p g f pool s place (entry.endOf p g f s) .file)
     unfolding entryAnswer entryFile enterTo
     entered-is place =
-        outcome-cases
+        outcome-cases g f pool
         (ltb (entry.unsoundOf p g f s) (entry.startOf p g (s .number) + entry.countOf p g f s))
         (entersWithin (hashOf p g) f s (entry.endOf p g f s))
         (entry.unsoundOf p g f s)
@@ -88,7 +88,7 @@ module _ (p : Parameters) (g : Growth) (f : File) (pool : Pool) where
         × (cascadeFile p g f s page ≡ cascadeFrom p g f pool s place page .file)
     unfolding cascadeAnswer cascadeFile cascadeFrom
     cascaded-is place page =
-        outcome-cases
+        outcome-cases g f pool
         (ltb (unsoundOf p g f s page) (stopOf p g f s page))
         (isEmpty (overflow p g f s page))
         (unsoundOf p g f s page)

@@ -47,7 +47,7 @@ cases-small false true bad page b h = h
 cases-small false false bad page b h = tt
 
 -- the three ways of placing pages anew: a page is unsound, a star is carried past the last page, or none
-module _ (p : Parameters) (g : Growth) (f : File) (pool : Pool) where
+module _ (g : Growth) (f : File) (pool : Pool) where
   pub outcome-cases : (t u : Bool) (bad page place : ℕ) (next : File)
       → (placed (outcomePlaced (cond t (Unsound bad) (cond u (On page) Overflows)) place)
       ≡ cond t (unchanged g f pool (refusedAt 5 bad place)) (cond u (record { answer = acceptedAt page place; growth = g; file = next; pool = pool }) (unchanged g f pool (refusedAt 8 0 place))) .answer)

@@ -39,7 +39,7 @@ module _ (p : Parameters) (g : Growth) (f : File) (pool : Pool) where
       × (removalFile p g f k ≡ removeTo p g f pool page k place (removalEnd (hashOf p g) (p .pages) f (hashOf p g .home k)) .file)
   unfolding removalAnswer removalFile removeTo
   removed-is page k place =
-      outcome-cases
+      outcome-cases g f pool
       (ltb (removal.unsoundOf p g f k) (removal.startOf p g k + removal.countOf p g f k))
       true
       (removal.unsoundOf p g f k)

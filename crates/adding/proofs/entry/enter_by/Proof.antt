@@ -12,7 +12,8 @@ use Rattle.calls.specs.Lent.{Admitted}
 use Rattle.calls.specs.Calls.{unlent, guarded, entryRefusal, named, entered, fileFits, poolFits}
 use Rattle.adding.specs.Entries.{entryOn, entryOf}
 use Rattle.calls.proofs.Refusals.{turned-away-first, refusal-is, none-is, admitted-pool, leaves}
-use Rattle.adding.proofs.Pools.{cleared-is, leaves-cleared, entry-pool, entry-way}
+use Rattle.answering.proofs.Pools.{cleared-is, leaves-cleared}
+use Rattle.adding.proofs.Pools.{entry-pool, entry-way}
 use borrow.Author.Needs.{needs}
 use Rattle.adding.proofs.entry.enter_by.Statement.{statement}
 use Rattle.adding.proofs.entry.enter_by.Tie as tie

@@ -11,7 +11,8 @@ use Rattle.calls.specs.Answers.{Pool, placed, refusedBy, pooled, cleared}
 use Rattle.calls.specs.Lent.{Admitted}
 use Rattle.calls.specs.Calls.{unlent, removeOf, fileFits, poolFits}
 use Rattle.calls.proofs.Refusals.{turned-away-first, refusal-is, none-is, admitted-pool, leaves}
-use Rattle.removing.proofs.Pools.{cleared-is, leaves-cleared, remove-pool}
+use Rattle.answering.proofs.Pools.{cleared-is, leaves-cleared}
+use Rattle.removing.proofs.Pools.{remove-pool}
 use borrow.Author.Needs.{needs}
 use Rattle.removing.proofs.removal.remove.Statement.{statement}
 use Rattle.removing.proofs.removal.remove.Tie as tie
