@@ -19,7 +19,7 @@ use Rattle.placement.proofs.Composition.{length-pages}
 use Rattle.reach.specs.Reach.{entering, entersWithin, entryEnd, isEmpty, holding}
 use Rattle.entering.specs.Entry.{entryAnswer, entryFile}
 use Rattle.entering.specs.Entry as entry
-use Rattle.cascading.specs.Cascade.{visited, overflow, stopOf, unsoundOf, cascadeAnswer, cascadeFile}
+use Rattle.cascading.specs.Cascade.{visited, overflow, stopOf, cascadeUnsound, cascadeAnswer, cascadeFile}
 use Rattle.reach.proofs.Cascading.{length-cascaded}
 use Rattle.calls.specs.Answers.{Pool, placed}
 use Rattle.calls.specs.Calls.{enterTo, cascadeFrom}
@@ -28,19 +28,19 @@ use Rattle.answering.proofs.Outcomes.{holding-most, stretch-most, unsound-most,
 
 module _ (p : Parameters) (g : Growth) (f : File) (v : validParameters p ≡ true) (w : validGrowth p g ≡ true) where
   module _ (s : Star) where
-    inside : entry.startOf p g (s .number) + entry.countOf p g f s ≤ p .pages
+    inside : entry.entryStart p g (s .number) + entry.entryCount p g f s ≤ p .pages
     unfolding entryEnd hashOf
-    inside = stretch-most _ (entry.startOf p g (s .number)) (p .pages) (home-pages (multiplierOf p) p g (s .number) v w)
+    inside = stretch-most _ (entry.entryStart p g (s .number)) (p .pages) (home-pages (multiplierOf p) p g (s .number) v w)
 
-    bad-small : entry.unsoundOf p g f s < 2 ^ 32
-    bad-small = omega (arith, unsound-most p g f (entry.startOf p g (s .number)) (entry.countOf p g f s), inside, limits p v .pages-most)
+    bad-small : entry.entryUnsound p g f s < 2 ^ 32
+    bad-small = omega (arith, unsound-most p g f (entry.entryStart p g (s .number)) (entry.entryCount p g f s), inside, limits p v .pages-most)
 
-    page-small : holding (s .number) (entry.startOf p g (s .number)) (entry.contentsOf p g f s) < 2 ^ 32
+    page-small : holding (s .number) (entry.entryStart p g (s .number)) (entry.entryContents p g f s) < 2 ^ 32
     page-small =
         omega (
           arith,
-          holding-most (s .number) (entry.startOf p g (s .number)) (entry.contentsOf p g f s),
-          length-pages (hashOf p g) (entry.startOf p g (s .number)) (entry.countOf p g f s) (entering (hashOf p g) f s (entry.endOf p g f s)),
+          holding-most (s .number) (entry.entryStart p g (s .number)) (entry.entryContents p g f s),
+          length-pages (hashOf p g) (entry.entryStart p g (s .number)) (entry.entryCount p g f s) (entering (hashOf p g) f s (entry.entryLast p g f s)),
           inside,
           limits p v .pages-most,
         )
@@ -49,10 +49,10 @@ module _ (p : Parameters) (g : Growth) (f : File) (v : validParameters p ≡ tru
     unfolding entryAnswer
     entry-small =
         cases-small
-        (ltb (entry.unsoundOf p g f s) (entry.startOf p g (s .number) + entry.countOf p g f s))
-        (entersWithin (hashOf p g) f s (entry.endOf p g f s))
-        (entry.unsoundOf p g f s)
-        (holding (s .number) (entry.startOf p g (s .number)) (entry.contentsOf p g f s))
+        (ltb (entry.entryUnsound p g f s) (entry.entryStart p g (s .number) + entry.entryCount p g f s))
+        (entersWithin (hashOf p g) f s (entry.entryLast p g f s))
+        (entry.entryUnsound p g f s)
+        (holding (s .number) (entry.entryStart p g (s .number)) (entry.entryContents p g f s))
         bad-small
         page-small
 
@@ -61,9 +61,9 @@ module _ (p : Parameters) (g : Growth) (f : File) (v : validParameters p ≡ tru
   cascade-small s page h =
       let few : stopOf p g f s page ≤ p .pages = omega (arith, length-cascaded (hashOf p g) f page (p .pages - page) (s ∷ [])) in
       cases-small
-      (ltb (unsoundOf p g f s page) (stopOf p g f s page))
+      (ltb (cascadeUnsound p g f s page) (stopOf p g f s page))
       (isEmpty (overflow p g f s page))
-      (unsoundOf p g f s page)
+      (cascadeUnsound p g f s page)
       (holding (s .number) page (visited p g f s page))
       (omega (arith, unsound-most p g f page (length (visited p g f s page)), few, limits p v .pages-most))
       (omega (arith, holding-most (s .number) page (visited p g f s page), few, limits p v .pages-most))
@@ -71,17 +71,17 @@ module _ (p : Parameters) (g : Growth) (f : File) (v : validParameters p ≡ tru
 module _ (p : Parameters) (g : Growth) (f : File) (pool : Pool) where
   module _ (s : Star) where
     pub entered-is : (place : ℕ)
-        → (placed (outcomePlaced (entryAnswer p g f s) place) ≡ enterTo p g f pool s place (entry.endOf p g f s) .answer)
-        × (entryFile p g f s ≡ enterTo p g f pool s place (entry.endOf p g f s) .file)
+        → (placed (outcomePlaced (entryAnswer p g f s) place) ≡ enterTo p g f pool s place (entry.entryLast p g f s) .answer)
+        × (entryFile p g f s ≡ enterTo p g f pool s place (entry.entryLast p g f s) .file)
     unfolding entryAnswer entryFile enterTo
     entered-is place =
         outcome-cases g f pool
-        (ltb (entry.unsoundOf p g f s) (entry.startOf p g (s .number) + entry.countOf p g f s))
-        (entersWithin (hashOf p g) f s (entry.endOf p g f s))
-        (entry.unsoundOf p g f s)
-        (holding (s .number) (entry.startOf p g (s .number)) (entry.contentsOf p g f s))
+        (ltb (entry.entryUnsound p g f s) (entry.entryStart p g (s .number) + entry.entryCount p g f s))
+        (entersWithin (hashOf p g) f s (entry.entryLast p g f s))
+        (entry.entryUnsound p g f s)
+        (holding (s .number) (entry.entryStart p g (s .number)) (entry.entryContents p g f s))
         place
-        (replaced (p .places) f (entry.startOf p g (s .number)) (entry.contentsOf p g f s))
+        (replaced (p .places) f (entry.entryStart p g (s .number)) (entry.entryContents p g f s))
 
     pub cascaded-is : (place page : ℕ)
         → (placed (outcomePlaced (cascadeAnswer p g f s page) place) ≡ cascadeFrom p g f pool s place page .answer)
@@ -89,9 +89,9 @@ module _ (p : Parameters) (g : Growth) (f : File) (pool : Pool) where
     unfolding cascadeAnswer cascadeFile cascadeFrom
     cascaded-is place page =
         outcome-cases g f pool
-        (ltb (unsoundOf p g f s page) (stopOf p g f s page))
+        (ltb (cascadeUnsound p g f s page) (stopOf p g f s page))
         (isEmpty (overflow p g f s page))
-        (unsoundOf p g f s page)
+        (cascadeUnsound p g f s page)
         (holding (s .number) page (visited p g f s page))
         place
         (replaced (p .places) f page (visited p g f s page))

@@ -11,7 +11,7 @@ use Rattle.placement.specs.Rule.{Star}
 use Rattle.placement.specs.File.{File}
 use Rattle.entering.specs.Entry.{Unheld}
 use Rattle.guarding.proofs.Admitting.{readable-facts}
-use Rattle.cascading.specs.Cascade.{overflow, stopOf, unsoundOf}
+use Rattle.cascading.specs.Cascade.{overflow, stopOf, cascadeUnsound}
 use Rattle.reach.specs.Reach.{pagesTo, entryEnd, entersWithin, firstUnsound, isEmpty}
 use Rattle.calls.specs.Answers.{Pool, cleared}
 use Rattle.calls.specs.Calls.{guarded, named, readable, holds, placeFor, entryRefusal, entered, enterOf, enterOn, enterTo, cascadeOf, cascadeOn, cascadeFrom}
@@ -32,7 +32,7 @@ module _ (p : Parameters) (g : Growth) (f : File) (pool : Pool) where
       pushed : cascadeFrom p g f pool s (placeFor p f page (s .number)) page .pool ≡ pool
       pushed =
           unfold cascadeFrom in
-          cases-pool (ltb (unsoundOf p g f s page) (stopOf p g f s page)) (isEmpty (overflow p g f s page)) _ _ _ pool refl refl refl
+          cases-pool (ltb (cascadeUnsound p g f s page) (stopOf p g f s page)) (isEmpty (overflow p g f s page)) _ _ _ pool refl refl refl
 
       reached : enterTo p g f pool s (placeFor p f page (s .number)) (entryEnd (hashOf p g) (p .pages) f s) .pool ≡ pool
       reached =

@@ -1,9 +1,10 @@
 -- The calls, each as what it answers and leaves of the lent buffers: document 01, "The cut" and "Where each refusal is met".
 use mathlib.Core.Bool.{Bool, cond, _&&_, _||_}
-use mathlib.Core.List.{List, [], _∷_}
+use mathlib.Core.List.{[], _∷_}
 use Prim.Native.Nat.{ℕ, zero, suc, _+_, _-_, _*_, _/_, _%_}
 use lib.Dec.{eqb, ltb}
 use lib.ListN.{length, getD, set, replicate}
+use Rattle.reach.specs.Reach.{allStars}
 use Rattle.hashing.specs.declared.Parameters.{Parameters}
 use Rattle.hashing.specs.declared.Growth.{Growth}
 use Rattle.generator.specs.Generator.{topOf}
@@ -12,36 +13,13 @@ use Rattle.hashing.specs.Geometry.{pageCount, highest, grown, ungrown, isUngrow
 use Rattle.pages.specs.declared.position.Position.{Position}
 use Rattle.pages.specs.Position.{validNumber, validPosition, packed, unpacked}
 use Rattle.pages.specs.Page.{part, placeOf, heldAt}
-use Rattle.placement.specs.Rule.{Star, Hash, pages, left, without, starWith}
+use Rattle.placement.specs.Rule.{Star, pages, left, without, starWith}
 use Rattle.placement.specs.File.{File, gathered, replaced}
 use Rattle.placement.specs.Hash.{hashOf, soundAt, namedPage}
 pub use Rattle.calls.specs.Spots.{firstSpot, ruled}
-use Rattle.calls.specs.Answers.{
-  Answer,
-  accepted,
-  refused,
-  acceptedAt,
-  refusedAt,
-  spotted,
-  foundAt,
-  counted,
-  Pool,
-  cleared,
-  After,
-}
+use Rattle.calls.specs.Answers.{Answer, accepted, refused, acceptedAt, refusedAt, spotted, foundAt, counted, Pool, cleared, After}
 use Rattle.calls.specs.Due.{stars, isDue}
-use Rattle.calls.specs.Reach.{
-  isEmpty,
-  pagesTo,
-  removalEnd,
-  entering,
-  entersWithin,
-  entryEnd,
-  firstUnsound,
-  holding,
-  cascaded,
-  carriedPast,
-}
+use Rattle.calls.specs.Reach.{isEmpty, pagesTo, removalEnd, entering, entersWithin, entryEnd, firstUnsound, holding, cascaded, carriedPast}
 
 -- Refusals 1 to 4, of which the first is met
 
@@ -303,10 +281,6 @@ removeOf p g f pool caller k =
     (removeOn p g f (cleared pool) (named p g f k) caller k)
 
 -- Grow
-
--- the stars of the whole file, by number
-abbrev pub allStars : Parameters → File → List Star
-allStars p f = gathered (p .places) f 0 (p .pages)
 
 -- all stars placed anew under the growth state `next`; `page` is the one that comes or goes
 unfoldable pub regrowTo : Parameters → Growth → File → Pool → Growth → ℕ → After

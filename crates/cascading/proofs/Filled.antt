@@ -35,7 +35,7 @@ use Rattle.planning.proofs.RuleOverWords.{homed-append}
 use Rattle.planning.proofs.Stretch.{sources-column}
 use Rattle.planning.proofs.Placed.{probes-real, new-homed}
 use Rattle.entering.specs.declared.blocks.Reach.the-variants.{Ends}
-use Rattle.entering.specs.Entry.{Unheld, hash, startOf, blockNumbers, blockWords}
+use Rattle.entering.specs.Entry.{Unheld, entryStart, blockNumbers, blockWords}
 use Rattle.entering.proofs.Items.{numbers-count, stretch-homes}
 use Rattle.entering.proofs.Joined.{newWord}
 use Rattle.cascading.specs.Arriving.{pageWords}
@@ -67,35 +67,35 @@ module _ (p : Parameters) (g : Growth) (f : File) (k page : ℕ) (valid : validP
   sound = rw here (unheld .sound)
 
   -- a word whose star stands on the page has a signature below its separator
-  stands-under : (w : ℕ) → eqb (hash p g .home (numberIn w)) (homeOf w) ≡ true → eqb (namedPage p g (f .separators) (numberIn w)) page ≡ true → under p page stored w ≡ true
+  stands-under : (w : ℕ) → eqb (hashOf p g .home (numberIn w)) (homeOf w) ≡ true → eqb (namedPage p g (f .separators) (numberIn w)) page ≡ true → under p page stored w ≡ true
   unfolding under signatureOf namedPage hashOf
   stands-under w h n =
-      let low = below-signature (hash p g) page stored (numberIn w)
-      (rw (zero-add page) at (first-below (hash p g) 0 page (f .separators) (numberIn w) (omega (arith, sized .ofSeparators, inside)) (eqb-true (namedPage p g (f .separators) (numberIn w)) page n ∙ sym (zero-add page)))) in
-      lt-ltb (signatureOf p page w) stored (rw (eqb-true (hash p g .home (numberIn w)) (homeOf w) h) at low)
+      let low = below-signature (hashOf p g) page stored (numberIn w)
+      (rw (zero-add page) at (first-below (hashOf p g) 0 page (f .separators) (numberIn w) (omega (arith, sized .ofSeparators, inside)) (eqb-true (namedPage p g (f .separators) (numberIn w)) page n ∙ sym (zero-add page)))) in
+      lt-ltb (signatureOf p page w) stored (rw (eqb-true (hashOf p g .home (numberIn w)) (homeOf w) h) at low)
 
-  met-homed : homed (hash p g) met ≡ true
+  met-homed : homed (hashOf p g) met ≡ true
   met-homed =
-      homed-append (hash p g) p (probes-real p g) (newWord p g f k ∷ []) (pageWords p g f page)
-      (new-homed (hash p g) (startOf p g k) k (length (f .numbers) + 1) refl (small p g f k page valid sized number unheld here) (few p g f k page valid sized number unheld here))
+      homed-append (hashOf p g) p (probes-real p g) (newWord p g f k ∷ []) (pageWords p g f page)
+      (new-homed (hashOf p g) (entryStart p g k) k (length (f .numbers) + 1) refl (small p g f k page valid sized number unheld here) (few p g f k page valid sized number unheld here))
       (page-homed p g f valid sized page inside sound)
 
   met-named : all (λ w. eqb (namedPage p g (f .separators) (numberIn w)) page) met ≡ true
   met-named =
       all-cons (λ w. eqb (namedPage p g (f .separators) (numberIn w)) page) (newWord p g f k) (pageWords p g f page)
-      (rw (number-pack (startOf p g k) k (length (f .numbers) + 1) (small p g f k page valid sized number unheld here) (few p g f k page valid sized number unheld here))
+      (rw (number-pack (entryStart p g k) k (length (f .numbers) + 1) (small p g f k page valid sized number unheld here) (few p g f k page valid sized number unheld here))
       (eq-eqb (namedPage p g (f .separators) k) page (sym here)))
       (page-named p g f valid sized page inside sound)
 
   met-under : all (under p page stored) met ≡ true
   met-under = go met (unfold homed in met-homed) met-named
     where
-      go : (l : List ℕ) → all (λ w. eqb (hash p g .home (numberIn w)) (homeOf w)) l ≡ true → all (λ w. eqb (namedPage p g (f .separators) (numberIn w)) page) l ≡ true → all (under p page stored) l ≡ true
+      go : (l : List ℕ) → all (λ w. eqb (hashOf p g .home (numberIn w)) (homeOf w)) l ≡ true → all (λ w. eqb (namedPage p g (f .separators) (numberIn w)) page) l ≡ true → all (under p page stored) l ≡ true
       go [] a b = unfold all in refl
       go (w ∷ l) a b =
           all-cons (under p page stored) w l
-          (stands-under w (all-head (λ x. eqb (hash p g .home (numberIn x)) (homeOf x)) w l a) (all-head (λ x. eqb (namedPage p g (f .separators) (numberIn x)) page) w l b))
-          (go l (all-tail (λ x. eqb (hash p g .home (numberIn x)) (homeOf x)) w l a) (all-tail (λ x. eqb (namedPage p g (f .separators) (numberIn x)) page) w l b))
+          (stands-under w (all-head (λ x. eqb (hashOf p g .home (numberIn x)) (homeOf x)) w l a) (all-head (λ x. eqb (namedPage p g (f .separators) (numberIn x)) page) w l b))
+          (go l (all-tail (λ x. eqb (hashOf p g .home (numberIn x)) (homeOf x)) w l a) (all-tail (λ x. eqb (namedPage p g (f .separators) (numberIn x)) page) w l b))
 
   all-stay : stayingWords p page stored met ≡ met
   unfolding stayingWords

@@ -34,7 +34,7 @@ use Rattle.planning.specs.Plans.{waits, homed}
 use Rattle.planning.specs.Sources.{renamed, sourced}
 use Rattle.planning.proofs.Applying.{renamed-keeps}
 use Rattle.planning.proofs.Sourcing.{fresh, led, ordered, fresh-led, words-ordered, true-stars}
-use Rattle.entering.specs.Entry.{Unheld, hash, blockNumbers, blockWords}
+use Rattle.entering.specs.Entry.{Unheld, blockNumbers, blockWords}
 use Rattle.cascading.specs.Arriving.{pageWords}
 use Rattle.entering.proofs.Items.{numbers-count, numbers-below, block-homed, block-sourced, block-grouped, block-fresh}
 use Rattle.cascading.proofs.Tying.{waits-joined}
@@ -79,7 +79,7 @@ module _ (p : Parameters) (g : Growth) (f : File) (valid : validParameters p ≡
   pub page-numbers : allBelow (2 ^ 31) (blockNumbers p f q 1) ≡ true
   page-numbers = numbers-below p g f valid sized q 1 one-more alone
 
-  pub page-homed : homed (hash p g) (pageWords p g f q) ≡ true
+  pub page-homed : homed (hashOf p g) (pageWords p g f q) ≡ true
   page-homed = block-homed p g f valid sized q 1 one-more page-numbers
 
   pub page-near : homesUpTo q (pageWords p g f q) ≡ true
@@ -160,12 +160,12 @@ module _ (p : Parameters) (g : Growth) (f : File) (valid : validParameters p ≡
           true-stars (p .places) q 1 0 word owner f (map (homeIn p g) (f .numbers)) page-numbers few
           (omega (arith, fits, sized .ofNumbers)) (omega (arith, fits, sized .ofWords)) (omega (arith, fits, sized .ofOwners))
           (omega (arith, fits, sized .ofNumbers, length-map (f .numbers) (homeIn p g)))
-          ∙ ap (without 0) (pour-nil 1 (starsAt (p .places) f q) (rising-sorted 1 (starsAt (p .places) f q) (sound-rising validWord (hash p g) f q (real-facts p g f q sound))))
+          ∙ ap (without 0) (pour-nil 1 (starsAt (p .places) f q) (rising-sorted 1 (starsAt (p .places) f q) (sound-rising validWord (hashOf p g) f q (real-facts p g f q sound))))
           ∙ filter-all-on (λ (s : Star). not (eqb (s .number) 0)) (starsAt (p .places) f q)
-          (λ s m. ap not (ne-eqb (s .number) 0 (λ e. omega (arith, e, sound-proper validWord (hash p g) f q (real-facts p g f q sound) s m .0))))
+          (λ s m. ap not (ne-eqb (s .number) 0 (λ e. omega (arith, e, sound-proper validWord (hashOf p g) f q (real-facts p g f q sound) s m .0))))
 
       -- the page's stars and the arriving ones
-      pub page-meets : map (renamed (f .words) (f .owners) word owner) (waits (w ++ pageWords p g f q)) ≡ meeting (hash p g) f q (map (renamed (f .words) (f .owners) word owner) (waits w))
+      pub page-meets : map (renamed (f .words) (f .owners) word owner) (waits (w ++ pageWords p g f q)) ≡ meeting (hashOf p g) f q (map (renamed (f .words) (f .owners) word owner) (waits w))
       unfolding meeting hashOf
       page-meets =
           ap (map (renamed (f .words) (f .owners) word owner)) (waits-joined w (pageWords p g f q) page-ordered page-led)

@@ -35,7 +35,7 @@ use Rattle.planning.proofs.Applying.{Sourced, sourced-waits, sourced-append, so
 use Rattle.planning.proofs.Pouring.{length-waits}
 use Rattle.planning.proofs.Sourcing.{fresh, new-star, named-past}
 use Rattle.planning.proofs.Placed.{new-homed, new-near, new-sourced}
-use Rattle.entering.specs.Entry.{Unheld, hash, newStar, startOf}
+use Rattle.entering.specs.Entry.{Unheld, newStar, entryStart}
 use Rattle.entering.proofs.Joined.{newWord, valid-most}
 use Rattle.cascading.specs.Arriving.{pageWords}
 use Rattle.cascading.specs.Cascade.{loweredTo, loweredOn}
@@ -52,9 +52,9 @@ pub record Pushed (p : Parameters) (g : Growth) (f : File) (k page : ℕ) (pool 
   pub sources : stretch (p .places) page d pool ≡ column (p .places) (λ (s : Star). s .payload .word) contents
   pub separators-are : take d (drop page planned) ≡ separators contents
   pub all-sourced : Sourced (f .numbers) k contents
-  pub are : (word owner : ℕ) → map (mapped (renamed (f .words) (f .owners) word owner)) contents ≡ cascaded (hash p g) f page d (newStar k word owner ∷ [])
-  pub carried : (word owner : ℕ) → map (renamed (f .words) (f .owners) word owner) (waits w) ≡ carriedPast (hash p g) f page d (newStar k word owner ∷ [])
-  pub true-homes : homed (hash p g) w ≡ true
+  pub are : (word owner : ℕ) → map (mapped (renamed (f .words) (f .owners) word owner)) contents ≡ cascaded (hashOf p g) f page d (newStar k word owner ∷ [])
+  pub carried : (word owner : ℕ) → map (renamed (f .words) (f .owners) word owner) (waits w) ≡ carriedPast (hashOf p g) f page d (newStar k word owner ∷ [])
+  pub true-homes : homed (hashOf p g) w ≡ true
   pub near : homesUpTo (page + d) w ≡ true
   pub true-sources : sourced (f .numbers) k w ≡ true
   pub before : apart p g f k (page + d) w ≡ true
@@ -79,9 +79,9 @@ module _ (p : Parameters) (g : Growth) (f : File) (k page : ℕ) (valid : validP
   pub page-inside : page < p .pages
   page-inside = omega (arith, here, unheld .named)
 
-  home-below : startOf p g k ≤ page
+  home-below : entryStart p g k ≤ page
   unfolding namedPage
-  home-below = rw here (first-home (hash p g) 0 (f .separators) k (omega (arith, unheld .named, sized .ofSeparators)))
+  home-below = rw here (first-home (hashOf p g) 0 (f .separators) k (omega (arith, unheld .named, sized .ofSeparators)))
 
   -- the word that the code packs
   pub new-packed : (from : ℕ) → from ≡ home (multiplierOf p) p g k → pack from k (length (f .numbers) + 1) ≡ newWord p g f k
@@ -92,7 +92,7 @@ module _ (p : Parameters) (g : Growth) (f : File) (k page : ℕ) (valid : validP
   new-carried : (word owner : ℕ) → map (renamed (f .words) (f .owners) word owner) (waits (newWord p g f k ∷ [])) ≡ newStar k word owner ∷ []
   unfolding insert waits slotsOf pourLow
   new-carried word owner =
-      new-star (f .words) (f .owners) word owner (startOf p g k) k (length (f .numbers) + 1) [] small few (unfold fresh all in refl)
+      new-star (f .words) (f .owners) word owner (entryStart p g k) k (length (f .numbers) + 1) [] small few (unfold fresh all in refl)
       ∙ rw (
         named-past (f .words) word (length (f .numbers) + 1) (omega (arith, sized .ofNumbers, sized .ofWords)),
         named-past (f .owners) owner (length (f .numbers) + 1) (omega (arith, sized .ofNumbers, sized .ofOwners)),
@@ -110,10 +110,10 @@ module _ (p : Parameters) (g : Growth) (f : File) (k page : ℕ) (valid : validP
         all-sourced = tt;
         are = λ word owner. unfold cascaded in refl;
         carried = λ word owner. unfold carriedPast in new-carried word owner;
-        true-homes = new-homed (hash p g) (startOf p g k) k (length (f .numbers) + 1) refl small few;
-        near = rw (add-zero page) (new-near page (startOf p g k) k (length (f .numbers) + 1) home-below small few);
-        true-sources = new-sourced (f .numbers) (startOf p g k) k small few;
-        before = unfold apart all in rw (number-pack (startOf p g k) k (length (f .numbers) + 1) small few, eq-eqb k k refl);
+        true-homes = new-homed (hashOf p g) (entryStart p g k) k (length (f .numbers) + 1) refl small few;
+        near = rw (add-zero page) (new-near page (entryStart p g k) k (length (f .numbers) + 1) home-below small few);
+        true-sources = new-sourced (f .numbers) (entryStart p g k) k small few;
+        before = unfold apart all in rw (number-pack (entryStart p g k) k (length (f .numbers) + 1) small few, eq-eqb k k refl);
       }
 
   -- one more page
@@ -131,16 +131,16 @@ module _ (p : Parameters) (g : Growth) (f : File) (k page : ℕ) (valid : validP
     abbrev rename : ℕ → ℕ → Star → Star
     rename word owner = renamed (f .words) (f .owners) word owner
 
-    one-page : (word owner : ℕ) → cascaded (hash p g) f (page + d) 1 (carriedPast (hash p g) f page d (newStar k word owner ∷ [])) ≡ mapped (rename word owner) new ∷ []
+    one-page : (word owner : ℕ) → cascaded (hashOf p g) f (page + d) 1 (carriedPast (hashOf p g) f page d (newStar k word owner ∷ [])) ≡ mapped (rename word owner) new ∷ []
     one-page word owner =
-        ap (cascaded (hash p g) f (page + d) 1) (sym (P .carried word owner))
-        ∙ cascaded-one (hash p g) f (page + d) (map (rename word owner) (waits w)) (omega (arith, carried-length (rename word owner) w))
+        ap (cascaded (hashOf p g) f (page + d) 1) (sym (P .carried word owner))
+        ∙ cascaded-one (hashOf p g) f (page + d) (map (rename word owner) (waits w)) (omega (arith, carried-length (rename word owner) w))
         ∙ ap (λ (c : Contents). c ∷ []) (pushes-to p g f valid sized (page + d) inside sound k unheld w (P .true-homes) (P .near) (P .before) word owner)
 
-    carried-past : (word owner : ℕ) → carriedPast (hash p g) f (page + d) 1 (carriedPast (hash p g) f page d (newStar k word owner ∷ [])) ≡ map (rename word owner) (waits (loweredOn p (page + d) stored met))
+    carried-past : (word owner : ℕ) → carriedPast (hashOf p g) f (page + d) 1 (carriedPast (hashOf p g) f page d (newStar k word owner ∷ [])) ≡ map (rename word owner) (waits (loweredOn p (page + d) stored met))
     carried-past word owner =
-        ap (carriedPast (hash p g) f (page + d) 1) (sym (P .carried word owner))
-        ∙ carried-one (hash p g) f (page + d) (map (rename word owner) (waits w)) (omega (arith, carried-length (rename word owner) w))
+        ap (carriedPast (hashOf p g) f (page + d) 1) (sym (P .carried word owner))
+        ∙ carried-one (hashOf p g) f (page + d) (map (rename word owner) (waits w)) (omega (arith, carried-length (rename word owner) w))
         ∙ pushes-on p g f valid sized (page + d) inside sound k unheld w (P .true-homes) (P .near) (P .before) word owner
 
     met-sourced : sourced (f .numbers) k met ≡ true
@@ -187,11 +187,11 @@ module _ (p : Parameters) (g : Growth) (f : File) (k page : ℕ) (valid : validP
           are = λ word owner.
               map-append (mapped (rename word owner)) (P .contents) (new ∷ [])
               ∙ ap (λ (cs : List Contents). cs ++ (mapped (rename word owner) new ∷ [])) (P .are word owner)
-              ∙ ap (λ (cs : List Contents). cascaded (hash p g) f page d (newStar k word owner ∷ []) ++ cs) (sym (one-page word owner))
-              ∙ sym (cascaded-add (hash p g) f page d 1 (newStar k word owner ∷ []));
-          carried = λ word owner. sym (carried-past word owner) ∙ sym (carried-add (hash p g) f page d 1 (newStar k word owner ∷ []));
+              ∙ ap (λ (cs : List Contents). cascaded (hashOf p g) f page d (newStar k word owner ∷ []) ++ cs) (sym (one-page word owner))
+              ∙ sym (cascaded-add (hashOf p g) f page d 1 (newStar k word owner ∷ []));
+          carried = λ word owner. sym (carried-past word owner) ∙ sym (carried-add (hashOf p g) f page d 1 (newStar k word owner ∷ []));
           true-homes =
-              unfold loweredOn passingWords homed in all-filter (λ x. eqb (hash p g .home (numberIn x)) (homeOf x)) (λ x. not (under p (page + d) (wordsSeparatorFrom p (page + d) met stored) x)) met
+              unfold loweredOn passingWords homed in all-filter (λ x. eqb (hashOf p g .home (numberIn x)) (homeOf x)) (λ x. not (under p (page + d) (wordsSeparatorFrom p (page + d) met stored) x)) met
               (met-homed p g f valid sized (page + d) inside sound k unheld w (P .true-homes) (P .near) (P .before));
           near =
               unfold loweredOn passingWords in all-filter (λ x. leb (homeOf x) (page + (d + 1))) (λ x. not (under p (page + d) (wordsSeparatorFrom p (page + d) met stored) x)) met

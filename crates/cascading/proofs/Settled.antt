@@ -12,7 +12,7 @@ use Rattle.hashing.specs.declared.Growth.{Growth}
 use Rattle.hashing.specs.Limits.{validParameters}
 use Rattle.placement.specs.Rule.{Star, Contents, separators}
 use Rattle.placement.specs.File.{File, Sized, padded, column, written}
-use Rattle.placement.specs.Hash.{soundAt}
+use Rattle.placement.specs.Hash.{soundAt, hashOf}
 use Rattle.placement.proofs.Mapping.{mapped}
 use Rattle.placement.proofs.Writing.{length-column}
 use Rattle.reach.specs.Cascade.{lowered, pushedTo, pushedOn}
@@ -28,13 +28,13 @@ use Rattle.planning.proofs.Pouring.{length-waits}
 use Rattle.planning.proofs.RuleOverWords.{homed-append}
 use Rattle.planning.proofs.Stretch.{sources-column}
 use Rattle.planning.proofs.Placed.{probes-real, stretch-on, taken-on}
-use Rattle.entering.specs.Entry.{Unheld, hash}
+use Rattle.entering.specs.Entry.{Unheld}
 use Rattle.cascading.specs.Arriving.{pageWords}
 use Rattle.cascading.specs.Cascade.{loweredTo, loweredOn, Lowered}
 use Rattle.cascading.proofs.Tying.{stay-tie, pass-tie, lower-tie}
 use Rattle.cascading.proofs.PageWords.{apart, page-homed, page-near, page-meets}
 
--- ---- where it is written
+-- where it is written
 
 pub page-lowered : (p : Parameters) (q most : ℕ) (l : List ℕ) (reach : ℕ) (W W′ slots pool pool′ planned : List ℕ) (r : Settled)
     → Settlement p q (wordsSeparatorFrom p q l most) l reach W W′ slots r
@@ -68,19 +68,19 @@ pub separators-on : (lo n : ℕ) (c : Contents) (d : List ℕ) → lo + n ≤ le
 unfolding separators
 separators-on lo n c d h = taken-on lo n 1 (c .separator ∷ []) d refl h
 
--- ---- what it is
+-- what it is
 
 module _ (p : Parameters) (g : Growth) (f : File) (valid : validParameters p ≡ true) (sized : Sized (p .places) (p .pages) f)
     (q : ℕ) (inside : q < p .pages) (sound : soundAt p g f q ≡ true) (k : ℕ) (unheld : Unheld p g f k)
-    (w : List ℕ) (hw : homed (hash p g) w ≡ true) (nw : homesUpTo q w ≡ true) (before : apart p g f k q w ≡ true) where
+    (w : List ℕ) (hw : homed (hashOf p g) w ≡ true) (nw : homesUpTo q w ≡ true) (before : apart p g f k q w ≡ true) where
   abbrev met : List ℕ
   met = w ++ pageWords p g f q
 
   abbrev stored : ℕ
   stored = getD (f .separators) q 0
 
-  pub met-homed : homed (hash p g) met ≡ true
-  met-homed = homed-append (hash p g) p (probes-real p g) w (pageWords p g f q) hw (page-homed p g f valid sized q inside sound)
+  pub met-homed : homed (hashOf p g) met ≡ true
+  met-homed = homed-append (hashOf p g) p (probes-real p g) w (pageWords p g f q) hw (page-homed p g f valid sized q inside sound)
 
   pub met-near : homesUpTo q met ≡ true
   met-near = all-append (λ x. leb (homeOf x) q) w (pageWords p g f q) nw (page-near p g f valid sized q inside sound)
@@ -89,23 +89,23 @@ module _ (p : Parameters) (g : Growth) (f : File) (valid : validParameters p ≡
     abbrev rename : Star → Star
     rename = renamed (f .words) (f .owners) word owner
 
-    lowers : lowered (hash p g) f q (map rename (waits w)) ≡ wordsSeparatorFrom p q met stored
+    lowers : lowered (hashOf p g) f q (map rename (waits w)) ≡ wordsSeparatorFrom p q met stored
     unfolding lowered
     lowers =
         rw (← page-meets p g f valid sized q inside sound k unheld w before word owner)
-        (lower-tie (hash p g) p (probes-real p g) rename (renamed-keeps (f .words) (f .owners) word owner) q met met-homed met-near stored)
+        (lower-tie (hashOf p g) p (probes-real p g) rename (renamed-keeps (f .words) (f .owners) word owner) q met met-homed met-near stored)
 
-    pub pushes-to : pushedTo (hash p g) f q (map rename (waits w)) ≡ mapped rename (loweredTo p q stored met)
+    pub pushes-to : pushedTo (hashOf p g) f q (map rename (waits w)) ≡ mapped rename (loweredTo p q stored met)
     unfolding pushedTo loweredTo
     pushes-to =
         rw (
           lowers,
           ← page-meets p g f valid sized q inside sound k unheld w before word owner,
-          stay-tie (hash p g) p (probes-real p g) rename (renamed-keeps (f .words) (f .owners) word owner) q met met-homed met-near (wordsSeparatorFrom p q met stored),
+          stay-tie (hashOf p g) p (probes-real p g) rename (renamed-keeps (f .words) (f .owners) word owner) q met met-homed met-near (wordsSeparatorFrom p q met stored),
         )
 
-    pub pushes-on : pushedOn (hash p g) f q (map rename (waits w)) ≡ map rename (waits (loweredOn p q stored met))
+    pub pushes-on : pushedOn (hashOf p g) f q (map rename (waits w)) ≡ map rename (waits (loweredOn p q stored met))
     unfolding pushedOn loweredOn
     pushes-on =
         rw (lowers, ← page-meets p g f valid sized q inside sound k unheld w before word owner)
-        (pass-tie (hash p g) p (probes-real p g) rename (renamed-keeps (f .words) (f .owners) word owner) q met met-homed met-near (wordsSeparatorFrom p q met stored))
+        (pass-tie (hashOf p g) p (probes-real p g) rename (renamed-keeps (f .words) (f .owners) word owner) q met met-homed met-near (wordsSeparatorFrom p q met stored))

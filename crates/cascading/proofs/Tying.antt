@@ -47,7 +47,7 @@ module _ (H : Hash) (q : Parameters) (real : Probes H q) (g : Star → Star) (ke
   lower-tie (suc v) =
       rw (lower-tie v, stay-tie (suc v), length-map (waits (stayingWords q p (suc v) l)) g, length-waits (stayingWords q p (suc v) l), real .room-is)
 
--- ---- words that join those that wait
+-- words that join those that wait
 
 -- in any order
 pub waits-swap : (a b : List ℕ) → waits (a ++ b) ≡ waits (b ++ a)

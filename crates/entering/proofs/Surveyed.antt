@@ -13,7 +13,7 @@ use Rattle.hashing.specs.declared.Parameters.{Parameters}
 use Rattle.hashing.specs.declared.Growth.{Growth}
 use Rattle.generator.specs.Generator.{topOf}
 use Rattle.hashing.specs.Limits.{validParameters}
-use Rattle.placement.specs.Rule.{Star, separators}
+use Rattle.placement.specs.Rule.{Star}
 use Rattle.placement.specs.File.{File, Sized, column}
 use Rattle.placement.specs.Hash.{hashOf, soundAt, homesOf, homeIn}
 use Rattle.placement.proofs.Writing.{length-column}

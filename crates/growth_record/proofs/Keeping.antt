@@ -11,13 +11,13 @@ use Rattle.hashing.specs.declared.Growth.{Growth}
 use Rattle.hashing.specs.Geometry.{pageCount, highest, grown, isUngrown, shrunk}
 use Rattle.placement.specs.Rule.{Star, pages, left}
 use Rattle.placement.specs.File.{File, replaced}
-use Rattle.reach.specs.Reach.{firstUnsound, isEmpty}
+use Rattle.reach.specs.Reach.{firstUnsound, isEmpty, allStars}
 use Rattle.calls.specs.declared.answers.Placed.{Placed}
 use Rattle.calls.specs.declared.answers.Placed.the-variants.{On, Refused}
 use Rattle.calls.proofs.Numbers.{numbered}
 use Rattle.calls.specs.declared.answers.Answer.{Answer}
 use Rattle.calls.specs.Answers.{After, Pool, accepted, refused, spotted, placed, refusedBy, refusalNumber, cleared}
-use Rattle.calls.specs.Calls.{fileFits, poolFits, unlent, guarded, unchanged, allStars, regrowTo, growOn, growOf, shrinkOn, shrinkOf}
+use Rattle.calls.specs.Calls.{fileFits, poolFits, unlent, guarded, unchanged, regrowTo, growOn, growOf, shrinkOn, shrinkOf}
 use Rattle.growth_record.specs.Record.{keptBy}
 
 -- refused, a call left the growth state g

@@ -19,7 +19,7 @@ use Rattle.generator.proofs.Scrambling.{scrambled-key}
 use Rattle.hashing.specs.Geometry.{sizeAt, countAt, rank}
 use Rattle.hashing.specs.Home.{rankAt, chosen, movedIf, stepFrom, afterSteps, home}
 use Rattle.hashing.specs.Moves.{codeAt, moves, codeCount, codePage, movedTo, followed, landing, Narrow, Landed, Rising}
-use Rattle.generator.proofs.Numbers.{next, Next, mul-mod-right, div-mono}
+use Rattle.generator.proofs.Numbers.{next, Next, div-mono}
 use Rattle.hashing.proofs.Bounds.{Limits, Within, size-most}
 use Rattle.hashing.proofs.Homes.{step-over, steps-one, rank-below, span-most, count-fits}
 

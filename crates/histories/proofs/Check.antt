@@ -14,9 +14,9 @@ use Rattle.placement.specs.Hash.{hashOf}
 use Rattle.placement.proofs.Composition.{length-pages}
 use Rattle.placement.proofs.Files.{gathered-laid, roomy-pages, all-replaced}
 use Rattle.calls.specs.Answers.{Pool, spotted, refused, cleared, accepted}
-use Rattle.reach.specs.Reach.{firstUnsound}
+use Rattle.reach.specs.Reach.{firstUnsound, allStars}
 use Rattle.calls.specs.Spots.{firstSpot, ruled}
-use Rattle.calls.specs.Calls.{poolFits, unless, guarded, unchanged, allStars, checkedAt, checkOf}
+use Rattle.calls.specs.Calls.{poolFits, unless, guarded, unchanged, checkedAt, checkOf}
 use Rattle.histories.specs.Model.{Model, check, updated, modelFile}
 use Rattle.histories.proofs.Fitting.{Fitting, hashFor, starsFor, rising, proper}
 use Rattle.histories.proofs.Guards.{lent-pool}

@@ -4,6 +4,7 @@ use mathlib.Core.Bool.{true, _&&_}
 use mathlib.Core.List.{List, [], _∷_, map, List·Memᴰ·head, List·Memᴰ·tail}
 use Prim.Native.Nat.{ℕ, suc, _≤_}
 use borrow.Author.Tests.{le-leb}
+use Rattle.reach.specs.Reach.{allStars}
 use Rattle.hashing.specs.declared.Parameters.{Parameters}
 use Rattle.hashing.specs.declared.Growth.{Growth}
 use Rattle.hashing.specs.Limits.{validParameters, validGrowth}
@@ -17,7 +18,7 @@ use Rattle.placement.proofs.Order.{Rising}
 use Rattle.placement.proofs.Pages.{Proper, rising-one}
 use Rattle.placement.proofs.Sound.{clean-list}
 use Rattle.calls.specs.Answers.{Pool}
-use Rattle.calls.specs.Calls.{fileFits, poolFits, unlent, allStars, checkOf}
+use Rattle.calls.specs.Calls.{fileFits, poolFits, unlent, checkOf}
 use Rattle.calls.proofs.Refusals.{unlent-facts, sized}
 use Rattle.calls.proofs.Accepting.{check-clean}
 use Rattle.histories.specs.Model.{Entry, Model, entryStars, modelFile}

@@ -11,13 +11,14 @@ use Rattle.hashing.specs.declared.Growth.{Growth}
 use Rattle.hashing.specs.Geometry.{pageCount, highest, grown}
 use Rattle.hashing.specs.Limits.{validParameters, validGrowth}
 use Rattle.pages.specs.Position.{validWord}
+use Rattle.placement.proofs.Probing.{bounded-real}
 use Rattle.placement.specs.File.{File, Clean, laid}
 use Rattle.placement.specs.Hash.{hashOf}
 use Rattle.placement.proofs.Sound.{clean-laid}
 use Rattle.calls.specs.Answers.{Pool, After, accepted, refused, cleared}
 use Rattle.calls.specs.Calls.{fileFits, poolFits, unless, orElse, unlent, guarded, unchanged, emptyFile, regrowTo, growOf, checkOf}
 use Rattle.histories.specs.Model.{Model, entryStars, modelFile}
-use Rattle.histories.proofs.Fitting.{Fitting, bounded, rising-from, proper, lengths}
+use Rattle.histories.proofs.Fitting.{Fitting, rising-from, proper, lengths}
 use Rattle.histories.proofs.Guards.{lent-pool}
 use Rattle.histories.proofs.Make.{left-none, laid-none}
 use Rattle.histories.proofs.Check.{finds-nothing}
@@ -38,7 +39,7 @@ module _ (p : Parameters) (g : Growth) (valid : validParameters p ≡ true) (sta
 
   laid-empty : (next : Growth) → laid (p .places) (hashOf p next) (p .pages) [] ≡ emptyFile p
   unfolding emptyFile hashOf
-  laid-empty next = laid-none (p .places) (hashOf p next) (bounded p next valid) (p .pages)
+  laid-empty next = laid-none (p .places) (hashOf p next) (bounded-real p next valid) (p .pages)
 
   file-empty : (next : Growth) → modelFile p (starless next) ≡ emptyFile p
   unfolding modelFile entryStars

@@ -11,6 +11,7 @@ use Rattle.hashing.specs.declared.Parameters.{Parameters}
 use Rattle.hashing.specs.Geometry.{ungrown}
 use Rattle.hashing.specs.Limits.{validParameters}
 use Rattle.hashing.proofs.Homes.{start-valid}
+use Rattle.placement.proofs.Probing.{bounded-real}
 use Rattle.placement.specs.Rule.{Star, Hash, Contents, filter, passing, contentsOf, staying, onward, pages, left, separators}
 use Rattle.placement.specs.File.{File, column, laid, fileOf}
 use Rattle.placement.specs.Hash.{hashOf}
@@ -19,7 +20,7 @@ use Rattle.calls.specs.Answers.{Pool, spotted}
 use Rattle.calls.specs.Calls.{fileFits, unless, orElse, guarded, emptyFile, makeOf}
 use Rattle.histories.specs.Model.{emptyModel, entryStars, modelFile}
 use Rattle.histories.specs.Run.{initial}
-use Rattle.histories.proofs.Fitting.{bounded}
+use Rattle.histories.proofs.Fitting.{bounded-real}
 use Rattle.histories.proofs.Histories.{Agrees}
 
 -- Of no stars nothing is left, and every page is empty under the top.
@@ -54,7 +55,7 @@ laid-none b H bounds n =
 
 empty-is : (p : Parameters) → validParameters p ≡ true → emptyFile p ≡ modelFile p emptyModel
 unfolding emptyFile modelFile emptyModel entryStars hashOf
-empty-is p v = sym (laid-none (p .places) (hashOf p ungrown) (bounded p ungrown v) (p .pages))
+empty-is p v = sym (laid-none (p .places) (hashOf p ungrown) (bounded-real p ungrown v) (p .pages))
 
 -- What make accepts.
 pub record Accepted (p : Parameters) (f : File) : Type 0 where

@@ -6,9 +6,9 @@ use native.Mathlib.Nat.{not-suc-le-zero}
 use native.Mathlib.Decide.{decLt}
 use native.Mathlib.Numerals.{add-one}
 use native.Mathlib.Omega.{arith}
-use lib.ListN.{length, getD, take, drop, set, length-append, length-drop, List·getD-append, List·getD-map, length-map}
+use lib.ListN.{length, getD, take, drop, set, length-append, List·getD-append, List·getD-map, length-map}
 use lib.Seq.{drop-cons, drop-length, set-at, append-snoc, getD-at, getD-append-add, getD-take, getD-drop, ext-getD, length-take-le, paste, take-paste, drop-paste}
-use Rattle.homes.specs.Lanes.{lanes, part, Blocks}
+use Rattle.homes.specs.Lanes.{lanes, blockAt, Blocks}
 
 pub lanes-length : (n : ℕ) (f : ℕ → ℕ) → length (lanes n f) ≡ n
 unfolding lanes
@@ -62,9 +62,6 @@ lane-unread f l₀ l i h e = rw (e, drop-cons l₀ i 0 h) (getD-at (lanes i f) (
 pub lane-end : (f : ℕ → ℕ) (l₀ l : List ℕ) (n : ℕ) → length l₀ ≡ n → l ≡ lanes n f ++ drop n l₀ → l ≡ lanes n f
 lane-end f l₀ l n s e = e ∙ rw (← s, drop-length l₀) (append-nil (lanes (length l₀) f))
 
-pub lane-size : (f : ℕ → ℕ) (l₀ l : List ℕ) (i n : ℕ) → length l₀ ≡ n → i ≤ n → l ≡ lanes i f ++ drop i l₀ → length l ≡ n
-lane-size f l₀ l i n s h e = rw (e, length-append (lanes i f) (drop i l₀), lanes-length i f, length-drop i l₀, s) (omega arith)
-
 -- what holds of each place filled
 pub lane-more : (holds : ℕ → Type 0) (f : ℕ → ℕ) (i : ℕ) → ((j : ℕ) → j < i → holds (f j)) → holds (f i) → (j : ℕ) → j < i + 1 → holds (f j)
 lane-more holds f i old new j h = go (decLt j i)
@@ -79,18 +76,18 @@ lane-more holds f i old new j h = go (decLt j i)
 
 -- from `at` on, the blocks of l are those of l₀
 abbrev pub Kept : ℕ → List ℕ → List ℕ → Type 0
-Kept at l l₀ = (b : ℕ) → b % 8 ≡ 0 → at ≤ b → part l b ≡ part l₀ b
+Kept at l l₀ = (b : ℕ) → b % 8 ≡ 0 → at ≤ b → blockAt l b ≡ blockAt l₀ b
 
 pub lanes-list : (n : ℕ) (l : List ℕ) → length l ≡ n → lanes n (λ i. getD l i 0) ≡ l
 lanes-list n l e = ext-getD 0 (lanes n (λ i. getD l i 0)) l (rw (lanes-length n (λ i. getD l i 0), e)) (λ i h. lane n (λ i. getD l i 0) i (rw (lanes-length n (λ i. getD l i 0)) at h))
 
 module _ (l : List ℕ) (at : ℕ) where
-  pub part-lane : (i : ℕ) → i < 8 → getD (part l at) i 0 ≡ getD l (at + i) 0
-  unfolding part
+  pub part-lane : (i : ℕ) → i < 8 → getD (blockAt l at) i 0 ≡ getD l (at + i) 0
+  unfolding blockAt
   part-lane i h = lane 8 (λ i. getD l (at + i) 0) i h
 
-  pub part-length : length (part l at) ≡ 8
-  unfolding part
+  pub part-length : length (blockAt l at) ≡ 8
+  unfolding blockAt
   part-length = lanes-length 8 (λ i. getD l (at + i) 0)
 
 getD-past : (p q : List ℕ) (n i : ℕ) → length p ≡ n → getD (p ++ q) (n + i) 0 ≡ getD q i 0
@@ -123,26 +120,26 @@ module _ (l block : List ℕ) (at : ℕ) (fits : at + 8 ≤ length l) (eight : l
       let e : at + 8 + (j - (at + 8)) ≡ j = omega arith in
       rw e at (past (j - (at + 8)))
 
-  part-stored : part (paste l at block 8) at ≡ block
-  unfolding part
+  part-stored : blockAt (paste l at block 8) at ≡ block
+  unfolding blockAt
   part-stored = lanes-same 8 (λ i. getD (paste l at block 8) (at + i) 0) (λ i. getD block i 0) inside ∙ lanes-list 8 block eight
 
-  part-below : (b : ℕ) → b + 8 ≤ at → part (paste l at block 8) b ≡ part l b
-  unfolding part
+  part-below : (b : ℕ) → b + 8 ≤ at → blockAt (paste l at block 8) b ≡ blockAt l b
+  unfolding blockAt
   part-below b h = lanes-same 8 (λ i. getD (paste l at block 8) (b + i) 0) (λ i. getD l (b + i) 0) (λ i c. below (b + i) (omega arith))
 
-  part-above : (b : ℕ) → at + 8 ≤ b → part (paste l at block 8) b ≡ part l b
-  unfolding part
+  part-above : (b : ℕ) → at + 8 ≤ b → blockAt (paste l at block 8) b ≡ blockAt l b
+  unfolding blockAt
   part-above b h = lanes-same 8 (λ i. getD (paste l at block 8) (b + i) 0) (λ i. getD l (b + i) 0) (λ i c. above (b + i) (omega arith))
 
   -- a loop over the blocks: what holds of those stored, and that the others stay
   module _ (start : at % 8 ≡ 0) where
     pub blocks-more :
-        (holds : ℕ → List ℕ → Type 0) → Blocks at (λ b. holds b (part l b)) → holds at block →
-        Blocks (at + 8) (λ b. holds b (part (paste l at block 8) b))
+        (holds : ℕ → List ℕ → Type 0) → Blocks at (λ b. holds b (blockAt l b)) → holds at block →
+        Blocks (at + 8) (λ b. holds b (blockAt (paste l at block 8) b))
     blocks-more holds old new b m h = go (decLt b at)
       where
-        go : Dec (b < at) → holds b (part (paste l at block 8) b)
+        go : Dec (b < at) → holds b (blockAt (paste l at block 8) b)
         go (yes c) = rw (part-below b (omega arith)) (old b m c)
         go (no c) =
             let e : b ≡ at = omega arith in
@@ -154,7 +151,7 @@ module _ (l block : List ℕ) (at : ℕ) (fits : at + 8 ≤ length l) (eight : l
 -- the blocks together, read place by place
 pub blocks-map :
     (f : ℕ → ℕ) (numbers pages : List ℕ) (places : ℕ) → places ≤ length numbers → places ≤ length pages →
-    Blocks places (λ at. (i : ℕ) → i < 8 → getD (part pages at) i 0 ≡ f (getD numbers (at + i) 0)) →
+    Blocks places (λ at. (i : ℕ) → i < 8 → getD (blockAt pages at) i 0 ≡ f (getD numbers (at + i) 0)) →
     take places pages ≡ map f (take places numbers)
 blocks-map f numbers pages places hn hp each =
     sym (lanes-list places (take places pages) (length-take-le places pages hp))

@@ -21,8 +21,8 @@ lanes zero f = []
 lanes (suc n) f = lanes n f ++ (f n ∷ [])
 
 -- the eight items of a list from `at` on
-unfoldable pub part : List ℕ → ℕ → List ℕ
-part l at = lanes 8 (λ i. getD l (at + i) 0)
+unfoldable pub blockAt : List ℕ → ℕ → List ℕ
+blockAt l at = lanes 8 (λ i. getD l (at + i) 0)
 
 -- what holds of each block of a page's places
 abbrev pub Blocks : ℕ → (ℕ → Type 0) → Type 0
@@ -78,13 +78,13 @@ Grouped a p g keys i groups = (sizeAt p i ≡ p .width → ⊥) → groups ≡ g
 -- the same of a page's block at `at`
 abbrev pub PagedAt : Geometry → List ℕ → ℕ → List ℕ → ℕ → Type 0
 PagedAt geometry keys i pages at =
-    part pages at ≡ pagesAfter (multiplierOf (geometry .parameters)) (geometry .parameters) (geometry .growth) (part keys at) i
+    blockAt pages at ≡ pagesAfter (multiplierOf (geometry .parameters)) (geometry .parameters) (geometry .growth) (blockAt keys at) i
 
 abbrev pub GroupedAt : Geometry → List ℕ → ℕ → List ℕ → ℕ → Type 0
 GroupedAt geometry keys i groups at =
-    Grouped (multiplierOf (geometry .parameters)) (geometry .parameters) (geometry .growth) (part keys at) i (part groups at)
+    Grouped (multiplierOf (geometry .parameters)) (geometry .parameters) (geometry .growth) (blockAt keys at) i (blockAt groups at)
 
 abbrev pub RegroupedAt : Geometry → List ℕ → ℕ → List ℕ → ℕ → Type 0
 RegroupedAt geometry keys i groups at =
-    part groups at
-    ≡ groupsAfter (multiplierOf (geometry .parameters)) (geometry .parameters) (geometry .growth) (part keys at) (i + 1) (countAt (geometry .parameters) i)
+    blockAt groups at
+    ≡ groupsAfter (multiplierOf (geometry .parameters)) (geometry .parameters) (geometry .growth) (blockAt keys at) (i + 1) (countAt (geometry .parameters) i)

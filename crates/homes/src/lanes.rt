@@ -6,7 +6,7 @@ ghost use lib.Seq.{paste};
 ghost use Rattle.generator.specs.Generator.{modulus};
 ghost use Rattle.hashing.specs.Geometry.{rank};
 ghost use Rattle.homes.specs.Stages.{Rankable};
-ghost use Rattle.homes.specs.Lanes.{lanes, part, KeysOf, Under, Keys, hitOf, movedBy};
+ghost use Rattle.homes.specs.Lanes.{lanes, blockAt, KeysOf, Under, Keys, hitOf, movedBy};
 use crate::scalars::group;
 use crate::scalars::hit;
 use crate::scalars::keyed;
@@ -99,7 +99,7 @@ pub fn keys_of(numbers: &[u32; 32], at: usize, keys: &mut [u64; 8])
 pub fn load_keys(keys: &[u64; 32], at: usize, block: &mut [u64; 8])
     requires { ⌜ at + 8 ≤ 32 ⌝ }
     requires { ⌜ length (now block) ≡ 8 ⌝ }
-    ensures { λ _. ⌜ now (block .exit) ≡ part (now (keys .entry)) at ⌝ }
+    ensures { λ _. ⌜ now (block .exit) ≡ blockAt (now (keys .entry)) at ⌝ }
 {
     let mut i: usize = 0;
     while i < 8 {
@@ -124,7 +124,7 @@ pub fn store_keys(block: &[u64; 8], at: usize, keys: &mut [u64; 32])
 pub fn load(pages: &[u16; 32], at: usize, block: &mut [u16; 8])
     requires { ⌜ at + 8 ≤ 32 ⌝ }
     requires { ⌜ length (now block) ≡ 8 ⌝ }
-    ensures { λ _. ⌜ now (block .exit) ≡ part (now (pages .entry)) at ⌝ }
+    ensures { λ _. ⌜ now (block .exit) ≡ blockAt (now (pages .entry)) at ⌝ }
 {
     let mut i: usize = 0;
     while i < 8 {

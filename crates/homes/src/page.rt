@@ -8,7 +8,7 @@ ghost use Rattle.generator.specs.Generator.{modulus, firstMultipliers};
 ghost use Rattle.hashing.specs.Geometry.{multiplierOf};
 ghost use Rattle.hashing.specs.Limits.{validParameters, validGrowth};
 ghost use Rattle.hashing.specs.Home.{home};
-ghost use Rattle.homes.specs.Lanes.{lanes, part, Blocks, keysAt, KeysOf};
+ghost use Rattle.homes.specs.Lanes.{lanes, blockAt, Blocks, keysAt, KeysOf};
 use crate::lanes::keys_of;
 use crate::lanes::starts;
 use crate::lanes::store;
@@ -29,8 +29,8 @@ fn prepare(
     requires { ⌜ places ≤ 32 ⌝ }
     requires { ⌜ (length (now keys) ≡ 32) × (length (now pages) ≡ 32) ⌝ }
     ensures { λ _. ⌜ length (now (pages .exit)) ≡ 32 ⌝ }
-    ensures { λ _. ⌜ Blocks places (λ at. KeysOf (now (numbers .entry)) at (part (now (keys .exit)) at)) ⌝ }
-    ensures { λ _. ⌜ Blocks places (λ at. part (now (pages .exit)) at ≡ lanes 8 (λ i. factor * getD (keysAt (now (numbers .entry)) at) i 0 % modulus % span)) ⌝ }
+    ensures { λ _. ⌜ Blocks places (λ at. KeysOf (now (numbers .entry)) at (blockAt (now (keys .exit)) at)) ⌝ }
+    ensures { λ _. ⌜ Blocks places (λ at. blockAt (now (pages .exit)) at ≡ lanes 8 (λ i. factor * getD (keysAt (now (numbers .entry)) at) i 0 % modulus % span)) ⌝ }
 {
     let inverse = 4294967295 / span as u32;
     let mut at: usize = 0;

@@ -9,7 +9,7 @@ ghost use Rattle.hashing.specs.Geometry.{multiplierOf};
 ghost use Rattle.hashing.specs.Geometry.{countAt};
 ghost use Rattle.hashing.specs.Limits.{validParameters, validGrowth};
 ghost use Rattle.homes.specs.Stages.{stageAt, sweepOf, testAt};
-ghost use Rattle.homes.specs.Lanes.{part, Blocks, Keys, pagesAfter, groupsAfter, PagedAt, GroupedAt, RegroupedAt};
+ghost use Rattle.homes.specs.Lanes.{blockAt, Blocks, Keys, pagesAfter, groupsAfter, PagedAt, GroupedAt, RegroupedAt};
 use crate::blocks::turn;
 use crate::lanes::load;
 use crate::lanes::load_keys;
@@ -42,11 +42,11 @@ fn turn_at(
     requires { ⌜ test ≡ testAt (geometry .parameters) (geometry .growth) i ⌝ }
     requires { ⌜ at + 8 ≤ 32 ⌝ }
     requires { ⌜ (length (now groups) ≡ 32) × (length (now pages) ≡ 32) ⌝ }
-    requires { ⌜ Keys (part (now keys) at) ⌝ }
+    requires { ⌜ Keys (blockAt (now keys) at) ⌝ }
     requires { ⌜ GroupedAt geometry (now keys) i (now groups) at ⌝ }
     requires { ⌜ PagedAt geometry (now keys) i (now pages) at ⌝ }
-    ensures { λ _. ⌜ now (groups .exit) ≡ paste (now (groups .entry)) at (groupsAfter (multiplierOf (geometry .parameters)) (geometry .parameters) (geometry .growth) (part (now (keys .entry)) at) (i + 1) (countAt (geometry .parameters) i)) 8 ⌝ }
-    ensures { λ _. ⌜ now (pages .exit) ≡ paste (now (pages .entry)) at (pagesAfter (multiplierOf (geometry .parameters)) (geometry .parameters) (geometry .growth) (part (now (keys .entry)) at) (i + 1)) 8 ⌝ }
+    ensures { λ _. ⌜ now (groups .exit) ≡ paste (now (groups .entry)) at (groupsAfter (multiplierOf (geometry .parameters)) (geometry .parameters) (geometry .growth) (blockAt (now (keys .entry)) at) (i + 1) (countAt (geometry .parameters) i)) 8 ⌝ }
+    ensures { λ _. ⌜ now (pages .exit) ≡ paste (now (pages .entry)) at (pagesAfter (multiplierOf (geometry .parameters)) (geometry .parameters) (geometry .growth) (blockAt (now (keys .entry)) at) (i + 1)) 8 ⌝ }
 {
     let mut block_keys = [0u64; 8];
     let mut block_groups = [0u16; 8];
@@ -87,7 +87,7 @@ fn turn_all(
     requires { ⌜ test ≡ testAt (geometry .parameters) (geometry .growth) i ⌝ }
     requires { ⌜ places ≤ 32 ⌝ }
     requires { ⌜ (length (now groups) ≡ 32) × (length (now pages) ≡ 32) ⌝ }
-    requires { ⌜ Blocks places (λ at. Keys (part (now keys) at)) ⌝ }
+    requires { ⌜ Blocks places (λ at. Keys (blockAt (now keys) at)) ⌝ }
     requires { ⌜ Blocks places (GroupedAt geometry (now keys) i (now groups)) ⌝ }
     requires { ⌜ Blocks places (PagedAt geometry (now keys) i (now pages)) ⌝ }
     ensures { λ _. ⌜ (length (now (groups .exit)) ≡ 32) × (length (now (pages .exit)) ≡ 32) ⌝ }
@@ -113,7 +113,7 @@ pub fn steps(
     requires { ⌜ validGrowth (geometry .parameters) (geometry .growth) ≡ true ⌝ }
     requires { ⌜ places ≤ 32 ⌝ }
     requires { ⌜ length (now pages) ≡ 32 ⌝ }
-    requires { ⌜ Blocks places (λ at. Keys (part (now keys) at)) ⌝ }
+    requires { ⌜ Blocks places (λ at. Keys (blockAt (now keys) at)) ⌝ }
     requires { ⌜ Blocks places (PagedAt geometry (now keys) 0 (now pages)) ⌝ }
     ensures { λ _. ⌜ length (now (pages .exit)) ≡ 32 ⌝ }
     ensures { λ _. ⌜ Blocks places (PagedAt geometry (now (keys .entry)) (geometry .growth .expansions + 1) (now (pages .exit))) ⌝ }

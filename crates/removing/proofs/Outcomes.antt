@@ -26,11 +26,11 @@ module _ (p : Parameters) (g : Growth) (f : File) (v : validParameters p ≡ tru
   unfolding removalAnswer hashOf
   removal-small k page h =
       cases-small
-      (ltb (removal.unsoundOf p g f k) (removal.startOf p g k + removal.countOf p g f k))
+      (ltb (removal.removalUnsound p g f k) (removal.removalStart p g k + removal.removalCount p g f k))
       true
-      (removal.unsoundOf p g f k)
+      (removal.removalUnsound p g f k)
       page
-      (omega (arith, unsound-most p g f (removal.startOf p g k) (removal.countOf p g f k), removal-most p g f (removal.startOf p g k) (home-pages (multiplierOf p) p g k v w), limits p v .pages-most))
+      (omega (arith, unsound-most p g f (removal.removalStart p g k) (removal.removalCount p g f k), removal-most p g f (removal.removalStart p g k) (home-pages (multiplierOf p) p g k v w), limits p v .pages-most))
       h
 
 module _ (p : Parameters) (g : Growth) (f : File) (pool : Pool) where
@@ -40,10 +40,10 @@ module _ (p : Parameters) (g : Growth) (f : File) (pool : Pool) where
   unfolding removalAnswer removalFile removeTo
   removed-is page k place =
       outcome-cases g f pool
-      (ltb (removal.unsoundOf p g f k) (removal.startOf p g k + removal.countOf p g f k))
+      (ltb (removal.removalUnsound p g f k) (removal.removalStart p g k + removal.removalCount p g f k))
       true
-      (removal.unsoundOf p g f k)
+      (removal.removalUnsound p g f k)
       page
       place
-      (replaced (p .places) f (removal.startOf p g k)
-      (pages (hashOf p g) (removal.startOf p g k) (removal.countOf p g f k) (without k (gathered (p .places) f (removal.startOf p g k) (removal.countOf p g f k)))))
+      (replaced (p .places) f (removal.removalStart p g k)
+      (pages (hashOf p g) (removal.removalStart p g k) (removal.removalCount p g f k) (without k (gathered (p .places) f (removal.removalStart p g k) (removal.removalCount p g f k)))))

@@ -22,10 +22,10 @@ use Rattle.planning.proofs.RuleOverWords.{Probes}
 use Rattle.planning.proofs.Applying.{applied}
 use Rattle.planning.proofs.Sourcing.{words-sourced, named-stretch, length-stretch}
 use Rattle.planning.proofs.Placed.{Gatherable, placed, left-count, layout, applied-layout}
-use Rattle.replacing.specs.Stretch.{Plannable, newPages, fitting, restretched}
+use Rattle.replacing.specs.Stretch.{StretchReady, newPages, fitting, restretched}
 use Rattle.waiting.proofs.Gathered.{starsIn-most}
 
-module _ (q : Parameters) (lo n : ℕ) (f : File) (pool waiting poolowners : List ℕ) (L : Plannable q lo n f pool waiting poolowners) (k : ℕ) where
+module _ (q : Parameters) (lo n : ℕ) (f : File) (pool waiting poolowners : List ℕ) (L : StretchReady q lo n f pool waiting poolowners) (k : ℕ) where
   -- the waiting list has (q .places) for the stretch's stars
   pub stars-fit : 0 + starsIn k (stretch (q .places) lo n (f .numbers)) ≤ length waiting
   stars-fit =

@@ -16,7 +16,7 @@ use Rattle.planning.specs.Sources.{renamed}
 use Rattle.planning.specs.Plans.{plans, remains}
 
 -- the lists as long as the stretch needs, numbers of 31 bits, and homes below the page past it
-pub record Plannable (q : Parameters) (lo n : ℕ) (f : File) (pool waiting poolowners : List ℕ) : Type 0 where
+pub record StretchReady (q : Parameters) (lo n : ℕ) (f : File) (pool waiting poolowners : List ℕ) : Type 0 where
   pub places-most : q .places ≤ 32
   pub some : 0 < n
   pub pages-most : lo + n ≤ 1024

@@ -32,7 +32,7 @@ use Rattle.placement.proofs.Probing.{bounded-real}
 use Rattle.reach.specs.Reach.{firstSuch, firstUnsound}
 use Rattle.shifting.specs.Shift.{Ordered}
 
--- ---- the rule over one page
+-- the rule over one page
 
 module _ (H : Hash) (b : Bounded H) (p : ℕ) (w : List Star) (homed : (s : Star) → List·Memᴰ s w → H .home (s .number) ≤ p) (few : length w ≤ H .room) where
   all-probe : filter (probes H p) w ≡ w
@@ -62,7 +62,7 @@ unfolding firstSuch
 first-here test from zero e = refl
 first-here test from (suc n) e = rw e
 
--- ---- a page of the file
+-- a page of the file
 
 -- the file with one page's stars in the place of its own, under the separator that it has
 pub file-alone : (b : ℕ) (f : File) (page top : ℕ) (stars : List Star) (ns ws os : List ℕ) → page < length (f .separators) → getD (f .separators) page 0 ≡ top

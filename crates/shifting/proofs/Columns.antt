@@ -9,7 +9,7 @@ use Rattle.placement.specs.Rule.{Star}
 use Rattle.buffers.specs.Lists.{padded, written}
 use Rattle.buffers.proofs.Written.{around}
 use Rattle.buffers.proofs.Lists.{length-padded}
-use Rattle.shifting.specs.Shift.{opened, closed}
+use Rattle.shifting.specs.Shift.{openedAt, closed}
 use Rattle.shifting.proofs.Moving.{opened-is, closed-is}
 
 module _ (g : Star → ℕ) (s : Star) (front back : List Star) (places : ℕ) (room : length front + length back < places) where
@@ -72,9 +72,9 @@ module _ (g : Star → ℕ) (s : Star) (front back : List Star) (places : ℕ) (
     ahead = length-append (take at l) (map g front) ∙ omega (arith, length-take-le at l (omega arith), length-map front g)
 
     pub put-column : take places (drop at l) ≡ padded places (map g (front ++ back))
-        → opened (at + length front) (places - length front) (g s) l ≡ written at (padded places (map g (front ++ (s ∷ back)))) l
+        → openedAt (at + length front) (places - length front) (g s) l ≡ written at (padded places (map g (front ++ (s ∷ back)))) l
     put-column e =
-        ap (opened (at + length front) (places - length front) (g s))
+        ap (openedAt (at + length front) (places - length front) (g s))
         (surrounded (padded places (map g (front ++ back))) (behind ++ (0 ∷ [])) (map g front) e less
         ∙ ap (λ (m : List ℕ). take at l ++ map g front ++ m) (append-assoc behind (0 ∷ []) rest))
         ∙ opened-is (take at l ++ map g front) behind rest (g s) 0 (at + length front) (places - length front) ahead (omega (arith, length-behind))

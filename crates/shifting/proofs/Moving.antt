@@ -8,7 +8,7 @@ use lib.ListN.{length, take, drop, getD, set, length-append, length-drop, List·
 use lib.Seq.{paste, drop-drop, drop-paste, take-all, take-at, drop-at, getD-drop, getD-take, getD-at, append-snoc, length-take-le}
 use Rattle.buffers.proofs.Copies.{Copied, turn}
 use Rattle.planning.proofs.Copies.{done}
-use Rattle.shifting.specs.Shift.{opened, closed}
+use Rattle.shifting.specs.Shift.{openedAt, closed}
 
 -- an item that is not yet written is as it was
 pub unwritten : (d : List ℕ) (at : ℕ) (s e : List ℕ) (j i : ℕ) → at + j ≤ length d → j ≤ length s → Copied d at s e j → getD e (at + j + i) 0 ≡ getD d (at + j + i) 0
@@ -18,7 +18,7 @@ unwritten d at s e j i hd hs h =
     ∙ ap (λ (l : List ℕ). getD l i 0) (drop-paste d at s j (omega arith) hs)
     ∙ getD-drop (at + j) d i 0
 
--- ---- moving up
+-- moving up
 
 -- one turn; what it carries on is what the next one writes
 pub risen-next : {d e : List ℕ} {from x j carried : ℕ} → Copied d from (x ∷ drop from d) e j → carried ≡ getD (x ∷ drop from d) j 0 → from + j < length d
@@ -37,7 +37,7 @@ risen-next {d} {e} {from} {x} {j} {carried} c w h = (
 
 -- the items D between F and y moved over y
 pub opened-is : (F D R : List ℕ) (x y from count : ℕ) → length F ≡ from → count ≡ suc (length D)
-    → opened from count x (F ++ (D ++ (y ∷ R))) ≡ F ++ (x ∷ (D ++ R))
+    → openedAt from count x (F ++ (D ++ (y ∷ R))) ≡ F ++ (x ∷ (D ++ R))
 opened-is F D R x y from count lf lc =
     rw (lc, take-at F (D ++ (y ∷ R)) from lf, ← drop-drop (suc (length D)) from (F ++ (D ++ (y ∷ R))), drop-at F (D ++ (y ∷ R)) from lf)
     (ap (λ (l : List ℕ). F ++ (x ∷ l) ++ drop (suc (length D)) (D ++ (y ∷ R))) (take-at D (y ∷ R) (length D) refl)
@@ -47,7 +47,7 @@ opened-is F D R x y from count lf lc =
     past : drop (suc (length D)) (D ++ (y ∷ R)) ≡ R
     past = ap (drop (suc (length D))) (sym (append-snoc D y R)) ∙ drop-at (D ++ (y ∷ [])) R (suc (length D)) (length-append D (y ∷ []) ∙ omega arith)
 
--- ---- moving down
+-- moving down
 
 -- what the items from `from` on are to be
 abbrev pub fallen : ℕ → ℕ → List ℕ → List ℕ

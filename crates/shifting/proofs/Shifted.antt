@@ -12,7 +12,7 @@ use Rattle.buffers.specs.Lists.{padded, written}
 use Rattle.placement.proofs.Order.{Rising}
 use Rattle.placement.proofs.Pages.{Numbered, Columns, orderly-rising, orderly-proper, orderly-columns, length-starsOf}
 use Rattle.placement.proofs.Files.{numberOf, wordOf, ownerOf}
-use Rattle.shifting.specs.Shift.{opened, closed, starsOn, numberAt, Ordered, Vacant, Occupied}
+use Rattle.shifting.specs.Shift.{openedAt, closed, starsOn, numberAt, Ordered, Vacant, Occupied}
 use Rattle.shifting.proofs.Splits.{numbered, Split, insert-split, without-split, room-left}
 use Rattle.shifting.proofs.Columns.{put-column, take-column}
 
@@ -68,10 +68,10 @@ module _ (places page : ℕ) (ns ws os : List ℕ) (o : Ordered places page ns w
     put-place : place < places
     put-place = omega (arith, few, at-place)
 
-    put-items : (g : Star → ℕ) (l : List ℕ) → Of g l → opened (page * places + place) (places - place) (g s) l ≡ written (page * places) (padded places (map g (insert s stars))) l
+    put-items : (g : Star → ℕ) (l : List ℕ) → Of g l → openedAt (page * places + place) (places - place) (g s) l ≡ written (page * places) (padded places (map g (insert s stars))) l
     unfolding part
     put-items g l e =
-        ap (λ (i : ℕ). opened (page * places + i) (places - i) (g s) l) (sym at-place)
+        ap (λ (i : ℕ). openedAt (page * places + i) (places - i) (g s) l) (sym at-place)
         ∙ put-column g s (split .front) (split .back) places few (page * places) l (e .0) (e .1 ∙ ap (λ (m : List Star). padded places (map g m)) (split .isLess))
         ∙ ap (λ (m : List Star). written (page * places) (padded places (map g m)) l) (sym (split .isMore))
 
@@ -107,7 +107,7 @@ module _ (places page : ℕ) (ns ws os : List ℕ) (o : Ordered places page ns w
   pub of-owners : Of ownerOf os
   of-owners = (o .inOwners, columns .2)
 
--- ---- as the code asks
+-- as the code asks
 
 module _ {places page place k : ℕ} {ns ws os : List ℕ} (v : Vacant places page place k ns ws os) where
   pub vacant-place : place < places
@@ -117,7 +117,7 @@ module _ {places page place k : ℕ} {ns ws os : List ℕ} (v : Vacant places pa
   vacant-room = roomy places page ns ws os (v .ordered) (starWith k 0 0) place (v .there) (v .some) (v .empty)
 
   pub put-list : (word owner : ℕ) (g : Star → ℕ) (l : List ℕ) → Of places page ns ws os (v .ordered) g l
-      → opened (page * places + place) (places - place) (g (starWith k word owner)) l
+      → openedAt (page * places + place) (places - place) (g (starWith k word owner)) l
       ≡ written (page * places) (padded places (map g (insert (starWith k word owner) (starsOn places page ns ws os)))) l
   put-list word owner = put-items places page ns ws os (v .ordered) (starWith k word owner) place (v .there) (v .some) (v .empty)
 

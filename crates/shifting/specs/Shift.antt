@@ -14,8 +14,8 @@ use Rattle.placement.specs.File.{starsOf, orderly}
 use Rattle.placement.specs.Lent.{Lent}
 
 -- x at `from`, and the items from there, up to the one before from + count, moved up by one
-abbrev pub opened : ℕ → ℕ → ℕ → List ℕ → List ℕ
-opened from count x l = paste l from (x ∷ drop from l) count
+abbrev pub openedAt : ℕ → ℕ → ℕ → List ℕ → List ℕ
+openedAt from count x l = paste l from (x ∷ drop from l) count
 
 -- without the item at `from`: the `behind` items after it moved down by one, and 0 after them
 abbrev pub closed : ℕ → ℕ → List ℕ → List ℕ
@@ -52,7 +52,7 @@ pub record Occupied (places page place : ℕ) (ns ws os : List ℕ) : Type 0 whe
   pub held : 0 < numberAt places page place ns
 
 -- "Stars stay in rising order of number", "Empty places last": the page's items are now those of these stars, and the other items stay
-pub record Stands (places page : ℕ) (stars : List Star) (numbers words owners : Lent) : Type 0 where
+pub record StandsOn (places page : ℕ) (stars : List Star) (numbers words owners : Lent) : Type 0 where
   pub ofNumbers : now (numbers .exit) ≡ written (page * places) (padded places (map (λ (s : Star). s .number) stars)) (now (numbers .entry))
   pub ofWords : now (words .exit) ≡ written (page * places) (padded places (map (λ (s : Star). s .payload .word) stars)) (now (words .entry))
   pub ofOwners : now (owners .exit) ≡ written (page * places) (padded places (map (λ (s : Star). s .payload .owner) stars)) (now (owners .entry))

@@ -2,12 +2,12 @@
 ghost use mathlib.Core.Path.{_≡_};
 ghost use Prim.Native.Nat.{_+_, _≤_, _<_};
 ghost use lib.ListN.{length};
-ghost use Rattle.shifting.specs.Shift.{opened, closed};
+ghost use Rattle.shifting.specs.Shift.{openedAt, closed};
 
 // The item put at `from`, and the `count` items from there moved up: the last of them is lost.
 pub fn put_number(numbers: &mut [u32], from: usize, count: usize, number: u32)
     requires { ⌜ from + count ≤ length (now numbers) ⌝ }
-    ensures { λ _. ⌜ now (numbers .exit) ≡ opened from count number (now (numbers .entry)) ⌝ }
+    ensures { λ _. ⌜ now (numbers .exit) ≡ openedAt from count number (now (numbers .entry)) ⌝ }
 {
     let mut carried = number;
     let mut i = 0;
@@ -21,7 +21,7 @@ pub fn put_number(numbers: &mut [u32], from: usize, count: usize, number: u32)
 
 pub fn put_word(words: &mut [u64], from: usize, count: usize, word: u64)
     requires { ⌜ from + count ≤ length (now words) ⌝ }
-    ensures { λ _. ⌜ now (words .exit) ≡ opened from count word (now (words .entry)) ⌝ }
+    ensures { λ _. ⌜ now (words .exit) ≡ openedAt from count word (now (words .entry)) ⌝ }
 {
     let mut carried = word;
     let mut i = 0;
@@ -35,7 +35,7 @@ pub fn put_word(words: &mut [u64], from: usize, count: usize, word: u64)
 
 pub fn put_owner(owners: &mut [u8], from: usize, count: usize, owner: u8)
     requires { ⌜ from + count ≤ length (now owners) ⌝ }
-    ensures { λ _. ⌜ now (owners .exit) ≡ opened from count owner (now (owners .entry)) ⌝ }
+    ensures { λ _. ⌜ now (owners .exit) ≡ openedAt from count owner (now (owners .entry)) ⌝ }
 {
     let mut carried = owner;
     let mut i = 0;

@@ -1,6 +1,6 @@
 // One star on one page.
 ghost use Rattle.placement.specs.Rule.{insert, without, starWith};
-ghost use Rattle.shifting.specs.Shift.{Vacant, Occupied, Stands, starsBefore, numberAt};
+ghost use Rattle.shifting.specs.Shift.{Vacant, Occupied, StandsOn, starsBefore, numberAt};
 use crate::items::put_number;
 use crate::items::put_owner;
 use crate::items::put_word;
@@ -21,7 +21,7 @@ pub fn put_star(
     owner: u8,
 )
     requires { ⌜ Vacant places page place number (now numbers) (now words) (now owners) ⌝ }
-    ensures { λ _. ⌜ Stands places page (insert (starWith number word owner) (starsBefore places page numbers words owners)) numbers words owners ⌝ }
+    ensures { λ _. ⌜ StandsOn places page (insert (starWith number word owner) (starsBefore places page numbers words owners)) numbers words owners ⌝ }
 {
     let from = page * places + place;
     let count = places - place;
@@ -40,7 +40,7 @@ pub fn take_star(
     place: usize,
 )
     requires { ⌜ Occupied places page place (now numbers) (now words) (now owners) ⌝ }
-    ensures { λ _. ⌜ Stands places page (without (numberAt places page place (now (numbers .entry))) (starsBefore places page numbers words owners)) numbers words owners ⌝ }
+    ensures { λ _. ⌜ StandsOn places page (without (numberAt places page place (now (numbers .entry))) (starsBefore places page numbers words owners)) numbers words owners ⌝ }
 {
     let from = page * places + place;
     let behind = places - place - 1;

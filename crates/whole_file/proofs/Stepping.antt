@@ -25,8 +25,7 @@ use Rattle.whole_file.proofs.Outcomes.{regrown-is}
 use Rattle.answering.proofs.Pools.{cases-pool}
 use Rattle.placement.specs.Rule.{left}
 use Rattle.placement.specs.Hash.{hashOf}
-use Rattle.reach.specs.Reach.{firstUnsound, isEmpty}
-use Rattle.calls.specs.Calls.{allStars}
+use Rattle.reach.specs.Reach.{firstUnsound, isEmpty, allStars}
 
 module _ (p : Parameters) (g : Growth) (f : File) (pool : Pool) where
   regrow-pool : (next : Growth) (page : ℕ) → regrowTo p g f pool next page .pool ≡ pool

@@ -12,7 +12,7 @@ use Rattle.placement.specs.File.{File}
 use Rattle.placement.specs.Hash.{lent}
 use Rattle.shifting.proofs.Alone.{home-start}
 use Rattle.shifting.specs.Shift.{Vacant}
-use Rattle.entering.specs.Entry.{startOf, takesAlone}
+use Rattle.entering.specs.Entry.{entryStart, takesAlone}
 use Rattle.entering.proofs.Alone.{vacant-home, alone-lists}
 use Rattle.entering.proofs.star.enter_star.Statement.{statement}
 use Rattle.entering.proofs.star.enter_star.Tie as tie
@@ -25,7 +25,7 @@ home-inside s =
     let p = s .args .geometry .parameters in
     omega (arith, s .pre .1 .1 .1 .1 .0, home-pages (multiplierOf p) p (s .args .geometry .growth) (s .args .number) (s .pre .0 .homing .valid) (s .pre .0 .homing .growth))
 
-home-is : (s : tie.Start) → s .args .home ≡ startOf (s .args .geometry .parameters) (s .args .geometry .growth) (s .args .number)
+home-is : (s : tie.Start) → s .args .home ≡ entryStart (s .args .geometry .parameters) (s .args .geometry .growth) (s .args .number)
 home-is s = s .pre .1 .1 .1 .1 .0 ∙ home-start (s .args .geometry .parameters) (s .args .geometry .growth) (s .args .number)
 
 takes-alone-requires : tie.Need-takes-alone-requires
@@ -38,7 +38,7 @@ abbrev begun : tie.Else1 → tie.Start
 begun c = c .before .before .before .before .before .before .before .before .before .before .before .before
 
 alone : (c : tie.Else1)
-    → takesAlone (begun c .args .geometry .parameters) (now (begun c .args .separators)) (now (begun c .args .numbers)) (startOf (begun c .args .geometry .parameters) (begun c .args .geometry .growth) (begun c .args .number)) ≡ true
+    → takesAlone (begun c .args .geometry .parameters) (now (begun c .args .separators)) (now (begun c .args .numbers)) (entryStart (begun c .args .geometry .parameters) (begun c .args .geometry .growth) (begun c .args .number)) ≡ true
 alone c =
     let s = begun c in
     ap (takesAlone (s .args .geometry .parameters) (now (s .args .separators)) (now (s .args .numbers))) (sym (home-is s)) ∙ sym (c .before .takes-alone .ensures) ∙ not-false _ (c .if1 .left)

@@ -1,7 +1,6 @@
 -- `homes::blocks::turn` meets its contract: the step of the lanes is the step of the rule.
 use mathlib.Core.Path.{_≡_, _∙_}
 use Prim.Native.Nat.{suc, _*_, _≤_}
-use lib.ListN.{getD}
 use Rattle.generator.specs.Generator.{power}
 use Rattle.hashing.specs.Geometry.{multiplierOf}
 use Rattle.hashing.proofs.Bounds.{Limits, limits}

@@ -4,7 +4,7 @@ use mathlib.Core.List.{_++_}
 use Prim.Native.Nat.{ℕ, _+_, _-_, _≤_, _<_}
 use native.Mathlib.Omega.{arith}
 use lib.ListN.{length, getD, drop}
-use Rattle.homes.specs.Lanes.{lanes, part}
+use Rattle.homes.specs.Lanes.{lanes, blockAt}
 use Rattle.homes.proofs.Lists.{lane-none, lane-next, lane-end}
 use Rattle.homes.proofs.lanes.load_keys.Statement.{statement}
 use Rattle.homes.proofs.lanes.load_keys.Tie as tie
@@ -51,7 +51,7 @@ loop-again c =
     (omega arith, lane-next (value start) (start .args .block .now) (turn .block) (turn .i) (value start (turn .i)) within (turn .inv .1) refl)
 
 returns : tie.Need-returns Inv-loop μ-loop
-unfolding part
+unfolding blockAt
 returns c =
     let start = c .before .before in
     let done : c .before .loop .i ≡ 8 = omega arith in

@@ -1,14 +1,13 @@
 -- `homes::page::prepare` meets its contract. The invariant: the blocks below `at` are filled.
-use mathlib.Core.Path.{_≡_, _∙_, refl, sym, ap}
+use mathlib.Core.Path.{_≡_, _∙_, refl, ap}
 use mathlib.Core.List.{List}
 use Prim.Native.Nat.{ℕ, _+_, _-_, _*_, _%_, _≤_}
 use native.Mathlib.Nat.{not-suc-le-zero}
 use native.Mathlib.Omega.{arith}
-use borrow.Author.Needs.{needs}
 use lib.ListN.{length, getD}
 use lib.Seq.{length-paste}
 use Rattle.generator.specs.Generator.{modulus}
-use Rattle.homes.specs.Lanes.{lanes, part, Blocks, keysAt, KeysOf}
+use Rattle.homes.specs.Lanes.{lanes, blockAt, Blocks, keysAt, KeysOf}
 use Rattle.homes.proofs.Lists.{lanes-length, blocks-more}
 use Rattle.homes.proofs.page.prepare.Statement.{statement}
 use Rattle.homes.proofs.page.prepare.Tie as tie
@@ -21,7 +20,7 @@ abbrev Inv-loop : tie.InvT-loop
 Inv-loop factor span numbers places keys₀ pages₀ inverse at₀ keys pages at =
     ((at ≤ 32) × (at % 8 ≡ 0))
     × (((length keys ≡ 32) × (length pages ≡ 32))
-    × (Blocks at (λ b. KeysOf numbers b (part keys b)) × Blocks at (λ b. part pages b ≡ started factor span numbers b)))
+    × (Blocks at (λ b. KeysOf numbers b (blockAt keys b)) × Blocks at (λ b. blockAt pages b ≡ started factor span numbers b)))
 
 abbrev μ-loop : tie.MeasureT-loop
 μ-loop factor span numbers places keys₀ pages₀ inverse at₀ keys pages at = 32 - at
@@ -108,7 +107,7 @@ loop-again c =
           (λ b n h.
               rw keys (blocks-more (turn .keys) (keysHere done) (turn .at) kl (keys-size done) m (KeysOf (s .numbers .now)) (turn .inv .1 .1 .0) (keys-here done) b n h)),
           (λ b n h.
-              ap (λ (l : List ℕ). part l b) (c .store .ensures)
+              ap (λ (l : List ℕ). blockAt l b) (c .store .ensures)
               ∙ blocks-more (turn .pages) block (turn .at) pl (pages-size done) m (λ (b : ℕ) (l : List ℕ). l ≡ started (s .factor) (s .span) (s .numbers .now) b) (turn .inv .1 .1 .1) (pages-here done) b n h),
         ),
       ),

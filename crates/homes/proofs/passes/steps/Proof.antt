@@ -6,7 +6,7 @@ use lib.ListN.{length}
 use Rattle.hashing.specs.Geometry.{multiplierOf}
 use Rattle.hashing.proofs.Bounds.{Limits, limits}
 use Rattle.homes.specs.Stages.{stageAt}
-use Rattle.homes.specs.Lanes.{part, Blocks, groupsAfter, GroupedAt, PagedAt}
+use Rattle.homes.specs.Lanes.{blockAt, Blocks, groupsAfter, GroupedAt, PagedAt}
 use Rattle.homes.proofs.Prepared.{Steady, steady, size-start, count-kept}
 use Rattle.homes.proofs.passes.steps.Statement.{statement}
 use Rattle.homes.proofs.passes.steps.Tie as tie
@@ -107,7 +107,7 @@ loop-again c =
           (
             (λ b m h f.
                 turned .1 .0 b m h
-                ∙ ap (groupsAfter (multiplierOf p) p g (part (s .args .keys .now) b) (i + 1)) (sym (count-kept p i (bounds s) f))),
+                ∙ ap (groupsAfter (multiplierOf p) p g (blockAt (s .args .keys .now) b) (i + 1)) (sym (count-kept p i (bounds s) f))),
             turned .1 .1,
           ),
         ),

@@ -8,7 +8,7 @@ use lib.ListN.{length}
 use lib.Seq.{length-paste}
 use Rattle.hashing.specs.Geometry.{multiplierOf}
 use Rattle.hashing.specs.Geometry.{countAt}
-use Rattle.homes.specs.Lanes.{part, Blocks, pagesAfter, groupsAfter, PagedAt, RegroupedAt}
+use Rattle.homes.specs.Lanes.{blockAt, Blocks, pagesAfter, groupsAfter, PagedAt, RegroupedAt}
 use Rattle.homes.proofs.Lists.{Kept, blocks-more, blocks-rest}
 use Rattle.homes.proofs.Steps.{pages-length, groups-length}
 use Rattle.homes.proofs.passes.turn_all.Statement.{statement}
@@ -33,12 +33,12 @@ room c = omega (arith, c .loop-test .taken, c .before .loop .inv .0, start c .pr
 abbrev groupsNext : tie.In-loop Inv-loop μ-loop → ℕ → List ℕ
 groupsNext c at =
     let s = start c .args in
-    groupsAfter (multiplierOf (s .geometry .parameters)) (s .geometry .parameters) (s .geometry .growth) (part (s .keys .now) at) (s .i + 1) (countAt (s .geometry .parameters) (s .i))
+    groupsAfter (multiplierOf (s .geometry .parameters)) (s .geometry .parameters) (s .geometry .growth) (blockAt (s .keys .now) at) (s .i + 1) (countAt (s .geometry .parameters) (s .i))
 
 abbrev pagesNext : tie.In-loop Inv-loop μ-loop → ℕ → List ℕ
 pagesNext c at =
     let s = start c .args in
-    pagesAfter (multiplierOf (s .geometry .parameters)) (s .geometry .parameters) (s .geometry .growth) (part (s .keys .now) at) (s .i + 1)
+    pagesAfter (multiplierOf (s .geometry .parameters)) (s .geometry .parameters) (s .geometry .growth) (blockAt (s .keys .now) at) (s .i + 1)
 
 loop-holds : tie.Need-loop-holds Inv-loop μ-loop
 loop-holds c = (
@@ -115,18 +115,18 @@ loop-again c =
         (
           (
             (λ b n h.
-                ap (λ (l : List ℕ). part l b) groups
+                ap (λ (l : List ℕ). blockAt l b) groups
                 ∙ blocks-more (turn .groups) (groupsNext inside (turn .at)) (turn .at) gl ge m (λ (b : ℕ) (l : List ℕ). l ≡ groupsNext inside b) (turn .inv .1 .1 .0 .0) refl b n h),
             (λ b n h.
-                ap (λ (l : List ℕ). part l b) pages
+                ap (λ (l : List ℕ). blockAt l b) pages
                 ∙ blocks-more (turn .pages) (pagesNext inside (turn .at)) (turn .at) pl pe m (λ (b : ℕ) (l : List ℕ). l ≡ pagesNext inside b) (turn .inv .1 .1 .0 .1) refl b n h),
           ),
           (
             (λ b n h.
-                ap (λ (l : List ℕ). part l b) groups
+                ap (λ (l : List ℕ). blockAt l b) groups
                 ∙ blocks-rest (turn .groups) (groupsNext inside (turn .at)) (turn .at) gl ge m (s .args .groups .now) (turn .inv .1 .1 .1 .0) b n h),
             (λ b n h.
-                ap (λ (l : List ℕ). part l b) pages
+                ap (λ (l : List ℕ). blockAt l b) pages
                 ∙ blocks-rest (turn .pages) (pagesNext inside (turn .at)) (turn .at) pl pe m (s .args .pages .now) (turn .inv .1 .1 .1 .1) b n h),
           ),
         ),

@@ -9,7 +9,7 @@ use Rattle.hashing.specs.declared.Parameters.{Parameters}
 use Rattle.hashing.specs.declared.Growth.{Growth}
 use Rattle.hashing.specs.Geometry.{multiplierOf}
 use Rattle.hashing.specs.Geometry.{countAt}
-use Rattle.homes.specs.Lanes.{part, pagesAfter, groupsAfter, Grouped}
+use Rattle.homes.specs.Lanes.{blockAt, pagesAfter, groupsAfter, Grouped}
 use Rattle.homes.proofs.Lists.{part-length}
 use Rattle.homes.proofs.Steps.{pages-length, groups-length}
 use Rattle.homes.proofs.passes.turn_at.Statement.{statement}
@@ -18,7 +18,7 @@ use Rattle.homes.proofs.passes.turn_at.Tie as tie
 abbrev start : tie.After-block-pages2 → tie.Start
 start c = c .before .before .before .before .before .before .before .before .before .before .before
 
-keys-are : (c : tie.After-block-pages2) → c .before .before .before .before .before .before .before .before .before .load-keys .last .1 .1 .0 ≡ part (start c .args .keys .now) (start c .args .at)
+keys-are : (c : tie.After-block-pages2) → c .before .before .before .before .before .before .before .before .before .load-keys .last .1 .1 .0 ≡ blockAt (start c .args .keys .now) (start c .args .at)
 keys-are c = c .before .before .before .before .before .before .before .before .before .load-keys .ensures
 
 abbrev groupsNext : tie.After-block-pages2 → List ℕ → List ℕ
@@ -78,10 +78,10 @@ turn-requires c κs =
       ),
     )
 
-groups-are : (c : tie.After-turn) → c .turn .last .1 .1 .1 .1 .1 .1 .0 ≡ groupsNext (c .before) (part (start (c .before) .args .keys .now) (start (c .before) .args .at))
+groups-are : (c : tie.After-turn) → c .turn .last .1 .1 .1 .1 .1 .1 .0 ≡ groupsNext (c .before) (blockAt (start (c .before) .args .keys .now) (start (c .before) .args .at))
 groups-are c = c .turn .ensures .0 ∙ ap (groupsNext (c .before)) (keys-are (c .before))
 
-pages-are : (c : tie.After-turn) → c .turn .last .1 .1 .1 .1 .1 .1 .1 .0 ≡ pagesNext (c .before) (part (start (c .before) .args .keys .now) (start (c .before) .args .at))
+pages-are : (c : tie.After-turn) → c .turn .last .1 .1 .1 .1 .1 .1 .1 .0 ≡ pagesNext (c .before) (blockAt (start (c .before) .args .keys .now) (start (c .before) .args .at))
 pages-are c = c .turn .ensures .1 ∙ ap (pagesNext (c .before)) (keys-are (c .before))
 
 store-requires : tie.Need-store-requires

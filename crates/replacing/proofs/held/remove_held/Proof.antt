@@ -11,7 +11,7 @@ use Rattle.placement.specs.File.{File}
 use Rattle.placement.specs.Hash.{lent}
 use Rattle.shifting.proofs.Alone.{home-start}
 use Rattle.shifting.specs.Shift.{numberAt, Occupied}
-use Rattle.replacing.specs.Calls.{startOf}
+use Rattle.replacing.specs.Calls.{removalStart}
 use Rattle.replacing.proofs.Alone.{taken-is, occupied-home, alone-lists}
 use Rattle.replacing.proofs.held.remove_held.Statement.{statement}
 use Rattle.replacing.proofs.held.remove_held.Tie as tie
@@ -24,7 +24,7 @@ home-inside s =
     let p = s .args .geometry .parameters in
     omega (arith, s .pre .1 .1 .1 .1 .0, home-pages (multiplierOf p) p (s .args .geometry .growth) (s .args .number) (s .pre .0 .homing .valid) (s .pre .0 .homing .growth))
 
-home-is : (s : tie.Start) → s .args .home ≡ startOf (s .args .geometry .parameters) (s .args .geometry .growth) (s .args .number)
+home-is : (s : tie.Start) → s .args .home ≡ removalStart (s .args .geometry .parameters) (s .args .geometry .growth) (s .args .number)
 home-is s = s .pre .1 .1 .1 .1 .0 ∙ home-start (s .args .geometry .parameters) (s .args .geometry .growth) (s .args .number)
 
 -- past the test
@@ -32,7 +32,7 @@ abbrev begun : tie.Else1 → tie.Start
 begun c = c .before .before .before .before .before .before .before .before .before .before .before
 
 stored : (c : tie.Else1)
-    → getD (now (begun c .args .separators)) (startOf (begun c .args .geometry .parameters) (begun c .args .geometry .growth) (begun c .args .number)) 0 ≡ topOf (begun c .args .geometry .parameters .bits)
+    → getD (now (begun c .args .separators)) (removalStart (begun c .args .geometry .parameters) (begun c .args .geometry .growth) (begun c .args .number)) 0 ≡ topOf (begun c .args .geometry .parameters .bits)
 stored c =
     let s = begun c in
     ap (λ (q : ℕ). getD (now (s .args .separators)) q 0) (sym (home-is s)) ∙ c .if1 .left ∙ c .before .top-of .ensures

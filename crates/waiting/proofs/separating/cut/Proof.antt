@@ -1,6 +1,6 @@
 -- What is left is counted below v, and there is no room for what is counted up to v. Assumes nothing.
 use Prim.Native.Nat.{_+_, _≤_, _<_, _-_}
-use mathlib.Core.Path.{_≡_, ap, sym, _∙_}
+use mathlib.Core.Path.{_≡_}
 use native.Mathlib.Omega.{arith}
 use lib.ListN.{getD}
 use Rattle.waiting.specs.Lists.{sumTo}
