@@ -4,4 +4,4 @@ pub mod Joined
 pub mod Reached
 pub mod Surveyed
 pub mod Holding
-pub mod Alone
+pub mod OnePage

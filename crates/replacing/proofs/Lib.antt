@@ -2,4 +2,4 @@ pub mod Ruled
 pub mod Items
 pub mod Removing
 pub mod Growing
-pub mod Alone
+pub mod OnePage

@@ -2,4 +2,4 @@ pub mod Moving
 pub mod Splits
 pub mod Columns
 pub mod Shifted
-pub mod Alone
+pub mod OnePage

@@ -10,10 +10,10 @@ use Rattle.hashing.proofs.Homes.{home-pages}
 use Rattle.pages.proofs.Parts.{page-fits}
 use Rattle.placement.specs.File.{File}
 use Rattle.placement.specs.Hash.{lent}
-use Rattle.shifting.proofs.Alone.{home-start}
+use Rattle.shifting.proofs.OnePage.{home-start}
 use Rattle.shifting.specs.Shift.{Vacant}
 use Rattle.entering.specs.Entry.{entryStart, takesAlone}
-use Rattle.entering.proofs.Alone.{vacant-home, alone-lists}
+use Rattle.entering.proofs.OnePage.{vacant-home, alone-lists}
 use Rattle.entering.proofs.star.enter_star.Statement.{statement}
 use Rattle.entering.proofs.star.enter_star.Tie as tie
 

@@ -9,10 +9,10 @@ use Rattle.hashing.specs.Geometry.{multiplierOf}
 use Rattle.hashing.proofs.Homes.{home-pages}
 use Rattle.placement.specs.File.{File}
 use Rattle.placement.specs.Hash.{lent}
-use Rattle.shifting.proofs.Alone.{home-start}
+use Rattle.shifting.proofs.OnePage.{home-start}
 use Rattle.shifting.specs.Shift.{numberAt, Occupied}
 use Rattle.replacing.specs.Calls.{removalStart}
-use Rattle.replacing.proofs.Alone.{taken-is, occupied-home, alone-lists}
+use Rattle.replacing.proofs.OnePage.{taken-is, occupied-home, alone-lists}
 use Rattle.replacing.proofs.held.remove_held.Statement.{statement}
 use Rattle.replacing.proofs.held.remove_held.Tie as tie
 

@@ -26,7 +26,7 @@ use Rattle.placement.proofs.Files.{numberOf, wordOf, ownerOf}
 use Rattle.reach.specs.Reach.{pagesTo, entering, entersWithin, entryEnd, holding}
 use Rattle.shifting.specs.Shift.{numberAt, starsOn, Vacant}
 use Rattle.shifting.proofs.Shifted.{vacant-room}
-use Rattle.shifting.proofs.Alone.{file-alone, pages-alone, left-alone, first-here, named-home, ordered-page, homed-here, gathered-alone}
+use Rattle.shifting.proofs.OnePage.{file-alone, pages-alone, left-alone, first-here, named-home, ordered-page, homed-here, gathered-alone}
 use Rattle.planning.specs.declared.outcome.Outcome.the-variants.{On, Unsound, Overflows}
 use Rattle.entering.specs.Entry.{Unheld, newStar, entryStart, entryLast, entryUnsound, entryContents, takesAlone, entryAnswer, entryFile}
 use Rattle.entering.proofs.Reached.{ending, by-reach}

@@ -26,7 +26,7 @@ use Rattle.placement.proofs.Sound.{length-starsAt}
 use Rattle.placement.proofs.Probing.{bounded-real, homed-real}
 use Rattle.reach.specs.Reach.{pagesTo, storedTop, removalEnd}
 use Rattle.shifting.specs.Shift.{numberAt, starsOn, Occupied}
-use Rattle.shifting.proofs.Alone.{file-alone, pages-alone, first-here, named-home, ordered-page, homed-here, gathered-alone, unsound-alone}
+use Rattle.shifting.proofs.OnePage.{file-alone, pages-alone, first-here, named-home, ordered-page, homed-here, gathered-alone, unsound-alone}
 use Rattle.planning.specs.declared.outcome.Outcome.the-variants.{On}
 use Rattle.replacing.specs.Calls.{Held, removalStart, removalCount, removalUnsound, removalAnswer, removalFile}
 
