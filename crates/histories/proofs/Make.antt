@@ -20,7 +20,6 @@ use Rattle.calls.specs.Answers.{Pool, spotted}
 use Rattle.calls.specs.Calls.{fileFits, unless, orElse, guarded, emptyFile, makeOf}
 use Rattle.histories.specs.Model.{emptyModel, entryStars, modelFile}
 use Rattle.histories.specs.Run.{initial}
-use Rattle.histories.proofs.Fitting.{bounded-real}
 use Rattle.histories.proofs.Histories.{Agrees}
 
 -- Of no stars nothing is left, and every page is empty under the top.
