@@ -31,6 +31,7 @@ use Rattle.planning.specs.Sources.{namedItem, renamed, sourced}
 use Rattle.planning.proofs.Applying.{renamed-keeps}
 use Rattle.planning.proofs.Sourcing.{true-stars, new-star, named-past}
 use Rattle.planning.proofs.Placed.{probes-real, new-homed, new-near, new-sourced, stretch-words-add, left-count}
+use Rattle.planning.proofs.Placed.{planned-pages as words-planned}
 use Rattle.entering.specs.Entry.{Unheld, newStar, entryStart, blockNumbers, blockWords}
 use Rattle.entering.proofs.Items.{numbers-count, stretch-homes, numbers-below, block-homed, block-sourced, block-grouped, block-fresh}
 

@@ -10,6 +10,7 @@ use lib.Dec.{eqb}
 use lib.Seq.{take-suc-set}
 use lib.ListN.{length, take, drop, getD, set, length-map, length-take}
 use borrow.Author.Tests.{le-ltb, lt-ltb, eqb-true, eq-eqb, ne-eqb}
+use Rattle.hashing.specs.Home.{home as Home·home}
 use Rattle.hashing.specs.Geometry.{multiplierOf}
 use Rattle.hashing.specs.declared.Parameters.{Parameters}
 use Rattle.hashing.specs.declared.Growth.{Growth}
@@ -129,9 +130,9 @@ module _ (p : Parameters) (g : Growth) (f : File) (k last : ℕ) (least : entryS
 
 -- one more block
 
-is-empty : (l : List Star) → isEmpty l ≡ eqb (length l) 0
-is-empty [] = refl
-is-empty (s ∷ l) = sym (ne-eqb (suc (length l)) 0 (λ e. omega (arith, e)))
+empty-counted : (l : List Star) → isEmpty l ≡ eqb (length l) 0
+empty-counted [] = refl
+empty-counted (s ∷ l) = sym (ne-eqb (suc (length l)) 0 (λ e. omega (arith, e)))
 
 module _ (p : Parameters) (g : Growth) (f : File) (k : ℕ) (valid : validParameters p ≡ true) (sized : Sized (p .places) (p .pages) f) (number : validNumber k ≡ true) (unheld : Unheld p g f k) where
   pub reached-none : (pool planned W : List ℕ) → entryStart p g k < p .pages → 0 < length W → Reached p g f k pool planned (set W 0 (newWord p g f k)) (entryStart p g k) 1
@@ -170,7 +171,7 @@ module _ (p : Parameters) (g : Growth) (f : File) (k : ℕ) (valid : validParame
     spanned-within : (word owner last : ℕ) → d ≡ pagesTo (entryStart p g k) last → entersWithin (hashOf p g) f (newStar k word owner) last ≡ eqb carried 0
     unfolding entersWithin entering hashOf
     spanned-within word owner last e =
-        is-empty (left (hashOf p g) (entryStart p g k) (pagesTo (entryStart p g k) last) (insert (newStar k word owner) (gathered (p .places) f (entryStart p g k) (pagesTo (entryStart p g k) last))))
+        empty-counted (left (hashOf p g) (entryStart p g k) (pagesTo (entryStart p g k) last) (insert (newStar k word owner) (gathered (p .places) f (entryStart p g k) (pagesTo (entryStart p g k) last))))
         ∙ ap (λ (n : ℕ). eqb (length (left (hashOf p g) (entryStart p g k) n (insert (newStar k word owner) (gathered (p .places) f (entryStart p g k) n)))) 0) (sym e)
         ∙ ap (λ (l : List Star). eqb (length l) 0) (planned-left p g f k valid sized number unheld d (s .most) (s .sound) word owner)
         ∙ ap (λ (n : ℕ). eqb n 0) (length-map (waits (remainsTo p g f k d)) (renamed (f .words) (f .owners) word owner) ∙ length-waits (remainsTo p g f k d) ∙ sym (s .laid-out .counted))
