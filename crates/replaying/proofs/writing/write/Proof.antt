@@ -1,4 +1,4 @@
--- `replaying::answering::write` meets its contract. The invariant: the first i numbers of the row are copied.
+-- `replaying::writing::write` meets its contract. The invariant: the first i numbers of the row are copied.
 use mathlib.Core.Path.{_≡_, refl, ap, _∙_}
 use Prim.Native.Nat.{_-_, _≤_}
 use native.Mathlib.Numerals.{add-one}
@@ -7,8 +7,8 @@ use lib.ListN.{length, length-set}
 use lib.Seq.{paste, paste-zero, paste-suc}
 use denote.Ref.{now}
 use Rattle.replaying.proofs.Running.{eight-long}
-use Rattle.replaying.proofs.answering.write.Statement.{statement}
-use Rattle.replaying.proofs.answering.write.Tie as tie
+use Rattle.replaying.proofs.writing.write.Statement.{statement}
+use Rattle.replaying.proofs.writing.write.Tie as tie
 
 abbrev Inv-loop : tie.InvT-loop
 Inv-loop answers₀ at row i₀ answers i =

@@ -1,7 +1,7 @@
--- `replaying::answering::number` meets its contract.
+-- `replaying::writing::number` meets its contract.
 use Rattle.replaying.specs.Replay.{bit}
-use Rattle.replaying.proofs.answering.number.Statement.{statement}
-use Rattle.replaying.proofs.answering.number.Tie as tie
+use Rattle.replaying.proofs.writing.number.Statement.{statement}
+use Rattle.replaying.proofs.writing.number.Tie as tie
 
 returns : tie.Need-returns
 unfolding bit
