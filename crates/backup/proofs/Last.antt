@@ -1,6 +1,5 @@
 -- With nothing carried past the last page, its separator is top.
-use mathlib.Core.Path.{_≡_, refl, sym, ap, _∙_}
-use mathlib.Core.Bool.{Bool, true, false, not}
+use mathlib.Core.Path.{_≡_, sym, ap, _∙_}
 use mathlib.Core.List.{List, []}
 use Prim.Native.Nat.{ℕ, suc, _+_}
 use native.Mathlib.Nat.{zero-add, add-zero}
@@ -11,10 +10,6 @@ use Rattle.placement.proofs.Separator.{Bounded, stay-all}
 use Rattle.placement.proofs.Composition.{left-add}
 use Rattle.placement.proofs.Writing.{getD-separators}
 use Rattle.backup.proofs.Settled.{part-of}
-
-twice : (t : Bool) → t ≡ not (not t)
-twice true = refl
-twice false = refl
 
 pub last-top : (H : Hash) → Bounded H → (d : ℕ) (t : List Star) → left H 0 (suc d) t ≡ [] → getD (separators (pages H 0 (suc d) t)) d 0 ≡ H .top
 unfolding left pages contentsOf

@@ -9,14 +9,15 @@ use native.Mathlib.Omega.{arith}
 use lib.Dec.{leb, ltb, eqb}
 use lib.ListN.{getD}
 use borrow.Author.Tests.{leb-false, lt-ltb, eqb-true}
+use Rattle.buffers.proofs.Tests.{either-false}
 use Rattle.hashing.specs.declared.Parameters.{Parameters}
 use Rattle.hashing.specs.declared.Growth.{Growth}
-use Rattle.hashing.specs.Generator.{multiplierOf}
+use Rattle.hashing.specs.Geometry.{multiplierOf}
 use Rattle.hashing.specs.Geometry.{groupSize, groupCount, pageCount, grown}
 use Rattle.hashing.specs.Limits.{validParameters, validGrowth}
 use Rattle.hashing.specs.Home.{home, rankAt, chosen}
 use Rattle.hashing.proofs.Bounds.{both}
-use Rattle.hashing.proofs.Laws.{home-regrown}
+use Rattle.hashing.proofs.Homes.{home-regrown}
 use Rattle.placement.specs.Rule.{Star, Hash, pages, separators, blank}
 use Rattle.placement.specs.Hash.{hashOf}
 use Rattle.placement.proofs.Probing.{bounded-real}
@@ -24,7 +25,6 @@ use Rattle.backup.specs.Stretches.{expands, topAt, topTwice, inStretch, 
 use Rattle.backup.proofs.Agreeing.{Alike}
 use Rattle.backup.proofs.Settled.{Settled, Outside, Unmoved, settled-zero, settled-top, settled-fewer, same-page}
 use Rattle.backup.proofs.Ranges.{any-none, Ender, ended-before, Start, start}
-use Rattle.placement.proofs.Filters.{either-false}
 
 module _ (p : Parameters) (g : Growth) (valid : validParameters p ≡ true) (grows : validGrowth p g ≡ true) where
   abbrev old : Hash
@@ -62,8 +62,6 @@ module _ (p : Parameters) (g : Growth) (valid : validParameters p ≡ true) (gro
       go false e true true d =
           let low : h < span = leb-false span h e in
           inr (rw (lt-ltb h span low), omega arith, refl)
-
-  -- ---- the layouts of a list before and after
 
   module _ (t : List Star) where
     abbrev before : List ℕ

@@ -8,6 +8,7 @@ use native.Mathlib.Decide.{decLt}
 use native.Mathlib.Omega.{arith}
 use lib.Dec.{eqb}
 use borrow.Author.Tests.{eqb-false}
+use Rattle.buffers.proofs.Tests.{either-false}
 use Rattle.hashing.specs.declared.Parameters.{Parameters}
 use Rattle.hashing.specs.declared.Growth.{Growth}
 use Rattle.hashing.specs.Geometry.{pageCount, highest}
@@ -16,7 +17,6 @@ use Rattle.hashing.proofs.Bounds.{bounds-within, limits, growth-within, spread}
 use Rattle.reach.specs.Reach.{firstSuch}
 use Rattle.reach.proofs.Search.{Such, such}
 use Rattle.backup.specs.Stretches.{endFrom, inStretch, anyBelow}
-use Rattle.placement.proofs.Filters.{either-false}
 
 -- One that passes is not overlooked.
 pub any-none : (test : ℕ → Bool) (n : ℕ) → anyBelow test n ≡ false → (q : ℕ) → q < n → test q ≡ false

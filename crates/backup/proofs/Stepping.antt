@@ -1,6 +1,6 @@
 -- Page by page upward: which stretches run at a page, from those that run at the one below.
 use mathlib.Core.Path.{_≡_, refl, sym, ap, _∙_}
-use mathlib.Core.Bool.{Bool, true, false, not, _&&_, _||_, and-false}
+use mathlib.Core.Bool.{Bool, true, false, not, _&&_, _||_, and-true, and-false, or-false, and-or-distrib-right}
 use mathlib.Core.List.{List, _++_}
 use Prim.Native.Nat.{ℕ, zero, suc, _+_, _-_, _≤_, _<_}
 use native.Mathlib.Decide.{decLt}
@@ -13,7 +13,7 @@ use Rattle.hashing.specs.declared.Parameters.{Parameters}
 use Rattle.hashing.specs.declared.Growth.{Growth}
 use Rattle.hashing.specs.Geometry.{pageCount}
 use Rattle.hashing.specs.Limits.{within}
-use Rattle.hashing.specs.Generator.{topOf}
+use Rattle.generator.specs.Generator.{topOf}
 use Rattle.homes.specs.Lanes.{lanes}
 use Rattle.homes.proofs.Lists.{lane-none, lane-next, lane-end}
 use Rattle.reach.specs.Reach.{firstSuch}
@@ -26,8 +26,6 @@ use Rattle.backup.specs.Marks.{mark, marksOf}
 unfoldable pub carried : (ℕ → Bool) → (ℕ → Bool) → ℕ → Bool
 carried runs ends zero = false
 carried runs ends (suc q) = runs q && not (ends q)
-
--- ---- one stretch
 
 module _ (p : Parameters) (test : ℕ → Bool) (r : ℕ) (inside : r < p .pages) where
   e : ℕ
@@ -68,20 +66,12 @@ module _ (p : Parameters) (test : ℕ → Bool) (r : ℕ) (inside : r < p .pages
   stretch-step zero h = first-page
   stretch-step (suc q) h = next-page q h
 
--- ---- the stretches of the group
-
 swap : (a b c d : Bool) → (a || b) || (c || d) ≡ (a || c) || (b || d)
 swap true b c d = refl
 swap false true true d = refl
 swap false true false d = refl
 swap false false true d = refl
 swap false false false d = refl
-
-and-over : (a b c : Bool) → (a || b) && c ≡ (a && c) || (b && c)
-and-over true b true = refl
-and-over true true false = refl
-and-over true false false = refl
-and-over false b c = refl
 
 any-same : (f g : ℕ → Bool) (n : ℕ) → ((r : ℕ) → r < n → f r ≡ g r) → anyBelow f n ≡ anyBelow g n
 unfolding anyBelow
@@ -96,21 +86,13 @@ any-either f g (suc n) = rw (any-either f g n) (swap (anyBelow f n) (anyBelow g 
 any-both : (f : ℕ → Bool) (t : Bool) (n : ℕ) → anyBelow (λ (r : ℕ). f r && t) n ≡ anyBelow f n && t
 unfolding anyBelow
 any-both f t zero = refl
-any-both f t (suc n) = rw (any-both f t n) (sym (and-over (anyBelow f n) (f n) t))
+any-both f t (suc n) = rw (any-both f t n) (sym (and-or-distrib-right (anyBelow f n) (f n) t))
 
 -- of numbers that are not q, none is
 any-other : (f : ℕ → Bool) (q n : ℕ) → n ≤ q → anyBelow (λ (r : ℕ). f r && eqb q r) n ≡ false
 unfolding anyBelow
 any-other f q zero h = refl
 any-other f q (suc n) h = rw (any-other f q n (omega arith), ne-eqb q n (omega arith)) (and-false (f n))
-
-or-false : (t : Bool) → t || false ≡ t
-or-false true = refl
-or-false false = refl
-
-pub and-true : (t : Bool) → t && true ≡ t
-and-true true = refl
-and-true false = refl
 
 any-one : (f : ℕ → Bool) (q n : ℕ) → q < n → anyBelow (λ (r : ℕ). f r && eqb q r) n ≡ f q
 unfolding anyBelow
@@ -150,8 +132,6 @@ module _ (p : Parameters) (g : Growth) (old : List ℕ) where
 
       go-on : Bool
       go-on = not (topAt p old q)
-
-  -- ---- the marks of the pages passed
 
   module _ (new : List ℕ) where
     abbrev runsNew : ℕ → Bool

@@ -8,7 +8,7 @@ use lib.Dec.{ltb, eqb}
 use lib.ListN.{getD}
 use Rattle.hashing.specs.declared.Parameters.{Parameters}
 use Rattle.hashing.specs.declared.Growth.{Growth}
-use Rattle.hashing.specs.Generator.{topOf}
+use Rattle.generator.specs.Generator.{topOf}
 use Rattle.hashing.specs.Geometry.{groupSize, groupCount, pageCount, rank}
 use Rattle.hashing.specs.Limits.{within}
 use Rattle.reach.specs.Reach.{firstSuch}

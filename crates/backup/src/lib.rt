@@ -4,7 +4,7 @@ ghost use mathlib.Core.Bool.{true, not, _&&_, _||_};
 ghost use Prim.Native.Nat.{_<_};
 ghost use lib.Dec.{eqb};
 ghost use lib.ListN.{length};
-ghost use Rattle.hashing.specs.Generator.{topOf};
+ghost use Rattle.generator.specs.Generator.{topOf};
 ghost use Rattle.hashing.specs.Geometry.{pageCount};
 ghost use Rattle.hashing.specs.Limits.{validParameters, validGrowth};
 ghost use Rattle.backup.specs.Stretches.{expands as Stretches·expands};

@@ -9,12 +9,12 @@ use lib.Dec.{eqb, ltb}
 use lib.ListN.{getD}
 use lib.Seq.{ext-getD}
 use borrow.Author.Tests.{lt-ltb, le-ltb, ltb-true, eq-eqb, eqb-true, not-false}
+use Rattle.buffers.proofs.Tests.{either-false}
 use Rattle.placement.specs.File.{File, Sized}
 use Rattle.reach.specs.Reach.{firstSuch}
 use Rattle.reach.proofs.Search.{Such, such}
 use Rattle.calls.specs.Spots.{differ, differAt, spotIn}
 use Rattle.calls.proofs.Spots.{spot-page, spot-place, spot-within, item-within}
-use Rattle.placement.proofs.Filters.{either-false}
 
 -- no number passes the test
 pub none-such : (test : ℕ → Bool) (from n : ℕ) → ((q : ℕ) → q < from + n → test q ≡ false) → firstSuch test from n ≡ from + n

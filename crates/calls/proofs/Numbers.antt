@@ -23,13 +23,13 @@ use Rattle.calls.specs.declared.answers.Refusal.the-variants.{
 use Rattle.calls.specs.declared.answers.Checked.{Checked}
 use Rattle.calls.specs.declared.answers.Checked.the-variants.{Clean, Refused}
 use Rattle.calls.specs.declared.answers.Answer.{Answer}
-use Rattle.calls.specs.Answers.{numberOf, pageOf, refusedBy, spotted, checked}
+use Rattle.calls.specs.Answers.{refusalNumber, refusalPage, refusedBy, spotted, checked}
 
 refusalAt : ℕ → ℕ → Refusal
 refusalAt n page =
     getD (BadParameters ∷ BadLength ∷ BadNumber ∷ BadPosition ∷ Damaged page ∷ Held ∷ NotHeld ∷ Full ∷ Ungrown ∷ []) (n - 1) NotOwner
 
-told-back : (r : Refusal) → refusalAt (numberOf r) (pageOf r) ≡ r
+told-back : (r : Refusal) → refusalAt (refusalNumber r) (refusalPage r) ≡ r
 unfolding refusalAt
 told-back BadParameters = refl
 told-back BadLength = refl
@@ -42,7 +42,7 @@ told-back Full = refl
 told-back Ungrown = refl
 told-back NotOwner = refl
 
-pub numbered : (r : Refusal) → 1 ≤ numberOf r
+pub numbered : (r : Refusal) → 1 ≤ refusalNumber r
 numbered BadParameters = omega arith
 numbered BadLength = omega arith
 numbered BadNumber = omega arith
@@ -60,7 +60,7 @@ checkedAs a = cond (eqb (a .refusal) 0) Clean (Refused (refusalAt (a .refusal) (
 checked-back : (c : Checked) → checkedAs (checked c) ≡ c
 unfolding checkedAs checked refusedBy spotted
 checked-back Clean = refl
-checked-back (Refused r place) = rw (ne-eqb (numberOf r) 0 (λ e. omega (arith, numbered r)), told-back r)
+checked-back (Refused r place) = rw (ne-eqb (refusalNumber r) 0 (λ e. omega (arith, numbered r)), told-back r)
 
 -- no two cases of a check's answer read alike
 pub checked-determined : (a b : Checked) → checked a ≡ checked b → a ≡ b

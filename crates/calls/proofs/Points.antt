@@ -1,6 +1,6 @@
 -- The proved points, one theorem.
 use mathlib.Core.Path.{refl}
-use Rattle.hashing.specs.Generator.{topOf}
+use Rattle.generator.specs.Generator.{topOf}
 use Rattle.placement.specs.Rule.{filter, below, staying, separatorFrom, separatorOf}
 use Rattle.hashing.proofs.Points.{
   scrambled-3-1,

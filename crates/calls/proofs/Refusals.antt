@@ -28,7 +28,7 @@ use Rattle.calls.specs.declared.answers.Refusal.the-variants.{
 }
 use Rattle.calls.specs.declared.answers.Admission.{Admission}
 use Rattle.calls.specs.declared.answers.Admission.the-variants.{Passed, Refused}
-use Rattle.calls.specs.Answers.{Answer, After, Pool, Leaves, numberOf, admissionNumber, refusedBy}
+use Rattle.calls.specs.Answers.{Answer, After, Pool, Leaves, refusalNumber, admissionNumber, refusedBy}
 use Rattle.calls.specs.Calls.{unless, orElse, unlent, guarded, unchanged, fileFits, poolFits}
 use Rattle.calls.specs.Lent.{Admitted}
 
@@ -97,15 +97,15 @@ unlent-facts p g lengths = go (validParameters p && validGrowth p g) lengths
     go true false e = absurd (omega arith)
     go false t e = absurd (omega arith)
 
-pub refusal-is : (p : Parameters) (g : Growth) {fits lengths : Bool} {a : Admission} {r : Refusal} → admissionNumber a ≡ unlent p g fits → fits ≡ lengths → a ≡ Refused r → numberOf r ≡ unlent p g lengths
+pub refusal-is : (p : Parameters) (g : Growth) {fits lengths : Bool} {a : Admission} {r : Refusal} → admissionNumber a ≡ unlent p g fits → fits ≡ lengths → a ≡ Refused r → refusalNumber r ≡ unlent p g lengths
 refusal-is p g e l t = sym (ap admissionNumber t) ∙ (e ∙ ap (unlent p g) l)
 
 pub none-is : (p : Parameters) (g : Growth) {fits lengths : Bool} {a : Admission} → admissionNumber a ≡ unlent p g fits → fits ≡ lengths → a ≡ Passed → unlent p g lengths ≡ 0
 none-is p g e l t = sym (ap (unlent p g) l) ∙ (sym e ∙ ap admissionNumber t)
 
 module _ (g : Growth) (f : File) (pool : Pool) (after : After) where
-  away : (r : Refusal) (m : ℕ) → numberOf r ≤ 2
-      → (guarded g f pool (numberOf r) after ≡ unchanged g f pool (refusedBy r 0)) × (guarded g f pool (orElse (numberOf r) m) after ≡ unchanged g f pool (refusedBy r 0))
+  away : (r : Refusal) (m : ℕ) → refusalNumber r ≤ 2
+      → (guarded g f pool (refusalNumber r) after ≡ unchanged g f pool (refusedBy r 0)) × (guarded g f pool (orElse (refusalNumber r) m) after ≡ unchanged g f pool (refusedBy r 0))
   unfolding refusedBy
   away BadParameters m h = (refl, refl)
   away BadLength m h = (refl, refl)
@@ -118,11 +118,11 @@ module _ (g : Growth) (f : File) (pool : Pool) (after : After) where
   away Ungrown m h = absurd (omega arith)
   away NotOwner m h = absurd (omega arith)
 
-  pub turned-away : (p : Parameters) (lengths : Bool) (r : Refusal) → numberOf r ≡ unlent p g lengths → guarded g f pool (unlent p g lengths) after ≡ unchanged g f pool (refusedBy r 0)
+  pub turned-away : (p : Parameters) (lengths : Bool) (r : Refusal) → refusalNumber r ≡ unlent p g lengths → guarded g f pool (unlent p g lengths) after ≡ unchanged g f pool (refusedBy r 0)
   turned-away p lengths r e = rw (← e) (away r 0 (rw e (unlent-most p g lengths)) .0)
 
   -- whatever else the call would have been refused with
-  pub turned-away-first : (p : Parameters) (lengths : Bool) (r : Refusal) (m : ℕ) → numberOf r ≡ unlent p g lengths
+  pub turned-away-first : (p : Parameters) (lengths : Bool) (r : Refusal) (m : ℕ) → refusalNumber r ≡ unlent p g lengths
       → guarded g f pool (orElse (unlent p g lengths) m) after ≡ unchanged g f pool (refusedBy r 0)
   turned-away-first p lengths r m e = rw (← e) (away r m (rw e (unlent-most p g lengths)) .1)
 

@@ -11,6 +11,7 @@ use Rattle.hashing.specs.Limits.{validParameters, validGrowth}
 use Rattle.pages.specs.declared.position.Position.{Position}
 use Rattle.pages.specs.Position.{validNumber, validPosition, validWord, packed, unpacked}
 use Rattle.pages.proofs.Words.{unpack-pack, pack-unpack}
+use Rattle.placement.specs.Rule.{starWith}
 use Rattle.placement.specs.File.{File}
 use Rattle.calls.specs.Answers.{Pool, cleared, acceptedAt, refusedAt}
 use Rattle.calls.specs.Calls.{fileFits, poolFits, unchanged, readable, named, holds, placeFor, itemOf, enteredAgain, enterOn, enterOf}
@@ -33,7 +34,7 @@ module _ (p : Parameters) (g : Growth) (f : File) (pool : Pool) (caller k : ℕ)
   abbrev stored : ℕ
   stored = getD (f .words) (itemOf p f (named p g f k) k) 0
 
-  again : enterOf p g f pool caller k q ≡ unchanged g f (cleared pool) (enteredAgain p f (named p g f k) (record { number = k; word = packed q; owner = caller }))
+  again : enterOf p g f pool caller k q ≡ unchanged g f (cleared pool) (enteredAgain p f (named p g f k) (starWith k (packed q) caller))
   unfolding enterOf enterOn
   again = rw (well-lent p g (fileFits p f && poolFits p pool) (t .state) (t .lengths), t .number, t .position, t .read, t .held)
 

@@ -1,19 +1,20 @@
 -- Check accepts exactly the clean files.
 use mathlib.Core.Path.{_≡_, sym, ap, _∙_}
 use mathlib.Core.Bool.{true, not}
-use mathlib.Core.List.{List, append-nil}
+use mathlib.Core.List.{List}
 use mathlib.Core.Logic.{_↔_}
-use Prim.Native.Nat.{ℕ, suc, _+_, _*_, _<_}
+use Prim.Native.Nat.{ℕ, suc, _*_, _<_}
 use native.Mathlib.Nat.{zero-add, zero-mul}
 use native.Mathlib.Omega.{arith}
 use lib.ListN.{length}
-use lib.Seq.{drop-length}
 use borrow.Author.Tests.{not-false}
+use Rattle.buffers.specs.Lists.{written}
+use Rattle.buffers.proofs.Written.{written-whole}
 use Rattle.hashing.specs.declared.Parameters.{Parameters}
 use Rattle.hashing.specs.declared.Growth.{Growth}
 use Rattle.pages.specs.Position.{validWord}
 use Rattle.placement.specs.Rule.{Star, Contents, pages, separators}
-use Rattle.placement.specs.File.{File, Sized, Clean, gathered, column, written, replaced, fileOf, laid}
+use Rattle.placement.specs.File.{File, Sized, Clean, gathered, column, replaced, fileOf, laid}
 use Rattle.placement.specs.Hash.{hashOf, soundAt}
 use Rattle.placement.proofs.Composition.{length-pages}
 use Rattle.placement.proofs.Standing.{length-separators}
@@ -31,12 +32,6 @@ all-sound p g f e q h =
     not-false (soundAt p g f q)
     (such (λ (r : ℕ). not (soundAt p g f r)) 0 (p .pages) .before q (omega arith) (rw e h))
 
-pub written-whole : (s d : List ℕ) → length s ≡ length d → written 0 s d ≡ s
-unfolding written
-written-whole s d e =
-    let all-of : 0 + length s ≡ length d = zero-add (length s) ∙ e in
-    rw (all-of, drop-length d) (append-nil s)
-
 module _ (b M : ℕ) (f : File) (cs : List Contents) (sized : Sized b M f) (roomy : Roomy b cs) (count : length cs ≡ M) where
   column-written : (g : Star → ℕ) (l : List ℕ) → length l ≡ M * b → written (0 * b) (column b g cs) l ≡ column b g cs
   column-written g l e =
@@ -50,8 +45,8 @@ module _ (b M : ℕ) (f : File) (cs : List Contents) (sized : Sized b M f) (room
       λ i. record {
         separators = written-whole (separators cs) (f .separators) (length-separators cs ∙ count ∙ sym (sized .ofSeparators)) i;
         numbers = column-written (λ (s : Star). s .number) (f .numbers) (sized .ofNumbers) i;
-        words = column-written (λ (s : Star). s .word) (f .words) (sized .ofWords) i;
-        owners = column-written (λ (s : Star). s .owner) (f .owners) (sized .ofOwners) i;
+        words = column-written (λ (s : Star). s .payload .word) (f .words) (sized .ofWords) i;
+        owners = column-written (λ (s : Star). s .payload .owner) (f .owners) (sized .ofOwners) i;
       }
 
 module _ (p : Parameters) (g : Growth) (f : File) (sized : Sized (p .places) (p .pages) f) where

@@ -19,7 +19,7 @@ use Rattle.placement.proofs.Sound.{sound-facts, gathered-proper}
 use Rattle.reach.specs.Reach.{firstUnsound}
 use Rattle.calls.specs.Spots.{firstSpot, ruled}
 use Rattle.calls.specs.Answers.{Pool, spotted, accepted}
-use Rattle.calls.specs.Calls.{hash, checkOf, checkedAt, fileFits, poolFits}
+use Rattle.calls.specs.Calls.{checkOf, checkedAt, fileFits, poolFits}
 use Rattle.calls.proofs.Refusals.{well-lent}
 use Rattle.calls.proofs.Accepting.{check-clean}
 
@@ -50,13 +50,13 @@ check-five p g f pool valid fits =
     rw (well-lent p g (fileFits p f && poolFits p pool) valid fits)
     (checked-five p (firstUnsound p g f 0 (p .pages)) (firstSpot p f (ruled p g f)))
 
-module _ (p : Parameters) (g : Growth) (f : File) (clean : Clean validWord (hash p g) (p .pages) f) where
+module _ (p : Parameters) (g : Growth) (f : File) (clean : Clean validWord (hashOf p g) (p .pages) f) where
   clean-sized : Sized (p .places) (p .pages) f
   unfolding hashOf
   clean-sized =
       let proper =
-      gathered-proper validWord (hash p g) f 0 (p .pages) (λ q a b. sound-facts validWord (hash p g) f q (clean .allSound q (omega arith))) in
-      subst (Sized (p .places) (p .pages)) (sym (clean .byRule)) (sized-laid validWord (hash p g) (p .pages) (gathered (p .places) f 0 (p .pages)) proper)
+      gathered-proper validWord (hashOf p g) f 0 (p .pages) (λ q a b. sound-facts validWord (hashOf p g) f q (clean .allSound q (omega arith))) in
+      subst (Sized (p .places) (p .pages)) (sym (clean .byRule)) (sized-laid validWord (hashOf p g) (p .pages) (gathered (p .places) f 0 (p .pages)) proper)
 
   module _ (separators : List ℕ) (count : length separators ≡ length (f .separators)) where
     -- f with other separators
@@ -67,10 +67,10 @@ module _ (p : Parameters) (g : Growth) (f : File) (clean : Clean validWord (hash
     unfolding fileFits
     other-fits = rw (eq-eqb _ _ (count ∙ clean-sized .ofSeparators), eq-eqb _ _ (clean-sized .ofNumbers), eq-eqb _ _ (clean-sized .ofWords), eq-eqb _ _ (clean-sized .ofOwners))
 
-    only-one : Clean validWord (hash p g) (p .pages) other → separators ≡ f .separators
+    only-one : Clean validWord (hashOf p g) (p .pages) other → separators ≡ f .separators
     only-one c =
-        let same = gathered-same (hash p g .room) separators f 0 (p .pages) in
-        ap (λ (x : File). x .separators) (c .byRule ∙ ap (laid (hash p g .room) (hash p g) (p .pages)) same ∙ sym (clean .byRule))
+        let same = gathered-same (hashOf p g .room) separators f 0 (p .pages) in
+        ap (λ (x : File). x .separators) (c .byRule ∙ ap (laid (hashOf p g .room) (hashOf p g) (p .pages)) same ∙ sym (clean .byRule))
 
     pub separators-checked : (pool : Pool) → validParameters p && validGrowth p g ≡ true → poolFits p pool ≡ true → (separators ≡ f .separators → ⊥)
         → checkOf p g (lent separators (f .numbers) (f .words) (f .owners)) pool .answer .refusal ≡ 5

@@ -74,39 +74,39 @@ counted due stars =
     record { refusal = 0; page = 0; place = 0; found = false; position = origin; due = due; stars = stars }
 
 -- the papers' number of each refusal
-abbrev pub numberOf : Refusal → ℕ
-numberOf BadParameters = 1
-numberOf BadLength = 2
-numberOf BadNumber = 3
-numberOf BadPosition = 4
-numberOf (Damaged page) = 5
-numberOf Held = 6
-numberOf NotHeld = 7
-numberOf Full = 8
-numberOf Ungrown = 9
-numberOf NotOwner = 13
+abbrev pub refusalNumber : Refusal → ℕ
+refusalNumber BadParameters = 1
+refusalNumber BadLength = 2
+refusalNumber BadNumber = 3
+refusalNumber BadPosition = 4
+refusalNumber (Damaged page) = 5
+refusalNumber Held = 6
+refusalNumber NotHeld = 7
+refusalNumber Full = 8
+refusalNumber Ungrown = 9
+refusalNumber NotOwner = 13
 
 -- the page that goes with it
-abbrev pub pageOf : Refusal → ℕ
-pageOf BadParameters = 0
-pageOf BadLength = 0
-pageOf BadNumber = 0
-pageOf BadPosition = 0
-pageOf (Damaged page) = page
-pageOf Held = 0
-pageOf NotHeld = 0
-pageOf Full = 0
-pageOf Ungrown = 0
-pageOf NotOwner = 0
+abbrev pub refusalPage : Refusal → ℕ
+refusalPage BadParameters = 0
+refusalPage BadLength = 0
+refusalPage BadNumber = 0
+refusalPage BadPosition = 0
+refusalPage (Damaged page) = page
+refusalPage Held = 0
+refusalPage NotHeld = 0
+refusalPage Full = 0
+refusalPage Ungrown = 0
+refusalPage NotOwner = 0
 
 -- 0 if the test that a call begins with is passed
 abbrev pub admissionNumber : Admission → ℕ
 admissionNumber Passed = 0
-admissionNumber (TurnedAway r) = numberOf r
+admissionNumber (TurnedAway r) = refusalNumber r
 
 -- refused, with a place
 unfoldable pub refusedBy : Refusal → ℕ → Answer
-refusedBy r place = spotted (numberOf r) (pageOf r) place
+refusedBy r place = spotted (refusalNumber r) (refusalPage r) place
 
 -- the papers' number and values for each case of an answer
 unfoldable pub placed : Placed → Answer

@@ -1,50 +1,25 @@
 -- The calls, each as what it answers and leaves of the lent buffers: document 01, "The cut" and "Where each refusal is met".
 use mathlib.Core.Bool.{Bool, cond, _&&_, _||_}
-use mathlib.Core.List.{List, [], _∷_}
+use mathlib.Core.List.{[], _∷_}
 use Prim.Native.Nat.{ℕ, zero, suc, _+_, _-_, _*_, _/_, _%_}
 use lib.Dec.{eqb, ltb}
 use lib.ListN.{length, getD, set, replicate}
+use Rattle.reach.specs.Reach.{allStars}
 use Rattle.hashing.specs.declared.Parameters.{Parameters}
 use Rattle.hashing.specs.declared.Growth.{Growth}
-use Rattle.hashing.specs.Generator.{topOf}
+use Rattle.generator.specs.Generator.{topOf}
 use Rattle.hashing.specs.Limits.{validParameters, validGrowth}
 use Rattle.hashing.specs.Geometry.{pageCount, highest, grown, ungrown, isUngrown, shrunk}
 use Rattle.pages.specs.declared.position.Position.{Position}
 use Rattle.pages.specs.Position.{validNumber, validPosition, packed, unpacked}
 use Rattle.pages.specs.Page.{part, placeOf, heldAt}
-use Rattle.placement.specs.Rule.{Star, Hash, pages, left, without}
+use Rattle.placement.specs.Rule.{Star, pages, left, without, starWith}
 use Rattle.placement.specs.File.{File, gathered, replaced}
 use Rattle.placement.specs.Hash.{hashOf, soundAt, namedPage}
 pub use Rattle.calls.specs.Spots.{firstSpot, ruled}
-use Rattle.calls.specs.Answers.{
-  Answer,
-  accepted,
-  refused,
-  acceptedAt,
-  refusedAt,
-  spotted,
-  foundAt,
-  counted,
-  Pool,
-  cleared,
-  After,
-}
+use Rattle.calls.specs.Answers.{Answer, accepted, refused, acceptedAt, refusedAt, spotted, foundAt, counted, Pool, cleared, After}
 use Rattle.calls.specs.Due.{stars, isDue}
-use Rattle.calls.specs.Reach.{
-  isEmpty,
-  pagesTo,
-  removalEnd,
-  entering,
-  entersWithin,
-  entryEnd,
-  firstUnsound,
-  holding,
-  cascaded,
-  carriedPast,
-}
-
-abbrev pub hash : Parameters → Growth → Hash
-hash p g = hashOf p g
+use Rattle.calls.specs.Reach.{isEmpty, pagesTo, removalEnd, entering, entersWithin, entryEnd, firstUnsound, holding, cascaded, carriedPast}
 
 -- Refusals 1 to 4, of which the first is met
 
@@ -150,7 +125,7 @@ lookUpOf p g f pool k =
 -- the rule applied to the reach that ends at page `to`; `place` is where the star was sought
 unfoldable pub enterTo : Parameters → Growth → File → Pool → Star → ℕ → ℕ → After
 enterTo p g f pool s place to =
-    let H = hash p g in
+    let H = hashOf p g in
     let from = H .home (s .number) in
     let n = pagesTo from to in
     let bad = firstUnsound p g f from n in
@@ -170,7 +145,7 @@ enterTo p g f pool s place to =
 unfoldable pub enteredAgain : Parameters → File → ℕ → Star → Answer
 enteredAgain p f page s =
     let place = placeFor p f page (s .number) in
-    cond (eqb (getD (f .words) (itemOf p f page (s .number)) 0) (s .word)) (acceptedAt page place) (refusedAt 6 0 place)
+    cond (eqb (getD (f .words) (itemOf p f page (s .number)) 0) (s .payload .word)) (acceptedAt page place) (refusedAt 6 0 place)
 
 -- an entry past refusal 4: the named page is refused with 5, a held star's entry is a resend or 6, and a star not held comes to `after`
 abbrev pub unlessHeld : Parameters → Growth → File → Pool → ℕ → Star → After → After
@@ -182,7 +157,7 @@ unlessHeld p g f pool page s after =
 unfoldable pub enterOn : Parameters → Growth → File → Pool → ℕ → Star → After
 enterOn p g f pool page s =
     unlessHeld p g f pool page s
-    (enterTo p g f pool s (placeFor p f page (s .number)) (entryEnd (hash p g) (p .pages) f s))
+    (enterTo p g f pool s (placeFor p f page (s .number)) (entryEnd (hashOf p g) (p .pages) f s))
 
 -- refusals 1 to 4 of an entry
 abbrev pub entryRefusal : Parameters → Growth → File → Pool → ℕ → Position → ℕ
@@ -192,7 +167,7 @@ entryRefusal p g f pool k position =
 
 -- "An entered star is its caller's": document 02 (x)
 abbrev pub entered : ℕ → ℕ → Position → Star
-entered caller k position = record { number = k; word = packed position; owner = caller }
+entered caller k position = starWith k (packed position) caller
 
 unfoldable pub enterOf : Parameters → Growth → File → Pool → ℕ → ℕ → Position → After
 enterOf p g f pool caller k position =
@@ -204,7 +179,7 @@ enterOf p g f pool caller k position =
 -- from the page that the separators name; "a visited page that is unsound is 5", "5 and 8 leave the file unchanged"
 unfoldable pub cascadeFrom : Parameters → Growth → File → Pool → Star → ℕ → ℕ → After
 cascadeFrom p g f pool s place page =
-    let H = hash p g in
+    let H = hashOf p g in
     let n = p .pages - page in
     let cs = cascaded H f page n (s ∷ []) in
     let bad = firstUnsound p g f page (length cs) in
@@ -277,7 +252,7 @@ changeOf p g f pool caller k position =
 
 unfoldable pub removeTo : Parameters → Growth → File → Pool → ℕ → ℕ → ℕ → ℕ → After
 removeTo p g f pool page k place to =
-    let H = hash p g in
+    let H = hashOf p g in
     let from = H .home k in
     let n = pagesTo from to in
     let bad = firstUnsound p g f from n in
@@ -295,7 +270,7 @@ removeOn p g f pool page caller k =
     let place = placeFor p f page k in
     cond (readable p g f page)
     (cond (holds p f page k)
-    (allowed p g f pool page caller k (removeTo p g f pool page k place (removalEnd (hash p g) (p .pages) f (hash p g .home k))))
+    (allowed p g f pool page caller k (removeTo p g f pool page k place (removalEnd (hashOf p g) (p .pages) f (hashOf p g .home k))))
     (unchanged g f pool (refusedAt 7 0 place)))
     (unchanged g f pool (refused 5 page))
 
@@ -307,10 +282,6 @@ removeOf p g f pool caller k =
 
 -- Grow
 
--- the stars of the whole file, by number
-abbrev pub allStars : Parameters → File → List Star
-allStars p f = gathered (p .places) f 0 (p .pages)
-
 -- all stars placed anew under the growth state `next`; `page` is the one that comes or goes
 unfoldable pub regrowTo : Parameters → Growth → File → Pool → Growth → ℕ → After
 regrowTo p g f pool next page =
@@ -318,11 +289,11 @@ regrowTo p g f pool next page =
     let w = allStars p f in
     cond (ltb bad (p .pages))
     (unchanged g f pool (refused 5 bad))
-    (cond (isEmpty (left (hash p next) 0 (p .pages) w))
+    (cond (isEmpty (left (hashOf p next) 0 (p .pages) w))
     (record {
       answer = accepted page;
       growth = next;
-      file = replaced (p .places) f 0 (pages (hash p next) 0 (p .pages) w);
+      file = replaced (p .places) f 0 (pages (hashOf p next) 0 (p .pages) w);
       pool = pool;
     })
     (unchanged g f pool (refused 8 0)))

@@ -2,7 +2,8 @@
 use denote.Ref.{now}
 use Rattle.hashing.specs.declared.Parameters.{Parameters}
 use Rattle.hashing.specs.declared.Growth.{Growth}
-use Rattle.hashing.specs.Generator.{multiplierOf, firstMultipliers}
+use Rattle.generator.specs.Generator.{firstMultipliers}
+use Rattle.hashing.specs.Geometry.{multiplierOf}
 use Rattle.placement.specs.File.{File}
 use Rattle.placement.specs.Lent.{Lent}
 use Rattle.placement.specs.Ready.{Ready}

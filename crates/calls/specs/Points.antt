@@ -5,11 +5,11 @@ use Prim.Native.Nat.{ℕ}
 use lib.IntN.{pos}
 use lib.ListN.{length, getD}
 use Rattle.hashing.specs.declared.Parameters.{Parameters}
-use Rattle.hashing.specs.Generator.{scrambled, signature, topOf}
+use Rattle.generator.specs.Generator.{scrambled, signature, topOf}
 use Rattle.hashing.specs.Geometry.{grown, ungrown, rank}
 use Rattle.hashing.specs.Home.{home}
 use Rattle.pages.specs.Position.{packed}
-use Rattle.placement.specs.Rule.{Star, Hash, separatorOf, staying}
+use Rattle.placement.specs.Rule.{Star, Hash, separatorOf, staying, starWith}
 
 -- starline's file: N = n0 = 2, s = 1
 abbrev pub small : Parameters
@@ -20,7 +20,7 @@ abbrev pub given : ℕ → List ℕ → Hash
 given b signatures = record { home = λ k. 0; signature = λ k page. getD signatures k 0; top = topOf 4; room = b }
 
 abbrev pub star : ℕ → Star
-star k = record { number = k; word = 0; owner = 0 }
+star k = starWith k 0 0
 
 abbrev pub separatorFor : ℕ → List ℕ → List ℕ → ℕ
 separatorFor b signatures stars = separatorOf (given b signatures) 0 (map star stars)

@@ -1,6 +1,6 @@
 // What the calls answer. specs/Answers.antt gives the papers' number and values for each case.
 ghost use mathlib.Core.Path.{_≡_};
-ghost use Rattle.calls.specs.Answers.{numberOf, pageOf, spotted, counted, refusedBy, placed, sought, dueSaid, checked};
+ghost use Rattle.calls.specs.Answers.{refusalNumber, refusalPage, spotted, counted, refusedBy, placed, sought, dueSaid, checked};
 use hashing::Growth;
 use pages::position::Position;
 
@@ -118,7 +118,7 @@ struct Numbered {
 }
 
 fn number_of(refusal: Refusal) -> Numbered
-    ensures { λ r. ⌜ (r .number ≡ numberOf refusal) × (r .page ≡ pageOf refusal) ⌝ }
+    ensures { λ r. ⌜ (r .number ≡ refusalNumber refusal) × (r .page ≡ refusalPage refusal) ⌝ }
 {
     match refusal {
         Refusal::BadParameters => Numbered { number: 1, page: 0 },

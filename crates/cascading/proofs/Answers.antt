@@ -14,19 +14,19 @@ use Rattle.hashing.proofs.Bounds.{limits}
 use Rattle.pages.specs.Position.{validNumber}
 use Rattle.placement.specs.Rule.{Star, Contents, separators}
 use Rattle.placement.specs.File.{File, Sized, column, written, replaced}
-use Rattle.placement.specs.Hash.{soundAt, namedPage}
+use Rattle.placement.specs.Hash.{soundAt, namedPage, hashOf}
 use Rattle.placement.proofs.Mapping.{mapped}
 use Rattle.reach.specs.Reach.{isEmpty, pagesTo, firstUnsound}
 use Rattle.reach.specs.Cascade.{cascaded, carriedPast}
 use Rattle.waiting.proofs.Cutting.{separator-fits}
-use Rattle.waiting.specs.Settle.{separatorFrom}
+use Rattle.waiting.specs.Settle.{wordsSeparatorFrom}
 use Rattle.planning.specs.Sources.{renamed}
 use Rattle.planning.proofs.Applying.{applied, applied-is}
 use Rattle.entering.specs.declared.blocks.Reach.the-variants.{Ends}
-use Rattle.entering.specs.Entry.{Unheld, hash, newStar}
+use Rattle.entering.specs.Entry.{Unheld, newStar}
 use Rattle.entering.proofs.Firsts.{such-is}
 use Rattle.cascading.specs.Arriving.{pageWords}
-use Rattle.cascading.specs.Cascade.{visited, overflow, stopOf, unsoundOf, Stopped, Spilled, Kept, Plans, loweredTo, loweredOn}
+use Rattle.cascading.specs.Cascade.{visited, overflow, stopOf, cascadeUnsound, Stopped, Spilled, Kept, Plans, loweredTo, loweredOn}
 use Rattle.cascading.proofs.Visiting.{cascaded-none, carried-none, cascaded-add, carried-add, visits-some}
 use Rattle.cascading.proofs.Tying.{parted}
 use Rattle.cascading.proofs.Pushed.{Pushed, pushed-next, carried-length}
@@ -47,39 +47,39 @@ module _ (p : Parameters) (g : Growth) (f : File) (k page : ℕ) (pool planned w
   rest = omega (arith, P .most)
 
   whole : (word owner : ℕ) → visited p g f (new word owner) page
-      ≡ cascaded (hash p g) f page d (new word owner ∷ []) ++ cascaded (hash p g) f (page + d) (p .pages - (page + d)) (carriedPast (hash p g) f page d (new word owner ∷ []))
+      ≡ cascaded (hashOf p g) f page d (new word owner ∷ []) ++ cascaded (hashOf p g) f (page + d) (p .pages - (page + d)) (carriedPast (hashOf p g) f page d (new word owner ∷ []))
   whole word owner =
-      ap (λ (n : ℕ). cascaded (hash p g) f page n (new word owner ∷ [])) rest
-      ∙ cascaded-add (hash p g) f page d (p .pages - (page + d)) (new word owner ∷ [])
+      ap (λ (n : ℕ). cascaded (hashOf p g) f page n (new word owner ∷ [])) rest
+      ∙ cascaded-add (hashOf p g) f page d (p .pages - (page + d)) (new word owner ∷ [])
 
   past : (word owner : ℕ) → overflow p g f (new word owner) page
-      ≡ carriedPast (hash p g) f (page + d) (p .pages - (page + d)) (carriedPast (hash p g) f page d (new word owner ∷ []))
+      ≡ carriedPast (hashOf p g) f (page + d) (p .pages - (page + d)) (carriedPast (hashOf p g) f page d (new word owner ∷ []))
   past word owner =
-      ap (λ (n : ℕ). carriedPast (hash p g) f page n (new word owner ∷ [])) rest
-      ∙ carried-add (hash p g) f page d (p .pages - (page + d)) (new word owner ∷ [])
+      ap (λ (n : ℕ). carriedPast (hashOf p g) f page n (new word owner ∷ [])) rest
+      ∙ carried-add (hashOf p g) f page d (p .pages - (page + d)) (new word owner ∷ [])
 
   -- d pages are planned
-  planned-length : (word owner : ℕ) → length (cascaded (hash p g) f page d (new word owner ∷ [])) ≡ d
+  planned-length : (word owner : ℕ) → length (cascaded (hashOf p g) f page d (new word owner ∷ [])) ≡ d
   planned-length word owner =
       ap length (sym (P .are word owner)) ∙ length-map (P .contents) (mapped (renamed (f .words) (f .owners) word owner)) ∙ P .size
 
   -- as many stars are carried as words
-  carried-count : (word owner : ℕ) → length (carriedPast (hash p g) f page d (new word owner ∷ [])) ≡ length w
+  carried-count : (word owner : ℕ) → length (carriedPast (hashOf p g) f page d (new word owner ∷ [])) ≡ length w
   carried-count word owner = ap length (sym (P .carried word owner)) ∙ carried-length (renamed (f .words) (f .owners) word owner) w
 
-  -- ---- the page that follows is unsound
+  -- the page that follows is unsound
   module _ (some : 0 < length w) (inside : page + d < p .pages) (bad : soundAt p g f (page + d) ≡ false) (word owner : ℕ) where
     reaches : page + d < stopOf p g f (new word owner) page
     reaches =
         omega (
           arith,
           ap length (whole word owner),
-          length-append (cascaded (hash p g) f page d (new word owner ∷ [])) (cascaded (hash p g) f (page + d) (p .pages - (page + d)) (carriedPast (hash p g) f page d (new word owner ∷ []))),
+          length-append (cascaded (hashOf p g) f page d (new word owner ∷ [])) (cascaded (hashOf p g) f (page + d) (p .pages - (page + d)) (carriedPast (hashOf p g) f page d (new word owner ∷ []))),
           planned-length word owner,
-          visits-some (hash p g) f (page + d) (p .pages - (page + d)) (carriedPast (hash p g) f page d (new word owner ∷ [])) (omega (arith, carried-count word owner)) (omega arith),
+          visits-some (hashOf p g) f (page + d) (p .pages - (page + d)) (carriedPast (hashOf p g) f page d (new word owner ∷ [])) (omega (arith, carried-count word owner)) (omega arith),
         )
 
-    found : page + d ≡ unsoundOf p g f (new word owner) page
+    found : page + d ≡ cascadeUnsound p g f (new word owner) page
     unfolding firstUnsound
     found =
         such-is (λ (q : ℕ). not (soundAt p g f q)) page (length (visited p g f (new word owner) page)) (page + d)
@@ -93,12 +93,12 @@ module _ (p : Parameters) (g : Growth) (f : File) (k page : ℕ) (pool planned w
     stopped : Stopped p g f (new word owner) page (page + d)
     stopped = record { is = found; inside = reaches }
 
-  -- ---- the pages visited are those planned
-  module _ (word owner : ℕ) (all : visited p g f (new word owner) page ≡ cascaded (hash p g) f page d (new word owner ∷ [])) where
+  -- the pages visited are those planned
+  module _ (word owner : ℕ) (all : visited p g f (new word owner) page ≡ cascaded (hashOf p g) f page d (new word owner ∷ [])) where
     stop-is : stopOf p g f (new word owner) page ≡ page + d
     stop-is = ap (λ (n : ℕ). page + n) (ap length all ∙ planned-length word owner)
 
-    none-unsound : unsoundOf p g f (new word owner) page ≡ page + d
+    none-unsound : cascadeUnsound p g f (new word owner) page ≡ page + d
     unfolding firstUnsound
     none-unsound =
         ap (firstUnsound p g f page) (ap length all ∙ planned-length word owner)
@@ -111,26 +111,26 @@ module _ (p : Parameters) (g : Growth) (f : File) (k page : ℕ) (pool planned w
           passes = λ h. absurd (omega arith);
         }))
 
-    all-sound : unsoundOf p g f (new word owner) page ≡ stopOf p g f (new word owner) page
+    all-sound : cascadeUnsound p g f (new word owner) page ≡ stopOf p g f (new word owner) page
     all-sound = none-unsound ∙ sym stop-is
 
-  -- ---- nothing is carried on
+  -- nothing is carried on
   module _ (none : length w ≡ 0) (word owner : ℕ) where
-    nothing : carriedPast (hash p g) f page d (new word owner ∷ []) ≡ []
-    nothing = length-nil (carriedPast (hash p g) f page d (new word owner ∷ [])) (carried-count word owner ∙ none)
+    nothing : carriedPast (hashOf p g) f page d (new word owner ∷ []) ≡ []
+    nothing = length-nil (carriedPast (hashOf p g) f page d (new word owner ∷ [])) (carried-count word owner ∙ none)
 
-    all-visited : visited p g f (new word owner) page ≡ cascaded (hash p g) f page d (new word owner ∷ [])
+    all-visited : visited p g f (new word owner) page ≡ cascaded (hashOf p g) f page d (new word owner ∷ [])
     all-visited =
         whole word owner
-        ∙ ap (λ (l : List Star). cascaded (hash p g) f page d (new word owner ∷ []) ++ cascaded (hash p g) f (page + d) (p .pages - (page + d)) l) nothing
-        ∙ ap (λ (cs : List Contents). cascaded (hash p g) f page d (new word owner ∷ []) ++ cs) (cascaded-none (hash p g) f (page + d) (p .pages - (page + d)))
-        ∙ append-nil (cascaded (hash p g) f page d (new word owner ∷ []))
+        ∙ ap (λ (l : List Star). cascaded (hashOf p g) f page d (new word owner ∷ []) ++ cascaded (hashOf p g) f (page + d) (p .pages - (page + d)) l) nothing
+        ∙ ap (λ (cs : List Contents). cascaded (hashOf p g) f page d (new word owner ∷ []) ++ cs) (cascaded-none (hashOf p g) f (page + d) (p .pages - (page + d)))
+        ∙ append-nil (cascaded (hashOf p g) f page d (new word owner ∷ []))
 
     fits : overflow p g f (new word owner) page ≡ []
     fits =
         past word owner
-        ∙ ap (carriedPast (hash p g) f (page + d) (p .pages - (page + d))) nothing
-        ∙ carried-none (hash p g) f (page + d) (p .pages - (page + d))
+        ∙ ap (carriedPast (hashOf p g) f (page + d) (p .pages - (page + d))) nothing
+        ∙ carried-none (hashOf p g) f (page + d) (p .pages - (page + d))
 
     kept : (last : ℕ) → pagesTo page last ≡ d → Kept p g f k word owner page pool planned last
     kept last count =
@@ -143,28 +143,28 @@ module _ (p : Parameters) (g : Growth) (f : File) (k page : ℕ) (pool planned w
               ∙ ap (replaced (p .places) f page) (P .are word owner ∙ sym all-visited);
         }
 
-  -- ---- all pages are visited
+  -- all pages are visited
   module _ (last : page + d ≡ p .pages) (some : 0 < length w) (word owner : ℕ) where
     none-left : p .pages - (page + d) ≡ 0
     none-left = omega arith
 
-    all-there : visited p g f (new word owner) page ≡ cascaded (hash p g) f page d (new word owner ∷ [])
+    all-there : visited p g f (new word owner) page ≡ cascaded (hashOf p g) f page d (new word owner ∷ [])
     unfolding cascaded
-    all-there = whole word owner ∙ rw none-left (append-nil (cascaded (hash p g) f page d (new word owner ∷ [])))
+    all-there = whole word owner ∙ rw none-left (append-nil (cascaded (hashOf p g) f page d (new word owner ∷ [])))
 
-    over : overflow p g f (new word owner) page ≡ carriedPast (hash p g) f page d (new word owner ∷ [])
+    over : overflow p g f (new word owner) page ≡ carriedPast (hashOf p g) f page d (new word owner ∷ [])
     unfolding carriedPast
     over = past word owner ∙ rw none-left
 
     too-many : isEmpty (overflow p g f (new word owner) page) ≡ false
     too-many =
         ap isEmpty over
-        ∙ not-empty (carriedPast (hash p g) f page d (new word owner ∷ [])) (omega (arith, carried-count word owner))
+        ∙ not-empty (carriedPast (hashOf p g) f page d (new word owner ∷ [])) (omega (arith, carried-count word owner))
 
     spilled : Spilled p g f (new word owner) page
     spilled = record { sound = all-sound word owner all-there; over = too-many }
 
--- ---- what planning answers
+-- what planning answers
 
 module _ (p : Parameters) (g : Growth) (f : File) (k page : ℕ) (pool planned w : List ℕ) (d : ℕ) (P : Pushed p g f k page pool planned w d) where
   pub plans-unsound : 0 < length w → page + d < p .pages → soundAt p g f (page + d) ≡ false → (q : ℕ) → q ≡ page + d
@@ -198,7 +198,7 @@ module _ (p : Parameters) (g : Growth) (f : File) (k page : ℕ) (valid : validP
       stored = getD (f .separators) (page + d) 0
 
       pool″ : List ℕ
-      pool″ = written ((page + d) * p .places) (column (p .places) (λ (s : Star). s .word) (loweredTo p (page + d) stored met ∷ [])) pool
+      pool″ = written ((page + d) * p .places) (column (p .places) (λ (s : Star). s .payload .word) (loweredTo p (page + d) stored met ∷ [])) pool
 
       planned″ : List ℕ
       planned″ = written (page + d) (separators (loweredTo p (page + d) stored met ∷ [])) planned
@@ -218,7 +218,7 @@ module _ (p : Parameters) (g : Growth) (f : File) (k page : ℕ) (valid : validP
       carries =
           omega (
             arith,
-            parted p (page + d) (separatorFrom p (page + d) met stored) met,
+            parted p (page + d) (wordsSeparatorFrom p (page + d) met stored) met,
             separator-fits p (page + d) met stored,
             length-append w (pageWords p g f (page + d)),
             suc-mul d (p .places),

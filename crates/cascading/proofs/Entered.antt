@@ -10,11 +10,11 @@ use Rattle.hashing.specs.declared.Parameters.{Parameters}
 use Rattle.hashing.specs.declared.Growth.{Growth}
 use Rattle.placement.specs.Rule.{Star, separators}
 use Rattle.placement.specs.File.{File, replaced}
-use Rattle.placement.specs.Hash.{namedPage}
+use Rattle.placement.specs.Hash.{namedPage, hashOf}
 use Rattle.placement.proofs.Standing.{length-separators}
 use Rattle.reach.specs.Reach.{hasNumber, holding}
-use Rattle.entering.specs.declared.stretch.Entered.the-variants.{On, Unsound, Overflows}
-use Rattle.entering.specs.Entry.{hash, newStar}
+use Rattle.planning.specs.declared.outcome.Outcome.the-variants.{On, Unsound, Overflows}
+use Rattle.entering.specs.Entry.{newStar}
 use Rattle.cascading.specs.Cascade.{visited, stopOf, cascadeAnswer, cascadeFile, Stopped, Spilled, Kept}
 use Rattle.cascading.proofs.Naming.{held-first, first-written}
 
@@ -48,7 +48,7 @@ module _ (p : Parameters) (g : Growth) (f : File) (k word owner page : ℕ) (poo
       → namedPage p g (replaced (p .places) f page (visited p g f new page) .separators) k ≡ holding k page (visited p g f new page)
   unfolding namedPage replaced
   named-holds here h =
-      let r = held-first (hash p g) f k page (p .pages - page) (new ∷ []) here-first (K .none) in
-      first-written (hash p g) page k (separators (visited p g f new page)) (f .separators) h (omega (arith, here))
+      let r = held-first (hashOf p g) f k page (p .pages - page) (new ∷ []) here-first (K .none) in
+      first-written (hashOf p g) page k (separators (visited p g f new page)) (f .separators) h (omega (arith, here))
       (omega (arith, r .1, length-separators (visited p g f new page)))
       ∙ sym (r .0)

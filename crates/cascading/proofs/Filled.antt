@@ -9,6 +9,7 @@ use lib.Dec.{eqb}
 use lib.ListN.{length, take, drop, getD, set, replicate, length-map}
 use lib.Seq.{slice, getD-take, getD-drop, take-suc-set, length-take-le}
 use borrow.Author.Tests.{lt-ltb, eqb-true, eq-eqb}
+use Rattle.buffers.proofs.Written.{set-written}
 use Rattle.hashing.specs.declared.Parameters.{Parameters}
 use Rattle.hashing.specs.declared.Growth.{Growth}
 use Rattle.hashing.specs.Limits.{validParameters}
@@ -22,18 +23,19 @@ use Rattle.placement.specs.Hash.{hashOf, soundAt, namedPage, homesOf, homeIn}
 use Rattle.placement.proofs.Standing.{first-below}
 use Rattle.placement.proofs.Separator.{below-signature}
 use Rattle.waiting.specs.Lists.{all}
-use Rattle.waiting.specs.Words.{homeOf, numberOf, sourceOf, lowOf}
+use Rattle.waiting.specs.Words.{homeOf, numberIn, sourceOf, lowOf}
 use Rattle.waiting.specs.Gather.{wordsFrom, starsIn}
-use Rattle.waiting.specs.Settle.{signatureOf, under, staying, passing, separatorFrom, slotsOf}
+use Rattle.waiting.specs.Settle.{signatureOf, under, stayingWords, passingWords, wordsSeparatorFrom, slotsOf}
 use Rattle.waiting.proofs.Lists.{all-head, all-tail, all-cons, filter-all}
 use Rattle.waiting.proofs.Cutting.{separator-found}
 use Rattle.waiting.proofs.Items.{words-count}
 use Rattle.waiting.proofs.Packing.{number-pack}
 use Rattle.planning.specs.Plans.{waits, homed}
 use Rattle.planning.proofs.RuleOverWords.{homed-append}
+use Rattle.planning.proofs.Stretch.{sources-column}
 use Rattle.planning.proofs.Placed.{probes-real, new-homed}
 use Rattle.entering.specs.declared.blocks.Reach.the-variants.{Ends}
-use Rattle.entering.specs.Entry.{Unheld, hash, startOf, blockNumbers, blockWords}
+use Rattle.entering.specs.Entry.{Unheld, entryStart, blockNumbers, blockWords}
 use Rattle.entering.proofs.Items.{numbers-count, stretch-homes}
 use Rattle.entering.proofs.Joined.{newWord}
 use Rattle.cascading.specs.Arriving.{pageWords}
@@ -41,7 +43,6 @@ use Rattle.cascading.specs.Cascade.{Plans, loweredTo, loweredOn}
 use Rattle.cascading.proofs.Tying.{parted}
 use Rattle.cascading.proofs.Appending.{stars-fewer, words-low}
 use Rattle.cascading.proofs.PageWords.{page-numbers, page-homed, page-named, items-few}
-use Rattle.cascading.proofs.Settled.{sources-column, set-written}
 use Rattle.cascading.proofs.Loading.{stars-count, loaded-numbers}
 use Rattle.cascading.proofs.Pushed.{pushed-none, pushed-next, page-inside, small, few}
 use Rattle.cascading.proofs.Answers.{plans-ends}
@@ -66,42 +67,42 @@ module _ (p : Parameters) (g : Growth) (f : File) (k page : ℕ) (valid : validP
   sound = rw here (unheld .sound)
 
   -- a word whose star stands on the page has a signature below its separator
-  stands-under : (w : ℕ) → eqb (hash p g .home (numberOf w)) (homeOf w) ≡ true → eqb (namedPage p g (f .separators) (numberOf w)) page ≡ true → under p page stored w ≡ true
+  stands-under : (w : ℕ) → eqb (hashOf p g .home (numberIn w)) (homeOf w) ≡ true → eqb (namedPage p g (f .separators) (numberIn w)) page ≡ true → under p page stored w ≡ true
   unfolding under signatureOf namedPage hashOf
   stands-under w h n =
-      let low = below-signature (hash p g) page stored (numberOf w)
-      (rw (zero-add page) at (first-below (hash p g) 0 page (f .separators) (numberOf w) (omega (arith, sized .ofSeparators, inside)) (eqb-true (namedPage p g (f .separators) (numberOf w)) page n ∙ sym (zero-add page)))) in
-      lt-ltb (signatureOf p page w) stored (rw (eqb-true (hash p g .home (numberOf w)) (homeOf w) h) at low)
+      let low = below-signature (hashOf p g) page stored (numberIn w)
+      (rw (zero-add page) at (first-below (hashOf p g) 0 page (f .separators) (numberIn w) (omega (arith, sized .ofSeparators, inside)) (eqb-true (namedPage p g (f .separators) (numberIn w)) page n ∙ sym (zero-add page)))) in
+      lt-ltb (signatureOf p page w) stored (rw (eqb-true (hashOf p g .home (numberIn w)) (homeOf w) h) at low)
 
-  met-homed : homed (hash p g) met ≡ true
+  met-homed : homed (hashOf p g) met ≡ true
   met-homed =
-      homed-append (hash p g) p (probes-real p g) (newWord p g f k ∷ []) (pageWords p g f page)
-      (new-homed (hash p g) (startOf p g k) k (length (f .numbers) + 1) refl (small p g f k page valid sized number unheld here) (few p g f k page valid sized number unheld here))
+      homed-append (hashOf p g) p (probes-real p g) (newWord p g f k ∷ []) (pageWords p g f page)
+      (new-homed (hashOf p g) (entryStart p g k) k (length (f .numbers) + 1) refl (small p g f k page valid sized number unheld here) (few p g f k page valid sized number unheld here))
       (page-homed p g f valid sized page inside sound)
 
-  met-named : all (λ w. eqb (namedPage p g (f .separators) (numberOf w)) page) met ≡ true
+  met-named : all (λ w. eqb (namedPage p g (f .separators) (numberIn w)) page) met ≡ true
   met-named =
-      all-cons (λ w. eqb (namedPage p g (f .separators) (numberOf w)) page) (newWord p g f k) (pageWords p g f page)
-      (rw (number-pack (startOf p g k) k (length (f .numbers) + 1) (small p g f k page valid sized number unheld here) (few p g f k page valid sized number unheld here))
+      all-cons (λ w. eqb (namedPage p g (f .separators) (numberIn w)) page) (newWord p g f k) (pageWords p g f page)
+      (rw (number-pack (entryStart p g k) k (length (f .numbers) + 1) (small p g f k page valid sized number unheld here) (few p g f k page valid sized number unheld here))
       (eq-eqb (namedPage p g (f .separators) k) page (sym here)))
       (page-named p g f valid sized page inside sound)
 
   met-under : all (under p page stored) met ≡ true
   met-under = go met (unfold homed in met-homed) met-named
     where
-      go : (l : List ℕ) → all (λ w. eqb (hash p g .home (numberOf w)) (homeOf w)) l ≡ true → all (λ w. eqb (namedPage p g (f .separators) (numberOf w)) page) l ≡ true → all (under p page stored) l ≡ true
+      go : (l : List ℕ) → all (λ w. eqb (hashOf p g .home (numberIn w)) (homeOf w)) l ≡ true → all (λ w. eqb (namedPage p g (f .separators) (numberIn w)) page) l ≡ true → all (under p page stored) l ≡ true
       go [] a b = unfold all in refl
       go (w ∷ l) a b =
           all-cons (under p page stored) w l
-          (stands-under w (all-head (λ x. eqb (hash p g .home (numberOf x)) (homeOf x)) w l a) (all-head (λ x. eqb (namedPage p g (f .separators) (numberOf x)) page) w l b))
-          (go l (all-tail (λ x. eqb (hash p g .home (numberOf x)) (homeOf x)) w l a) (all-tail (λ x. eqb (namedPage p g (f .separators) (numberOf x)) page) w l b))
+          (stands-under w (all-head (λ x. eqb (hashOf p g .home (numberIn x)) (homeOf x)) w l a) (all-head (λ x. eqb (namedPage p g (f .separators) (numberIn x)) page) w l b))
+          (go l (all-tail (λ x. eqb (hashOf p g .home (numberIn x)) (homeOf x)) w l a) (all-tail (λ x. eqb (namedPage p g (f .separators) (numberIn x)) page) w l b))
 
-  all-stay : staying p page stored met ≡ met
-  unfolding staying
+  all-stay : stayingWords p page stored met ≡ met
+  unfolding stayingWords
   all-stay = filter-all (under p page stored) met met-under
 
   module _ (room : length (pageWords p g f page) < p .places) where
-    same-separator : separatorFrom p page met stored ≡ stored
+    same-separator : wordsSeparatorFrom p page met stored ≡ stored
     same-separator = separator-found p page met stored stored (omega arith) (rw all-stay (omega arith)) (λ h. absurd (omega arith))
 
     filled-to : loweredTo p page stored met ≡ record { separator = stored; stars = waits met }
@@ -110,10 +111,10 @@ module _ (p : Parameters) (g : Growth) (f : File) (k page : ℕ) (valid : validP
 
     none-on : length (loweredOn p page stored met) ≡ 0
     unfolding loweredOn
-    none-on = omega (arith, ap (λ (v : ℕ). length (passing p page v met)) same-separator, parted p page stored met, ap length all-stay)
+    none-on = omega (arith, ap (λ (v : ℕ). length (passingWords p page v met)) same-separator, parted p page stored met, ap length all-stay)
 
     pub plans-filled : (pool planned pool′ planned′ : List ℕ) → length pool ≡ p .pages * p .places → p .pages ≤ length planned
-        → pool′ ≡ written (page * p .places) (column (p .places) (λ (s : Star). s .word) (record { separator = stored; stars = waits met } ∷ [])) pool
+        → pool′ ≡ written (page * p .places) (column (p .places) (λ (s : Star). s .payload .word) (record { separator = stored; stars = waits met } ∷ [])) pool
         → planned′ ≡ written page (stored ∷ []) planned → Plans p g f k page pool′ planned′ (Ends page)
     plans-filled pool planned pool′ planned′ lp ln ep en =
         plans-ends p g f k page pool′ planned′ (loweredOn p (page + 0) (getD (f .separators) (page + 0) 0) (newWord p g f k ∷ pageWords p g f (page + 0))) 1
@@ -171,10 +172,10 @@ module _ (p : Parameters) (g : Growth) (f : File) (k page : ℕ) (valid : validP
           slots-are : take reach slots ≡ slotsOf (newWord p g f k ∷ unhomed)
           slots-are = ap (λ (n : ℕ). take n slots) (sym (sub-zero reach)) ∙ es ∙ ap slotsOf (ew ∙ ap (λ (l : List ℕ). l ++ unhomed) front)
 
-          same-column : column (p .places) (λ (s : Star). s .word) (record { separator = stored; stars = waits (newWord p g f k ∷ unhomed) } ∷ [])
-              ≡ column (p .places) (λ (s : Star). s .word) (record { separator = stored; stars = waits met } ∷ [])
+          same-column : column (p .places) (λ (s : Star). s .payload .word) (record { separator = stored; stars = waits (newWord p g f k ∷ unhomed) } ∷ [])
+              ≡ column (p .places) (λ (s : Star). s .payload .word) (record { separator = stored; stars = waits met } ∷ [])
           same-column =
-              ap (λ (l : List Star). column (p .places) (λ (s : Star). s .word) (record { separator = stored; stars = l } ∷ []))
+              ap (λ (l : List Star). column (p .places) (λ (s : Star). s .payload .word) (record { separator = stored; stars = l } ∷ []))
               (waits-low (newWord p g f k ∷ unhomed) met (ap (λ (l : List ℕ). lowOf (newWord p g f k) ∷ l) unhomed-low))
 
       pub fill-reach : (reach : ℕ) → reach ≡ 1 + length unhomed → reach ≤ p .places

@@ -9,20 +9,20 @@ use lib.Dec.{ltb}
 use lib.ListN.{length, take, drop, replicate, length-map, length-take, getD-replicate}
 use lib.Seq.{slice, getD-take}
 use borrow.Author.Tests.{lt-ltb, ltb-true}
+use Rattle.buffers.proofs.Lists.{drop-take}
 use Rattle.hashing.specs.declared.Parameters.{Parameters}
 use Rattle.hashing.specs.declared.Growth.{Growth}
 use Rattle.hashing.specs.Limits.{validParameters}
 use Rattle.hashing.proofs.Bounds.{limits}
 use Rattle.pages.specs.declared.page.Page.{Page}
-use Rattle.pages.specs.Page.{part, pageAt}
+use Rattle.pages.specs.Page.{part, pageAt, stretch}
 use Rattle.pages.proofs.Parts.{page-fits, take-filled, filled-length}
 use Rattle.placement.specs.File.{File, Sized}
 use Rattle.placement.specs.Hash.{soundAt, homesOf, homeIn}
 use Rattle.waiting.specs.Lists.{allBelow}
-use Rattle.waiting.specs.Gather.{stretch, wordsFrom, starsIn}
+use Rattle.waiting.specs.Gather.{wordsFrom, starsIn}
 use Rattle.waiting.proofs.Lists.{all-mono, all-items}
 use Rattle.waiting.proofs.Items.{words-count, words-length}
-use Rattle.planning.proofs.Slots.{drop-take}
 use Rattle.entering.specs.Entry.{blockNumbers, blockWords}
 use Rattle.entering.proofs.Items.{numbers-count, stretch-homes, homes-below}
 use Rattle.cascading.specs.Arriving.{pageWords}

@@ -14,7 +14,7 @@ use Rattle.placement.proofs.Standing.{first-append}
 use Rattle.reach.specs.Reach.{hasNumber, holding}
 use Rattle.reach.specs.Cascade.{meeting, lowered, pushedTo, pushedOn, cascaded, carriedPast}
 
--- ---- a number in a list
+-- a number in a list
 
 has-filter : (q : ℕ → Bool) (k : ℕ) (l : List Star) → hasNumber k (filter (λ (s : Star). q (s .number)) l) ≡ q k && hasNumber k l
 unfolding hasNumber filter
@@ -62,7 +62,7 @@ unfolding pour
 has-pour k [] l e = e
 has-pour k (x ∷ xs) l e = has-insert k x (pour xs l) (has-pour k xs l e)
 
--- ---- a cascade that carries nothing past its pages
+-- a cascade that carries nothing past its pages
 
 module _ (H : Hash) (f : File) (k : ℕ) where
   -- whether the number stays on the page, or is carried on
@@ -98,7 +98,7 @@ module _ (H : Hash) (f : File) (k : ℕ) where
       go true h ih = (rw (h .0), omega arith)
       go false h ih = let r = ih (h .1) none in (rw (h .0) (r .0), omega (arith, r .1))
 
--- ---- written into the separators
+-- written into the separators
 
 -- the pages before the first one named may stay or go
 first-over : (H : Hash) (p n : ℕ) (us vs : List ℕ) (k : ℕ) → n ≤ length us → p + n ≤ first H p us k → first H p (take n us ++ vs) k ≡ first H (p + n) vs k

@@ -9,6 +9,7 @@ use lib.Dec.{leb, ltb, eqb}
 use lib.ListN.{length, drop, getD, length-map}
 use lib.Seq.{getD-take, getD-drop}
 use borrow.Author.Tests.{le-leb, lt-ltb, ltb-true, eq-eqb, ne-eqb, eqb-true, eqb-false, not-true}
+use Rattle.pages.specs.Page.{stretch}
 use Rattle.hashing.specs.declared.Parameters.{Parameters}
 use Rattle.hashing.specs.declared.Growth.{Growth}
 use Rattle.hashing.specs.Limits.{validParameters}
@@ -24,8 +25,8 @@ use Rattle.placement.proofs.Sound.{sound-rising, sound-proper}
 use Rattle.placement.proofs.Tested.{item-on, real-facts}
 use Rattle.reach.specs.Cascade.{meeting}
 use Rattle.waiting.specs.Lists.{all, allBelow}
-use Rattle.waiting.specs.Words.{pack, homeOf, numberOf}
-use Rattle.waiting.specs.Gather.{stretch, skipped, wordsFrom, groupOf}
+use Rattle.waiting.specs.Words.{pack, homeOf, numberIn}
+use Rattle.waiting.specs.Gather.{skipped, wordsFrom, groupOf}
 use Rattle.waiting.specs.Settle.{homesUpTo}
 use Rattle.waiting.proofs.Lists.{all-head, all-tail, all-cons, all-append, all-mono}
 use Rattle.waiting.proofs.Packing.{number-pack}
@@ -33,18 +34,18 @@ use Rattle.planning.specs.Plans.{waits, homed}
 use Rattle.planning.specs.Sources.{renamed, sourced}
 use Rattle.planning.proofs.Applying.{renamed-keeps}
 use Rattle.planning.proofs.Sourcing.{fresh, led, ordered, fresh-led, words-ordered, true-stars}
-use Rattle.entering.specs.Entry.{Unheld, hash, blockNumbers, blockWords}
+use Rattle.entering.specs.Entry.{Unheld, blockNumbers, blockWords}
 use Rattle.cascading.specs.Arriving.{pageWords}
 use Rattle.entering.proofs.Items.{numbers-count, numbers-below, block-homed, block-sourced, block-grouped, block-fresh}
 use Rattle.cascading.proofs.Tying.{waits-joined}
 
 -- every word is of the star k or of one that the separators name a page below q for
 unfoldable pub apart : Parameters → Growth → File → ℕ → ℕ → List ℕ → Bool
-apart p g f k q l = all (λ w. eqb (numberOf w) k || ltb (namedPage p g (f .separators) (numberOf w)) q) l
+apart p g f k q l = all (λ w. eqb (numberIn w) k || ltb (namedPage p g (f .separators) (numberIn w)) q) l
 
 -- a test of the number that every star's passes
 numbers-all : (t : ℕ → Bool) (at : ℕ) (ns hs : List ℕ) → allBelow (2 ^ 31) ns ≡ true → at + length ns < 2 ^ 16
-    → ((i : ℕ) → i < length ns → (getD ns i 0 ≡ 0 → ⊥) → t (getD ns i 0) ≡ true) → all (λ w. t (numberOf w)) (wordsFrom at 0 ns hs) ≡ true
+    → ((i : ℕ) → i < length ns → (getD ns i 0 ≡ 0 → ⊥) → t (getD ns i 0) ≡ true) → all (λ w. t (numberIn w)) (wordsFrom at 0 ns hs) ≡ true
 unfolding wordsFrom skipped
 numbers-all t at [] hs v h e = unfold all in refl
 numbers-all t at (n ∷ ns) [] v h e = unfold all in refl
@@ -54,11 +55,11 @@ numbers-all t at (n ∷ ns) (x ∷ hs) v h e =
     small : n < 2 ^ 31
     small = ltb-true n (2 ^ 31) (all-head (λ y. ltb y (2 ^ 31)) n ns v)
 
-    go : (s : Bool) → eqb n 0 ≡ s → all (λ w. t (numberOf w)) (wordsFrom (suc at) 0 ns hs) ≡ true
-        → all (λ w. t (numberOf w)) (cond (s || s) (wordsFrom (suc at) 0 ns hs) (pack x n (suc at) ∷ wordsFrom (suc at) 0 ns hs)) ≡ true
+    go : (s : Bool) → eqb n 0 ≡ s → all (λ w. t (numberIn w)) (wordsFrom (suc at) 0 ns hs) ≡ true
+        → all (λ w. t (numberIn w)) (cond (s || s) (wordsFrom (suc at) 0 ns hs) (pack x n (suc at) ∷ wordsFrom (suc at) 0 ns hs)) ≡ true
     go true d ih = ih
     go false d ih =
-        all-cons (λ w. t (numberOf w)) (pack x n (suc at)) (wordsFrom (suc at) 0 ns hs)
+        all-cons (λ w. t (numberIn w)) (pack x n (suc at)) (wordsFrom (suc at) 0 ns hs)
         (rw (number-pack x n (suc at) small (omega arith)) (e 0 (omega arith) (eqb-false n 0 d))) ih
 
 module _ (p : Parameters) (g : Growth) (f : File) (valid : validParameters p ≡ true) (sized : Sized (p .places) (p .pages) f)
@@ -78,7 +79,7 @@ module _ (p : Parameters) (g : Growth) (f : File) (valid : validParameters p ≡
   pub page-numbers : allBelow (2 ^ 31) (blockNumbers p f q 1) ≡ true
   page-numbers = numbers-below p g f valid sized q 1 one-more alone
 
-  pub page-homed : homed (hash p g) (pageWords p g f q) ≡ true
+  pub page-homed : homed (hashOf p g) (pageWords p g f q) ≡ true
   page-homed = block-homed p g f valid sized q 1 one-more page-numbers
 
   pub page-near : homesUpTo q (pageWords p g f q) ≡ true
@@ -93,7 +94,7 @@ module _ (p : Parameters) (g : Growth) (f : File) (valid : validParameters p ≡
   pub items-few : q * p .places + length (blockNumbers p f q 1) < 2 ^ 16
   items-few = omega (arith, few, numbers-count p g f valid sized q 1 one-more, add-mul q 1 (p .places))
 
-  pub page-named : all (λ w. eqb (namedPage p g (f .separators) (numberOf w)) q) (pageWords p g f q) ≡ true
+  pub page-named : all (λ w. eqb (namedPage p g (f .separators) (numberIn w)) q) (pageWords p g f q) ≡ true
   unfolding blockWords
   page-named =
       numbers-all (λ n. eqb (namedPage p g (f .separators) n) q) (q * p .places) (blockNumbers p f q 1) (stretch (p .places) q 1 (homesOf p g (f .numbers))) page-numbers items-few
@@ -110,38 +111,38 @@ module _ (p : Parameters) (g : Growth) (f : File) (valid : validParameters p ≡
 
   -- no star of the page is among those carried to it
   module _ (k : ℕ) (unheld : Unheld p g f k) (w : List ℕ) (before : apart p g f k q w ≡ true) where
-    other : (x y : ℕ) → not (eqb (numberOf x) k) ≡ true → eqb (namedPage p g (f .separators) (numberOf x)) q ≡ true
-        → eqb (numberOf y) k || ltb (namedPage p g (f .separators) (numberOf y)) q ≡ true → not (eqb (numberOf y) (numberOf x)) ≡ true
-    other x y a b c = go (eqb (numberOf y) k) refl c
+    other : (x y : ℕ) → not (eqb (numberIn x) k) ≡ true → eqb (namedPage p g (f .separators) (numberIn x)) q ≡ true
+        → eqb (numberIn y) k || ltb (namedPage p g (f .separators) (numberIn y)) q ≡ true → not (eqb (numberIn y) (numberIn x)) ≡ true
+    other x y a b c = go (eqb (numberIn y) k) refl c
       where
-        go : (t : Bool) → eqb (numberOf y) k ≡ t → t || ltb (namedPage p g (f .separators) (numberOf y)) q ≡ true → not (eqb (numberOf y) (numberOf x)) ≡ true
+        go : (t : Bool) → eqb (numberIn y) k ≡ t → t || ltb (namedPage p g (f .separators) (numberIn y)) q ≡ true → not (eqb (numberIn y) (numberIn x)) ≡ true
         go true d c =
-            ap not (ne-eqb (numberOf y) (numberOf x) (λ e. eqb-false (numberOf x) k (not-true (eqb (numberOf x) k) a) (sym e ∙ eqb-true (numberOf y) k d)))
+            ap not (ne-eqb (numberIn y) (numberIn x) (λ e. eqb-false (numberIn x) k (not-true (eqb (numberIn x) k) a) (sym e ∙ eqb-true (numberIn y) k d)))
         go false d c =
-            ap not (ne-eqb (numberOf y) (numberOf x) (λ e.
-            omega (arith, ltb-true (namedPage p g (f .separators) (numberOf y)) q c, ap (namedPage p g (f .separators)) e, eqb-true (namedPage p g (f .separators) (numberOf x)) q b)))
+            ap not (ne-eqb (numberIn y) (numberIn x) (λ e.
+            omega (arith, ltb-true (namedPage p g (f .separators) (numberIn y)) q c, ap (namedPage p g (f .separators)) e, eqb-true (namedPage p g (f .separators) (numberIn x)) q b)))
 
     page-led : all (λ x. led x w) (pageWords p g f q) ≡ true
     page-led = go (pageWords p g f q) (unfold fresh in block-fresh p g f valid sized q 1 one-more alone k unheld) page-named
       where
-        go : (a : List ℕ) → all (λ x. not (eqb (numberOf x) k)) a ≡ true → all (λ x. eqb (namedPage p g (f .separators) (numberOf x)) q) a ≡ true → all (λ x. led x w) a ≡ true
+        go : (a : List ℕ) → all (λ x. not (eqb (numberIn x) k)) a ≡ true → all (λ x. eqb (namedPage p g (f .separators) (numberIn x)) q) a ≡ true → all (λ x. led x w) a ≡ true
         go [] s t = unfold all in refl
         go (x ∷ a) s t =
             all-cons (λ y. led y w) x a
             (fresh-led x w
-            (unfold fresh apart in all-mono (λ y. eqb (numberOf y) k || ltb (namedPage p g (f .separators) (numberOf y)) q) (λ y. not (eqb (numberOf y) (numberOf x))) w
-            (λ y e. other x y (all-head (λ z. not (eqb (numberOf z) k)) x a s) (all-head (λ z. eqb (namedPage p g (f .separators) (numberOf z)) q) x a t) e) before))
-            (go a (all-tail (λ z. not (eqb (numberOf z) k)) x a s) (all-tail (λ z. eqb (namedPage p g (f .separators) (numberOf z)) q) x a t))
+            (unfold fresh apart in all-mono (λ y. eqb (numberIn y) k || ltb (namedPage p g (f .separators) (numberIn y)) q) (λ y. not (eqb (numberIn y) (numberIn x))) w
+            (λ y e. other x y (all-head (λ z. not (eqb (numberIn z) k)) x a s) (all-head (λ z. eqb (namedPage p g (f .separators) (numberIn z)) q) x a t) e) before))
+            (go a (all-tail (λ z. not (eqb (numberIn z) k)) x a s) (all-tail (λ z. eqb (namedPage p g (f .separators) (numberIn z)) q) x a t))
 
     -- past the page
     pub apart-joined : apart p g f k (suc q) (w ++ pageWords p g f q) ≡ true
     unfolding apart
     apart-joined =
-        all-append (λ x. eqb (numberOf x) k || ltb (namedPage p g (f .separators) (numberOf x)) (suc q)) w (pageWords p g f q)
-        (all-mono (λ x. eqb (numberOf x) k || ltb (namedPage p g (f .separators) (numberOf x)) q) (λ x. eqb (numberOf x) k || ltb (namedPage p g (f .separators) (numberOf x)) (suc q)) w
-        (λ x e. later (eqb (numberOf x) k) (namedPage p g (f .separators) (numberOf x)) e) before)
-        (all-mono (λ x. eqb (namedPage p g (f .separators) (numberOf x)) q) (λ x. eqb (numberOf x) k || ltb (namedPage p g (f .separators) (numberOf x)) (suc q)) (pageWords p g f q)
-        (λ x e. here (eqb (numberOf x) k) (namedPage p g (f .separators) (numberOf x)) e) page-named)
+        all-append (λ x. eqb (numberIn x) k || ltb (namedPage p g (f .separators) (numberIn x)) (suc q)) w (pageWords p g f q)
+        (all-mono (λ x. eqb (numberIn x) k || ltb (namedPage p g (f .separators) (numberIn x)) q) (λ x. eqb (numberIn x) k || ltb (namedPage p g (f .separators) (numberIn x)) (suc q)) w
+        (λ x e. later (eqb (numberIn x) k) (namedPage p g (f .separators) (numberIn x)) e) before)
+        (all-mono (λ x. eqb (namedPage p g (f .separators) (numberIn x)) q) (λ x. eqb (numberIn x) k || ltb (namedPage p g (f .separators) (numberIn x)) (suc q)) (pageWords p g f q)
+        (λ x e. here (eqb (numberIn x) k) (namedPage p g (f .separators) (numberIn x)) e) page-named)
       where
         later : (t : Bool) (n : ℕ) → t || ltb n q ≡ true → t || ltb n (suc q) ≡ true
         later true n e = refl
@@ -159,12 +160,12 @@ module _ (p : Parameters) (g : Growth) (f : File) (valid : validParameters p ≡
           true-stars (p .places) q 1 0 word owner f (map (homeIn p g) (f .numbers)) page-numbers few
           (omega (arith, fits, sized .ofNumbers)) (omega (arith, fits, sized .ofWords)) (omega (arith, fits, sized .ofOwners))
           (omega (arith, fits, sized .ofNumbers, length-map (f .numbers) (homeIn p g)))
-          ∙ ap (without 0) (pour-nil 1 (starsAt (p .places) f q) (rising-sorted 1 (starsAt (p .places) f q) (sound-rising validWord (hash p g) f q (real-facts p g f q sound))))
+          ∙ ap (without 0) (pour-nil 1 (starsAt (p .places) f q) (rising-sorted 1 (starsAt (p .places) f q) (sound-rising validWord (hashOf p g) f q (real-facts p g f q sound))))
           ∙ filter-all-on (λ (s : Star). not (eqb (s .number) 0)) (starsAt (p .places) f q)
-          (λ s m. ap not (ne-eqb (s .number) 0 (λ e. omega (arith, e, sound-proper validWord (hash p g) f q (real-facts p g f q sound) s m .0))))
+          (λ s m. ap not (ne-eqb (s .number) 0 (λ e. omega (arith, e, sound-proper validWord (hashOf p g) f q (real-facts p g f q sound) s m .0))))
 
       -- the page's stars and the arriving ones
-      pub page-meets : map (renamed (f .words) (f .owners) word owner) (waits (w ++ pageWords p g f q)) ≡ meeting (hash p g) f q (map (renamed (f .words) (f .owners) word owner) (waits w))
+      pub page-meets : map (renamed (f .words) (f .owners) word owner) (waits (w ++ pageWords p g f q)) ≡ meeting (hashOf p g) f q (map (renamed (f .words) (f .owners) word owner) (waits w))
       unfolding meeting hashOf
       page-meets =
           ap (map (renamed (f .words) (f .owners) word owner)) (waits-joined w (pageWords p g f q) page-ordered page-led)

@@ -1,6 +1,6 @@
 -- The cascade after d pages: what is planned of them, and the words carried on.
 use mathlib.Core.Path.{_≡_, refl, sym, ap, _∙_}
-use mathlib.Core.Bool.{Bool, true, not, _||_}
+use mathlib.Core.Bool.{true, not, _||_}
 use mathlib.Core.List.{List, [], _∷_, _++_, map, map-append}
 use Prim.Native.Nat.{ℕ, suc, _+_, _-_, _*_, _^_, _≤_, _<_}
 use native.Mathlib.Nat.{add-zero, zero-mul, mul-le-mul}
@@ -9,9 +9,10 @@ use native.Mathlib.Omega.{arith}
 use lib.Dec.{leb, ltb, eqb}
 use lib.ListN.{length, take, drop, getD, length-map, length-append}
 use borrow.Author.Tests.{eq-eqb, le-leb, leb-true}
+use Rattle.pages.specs.Page.{stretch}
 use Rattle.hashing.specs.declared.Parameters.{Parameters}
 use Rattle.hashing.specs.declared.Growth.{Growth}
-use Rattle.hashing.specs.Generator.{multiplierOf}
+use Rattle.hashing.specs.Geometry.{multiplierOf}
 use Rattle.hashing.specs.Home.{home}
 use Rattle.hashing.specs.Limits.{validParameters}
 use Rattle.hashing.proofs.Bounds.{limits}
@@ -23,19 +24,18 @@ use Rattle.placement.proofs.Mapping.{mapped}
 use Rattle.placement.proofs.Standing.{first-home}
 use Rattle.placement.proofs.Writing.{column-append, separators-append}
 use Rattle.reach.specs.Cascade.{cascaded, carriedPast}
-use Rattle.waiting.specs.Lists.{filter, all}
-use Rattle.waiting.specs.Words.{pack, homeOf, numberOf, sourceOf}
-use Rattle.waiting.specs.Gather.{stretch}
-use Rattle.waiting.specs.Settle.{under, staying, passing, separatorFrom, homesUpTo, slotsOf, pourLow}
+use Rattle.waiting.specs.Lists.{all}
+use Rattle.waiting.specs.Words.{pack, homeOf, numberIn}
+use Rattle.waiting.specs.Settle.{under, stayingWords, passingWords, wordsSeparatorFrom, homesUpTo, slotsOf, pourLow}
 use Rattle.waiting.proofs.Lists.{all-filter, all-mono}
 use Rattle.waiting.proofs.Packing.{number-pack}
 use Rattle.planning.specs.Plans.{waits, homed}
-use Rattle.planning.specs.Sources.{named, renamed, sourced}
-use Rattle.planning.proofs.Applying.{Sourced, sourced-waits, sourced-append}
+use Rattle.planning.specs.Sources.{namedItem, renamed, sourced}
+use Rattle.planning.proofs.Applying.{Sourced, sourced-waits, sourced-append, sourced-filter}
 use Rattle.planning.proofs.Pouring.{length-waits}
 use Rattle.planning.proofs.Sourcing.{fresh, new-star, named-past}
 use Rattle.planning.proofs.Placed.{new-homed, new-near, new-sourced}
-use Rattle.entering.specs.Entry.{Unheld, hash, newStar, startOf}
+use Rattle.entering.specs.Entry.{Unheld, newStar, entryStart}
 use Rattle.entering.proofs.Joined.{newWord, valid-most}
 use Rattle.cascading.specs.Arriving.{pageWords}
 use Rattle.cascading.specs.Cascade.{loweredTo, loweredOn}
@@ -49,22 +49,18 @@ pub record Pushed (p : Parameters) (g : Growth) (f : File) (k page : ℕ) (pool 
   pub sound : (q : ℕ) → page ≤ q → q < page + d → soundAt p g f q ≡ true
   pub contents : List Contents
   pub size : length contents ≡ d
-  pub sources : stretch (p .places) page d pool ≡ column (p .places) (λ (s : Star). s .word) contents
+  pub sources : stretch (p .places) page d pool ≡ column (p .places) (λ (s : Star). s .payload .word) contents
   pub separators-are : take d (drop page planned) ≡ separators contents
   pub all-sourced : Sourced (f .numbers) k contents
-  pub are : (word owner : ℕ) → map (mapped (renamed (f .words) (f .owners) word owner)) contents ≡ cascaded (hash p g) f page d (newStar k word owner ∷ [])
-  pub carried : (word owner : ℕ) → map (renamed (f .words) (f .owners) word owner) (waits w) ≡ carriedPast (hash p g) f page d (newStar k word owner ∷ [])
-  pub true-homes : homed (hash p g) w ≡ true
+  pub are : (word owner : ℕ) → map (mapped (renamed (f .words) (f .owners) word owner)) contents ≡ cascaded (hashOf p g) f page d (newStar k word owner ∷ [])
+  pub carried : (word owner : ℕ) → map (renamed (f .words) (f .owners) word owner) (waits w) ≡ carriedPast (hashOf p g) f page d (newStar k word owner ∷ [])
+  pub true-homes : homed (hashOf p g) w ≡ true
   pub near : homesUpTo (page + d) w ≡ true
   pub true-sources : sourced (f .numbers) k w ≡ true
   pub before : apart p g f k (page + d) w ≡ true
 
-sourced-filter : (ns : List ℕ) (new : ℕ) (q : ℕ → Bool) (l : List ℕ) → sourced ns new l ≡ true → sourced ns new (filter q l) ≡ true
-unfolding sourced
-sourced-filter ns new q l = all-filter (λ w. eqb (named ns new (sourceOf w)) (numberOf w)) q l
-
 sourced-more : (ns : List ℕ) (new : ℕ) (cs : List Contents) (c : Contents) → Sourced ns new cs
-    → every (λ (s : Star). eqb (named ns new (s .word)) (s .number)) (c .stars) ≡ true → Sourced ns new (cs ++ (c ∷ []))
+    → every (λ (s : Star). eqb (namedItem ns new (s .payload .word)) (s .number)) (c .stars) ≡ true → Sourced ns new (cs ++ (c ∷ []))
 sourced-more ns new [] c s e = (e, tt)
 sourced-more ns new (x ∷ cs) c s e = (s .0, sourced-more ns new cs c (s .1) e)
 
@@ -83,9 +79,9 @@ module _ (p : Parameters) (g : Growth) (f : File) (k page : ℕ) (valid : validP
   pub page-inside : page < p .pages
   page-inside = omega (arith, here, unheld .named)
 
-  home-below : startOf p g k ≤ page
+  home-below : entryStart p g k ≤ page
   unfolding namedPage
-  home-below = rw here (first-home (hash p g) 0 (f .separators) k (omega (arith, unheld .named, sized .ofSeparators)))
+  home-below = rw here (first-home (hashOf p g) 0 (f .separators) k (omega (arith, unheld .named, sized .ofSeparators)))
 
   -- the word that the code packs
   pub new-packed : (from : ℕ) → from ≡ home (multiplierOf p) p g k → pack from k (length (f .numbers) + 1) ≡ newWord p g f k
@@ -96,7 +92,7 @@ module _ (p : Parameters) (g : Growth) (f : File) (k page : ℕ) (valid : validP
   new-carried : (word owner : ℕ) → map (renamed (f .words) (f .owners) word owner) (waits (newWord p g f k ∷ [])) ≡ newStar k word owner ∷ []
   unfolding insert waits slotsOf pourLow
   new-carried word owner =
-      new-star (f .words) (f .owners) word owner (startOf p g k) k (length (f .numbers) + 1) [] small few (unfold fresh all in refl)
+      new-star (f .words) (f .owners) word owner (entryStart p g k) k (length (f .numbers) + 1) [] small few (unfold fresh all in refl)
       ∙ rw (
         named-past (f .words) word (length (f .numbers) + 1) (omega (arith, sized .ofNumbers, sized .ofWords)),
         named-past (f .owners) owner (length (f .numbers) + 1) (omega (arith, sized .ofNumbers, sized .ofOwners)),
@@ -114,10 +110,10 @@ module _ (p : Parameters) (g : Growth) (f : File) (k page : ℕ) (valid : validP
         all-sourced = tt;
         are = λ word owner. unfold cascaded in refl;
         carried = λ word owner. unfold carriedPast in new-carried word owner;
-        true-homes = new-homed (hash p g) (startOf p g k) k (length (f .numbers) + 1) refl small few;
-        near = rw (add-zero page) (new-near page (startOf p g k) k (length (f .numbers) + 1) home-below small few);
-        true-sources = new-sourced (f .numbers) (startOf p g k) k small few;
-        before = unfold apart all in rw (number-pack (startOf p g k) k (length (f .numbers) + 1) small few, eq-eqb k k refl);
+        true-homes = new-homed (hashOf p g) (entryStart p g k) k (length (f .numbers) + 1) refl small few;
+        near = rw (add-zero page) (new-near page (entryStart p g k) k (length (f .numbers) + 1) home-below small few);
+        true-sources = new-sourced (f .numbers) (entryStart p g k) k small few;
+        before = unfold apart all in rw (number-pack (entryStart p g k) k (length (f .numbers) + 1) small few, eq-eqb k k refl);
       }
 
   -- one more page
@@ -135,16 +131,16 @@ module _ (p : Parameters) (g : Growth) (f : File) (k page : ℕ) (valid : validP
     abbrev rename : ℕ → ℕ → Star → Star
     rename word owner = renamed (f .words) (f .owners) word owner
 
-    one-page : (word owner : ℕ) → cascaded (hash p g) f (page + d) 1 (carriedPast (hash p g) f page d (newStar k word owner ∷ [])) ≡ mapped (rename word owner) new ∷ []
+    one-page : (word owner : ℕ) → cascaded (hashOf p g) f (page + d) 1 (carriedPast (hashOf p g) f page d (newStar k word owner ∷ [])) ≡ mapped (rename word owner) new ∷ []
     one-page word owner =
-        ap (cascaded (hash p g) f (page + d) 1) (sym (P .carried word owner))
-        ∙ cascaded-one (hash p g) f (page + d) (map (rename word owner) (waits w)) (omega (arith, carried-length (rename word owner) w))
+        ap (cascaded (hashOf p g) f (page + d) 1) (sym (P .carried word owner))
+        ∙ cascaded-one (hashOf p g) f (page + d) (map (rename word owner) (waits w)) (omega (arith, carried-length (rename word owner) w))
         ∙ ap (λ (c : Contents). c ∷ []) (pushes-to p g f valid sized (page + d) inside sound k unheld w (P .true-homes) (P .near) (P .before) word owner)
 
-    carried-past : (word owner : ℕ) → carriedPast (hash p g) f (page + d) 1 (carriedPast (hash p g) f page d (newStar k word owner ∷ [])) ≡ map (rename word owner) (waits (loweredOn p (page + d) stored met))
+    carried-past : (word owner : ℕ) → carriedPast (hashOf p g) f (page + d) 1 (carriedPast (hashOf p g) f page d (newStar k word owner ∷ [])) ≡ map (rename word owner) (waits (loweredOn p (page + d) stored met))
     carried-past word owner =
-        ap (carriedPast (hash p g) f (page + d) 1) (sym (P .carried word owner))
-        ∙ carried-one (hash p g) f (page + d) (map (rename word owner) (waits w)) (omega (arith, carried-length (rename word owner) w))
+        ap (carriedPast (hashOf p g) f (page + d) 1) (sym (P .carried word owner))
+        ∙ carried-one (hashOf p g) f (page + d) (map (rename word owner) (waits w)) (omega (arith, carried-length (rename word owner) w))
         ∙ pushes-on p g f valid sized (page + d) inside sound k unheld w (P .true-homes) (P .near) (P .before) word owner
 
     met-sourced : sourced (f .numbers) k met ≡ true
@@ -158,14 +154,14 @@ module _ (p : Parameters) (g : Growth) (f : File) (k page : ℕ) (valid : validP
         go (no l) = let same : q ≡ page + d = omega arith in rw same sound
 
     before-next : apart p g f k (page + (d + 1)) (loweredOn p (page + d) stored met) ≡ true
-    unfolding apart loweredOn passing
+    unfolding apart loweredOn passingWords
     before-next =
         let next : suc (page + d) ≡ page + (d + 1) = omega arith in
-        all-filter (λ x. eqb (numberOf x) k || ltb (namedPage p g (f .separators) (numberOf x)) (page + (d + 1))) (λ x. not (under p (page + d) (separatorFrom p (page + d) met stored) x)) met
+        all-filter (λ x. eqb (numberIn x) k || ltb (namedPage p g (f .separators) (numberIn x)) (page + (d + 1))) (λ x. not (under p (page + d) (wordsSeparatorFrom p (page + d) met stored) x)) met
         (rw next at (apart-joined p g f valid sized (page + d) inside sound k unheld w (P .before)))
 
     pub pushed-next : (pool′ planned′ : List ℕ) → (page + d) * p .places ≤ length pool → page + d ≤ length planned
-        → pool′ ≡ written ((page + d) * p .places) (column (p .places) (λ (s : Star). s .word) (new ∷ [])) pool
+        → pool′ ≡ written ((page + d) * p .places) (column (p .places) (λ (s : Star). s .payload .word) (new ∷ [])) pool
         → planned′ ≡ written (page + d) (separators (new ∷ [])) planned
         → Pushed p g f k page pool′ planned′ (loweredOn p (page + d) stored met) (d + 1)
     pushed-next pool′ planned′ lp ln ep en =
@@ -177,8 +173,8 @@ module _ (p : Parameters) (g : Growth) (f : File) (k page : ℕ) (valid : validP
           sources =
               ap (stretch (p .places) page (d + 1)) ep
               ∙ sources-on (p .places) page d new pool (lowered-roomy p (page + d) stored met) lp
-              ∙ ap (λ (l : List ℕ). l ++ column (p .places) (λ (s : Star). s .word) (new ∷ [])) (P .sources)
-              ∙ sym (column-append (p .places) (λ (s : Star). s .word) (P .contents) (new ∷ []));
+              ∙ ap (λ (l : List ℕ). l ++ column (p .places) (λ (s : Star). s .payload .word) (new ∷ [])) (P .sources)
+              ∙ sym (column-append (p .places) (λ (s : Star). s .payload .word) (P .contents) (new ∷ []));
           separators-are =
               ap (λ (l : List ℕ). take (d + 1) (drop page l)) en
               ∙ separators-on page d new planned ln
@@ -186,22 +182,22 @@ module _ (p : Parameters) (g : Growth) (f : File) (k page : ℕ) (valid : validP
               ∙ sym (separators-append (P .contents) (new ∷ []));
           all-sourced =
               sourced-more (f .numbers) k (P .contents) new (P .all-sourced)
-              (unfold loweredTo staying in sourced-waits (f .numbers) k (staying p (page + d) (separatorFrom p (page + d) met stored) met)
-              (sourced-filter (f .numbers) k (under p (page + d) (separatorFrom p (page + d) met stored)) met met-sourced));
+              (unfold loweredTo stayingWords in sourced-waits (f .numbers) k (stayingWords p (page + d) (wordsSeparatorFrom p (page + d) met stored) met)
+              (sourced-filter (f .numbers) k (under p (page + d) (wordsSeparatorFrom p (page + d) met stored)) met met-sourced));
           are = λ word owner.
               map-append (mapped (rename word owner)) (P .contents) (new ∷ [])
               ∙ ap (λ (cs : List Contents). cs ++ (mapped (rename word owner) new ∷ [])) (P .are word owner)
-              ∙ ap (λ (cs : List Contents). cascaded (hash p g) f page d (newStar k word owner ∷ []) ++ cs) (sym (one-page word owner))
-              ∙ sym (cascaded-add (hash p g) f page d 1 (newStar k word owner ∷ []));
-          carried = λ word owner. sym (carried-past word owner) ∙ sym (carried-add (hash p g) f page d 1 (newStar k word owner ∷ []));
+              ∙ ap (λ (cs : List Contents). cascaded (hashOf p g) f page d (newStar k word owner ∷ []) ++ cs) (sym (one-page word owner))
+              ∙ sym (cascaded-add (hashOf p g) f page d 1 (newStar k word owner ∷ []));
+          carried = λ word owner. sym (carried-past word owner) ∙ sym (carried-add (hashOf p g) f page d 1 (newStar k word owner ∷ []));
           true-homes =
-              unfold loweredOn passing homed in all-filter (λ x. eqb (hash p g .home (numberOf x)) (homeOf x)) (λ x. not (under p (page + d) (separatorFrom p (page + d) met stored) x)) met
+              unfold loweredOn passingWords homed in all-filter (λ x. eqb (hashOf p g .home (numberIn x)) (homeOf x)) (λ x. not (under p (page + d) (wordsSeparatorFrom p (page + d) met stored) x)) met
               (met-homed p g f valid sized (page + d) inside sound k unheld w (P .true-homes) (P .near) (P .before));
           near =
-              unfold loweredOn passing in all-filter (λ x. leb (homeOf x) (page + (d + 1))) (λ x. not (under p (page + d) (separatorFrom p (page + d) met stored) x)) met
+              unfold loweredOn passingWords in all-filter (λ x. leb (homeOf x) (page + (d + 1))) (λ x. not (under p (page + d) (wordsSeparatorFrom p (page + d) met stored) x)) met
               (all-mono (λ x. leb (homeOf x) (page + d)) (λ x. leb (homeOf x) (page + (d + 1))) met
               (λ x e. le-leb (homeOf x) (page + (d + 1)) (omega (arith, leb-true (homeOf x) (page + d) e)))
               (met-near p g f valid sized (page + d) inside sound k unheld w (P .true-homes) (P .near) (P .before)));
-          true-sources = unfold loweredOn passing in sourced-filter (f .numbers) k (λ x. not (under p (page + d) (separatorFrom p (page + d) met stored) x)) met met-sourced;
+          true-sources = unfold loweredOn passingWords in sourced-filter (f .numbers) k (λ x. not (under p (page + d) (wordsSeparatorFrom p (page + d) met stored) x)) met met-sourced;
           before = before-next;
         }

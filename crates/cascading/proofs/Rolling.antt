@@ -17,7 +17,7 @@ use Rattle.pages.specs.Position.{validNumber}
 use Rattle.placement.specs.File.{File, Sized}
 use Rattle.placement.specs.Hash.{soundAt, namedPage}
 use Rattle.waiting.specs.Words.{homeOf}
-use Rattle.waiting.specs.Settle.{Probing, separatorFrom}
+use Rattle.waiting.specs.Settle.{Probing, wordsSeparatorFrom}
 use Rattle.waiting.proofs.Lists.{all-append}
 use Rattle.waiting.proofs.Cutting.{separator-fits}
 use Rattle.entering.specs.declared.blocks.Reach.the-variants.{Ends}
@@ -137,7 +137,7 @@ module _ (p : Parameters) (g : Growth) (f : File) (k page : ℕ) (valid : validP
             omega (
               arith,
               settled .start,
-              parted p at (separatorFrom p at met stored) met,
+              parted p at (wordsSeparatorFrom p at met stored) met,
               separator-fits p at met stored,
               met-long,
               J .ends,

@@ -1,63 +1,43 @@
 -- What a page of the cascade keeps and carries on, over the words and over their stars, and where its sources and its separator are written.
-use mathlib.Core.Path.{_≡_, refl, sym, ap, _∙_}
+use mathlib.Core.Path.{_≡_, refl, ap, _∙_}
 use mathlib.Core.Bool.{true}
-use mathlib.Core.List.{List, [], _∷_, _++_, map, append-nil}
+use mathlib.Core.List.{List, [], _∷_, _++_, map}
 use Prim.Native.Nat.{ℕ, _+_, _-_, _*_, _≤_, _<_}
-use native.Mathlib.Nat.{le-refl, mul-one, one-mul}
-use native.Mathlib.Numerals.{add-one}
 use lib.Dec.{leb}
 use lib.ListN.{length, take, drop, getD, set}
-use lib.Seq.{set-split, take-at, drop-at, length-take-le}
+use Rattle.pages.specs.Page.{stretch}
+use Rattle.buffers.proofs.Written.{set-written}
 use Rattle.hashing.specs.declared.Parameters.{Parameters}
 use Rattle.hashing.specs.declared.Growth.{Growth}
 use Rattle.hashing.specs.Limits.{validParameters}
 use Rattle.placement.specs.Rule.{Star, Contents, separators}
 use Rattle.placement.specs.File.{File, Sized, padded, column, written}
-use Rattle.placement.specs.Hash.{soundAt}
+use Rattle.placement.specs.Hash.{soundAt, hashOf}
 use Rattle.placement.proofs.Mapping.{mapped}
 use Rattle.placement.proofs.Writing.{length-column}
 use Rattle.reach.specs.Cascade.{lowered, pushedTo, pushedOn}
 use Rattle.waiting.specs.Words.{sourceOf, homeOf}
-use Rattle.waiting.specs.Gather.{stretch}
 use Rattle.waiting.specs.declared.settling.Settled.{Settled}
-use Rattle.waiting.specs.Settle.{Settlement, staying, separatorFrom, slotsOf, homesUpTo}
+use Rattle.waiting.specs.Settle.{Settlement, stayingWords, wordsSeparatorFrom, homesUpTo}
 use Rattle.waiting.proofs.Lists.{all-append}
 use Rattle.waiting.proofs.Cutting.{separator-fits}
-use Rattle.planning.specs.Plans.{starOf, waits, homed}
+use Rattle.planning.specs.Plans.{waits, homed}
 use Rattle.planning.specs.Sources.{renamed}
 use Rattle.planning.proofs.Applying.{renamed-keeps}
 use Rattle.planning.proofs.Pouring.{length-waits}
 use Rattle.planning.proofs.RuleOverWords.{homed-append}
-use Rattle.planning.proofs.Placed.{probes-real, stretch-add, stretch-before}
-use Rattle.entering.specs.Entry.{Unheld, hash}
+use Rattle.planning.proofs.Stretch.{sources-column}
+use Rattle.planning.proofs.Placed.{probes-real, stretch-on, taken-on}
+use Rattle.entering.specs.Entry.{Unheld}
 use Rattle.cascading.specs.Arriving.{pageWords}
 use Rattle.cascading.specs.Cascade.{loweredTo, loweredOn, Lowered}
 use Rattle.cascading.proofs.Tying.{stay-tie, pass-tie, lower-tie}
 use Rattle.cascading.proofs.PageWords.{apart, page-homed, page-near, page-meets}
 
--- ---- where it is written
-
-words-waits : (l : List ℕ) → map (λ (s : Star). s .word) (waits l) ≡ map sourceOf (slotsOf l)
-unfolding waits starOf sourceOf
-words-waits l = go (slotsOf l)
-  where
-    go : (l : List ℕ) → map (λ (s : Star). s .word) (map starOf l) ≡ map sourceOf l
-    go [] = refl
-    go (x ∷ l) = ap (λ (s : List ℕ). sourceOf x ∷ s) (go l)
-
--- the sources of the slots are the page's column
-pub sources-column : (b v kept : ℕ) (slots l : List ℕ) → take kept slots ≡ slotsOf l
-    → padded b (map sourceOf (take kept slots)) ≡ column b (λ (s : Star). s .word) (record { separator = v; stars = waits l } ∷ [])
-unfolding column
-sources-column b v kept slots l e =
-    ap (padded b) (ap (map sourceOf) e ∙ sym (words-waits l)) ∙ sym (append-nil (padded b (map (λ (s : Star). s .word) (waits l))))
-
-pub set-written : (l : List ℕ) (i x : ℕ) → i < length l → set l i x ≡ written i (x ∷ []) l
-unfolding written
-set-written l i x h = set-split l i x h ∙ ap (λ (k : ℕ). take i l ++ (x ∷ drop k l)) (sym (add-one i))
+-- where it is written
 
 pub page-lowered : (p : Parameters) (q most : ℕ) (l : List ℕ) (reach : ℕ) (W W′ slots pool pool′ planned : List ℕ) (r : Settled)
-    → Settlement p q (separatorFrom p q l most) l reach W W′ slots r
+    → Settlement p q (wordsSeparatorFrom p q l most) l reach W W′ slots r
     → pool′ ≡ written (q * p .places) (padded (p .places) (map sourceOf (take (r .kept) slots))) pool → q < length planned
     → Lowered p q most l reach pool pool′ planned (set planned q (r .separator)) W′ (r .from)
 unfolding loweredTo loweredOn separators
@@ -66,7 +46,7 @@ page-lowered p q most l reach W W′ slots pool pool′ planned r S e h =
       sources =
           e
           ∙ ap (λ (s : List ℕ). written (q * p .places) s pool)
-          (sources-column (p .places) (separatorFrom p q l most) (r .kept) slots (staying p q (separatorFrom p q l most) l) (S .page));
+          (sources-column (p .places) (wordsSeparatorFrom p q l most) (r .kept) slots (stayingWords p q (wordsSeparatorFrom p q l most) l) (S .page));
       separator = set-written planned q (r .separator) h ∙ ap (λ (s : ℕ). written q (s ∷ []) planned) (S .separator);
       start = S .start;
       passed = S .passed;
@@ -75,45 +55,32 @@ page-lowered p q most l reach W W′ slots pool pool′ planned r S e h =
 -- at most b stay
 pub lowered-roomy : (p : Parameters) (q most : ℕ) (l : List ℕ) → length (loweredTo p q most l .stars) ≤ p .places
 unfolding loweredTo
-lowered-roomy p q most l = rw (length-waits (staying p q (separatorFrom p q l most) l)) (separator-fits p q l most)
+lowered-roomy p q most l = rw (length-waits (stayingWords p q (wordsSeparatorFrom p q l most) l)) (separator-fits p q l most)
 
 -- a stretch that goes on with one page
-stretch-there : (b lo n : ℕ) (s d : List ℕ) → length s ≡ n * b → lo * b ≤ length d → stretch b lo n (written (lo * b) s d) ≡ s
-unfolding written
-stretch-there b lo n s d e h =
-    ap (take (n * b)) (drop-at (take (lo * b) d) (s ++ drop (lo * b + length s) d) (lo * b) (length-take-le (lo * b) d h))
-    ∙ take-at s (drop (lo * b + length s) d) (n * b) e
-
-stretch-on : (b lo n : ℕ) (s d : List ℕ) → length s ≡ b → (lo + n) * b ≤ length d
-    → stretch b lo (n + 1) (written ((lo + n) * b) s d) ≡ stretch b lo n d ++ s
-stretch-on b lo n s d e h =
-    stretch-add b lo n 1 (written ((lo + n) * b) s d)
-    ∙ ap (λ (x : List ℕ). x ++ stretch b (lo + n) 1 (written ((lo + n) * b) s d)) (stretch-before b lo n ((lo + n) * b) s d (le-refl ((lo + n) * b)) h)
-    ∙ ap (λ (x : List ℕ). stretch b lo n d ++ x) (stretch-there b (lo + n) 1 s d (e ∙ sym (one-mul b)) h)
-
 pub sources-on : (b lo n : ℕ) (c : Contents) (d : List ℕ) → length (c .stars) ≤ b → (lo + n) * b ≤ length d
-    → stretch b lo (n + 1) (written ((lo + n) * b) (column b (λ (s : Star). s .word) (c ∷ [])) d) ≡ stretch b lo n d ++ column b (λ (s : Star). s .word) (c ∷ [])
+    → stretch b lo (n + 1) (written ((lo + n) * b) (column b (λ (s : Star). s .payload .word) (c ∷ [])) d) ≡ stretch b lo n d ++ column b (λ (s : Star). s .payload .word) (c ∷ [])
 sources-on b lo n c d r h =
-    stretch-on b lo n (column b (λ (s : Star). s .word) (c ∷ [])) d (length-column b (λ (s : Star). s .word) (c ∷ []) (r, tt) ∙ one-mul b) h
+    stretch-on b lo n 1 (column b (λ (s : Star). s .payload .word) (c ∷ [])) d (length-column b (λ (s : Star). s .payload .word) (c ∷ []) (r, tt)) h
 
 pub separators-on : (lo n : ℕ) (c : Contents) (d : List ℕ) → lo + n ≤ length d
     → take (n + 1) (drop lo (written (lo + n) (separators (c ∷ [])) d)) ≡ take n (drop lo d) ++ separators (c ∷ [])
 unfolding separators
-separators-on lo n c d h = simp mul-one at (stretch-on 1 lo n (c .separator ∷ []) d refl (rw (mul-one (lo + n)) h))
+separators-on lo n c d h = taken-on lo n 1 (c .separator ∷ []) d refl h
 
--- ---- what it is
+-- what it is
 
 module _ (p : Parameters) (g : Growth) (f : File) (valid : validParameters p ≡ true) (sized : Sized (p .places) (p .pages) f)
     (q : ℕ) (inside : q < p .pages) (sound : soundAt p g f q ≡ true) (k : ℕ) (unheld : Unheld p g f k)
-    (w : List ℕ) (hw : homed (hash p g) w ≡ true) (nw : homesUpTo q w ≡ true) (before : apart p g f k q w ≡ true) where
+    (w : List ℕ) (hw : homed (hashOf p g) w ≡ true) (nw : homesUpTo q w ≡ true) (before : apart p g f k q w ≡ true) where
   abbrev met : List ℕ
   met = w ++ pageWords p g f q
 
   abbrev stored : ℕ
   stored = getD (f .separators) q 0
 
-  pub met-homed : homed (hash p g) met ≡ true
-  met-homed = homed-append (hash p g) p (probes-real p g) w (pageWords p g f q) hw (page-homed p g f valid sized q inside sound)
+  pub met-homed : homed (hashOf p g) met ≡ true
+  met-homed = homed-append (hashOf p g) p (probes-real p g) w (pageWords p g f q) hw (page-homed p g f valid sized q inside sound)
 
   pub met-near : homesUpTo q met ≡ true
   met-near = all-append (λ x. leb (homeOf x) q) w (pageWords p g f q) nw (page-near p g f valid sized q inside sound)
@@ -122,23 +89,23 @@ module _ (p : Parameters) (g : Growth) (f : File) (valid : validParameters p ≡
     abbrev rename : Star → Star
     rename = renamed (f .words) (f .owners) word owner
 
-    lowers : lowered (hash p g) f q (map rename (waits w)) ≡ separatorFrom p q met stored
+    lowers : lowered (hashOf p g) f q (map rename (waits w)) ≡ wordsSeparatorFrom p q met stored
     unfolding lowered
     lowers =
         rw (← page-meets p g f valid sized q inside sound k unheld w before word owner)
-        (lower-tie (hash p g) p (probes-real p g) rename (renamed-keeps (f .words) (f .owners) word owner) q met met-homed met-near stored)
+        (lower-tie (hashOf p g) p (probes-real p g) rename (renamed-keeps (f .words) (f .owners) word owner) q met met-homed met-near stored)
 
-    pub pushes-to : pushedTo (hash p g) f q (map rename (waits w)) ≡ mapped rename (loweredTo p q stored met)
+    pub pushes-to : pushedTo (hashOf p g) f q (map rename (waits w)) ≡ mapped rename (loweredTo p q stored met)
     unfolding pushedTo loweredTo
     pushes-to =
         rw (
           lowers,
           ← page-meets p g f valid sized q inside sound k unheld w before word owner,
-          stay-tie (hash p g) p (probes-real p g) rename (renamed-keeps (f .words) (f .owners) word owner) q met met-homed met-near (separatorFrom p q met stored),
+          stay-tie (hashOf p g) p (probes-real p g) rename (renamed-keeps (f .words) (f .owners) word owner) q met met-homed met-near (wordsSeparatorFrom p q met stored),
         )
 
-    pub pushes-on : pushedOn (hash p g) f q (map rename (waits w)) ≡ map rename (waits (loweredOn p q stored met))
+    pub pushes-on : pushedOn (hashOf p g) f q (map rename (waits w)) ≡ map rename (waits (loweredOn p q stored met))
     unfolding pushedOn loweredOn
     pushes-on =
         rw (lowers, ← page-meets p g f valid sized q inside sound k unheld w before word owner)
-        (pass-tie (hash p g) p (probes-real p g) rename (renamed-keeps (f .words) (f .owners) word owner) q met met-homed met-near (separatorFrom p q met stored))
+        (pass-tie (hashOf p g) p (probes-real p g) rename (renamed-keeps (f .words) (f .owners) word owner) q met met-homed met-near (wordsSeparatorFrom p q met stored))

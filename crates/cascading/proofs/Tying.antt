@@ -5,21 +5,21 @@ use mathlib.Core.List.{List, [], _∷_, _++_, map, map-append, append-nil}
 use Prim.Native.Nat.{ℕ, zero, suc, _+_}
 use native.Mathlib.Omega.{arith}
 use lib.ListN.{length, length-map}
+use Rattle.buffers.proofs.Tests.{and-true}
 use Rattle.hashing.specs.declared.Parameters.{Parameters}
 use Rattle.placement.specs.Rule.{Star, Hash, below, insert, pour}
 use Rattle.placement.specs.Rule.{staying as rule·staying, passing as rule·passing, separatorFrom as rule·separatorFrom}
 use Rattle.placement.proofs.Mapping.{Keeps, filter-map, staying-map}
 use Rattle.placement.proofs.Order.{pour-pour}
-use Rattle.waiting.specs.Lists.{filter, all}
+use Rattle.waiting.specs.Lists.{selected, all}
 use Rattle.waiting.specs.Words.{lowOf}
-use Rattle.waiting.specs.Settle.{under, staying, passing, separatorFrom, homesUpTo, pourLow, slotsOf, insertLow}
+use Rattle.waiting.specs.Settle.{under, stayingWords, passingWords, wordsSeparatorFrom, homesUpTo, pourLow, slotsOf, insertLow}
 use Rattle.waiting.proofs.Lists.{all-head, all-tail, all-append}
 use Rattle.waiting.proofs.Order.{pour-append}
 use Rattle.planning.specs.Plans.{starOf, waits, homed}
 use Rattle.planning.proofs.Pouring.{pour-cons, length-waits}
 use Rattle.planning.proofs.RuleOverWords.{Probes, beyond, staying-tie, passing-tie}
 use Rattle.planning.proofs.Sourcing.{leads, led, ordered, waits-cons, waits-poured}
-use Rattle.placement.proofs.Filters.{and-true}
 
 module _ (H : Hash) (q : Parameters) (real : Probes H q) (g : Star → Star) (keeps : Keeps g) (p : ℕ) (l : List ℕ) (hl : homed H l ≡ true) (nl : homesUpTo p l ≡ true) where
   none-homed : homed H [] ≡ true
@@ -30,24 +30,24 @@ module _ (H : Hash) (q : Parameters) (real : Probes H q) (g : Star → Star) (ke
   unfolding beyond all
   none-beyond = refl
 
-  pub stay-tie : (v : ℕ) → rule·staying H p v (map g (waits l)) ≡ map g (waits (staying q p v l))
+  pub stay-tie : (v : ℕ) → rule·staying H p v (map g (waits l)) ≡ map g (waits (stayingWords q p v l))
   stay-tie v =
       staying-map g keeps H p v (waits l)
       ∙ ap (map g) (rw (append-nil l) at (staying-tie H q real p l [] hl nl none-homed none-beyond v))
 
-  pub pass-tie : (v : ℕ) → rule·passing H p v (map g (waits l)) ≡ map g (waits (passing q p v l))
+  pub pass-tie : (v : ℕ) → rule·passing H p v (map g (waits l)) ≡ map g (waits (passingWords q p v l))
   unfolding rule·passing
   pass-tie v =
       filter-map g keeps (λ (k : ℕ). not (below H p v k)) (waits l)
-      ∙ ap (map g) (rw (append-nil l, append-nil (passing q p v l)) at (passing-tie H q real p l [] hl nl none-homed none-beyond v))
+      ∙ ap (map g) (rw (append-nil l, append-nil (passingWords q p v l)) at (passing-tie H q real p l [] hl nl none-homed none-beyond v))
 
-  pub lower-tie : (n : ℕ) → rule·separatorFrom H p (map g (waits l)) n ≡ separatorFrom q p l n
-  unfolding rule·separatorFrom separatorFrom
+  pub lower-tie : (n : ℕ) → rule·separatorFrom H p (map g (waits l)) n ≡ wordsSeparatorFrom q p l n
+  unfolding rule·separatorFrom wordsSeparatorFrom
   lower-tie zero = refl
   lower-tie (suc v) =
-      rw (lower-tie v, stay-tie (suc v), length-map (waits (staying q p (suc v) l)) g, length-waits (staying q p (suc v) l), real .room-is)
+      rw (lower-tie v, stay-tie (suc v), length-map (waits (stayingWords q p (suc v) l)) g, length-waits (stayingWords q p (suc v) l), real .room-is)
 
--- ---- words that join those that wait
+-- words that join those that wait
 
 -- in any order
 pub waits-swap : (a b : List ℕ) → waits (a ++ b) ≡ waits (b ++ a)
@@ -87,14 +87,14 @@ waits-joined w a o e =
     ∙ ap (λ (s : List Star). pour s (waits w)) (sym (waits-poured a o))
 
 -- those that stay and those that pass on are all
-pub parted : (q : Parameters) (p v : ℕ) (l : List ℕ) → length (staying q p v l) + length (passing q p v l) ≡ length l
-unfolding staying passing filter
+pub parted : (q : Parameters) (p v : ℕ) (l : List ℕ) → length (stayingWords q p v l) + length (passingWords q p v l) ≡ length l
+unfolding stayingWords passingWords selected
 parted q p v [] = refl
 parted q p v (x ∷ l) = go (under q p v x) (parted q p v l)
   where
-    go : (t : Bool) → length (filter (under q p v) l) + length (filter (λ w. not (under q p v w)) l) ≡ length l
-        → length (cond t (x ∷ filter (under q p v) l) (filter (under q p v) l))
-        + length (cond (not t) (x ∷ filter (λ w. not (under q p v w)) l) (filter (λ w. not (under q p v w)) l))
+    go : (t : Bool) → length (selected (under q p v) l) + length (selected (λ w. not (under q p v w)) l) ≡ length l
+        → length (cond t (x ∷ selected (under q p v) l) (selected (under q p v) l))
+        + length (cond (not t) (x ∷ selected (λ w. not (under q p v w)) l) (selected (λ w. not (under q p v w)) l))
         ≡ suc (length l)
     go true ih = omega arith
     go false ih = omega arith

@@ -5,9 +5,9 @@ ghost use Rattle.placement.specs.Ready.{Pooled};
 ghost use Rattle.entering.specs.Entry.{newStar};
 ghost use Rattle.cascading.specs.Cascade.{Enters, cascadeAnswer, cascadeFile};
 use crate::pushing::push;
-use entering::Entered;
 use entering::Reach;
 use hashing::Geometry;
+use planning::Outcome;
 
 // Enters a number that the file does not hold, from the page that the separators name for it. Nothing is written before the cascade has ended.
 pub fn cascade(
@@ -25,7 +25,7 @@ pub fn cascade(
     owner: u8,
     home: u32,
     page: usize,
-) -> Entered
+) -> Outcome
     requires { ⌜ Enters geometry (now table) (held separators numbers words owners) number home page ⌝ }
     requires { ⌜ Pooled (geometry .parameters) (now pool) (now waiting) (now poolowners) ⌝ }
     ensures { λ r. ⌜ r ≡ cascadeAnswer (geometry .parameters) (geometry .growth) (before separators numbers words owners) (newStar number word owner) page ⌝ }
@@ -47,8 +47,8 @@ pub fn cascade(
         home,
         page,
     ) {
-        Reach::Unsound(bad) => Entered::Unsound(bad),
-        Reach::Overflows => Entered::Overflows,
+        Reach::Unsound(bad) => Outcome::Unsound(bad),
+        Reach::Overflows => Outcome::Overflows,
         Reach::Ends(last) => {
             planning::apply(
                 separators,
@@ -67,7 +67,7 @@ pub fn cascade(
                 owner,
             );
             let on = placement::named_from(table, geometry, separators, number, home);
-            Entered::On(on)
+            Outcome::On(on)
         }
     }
 }

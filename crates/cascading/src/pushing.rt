@@ -116,7 +116,7 @@ pub fn push(
         );
         return Reach::Ends(page);
     }
-    let signs = hashing::probe_multipliers(geometry.parameters.multiplier);
+    let signs = generator::probe_multipliers(geometry.parameters.multiplier);
     push_along(
         table,
         &signs,

@@ -12,18 +12,16 @@ use lib.ListN.{length, getD, set, take, drop, length-set, length-drop, length-ma
 use lib.Seq.{getD-set-same, getD-set-other, getD-drop}
 use borrow.Author.Tests.{le-leb, lt-leb, lt-ltb, le-ltb, eq-eqb, ne-eqb, eqb-true, eqb-false}
 use Rattle.hashing.specs.declared.Geometry.{Geometry}
-use Rattle.hashing.specs.Generator.{topOf}
+use Rattle.generator.specs.Generator.{topOf}
 use Rattle.pages.specs.Page.{part}
 use Rattle.placement.specs.Rule.{Hash, keep, filter}
 use Rattle.placement.specs.Hash.{hashOf, homeIn, homesOf, homeUnder}
-use Rattle.comparing.specs.Raising.{passed, counted, countedItem, countOf, countTo, rises, raisable, hashUnder, firstRaisable, firstRising, one, Counts, Added}
+use Rattle.comparing.specs.Raising.{passed, countsOn, countedItem, countOn, countTo, mayRise, raisable, hashUnder, firstRaisable, firstRising, one, Counts, Added}
 use Rattle.calls.proofs.Alike.{such-same}
 
 one-most : (t : Bool) → one t ≤ 1
 one-most true = omega arith
 one-most false = omega arith
-
--- ---- counters
 
 pub added-none : (more : ℕ → ℕ) (l : List ℕ) → length l ≡ 1024 → ((p : ℕ) → more p ≡ 0) → Added more l l
 added-none more l e h = record { size = e; each = λ p k. omega (arith, h p) }
@@ -43,8 +41,6 @@ added-one l g e h = record { size = length-set l g (getD l g 0 + 1) ∙ e; each 
         let same : g ≡ p = eqb-true g p q in
         rw same (getD-set-same l p (getD l p 0 + 1) 0 (omega (arith, e)))
     go p k false q = getD-set-other l g p (getD l g 0 + 1) 0 (λ r. eqb-false g p q (sym r)) ∙ sym (add-zero (getD l p 0))
-
--- ---- the pages that a number passed
 
 module _ (H : Hash) (vs : List ℕ) (k : ℕ) where
   -- those below home and from q on are none of them
@@ -89,7 +85,7 @@ module _ (H : Hash) (vs : List ℕ) (k : ℕ) where
           rw (now, before, all-of t) (omega arith)
       go false r = rw (passed-other p q (eqb-false q p r), none t) (omega arith)
 
-  -- the pages from home up to the one before `next` are counted; none is where home is not below `page`
+  -- the pages from home up to the one before `next` are countsOn; none is where home is not below `page`
   pub record ProbesCounted (page next : ℕ) (entry exit : List ℕ) : Type 0 where
     pub low : H .home k ≤ next
     pub high : page < next → next ≡ H .home k
@@ -148,8 +144,6 @@ module _ (H : Hash) (vs : List ℕ) (k : ℕ) where
             let low : p < H .home k = omega (arith, c .high (omega arith)) in
             rw (passed-low p page low, passed-low p next low)
 
--- ---- the numbers of a page
-
 -- a star's home among those of a file's numbers
 pub home-item : (g : Geometry) (ns : List ℕ) (j : ℕ) → (getD ns j 0 ≡ 0 → ⊥) → getD (homesOf (g .parameters) (g .growth) ns) j 0 ≡ homeUnder g (getD ns j 0)
 unfolding homesOf
@@ -187,7 +181,7 @@ taken-most q (x ∷ l) (suc i) = go (q x) (taken-most q l i)
     go false ih = omega (arith, ih)
 
 pub count-most : (H : Hash) (vs ns : List ℕ) (p n : ℕ) → countTo H vs ns p n ≤ n * H .room
-unfolding countTo countOf part
+unfolding countTo countOn part
 count-most H vs ns p zero = omega arith
 count-most H vs ns p (suc n) =
     omega (arith, suc-mul n (H .room), count-most H vs ns p n, taken-most (countedItem H vs p n) (drop (n * H .room) ns) (H .room))
@@ -196,7 +190,7 @@ module _ (H : Hash) (vs ns : List ℕ) (page : ℕ) where
   abbrev some : ℕ → ℕ → ℕ
   some i p = length (filter (countedItem H vs p page) (take i (drop (page * H .room) ns)))
 
-  -- the first i numbers of the page are counted
+  -- the first i numbers of the page are countsOn
   pub record PlacesCounted (i : ℕ) (entry exit : List ℕ) : Type 0 where
     pub upto : i ≤ H .room
     pub added : Added (some i) entry exit
@@ -206,7 +200,7 @@ module _ (H : Hash) (vs ns : List ℕ) (page : ℕ) where
   places-none l e = record { upto = omega arith; added = added-none _ l e (λ p. refl) }
 
   item-counts : (p n : ℕ) → (n ≡ 0 → ⊥) → one (countedItem H vs p page n) ≡ one (eqb page p) + one (passed H vs p page n)
-  unfolding counted
+  unfolding countsOn
   item-counts p n h = rw (ne-eqb n 0 h) (go (eqb page p) refl)
     where
       go : (t : Bool) → eqb page p ≡ t → one (t || passed H vs p page n) ≡ one t + one (passed H vs p page n)
@@ -248,23 +242,21 @@ module _ (H : Hash) (vs ns : List ℕ) (page : ℕ) where
       let a = added-one exit page (c .added .size) inside in
       (a .size, λ p k. omega (arith, a .each p k, one-most (eqb page p), places-fits i n entry exit c (most .1) p k))
 
-  pub places-all : (i : ℕ) (entry exit : List ℕ) → PlacesCounted i entry exit → H .room ≤ i → Added (λ p. countOf H vs ns p page) entry exit
-  unfolding countOf part
+  pub places-all : (i : ℕ) (entry exit : List ℕ) → PlacesCounted i entry exit → H .room ≤ i → Added (λ p. countOn H vs ns p page) entry exit
+  unfolding countOn part
   places-all i entry exit c h =
       let e : H .room ≡ i = omega (arith, c .upto) in
       added-same (some i) (some (H .room)) entry exit (c .added) (λ p. ap (λ (j : ℕ). some j p) e)
-
--- ---- all pages
 
 pub pages-none : (H : Hash) (vs ns l : List ℕ) → length l ≡ 1024 → Added (λ p. countTo H vs ns p 0) l l
 unfolding countTo
 pages-none H vs ns l e = added-none _ l e (λ p. refl)
 
 module _ (H : Hash) (vs ns : List ℕ) (n : ℕ) (entry exit : List ℕ) (c : Added (λ p. countTo H vs ns p n) entry exit) where
-  pub pages-next : (after : List ℕ) → Added (λ p. countOf H vs ns p n) exit after → Added (λ p. countTo H vs ns p (n + 1)) entry after
+  pub pages-next : (after : List ℕ) → Added (λ p. countOn H vs ns p n) exit after → Added (λ p. countTo H vs ns p (n + 1)) entry after
   unfolding countTo
   pages-next after a =
-      added-then (λ p. countTo H vs ns p n) (λ p. countOf H vs ns p n) (λ p. countTo H vs ns p (n + 1)) entry exit after c a (λ p. rw (add-one n))
+      added-then (λ p. countTo H vs ns p n) (λ p. countOn H vs ns p n) (λ p. countTo H vs ns p (n + 1)) entry exit after c a (λ p. rw (add-one n))
 
   pub pages-counts : (m : ℕ) → Counts 0 entry → n * H .room ≤ m → Counts m exit
   pages-counts m none h = (c .size, λ p k. omega (arith, c .each p k, none .1 p k, count-most H vs ns p n))
@@ -280,7 +272,7 @@ pub rising-raisable : (g : Geometry) (vs ns entry counts : List ℕ) → g .para
 unfolding raisable hashOf
 rising-raisable g vs ns entry counts few none c =
     such-same _ (raisable (hashUnder g) (g .parameters .pages) vs ns) 0 (g .parameters .pages)
-    (λ q h. ap (rises (topOf (g .parameters .bits)) (g .parameters .places) (getD vs q 0)) (counter q (omega arith)))
+    (λ q h. ap (mayRise (topOf (g .parameters .bits)) (g .parameters .places) (getD vs q 0)) (counter q (omega arith)))
   where
     counter : (q : ℕ) → q < 1024 → getD counts q 0 ≡ countTo (hashUnder g) vs ns q (g .parameters .pages)
     counter q h = omega (arith, c .each q h, none .1 q h)

@@ -1,6 +1,6 @@
 -- The search of the first spot at which two files differ: what is known at a place of a page.
-use mathlib.Core.Path.{_≡_, refl, ap}
-use mathlib.Core.Bool.{Bool, true, false, not, _||_}
+use mathlib.Core.Path.{_≡_, ap}
+use mathlib.Core.Bool.{Bool, true, false, not, or-true}
 use Prim.Native.Nat.{ℕ, suc, _+_, _*_, _≤_, _<_}
 use native.Mathlib.Nat.{zero-mul, zero-add, add-suc, suc-mul, mul-le-mul-right}
 use native.Mathlib.Numerals.{add-one}
@@ -12,10 +12,6 @@ use Rattle.placement.specs.File.{File}
 use Rattle.reach.proofs.Search.{Sought, sought-none, sought-next, sought-found, sought-all}
 use Rattle.calls.specs.Spots.{differ, differAt, spotIn}
 use Rattle.calls.proofs.Spots.{spot-page, spot-place, spot-within}
-
-or-true : (t : Bool) → t || true ≡ true
-or-true true = refl
-or-true false = refl
 
 -- what differs at a place of a page
 module _ (places : ℕ) (f l : File) (page place : ℕ) where

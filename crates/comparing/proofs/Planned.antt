@@ -9,32 +9,34 @@ use lib.Dec.{eqb, ltb}
 use lib.ListN.{length, take, drop, getD, length-map}
 use lib.Seq.{paste, take-all, length-take-le, getD-take}
 use borrow.Author.Tests.{lt-ltb, ne-eqb}
+use Rattle.pages.specs.Page.{stretch}
+use Rattle.buffers.proofs.Written.{pasted-whole, written-whole}
+use Rattle.buffers.specs.Lists.{written}
 use Rattle.hashing.specs.declared.Parameters.{Parameters}
 use Rattle.hashing.specs.declared.Growth.{Growth}
-use Rattle.hashing.specs.Generator.{multiplierOf}
+use Rattle.hashing.specs.Geometry.{multiplierOf}
 use Rattle.hashing.specs.Limits.{validParameters, validGrowth}
 use Rattle.hashing.proofs.Bounds.{limits}
-use Rattle.hashing.proofs.Laws.{home-pages}
+use Rattle.hashing.proofs.Homes.{home-pages}
 use Rattle.pages.specs.Position.{validWord}
 use Rattle.placement.specs.Rule.{Star, pages, without}
-use Rattle.placement.specs.File.{File, Sized, greatest, gathered, replaced, written}
+use Rattle.placement.specs.File.{File, Sized, greatest, gathered, replaced}
 use Rattle.placement.specs.Hash.{hashOf, homeIn, homesOf, lent}
 use Rattle.placement.proofs.Filters.{filter-all-on}
 use Rattle.placement.proofs.Sound.{gathered-proper}
 use Rattle.placement.proofs.Tested.{item-on, real-facts}
 use Rattle.waiting.specs.Lists.{all, allBelow}
-use Rattle.waiting.specs.Gather.{starsIn, stretch, stretchWords}
+use Rattle.waiting.specs.Gather.{starsIn, stretchWords}
 use Rattle.waiting.proofs.Lists.{all-cons, all-items}
-use Rattle.planning.specs.Sources.{named, sourced}
+use Rattle.planning.specs.Sources.{namedItem, sourced}
 use Rattle.planning.specs.Plans.{Planned}
-use Rattle.planning.proofs.Copies.{pasted-whole}
 use Rattle.planning.proofs.Applying.{applied}
 use Rattle.planning.proofs.Sourcing.{itemHome}
 use Rattle.planning.proofs.Placed.{Gatherable, probes-real, homes-real, stretch-sourced, placed, layout, applied-layout}
 use Rattle.reach.specs.Reach.{firstUnsound}
 use Rattle.calls.specs.Spots.{spotIn, firstSpot, ruled}
 use Rattle.calls.proofs.Alike.{Alike, spot-alike}
-use Rattle.calls.proofs.Ruled.{all-sound, written-whole}
+use Rattle.calls.proofs.Ruled.{all-sound}
 use Rattle.calls.proofs.Refusals.{items-most}
 use Rattle.waiting.proofs.Gathered.{starsIn-most}
 
@@ -138,9 +140,9 @@ module _ (p : Parameters) (g : Growth) (f : File) (valid : validParameters p ≡
   -- .. so that comparing with what it fetches is comparing with the rule
   pub spot-ruled : (pool′ planned′ W′ O′ pool″ W″ O″ : List ℕ) → applied (p .places) 0 (p .pages) 0 0 0 pool′ planned′ f ≡ ruled p g f
       → length pool′ ≡ p .pages * p .places → length W′ ≡ p .pages * p .places → length O′ ≡ p .pages * p .places → p .pages ≤ length planned′
-      → pool″ ≡ paste pool′ 0 (map (named (f .numbers) 0) (drop 0 pool′)) (p .pages * p .places)
-      → W″ ≡ paste W′ 0 (map (named (f .words) 0) (drop 0 pool′)) (p .pages * p .places)
-      → O″ ≡ paste O′ 0 (map (named (f .owners) 0) (drop 0 pool′)) (p .pages * p .places)
+      → pool″ ≡ paste pool′ 0 (map (namedItem (f .numbers) 0) (drop 0 pool′)) (p .pages * p .places)
+      → W″ ≡ paste W′ 0 (map (namedItem (f .words) 0) (drop 0 pool′)) (p .pages * p .places)
+      → O″ ≡ paste O′ 0 (map (namedItem (f .owners) 0) (drop 0 pool′)) (p .pages * p .places)
       → spotIn (p .pages) (p .places) f (lent planned′ pool″ W″ O″) ≡ firstSpot p f (ruled p g f)
   unfolding firstSpot
   spot-ruled pool′ planned′ W′ O′ pool″ W″ O″ e lp lw lo ld ep ew eo =
@@ -149,12 +151,12 @@ module _ (p : Parameters) (g : Growth) (f : File) (valid : validParameters p ≡
     where
       -- the items fetched into d are the items applied to l
       fetched : (l d : List ℕ) → length l ≡ p .pages * p .places → length d ≡ p .pages * p .places
-          → paste d 0 (map (named l 0) pool′) (p .pages * p .places) ≡ written (0 * p .places) (map (named l 0) (stretch (p .places) 0 (p .pages) pool′)) l
+          → paste d 0 (map (namedItem l 0) pool′) (p .pages * p .places) ≡ written (0 * p .places) (map (namedItem l 0) (stretch (p .places) 0 (p .pages) pool′)) l
       fetched l d el ed =
-          pasted-whole d (map (named l 0) pool′) (p .pages * p .places) ed (length-map pool′ (named l 0) ∙ lp)
+          pasted-whole d (map (namedItem l 0) pool′) (p .pages * p .places) ed (length-map pool′ (namedItem l 0) ∙ lp)
           ∙ sym
           (rw (whole (p .places) (p .pages) pool′ lp, zero-mul (p .places))
-          (written-whole (map (named l 0) pool′) l (length-map pool′ (named l 0) ∙ lp ∙ sym el)))
+          (written-whole (map (namedItem l 0) pool′) l (length-map pool′ (namedItem l 0) ∙ lp ∙ sym el)))
 
       separators-written : written 0 (take (p .pages) planned′) (f .separators) ≡ take (p .pages) planned′
       separators-written = written-whole (take (p .pages) planned′) (f .separators) (length-take-le (p .pages) planned′ ld ∙ sym (sized .ofSeparators))

@@ -13,7 +13,7 @@ use lib.ListN.{length, getD, take, drop}
 use lib.Seq.{ext-getD, take-all}
 use borrow.Author.Tests.{leb-false, ltb-false, le-leb, lt-leb, lt-ltb, le-ltb, eq-eqb, ne-eqb, eqb-true, eqb-false}
 use Rattle.pages.specs.Page.{part}
-use Rattle.placement.specs.Rule.{Star, Hash, keep, filter, below, staying, passing, separatorOf, contentsOf, onward, pages, first, pour, separators, blank}
+use Rattle.placement.specs.Rule.{Star, Hash, keep, filter, below, staying, passing, separatorOf, contentsOf, onward, pages, first, pour, separators, blank, starWith}
 use Rattle.placement.specs.File.{File, starsOf, starsAt, contentsAt, pagesAt, gathered, laid, fileOf, Sized, Clean}
 use Rattle.placement.proofs.Filters.{filter-ext, filter-ext-on, filter-filter}
 use Rattle.placement.proofs.Separator.{stays, below-mono, sep-great, sep-unique}
@@ -24,9 +24,7 @@ use Rattle.placement.proofs.Order.{Sorted, filter-pour, length-pour, sorted-pou
 use Rattle.placement.proofs.Writing.{getD-separators, length-part}
 use Rattle.placement.proofs.Files.{length-pagesAt}
 use Rattle.placement.proofs.Sound.{AllSound, gathered-add, stands-gathered, sound-holds, clean-said}
-use Rattle.comparing.specs.Raising.{passed, counted, countOf, countTo, raisable}
-
--- ---- the rule's separators are those that hold the stars and could not be one greater
+use Rattle.comparing.specs.Raising.{passed, countsOn, countOn, countTo, raisable}
 
 -- Of the separators vs, from page p, each below top would keep more than room of w if it were one greater.
 abbrev pub Unraisable : Hash → ℕ → List ℕ → List Star → Type 0
@@ -48,8 +46,6 @@ rule-unraisable H p (suc n) w = (λ h. go (decLe (length (staying H p (suc (sepa
     go : Dec (length (staying H p (suc (separatorOf H p w)) w) ≤ H .room) → separatorOf H p w < H .top → H .room < length (staying H p (suc (separatorOf H p w)) w)
     go (yes d) h = absurd (omega (arith, sep-great H p w (suc (separatorOf H p w)) h d))
     go (no d) h = omega arith
-
--- ---- the same, page by page
 
 -- The star is on no page below p + i, and would be below that page's separator if it were one greater.
 abbrev within : Hash → ℕ → List ℕ → ℕ → Star → Bool
@@ -88,8 +84,6 @@ unraisable-each H p [] w t i k h = absurd (omega arith)
 unraisable-each H p (v ∷ vs) w t zero k h = rw (within-here H p v vs w) (t .0 h)
 unraisable-each H p (v ∷ vs) w t (suc i) k h = rw (within-later H p v i vs w) (unraisable-each H (suc p) vs (passing H p v w) (t .1) i (omega arith) h)
 
--- ---- what counts on a page
-
 -- A signature not below v is below v + 1 if it is v.
 next-signature : (x v : ℕ) → v ≤ x → ltb x (suc v) ≡ eqb x v
 next-signature x v h = go (eqb x v) refl
@@ -108,8 +102,8 @@ below-next H p v k e = go (leb (H .home k) p) e
 
 -- Of the numbers with a first page, those within are those that count.
 within-counted : (H : Hash) (vs : List ℕ) (p k : ℕ) → p < length vs
-    → leb (0 + p) (first H 0 vs k) && below H (0 + p) (suc (getD vs p 0)) k ≡ counted H vs p (first H 0 vs k) k
-unfolding counted passed
+    → leb (0 + p) (first H 0 vs k) && below H (0 + p) (suc (getD vs p 0)) k ≡ countsOn H vs p (first H 0 vs k) k
+unfolding countsOn passed
 within-counted H vs p k h = rw (zero-add p) (go (decLt (first H 0 vs k) p) (decLt p (first H 0 vs k)))
   where
     F : ℕ
@@ -142,12 +136,12 @@ count-stars q (n ∷ ns) (w ∷ ws) (o ∷ os) e eo = go (eqb n 0) (count-stars 
   where
     go : (t : Bool) → length (filter (λ (m : ℕ). not (eqb m 0) && q m) ns) ≡ length (filter (λ (s : Star). q (s .number)) (starsOf ns ws os))
         → length (keep (not t && q n) n (filter (λ (m : ℕ). not (eqb m 0) && q m) ns))
-        ≡ length (filter (λ (s : Star). q (s .number)) (keep (not t) (record { number = n; word = w; owner = o }) (starsOf ns ws os)))
+        ≡ length (filter (λ (s : Star). q (s .number)) (keep (not t) (starWith n w o) (starsOf ns ws os)))
     go true ih = ih
     go false ih =
         length-keep (q n) n (filter (λ (m : ℕ). not (eqb m 0) && q m) ns)
         ∙ ap (λ (k : ℕ). cond (q n) 1 0 + k) ih
-        ∙ sym (length-keep (q n) (record { number = n; word = w; owner = o }) (filter (λ (s : Star). q (s .number)) (starsOf ns ws os)))
+        ∙ sym (length-keep (q n) (starWith n w o) (filter (λ (s : Star). q (s .number)) (starsOf ns ws os)))
 
 gathered-next : (b : ℕ) (f : File) (n : ℕ) → gathered b f 0 (suc n) ≡ pour (gathered b f 0 n) (pour (starsAt b f n) [])
 unfolding gathered
@@ -165,8 +159,6 @@ count-next q b f n =
     ∙ length-poured q (gathered b f 0 n) (pour (starsAt b f n) []) (sorted-pour (starsAt b f n) [] tt)
     ∙ ap (λ (k : ℕ). length (filter q (gathered b f 0 n)) + k) (length-poured q (starsAt b f n) [] tt ∙ add-zero (length (filter q (starsAt b f n))))
 
--- ---- a file of sound pages
-
 getD-pagesAt : (b : ℕ) (f : File) (p n i : ℕ) → i < n → getD (pagesAt b f p n) i blank ≡ contentsAt b f (p + i)
 unfolding pagesAt
 getD-pagesAt b f p zero i h = absurd (omega arith)
@@ -178,17 +170,17 @@ module _ (ok : ℕ → Bool) (H : Hash) (M : ℕ) (f : File) (sized : Sized (H .
   G = gathered (H .room) f 0 M
 
   abbrev here : ℕ → Star → Bool
-  here p s = counted H (f .separators) p (first H 0 (f .separators) (s .number)) (s .number)
+  here p s = countsOn H (f .separators) p (first H 0 (f .separators) (s .number)) (s .number)
 
-  count-page : (p q : ℕ) → q < M → countOf H (f .separators) (f .numbers) p q ≡ length (filter (here p) (starsAt (H .room) f q))
-  unfolding countOf starsAt
+  count-page : (p q : ℕ) → q < M → countOn H (f .separators) (f .numbers) p q ≡ length (filter (here p) (starsAt (H .room) f q))
+  unfolding countOn starsAt
   count-page p q h =
-      count-stars (counted H (f .separators) p q) (part (H .room) q (f .numbers)) (part (H .room) q (f .words)) (part (H .room) q (f .owners))
+      count-stars (countsOn H (f .separators) p q) (part (H .room) q (f .numbers)) (part (H .room) q (f .words)) (part (H .room) q (f .owners))
       (length-part (H .room) q M (f .numbers) (sized .ofNumbers) h ∙ sym (length-part (H .room) q M (f .words) (sized .ofWords) h))
       (length-part (H .room) q M (f .numbers) (sized .ofNumbers) h ∙ sym (length-part (H .room) q M (f .owners) (sized .ofOwners) h))
       ∙ ap length
-      (filter-ext-on (λ (s : Star). counted H (f .separators) p q (s .number)) (here p) (starsOf (part (H .room) q (f .numbers)) (part (H .room) q (f .words)) (part (H .room) q (f .owners)))
-      (λ s m. ap (λ (r : ℕ). counted H (f .separators) p r (s .number)) (sym (all q (omega arith) (omega arith) .here s m))))
+      (filter-ext-on (λ (s : Star). countsOn H (f .separators) p q (s .number)) (here p) (starsOf (part (H .room) q (f .numbers)) (part (H .room) q (f .words)) (part (H .room) q (f .owners)))
+      (λ s m. ap (λ (r : ℕ). countsOn H (f .separators) p r (s .number)) (sym (all q (omega arith) (omega arith) .here s m))))
 
   count-pages : (p n : ℕ) → n ≤ M → countTo H (f .separators) (f .numbers) p n ≡ length (filter (here p) (gathered (H .room) f 0 n))
   unfolding countTo gathered filter

@@ -8,7 +8,7 @@ use lib.ListN.{length, getD}
 use denote.Ref.{now}
 use Rattle.hashing.specs.declared.Parameters.{Parameters}
 use Rattle.hashing.specs.declared.Geometry.{Geometry}
-use Rattle.hashing.specs.Generator.{topOf}
+use Rattle.generator.specs.Generator.{topOf}
 use Rattle.pages.specs.Page.{part}
 use Rattle.placement.specs.Rule.{Hash, filter}
 use Rattle.placement.specs.Hash.{hashOf, homesOf}
@@ -20,29 +20,29 @@ unfoldable pub passed : Hash → List ℕ → ℕ → ℕ → ℕ → Bool
 passed H vs p q k = leb (H .home k) p && (ltb p q && eqb (H .signature k p) (getD vs p 0))
 
 -- it counts on page p: it stands there, or would if the separator were one greater
-unfoldable pub counted : Hash → List ℕ → ℕ → ℕ → ℕ → Bool
-counted H vs p q k = eqb q p || passed H vs p q k
+unfoldable pub countsOn : Hash → List ℕ → ℕ → ℕ → ℕ → Bool
+countsOn H vs p q k = eqb q p || passed H vs p q k
 
 -- "0 marks an empty place"
 abbrev pub countedItem : Hash → List ℕ → ℕ → ℕ → ℕ → Bool
-countedItem H vs p q n = not (eqb n 0) && counted H vs p q n
+countedItem H vs p q n = not (eqb n 0) && countsOn H vs p q n
 
 -- how many of the numbers ns of page q count on page p
-unfoldable pub countOf : Hash → List ℕ → List ℕ → ℕ → ℕ → ℕ
-countOf H vs ns p q = length (filter (countedItem H vs p q) (part (H .room) q ns))
+unfoldable pub countOn : Hash → List ℕ → List ℕ → ℕ → ℕ → ℕ
+countOn H vs ns p q = length (filter (countedItem H vs p q) (part (H .room) q ns))
 
 -- how many of the first n pages' numbers
 unfoldable pub countTo : Hash → List ℕ → List ℕ → ℕ → ℕ → ℕ
 countTo H vs ns p zero = zero
-countTo H vs ns p (suc q) = countTo H vs ns p q + countOf H vs ns p q
+countTo H vs ns p (suc q) = countTo H vs ns p q + countOn H vs ns p q
 
 -- a separator v is below top, and with one greater at most room would stay
-abbrev pub rises : ℕ → ℕ → ℕ → ℕ → Bool
-rises top room v count = ltb v top && leb count room
+abbrev pub mayRise : ℕ → ℕ → ℕ → ℕ → Bool
+mayRise top room v count = ltb v top && leb count room
 
 -- so it is with page p's, of M pages
 unfoldable pub raisable : Hash → ℕ → List ℕ → List ℕ → ℕ → Bool
-raisable H M vs ns p = rises (H .top) (H .room) (getD vs p 0) (countTo H vs ns p M)
+raisable H M vs ns p = mayRise (H .top) (H .room) (getD vs p 0) (countTo H vs ns p M)
 
 abbrev pub hashUnder : Geometry → Hash
 hashUnder g = hashOf (g .parameters) (g .growth)
@@ -54,9 +54,7 @@ firstRaisable g vs ns = firstSuch (raisable (hashUnder g) (g .parameters .pages)
 -- the same by counters
 abbrev pub firstRising : Parameters → List ℕ → List ℕ → ℕ
 firstRising q vs counts =
-    firstSuch (λ (p : ℕ). rises (topOf (q .bits)) (q .places) (getD vs p 0) (getD counts p 0)) 0 (q .pages)
-
--- ---- counters, one for each page
+    firstSuch (λ (p : ℕ). mayRise (topOf (q .bits)) (q .places) (getD vs p 0) (getD counts p 0)) 0 (q .pages)
 
 abbrev pub one : Bool → ℕ
 one t = cond t 1 0

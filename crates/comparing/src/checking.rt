@@ -2,7 +2,8 @@
 ghost use mathlib.Core.Path.{_≡_};
 ghost use Prim.Native.Nat.{suc, _+_, _*_, _≤_};
 ghost use lib.ListN.{length};
-ghost use Rattle.hashing.specs.Generator.{multiplierOf, firstMultipliers};
+ghost use Rattle.generator.specs.Generator.{firstMultipliers};
+ghost use Rattle.hashing.specs.Geometry.{multiplierOf};
 ghost use Rattle.placement.specs.Hash.{homesOf};
 ghost use Rattle.placement.specs.Lent.{held, before};
 ghost use Rattle.placement.specs.Ready.{Ready, Pooled};

@@ -6,7 +6,7 @@ ghost use lib.ListN.{length};
 ghost use Rattle.hashing.specs.Limits.{validParameters};
 ghost use Rattle.placement.specs.Hash.{homeUnder};
 ghost use Rattle.placement.specs.Ready.{Signing};
-ghost use Rattle.comparing.specs.Raising.{passed, countOf, countTo, rises, one, Counts, Adds, Homed, hashUnder, firstRaisable, firstRising};
+ghost use Rattle.comparing.specs.Raising.{passed, countOn, countTo, mayRise, one, Counts, Adds, Homed, hashUnder, firstRaisable, firstRising};
 use hashing::Geometry;
 use hashing::Parameters;
 
@@ -30,7 +30,13 @@ fn count_passed(
     while next < page {
         let probed = next;
         next += 1;
-        let signature = hashing::signature(table, geometry.parameters, number, probed - home + 1);
+        let signature = generator::signature(
+            table,
+            geometry.parameters.multiplier,
+            geometry.parameters.bits,
+            number,
+            probed - home + 1,
+        );
         if signature == separators[probed] as u32 {
             counts[probed] += 1;
         }
@@ -51,7 +57,7 @@ fn count_page(
     requires { ⌜ Homed geometry (now separators) (now numbers) (now homes) ⌝ }
     requires { ⌜ Counts 32768 (now counts) ⌝ }
     requires { ⌜ page < geometry .parameters .pages ⌝ }
-    ensures { λ _. ⌜ Adds (λ p. countOf (hashUnder geometry) (now (separators .entry)) (now (numbers .entry)) p page) counts ⌝ }
+    ensures { λ _. ⌜ Adds (λ p. countOn (hashUnder geometry) (now (separators .entry)) (now (numbers .entry)) p page) counts ⌝ }
 {
     let places = geometry.parameters.places as usize;
     let first = page * places;
@@ -89,7 +95,7 @@ fn count_pages(
 }
 
 fn could_rise(separator: u8, top: u8, count: u32, places: u32) -> bool
-    ensures { λ r. ⌜ r ≡ rises top places separator count ⌝ }
+    ensures { λ r. ⌜ r ≡ mayRise top places separator count ⌝ }
 {
     separator < top && count <= places
 }
@@ -123,7 +129,7 @@ pub fn first_raisable(
     requires { ⌜ Homed geometry (now separators) (now numbers) (now homes) ⌝ }
     ensures { λ r. ⌜ r ≡ firstRaisable geometry (now (separators .entry)) (now (numbers .entry)) ⌝ }
 {
-    let table = hashing::multipliers(geometry.parameters.multiplier);
+    let table = generator::multipliers(geometry.parameters.multiplier);
     let mut counts = [0u32; 1024];
     count_pages(&table, geometry, separators, numbers, homes, &mut counts);
     first_rising(geometry.parameters, separators, &counts)

@@ -10,27 +10,29 @@ use lib.Dec.{eqb, ltb}
 use lib.ListN.{length, take, drop, getD, length-append}
 use lib.Seq.{drop-at, length-take-le}
 use borrow.Author.Tests.{eqb-true, eq-eqb}
+use Rattle.buffers.specs.Lists.{written}
+use Rattle.pages.specs.Page.{stretch}
 use Rattle.hashing.specs.declared.Parameters.{Parameters}
 use Rattle.hashing.specs.declared.Growth.{Growth}
 use Rattle.placement.specs.Rule.{Star, Hash, Contents, separators, pages, left, first, blank}
-use Rattle.placement.specs.File.{File, gathered, written, replaced}
-use Rattle.placement.specs.Hash.{namedPage, lent}
+use Rattle.placement.specs.File.{File, gathered, replaced}
+use Rattle.placement.specs.Hash.{namedPage, lent, hashOf}
 use Rattle.placement.proofs.Composition.{length-pages}
 use Rattle.placement.proofs.Order.{inserted}
 use Rattle.placement.proofs.Standing.{length-separators, looked-up, one-place, first-home-on, first-append}
-use Rattle.waiting.specs.Gather.{stretch}
-use Rattle.planning.specs.Sources.{named}
+use Rattle.planning.specs.Sources.{namedItem}
 use Rattle.planning.proofs.Applying.{applied}
+use Rattle.reach.proofs.Reaching.{is-empty}
 use Rattle.reach.specs.Reach.{pagesTo, entering, entersWithin, entryEnd, hasNumber, holding}
 use Rattle.reach.proofs.Search.{such}
 use Rattle.entering.specs.declared.blocks.Reach.the-variants.{Ends, Unsound, Overflows}
-use Rattle.entering.specs.declared.stretch.Entered.the-variants.{On, Unsound as entered·Unsound, Overflows as entered·Overflows}
-use Rattle.entering.specs.Entry.{hash, newStar, startOf, endOf, countOf, unsoundOf, contentsOf, reachAnswer, entryAnswer, entryFile, Applies}
-use Rattle.entering.proofs.Reached.{ending, empty-is, unsound-ends, overflows-ends}
+use Rattle.planning.specs.declared.outcome.Outcome.the-variants.{On, Unsound as outcome·Unsound, Overflows as outcome·Overflows}
+use Rattle.entering.specs.Entry.{newStar, entryStart, entryLast, entryCount, entryUnsound, entryContents, reachAnswer, entryAnswer, entryFile, Applies}
+use Rattle.entering.proofs.Reached.{ending, unsound-ends, overflows-ends}
 
--- ---- which page holds a number
+-- which page holds a number
 
-member-has : (k : ℕ) (l : List Star) (s : Star) → s .number ≡ k → List·Memᴰ s l → hasNumber k l ≡ true
+pub member-has : (k : ℕ) (l : List Star) (s : Star) → s .number ≡ k → List·Memᴰ s l → hasNumber k l ≡ true
 unfolding hasNumber
 member-has k [] s e m = absurd (List·Memᴰ·not-nil m)
 member-has k (t ∷ l) s e m =
@@ -98,7 +100,7 @@ first-written H a k vs us e h inside =
     size : length (take a us) ≡ a
     size = length-take-le a us h
 
--- ---- the answers
+-- the answers
 
 unsound-overflows : (page : ℕ) → Unsound page ≡ Overflows → ⊥
 unsound-overflows page e = let z : _≡_ {A = ℕ} 0 1 = cc in omega arith
@@ -124,78 +126,78 @@ ends-way false false stop bad last x y z e = absurd (overflows-ends stop (sym e)
 
 module _ (p : Parameters) (g : Growth) (f : File) (k word owner : ℕ) where
   abbrev unsoundHere : Bool
-  unsoundHere = ltb (unsoundOf p g f (newStar k word owner)) (startOf p g k + countOf p g f (newStar k word owner))
+  unsoundHere = ltb (entryUnsound p g f (newStar k word owner)) (entryStart p g k + entryCount p g f (newStar k word owner))
 
   abbrev entersHere : Bool
-  entersHere = entersWithin (hash p g) f (newStar k word owner) (endOf p g f (newStar k word owner))
+  entersHere = entersWithin (hashOf p g) f (newStar k word owner) (entryLast p g f (newStar k word owner))
 
-  pub unsound-answer : (page : ℕ) → Unsound page ≡ reachAnswer p g f (newStar k word owner) → (entered·Unsound page ≡ entryAnswer p g f (newStar k word owner)) × (f ≡ entryFile p g f (newStar k word owner))
+  pub unsound-answer : (page : ℕ) → Unsound page ≡ reachAnswer p g f (newStar k word owner) → (outcome·Unsound page ≡ entryAnswer p g f (newStar k word owner)) × (f ≡ entryFile p g f (newStar k word owner))
   unfolding reachAnswer entryAnswer entryFile
   unsound-answer page e =
-      let a = unsound-way unsoundHere entersHere page (unsoundOf p g f (newStar k word owner)) (endOf p g f (newStar k word owner)) (entered·Unsound (unsoundOf p g f (newStar k word owner))) (On (holding k (startOf p g k) (contentsOf p g f (newStar k word owner)))) entered·Overflows e in
-      let b = unsound-way unsoundHere entersHere page (unsoundOf p g f (newStar k word owner)) (endOf p g f (newStar k word owner)) f (replaced (p .places) f (startOf p g k) (contentsOf p g f (newStar k word owner))) f e in
-      (ap entered·Unsound (a .0) ∙ sym (a .1), sym (b .1))
+      let a = unsound-way unsoundHere entersHere page (entryUnsound p g f (newStar k word owner)) (entryLast p g f (newStar k word owner)) (outcome·Unsound (entryUnsound p g f (newStar k word owner))) (On (holding k (entryStart p g k) (entryContents p g f (newStar k word owner)))) outcome·Overflows e in
+      let b = unsound-way unsoundHere entersHere page (entryUnsound p g f (newStar k word owner)) (entryLast p g f (newStar k word owner)) f (replaced (p .places) f (entryStart p g k) (entryContents p g f (newStar k word owner))) f e in
+      (ap outcome·Unsound (a .0) ∙ sym (a .1), sym (b .1))
 
-  pub overflows-answer : Overflows ≡ reachAnswer p g f (newStar k word owner) → (entered·Overflows ≡ entryAnswer p g f (newStar k word owner)) × (f ≡ entryFile p g f (newStar k word owner))
+  pub overflows-answer : Overflows ≡ reachAnswer p g f (newStar k word owner) → (outcome·Overflows ≡ entryAnswer p g f (newStar k word owner)) × (f ≡ entryFile p g f (newStar k word owner))
   unfolding reachAnswer entryAnswer entryFile
   overflows-answer e = (
-    sym (overflows-way unsoundHere entersHere (unsoundOf p g f (newStar k word owner)) (endOf p g f (newStar k word owner)) (entered·Unsound (unsoundOf p g f (newStar k word owner))) (On (holding k (startOf p g k) (contentsOf p g f (newStar k word owner)))) entered·Overflows e),
-    sym (overflows-way unsoundHere entersHere (unsoundOf p g f (newStar k word owner)) (endOf p g f (newStar k word owner)) f (replaced (p .places) f (startOf p g k) (contentsOf p g f (newStar k word owner))) f e),
+    sym (overflows-way unsoundHere entersHere (entryUnsound p g f (newStar k word owner)) (entryLast p g f (newStar k word owner)) (outcome·Unsound (entryUnsound p g f (newStar k word owner))) (On (holding k (entryStart p g k) (entryContents p g f (newStar k word owner)))) outcome·Overflows e),
+    sym (overflows-way unsoundHere entersHere (entryUnsound p g f (newStar k word owner)) (entryLast p g f (newStar k word owner)) f (replaced (p .places) f (entryStart p g k) (entryContents p g f (newStar k word owner))) f e),
   )
 
   module _ (last : ℕ) (e : Ends last ≡ reachAnswer p g f (newStar k word owner)) where
-    file-way : (last ≡ endOf p g f (newStar k word owner)) × (entersHere ≡ true) × (entryFile p g f (newStar k word owner) ≡ replaced (p .places) f (startOf p g k) (contentsOf p g f (newStar k word owner)))
+    file-way : (last ≡ entryLast p g f (newStar k word owner)) × (entersHere ≡ true) × (entryFile p g f (newStar k word owner) ≡ replaced (p .places) f (entryStart p g k) (entryContents p g f (newStar k word owner)))
     unfolding reachAnswer entryFile
-    file-way = ends-way unsoundHere entersHere last (unsoundOf p g f (newStar k word owner)) (endOf p g f (newStar k word owner)) f (replaced (p .places) f (startOf p g k) (contentsOf p g f (newStar k word owner))) f e
+    file-way = ends-way unsoundHere entersHere last (entryUnsound p g f (newStar k word owner)) (entryLast p g f (newStar k word owner)) f (replaced (p .places) f (entryStart p g k) (entryContents p g f (newStar k word owner))) f e
 
-    pub last-least : startOf p g k ≤ last
+    pub last-least : entryStart p g k ≤ last
     unfolding entryEnd
-    last-least = rw (file-way .0) (such (ending p g f (newStar k word owner)) (startOf p g k) (p .pages - 1 - startOf p g k) .low)
+    last-least = rw (file-way .0) (such (ending p g f (newStar k word owner)) (entryStart p g k) (p .pages - 1 - entryStart p g k) .low)
 
-    nothing-left : left (hash p g) (startOf p g k) (countOf p g f (newStar k word owner)) (entering (hash p g) f (newStar k word owner) (endOf p g f (newStar k word owner))) ≡ []
+    nothing-left : left (hashOf p g) (entryStart p g k) (entryCount p g f (newStar k word owner)) (entering (hashOf p g) f (newStar k word owner) (entryLast p g f (newStar k word owner))) ≡ []
     unfolding entersWithin
-    nothing-left = empty-is (left (hash p g) (startOf p g k) (countOf p g f (newStar k word owner)) (entering (hash p g) f (newStar k word owner) (endOf p g f (newStar k word owner)))) (file-way .1)
+    nothing-left = is-empty (left (hashOf p g) (entryStart p g k) (entryCount p g f (newStar k word owner)) (entering (hashOf p g) f (newStar k word owner) (entryLast p g f (newStar k word owner)))) (file-way .1)
 
-    new-waits : List·Memᴰ (newStar k word owner) (entering (hash p g) f (newStar k word owner) (endOf p g f (newStar k word owner)))
+    new-waits : List·Memᴰ (newStar k word owner) (entering (hashOf p g) f (newStar k word owner) (entryLast p g f (newStar k word owner)))
     unfolding entering
-    new-waits = inserted (newStar k word owner) (gathered (hash p g .room) f (startOf p g k) (countOf p g f (newStar k word owner)))
+    new-waits = inserted (newStar k word owner) (gathered (hashOf p g .room) f (entryStart p g k) (entryCount p g f (newStar k word owner)))
 
     -- the page that the new separators name
-    pub named-holds : startOf p g k ≤ length (f .separators) → namedPage p g (entryFile p g f (newStar k word owner) .separators) k ≡ holding k (startOf p g k) (contentsOf p g f (newStar k word owner))
+    pub named-holds : entryStart p g k ≤ length (f .separators) → namedPage p g (entryFile p g f (newStar k word owner) .separators) k ≡ holding k (entryStart p g k) (entryContents p g f (newStar k word owner))
     unfolding namedPage replaced
     named-holds h =
-        let r = held-first (hash p g) (startOf p g k) (countOf p g f (newStar k word owner)) (entering (hash p g) f (newStar k word owner) (endOf p g f (newStar k word owner))) (newStar k word owner) nothing-left new-waits in
-        ap (λ (x : File). first (hash p g) 0 (x .separators) k) (file-way .2)
-        ∙ first-written (hash p g) (startOf p g k) k (separators (contentsOf p g f (newStar k word owner))) (f .separators) refl h
-        (omega (arith, r .1, length-separators (contentsOf p g f (newStar k word owner)), length-pages (hash p g) (startOf p g k) (countOf p g f (newStar k word owner)) (entering (hash p g) f (newStar k word owner) (endOf p g f (newStar k word owner)))))
+        let r = held-first (hashOf p g) (entryStart p g k) (entryCount p g f (newStar k word owner)) (entering (hashOf p g) f (newStar k word owner) (entryLast p g f (newStar k word owner))) (newStar k word owner) nothing-left new-waits in
+        ap (λ (x : File). first (hashOf p g) 0 (x .separators) k) (file-way .2)
+        ∙ first-written (hashOf p g) (entryStart p g k) k (separators (entryContents p g f (newStar k word owner))) (f .separators) refl h
+        (omega (arith, r .1, length-separators (entryContents p g f (newStar k word owner)), length-pages (hashOf p g) (entryStart p g k) (entryCount p g f (newStar k word owner)) (entering (hashOf p g) f (newStar k word owner) (entryLast p g f (newStar k word owner)))))
         ∙ sym (r .0)
 
-    pub ends-answer : (page : ℕ) → page ≡ holding k (startOf p g k) (contentsOf p g f (newStar k word owner)) → On page ≡ entryAnswer p g f (newStar k word owner)
+    pub ends-answer : (page : ℕ) → page ≡ holding k (entryStart p g k) (entryContents p g f (newStar k word owner)) → On page ≡ entryAnswer p g f (newStar k word owner)
     unfolding reachAnswer entryAnswer
     ends-answer page h =
         ap On h
-        ∙ sym (ends-way unsoundHere entersHere last (unsoundOf p g f (newStar k word owner)) (endOf p g f (newStar k word owner)) (entered·Unsound (unsoundOf p g f (newStar k word owner))) (On (holding k (startOf p g k) (contentsOf p g f (newStar k word owner)))) entered·Overflows e .2)
+        ∙ sym (ends-way unsoundHere entersHere last (entryUnsound p g f (newStar k word owner)) (entryLast p g f (newStar k word owner)) (outcome·Unsound (entryUnsound p g f (newStar k word owner))) (On (holding k (entryStart p g k) (entryContents p g f (newStar k word owner)))) outcome·Overflows e .2)
 
--- ---- the lists that applying the plan leaves
+-- the lists that applying the plan leaves
 
 pub lists-applied : (places lo count k word owner : ℕ) (pool planned : List ℕ) (f : File) (s n w o : List ℕ) → s ≡ written lo (take count (drop lo planned)) (f .separators)
-    → n ≡ written (lo * places) (map (named (f .numbers) k) (stretch places lo count pool)) (f .numbers)
-    → w ≡ written (lo * places) (map (named (f .words) word) (stretch places lo count pool)) (f .words)
-    → o ≡ written (lo * places) (map (named (f .owners) owner) (stretch places lo count pool)) (f .owners)
+    → n ≡ written (lo * places) (map (namedItem (f .numbers) k) (stretch places lo count pool)) (f .numbers)
+    → w ≡ written (lo * places) (map (namedItem (f .words) word) (stretch places lo count pool)) (f .words)
+    → o ≡ written (lo * places) (map (namedItem (f .owners) owner) (stretch places lo count pool)) (f .owners)
     → lent s n w o ≡ applied places lo count k word owner pool planned f
 unfolding applied
 lists-applied places lo count k word owner pool planned f s n w o es en ew eo = λ i. record { separators = es i; numbers = en i; words = ew i; owners = eo i }
 
 module _ (p : Parameters) (g : Growth) (f : File) (k word owner : ℕ) (pool planned : List ℕ) (last : ℕ) (e : Ends last ≡ reachAnswer p g f (newStar k word owner)) where
   abbrev Applied : List ℕ → ℕ → List ℕ → Type 0
-  Applied l new d = d ≡ written (startOf p g k * p .places) (map (named l new) (stretch (p .places) (startOf p g k) (last + 1 - startOf p g k) pool)) l
+  Applied l new d = d ≡ written (entryStart p g k * p .places) (map (namedItem l new) (stretch (p .places) (entryStart p g k) (last + 1 - entryStart p g k) pool)) l
 
   pub entry-file : Applies p g f k pool planned (Ends last) → (s n w o : List ℕ)
-      → s ≡ written (startOf p g k) (take (last + 1 - startOf p g k) (drop (startOf p g k) planned)) (f .separators)
+      → s ≡ written (entryStart p g k) (take (last + 1 - entryStart p g k) (drop (entryStart p g k) planned)) (f .separators)
       → Applied (f .numbers) k n → Applied (f .words) word w → Applied (f .owners) owner o
       → lent s n w o ≡ entryFile p g f (newStar k word owner)
   entry-file applies s n w o es en ew eo =
-      let count : last + 1 - startOf p g k ≡ pagesTo (startOf p g k) last = omega (arith, last-least p g f k word owner last e) in
-      lists-applied (p .places) (startOf p g k) (last + 1 - startOf p g k) k word owner pool planned f s n w o es en ew eo
-      ∙ ap (λ (m : ℕ). applied (p .places) (startOf p g k) m k word owner pool planned f) count
+      let count : last + 1 - entryStart p g k ≡ pagesTo (entryStart p g k) last = omega (arith, last-least p g f k word owner last e) in
+      lists-applied (p .places) (entryStart p g k) (last + 1 - entryStart p g k) k word owner pool planned f s n w o es en ew eo
+      ∙ ap (λ (m : ℕ). applied (p .places) (entryStart p g k) m k word owner pool planned f) count
       ∙ applies word owner last refl .1

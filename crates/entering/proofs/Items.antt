@@ -1,9 +1,9 @@
 -- The items of a stretch of sound pages, and the words of its stars.
 use mathlib.Core.Path.{_≡_, refl, sym, ap, _∙_}
-use mathlib.Core.Bool.{Bool, true, false, not, cond, _||_, true≢false}
-use mathlib.Core.List.{List, [], _∷_}
+use mathlib.Core.Bool.{Bool, true, false, not, _||_, true≢false}
+use mathlib.Core.List.{List}
 use Prim.Native.Nat.{ℕ, suc, _+_, _-_, _*_, _/_, _%_, _^_, _≤_, _<_}
-use native.Mathlib.Nat.{add-zero, add-suc, suc-add, add-mul, zero-add, mod-lt, div-add-mod', div-lt-iff-lt-mul, mul-le-mul, mul-le-mul-right}
+use native.Mathlib.Nat.{add-mul, zero-add, mod-lt, div-add-mod', div-lt-iff-lt-mul, mul-le-mul, mul-le-mul-right}
 use native.Mathlib.Omega.{arith}
 use lib.Dec.{leb, ltb, eqb}
 use lib.ListN.{length, take, drop, getD, length-map, List·getD-map}
@@ -11,12 +11,12 @@ use lib.Seq.{getD-take, getD-drop}
 use borrow.Author.Tests.{le-leb, lt-ltb, ne-eqb, eqb-false}
 use Rattle.hashing.specs.declared.Parameters.{Parameters}
 use Rattle.hashing.specs.declared.Growth.{Growth}
-use Rattle.hashing.specs.Generator.{multiplierOf}
+use Rattle.hashing.specs.Geometry.{multiplierOf}
 use Rattle.hashing.specs.Home.{home}
 use Rattle.hashing.specs.Limits.{validParameters}
 use Rattle.hashing.proofs.Bounds.{limits}
 use Rattle.pages.specs.Position.{validWord}
-use Rattle.pages.specs.Page.{part, heldAt}
+use Rattle.pages.specs.Page.{part, heldAt, stretch}
 use Rattle.pages.proofs.Parts.{part-item, part-length, page-fits}
 use Rattle.pages.proofs.Places.{held-at}
 use Rattle.placement.specs.File.{File, Sized}
@@ -26,35 +26,19 @@ use Rattle.placement.proofs.Search.{orderly-numbers}
 use Rattle.placement.proofs.Probing.{bounded-real}
 use Rattle.placement.proofs.Tested.{ItemOn, item-on, real-facts}
 use Rattle.waiting.specs.Lists.{all, allBelow}
-use Rattle.waiting.specs.Words.{pack, homeOf, numberOf}
-use Rattle.waiting.specs.Gather.{stretch, skipped, wordsFrom, groupOf, groupsBelow}
-use Rattle.waiting.proofs.Lists.{all-cons, all-items}
+use Rattle.waiting.specs.Words.{pack, homeOf, numberIn}
+use Rattle.waiting.specs.Gather.{skipped, groupOf, groupsBelow}
+use Rattle.waiting.proofs.Lists.{all-items}
 use Rattle.waiting.proofs.Packing.{home-pack, number-pack}
-use Rattle.reach.proofs.Pastes.{map-take, map-drop}
+use Rattle.buffers.proofs.Lists.{map-take, map-drop}
 use Rattle.planning.specs.Plans.{homed}
 use Rattle.planning.specs.Sources.{sourced}
 use Rattle.planning.proofs.Blocks.{from}
-use Rattle.planning.proofs.Sourcing.{fresh, length-stretch, named-stretch, words-homed, words-sourced}
+use Rattle.planning.proofs.Sourcing.{fresh, length-stretch, named-stretch, words-homed, words-sourced, all-words}
 use Rattle.planning.proofs.Placed.{homes-real}
-use Rattle.entering.specs.Entry.{Unheld, hash, blockNumbers, blockWords}
+use Rattle.entering.specs.Entry.{Unheld, blockNumbers, blockWords}
 
 -- a test that every item passes, every word of the items
-all-words : (q : ℕ → Bool) (at k : ℕ) (ns hs : List ℕ)
-    → ((i : ℕ) → i < length ns → i < length hs → skipped k (getD ns i 0) ≡ false → q (pack (getD hs i 0) (getD ns i 0) (suc (at + i))) ≡ true)
-    → all q (wordsFrom at k ns hs) ≡ true
-unfolding wordsFrom
-all-words q at k [] hs t = unfold all in refl
-all-words q at k (n ∷ ns) [] t = unfold all in refl
-all-words q at k (n ∷ ns) (h ∷ hs) t =
-    go (skipped k n) refl (all-words q (suc at) k ns hs (λ i a b e. rw (suc-add at i, ← add-suc at i) (t (suc i) (omega arith) (omega arith) e)))
-  where
-    go : (s : Bool) → skipped k n ≡ s → all q (wordsFrom (suc at) k ns hs) ≡ true
-        → all q (cond s (wordsFrom (suc at) k ns hs) (pack h n (suc at) ∷ wordsFrom (suc at) k ns hs)) ≡ true
-    go true e ih = ih
-    go false e ih =
-        all-cons q (pack h n (suc at)) (wordsFrom (suc at) k ns hs)
-        (rw (add-zero at) at (t 0 (omega arith) (omega arith) e)) ih
-
 unskipped : (n : ℕ) → skipped 0 n ≡ false → eqb n 0 ≡ false
 unfolding skipped
 unskipped n = go (eqb n 0)
@@ -69,8 +53,8 @@ pub record WordOn (p : Parameters) (g : Growth) (f : File) (lo n w : ℕ) : Type
   pub least : lo ≤ page
   pub most : page < lo + n
   pub homed : homeOf w ≤ page
-  pub above : (e : ℕ) → e < page → getD (f .separators) e 0 ≡ hash p g .top → e < homeOf w
-  pub other : (k : ℕ) → Unheld p g f k → numberOf w ≡ k → ⊥
+  pub above : (e : ℕ) → e < page → getD (f .separators) e 0 ≡ hashOf p g .top → e < homeOf w
+  pub other : (k : ℕ) → Unheld p g f k → numberIn w ≡ k → ⊥
 
 module _ (p : Parameters) (g : Growth) (f : File) (valid : validParameters p ≡ true) (sized : Sized (p .places) (p .pages) f) (lo n : ℕ) (inside : lo + n ≤ p .pages) where
   numbers-long : (lo + n) * p .places ≤ length (f .numbers)
@@ -99,10 +83,10 @@ module _ (p : Parameters) (g : Growth) (f : File) (valid : validParameters p ≡
       (λ i a. named-stretch (p .places) lo n k (f .numbers) numbers-long i a)
 
   -- .. and carry the homes of their numbers
-  pub block-homed : allBelow (2 ^ 31) (blockNumbers p f lo n) ≡ true → homed (hash p g) (blockWords p g f lo n) ≡ true
+  pub block-homed : allBelow (2 ^ 31) (blockNumbers p f lo n) ≡ true → homed (hashOf p g) (blockWords p g f lo n) ≡ true
   unfolding blockWords
   block-homed v =
-      words-homed (lo * p .places) 0 (blockNumbers p f lo n) (stretch (p .places) lo n (homesOf p g (f .numbers))) v items-few (hash p g)
+      words-homed (lo * p .places) 0 (blockNumbers p f lo n) (stretch (p .places) lo n (homesOf p g (f .numbers))) v items-few (hashOf p g)
       (stretch-homes ∙ homes-real p g (blockNumbers p f lo n))
 
   module _ (sound : (q : ℕ) → lo ≤ q → q < lo + n → soundAt p g f q ≡ true) where
@@ -151,13 +135,13 @@ module _ (p : Parameters) (g : Growth) (f : File) (valid : validParameters p ≡
           (part-item (p .places) pageOf (f .numbers) (i % p .places) (mod-lt i some) ∙ sym (item-is (f .numbers)))
 
       module _ (star : getD (blockNumbers p f lo n) i 0 ≡ 0 → ⊥) where
-        item-above : (e : ℕ) → e < pageOf → getD (f .separators) e 0 ≡ hash p g .top → e < home (multiplierOf p) p g (getD (blockNumbers p f lo n) i 0)
+        item-above : (e : ℕ) → e < pageOf → getD (f .separators) e 0 ≡ hashOf p g .top → e < home (multiplierOf p) p g (getD (blockNumbers p f lo n) i 0)
         unfolding namedPage hashOf
         item-above e h top =
             omega (
               arith,
               zero-add e,
-              past-top (hash p g) (bounded-real p g valid) 0 e (f .separators) (getD (blockNumbers p f lo n) i 0) (omega (arith, sized .ofSeparators, page-inside)) top
+              past-top (hashOf p g) (bounded-real p g valid) 0 e (f .separators) (getD (blockNumbers p f lo n) i 0) (omega (arith, sized .ofSeparators, page-inside)) top
                   (omega (arith, zero-add e, item-there .star star .named)),
             )
 
@@ -202,7 +186,7 @@ module _ (p : Parameters) (g : Growth) (f : File) (valid : validParameters p ≡
         let small : k < 2 ^ 31 = omega (arith, item-there i short .most) in
         let few : suc (lo * p .places + i) < 2 ^ 16 = omega (arith, items-few) in
         let star : (k ≡ 0 → ⊥) = eqb-false k 0 (unskipped k s) in
-        let number : numberOf w ≡ k = number-pack h k (suc (lo * p .places + i)) small few in
+        let number : numberIn w ≡ k = number-pack h k (suc (lo * p .places + i)) small few in
         let there : homeOf w ≡ home (multiplierOf p) p g k = home-pack h k (suc (lo * p .places + i)) small few ∙ home-there i ∙ rw (ne-eqb k 0 star) in
         each w
         (record {
@@ -219,10 +203,10 @@ module _ (p : Parameters) (g : Growth) (f : File) (valid : validParameters p ≡
     block-grouped = words-all (λ w. ltb (homeOf w - lo) n) (λ w o. lt-ltb (homeOf w - lo) n (omega (arith, o .homed, o .least, o .most)))
 
     -- behind a page whose separator is top the words are homed above it
-    pub block-above : (e : ℕ) → suc e ≡ lo → getD (f .separators) e 0 ≡ hash p g .top → from lo (blockWords p g f lo n) ≡ true
+    pub block-above : (e : ℕ) → suc e ≡ lo → getD (f .separators) e 0 ≡ hashOf p g .top → from lo (blockWords p g f lo n) ≡ true
     unfolding from
     block-above e next top = words-all (λ w. leb lo (homeOf w)) (λ w o. le-leb lo (homeOf w) (omega (arith, o .above e (omega (arith, o .least)) top)))
 
     pub block-fresh : (k : ℕ) → Unheld p g f k → fresh k (blockWords p g f lo n) ≡ true
     unfolding fresh
-    block-fresh k u = words-all (λ w. not (eqb (numberOf w) k)) (λ w o. ap not (ne-eqb (numberOf w) k (λ e. o .other k u e)))
+    block-fresh k u = words-all (λ w. not (eqb (numberIn w) k)) (λ w o. ap not (ne-eqb (numberIn w) k (λ e. o .other k u e)))

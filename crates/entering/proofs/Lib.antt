@@ -4,3 +4,4 @@ pub mod Joined
 pub mod Reached
 pub mod Surveyed
 pub mod Holding
+pub mod OnePage

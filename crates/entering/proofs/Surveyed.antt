@@ -7,16 +7,18 @@ use native.Mathlib.Nat.{add-mul, mul-le-mul-right}
 use native.Mathlib.Omega.{arith}
 use lib.ListN.{take, length-append, length, drop, length-map, length-drop}
 use lib.Seq.{take-at, take-append-le, length-take-le, drop-paste, paste, slice}
+use Rattle.buffers.specs.Lists.{written}
+use Rattle.pages.specs.Page.{stretch}
 use Rattle.hashing.specs.declared.Parameters.{Parameters}
 use Rattle.hashing.specs.declared.Growth.{Growth}
-use Rattle.hashing.specs.Generator.{topOf}
+use Rattle.generator.specs.Generator.{topOf}
 use Rattle.hashing.specs.Limits.{validParameters}
-use Rattle.placement.specs.Rule.{Star, separators}
-use Rattle.placement.specs.File.{File, Sized, column, written}
+use Rattle.placement.specs.Rule.{Star}
+use Rattle.placement.specs.File.{File, Sized, column}
 use Rattle.placement.specs.Hash.{hashOf, soundAt, homesOf, homeIn}
 use Rattle.placement.proofs.Writing.{length-column}
 use Rattle.waiting.specs.Lists.{allBelow}
-use Rattle.waiting.specs.Gather.{stretch, starsIn, stretchWords}
+use Rattle.waiting.specs.Gather.{starsIn, stretchWords}
 use Rattle.waiting.proofs.Gathered.{stretch-slice}
 use Rattle.planning.specs.Plans.{plans, Planned}
 use Rattle.planning.proofs.Stretch.{plans-roomy, length-plans}
@@ -110,12 +112,12 @@ module _ (p : Parameters) (g : Growth) (f : File) (valid : validParameters p ≡
           renewed = rw found-homes at plan
 
           items : List ℕ
-          items = column (p .places) (λ (s : Star). s .word) (plans p lo 0 (last + 1 - lo) w (blockWords p g f lo (last + 1 - lo)))
+          items = column (p .places) (λ (s : Star). s .payload .word) (plans p lo 0 (last + 1 - lo) w (blockWords p g f lo (last + 1 - lo)))
 
           items-long : length items ≡ (last + 1 - lo) * p .places
           unfolding items
           items-long =
-              length-column (p .places) (λ (s : Star). s .word) (plans p lo 0 (last + 1 - lo) w (blockWords p g f lo (last + 1 - lo)))
+              length-column (p .places) (λ (s : Star). s .payload .word) (plans p lo 0 (last + 1 - lo) w (blockWords p g f lo (last + 1 - lo)))
               (plans-roomy p lo 0 (last + 1 - lo) w (blockWords p g f lo (last + 1 - lo)))
               ∙ ap (λ (n : ℕ). n * p .places) (length-plans p lo 0 (last + 1 - lo) w (blockWords p g f lo (last + 1 - lo)))
 

@@ -1,29 +1,36 @@
 -- The entry of a star over its reach: document 01, "The cut" and "Where each refusal is met".
 use mathlib.Core.Path.{_≡_}
-use mathlib.Core.Bool.{true, false, cond}
+use mathlib.Core.Bool.{Bool, true, false, cond, _&&_}
 use mathlib.Core.List.{List}
-use Prim.Native.Nat.{ℕ, _+_, _*_, _<_}
-use lib.Dec.{ltb}
-use lib.ListN.{length, take}
+use Prim.Native.Nat.{ℕ, _+_, _-_, _*_, _<_}
+use lib.Dec.{eqb, ltb}
+use lib.ListN.{length, take, getD}
 use denote.Ref.{now}
 use Rattle.hashing.specs.declared.Parameters.{Parameters}
 use Rattle.hashing.specs.declared.Growth.{Growth}
 use Rattle.hashing.specs.declared.Geometry.{Geometry}
-use Rattle.pages.specs.Page.{part, heldAt}
-use Rattle.placement.specs.Rule.{Star, Hash, Contents, pages}
+use Rattle.generator.specs.Generator.{topOf}
+use Rattle.pages.specs.Page.{part, heldAt, stretch}
+use Rattle.placement.specs.Rule.{Star, Contents, pages, starWith}
 use Rattle.placement.specs.File.{File, replaced}
 use Rattle.placement.specs.Hash.{hashOf, soundAt, namedPage, homesOf}
 use Rattle.placement.specs.Lent.{Lent}
 use Rattle.reach.specs.Reach.{pagesTo, removalEnd, entering, entersWithin, entryEnd, firstUnsound, holding}
-use Rattle.waiting.specs.Gather.{stretch, starsIn, stretchWords}
+use Rattle.shifting.specs.Shift.{numberAt}
+use Rattle.waiting.specs.Gather.{starsIn, stretchWords}
 use Rattle.planning.specs.Plans.{Planned}
 use Rattle.planning.proofs.Applying.{applied}
 use Rattle.entering.specs.declared.blocks.Reach.{Reach}
 use Rattle.entering.specs.declared.blocks.Reach.the-variants.{Ends, Unsound, Overflows}
 use Rattle.entering.specs.declared.blocks.Block.{Block}
 use Rattle.entering.specs.declared.blocks.Block.the-variants.{Planned as block·Planned, Unsound as block·Unsound, Crowded}
-use Rattle.entering.specs.declared.stretch.Entered.{Entered}
-use Rattle.entering.specs.declared.stretch.Entered.the-variants.{On, Unsound as entered·Unsound, Overflows as entered·Overflows}
+use Rattle.planning.specs.declared.outcome.Outcome.{Outcome}
+use Rattle.planning.specs.declared.outcome.Outcome.the-variants.{On, Unsound as outcome·Unsound, Overflows as outcome·Overflows}
+
+-- the page's stored separator is 2^k − 1, and its last place is empty
+unfoldable pub takesAlone : Parameters → List ℕ → List ℕ → ℕ → Bool
+takesAlone p separators numbers page =
+    eqb (getD separators page 0) (topOf (p .bits)) && eqb (numberAt (p .places) page (p .places - 1) numbers) 0
 
 -- the page that the separators name for k is sound and does not hold it
 pub record Unheld (p : Parameters) (g : Growth) (f : File) (k : ℕ) : Type 0 where
@@ -31,50 +38,47 @@ pub record Unheld (p : Parameters) (g : Growth) (f : File) (k : ℕ) : Type 0 wh
   pub sound : soundAt p g f (namedPage p g (f .separators) k) ≡ true
   pub absent : heldAt k (part (p .places) (namedPage p g (f .separators) k) (f .numbers)) ≡ false
 
-abbrev pub hash : Parameters → Growth → Hash
-hash p g = hashOf p g
-
 abbrev pub newStar : ℕ → ℕ → ℕ → Star
-newStar k word owner = record { number = k; word = word; owner = owner }
+newStar k word owner = starWith k word owner
 
 -- the reach: its first page, its last page, how many pages it has, the first unsound one of them, and what the rule gives them
-abbrev pub startOf : Parameters → Growth → ℕ → ℕ
-startOf p g k = hash p g .home k
+abbrev pub entryStart : Parameters → Growth → ℕ → ℕ
+entryStart p g k = hashOf p g .home k
 
-abbrev pub endOf : Parameters → Growth → File → Star → ℕ
-endOf p g f s = entryEnd (hash p g) (p .pages) f s
+abbrev pub entryLast : Parameters → Growth → File → Star → ℕ
+entryLast p g f s = entryEnd (hashOf p g) (p .pages) f s
 
-abbrev pub countOf : Parameters → Growth → File → Star → ℕ
-countOf p g f s = pagesTo (startOf p g (s .number)) (endOf p g f s)
+abbrev pub entryCount : Parameters → Growth → File → Star → ℕ
+entryCount p g f s = pagesTo (entryStart p g (s .number)) (entryLast p g f s)
 
-abbrev pub unsoundOf : Parameters → Growth → File → Star → ℕ
-unsoundOf p g f s = firstUnsound p g f (startOf p g (s .number)) (countOf p g f s)
+abbrev pub entryUnsound : Parameters → Growth → File → Star → ℕ
+entryUnsound p g f s = firstUnsound p g f (entryStart p g (s .number)) (entryCount p g f s)
 
-abbrev pub contentsOf : Parameters → Growth → File → Star → List Contents
-contentsOf p g f s = pages (hash p g) (startOf p g (s .number)) (countOf p g f s) (entering (hash p g) f s (endOf p g f s))
+abbrev pub entryContents : Parameters → Growth → File → Star → List Contents
+entryContents p g f s = pages (hashOf p g) (entryStart p g (s .number)) (entryCount p g f s) (entering (hashOf p g) f s (entryLast p g f s))
 
 -- one thing if a page of the reach is unsound, another if the rule carries a star past page M−1, a third if it does not
-abbrev pub byReach : {A : Type 0} → Parameters → Growth → File → Star → A → A → A → A
-byReach p g f s unsound overflows enters =
-    cond (ltb (unsoundOf p g f s) (startOf p g (s .number) + countOf p g f s))
+abbrev pub byEntryReach : {A : Type 0} → Parameters → Growth → File → Star → A → A → A → A
+byEntryReach p g f s unsound overflows enters =
+    cond (ltb (entryUnsound p g f s) (entryStart p g (s .number) + entryCount p g f s))
     unsound
-    (cond (entersWithin (hash p g) f s (endOf p g f s)) enters overflows)
+    (cond (entersWithin (hashOf p g) f s (entryLast p g f s)) enters overflows)
 
 -- "pages of the reach .. upward, each as it is reached" is 5, "a star is carried past M−1" is 8
 unfoldable pub reachAnswer : Parameters → Growth → File → Star → Reach
-reachAnswer p g f s = byReach p g f s (Unsound (unsoundOf p g f s)) Overflows (Ends (endOf p g f s))
+reachAnswer p g f s = byEntryReach p g f s (Unsound (entryUnsound p g f s)) Overflows (Ends (entryLast p g f s))
 
 -- "Accepted, these calls answer the star's page"
-unfoldable pub entryAnswer : Parameters → Growth → File → Star → Entered
+unfoldable pub entryAnswer : Parameters → Growth → File → Star → Outcome
 entryAnswer p g f s =
-    byReach p g f s
-    (entered·Unsound (unsoundOf p g f s))
-    entered·Overflows
-    (On (holding (s .number) (startOf p g (s .number)) (contentsOf p g f s)))
+    byEntryReach p g f s
+    (outcome·Unsound (entryUnsound p g f s))
+    outcome·Overflows
+    (On (holding (s .number) (entryStart p g (s .number)) (entryContents p g f s)))
 
 -- "The rule is then applied to the reach .. Other pages stay."
 unfoldable pub entryFile : Parameters → Growth → File → Star → File
-entryFile p g f s = byReach p g f s f f (replaced (p .places) f (startOf p g (s .number)) (contentsOf p g f s))
+entryFile p g f s = byEntryReach p g f s f f (replaced (p .places) f (entryStart p g (s .number)) (entryContents p g f s))
 
 -- where the reach ends, applying its plan enters the star, with any word and owner
 abbrev pub Applies : Parameters → Growth → File → ℕ → List ℕ → List ℕ → Reach → Type 0
@@ -82,11 +86,11 @@ Applies p g f k pool planned r =
     (word owner last : ℕ)
     → r ≡ Ends last
     → (last < p .pages)
-    × (applied (p .places) (startOf p g k) (pagesTo (startOf p g k) last) k word owner pool planned f ≡ entryFile p g f (newStar k word owner))
+    × (applied (p .places) (entryStart p g k) (pagesTo (entryStart p g k) last) k word owner pool planned f ≡ entryFile p g f (newStar k word owner))
 
 -- the block from page lo: its last page, how many pages it has, and the words of its stars
 abbrev pub blockEnd : Parameters → Growth → File → ℕ → ℕ
-blockEnd p g f lo = removalEnd (hash p g) (p .pages) f lo
+blockEnd p g f lo = removalEnd (hashOf p g) (p .pages) f lo
 
 abbrev pub blockCount : Parameters → Growth → File → ℕ → ℕ
 blockCount p g f lo = pagesTo lo (blockEnd p g f lo)

@@ -1,8 +1,8 @@
-// The reach of an entry: planned block after block, then applied.
+// The entry of a star: on its home page alone, or over its reach, planned block after block and then applied.
 mod blocks;
+mod star;
 mod stretch;
 
 pub use blocks::Reach;
 pub use blocks::plan_entry;
-pub use stretch::Entered;
-pub use stretch::enter_stretch;
+pub use star::enter_star;

@@ -9,13 +9,7 @@ ghost use Rattle.entering.specs.Entry.{Unheld, newStar, entryAnswer, ent
 use crate::blocks::Reach;
 use crate::blocks::plan_entry;
 use hashing::Geometry;
-
-// The page where the new star stands; the first unsound page of the reach; or a star is carried past the last page.
-pub enum Entered {
-    On(usize),
-    Unsound(usize),
-    Overflows,
-}
+use planning::Outcome;
 
 // The entry of a number that the file does not hold. A refusal leaves the file as it was.
 pub fn enter_stretch(
@@ -32,7 +26,7 @@ pub fn enter_stretch(
     word: u64,
     owner: u8,
     home: u32,
-) -> Entered
+) -> Outcome
     requires { ⌜ Ready geometry (now table) (held separators numbers words owners) ⌝ }
     requires { ⌜ Pooled (geometry .parameters) (now pool) (now waiting) (now poolowners) ⌝ }
     requires { ⌜ validNumber number ≡ true ⌝ }
@@ -57,8 +51,8 @@ pub fn enter_stretch(
         number,
         home,
     ) {
-        Reach::Unsound(page) => Entered::Unsound(page),
-        Reach::Overflows => Entered::Overflows,
+        Reach::Unsound(page) => Outcome::Unsound(page),
+        Reach::Overflows => Outcome::Overflows,
         Reach::Ends(last) => {
             planning::apply(
                 separators,
@@ -77,7 +71,7 @@ pub fn enter_stretch(
                 owner,
             );
             let page = placement::named_from(table, geometry, separators, number, home);
-            Entered::On(page)
+            Outcome::On(page)
         }
     }
 }

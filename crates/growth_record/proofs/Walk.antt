@@ -57,9 +57,9 @@ use Rattle.calls.proofs.answers.Grown as R
 use Rattle.calls.proofs.answers.Grown.Laws as R′
 use Rattle.calls.proofs.answers.Placed as Q
 use Rattle.calls.proofs.answers.Placed.Laws as Q′
-use Rattle.starfile.proofs.grow as grow
+use Rattle.whole_file.proofs.grow as grow
 use Rattle.growth_record.specs.Record.{keptBy}
-use Rattle.growth_record.proofs.Laws.{Keeps, keeps}
+use Rattle.growth_record.proofs.Keeping.{Keeps, keeps}
 use Rattle.growth_record.proofs.kept as kept
 use Rattle.growth_record.proofs.kept.Symbol.{name as #growth-record·kept}
 use Rattle.growth_record.proofs.grow as f

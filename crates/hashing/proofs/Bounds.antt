@@ -11,7 +11,8 @@ use borrow.Author.Tests.{not-true, not-false, leb-true, ltb-true, le-leb, lt-ltb
 use Rattle.hashing.specs.declared.Parameters.{Parameters}
 use Rattle.hashing.specs.declared.Growth.{Growth}
 use Rattle.hashing.specs.Geometry.{sizeAt, countAt, groupSize, groupCount, pageCount}
-use Rattle.hashing.specs.Limits.{within, validMultiplier, validParameters, validGrowth}
+use Rattle.hashing.specs.Limits.{within, validParameters, validGrowth}
+use Rattle.generator.specs.Generator.{validMultiplier}
 
 pub record Limits (p : Parameters) : Type 0 where
   pub places-least : 1 ≤ p .places

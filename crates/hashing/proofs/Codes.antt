@@ -14,19 +14,16 @@ use lib.Arith.{digits-div, digits-mod, mod-mul}
 use Rattle.hashing.specs.declared.Parameters.{Parameters}
 use Rattle.hashing.specs.declared.Growth.{Growth}
 use Rattle.hashing.specs.declared.moves.Landing.{Landing}
-use Rattle.hashing.specs.Generator.{modulus, scrambled}
+use Rattle.generator.specs.Generator.{modulus}
+use Rattle.generator.proofs.Scrambling.{scrambled-key}
 use Rattle.hashing.specs.Geometry.{sizeAt, countAt, rank}
 use Rattle.hashing.specs.Home.{rankAt, chosen, movedIf, stepFrom, afterSteps, home}
-use Rattle.hashing.specs.Moves.{codeAt, moves, countOf, pageOf, movedTo, followed, landing, Narrow, Landed, Rising}
-use Rattle.hashing.proofs.Numbers.{next, Next, mul-mod-right, div-mono}
+use Rattle.hashing.specs.Moves.{codeAt, moves, codeCount, codePage, movedTo, followed, landing, Narrow, Landed, Rising}
+use Rattle.generator.proofs.Numbers.{next, Next, div-mono}
 use Rattle.hashing.proofs.Bounds.{Limits, Within, size-most}
-use Rattle.hashing.proofs.Laws.{step-over, steps-one, rank-below, span-most, count-fits}
+use Rattle.hashing.proofs.Homes.{step-over, steps-one, rank-below, span-most, count-fits}
 
 -- only the remainder of a number mod m counts
-
-pub scrambled-key : (a j k : ℕ) → scrambled a j (k % modulus) ≡ scrambled a j k
-unfolding scrambled
-scrambled-key a j k = mul-mod-right (a ^ j) modulus k
 
 pub chosen-key : (a : ℕ) (p : Parameters) (k i : ℕ) → chosen a p (k % modulus) i ≡ chosen a p k i
 unfolding chosen
@@ -51,8 +48,8 @@ pub code-level : (p : Parameters) (i : ℕ) → Limits p → codeAt p i / 8 ≡ 
 unfolding codeAt
 code-level p i l = digits-div (i / p .width) {m = 8} {r = sizeAt p i} (omega (arith, size-most p i l))
 
-pub code-count : (p : Parameters) (i : ℕ) → Limits p → countOf p (codeAt p i) ≡ countAt p i
-unfolding countOf countAt
+pub code-count : (p : Parameters) (i : ℕ) → Limits p → codeCount p (codeAt p i) ≡ countAt p i
+unfolding codeCount countAt
 code-count p i l = rw (code-level p i l)
 
 pub code-start : (p : Parameters) → codeAt p 0 ≡ p .width
@@ -82,7 +79,7 @@ code-narrow p g i l w h =
     (omega (arith, count-fits p g i l w h, l .pages-most), omega (arith, span-most p g i l w h, l .pages-most))
 
 moved-code : (p : Parameters) (i page : ℕ) → Limits p → movedTo p page (codeAt p i) ≡ movedIf p i page true
-unfolding movedTo pageOf rankAt
+unfolding movedTo codePage rankAt
 moved-code p i page l = rw (code-count p i l, code-size p i l)
 
 -- one more step: its code is stored, and counted if the step chooses the number
@@ -149,18 +146,18 @@ moves-rising a p g k (suc i) l w h = go (chosen a p k i) (moves-rising a p g k i
 
 -- a page's group after more doublings keeps its order and the low bits of the group size
 pub regroup :
-    (p : Parameters) (code order level : ℕ) → order < countOf p code → code / 8 ≤ level →
-    code % 8 % 2 ^ (level - code / 8) * countOf p code + order ≡ pageOf p code order % (p .groups * 2 ^ level)
-unfolding pageOf countOf
+    (p : Parameters) (code order level : ℕ) → order < codeCount p code → code / 8 ≤ level →
+    code % 8 % 2 ^ (level - code / 8) * codeCount p code + order ≡ codePage p code order % (p .groups * 2 ^ level)
+unfolding codePage codeCount
 regroup p code order level h l =
     rw (
       wider,
-      mod-mul (code % 8 * countOf p code + order) {m = 2 ^ (level - code / 8)} {c = countOf p code} (pow-pos (level - code / 8)) (omega arith),
+      mod-mul (code % 8 * codeCount p code + order) {m = 2 ^ (level - code / 8)} {c = codeCount p code} (pow-pos (level - code / 8)) (omega arith),
       digits-div (code % 8) h,
       digits-mod (code % 8) h,
     )
   where
-    wider : p .groups * 2 ^ level ≡ 2 ^ (level - code / 8) * countOf p code
+    wider : p .groups * 2 ^ level ≡ 2 ^ (level - code / 8) * codeCount p code
     wider =
         let b = code / 8 in
         let parts : level ≡ b + (level - b) = omega arith in
@@ -169,18 +166,18 @@ regroup p code order level h l =
         ∙ sym (mul-assoc (p .groups) (2 ^ b) (2 ^ (level - b)))
         ∙ mul-comm (p .groups * 2 ^ b) (2 ^ (level - b))
 
-pub count-of-least : (p : Parameters) (code : ℕ) → Limits p → 1 ≤ countOf p code
-unfolding countOf
+pub count-of-least : (p : Parameters) (code : ℕ) → Limits p → 1 ≤ codeCount p code
+unfolding codeCount
 count-of-least p code l = mul-le-mul {n₁ = 1} {m₁ = 1} (l .groups-least) (pow-pos (code / 8))
 
-pub count-of-step : (p : Parameters) (code : ℕ) → Limits p → p .step ≤ countOf p code
-unfolding countOf
+pub count-of-step : (p : Parameters) (code : ℕ) → Limits p → p .step ≤ codeCount p code
+unfolding codeCount
 count-of-step p code l = omega (arith, mul-le-mul-left (p .groups) (pow-pos (code / 8)), mul-one (p .groups), l .step-most)
 
-pub order-below : (p : Parameters) (code page : ℕ) → Limits p → rank (p .step) (countOf p code) (page % countOf p code) < countOf p code
+pub order-below : (p : Parameters) (code page : ℕ) → Limits p → rank (p .step) (codeCount p code) (page % codeCount p code) < codeCount p code
 order-below p code page l =
-    rank-below (p .step) (countOf p code) (page % countOf p code)
-    (mod-lt page {m = countOf p code} (count-of-least p code l))
+    rank-below (p .step) (codeCount p code) (page % codeCount p code)
+    (mod-lt page {m = codeCount p code} (count-of-least p code l))
     (l .step-least)
     (count-of-step p code l)
 
@@ -188,10 +185,10 @@ order-below p code page l =
 
 pub landing-page :
     (p : Parameters) (code order : ℕ) (codes : List ℕ) →
-    pageOf p (landing p code order codes .code) (landing p code order codes .order) ≡ followed p (pageOf p code order) codes
+    codePage p (landing p code order codes .code) (landing p code order codes .order) ≡ followed p (codePage p code order) codes
 unfolding landing followed movedTo
 landing-page p code order [] = refl
-landing-page p code order (c ∷ cs) = landing-page p c (rank (p .step) (countOf p c) (pageOf p code order % countOf p c)) cs
+landing-page p code order (c ∷ cs) = landing-page p c (rank (p .step) (codeCount p c) (codePage p code order % codeCount p c)) cs
 
 pub landing-landed :
     (p : Parameters) (code order high : ℕ) (codes : List ℕ) → Limits p → Landed p code order → Rising p (code / 8) codes high →
@@ -199,16 +196,16 @@ pub landing-landed :
 unfolding landing
 landing-landed p code order high [] l h r = (h, r)
 landing-landed p code order high (c ∷ cs) l h r =
-    landing-landed p c (rank (p .step) (countOf p c) (pageOf p code order % countOf p c)) high cs l (order-below p c (pageOf p code order) l, r .0 .1) (r .1)
+    landing-landed p c (rank (p .step) (codeCount p c) (codePage p code order % codeCount p c)) high cs l (order-below p c (codePage p code order) l, r .0 .1) (r .1)
 
 -- a page of the new file, by its group and the groups before it
 pub record Started (p : Parameters) (start : ℕ) : Type 0 where
   pub level : start / p .groups / 8 ≡ 0
   pub landed : Landed p (start / p .groups) (start % p .groups)
-  pub same : pageOf p (start / p .groups) (start % p .groups) ≡ start
+  pub same : codePage p (start / p .groups) (start % p .groups) ≡ start
 
 pub started : (p : Parameters) (start : ℕ) → Limits p → start < p .width * p .groups → Started p start
-unfolding pageOf countOf
+unfolding codePage codeCount
 started p start l h =
     record {
       level = level;
@@ -243,12 +240,12 @@ reached-start p start codes l h r =
 
 pub reached-next :
     (p : Parameters) (ending : Landing) (codes : List ℕ) (code order j : ℕ) → Limits p → j < length codes → Reached p ending codes code order j →
-    Reached p ending codes (getD codes j 0) (rank (p .step) (countOf p (getD codes j 0)) (pageOf p code order % countOf p (getD codes j 0))) (suc j)
+    Reached p ending codes (getD codes j 0) (rank (p .step) (codeCount p (getD codes j 0)) (codePage p code order % codeCount p (getD codes j 0))) (suc j)
 unfolding landing
 reached-next p ending codes code order j l h w =
     let opened : Rising p (code / 8) (getD codes j 0 ∷ drop (suc j) codes) 10 = rw (drop-cons codes j 0 h) at (w .rising) in
     record {
-      landed = (order-below p (getD codes j 0) (pageOf p code order) l, opened .0 .1);
+      landed = (order-below p (getD codes j 0) (codePage p code order) l, opened .0 .1);
       rising = opened .1;
       same = rw (drop-cons codes j 0 h) at (w .same);
     }
@@ -256,7 +253,7 @@ reached-next p ending codes code order j l h w =
 -- the next step is narrow, and its groups have doubled no less often
 pub reached-level :
     (p : Parameters) (ending : Landing) (codes : List ℕ) (code order j : ℕ) → j < length codes → Reached p ending codes code order j →
-    (code / 8 ≤ getD codes j 0 / 8) × (countOf p (getD codes j 0) ≤ 1024)
+    (code / 8 ≤ getD codes j 0 / 8) × (codeCount p (getD codes j 0) ≤ 1024)
 reached-level p ending codes code order j h w =
     let opened : Rising p (code / 8) (getD codes j 0 ∷ drop (suc j) codes) 10 = rw (drop-cons codes j 0 h) at (w .rising) in
     (opened .0 .0, opened .0 .1 .0)
@@ -273,7 +270,7 @@ reached-end p ending codes code order j e w = rw (e, drop-length codes) at (w .s
 pub record Passed (a : ℕ) (p : Parameters) (g : Growth) (k : ℕ) (ending : Landing) : Type 0 where
   pub landed : Landed p (ending .code) (ending .order)
   pub level : ending .code / 8 ≤ codeAt p (g .expansions) / 8
-  pub same : home a p g k ≡ stepFrom a p g k (g .expansions) (pageOf p (ending .code) (ending .order))
+  pub same : home a p g k ≡ stepFrom a p g k (g .expansions) (codePage p (ending .code) (ending .order))
 
 pub chosen-rising :
     (a : ℕ) (p : Parameters) (g : Growth) (k high : ℕ) (codes : List ℕ) → Limits p → Within p g → g .expansions / p .width ≤ high →

@@ -1,8 +1,5 @@
 pub mod Bounds
 pub mod Codes
-pub mod Laws
-pub mod Numbers
+pub mod Homes
 pub mod Points
-pub mod Powers
-pub mod Products
 pub mod Shrinking

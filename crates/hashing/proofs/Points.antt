@@ -2,7 +2,7 @@
 use mathlib.Core.Path.{_≡_, refl}
 use Rattle.hashing.specs.declared.Parameters.{Parameters}
 use Rattle.hashing.specs.declared.Growth.{Growth}
-use Rattle.hashing.specs.Generator.{scrambled, topOf, signature}
+use Rattle.generator.specs.Generator.{scrambled, topOf, signature}
 use Rattle.hashing.specs.Geometry.{sizeAt, countAt, grown, grownBy, ungrown, rank, swept}
 use Rattle.hashing.specs.Home.{rankAt, chosen, expandedAt, stepFrom, afterSteps, home}
 

@@ -13,7 +13,7 @@ use Rattle.hashing.specs.Geometry.{countAt, groupCount, pageCount, highe
 use Rattle.hashing.specs.Limits.{validParameters, validGrowth}
 use Rattle.hashing.specs.Home.{home}
 use Rattle.hashing.proofs.Bounds.{both, limits, growth-within, within-valid, count-least}
-use Rattle.hashing.proofs.Laws.{grown-count, home-grown}
+use Rattle.hashing.proofs.Homes.{grown-count, home-grown}
 
 abbrev state : ℕ → ℕ → Growth
 state e x = record { expansions = e; expanded = x }

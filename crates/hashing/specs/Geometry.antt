@@ -5,6 +5,10 @@ use lib.Dec.{eqb}
 use Rattle.hashing.specs.declared.Parameters.{Parameters}
 use Rattle.hashing.specs.declared.Growth.{Growth}
 
+-- the multiplier that a file's parameters name
+abbrev pub multiplierOf : Parameters → ℕ
+multiplierOf p = p .multiplier
+
 -- n = n0 + (e mod n0), the pages of a group after e partial expansions
 unfoldable pub sizeAt : Parameters → ℕ → ℕ
 sizeAt p e = p .width + e % p .width

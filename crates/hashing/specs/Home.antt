@@ -4,7 +4,7 @@ use Prim.Native.Nat.{ℕ, zero, suc, _+_, _*_, _%_}
 use lib.Dec.{leb, ltb}
 use Rattle.hashing.specs.declared.Parameters.{Parameters}
 use Rattle.hashing.specs.declared.Growth.{Growth}
-use Rattle.hashing.specs.Generator.{modulus, scrambled}
+use Rattle.generator.specs.Generator.{modulus, scrambled}
 use Rattle.hashing.specs.Geometry.{sizeAt, countAt, rank}
 
 -- rank(g) of the group g = page mod G after i partial expansions

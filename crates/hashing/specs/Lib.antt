@@ -1,4 +1,3 @@
-pub mod Generator
 pub mod Geometry
 pub mod Limits
 pub mod Home

@@ -1,17 +1,14 @@
 -- Which parameters and growth states are valid: document 01, "The lent buffers".
-use mathlib.Core.Bool.{Bool, _&&_, _||_}
+use mathlib.Core.Bool.{Bool, _&&_}
 use Prim.Native.Nat.{ℕ, _*_}
-use lib.Dec.{leb, ltb, eqb}
+use lib.Dec.{leb, ltb}
+use Rattle.generator.specs.Generator.{validMultiplier}
 use Rattle.hashing.specs.declared.Parameters.{Parameters}
 use Rattle.hashing.specs.declared.Growth.{Growth}
 use Rattle.hashing.specs.Geometry.{groupCount, pageCount}
 
 unfoldable pub within : ℕ → ℕ → ℕ → Bool
 within low n high = leb low n && leb n high
-
--- Park and Miller's of 1988 or of 1993
-unfoldable pub validMultiplier : ℕ → Bool
-validMultiplier a = eqb a 16807 || eqb a 48271
 
 -- b 1 to 32; N 1 to 256; n0 1 to 4; s 1 to N; k 1 to 8; A 1 to 99; M from n0·N to 1,024; the multiplier is one of the two
 unfoldable pub validParameters : Parameters → Bool

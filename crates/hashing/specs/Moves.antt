@@ -18,16 +18,16 @@ moves a p k zero = []
 moves a p k (suc i) = moves a p k i ++ cond (chosen a p k i) (codeAt p i ∷ []) []
 
 -- G in a step
-unfoldable pub countOf : Parameters → ℕ → ℕ
-countOf p code = p .groups * 2 ^ (code / 8)
+unfoldable pub codeCount : Parameters → ℕ → ℕ
+codeCount p code = p .groups * 2 ^ (code / 8)
 
 -- n·G + order
-unfoldable pub pageOf : Parameters → ℕ → ℕ → ℕ
-pageOf p code order = code % 8 * countOf p code + order
+unfoldable pub codePage : Parameters → ℕ → ℕ → ℕ
+codePage p code order = code % 8 * codeCount p code + order
 
 -- where a step moves a page
 unfoldable pub movedTo : Parameters → ℕ → ℕ → ℕ
-movedTo p page code = pageOf p code (rank (p .step) (countOf p code) (page % countOf p code))
+movedTo p page code = codePage p code (rank (p .step) (codeCount p code) (page % codeCount p code))
 
 unfoldable pub followed : Parameters → ℕ → List ℕ → ℕ
 followed p page [] = page
@@ -36,15 +36,15 @@ followed p page (code ∷ codes) = followed p (movedTo p page code) codes
 -- the same from the page with a code and an order, with the code and order of the page that is reached
 unfoldable pub landing : Parameters → ℕ → ℕ → List ℕ → Landing
 landing p code order [] = record { code = code; order = order }
-landing p code order (next ∷ codes) = landing p next (rank (p .step) (countOf p next) (pageOf p code order % countOf p next)) codes
+landing p code order (next ∷ codes) = landing p next (rank (p .step) (codeCount p next) (codePage p code order % codeCount p next)) codes
 
 -- neither G nor n·G passes 1,024 in a step
 abbrev pub Narrow : Parameters → ℕ → Type 0
-Narrow p code = (countOf p code ≤ 1024) × (code % 8 * countOf p code ≤ 1024)
+Narrow p code = (codeCount p code ≤ 1024) × (code % 8 * codeCount p code ≤ 1024)
 
 -- the page with a code and an order, below 2,048
 abbrev pub Landed : Parameters → ℕ → ℕ → Type 0
-Landed p code order = (order < countOf p code) × Narrow p code
+Landed p code order = (order < codeCount p code) × Narrow p code
 
 -- the doublings of narrow steps do not fall, from low to high
 abbrev pub Rising : Parameters → ℕ → List ℕ → ℕ → Type 0

@@ -2,14 +2,14 @@
 ghost use mathlib.Core.Path.{_≡_};
 ghost use mathlib.Core.Bool.{true};
 ghost use Prim.Native.Nat.{_*_, _/_, _%_, _<_, _≤_};
-ghost use Rattle.hashing.specs.Generator.{modulus, multiplierOf, firstMultipliers, scrambled};
+ghost use Rattle.generator.specs.Generator.{modulus, firstMultipliers, scrambled};
+ghost use Rattle.hashing.specs.Geometry.{multiplierOf};
 ghost use Rattle.hashing.specs.Geometry.{grown};
 ghost use Rattle.hashing.specs.Limits.{validParameters, validGrowth};
 ghost use Rattle.hashing.specs.Home.{rankAt, stepFrom, chosen as Home·chosen, home as Home·home};
-ghost use Rattle.hashing.specs.Moves.{codeAt, pageOf, inverseOf, Landed};
+ghost use Rattle.hashing.specs.Moves.{codeAt, codePage, inverseOf, Landed};
 use crate::Geometry;
 use crate::Parameters;
-use crate::generator::residue;
 use crate::moves::Landing;
 use crate::moves::choose;
 use crate::moves::chosen;
@@ -18,6 +18,7 @@ use crate::moves::follow;
 use crate::moves::moved;
 use crate::moves::page_of;
 use crate::moves::ranked;
+use generator::residue;
 
 pub fn home(table: &[u32; 90], geometry: Geometry, number: u32) -> u32
     requires { ⌜ now table ≡ firstMultipliers (multiplierOf (geometry .parameters)) ⌝ }
@@ -89,7 +90,7 @@ fn last_step(
     requires { ⌜ Landed (geometry .parameters) (landing .code) (landing .order) ⌝ }
     requires { ⌜ landing .code / 8 ≤ last / 8 ⌝ }
     ensures { λ r. ⌜ r ≡ stepFrom (multiplierOf (geometry .parameters)) (geometry .parameters) (geometry .growth) key (geometry .growth .expansions)
-        (pageOf (geometry .parameters) (landing .code) (landing .order)) ⌝ }
+        (codePage (geometry .parameters) (landing .code) (landing .order)) ⌝ }
 {
     let parameters = geometry.parameters;
     let page = page_of(parameters, landing.code, landing.order);

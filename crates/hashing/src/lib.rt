@@ -1,30 +1,15 @@
-// Where a star's home page is and which signatures it has: the number generator, the geometry of a linear hashing file with
-// partial expansions, the growth step and its undoing.
+// Where a star's home page is: the geometry of a linear hashing file with partial expansions, the growth step and its undoing.
 mod address;
-mod firsts;
-mod generator;
 mod groups;
 mod limits;
 mod moves;
-mod probes;
 mod ranks;
-mod table;
 mod undoing;
 
 pub use address::home;
 pub use address::home_grown;
-pub use generator::below_top;
-pub use generator::first_multipliers;
-pub use generator::multipliers;
-pub use generator::probe_multiplier;
-pub use generator::probe_multipliers;
-pub use generator::residue;
-pub use generator::scrambled;
-pub use generator::signature;
-pub use generator::signature_by;
 pub use groups::grown;
 pub use limits::growth_valid;
-pub use limits::multiplier_valid;
 pub use limits::parameters_valid;
 pub use ranks::rank;
 pub use undoing::home_shrunk;

@@ -1,7 +1,7 @@
 // Tests of the parameters and of the growth state.
 ghost use mathlib.Core.Path.{_≡_};
 ghost use mathlib.Core.Bool.{true};
-ghost use Rattle.hashing.specs.Limits.{validMultiplier, validParameters, validGrowth};
+ghost use Rattle.hashing.specs.Limits.{validParameters, validGrowth};
 ghost use Rattle.hashing.specs.Limits.{within as Limits·within};
 use crate::Growth;
 use crate::Parameters;
@@ -12,12 +12,6 @@ fn within(low: u32, value: u32, high: u32) -> bool
     ensures { λ r. ⌜ r ≡ Limits·within low value high ⌝ }
 {
     low <= value && value <= high
-}
-
-pub fn multiplier_valid(multiplier: u32) -> bool
-    ensures { λ r. ⌜ r ≡ validMultiplier multiplier ⌝ }
-{
-    multiplier == 16807 || multiplier == 48271
 }
 
 pub fn parameters_valid(parameters: Parameters) -> bool
@@ -44,7 +38,7 @@ pub fn parameters_valid(parameters: Parameters) -> bool
     if !within(parameters.width * parameters.groups, parameters.pages, 1024) {
         return false;
     }
-    multiplier_valid(parameters.multiplier)
+    generator::multiplier_valid(parameters.multiplier)
 }
 
 // More than ten doublings give more groups than there are pages, so no larger power is taken.

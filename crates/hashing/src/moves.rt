@@ -4,13 +4,14 @@ ghost use mathlib.Core.Bool.{true};
 ghost use Prim.Native.Nat.{_+_, _*_, _/_, _%_, _≤_, _<_};
 ghost use lib.ListN.{length, take};
 ghost use lib.Dec.{leb};
-ghost use Rattle.hashing.specs.Generator.{modulus, multiplierOf, firstMultipliers};
+ghost use Rattle.generator.specs.Generator.{modulus, firstMultipliers};
+ghost use Rattle.hashing.specs.Geometry.{multiplierOf};
 ghost use Rattle.hashing.specs.Geometry.{rank};
 ghost use Rattle.hashing.specs.Limits.{validParameters};
-ghost use Rattle.hashing.specs.Moves.{codeAt, moves, countOf, pageOf, inverseOf, landing, Landed, Rising};
+ghost use Rattle.hashing.specs.Moves.{codeAt, moves, codeCount, codePage, inverseOf, landing, Landed, Rising};
 use crate::Parameters;
-use crate::generator::residue;
 use crate::ranks::swept;
+use generator::residue;
 
 // The steps that choose a number: how many there are, and the code of the step after all those tested.
 pub struct Choice {
@@ -84,8 +85,8 @@ pub fn choose(
 // G in the step with that code.
 pub fn count_of(parameters: Parameters, code: u16) -> u16
     requires { ⌜ validParameters parameters ≡ true ⌝ }
-    requires { ⌜ countOf parameters code ≤ 1024 ⌝ }
-    ensures { λ r. ⌜ r ≡ countOf parameters code ⌝ }
+    requires { ⌜ codeCount parameters code ≤ 1024 ⌝ }
+    ensures { λ r. ⌜ r ≡ codeCount parameters code ⌝ }
 {
     (parameters.groups as u16) << (code / 8)
 }
@@ -94,7 +95,7 @@ pub fn count_of(parameters: Parameters, code: u16) -> u16
 pub fn page_of(parameters: Parameters, code: u16, order: u16) -> u16
     requires { ⌜ validParameters parameters ≡ true ⌝ }
     requires { ⌜ Landed parameters code order ⌝ }
-    ensures { λ r. ⌜ r ≡ pageOf parameters code order ⌝ }
+    ensures { λ r. ⌜ r ≡ codePage parameters code order ⌝ }
 {
     code % 8 * count_of(parameters, code) + order
 }
@@ -103,8 +104,8 @@ pub fn page_of(parameters: Parameters, code: u16, order: u16) -> u16
 fn regrouped(parameters: Parameters, code: u16, order: u16, next: u16) -> u16
     requires { ⌜ validParameters parameters ≡ true ⌝ }
     requires { ⌜ Landed parameters code order ⌝ }
-    requires { ⌜ (code / 8 ≤ next / 8) × (countOf parameters next ≤ 1024) ⌝ }
-    ensures { λ r. ⌜ r ≡ pageOf parameters code order % countOf parameters next ⌝ }
+    requires { ⌜ (code / 8 ≤ next / 8) × (codeCount parameters next ≤ 1024) ⌝ }
+    ensures { λ r. ⌜ r ≡ codePage parameters code order % codeCount parameters next ⌝ }
 {
     let rest = code % 8 % (1 << (next / 8 - code / 8));
     rest * count_of(parameters, code) + order
@@ -114,8 +115,8 @@ fn regrouped(parameters: Parameters, code: u16, order: u16, next: u16) -> u16
 pub fn ranked(parameters: Parameters, inverse: u32, code: u16, group: u16) -> u16
     requires { ⌜ validParameters parameters ≡ true ⌝ }
     requires { ⌜ inverse ≡ inverseOf (parameters .step) ⌝ }
-    requires { ⌜ (group < countOf parameters code) × (countOf parameters code ≤ 1024) ⌝ }
-    ensures { λ r. ⌜ r ≡ rank (parameters .step) (countOf parameters code) group ⌝ }
+    requires { ⌜ (group < codeCount parameters code) × (codeCount parameters code ≤ 1024) ⌝ }
+    ensures { λ r. ⌜ r ≡ rank (parameters .step) (codeCount parameters code) group ⌝ }
 {
     let count = count_of(parameters, code);
     swept(parameters.step as u16, inverse, count, count - 1 - group)
@@ -126,8 +127,8 @@ pub fn moved(parameters: Parameters, inverse: u32, code: u16, order: u16, next: 
     requires { ⌜ validParameters parameters ≡ true ⌝ }
     requires { ⌜ inverse ≡ inverseOf (parameters .step) ⌝ }
     requires { ⌜ Landed parameters code order ⌝ }
-    requires { ⌜ (code / 8 ≤ next / 8) × (countOf parameters next ≤ 1024) ⌝ }
-    ensures { λ r. ⌜ r ≡ rank (parameters .step) (countOf parameters next) (pageOf parameters code order % countOf parameters next) ⌝ }
+    requires { ⌜ (code / 8 ≤ next / 8) × (codeCount parameters next ≤ 1024) ⌝ }
+    ensures { λ r. ⌜ r ≡ rank (parameters .step) (codeCount parameters next) (codePage parameters code order % codeCount parameters next) ⌝ }
 {
     let group = regrouped(parameters, code, order, next);
     ranked(parameters, inverse, next, group)

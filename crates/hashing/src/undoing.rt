@@ -1,7 +1,8 @@
 // Giving a page back: the growth state before the latest growth, and the homes under it.
 ghost use mathlib.Core.Path.{_≡_};
 ghost use mathlib.Core.Bool.{true, false};
-ghost use Rattle.hashing.specs.Generator.{multiplierOf, firstMultipliers};
+ghost use Rattle.generator.specs.Generator.{firstMultipliers};
+ghost use Rattle.hashing.specs.Geometry.{multiplierOf};
 ghost use Rattle.hashing.specs.Geometry.{isUngrown};
 ghost use Rattle.hashing.specs.Geometry.{shrunk as Geometry·shrunk};
 ghost use Rattle.hashing.specs.Limits.{validParameters, validGrowth};

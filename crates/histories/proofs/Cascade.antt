@@ -12,6 +12,7 @@ use Rattle.hashing.specs.declared.Parameters.{Parameters}
 use Rattle.hashing.specs.declared.Growth.{Growth}
 use Rattle.pages.specs.declared.position.Position.{Position}
 use Rattle.pages.specs.Position.{validNumber, validPosition, validWord}
+use Rattle.placement.proofs.Probing.{bounded-real}
 use Rattle.placement.specs.Rule.{Star, Contents}
 use Rattle.placement.specs.File.{File, replaced}
 use Rattle.placement.specs.Hash.{hashOf, namedPage}
@@ -24,7 +25,7 @@ use Rattle.histories.specs.Model.{Model, enter, cascade, updated, fed, h
 use Rattle.histories.specs.Call.{isAccepted}
 use Rattle.histories.specs.Cascade.{CascadeIsEntry}
 use Rattle.histories.proofs.Stars.{starOf, no-star}
-use Rattle.histories.proofs.Fitting.{Fitting, hashFor, starsFor, bounded, homed, rising-from, proper, in-range, named-readable}
+use Rattle.histories.proofs.Fitting.{Fitting, hashFor, starsFor, homed, rising-from, proper, in-range, named-readable}
 use Rattle.histories.proofs.Held.{held, not-held}
 use Rattle.histories.proofs.Searching.{none-unsound}
 use Rattle.histories.proofs.Conforms.{Conforms}
@@ -60,7 +61,7 @@ module _ (p : Parameters) (m : Model) (t : Fitting p m) (caller k : ℕ) (q : Po
     alike : AsEntry (hashFor p m) (p .pages) (modelFile p m) new
     unfolding modelFile hashOf
     alike =
-        as-entry validWord (hashFor p m) (bounded p (m .growth) (t .parameters)) (p .pages) (starsFor m) new
+        as-entry validWord (hashFor p m) (bounded-real p (m .growth) (t .parameters)) (p .pages) (starsFor m) new
         (rising-from p m t) (proper p m t) (t .fits) (homed p (m .growth) k (t .parameters) (t .growth)) (no-star k (m .entries) absent)
 
     reached : Reach (hashFor p m) (p .pages) (modelFile p m) from to

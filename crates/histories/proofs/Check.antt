@@ -14,9 +14,9 @@ use Rattle.placement.specs.Hash.{hashOf}
 use Rattle.placement.proofs.Composition.{length-pages}
 use Rattle.placement.proofs.Files.{gathered-laid, roomy-pages, all-replaced}
 use Rattle.calls.specs.Answers.{Pool, spotted, refused, cleared, accepted}
-use Rattle.reach.specs.Reach.{firstUnsound}
+use Rattle.reach.specs.Reach.{firstUnsound, allStars}
 use Rattle.calls.specs.Spots.{firstSpot, ruled}
-use Rattle.calls.specs.Calls.{hash, poolFits, unless, guarded, unchanged, allStars, checkedAt, checkOf}
+use Rattle.calls.specs.Calls.{poolFits, unless, guarded, unchanged, checkedAt, checkOf}
 use Rattle.histories.specs.Model.{Model, check, updated, modelFile}
 use Rattle.histories.proofs.Fitting.{Fitting, hashFor, starsFor, rising, proper}
 use Rattle.histories.proofs.Guards.{lent-pool}
@@ -30,13 +30,13 @@ module _ (p : Parameters) (m : Model) (t : Fitting p m) where
   all-stars = gathered-laid validWord (hashFor p m) (p .pages) (starsFor m) (proper p m t) 1 (rising p m t) (t .fits)
 
   -- Placed anew under any growth state, they make that layout.
-  pub placed-anew : (g : Growth) → replaced (p .places) (modelFile p m) 0 (pages (hash p g) 0 (p .pages) (starsFor m)) ≡ laid (p .places) (hash p g) (p .pages) (starsFor m)
+  pub placed-anew : (g : Growth) → replaced (p .places) (modelFile p m) 0 (pages (hashOf p g) 0 (p .pages) (starsFor m)) ≡ laid (p .places) (hashOf p g) (p .pages) (starsFor m)
   unfolding modelFile laid hashOf
   placed-anew g =
-      all-replaced (p .places) (pages (hashFor p m) 0 (p .pages) (starsFor m)) (pages (hash p g) 0 (p .pages) (starsFor m))
+      all-replaced (p .places) (pages (hashFor p m) 0 (p .pages) (starsFor m)) (pages (hashOf p g) 0 (p .pages) (starsFor m))
       (roomy-pages (hashFor p m) 0 (p .pages) (starsFor m))
-      (roomy-pages (hash p g) 0 (p .pages) (starsFor m))
-      (length-pages (hash p g) 0 (p .pages) (starsFor m) ∙ sym (length-pages (hashFor p m) 0 (p .pages) (starsFor m)))
+      (roomy-pages (hashOf p g) 0 (p .pages) (starsFor m))
+      (length-pages (hashOf p g) 0 (p .pages) (starsFor m) ∙ sym (length-pages (hashFor p m) 0 (p .pages) (starsFor m)))
 
   as-ruled : ruled p (m .growth) (modelFile p m) ≡ modelFile p m
   unfolding ruled modelFile

@@ -4,20 +4,21 @@ use mathlib.Core.Bool.{true, _&&_}
 use mathlib.Core.List.{List, [], _∷_, map, List·Memᴰ·head, List·Memᴰ·tail}
 use Prim.Native.Nat.{ℕ, suc, _≤_}
 use borrow.Author.Tests.{le-leb}
+use Rattle.reach.specs.Reach.{allStars}
 use Rattle.hashing.specs.declared.Parameters.{Parameters}
 use Rattle.hashing.specs.declared.Growth.{Growth}
 use Rattle.hashing.specs.Limits.{validParameters, validGrowth}
 use Rattle.hashing.proofs.Bounds.{both}
 use Rattle.pages.specs.Position.{validNumber, validWord, unpacked}
 use Rattle.pages.proofs.Words.{pack-unpack, unpack-valid}
-use Rattle.placement.specs.Rule.{Star}
+use Rattle.placement.specs.Rule.{Star, starWith}
 use Rattle.placement.specs.File.{File, Sized, Clean, greatest, laid}
 use Rattle.placement.specs.Hash.{hashOf}
 use Rattle.placement.proofs.Order.{Rising}
 use Rattle.placement.proofs.Pages.{Proper, rising-one}
 use Rattle.placement.proofs.Sound.{clean-list}
 use Rattle.calls.specs.Answers.{Pool}
-use Rattle.calls.specs.Calls.{hash, fileFits, poolFits, unlent, allStars, checkOf}
+use Rattle.calls.specs.Calls.{fileFits, poolFits, unlent, checkOf}
 use Rattle.calls.proofs.Refusals.{unlent-facts, sized}
 use Rattle.calls.proofs.Accepting.{check-clean}
 use Rattle.histories.specs.Model.{Entry, Model, entryStars, modelFile}
@@ -26,7 +27,7 @@ use Rattle.histories.proofs.Fitting.{Fitting}
 use Rattle.histories.proofs.Guards.{guard-passed}
 
 entryOf : Star → Entry
-entryOf s = record { number = s .number; position = unpacked (s .word); owner = s .owner }
+entryOf s = record { number = s .number; position = unpacked (s .payload .word); owner = s .payload .owner }
 
 abbrev entriesOf : List Star → List Entry
 entriesOf w = map entryOf w
@@ -38,9 +39,9 @@ same-stars : (w : List Star) → Proper validWord w → entryStars (entriesOf w)
 unfolding entryStars entryOf
 same-stars [] h = refl
 same-stars (s ∷ w) h =
-    let one = pack-unpack (s .word) (h s (List·Memᴰ·head refl) .2) in
+    let one = pack-unpack (s .payload .word) (h s (List·Memᴰ·head refl) .2) in
     let more = same-stars w (proper-tail s w h) in
-    λ i. record { number = s .number; word = one i; owner = s .owner } ∷ more i
+    λ i. starWith (s .number) (one i) (s .payload .owner) ∷ more i
 
 number-valid : (k : ℕ) → 1 ≤ k → k ≤ greatest → validNumber k ≡ true
 unfolding validNumber
@@ -51,7 +52,7 @@ unfolding entryOf
 in-order low [] r h = tt
 in-order low (s ∷ w) r h =
     let v = h s (List·Memᴰ·head refl) in
-    (r .0, record { number = number-valid (s .number) (v .0) (v .1); position = unpack-valid (s .word) (v .2) }, in-order (suc (s .number)) w (r .1) (proper-tail s w h))
+    (r .0, record { number = number-valid (s .number) (v .0) (v .1); position = unpack-valid (s .payload .word) (v .2) }, in-order (suc (s .number)) w (r .1) (proper-tail s w h))
 
 -- a model with this growth state and file
 pub record Modelled (p : Parameters) (g : Growth) (f : File) : Type 0 where
@@ -61,11 +62,11 @@ pub record Modelled (p : Parameters) (g : Growth) (f : File) : Type 0 where
   pub file : modelFile p model ≡ f
 
 pub clean-modelled : (p : Parameters) (g : Growth) (f : File) → validParameters p ≡ true → validGrowth p g ≡ true → Sized (p .places) (p .pages) f
-    → Clean validWord (hash p g) (p .pages) f → Modelled p g f
+    → Clean validWord (hashOf p g) (p .pages) f → Modelled p g f
 unfolding modelFile hashOf
 clean-modelled p g f v u z c =
     let w : List Star = allStars p f in
-    let t = clean-list validWord (hash p g) f (p .pages) z c in
+    let t = clean-list validWord (hashOf p g) f (p .pages) z c in
     let same : entryStars (entriesOf w) ≡ w = same-stars w (t .1) in
     record {
       model = record { entries = entriesOf w; growth = g };
@@ -77,7 +78,7 @@ clean-modelled p g f v u z c =
             fits = rw same (t .2);
           };
       growth = refl;
-      file = ap (laid (p .places) (hash p g) (p .pages)) same ∙ sym (c .byRule);
+      file = ap (laid (p .places) (hashOf p g) (p .pages)) same ∙ sym (c .byRule);
     }
 
 -- so is every file that the check accepts

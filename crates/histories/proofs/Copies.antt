@@ -3,22 +3,27 @@ use mathlib.Core.Path.{_≡_, refl, sym, ap, _∙_}
 use mathlib.Core.Bool.{Bool, true, false, not, cond}
 use mathlib.Core.List.{List, [], _∷_, _++_, map, List·Memᴰ}
 use Prim.Native.Nat.{ℕ, zero, suc, _+_, _*_, _≤_}
-use native.Mathlib.Nat.{add-comm, zero-mul, suc-mul, add-mul, mul-le-mul-right}
+use native.Mathlib.Nat.{zero-mul, add-mul, mul-le-mul-right}
 use native.Mathlib.Omega.{arith}
 use lib.Dec.{leb, eqb}
 use lib.ListN.{length, take, drop, getD, set, length-append, length-drop, length-map}
-use lib.Seq.{take-add, drop-drop, length-take-le}
+use lib.Seq.{length-take-le}
 use borrow.Author.Tests.{eqb-true}
-use Rattle.pages.specs.Page.{part}
-use Rattle.placement.specs.Rule.{Star, Hash, Contents, keep, filter, staying, passing, separatorOf, contentsOf, onward, pages, left, insert, pour, collected}
-use Rattle.placement.specs.File.{File, starsOf, starsAt, gathered, padded, column, written, replaced, Sized}
-use Rattle.placement.proofs.Filters.{and-true, filter-comm, filter-append, filter-all-on, length-split, member-filter}
+use Rattle.buffers.proofs.Lists.{length-padded}
+use Rattle.buffers.proofs.Tests.{and-true}
+use Rattle.buffers.proofs.Written.{around}
+use Rattle.buffers.specs.Lists.{written, padded}
+use Rattle.pages.specs.Page.{part, stretch}
+use Rattle.pages.proofs.Parts.{stretch-suc}
+use Rattle.placement.specs.Rule.{Star, Hash, Contents, keep, filter, staying, passing, separatorOf, contentsOf, onward, pages, left, insert, pour, collected, starWith}
+use Rattle.placement.specs.File.{File, starsOf, starsAt, gathered, column, replaced, Sized}
+use Rattle.placement.proofs.Filters.{filter-comm, filter-append, filter-all-on, length-split, member-filter}
 use Rattle.placement.proofs.Separator.{stays}
 use Rattle.placement.proofs.Composition.{length-pages}
-use Rattle.placement.proofs.Writing.{Roomy, around, length-part, length-padded, length-column}
+use Rattle.placement.proofs.Writing.{Roomy, length-part, length-column}
 use Rattle.placement.proofs.Pages.{Numbered, starsOf-padded}
 use Rattle.placement.proofs.Files.{numberOf, wordOf, ownerOf, AllNumbered, roomy-pages, page-member}
-use Rattle.placement.proofs.Search.{Even}
+use Rattle.placement.proofs.Search.{Even, starsOf-append}
 use Rattle.reach.specs.Cascade.{meeting, lowered, pushedTo, pushedOn, cascaded, carriedPast}
 use Rattle.reach.proofs.Cascading.{length-cascaded, roomy-cascaded, numbered-cascaded}
 use Rattle.histories.specs.Others.{isStar, copies}
@@ -26,35 +31,18 @@ use Rattle.histories.specs.Others.{isStar, copies}
 abbrev pub count : Star → List Star → ℕ
 count s l = length (filter (isStar s) l)
 
-pub same-owner : (s t : Star) → isStar s t ≡ true → t .owner ≡ s .owner
+pub same-owner : (s t : Star) → isStar s t ≡ true → t .payload .owner ≡ s .payload .owner
 unfolding isStar
 same-owner s t e =
     let r = and-true (eqb (t .number) (s .number)) _ e .1 in
-    eqb-true (t .owner) (s .owner) (and-true (eqb (t .word) (s .word)) _ r .1)
+    eqb-true (t .payload .owner) (s .payload .owner) (and-true (eqb (t .payload .word) (s .payload .word)) _ r .1)
 
-pub other-owner : (s t : Star) → (t .owner ≡ s .owner → ⊥) → isStar s t ≡ false
+pub other-owner : (s t : Star) → (t .payload .owner ≡ s .payload .owner → ⊥) → isStar s t ≡ false
 other-owner s t h = go (isStar s t) refl
   where
     go : (b : Bool) → isStar s t ≡ b → b ≡ false
     go true e = absurd (h (same-owner s t e))
     go false e = refl
-
--- ---- the stars of parallel lists
-
-pub starsOf-append : (ns ws os ns′ ws′ os′ : List ℕ) → Even ns ws os → starsOf (ns ++ ns′) (ws ++ ws′) (os ++ os′) ≡ starsOf ns ws os ++ starsOf ns′ ws′ os′
-unfolding starsOf
-starsOf-append [] [] [] ns′ ws′ os′ h = refl
-starsOf-append [] (w ∷ ws) os ns′ ws′ os′ h = absurd (omega arith)
-starsOf-append [] [] (o ∷ os) ns′ ws′ os′ h = absurd (omega arith)
-starsOf-append (n ∷ ns) [] os ns′ ws′ os′ h = absurd (omega arith)
-starsOf-append (n ∷ ns) (w ∷ ws) [] ns′ ws′ os′ h = absurd (omega arith)
-starsOf-append (n ∷ ns) (w ∷ ws) (o ∷ os) ns′ ws′ os′ h = go (not (eqb n 0)) (starsOf-append ns ws os ns′ ws′ os′ (omega arith, omega arith))
-  where
-    go : (t : Bool) → starsOf (ns ++ ns′) (ws ++ ws′) (os ++ os′) ≡ starsOf ns ws os ++ starsOf ns′ ws′ os′
-        → keep t (record { number = n; word = w; owner = o }) (starsOf (ns ++ ns′) (ws ++ ws′) (os ++ os′))
-        ≡ keep t (record { number = n; word = w; owner = o }) (starsOf ns ws os) ++ starsOf ns′ ws′ os′
-    go true ih = ap (λ (l : List Star). record { number = n; word = w; owner = o } ∷ l) ih
-    go false ih = ih
 
 -- the same items of the three columns of a file
 pub even : (b M : ℕ) (f : File) → Sized b M f → (g : List ℕ → List ℕ) (n : ℕ) → ((l : List ℕ) → length l ≡ M * b → length (g l) ≡ n)
@@ -63,20 +51,7 @@ even b M f z g n h =
     let e = h (f .numbers) (z .ofNumbers) in
     (e ∙ sym (h (f .words) (z .ofWords)), e ∙ sym (h (f .owners) (z .ofOwners)))
 
--- the items of n pages from p
-abbrev stretch : ℕ → ℕ → ℕ → List ℕ → List ℕ
-stretch b p n l = take (n * b) (drop (p * b) l)
-
-stretch-suc : (b p n : ℕ) (l : List ℕ) → stretch b p (suc n) l ≡ part b p l ++ stretch b (suc p) n l
-unfolding part
-stretch-suc b p n l =
-    ap (λ (k : ℕ). take k (drop (p * b) l)) (suc-mul n b ∙ add-comm (n * b) b)
-    ∙ take-add b (n * b) (drop (p * b) l)
-    ∙ ap (λ (m : List ℕ). take b (drop (p * b) l) ++ take (n * b) m) (drop-drop b (p * b) l ∙ ap (λ (k : ℕ). drop k l) (sym (suc-mul p b)))
-
 module _ (s : Star) where
-  -- ---- lists
-
   pub count-append : (xs ys : List Star) → count s (xs ++ ys) ≡ count s xs + count s ys
   count-append xs ys = ap length (filter-append (isStar s) xs ys) ∙ length-append (filter (isStar s) xs) (filter (isStar s) ys)
 
@@ -109,7 +84,7 @@ module _ (s : Star) where
       h t (r .0) (r .1)))
 
   -- a star of another owner is not s
-  pub count-other : (t : Star) → (t .owner ≡ s .owner → ⊥) → count s (t ∷ []) ≡ 0
+  pub count-other : (t : Star) → (t .payload .owner ≡ s .payload .owner → ⊥) → count s (t ∷ []) ≡ 0
   unfolding filter
   count-other t h = rw (other-owner s t h)
 
@@ -141,10 +116,8 @@ module _ (s : Star) where
         count-pour (starsAt (H .room) f p) (gathered (H .room) f (suc p) (length (cascaded H f (suc p) n (pushedOn H f p (t ∷ a))))),
       )
 
-  -- ---- items
-
   -- a word set at an item of another owner
-  pub count-set : (i v : ℕ) (ns ws os : List ℕ) → (getD os i 0 ≡ s .owner → ⊥) → count s (starsOf ns (set ws i v) os) ≡ count s (starsOf ns ws os)
+  pub count-set : (i v : ℕ) (ns ws os : List ℕ) → (getD os i 0 ≡ s .payload .owner → ⊥) → count s (starsOf ns (set ws i v) os) ≡ count s (starsOf ns ws os)
   unfolding starsOf filter
   count-set i v [] ws os h = refl
   count-set i v (n ∷ ns) [] os h = refl
@@ -152,14 +125,14 @@ module _ (s : Star) where
   count-set (suc i) v (n ∷ ns) (w ∷ ws) [] h = refl
   count-set zero v (n ∷ ns) (w ∷ ws) (o ∷ os) h = go (not (eqb n 0))
     where
-      go : (t : Bool) → count s (keep t (record { number = n; word = v; owner = o }) (starsOf ns ws os)) ≡ count s (keep t (record { number = n; word = w; owner = o }) (starsOf ns ws os))
-      go true = rw (other-owner s (record { number = n; word = v; owner = o }) h, other-owner s (record { number = n; word = w; owner = o }) h)
+      go : (t : Bool) → count s (keep t (starWith n v o) (starsOf ns ws os)) ≡ count s (keep t (starWith n w o) (starsOf ns ws os))
+      go true = rw (other-owner s (starWith n v o) h, other-owner s (starWith n w o) h)
       go false = refl
   count-set (suc i) v (n ∷ ns) (w ∷ ws) (o ∷ os) h = go (not (eqb n 0)) (count-set i v ns ws os h)
     where
       go : (t : Bool) → count s (starsOf ns (set ws i v) os) ≡ count s (starsOf ns ws os)
-          → count s (keep t (record { number = n; word = w; owner = o }) (starsOf ns (set ws i v) os)) ≡ count s (keep t (record { number = n; word = w; owner = o }) (starsOf ns ws os))
-      go true ih = count-append (record { number = n; word = w; owner = o } ∷ []) (starsOf ns (set ws i v) os) ∙ omega (arith, ih, count-append (record { number = n; word = w; owner = o } ∷ []) (starsOf ns ws os))
+          → count s (keep t (starWith n w o) (starsOf ns (set ws i v) os)) ≡ count s (keep t (starWith n w o) (starsOf ns ws os))
+      go true ih = count-append (starWith n w o ∷ []) (starsOf ns (set ws i v) os) ∙ omega (arith, ih, count-append (starWith n w o ∷ []) (starsOf ns ws os))
       go false ih = ih
 
   count-joined : (ns ws os ns′ ws′ os′ : List ℕ) → Even ns ws os → count s (starsOf (ns ++ ns′) (ws ++ ws′) (os ++ os′)) ≡ count s (starsOf ns ws os) + count s (starsOf ns′ ws′ os′)

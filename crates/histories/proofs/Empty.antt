@@ -11,13 +11,14 @@ use Rattle.hashing.specs.declared.Growth.{Growth}
 use Rattle.hashing.specs.Geometry.{pageCount, highest, grown}
 use Rattle.hashing.specs.Limits.{validParameters, validGrowth}
 use Rattle.pages.specs.Position.{validWord}
+use Rattle.placement.proofs.Probing.{bounded-real}
 use Rattle.placement.specs.File.{File, Clean, laid}
 use Rattle.placement.specs.Hash.{hashOf}
 use Rattle.placement.proofs.Sound.{clean-laid}
 use Rattle.calls.specs.Answers.{Pool, After, accepted, refused, cleared}
-use Rattle.calls.specs.Calls.{hash, fileFits, poolFits, unless, orElse, unlent, guarded, unchanged, emptyFile, regrowTo, growOf, checkOf}
+use Rattle.calls.specs.Calls.{fileFits, poolFits, unless, orElse, unlent, guarded, unchanged, emptyFile, regrowTo, growOf, checkOf}
 use Rattle.histories.specs.Model.{Model, entryStars, modelFile}
-use Rattle.histories.proofs.Fitting.{Fitting, bounded, rising-from, proper, lengths}
+use Rattle.histories.proofs.Fitting.{Fitting, rising-from, proper, lengths}
 use Rattle.histories.proofs.Guards.{lent-pool}
 use Rattle.histories.proofs.Make.{left-none, laid-none}
 use Rattle.histories.proofs.Check.{finds-nothing}
@@ -34,21 +35,21 @@ grownEmpty p g pool = record { answer = accepted (pageCount p g); growth = grown
 module _ (p : Parameters) (g : Growth) (valid : validParameters p ≡ true) (state : validGrowth p g ≡ true) where
   fitting : Fitting p (starless g)
   unfolding entryStars
-  fitting = record { parameters = valid; growth = state; ordered = tt; fits = left-none (hash p g) 0 (p .pages) }
+  fitting = record { parameters = valid; growth = state; ordered = tt; fits = left-none (hashOf p g) 0 (p .pages) }
 
-  laid-empty : (next : Growth) → laid (p .places) (hash p next) (p .pages) [] ≡ emptyFile p
+  laid-empty : (next : Growth) → laid (p .places) (hashOf p next) (p .pages) [] ≡ emptyFile p
   unfolding emptyFile hashOf
-  laid-empty next = laid-none (p .places) (hash p next) (bounded p next valid) (p .pages)
+  laid-empty next = laid-none (p .places) (hashOf p next) (bounded-real p next valid) (p .pages)
 
   file-empty : (next : Growth) → modelFile p (starless next) ≡ emptyFile p
   unfolding modelFile entryStars
   file-empty next = laid-empty next
 
-  pub empty-clean : Clean validWord (hash p g) (p .pages) (emptyFile p)
+  pub empty-clean : Clean validWord (hashOf p g) (p .pages) (emptyFile p)
   unfolding entryStars hashOf
   empty-clean =
-      subst (Clean validWord (hash p g) (p .pages)) (laid-empty g)
-      (clean-laid validWord (hash p g) (p .pages) [] (rising-from p (starless g) fitting) (proper p (starless g) fitting) (fitting .fits))
+      subst (Clean validWord (hashOf p g) (p .pages)) (laid-empty g)
+      (clean-laid validWord (hashOf p g) (p .pages) [] (rising-from p (starless g) fitting) (proper p (starless g) fitting) (fitting .fits))
 
   checks : (pool : Pool) → poolFits p pool ≡ true
       → checkOf p g (modelFile p (starless g)) pool ≡ unchanged g (modelFile p (starless g)) (cleared pool) (accepted 0)
@@ -63,7 +64,7 @@ module _ (p : Parameters) (g : Growth) (valid : validParameters p ≡ true) (sta
   unfolding entryStars
   grows-to pool =
       regrows p (starless g) fitting (cleared pool) (grown p g) (pageCount p g)
-      ∙ rw (left-none (hash p (grown p g)) 0 (p .pages), file-empty (grown p g))
+      ∙ rw (left-none (hashOf p (grown p g)) 0 (p .pages), file-empty (grown p g))
 
   grows-from : (pool : Pool) → regrowTo p g (emptyFile p) (cleared pool) (grown p g) (pageCount p g) ≡ grownEmpty p g pool
   grows-from pool = ap (λ (f : File). regrowTo p g f (cleared pool) (grown p g) (pageCount p g)) (sym (file-empty g)) ∙ grows-to pool

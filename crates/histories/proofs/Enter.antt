@@ -14,6 +14,7 @@ use Rattle.hashing.specs.declared.Parameters.{Parameters}
 use Rattle.pages.specs.declared.position.Position.{Position}
 use Rattle.pages.specs.Position.{validNumber, validPosition, validWord, packed, unpacked}
 use Rattle.pages.proofs.Words.{unpack-pack}
+use Rattle.placement.proofs.Probing.{bounded-real}
 use Rattle.placement.specs.Rule.{Star, pages, left, insert}
 use Rattle.placement.specs.File.{replaced, laid}
 use Rattle.placement.specs.Hash.{hashOf, namedPage}
@@ -26,7 +27,7 @@ use Rattle.calls.proofs.Resending.{HeldEntry, resend-leaves, other-refused}
 use Rattle.histories.specs.Model.{Model, enter, updated, setPosition, heldPosition, entryStars, modelFile, pageFor, placeOn}
 use Rattle.histories.proofs.Entries.{ValidEntry, ordered-set, position-valid, set-same}
 use Rattle.histories.proofs.Stars.{starOf, stars-enter}
-use Rattle.histories.proofs.Fitting.{Fitting, hashFor, starsFor, bounded, homed, rising-from, proper, lengths, in-range, laid-stars, named-readable}
+use Rattle.histories.proofs.Fitting.{Fitting, hashFor, starsFor, homed, rising-from, proper, lengths, in-range, laid-stars, named-readable}
 use Rattle.histories.proofs.Held.{held, held-word, not-held}
 use Rattle.histories.proofs.Guards.{lent-pool}
 use Rattle.histories.proofs.Searching.{none-unsound}
@@ -54,13 +55,13 @@ module _ (p : Parameters) (m : Model) (t : Fitting p m) (caller k : ℕ) (q : Po
       × (left (hashFor p m) 0 (p .pages) (insert new (starsFor m)) ≡ [])
   unfolding modelFile hashOf
   placed =
-      entry-laid validWord (hashFor p m) (bounded p (m .growth) (t .parameters)) (p .pages) (starsFor m) new
+      entry-laid validWord (hashFor p m) (bounded-real p (m .growth) (t .parameters)) (p .pages) (starsFor m) new
       (rising-from p m t) (proper p m t) (t .fits) inside
 
   carried : entersWithin (hashFor p m) (modelFile p m) new to ≡ false → left (hashFor p m) 0 (p .pages) (insert new (starsFor m)) ≡ [] → ⊥
   unfolding modelFile hashOf
   carried =
-      entry-carried validWord (hashFor p m) (bounded p (m .growth) (t .parameters)) (p .pages) (starsFor m) new
+      entry-carried validWord (hashFor p m) (bounded-real p (m .growth) (t .parameters)) (p .pages) (starsFor m) new
       (rising-from p m t) (proper p m t) (t .fits) inside
 
   module _ (valid : ValidEntry k q) (absent : heldPosition k (m .entries) ≡ none) where

@@ -8,31 +8,26 @@ use lib.Dec.{leb}
 use borrow.Author.Tests.{leb-true, lt-ltb, eq-eqb}
 use Rattle.hashing.specs.declared.Parameters.{Parameters}
 use Rattle.hashing.specs.declared.Growth.{Growth}
-use Rattle.hashing.specs.Generator.{multiplierOf}
+use Rattle.hashing.specs.Geometry.{multiplierOf}
 use Rattle.hashing.specs.Limits.{validParameters, validGrowth}
-use Rattle.hashing.proofs.Laws.{signature-below, home-pages}
-use Rattle.hashing.proofs.Bounds.{limits}
+use Rattle.hashing.proofs.Homes.{home-pages}
 use Rattle.pages.specs.Position.{validNumber, validWord}
-use Rattle.placement.specs.Rule.{Star, Hash, pages, left}
+use Rattle.placement.proofs.Probing.{bounded-real}
+use Rattle.placement.specs.Rule.{Star, Hash, left}
 use Rattle.placement.specs.File.{laid, Sized, greatest, fileOf}
 use Rattle.placement.specs.Hash.{hashOf, soundAt}
-use Rattle.placement.proofs.Separator.{Bounded}
 use Rattle.placement.proofs.Order.{Rising, rising-less}
 use Rattle.placement.proofs.Pages.{Proper}
 use Rattle.placement.proofs.Files.{sized-laid}
 use Rattle.placement.proofs.Sound.{sound-laid, facts-sound}
-use Rattle.calls.specs.Calls.{hash, fileFits, readable}
+use Rattle.calls.specs.Calls.{fileFits, readable}
 use Rattle.histories.specs.Model.{Model, entryStars, modelFile, pageFor}
 use Rattle.histories.proofs.Entries.{Ordered}
 use Rattle.histories.proofs.Stars.{stars-rise, stars-valid}
 use Rattle.histories.proofs.Naming.{page-named}
 
--- Signatures are below the top, and homes are pages.
-pub bounded : (p : Parameters) (g : Growth) → validParameters p ≡ true → Bounded (hash p g)
-unfolding hashOf
-bounded p g v k page = signature-below (multiplierOf p) (p .bits) k _ (limits p v .bits-least)
-
-pub homed : (p : Parameters) (g : Growth) (k : ℕ) → validParameters p ≡ true → validGrowth p g ≡ true → hash p g .home k < p .pages
+-- Homes are pages.
+pub homed : (p : Parameters) (g : Growth) (k : ℕ) → validParameters p ≡ true → validGrowth p g ≡ true → hashOf p g .home k < p .pages
 unfolding hashOf
 homed p g k v w = home-pages (multiplierOf p) p g k v w
 
@@ -41,10 +36,10 @@ pub record Fitting (p : Parameters) (m : Model) : Type 0 where
   pub parameters : validParameters p ≡ true
   pub growth : validGrowth p (m .growth) ≡ true
   pub ordered : Ordered 1 (m .entries)
-  pub fits : left (hash p (m .growth)) 0 (p .pages) (entryStars (m .entries)) ≡ []
+  pub fits : left (hashOf p (m .growth)) 0 (p .pages) (entryStars (m .entries)) ≡ []
 
 abbrev pub hashFor : Parameters → Model → Hash
-hashFor p m = hash p (m .growth)
+hashFor p m = hashOf p (m .growth)
 
 abbrev pub starsFor : Model → List Star
 starsFor m = entryStars (m .entries)
@@ -90,7 +85,7 @@ module _ (p : Parameters) (m : Model) (t : Fitting p m) where
   pub named-inside : (k : ℕ) → pageFor p m k < p .pages
   unfolding pageFor modelFile laid fileOf
   named-inside k =
-      page-named (hashFor p m) (bounded p (m .growth) (t .parameters)) (p .pages) (starsFor m) k (t .fits) (homed p (m .growth) k (t .parameters) (t .growth))
+      page-named (hashFor p m) (bounded-real p (m .growth) (t .parameters)) (p .pages) (starsFor m) k (t .fits) (homed p (m .growth) k (t .parameters) (t .growth))
 
   pub named-readable : (k : ℕ) → readable p (m .growth) (modelFile p m) (pageFor p m k) ≡ true
   unfolding readable

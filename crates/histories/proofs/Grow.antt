@@ -8,17 +8,18 @@ use native.Mathlib.Nat.{zero-add, le-refl}
 use native.Mathlib.Omega.{arith}
 use lib.Dec.{eqb}
 use borrow.Author.Tests.{le-ltb, eqb-false}
+use Rattle.placement.specs.Hash.{hashOf}
 use Rattle.hashing.specs.declared.Parameters.{Parameters}
 use Rattle.hashing.specs.declared.Growth.{Growth}
 use Rattle.hashing.specs.Geometry.{pageCount, highest, grown, ungrown, isUngrown, shrunk}
 use Rattle.hashing.specs.Limits.{validGrowth}
 use Rattle.hashing.proofs.Bounds.{growth-within}
-use Rattle.hashing.proofs.Laws.{grown-valid}
+use Rattle.hashing.proofs.Homes.{grown-valid}
 use Rattle.hashing.proofs.Shrinking.{new-is, shrunk-valid}
 use Rattle.placement.specs.Rule.{Star, left}
 use Rattle.reach.specs.Reach.{isEmpty}
 use Rattle.calls.specs.Answers.{Pool, After, spotted, accepted, refused, cleared}
-use Rattle.calls.specs.Calls.{hash, poolFits, unless, guarded, unchanged, regrowTo, growOf, shrinkOf}
+use Rattle.calls.specs.Calls.{poolFits, unless, guarded, unchanged, regrowTo, growOf, shrinkOf}
 use Rattle.histories.specs.Model.{Model, Request, lookUp, grow, shrink, updated, modelFile}
 use Rattle.histories.proofs.Fitting.{Fitting, starsFor}
 use Rattle.histories.proofs.Guards.{lent-pool}
@@ -32,7 +33,7 @@ regrown m next = record { entries = m .entries; growth = next }
 
 -- its stars that a growth state carries past the last page
 abbrev pub carried : Parameters → Model → Growth → List Star
-carried p m next = left (hash p next) 0 (p .pages) (starsFor m)
+carried p m next = left (hashOf p next) 0 (p .pages) (starsFor m)
 
 -- what it leaves if none is
 abbrev pub moved : Parameters → Model → Pool → Growth → ℕ → After

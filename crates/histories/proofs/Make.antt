@@ -6,19 +6,20 @@ use Prim.Native.Nat.{ℕ, zero, suc, _*_}
 use native.Mathlib.Nat.{suc-mul, zero-mul, sub-zero, add-comm}
 use native.Mathlib.Omega.{arith}
 use lib.ListN.{replicate, replicate-append-replicate}
+use Rattle.buffers.specs.Lists.{padded}
 use Rattle.hashing.specs.declared.Parameters.{Parameters}
 use Rattle.hashing.specs.Geometry.{ungrown}
 use Rattle.hashing.specs.Limits.{validParameters}
-use Rattle.hashing.proofs.Laws.{start-valid}
+use Rattle.hashing.proofs.Homes.{start-valid}
+use Rattle.placement.proofs.Probing.{bounded-real}
 use Rattle.placement.specs.Rule.{Star, Hash, Contents, filter, passing, contentsOf, staying, onward, pages, left, separators}
-use Rattle.placement.specs.File.{File, padded, column, laid, fileOf}
+use Rattle.placement.specs.File.{File, column, laid, fileOf}
 use Rattle.placement.specs.Hash.{hashOf}
 use Rattle.placement.proofs.Separator.{Bounded, probing-top}
 use Rattle.calls.specs.Answers.{Pool, spotted}
-use Rattle.calls.specs.Calls.{hash, fileFits, unless, orElse, guarded, emptyFile, makeOf}
+use Rattle.calls.specs.Calls.{fileFits, unless, orElse, guarded, emptyFile, makeOf}
 use Rattle.histories.specs.Model.{emptyModel, entryStars, modelFile}
 use Rattle.histories.specs.Run.{initial}
-use Rattle.histories.proofs.Fitting.{bounded}
 use Rattle.histories.proofs.Histories.{Agrees}
 
 -- Of no stars nothing is left, and every page is empty under the top.
@@ -49,11 +50,11 @@ pub laid-none : (b : ℕ) (H : Hash) → Bounded H → (n : ℕ)
     → laid b H n [] ≡ record { separators = replicate n (H .top); numbers = replicate (n * b) 0; words = replicate (n * b) 0; owners = replicate (n * b) 0 }
 unfolding laid fileOf
 laid-none b H bounds n =
-    rw (pages-none H bounds 0 n, separators-none n (vacant H), column-none b (λ (s : Star). s .number) n (H .top), column-none b (λ (s : Star). s .word) n (H .top), column-none b (λ (s : Star). s .owner) n (H .top))
+    rw (pages-none H bounds 0 n, separators-none n (vacant H), column-none b (λ (s : Star). s .number) n (H .top), column-none b (λ (s : Star). s .payload .word) n (H .top), column-none b (λ (s : Star). s .payload .owner) n (H .top))
 
 empty-is : (p : Parameters) → validParameters p ≡ true → emptyFile p ≡ modelFile p emptyModel
 unfolding emptyFile modelFile emptyModel entryStars hashOf
-empty-is p v = sym (laid-none (p .places) (hash p ungrown) (bounded p ungrown v) (p .pages))
+empty-is p v = sym (laid-none (p .places) (hashOf p ungrown) (bounded-real p ungrown v) (p .pages))
 
 -- What make accepts.
 pub record Accepted (p : Parameters) (f : File) : Type 0 where
@@ -80,5 +81,5 @@ initial-agrees p f pool e =
     (record {
       growth = refl;
       file = empty-is p (a .parameters);
-      fitting = record { parameters = a .parameters; growth = start-valid p (a .parameters); ordered = tt; fits = left-none (hash p ungrown) 0 (p .pages) };
+      fitting = record { parameters = a .parameters; growth = start-valid p (a .parameters); ordered = tt; fits = left-none (hashOf p ungrown) 0 (p .pages) };
     })

@@ -30,7 +30,7 @@ use Rattle.reach.specs.Reach.{isEmpty, pagesTo, removalEnd, entering, entersWit
 use Rattle.reach.specs.Cascade.{cascaded, carriedPast}
 use Rattle.reach.proofs.Reaching.{is-empty, entry-reach, removal-reach}
 use Rattle.calls.specs.Answers.{Pool, After, cleared}
-use Rattle.calls.specs.Calls.{hash, fileFits, poolFits, unless, orElse, unlent, guarded, readable, named, holds, placeFor, itemOf, ownerFor, mayAlter, allowed, enterTo, unlessHeld, enterOn, entryRefusal, entered, enterOf, cascadeFrom, cascadeOn, cascadeOf, changeOn, changeOf, removeTo, removeOn, removeOf}
+use Rattle.calls.specs.Calls.{fileFits, poolFits, unless, orElse, unlent, guarded, readable, named, holds, placeFor, itemOf, ownerFor, mayAlter, allowed, enterTo, unlessHeld, enterOn, entryRefusal, entered, enterOf, cascadeFrom, cascadeOn, cascadeOf, changeOn, changeOf, removeTo, removeOn, removeOf}
 use Rattle.calls.proofs.Refusals.{unlent-facts, sized}
 use Rattle.histories.specs.Model.{lookUp, enter, cascade, change, remove, grow, shrink, due, check, callerOf}
 use Rattle.histories.specs.Call.{step}
@@ -54,7 +54,7 @@ given : (t : Bool) (n : ℕ) → unless t (suc n) ≡ 0 → t ≡ true
 given true n e = refl
 given false n e = absurd (omega arith)
 
-module _ (p : Parameters) (g : Growth) (f : File) (caller : ℕ) (observer : caller ≡ 0 → ⊥) (s : Star) (other : s .owner ≡ caller → ⊥) where
+module _ (p : Parameters) (g : Growth) (f : File) (caller : ℕ) (observer : caller ≡ 0 → ⊥) (s : Star) (other : s .payload .owner ≡ caller → ⊥) where
   -- what a call leaves holds s as often
   record Kept (a : After) : Type 0 where
     same : copies s (a .file) ≡ copies s f
@@ -108,33 +108,33 @@ module _ (p : Parameters) (g : Growth) (f : File) (caller : ℕ) (observer : cal
     abbrev standing : List Star
     standing = gathered (p .places) f from n
 
-    sounds : AllSound validWord (hash p g) f from n
+    sounds : AllSound validWord (hashOf p g) f from n
     sounds = all-sound-before p g f from n sound
 
     numbered : Numbered standing
     unfolding hashOf
-    numbered x m = gathered-proper validWord (hash p g) f from n sounds x m .0
+    numbered x m = gathered-proper validWord (hashOf p g) f from n sounds x m .0
 
-    ruled-kept : (w : List Star) → Numbered w → left (hash p g) from n w ≡ [] → count s w ≡ count s standing
-        → copies s (replaced (p .places) f from (pages (hash p g) from n w)) ≡ copies s f
+    ruled-kept : (w : List Star) → Numbered w → left (hashOf p g) from n w ≡ [] → count s w ≡ count s standing
+        → copies s (replaced (p .places) f from (pages (hashOf p g) from n w)) ≡ copies s f
     unfolding hashOf
-    ruled-kept w = ruled-copies s (hash p g) (p .pages) from n f w (t .sizes) inside
+    ruled-kept w = ruled-copies s (hashOf p g) (p .pages) from n f w (t .sizes) inside
 
-    enters-kept : (new : Star) → new .owner ≡ caller → 1 ≤ new .number → left (hash p g) from n (insert new standing) ≡ []
-        → copies s (replaced (p .places) f from (pages (hash p g) from n (insert new standing))) ≡ copies s f
+    enters-kept : (new : Star) → new .payload .owner ≡ caller → 1 ≤ new .number → left (hashOf p g) from n (insert new standing) ≡ []
+        → copies s (replaced (p .places) f from (pages (hashOf p g) from n (insert new standing))) ≡ copies s f
     enters-kept new mine valid e =
         ruled-kept (insert new standing)
         (λ x m. ⊎-elim (λ (d : x ≡ new). rw d valid) (numbered x) (member-insert new standing x m)) e
         (omega (arith, count-insert s new standing, count-other s new (λ d. other (sym d ∙ mine))))
 
     -- a star of number k stands on the page named for it, where the search finds its owner
-    owner-standing : (k : ℕ) (x : Star) → List·Memᴰ x standing → x .number ≡ k → x .owner ≡ ownerFor p f (named p g f k) k
+    owner-standing : (k : ℕ) (x : Star) → List·Memᴰ x standing → x .number ≡ k → x .payload .owner ≡ ownerFor p f (named p g f k) k
     unfolding hashOf namedPage itemOf starsAt
     owner-standing k x m d =
         let q = gathered-member (p .places) f from n x m in
         let page : ℕ = q .0 in
         let c = sounds page (q .1) (q .2) in
-        let here : named p g f k ≡ page = ap (first (hash p g) 0 (f .separators)) (sym d) ∙ c .here x (q .3) in
+        let here : named p g f k ≡ page = ap (first (hashOf p g) 0 (f .separators)) (sym d) ∙ c .here x (q .3) in
         let found =
         star-held validWord (part (p .places) page (f .numbers)) (part (p .places) page (f .words)) (part (p .places) page (f .owners)) x
         (even (p .places) (p .pages) f (t .sizes) (part (p .places) page) (p .places) (λ l e. length-part (p .places) page (p .pages) l e (omega (arith, q .2))))
@@ -143,55 +143,55 @@ module _ (p : Parameters) (g : Growth) (f : File) (caller : ℕ) (observer : cal
         (sym (found .2) ∙ part-item (p .places) page (f .owners) _ (place-below (p .places) page (x .number) (f .numbers) (found .0)))
 
     removes-kept : (k : ℕ) → ownerFor p f (named p g f k) k ≡ caller
-        → copies s (replaced (p .places) f from (pages (hash p g) from n (without k standing))) ≡ copies s f
+        → copies s (replaced (p .places) f from (pages (hashOf p g) from n (without k standing))) ≡ copies s f
     unfolding hashOf without
     removes-kept k mine =
         ruled-kept (without k standing)
         (λ x m. numbered x (member-without k standing x m .0))
-        (sound-fits validWord (hash p g) f (p .pages) from n (λ (x : Star). not (eqb (x .number) k)) (t .sizes) inside sounds)
+        (sound-fits validWord (hashOf p g) f (p .pages) from n (λ (x : Star). not (eqb (x .number) k)) (t .sizes) inside sounds)
         (count-kept s (λ (x : Star). not (eqb (x .number) k)) standing
         (λ x m e. ap not (ne-eqb (x .number) k (λ d. other (sym (same-owner s x e) ∙ owner-standing k x m d ∙ mine)))))
 
-  entered-kept : Lent → (pool : Pool) (new : Star) (place : ℕ) → new .owner ≡ caller → 1 ≤ new .number
-      → Kept (enterTo p g f pool new place (entryEnd (hash p g) (p .pages) f new))
+  entered-kept : Lent → (pool : Pool) (new : Star) (place : ℕ) → new .payload .owner ≡ caller → 1 ≤ new .number
+      → Kept (enterTo p g f pool new place (entryEnd (hashOf p g) (p .pages) f new))
   unfolding enterTo hashOf entering entersWithin
   entered-kept t pool new place mine valid =
       either (ltb (firstUnsound p g f from n) (from + n)) _ _ (λ _. record { same = refl })
       (λ sound.
-      either (entersWithin (hash p g) f new (entryEnd (hash p g) (p .pages) f new)) _ _
-      (λ e. record { same = enters-kept t from n (entry-reach (hash p g) (p .pages) f new (homed p g (new .number) (t .parameters) (t .growth)) .high) sound new mine valid (is-empty _ e) })
+      either (entersWithin (hashOf p g) f new (entryEnd (hashOf p g) (p .pages) f new)) _ _
+      (λ e. record { same = enters-kept t from n (entry-reach (hashOf p g) (p .pages) f new (homed p g (new .number) (t .parameters) (t .growth)) .high) sound new mine valid (is-empty _ e) })
       (λ _. record { same = refl }))
     where
       from : ℕ
-      from = hash p g .home (new .number)
+      from = hashOf p g .home (new .number)
 
       n : ℕ
-      n = pagesTo from (entryEnd (hash p g) (p .pages) f new)
+      n = pagesTo from (entryEnd (hashOf p g) (p .pages) f new)
 
   removed-kept : Lent → (pool : Pool) (k place : ℕ) → ownerFor p f (named p g f k) k ≡ caller
-      → Kept (removeTo p g f pool (named p g f k) k place (removalEnd (hash p g) (p .pages) f (hash p g .home k)))
+      → Kept (removeTo p g f pool (named p g f k) k place (removalEnd (hashOf p g) (p .pages) f (hashOf p g .home k)))
   unfolding removeTo hashOf
   removed-kept t pool k place mine =
       either (ltb (firstUnsound p g f from n) (from + n)) _ _ (λ _. record { same = refl })
-      (λ sound. record { same = removes-kept t from n (removal-reach (hash p g) (p .pages) f from (homed p g k (t .parameters) (t .growth)) .high) sound k mine })
+      (λ sound. record { same = removes-kept t from n (removal-reach (hashOf p g) (p .pages) f from (homed p g k (t .parameters) (t .growth)) .high) sound k mine })
     where
       from : ℕ
-      from = hash p g .home k
+      from = hashOf p g .home k
 
       n : ℕ
-      n = pagesTo from (removalEnd (hash p g) (p .pages) f from)
+      n = pagesTo from (removalEnd (hashOf p g) (p .pages) f from)
 
   -- from the page named on, which may be the page past the last
-  pushed-kept : Lent → (pool : Pool) (new : Star) (place : ℕ) → new .owner ≡ caller → 1 ≤ new .number
+  pushed-kept : Lent → (pool : Pool) (new : Star) (place : ℕ) → new .payload .owner ≡ caller → 1 ≤ new .number
       → Kept (cascadeFrom p g f pool new place (named p g f (new .number)))
   unfolding cascadeFrom hashOf namedPage
   pushed-kept t pool new place mine valid =
       either (ltb (firstUnsound p g f page (length pushed)) (page + length pushed)) _ _ (λ _. record { same = refl })
       (λ _.
-      either (isEmpty (carriedPast (hash p g) f page (p .pages - page) (new ∷ []))) _ _
+      either (isEmpty (carriedPast (hashOf p g) f page (p .pages - page) (new ∷ []))) _ _
       (λ e. record {
         same =
-            cascaded-copies s (hash p g) (p .pages) page (p .pages - page) f (new ∷ []) (t .sizes) inside
+            cascaded-copies s (hashOf p g) (p .pages) page (p .pages - page) f (new ∷ []) (t .sizes) inside
             (λ x m. rw (List·Memᴰ·eq-of-singleton m) valid) (is-empty _ e) (count-other s new (λ d. other (sym d ∙ mine)));
       })
       (λ _. record { same = refl }))
@@ -200,10 +200,10 @@ module _ (p : Parameters) (g : Growth) (f : File) (caller : ℕ) (observer : cal
       page = named p g f (new .number)
 
       pushed : List Contents
-      pushed = cascaded (hash p g) f page (p .pages - page) (new ∷ [])
+      pushed = cascaded (hashOf p g) f page (p .pages - page) (new ∷ [])
 
       inside : page + (p .pages - page) ≤ p .pages
-      inside = omega (arith, first-le (hash p g) 0 (f .separators) (new .number), t .sizes .ofSeparators)
+      inside = omega (arith, first-le (hashOf p g) 0 (f .separators) (new .number), t .sizes .ofSeparators)
 
   -- past refusals 1 to 4, of a star not held
   entry-kept : (pool : Pool) (k : ℕ) (q : Position) (after : After) → (Lent → 1 ≤ k → Kept after)

@@ -11,6 +11,7 @@ use borrow.Author.Tests.{le-ltb}
 use Rattle.hashing.specs.declared.Parameters.{Parameters}
 use Rattle.pages.specs.declared.position.Position.{Position}
 use Rattle.pages.specs.Position.{validNumber, validWord}
+use Rattle.placement.proofs.Probing.{bounded-real}
 use Rattle.placement.specs.Rule.{pages, left, without}
 use Rattle.placement.specs.File.{gathered, replaced, laid}
 use Rattle.placement.specs.Hash.{hashOf, namedPage}
@@ -22,7 +23,7 @@ use Rattle.calls.specs.Calls.{poolFits, unless, orElse, guarded, unchanged, hol
 use Rattle.histories.specs.Model.{Model, remove, updated, heldPosition, heldOwner, modelFile, pageFor, placeOn}
 use Rattle.histories.proofs.Entries.{ordered-strike, position-valid}
 use Rattle.histories.proofs.Stars.{stars-strike}
-use Rattle.histories.proofs.Fitting.{Fitting, hashFor, starsFor, bounded, homed, rising-from, proper, in-range, laid-stars, named-readable}
+use Rattle.histories.proofs.Fitting.{Fitting, hashFor, starsFor, homed, rising-from, proper, in-range, laid-stars, named-readable}
 use Rattle.histories.proofs.Held.{held, not-allowed, is-allowed, not-held}
 use Rattle.histories.proofs.Guards.{lent-pool}
 use Rattle.histories.proofs.Searching.{none-unsound}
@@ -44,7 +45,7 @@ module _ (p : Parameters) (m : Model) (t : Fitting p m) (caller k : ℕ) where
   unfolding modelFile hashOf
   struck =
       let all =
-      removed validWord (hashFor p m) (bounded p (m .growth) (t .parameters)) (p .pages) from (to - from) (starsFor m)
+      removed validWord (hashFor p m) (bounded-real p (m .growth) (t .parameters)) (p .pages) from (to - from) (starsFor m)
       (rising-from p m t) (proper p m t) (t .fits) (removal .high) k refl (removal .ends) in
       (all .1, all .2)
 

@@ -11,7 +11,7 @@ use Rattle.hashing.specs.declared.Growth.{Growth}
 use Rattle.hashing.specs.Geometry.{pageCount, highest, grown, isUngrown, shrunk}
 use Rattle.hashing.specs.Limits.{validGrowth}
 use Rattle.hashing.proofs.Bounds.{limits, growth-within, spread}
-use Rattle.hashing.proofs.Laws.{grown-count}
+use Rattle.hashing.proofs.Homes.{grown-count}
 use Rattle.hashing.proofs.Shrinking.{shrunk-grown, grown-not-new, grown-shrunk, shrunk-page, shrunk-below}
 use Rattle.placement.specs.Rule.{Star}
 use Rattle.placement.specs.File.{File}

@@ -11,7 +11,7 @@ use borrow.Author.Tests.{eqb-true, le-leb, lt-leb, eqb-false}
 use Rattle.pages.specs.declared.position.Position.{Position}
 use Rattle.pages.specs.Position.{validNumber, validWord, packed}
 use Rattle.pages.proofs.Words.{pack-valid}
-use Rattle.placement.specs.Rule.{Star, keep, filter, insert, without, reworded, changed}
+use Rattle.placement.specs.Rule.{Star, keep, filter, insert, without, reworded, changed, starWith}
 use Rattle.placement.proofs.Order.{Rising, Absent, rising-member}
 use Rattle.placement.proofs.Change.{changed-absent}
 use Rattle.histories.specs.Model.{Entry, setPosition, strike, heldPosition, heldOwner, entryStars}
@@ -19,7 +19,7 @@ use Rattle.histories.proofs.Compared.{Compared, lower, equal, higher, c
 use Rattle.histories.proofs.Entries.{Ordered, position-low}
 
 abbrev pub starOf : ℕ → Position → ℕ → Star
-starOf k q owner = record { number = k; word = packed q; owner = owner }
+starOf k q owner = starWith k (packed q) owner
 
 pub stars-rise : (low : ℕ) (es : List Entry) → Ordered low es → Rising low (entryStars es)
 unfolding entryStars
@@ -29,7 +29,7 @@ stars-rise low (e ∷ es) o = (o .0, stars-rise (suc (e .number)) es (o .2))
 -- Every star has a valid number and a valid word.
 pub record ValidStar (s : Star) : Type 0 where
   pub number : validNumber (s .number) ≡ true
-  pub word : validWord (s .word) ≡ true
+  pub word : validWord (s .payload .word) ≡ true
 
 pub stars-valid : (low : ℕ) (es : List Entry) → Ordered low es → (s : Star) → List·Memᴰ s (entryStars es) → ValidStar s
 unfolding entryStars
@@ -52,7 +52,7 @@ held-star k q (e ∷ es) h = go (eqb (e .number) k) refl h (held-star k q es)
     go true u h ih =
         let n : e .number ≡ k = eqb-true (e .number) k u in
         let p : e .position ≡ q = cc in
-        List·Memᴰ·head (λ i. record { number = sym n i; word = packed (sym p i); owner = e .owner })
+        List·Memᴰ·head (λ i. starWith (sym n i) (packed (sym p i)) (e .owner))
     go false u h ih = List·Memᴰ·tail (ih h)
 
 pub no-star : (k : ℕ) (es : List Entry) → heldPosition k es ≡ none → Absent k (entryStars es)

@@ -5,6 +5,7 @@ use mathlib.Core.List.{List, [], List·Memᴰ}
 use mathlib.Core.Logic.{_↔_, _⊎_}
 use mathlib.Core.Option.{none, some}
 use Prim.Native.Nat.{ℕ}
+use Rattle.placement.specs.Hash.{hashOf}
 use Rattle.hashing.specs.declared.Parameters.{Parameters}
 use Rattle.hashing.specs.Geometry.{ungrown, shrunk}
 use Rattle.pages.specs.declared.position.Position.{Position}
@@ -12,7 +13,7 @@ use Rattle.pages.specs.Position.{validNumber, validPosition, validWord}
 use Rattle.placement.specs.Rule.{left}
 use Rattle.placement.specs.File.{File, Clean}
 use Rattle.calls.specs.Answers.{Pool, acceptedAt, refusedAt}
-use Rattle.calls.specs.Calls.{hash, poolFits, makeOf}
+use Rattle.calls.specs.Calls.{poolFits, makeOf}
 use Rattle.histories.specs.Model.{lookUp, enter, cascade, change, remove, shrink, check, setPosition, heldPosition, heldOwner, heldEntry, entryStars, pageFor, placeOn, answered}
 use Rattle.histories.specs.Call.{Call, callOf}
 use Rattle.histories.specs.Run.{HistoryState, Event, initial, outcome, next, events, end}
@@ -28,7 +29,7 @@ AcceptedAt now c k = outcome now c .answer ≡ acceptedAt (pageFor (now .paramet
 -- what holds of a state of a history
 pub record InHistory (now : HistoryState) : Type 0 where
   -- the file is clean: all pages are sound, and it is what the rule gives its stars
-  pub clean : Clean validWord (hash (now .parameters) (now .growth)) (now .parameters .pages) (now .file)
+  pub clean : Clean validWord (hashOf (now .parameters) (now .growth)) (now .parameters .pages) (now .file)
   -- so a check accepts it
   pub checked : (pool : Pool) → poolFits (now .parameters) pool ≡ true → outcome now (callOf pool check) .answer .refusal ≡ 0
   -- a look-up of a valid number is accepted, and answers as the model
@@ -39,7 +40,7 @@ pub record InHistory (now : HistoryState) : Type 0 where
       (pool : Pool) (caller k : ℕ) (q : Position) → poolFits (now .parameters) pool ≡ true → validNumber k ≡ true → validPosition q ≡ true
       → heldPosition k (now .model .entries) ≡ none
       → (outcome now (callOf pool (enter caller k q)) .answer .refusal ≡ 8)
-      ↔ (left (hash (now .parameters) (now .model .growth)) 0 (now .parameters .pages) (entryStars (setPosition caller k q (now .model .entries))) ≡ [] → ⊥)
+      ↔ (left (hashOf (now .parameters) (now .model .growth)) 0 (now .parameters .pages) (entryStars (setPosition caller k q (now .model .entries))) ≡ [] → ⊥)
   -- an entry of a held star with its own position answers its page and place and is no step: file, growth state and model stay
   pub resent :
       (pool : Pool) (caller k : ℕ) (q : Position) → poolFits (now .parameters) pool ≡ true → heldPosition k (now .model .entries) ≡ some q
@@ -74,7 +75,7 @@ pub record InHistory (now : HistoryState) : Type 0 where
   pub shrinkFull :
       (pool : Pool) → poolFits (now .parameters) pool ≡ true → (now .model .growth ≡ ungrown → ⊥)
       → (outcome now (callOf pool shrink) .answer .refusal ≡ 8)
-      ↔ (left (hash (now .parameters) (shrunk (now .parameters) (now .model .growth))) 0 (now .parameters .pages) (entryStars (now .model .entries)) ≡ [] → ⊥)
+      ↔ (left (hashOf (now .parameters) (shrunk (now .parameters) (now .model .growth))) 0 (now .parameters .pages) (entryStars (now .model .entries)) ≡ [] → ⊥)
 
 -- so it is before each call of a history, and at its end
 pub record Throughout (start : HistoryState) (history : List Call) : Type 0 where

@@ -4,16 +4,17 @@ use mathlib.Core.List.{List, [], _∷_, map}
 use mathlib.Core.Option.{Option, none, some}
 use Prim.Native.Nat.{ℕ}
 use lib.Dec.{eqb, ltb}
+use Rattle.placement.specs.Hash.{hashOf}
 use Rattle.hashing.specs.declared.Parameters.{Parameters}
 use Rattle.hashing.specs.declared.Growth.{Growth}
 use Rattle.hashing.specs.Geometry.{grown, ungrown, shrunk}
 use Rattle.pages.specs.declared.position.Position.{Position}
 use Rattle.pages.specs.Position.{packed}
-use Rattle.placement.specs.Rule.{Star, first, filter}
+use Rattle.placement.specs.Rule.{Star, first, filter, starWith}
 use Rattle.placement.specs.File.{File, laid}
 use Rattle.calls.specs.declared.answers.Answer.{Answer}
 use Rattle.calls.specs.Answers.{acceptedAt, foundAt}
-use Rattle.calls.specs.Calls.{hash, placeFor}
+use Rattle.calls.specs.Calls.{placeFor}
 
 pub record Entry : Type 0 where
   pub number : ℕ
@@ -100,15 +101,15 @@ fed p r false m = m
 
 -- "its stars, .. positions packed into words"
 unfoldable pub entryStars : List Entry → List Star
-entryStars es = map (λ (e : Entry). record { number = e .number; word = packed (e .position); owner = e .owner }) es
+entryStars es = map (λ (e : Entry). starWith (e .number) (packed (e .position)) (e .owner)) es
 
 -- "Its separators and pages are what the rule over pages 0 to M−1 gives its stars, homes being taken under its (e, x)"
 unfoldable pub modelFile : Parameters → Model → File
-modelFile p m = laid (p .places) (hash p (m .growth)) (p .pages) (entryStars (m .entries))
+modelFile p m = laid (p .places) (hashOf p (m .growth)) (p .pages) (entryStars (m .entries))
 
 -- "as page the first from home whose separator, of these, is above the number's signature there"
 unfoldable pub pageFor : Parameters → Model → ℕ → ℕ
-pageFor p m k = first (hash p (m .growth)) 0 (modelFile p m .separators) k
+pageFor p m k = first (hashOf p (m .growth)) 0 (modelFile p m .separators) k
 
 -- where the number stands on that page of the model's, or would stand: document 02 (ii)
 abbrev pub placeOn : Parameters → Model → ℕ → ℕ

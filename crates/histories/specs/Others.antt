@@ -15,7 +15,7 @@ use Rattle.histories.specs.Call.{step}
 
 -- t has the number, word and owner of s
 unfoldable pub isStar : Star → Star → Bool
-isStar s t = eqb (t .number) (s .number) && (eqb (t .word) (s .word) && eqb (t .owner) (s .owner))
+isStar s t = eqb (t .number) (s .number) && (eqb (t .payload .word) (s .payload .word) && eqb (t .payload .owner) (s .payload .owner))
 
 -- how many places of the file, on whatever page, hold the star s
 unfoldable pub copies : Star → File → ℕ
@@ -26,4 +26,4 @@ copies s f = length (filter (isStar s) (starsOf (f .numbers) (f .words) (f .owne
 abbrev pub OthersUntouched : Type 0
 OthersUntouched =
     (p : Parameters) (g : Growth) (f : File) (pool : Pool) (r : Request) (caller : ℕ) → callerOf r ≡ some caller → (caller ≡ 0 → ⊥)
-    → (s : Star) → (s .owner ≡ caller → ⊥) → copies s (step p g f pool r .file) ≡ copies s f
+    → (s : Star) → (s .payload .owner ≡ caller → ⊥) → copies s (step p g f pool r .file) ≡ copies s f

@@ -1,14 +1,14 @@
 -- The laws of lists by their places.
 use mathlib.Core.Path.{_≡_, _∙_, refl, sym, ap}
-use mathlib.Core.List.{List, [], _∷_, _++_, map, map-append, append-nil}
-use Prim.Native.Nat.{ℕ, zero, suc, _+_, _≤_, _<_}
+use mathlib.Core.List.{List, [], _∷_, _++_, map, append-nil}
+use Prim.Native.Nat.{ℕ, zero, suc, _+_, _-_, _*_, _/_, _%_, _≤_, _<_}
 use native.Mathlib.Nat.{not-suc-le-zero}
 use native.Mathlib.Decide.{decLt}
 use native.Mathlib.Numerals.{add-one}
 use native.Mathlib.Omega.{arith}
-use lib.ListN.{length, getD, take, drop, set, length-append, length-drop, List·getD-append, List·getD-map, length-map}
-use lib.Seq.{drop-cons, drop-length, set-at, append-snoc, getD-at, getD-take, getD-drop, ext-getD, length-take-le, take-all, take-add, take-take, paste, take-paste}
-use Rattle.homes.specs.Lanes.{lanes}
+use lib.ListN.{length, getD, take, drop, set, length-append, List·getD-append, List·getD-map, length-map}
+use lib.Seq.{drop-cons, drop-length, set-at, append-snoc, getD-at, getD-append-add, getD-take, getD-drop, ext-getD, length-take-le, paste, take-paste, drop-paste}
+use Rattle.homes.specs.Lanes.{lanes, blockAt, Blocks}
 
 pub lanes-length : (n : ℕ) (f : ℕ → ℕ) → length (lanes n f) ≡ n
 unfolding lanes
@@ -62,47 +62,106 @@ lane-unread f l₀ l i h e = rw (e, drop-cons l₀ i 0 h) (getD-at (lanes i f) (
 pub lane-end : (f : ℕ → ℕ) (l₀ l : List ℕ) (n : ℕ) → length l₀ ≡ n → l ≡ lanes n f ++ drop n l₀ → l ≡ lanes n f
 lane-end f l₀ l n s e = e ∙ rw (← s, drop-length l₀) (append-nil (lanes (length l₀) f))
 
-pub lane-size : (f : ℕ → ℕ) (l₀ l : List ℕ) (i n : ℕ) → length l₀ ≡ n → i ≤ n → l ≡ lanes i f ++ drop i l₀ → length l ≡ n
-lane-size f l₀ l i n s h e = rw (e, length-append (lanes i f) (drop i l₀), lanes-length i f, length-drop i l₀, s) (omega arith)
+-- what holds of each place filled
+pub lane-more : (holds : ℕ → Type 0) (f : ℕ → ℕ) (i : ℕ) → ((j : ℕ) → j < i → holds (f j)) → holds (f i) → (j : ℕ) → j < i + 1 → holds (f j)
+lane-more holds f i old new j h = go (decLt j i)
+  where
+    go : Dec (j < i) → holds (f j)
+    go (yes b) = old j b
+    go (no c) =
+        let e : j ≡ i = omega arith in
+        rw e new
 
 -- a block of a page
 
-pub map-take : (f : ℕ → ℕ) (n : ℕ) (l : List ℕ) → take n (map f l) ≡ map f (take n l)
-map-take f zero l = refl
-map-take f (suc n) [] = refl
-map-take f (suc n) (x ∷ l) = ap (λ (r : List ℕ). f x ∷ r) (map-take f n l)
+-- from `at` on, the blocks of l are those of l₀
+abbrev pub Kept : ℕ → List ℕ → List ℕ → Type 0
+Kept at l l₀ = (b : ℕ) → b % 8 ≡ 0 → at ≤ b → blockAt l b ≡ blockAt l₀ b
 
-part-lanes : (l : List ℕ) (at : ℕ) → at + 8 ≤ length l → lanes 8 (λ i. getD l (at + i) 0) ≡ take 8 (drop at l)
-part-lanes l at h = ext-getD 0 (lanes 8 (λ i. getD l (at + i) 0)) (take 8 (drop at l)) sizes (λ i b. one i (rw (lanes-length 8 (λ i. getD l (at + i) 0)) at b))
+pub lanes-list : (n : ℕ) (l : List ℕ) → length l ≡ n → lanes n (λ i. getD l i 0) ≡ l
+lanes-list n l e = ext-getD 0 (lanes n (λ i. getD l i 0)) l (rw (lanes-length n (λ i. getD l i 0), e)) (λ i h. lane n (λ i. getD l i 0) i (rw (lanes-length n (λ i. getD l i 0)) at h))
+
+module _ (l : List ℕ) (at : ℕ) where
+  pub part-lane : (i : ℕ) → i < 8 → getD (blockAt l at) i 0 ≡ getD l (at + i) 0
+  unfolding blockAt
+  part-lane i h = lane 8 (λ i. getD l (at + i) 0) i h
+
+  pub part-length : length (blockAt l at) ≡ 8
+  unfolding blockAt
+  part-length = lanes-length 8 (λ i. getD l (at + i) 0)
+
+getD-past : (p q : List ℕ) (n i : ℕ) → length p ≡ n → getD (p ++ q) (n + i) 0 ≡ getD q i 0
+getD-past p q n i e = rw (← e) (getD-append-add p q i 0)
+
+-- a block stored
+module _ (l block : List ℕ) (at : ℕ) (fits : at + 8 ≤ length l) (eight : length block ≡ 8) where
+  head : length (take at l) ≡ at
+  head = length-take-le at l (omega arith)
+
+  low : (j : ℕ) → j < at + 8 → getD (paste l at block 8) j 0 ≡ getD (take at l ++ take 8 block) j 0
+  low j h =
+      sym (getD-take (at + 8) (paste l at block 8) j 0 h)
+      ∙ ap (λ (r : List ℕ). getD r j 0) (take-paste l at block 8 (omega arith) (omega arith))
+
+  below : (j : ℕ) → j < at → getD (paste l at block 8) j 0 ≡ getD l j 0
+  below j h = low j (omega arith) ∙ List·getD-append (take at l) (take 8 block) 0 j (rw head h) ∙ getD-take at l j 0 h
+
+  inside : (i : ℕ) → i < 8 → getD (paste l at block 8) (at + i) 0 ≡ getD block i 0
+  inside i h = low (at + i) (omega arith) ∙ getD-past (take at l) (take 8 block) at i head ∙ getD-take 8 block i 0 h
+
+  past : (k : ℕ) → getD (paste l at block 8) (at + 8 + k) 0 ≡ getD l (at + 8 + k) 0
+  past k =
+      sym (getD-drop (at + 8) (paste l at block 8) k 0)
+      ∙ ap (λ (r : List ℕ). getD r k 0) (drop-paste l at block 8 (omega arith) (omega arith))
+      ∙ getD-drop (at + 8) l k 0
+
+  above : (j : ℕ) → at + 8 ≤ j → getD (paste l at block 8) j 0 ≡ getD l j 0
+  above j h =
+      let e : at + 8 + (j - (at + 8)) ≡ j = omega arith in
+      rw e at (past (j - (at + 8)))
+
+  part-stored : blockAt (paste l at block 8) at ≡ block
+  unfolding blockAt
+  part-stored = lanes-same 8 (λ i. getD (paste l at block 8) (at + i) 0) (λ i. getD block i 0) inside ∙ lanes-list 8 block eight
+
+  part-below : (b : ℕ) → b + 8 ≤ at → blockAt (paste l at block 8) b ≡ blockAt l b
+  unfolding blockAt
+  part-below b h = lanes-same 8 (λ i. getD (paste l at block 8) (b + i) 0) (λ i. getD l (b + i) 0) (λ i c. below (b + i) (omega arith))
+
+  part-above : (b : ℕ) → at + 8 ≤ b → blockAt (paste l at block 8) b ≡ blockAt l b
+  unfolding blockAt
+  part-above b h = lanes-same 8 (λ i. getD (paste l at block 8) (b + i) 0) (λ i. getD l (b + i) 0) (λ i c. above (b + i) (omega arith))
+
+  -- a loop over the blocks: what holds of those stored, and that the others stay
+  module _ (start : at % 8 ≡ 0) where
+    pub blocks-more :
+        (holds : ℕ → List ℕ → Type 0) → Blocks at (λ b. holds b (blockAt l b)) → holds at block →
+        Blocks (at + 8) (λ b. holds b (blockAt (paste l at block 8) b))
+    blocks-more holds old new b m h = go (decLt b at)
+      where
+        go : Dec (b < at) → holds b (blockAt (paste l at block 8) b)
+        go (yes c) = rw (part-below b (omega arith)) (old b m c)
+        go (no c) =
+            let e : b ≡ at = omega arith in
+            rw (e, part-stored) new
+
+    pub blocks-rest : (l₀ : List ℕ) → Kept at l l₀ → Kept (at + 8) (paste l at block 8) l₀
+    blocks-rest l₀ old b m h = part-above b h ∙ old b m (omega arith)
+
+-- the blocks together, read place by place
+pub blocks-map :
+    (f : ℕ → ℕ) (numbers pages : List ℕ) (places : ℕ) → places ≤ length numbers → places ≤ length pages →
+    Blocks places (λ at. (i : ℕ) → i < 8 → getD (blockAt pages at) i 0 ≡ f (getD numbers (at + i) 0)) →
+    take places pages ≡ map f (take places numbers)
+blocks-map f numbers pages places hn hp each =
+    sym (lanes-list places (take places pages) (length-take-le places pages hp))
+    ∙ lanes-same places (λ i. getD (take places pages) i 0) (λ i. f (getD (take places numbers) i 0)) one
+    ∙ lanes-map f places (take places numbers) (length-take-le places numbers hn)
   where
-    enough : 8 ≤ length (drop at l)
-    enough = rw (length-drop at l) (omega arith)
-
-    sizes : length (lanes 8 (λ i. getD l (at + i) 0)) ≡ length (take 8 (drop at l))
-    sizes = rw (lanes-length 8 (λ i. getD l (at + i) 0), length-take-le 8 (drop at l) enough)
-
-    one : (i : ℕ) → i < 8 → getD (lanes 8 (λ i. getD l (at + i) 0)) i 0 ≡ getD (take 8 (drop at l)) i 0
-    one i b = lane 8 (λ i. getD l (at + i) 0) i b ∙ sym (getD-take 8 (drop at l) i 0 b ∙ getD-drop at l i 0)
-
-module _ (f : ℕ → ℕ) (numbers pages : List ℕ) where
-  -- one block more
-  pub filled-more :
-      (at : ℕ) (keys block : List ℕ) → at + 8 ≤ length numbers → at + 8 ≤ length pages → take at pages ≡ map f (take at numbers) →
-      keys ≡ lanes 8 (λ i. getD numbers (at + i) 0) → block ≡ lanes 8 (λ i. f (getD keys i 0)) →
-      take (at + 8) (paste pages at block 8) ≡ map f (take (at + 8) numbers)
-  filled-more at keys block hn hp e ke be =
-      take-paste pages at block 8 (omega arith) (omega (arith, size))
-      ∙ rw (take-all 8 block (omega (arith, size)), e, values, ke, part-lanes numbers at hn, take-add at 8 numbers)
-      (sym (map-append f (take at numbers) (take 8 (drop at numbers))))
-    where
-      size : length block ≡ 8
-      size = rw be (lanes-length 8 (λ i. f (getD keys i 0)))
-
-      values : block ≡ map f keys
-      values = be ∙ lanes-map f 8 keys (rw ke (lanes-length 8 (λ i. getD numbers (at + i) 0)))
-
-  -- and of the blocks the places that count
-  pub filled-part : (places at : ℕ) → places ≤ at → take at pages ≡ map f (take at numbers) → take places pages ≡ map f (take places numbers)
-  filled-part places at h e =
-      sym (take-take places at pages h)
-      ∙ rw e (map-take f places (take at numbers) ∙ ap (map f) (take-take places at numbers h))
+    one : (i : ℕ) → i < places → getD (take places pages) i 0 ≡ f (getD (take places numbers) i 0)
+    one i h =
+        let split : 8 * (i / 8) + i % 8 ≡ i = omega arith in
+        let found : getD pages (8 * (i / 8) + i % 8) 0 ≡ f (getD numbers (8 * (i / 8) + i % 8) 0) = sym (part-lane pages (8 * (i / 8)) (i % 8) (omega arith)) ∙ each (8 * (i / 8)) (omega arith) (omega arith) (i % 8) (omega arith) in
+        getD-take places pages i 0 h
+        ∙ rw split at found
+        ∙ ap f (sym (getD-take places numbers i 0 h))

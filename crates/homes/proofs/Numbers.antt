@@ -1,13 +1,13 @@
 -- Facts on native numbers: remainders near the modulus, inverses rounded down, doubled quotients.
-use mathlib.Core.Path.{_≡_, _∙_, ap}
+use mathlib.Core.Path.{_≡_, _∙_, refl, sym, ap}
 use Prim.Native.Nat.{ℕ, suc, _+_, _-_, _*_, _/_, _%_, _≤_, _<_}
-use native.Mathlib.Nat.{add-mul, mul-add, mul-one, one-mul, mul-assoc, mul-comm, suc-mul, mod-lt}
+use native.Mathlib.Nat.{add-mul, mul-add, mul-one, one-mul, mul-assoc, mul-comm, suc-mul, mod-lt, mul-add-mod-self-right}
 use native.Mathlib.Nat.{mod-eq-of-lt, mod-eq-sub-mod, div-add-mod', div-mul-le-self, lt-mul-div-succ, mul-le-mul-left, mul-le-mul-right, div-eq-of-lt-le}
 use native.Mathlib.Decide.{decLe, decLt}
 use native.Mathlib.Omega.{arith}
 use lib.Arith.{digits-div, digits-mod}
-use Rattle.hashing.specs.Generator.{modulus}
-use Rattle.hashing.proofs.Numbers.{halves}
+use Rattle.generator.specs.Generator.{modulus}
+use Rattle.generator.proofs.Numbers.{halves}
 
 -- the product of two numbers doubled, folded twice at 31 bits
 abbrev pub folded : ℕ → ℕ
@@ -19,31 +19,30 @@ folded-is n = omega arith
 pub near-is : (n y : ℕ) → y ≡ n / 2147483648 + n % 2147483648 → (y / 2147483648 + y % 2147483648) % modulus ≡ n % modulus
 near-is n y e = halves y ∙ ap (λ (t : ℕ). t % modulus) e ∙ halves n
 
-pub folded-most : (n : ℕ) → n ≤ 2147483646 * 4294967295 → n / 2147483648 + n % 2147483648 ≤ 6442450942
+pub folded-most : (n : ℕ) → n ≤ 2147483646 * 2147483648 → n / 2147483648 + n % 2147483648 ≤ 4294967293
 folded-most n h = omega arith
 
-pub near-most : (y : ℕ) → y ≤ 6442450942 → y / 2147483648 + y % 2147483648 ≤ modulus + 2
+pub near-most : (y : ℕ) → y ≤ 4294967293 → y / 2147483648 + y % 2147483648 ≤ modulus
 near-most y h = omega arith
 
--- a number a little above the modulus
-pub over : (x : ℕ) → modulus ≤ x → x < 2 * modulus → x % modulus ≡ x - modulus
-over x h l = mod-eq-sub-mod h ∙ mod-eq-of-lt (omega arith)
+pub modulus-only : (x : ℕ) → modulus ≤ x → x ≤ modulus → x % modulus ≡ 0
+modulus-only x h l =
+    let e : x ≡ modulus = omega arith in
+    rw e refl
 
--- with one added, it passes the test that its remainder passes
-pub passes : (x most : ℕ) → x ≤ modulus + 2 → 2 ≤ most → (x + 1) % 2147483648 ≤ most + 1 → x % modulus ≤ most
-passes x most h l t = go (decLt x modulus)
+-- with one added, a number passes the test that its remainder passes
+pub passes : (x most : ℕ) → x ≤ modulus → (x + 1) % 2147483648 ≤ most + 1 → x % modulus ≤ most
+passes x most h t = go (decLt x modulus)
   where
     go : Dec (x < modulus) → x % modulus ≤ most
     go (yes b) =
         let same : x % modulus ≡ x = mod-eq-of-lt b in
         let next : (x + 1) % 2147483648 ≡ x + 1 = mod-eq-of-lt (omega arith) in
         omega arith
-    go (no f) =
-        let same : x % modulus ≡ x - modulus = over x (omega arith) (omega arith) in
-        omega arith
+    go (no f) = rw (modulus-only x (omega arith) h) (omega arith)
 
-pub fails : (x most : ℕ) → x ≤ modulus + 2 → 2 ≤ most → most < modulus → most + 1 < (x + 1) % 2147483648 → most < x % modulus
-fails x most h l m t = go (decLt x modulus)
+pub fails : (x most : ℕ) → x ≤ modulus → most + 1 < (x + 1) % 2147483648 → most < x % modulus
+fails x most h t = go (decLt x modulus)
   where
     go : Dec (x < modulus) → most < x % modulus
     go (yes b) =
@@ -51,8 +50,45 @@ fails x most h l m t = go (decLt x modulus)
         let next : (x + 1) % 2147483648 ≡ x + 1 = mod-eq-of-lt (omega arith) in
         omega arith
     go (no f) =
-        let again : (x + 1) % 2147483648 ≡ x + 1 - 2147483648 = mod-eq-sub-mod {n = x + 1} {m = 2147483648} (omega arith) ∙ mod-eq-of-lt (omega arith) in
-        omega arith
+        let e : x ≡ modulus = omega arith in
+        absurd (omega arith)
+
+-- x by s, with a quotient that may be one too low
+pub record Spread (x s turns : ℕ) : Type 0 where
+  pub least : turns * s ≤ x
+  pub most : x - turns * s < 2 * s
+  pub same : (x - turns * s) % s ≡ x % s
+
+moved-last : (a b c : ℕ) → a * b * c ≡ a * c * b
+moved-last a b c = mul-assoc a b c ∙ ap (λ (n : ℕ). a * n) (mul-comm b c) ∙ sym (mul-assoc a c b)
+
+-- by an inverse rounded down
+pub spread-by : (x s inverse : ℕ) → 1 ≤ s → x < 4294967296 → inverse ≡ 4294967295 / s → Spread x s (x * inverse / 4294967296)
+spread-by x s inverse h l e = record { least = low; most = omega (arith, low, high); same = whole }
+  where
+    turns : ℕ
+    turns = x * inverse / 4294967296
+
+    low : turns * s ≤ x
+    low =
+        let under : turns * 4294967296 * s ≤ x * inverse * s = mul-le-mul-right s (div-mul-le-self (x * inverse) 4294967296) in
+        let near : x * (inverse * s) ≤ x * 4294967295 = mul-le-mul-left x (rw e (div-mul-le-self 4294967295 s)) in
+        omega (arith, under, near, mul-assoc x inverse s, moved-last turns 4294967296 s)
+
+    high : x < turns * s + 2 * s
+    high =
+        let past : 4294967296 ≤ s * (inverse + 1) = rw e (omega (arith, lt-mul-div-succ 4294967295 {b = s} h)) in
+        let wide : x * 4294967296 ≤ x * (s * (inverse + 1)) = mul-le-mul-left x past in
+        let apart : x * (s * (inverse + 1)) ≡ x * inverse * s + x * s = ap (λ (n : ℕ). x * n) (mul-add s inverse 1) ∙ mul-add x (s * inverse) (s * 1) ∙ rw (mul-one s, mul-comm s inverse) (ap (λ (n : ℕ). n + x * s) (sym (mul-assoc x inverse s))) in
+        let under : x * inverse + 1 ≤ (turns + 1) * 4294967296 = omega (arith, div-add-mod' (x * inverse) 4294967296, mod-lt (x * inverse) {m = 4294967296} (omega arith)) in
+        let scaled : (x * inverse + 1) * s ≤ (turns + 1) * 4294967296 * s = mul-le-mul-right s under in
+        let small : x * s ≤ 4294967295 * s = mul-le-mul-right s (omega arith) in
+        omega (arith, wide, apart, scaled, small, add-mul (x * inverse) 1 s, one-mul s, moved-last (turns + 1) 4294967296 s, add-mul turns 1 s, h)
+
+    whole : (x - turns * s) % s ≡ x % s
+    whole =
+        let parts : turns * s + (x - turns * s) ≡ x = omega (arith, low) in
+        sym (mul-add-mod-self-right turns s (x - turns * s)) ∙ ap (λ (n : ℕ). n % s) parts
 
 -- a quotient by an inverse rounded down, exact while t·s is below c
 pub inverse-down : (t s c : ℕ) → 1 ≤ s → t * s < c → (t + 1) * ((c - 1) / s) / c ≡ t / s

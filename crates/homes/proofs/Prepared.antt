@@ -4,7 +4,7 @@ use mathlib.Core.Bool.{Bool, true, false}
 use mathlib.Core.Logic.{inl, inr}
 use Prim.Native.Nat.{ℕ, suc, _+_, _-_, _*_, _/_, _%_, _^_, _≤_, _<_}
 use native.Mathlib.Nat.{zero-mod, add-zero, mul-assoc, mul-comm, pow-suc, mul-le-mul}
-use native.Mathlib.Nat.{mul-le-mul-left, le-trans, div-div-eq-div-mul, div-one, div-le-self, div-lt-self, div-le-of-le-mul, le-div-iff-mul-le}
+use native.Mathlib.Nat.{mul-le-mul-left, le-trans, div-div-eq-div-mul, div-one, div-le-self, div-lt-self, div-le-of-le-mul}
 use native.Mathlib.Decide.{decLe}
 use native.Mathlib.Numerals.{add-one}
 use native.Mathlib.Omega.{arith}
@@ -14,15 +14,17 @@ use lib.Pow.{pow-mono}
 use borrow.Author.Tests.{leb-true, leb-false}
 use Rattle.hashing.specs.declared.Parameters.{Parameters}
 use Rattle.hashing.specs.declared.Growth.{Growth}
-use Rattle.hashing.specs.Generator.{modulus, power, firstMultipliers}
+use Rattle.generator.specs.Generator.{modulus, power, firstMultipliers}
+use Rattle.hashing.specs.Geometry.{multiplierOf}
 use Rattle.hashing.specs.Geometry.{sizeAt, countAt}
 use Rattle.hashing.specs.Limits.{validParameters, validGrowth}
-use Rattle.hashing.proofs.Numbers.{next, Next, div-mono}
+use Rattle.generator.proofs.Numbers.{next, Next, div-mono}
 use Rattle.hashing.proofs.Bounds.{Limits, limits, growth-within, spread, size-most, size-least, count-least}
-use Rattle.hashing.proofs.Powers.{entry}
+use Rattle.generator.proofs.Powers.{entry}
 use Rattle.homes.specs.declared.stages.Stage.{Stage}
 use Rattle.homes.specs.declared.stages.Sweep.{Sweep}
-use Rattle.homes.specs.Stages.{stageAt, sweepBy, sweepOf, Ready}
+use Rattle.homes.specs.declared.stages.Test.{Test}
+use Rattle.homes.specs.Stages.{stageAt, sweepBy, sweepOf, limitAt, testAt, Rankable}
 use Rattle.homes.proofs.Numbers.{inverse-down}
 
 -- sweeps
@@ -119,6 +121,20 @@ module _ (p : Parameters) (i : ℕ) (stage : Stage) where
       let doubled = doubled-count p i l (omega (arith, stage-size e)) in
       rw (e, doubled .0, doubled .1)
 
+-- fields of a test
+module _ (p : Parameters) (g : Growth) (i : ℕ) (test : Test) (e : test ≡ testAt p g i) where
+  pub test-factor : test .factor ≡ power (multiplierOf p) (2 * suc i)
+  unfolding testAt
+  test-factor = ap (λ (t : Test). t .factor) e
+
+  pub test-most : test .most ≡ modulus / (sizeAt p i + 1)
+  unfolding testAt
+  test-most = ap (λ (t : Test). t .most) e
+
+  pub test-limit : test .limit ≡ limitAt p g i
+  unfolding testAt
+  test-limit = ap (λ (t : Test). t .limit) e
+
 -- the groups stay where their size does not start again
 pub count-kept : (p : Parameters) (i : ℕ) → Limits p → (sizeAt p (i + 1) ≡ p .width → ⊥) → countAt p (i + 1) ≡ countAt p i
 count-kept p i l f = go (decLe (2 * p .width) (sizeAt p i + 1))
@@ -161,11 +177,10 @@ expanded-most p g v w =
     let inside = growth-within p g w in
     omega (arith, inside .expanded-below, spread p g (limits p v) inside .count-high)
 
-pub most-bounds : (n : ℕ) → 1 ≤ n → n ≤ 7 → (2 ≤ modulus / (n + 1)) × (modulus / (n + 1) < modulus)
-most-bounds n h l =
-    (le-div-iff-mul-le {k = n + 1} {x = 2} {y = modulus} (omega arith) .1 (omega arith), div-lt-self {n = modulus} {k = n + 1} (omega arith) (omega arith))
+pub most-below : (n : ℕ) → 1 ≤ n → modulus / (n + 1) < modulus
+most-below n h = div-lt-self {n = modulus} {k = n + 1} (omega arith) (omega arith)
 
-pub ready : (p : Parameters) (i : ℕ) (sweep : Sweep) (stage : Stage) → Limits p → Steady p i → sweep ≡ sweepOf (p .step) → stage ≡ stageAt p i → Ready sweep stage
+pub ready : (p : Parameters) (i : ℕ) (sweep : Sweep) (stage : Stage) → Limits p → Steady p i → sweep ≡ sweepOf (p .step) → stage ≡ stageAt p i → Rankable sweep stage
 unfolding stageAt
 ready p i sweep stage l s e f =
     let step : sweep .step ≡ p .step = ap (λ (t : Sweep). t .step) e ∙ sweep-step (p .step) in

@@ -2,7 +2,7 @@
 use mathlib.Core.Path.{_≡_, _∙_, refl, sym, ap}
 use mathlib.Core.Bool.{Bool, true, false, _&&_, _||_, cond}
 use mathlib.Core.List.{List}
-use Prim.Native.Nat.{ℕ, suc, _+_, _*_, _/_, _%_, _^_, _≤_, _<_}
+use Prim.Native.Nat.{ℕ, zero, suc, _+_, _*_, _/_, _%_, _^_, _≤_, _<_}
 use native.Mathlib.Nat.{mod-lt, mod-eq-of-lt, mul-add-mod-self-right}
 use native.Mathlib.Decide.{decLe, decLt}
 use native.Mathlib.Omega.{arith}
@@ -11,16 +11,16 @@ use lib.ListN.{length, getD}
 use borrow.Author.Tests.{le-leb, lt-leb, lt-ltb, le-ltb}
 use Rattle.hashing.specs.declared.Parameters.{Parameters}
 use Rattle.hashing.specs.declared.Growth.{Growth}
-use Rattle.hashing.specs.Generator.{modulus, power, scrambled}
+use Rattle.generator.specs.Generator.{modulus, power, scrambled}
 use Rattle.hashing.specs.Geometry.{sizeAt, countAt, rank}
 use Rattle.hashing.specs.Home.{rankAt, chosen, expandedAt, stepFrom, afterSteps, home}
-use Rattle.hashing.proofs.Numbers.{mul-mod}
+use Rattle.generator.proofs.Numbers.{mul-mod, mul-mod-right, halves}
 use Rattle.hashing.proofs.Bounds.{Limits}
-use Rattle.hashing.proofs.Laws.{rank-below, rank-at-below, steps-one, steps-below}
+use Rattle.hashing.proofs.Homes.{rank-below, rank-at-below, steps-one, steps-below}
 use Rattle.homes.specs.declared.stages.Stage.{Stage}
 use Rattle.homes.specs.declared.stages.Sweep.{Sweep}
-use Rattle.homes.specs.Stages.{stageAt, sweepOf, limitAt, Ready}
-use Rattle.homes.specs.Lanes.{lanes, Under, hitOf, movedBy, stepped, pagesAfter, groupsAfter, Grouped}
+use Rattle.homes.specs.Stages.{stageAt, sweepOf, limitAt, Rankable}
+use Rattle.homes.specs.Lanes.{lanes, Under, keyOf, keysAt, hitOf, movedBy, stepped, pagesAfter, groupsAfter, Grouped}
 use Rattle.homes.proofs.Numbers.{quotient-test, quotient-over}
 use Rattle.homes.proofs.Lists.{lane, lanes-length, lanes-same}
 use Rattle.homes.proofs.Prepared.{sweep-step, stage-size, stage-count}
@@ -164,7 +164,7 @@ module _ (sweep : Sweep) (stage : Stage) (groups orders : List ℕ) (oe : orders
   stepped-lanes factor limit most keys hits me he first old =
       lanes-same 8 _ _ (λ j b. rw (order-lane j b, he, lane 8 (λ j. hitOf factor most (getD keys j 0)) j b, me))
 
-  pub orders-under : Ready sweep stage → Under (stage .count) groups → Under 1024 orders
+  pub orders-under : Rankable sweep stage → Under (stage .count) groups → Under 1024 orders
   orders-under r u j b =
       rw (order-lane j b)
       (omega (
@@ -208,8 +208,24 @@ pub starts-are :
 unfolding pagesAfter afterSteps
 starts-are a factor p g keys e = lanes-same 8 _ _ (λ j b. rw (e, scrambled-by a 1 (getD keys j 0)))
 
+-- a key has its number's home
+module _ (a k : ℕ) where
+  scrambled-key : (j : ℕ) → scrambled a j (keyOf k) ≡ scrambled a j k
+  unfolding scrambled keyOf
+  scrambled-key j =
+      sym (mul-mod-right (a ^ j) modulus (keyOf k))
+      ∙ ap (λ (t : ℕ). a ^ j * t % modulus) (halves k)
+      ∙ mul-mod-right (a ^ j) modulus k
+
+  after-key : (p : Parameters) (g : Growth) (i : ℕ) → afterSteps a p g (keyOf k) i ≡ afterSteps a p g k i
+  unfolding afterSteps stepFrom chosen
+  after-key p g zero = rw (scrambled-key 1)
+  after-key p g (suc i) = rw (scrambled-key (2 * suc i), after-key p g i)
+
 pub homes-are :
-    (a : ℕ) (p : Parameters) (g : Growth) (keys : List ℕ) →
-    pagesAfter a p g keys (g .expansions + 1) ≡ lanes 8 (λ j. home a p g (getD keys j 0))
-unfolding pagesAfter home
-homes-are a p g keys = refl
+    (a : ℕ) (p : Parameters) (g : Growth) (numbers keys : List ℕ) (at : ℕ) → keys ≡ keysAt numbers at →
+    (i : ℕ) → i < 8 → getD (pagesAfter a p g keys (g .expansions + 1)) i 0 ≡ home a p g (getD numbers (at + i) 0)
+unfolding keysAt home
+homes-are a p g numbers keys at e i h =
+    page-at a p g keys (g .expansions + 1) i h
+    ∙ rw (e, lane 8 (λ i. keyOf (getD numbers (at + i) 0)) i h) (after-key a (getD numbers (at + i) 0) p g (g .expansions + 1))

@@ -7,7 +7,9 @@ use lib.Dec.{leb, eqb}
 use lib.ListN.{getD}
 use Rattle.hashing.specs.declared.Parameters.{Parameters}
 use Rattle.hashing.specs.declared.Growth.{Growth}
-use Rattle.hashing.specs.Generator.{modulus}
+use Rattle.hashing.specs.declared.Geometry.{Geometry}
+use Rattle.generator.specs.Generator.{modulus}
+use Rattle.hashing.specs.Geometry.{multiplierOf}
 use Rattle.hashing.specs.Geometry.{sizeAt, countAt, rank}
 use Rattle.hashing.specs.Home.{afterSteps}
 use Rattle.homes.specs.declared.stages.Stage.{Stage}
@@ -18,9 +20,28 @@ unfoldable pub lanes : ℕ → (ℕ → ℕ) → List ℕ
 lanes zero f = []
 lanes (suc n) f = lanes n f ++ (f n ∷ [])
 
+-- the eight items of a list from `at` on
+unfoldable pub blockAt : List ℕ → ℕ → List ℕ
+blockAt l at = lanes 8 (λ i. getD l (at + i) 0)
+
+-- what holds of each block of a page's places
+abbrev pub Blocks : ℕ → (ℕ → Type 0) → Type 0
+Blocks places holds = (at : ℕ) → at % 8 ≡ 0 → at < places → holds at
+
+-- a number at most 2^31 with the remainder of K by m
+unfoldable pub keyOf : ℕ → ℕ
+keyOf k = k / 2147483648 + k % 2147483648
+
+unfoldable pub keysAt : List ℕ → ℕ → List ℕ
+keysAt numbers at = lanes 8 (λ i. keyOf (getD numbers (at + i) 0))
+
 -- each of the eight places holds less than n
 abbrev pub Under : ℕ → List ℕ → Type 0
 Under n l = (i : ℕ) → i < 8 → getD l i 0 < n
+
+-- the eight are at most 2^31, so that sums of halves of products with them fit 32 bits
+abbrev pub Keys : List ℕ → Type 0
+Keys keys = Under 2147483649 keys
 
 -- 1 where factor·K mod m is at most `most`
 unfoldable pub hitOf : ℕ → ℕ → ℕ → ℕ
@@ -29,6 +50,10 @@ hitOf factor most k = cond (leb (factor * k % modulus) most) 1 0
 -- to first + order where hit, with an order below the limit
 unfoldable pub movedBy : ℕ → ℕ → ℕ → ℕ → ℕ → ℕ
 movedBy limit first hit order old = cond (eqb hit 0) old (cond (leb limit order) old (first + order))
+
+-- the keys of a page's numbers from `at` on
+abbrev pub KeysOf : List ℕ → ℕ → List ℕ → Type 0
+KeysOf numbers at keys = (keys ≡ keysAt numbers at) × Keys keys
 
 -- one step of eight numbers: of their groups with first 0, of their pages with first n·G
 unfoldable pub stepped : ℕ → Sweep → Stage → ℕ → ℕ → List ℕ → List ℕ → List ℕ → List ℕ
@@ -49,3 +74,17 @@ groupsAfter a p g keys i count = lanes 8 (λ j. afterSteps a p g (getD keys j 0)
 -- the groups are known, except at the start and where they have just doubled
 abbrev pub Grouped : ℕ → Parameters → Growth → List ℕ → ℕ → List ℕ → Type 0
 Grouped a p g keys i groups = (sizeAt p i ≡ p .width → ⊥) → groups ≡ groupsAfter a p g keys i (countAt p i)
+
+-- the same of a page's block at `at`
+abbrev pub PagedAt : Geometry → List ℕ → ℕ → List ℕ → ℕ → Type 0
+PagedAt geometry keys i pages at =
+    blockAt pages at ≡ pagesAfter (multiplierOf (geometry .parameters)) (geometry .parameters) (geometry .growth) (blockAt keys at) i
+
+abbrev pub GroupedAt : Geometry → List ℕ → ℕ → List ℕ → ℕ → Type 0
+GroupedAt geometry keys i groups at =
+    Grouped (multiplierOf (geometry .parameters)) (geometry .parameters) (geometry .growth) (blockAt keys at) i (blockAt groups at)
+
+abbrev pub RegroupedAt : Geometry → List ℕ → ℕ → List ℕ → ℕ → Type 0
+RegroupedAt geometry keys i groups at =
+    blockAt groups at
+    ≡ groupsAfter (multiplierOf (geometry .parameters)) (geometry .parameters) (geometry .growth) (blockAt keys at) (i + 1) (countAt (geometry .parameters) i)

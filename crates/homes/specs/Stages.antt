@@ -1,13 +1,16 @@
 -- What a step and a sweep need, prepared.
 use mathlib.Core.Bool.{Bool, true, false, cond}
 use mathlib.Core.Path.{_≡_}
-use Prim.Native.Nat.{ℕ, _/_, _%_, _≤_}
+use Prim.Native.Nat.{ℕ, suc, _+_, _*_, _/_, _%_, _≤_}
 use lib.Dec.{leb, ltb}
 use Rattle.hashing.specs.declared.Parameters.{Parameters}
 use Rattle.hashing.specs.declared.Growth.{Growth}
+use Rattle.generator.specs.Generator.{modulus, power}
+use Rattle.hashing.specs.Geometry.{multiplierOf}
 use Rattle.hashing.specs.Geometry.{sizeAt, countAt}
 use Rattle.homes.specs.declared.stages.Stage.{Stage}
 use Rattle.homes.specs.declared.stages.Sweep.{Sweep}
+use Rattle.homes.specs.declared.stages.Test.{Test}
 
 -- n, G, G div s and G mod s after i partial expansions
 unfoldable pub stageAt : Parameters → ℕ → Stage
@@ -26,8 +29,13 @@ sweepOf s = sweepBy (leb s 64) s
 unfoldable pub limitAt : Parameters → Growth → ℕ → ℕ
 limitAt p g i = cond (ltb i (g .expansions)) (countAt p i) (g .expanded)
 
+-- the multiplier of step i + 1, the greatest number that it chooses, and its limit
+unfoldable pub testAt : Parameters → Growth → ℕ → Test
+testAt p g i =
+    record { factor = power (multiplierOf p) (2 * suc i); most = modulus / (sizeAt p i + 1); limit = limitAt p g i }
+
 -- what ranking needs
-pub record Ready (sweep : Sweep) (stage : Stage) : Type 0 where
+pub record Rankable (sweep : Sweep) (stage : Stage) : Type 0 where
   pub sweep-is : sweep ≡ sweepOf (sweep .step)
   pub step-least : 1 ≤ sweep .step
   pub step-most : sweep .step ≤ 256

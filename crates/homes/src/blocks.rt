@@ -1,50 +1,46 @@
-// The homes of eight numbers, step by step.
+// One step of eight numbers.
 ghost use mathlib.Core.Path.{_≡_};
 ghost use mathlib.Core.Bool.{true};
-ghost use Prim.Native.Nat.{_+_, _*_, _%_, _≤_, _<_};
+ghost use Prim.Native.Nat.{_+_, _*_, _/_, _%_, _≤_, _<_};
 ghost use lib.ListN.{length, getD};
-ghost use Rattle.hashing.specs.Generator.{modulus, multiplierOf, firstMultipliers};
+ghost use Rattle.generator.specs.Generator.{modulus};
+ghost use Rattle.hashing.specs.Geometry.{multiplierOf};
 ghost use Rattle.hashing.specs.Geometry.{countAt};
 ghost use Rattle.hashing.specs.Limits.{validParameters, validGrowth};
-ghost use Rattle.hashing.specs.Home.{home};
-ghost use Rattle.homes.specs.Stages.{stageAt, sweepOf, Ready};
-ghost use Rattle.homes.specs.Lanes.{lanes, Under, stepped, pagesAfter, groupsAfter, Grouped};
+ghost use Rattle.homes.specs.Stages.{stageAt, sweepOf, testAt, Rankable};
+ghost use Rattle.homes.specs.Lanes.{lanes, Under, Keys, stepped, pagesAfter, groupsAfter, Grouped};
 use crate::lanes::groups_of;
 use crate::lanes::moves;
 use crate::lanes::ranks;
-use crate::lanes::starts;
 use crate::lanes::tests;
 use crate::stages::Stage;
 use crate::stages::Sweep;
-use crate::stages::first_stage;
-use crate::stages::limit;
-use crate::stages::most_chosen;
-use crate::stages::next_stage;
+use crate::stages::Test;
 use hashing::Geometry;
 
 // One step of groups and pages.
 fn step(
-    factor: u32,
+    test: Test,
     sweep: Sweep,
     stage: Stage,
-    limit: u16,
-    keys: &[u32; 8],
+    keys: &[u64; 8],
     groups: &mut [u16; 8],
     pages: &mut [u16; 8],
 )
-    requires { ⌜ factor < modulus ⌝ }
-    requires { ⌜ Ready sweep stage ⌝ }
+    requires { ⌜ (test .factor < modulus) × (test .most ≡ modulus / (stage .size + 1)) ⌝ }
+    requires { ⌜ Rankable sweep stage ⌝ }
+    requires { ⌜ Keys (now keys) ⌝ }
     requires { ⌜ Under (stage .count) (now groups) ⌝ }
     requires { ⌜ (length (now groups) ≡ 8) × (length (now pages) ≡ 8) ⌝ }
-    ensures { λ _. ⌜ now (groups .exit) ≡ stepped factor sweep stage limit 0 (now (keys .entry)) (now (groups .entry)) (now (groups .entry)) ⌝ }
-    ensures { λ _. ⌜ now (pages .exit) ≡ stepped factor sweep stage limit (stage .size * stage .count) (now (keys .entry)) (now (groups .entry)) (now (pages .entry)) ⌝ }
+    ensures { λ _. ⌜ now (groups .exit) ≡ stepped (test .factor) sweep stage (test .limit) 0 (now (keys .entry)) (now (groups .entry)) (now (groups .entry)) ⌝ }
+    ensures { λ _. ⌜ now (pages .exit) ≡ stepped (test .factor) sweep stage (test .limit) (stage .size * stage .count) (now (keys .entry)) (now (groups .entry)) (now (pages .entry)) ⌝ }
 {
     let mut hits = [0u16; 8];
     let mut orders = [0u16; 8];
-    tests(factor, most_chosen(stage.size), keys, &mut hits);
+    tests(test.factor, test.most, keys, &mut hits);
     ranks(sweep, stage, groups, &mut orders);
-    moves(limit, 0, &hits, &orders, groups);
-    moves(limit, stage.size * stage.count, &hits, &orders, pages);
+    moves(test.limit, 0, &hits, &orders, groups);
+    moves(test.limit, stage.size * stage.count, &hits, &orders, pages);
 }
 
 // The groups anew, where they have just doubled.
@@ -62,73 +58,27 @@ fn regroup(width: u32, stage: Stage, pages: &[u16; 8], groups: &mut [u16; 8])
 }
 
 // Step i + 1.
-fn turn(
-    powers: &[u32; 90],
+pub fn turn(
     geometry: Geometry,
     sweep: Sweep,
     stage: Stage,
+    test: Test,
     i: u32,
-    keys: &[u32; 8],
+    keys: &[u64; 8],
     groups: &mut [u16; 8],
     pages: &mut [u16; 8],
 )
-    requires { ⌜ now powers ≡ firstMultipliers (multiplierOf (geometry .parameters)) ⌝ }
     requires { ⌜ validParameters (geometry .parameters) ≡ true ⌝ }
     requires { ⌜ validGrowth (geometry .parameters) (geometry .growth) ≡ true ⌝ }
     requires { ⌜ i ≤ geometry .growth .expansions ⌝ }
     requires { ⌜ (sweep ≡ sweepOf (geometry .parameters .step)) × (stage ≡ stageAt (geometry .parameters) i) ⌝ }
-    requires { ⌜ length (now groups) ≡ 8 ⌝ }
+    requires { ⌜ test ≡ testAt (geometry .parameters) (geometry .growth) i ⌝ }
+    requires { ⌜ (Keys (now keys)) × (length (now groups) ≡ 8) ⌝ }
     requires { ⌜ Grouped (multiplierOf (geometry .parameters)) (geometry .parameters) (geometry .growth) (now keys) i (now groups) ⌝ }
     requires { ⌜ now pages ≡ pagesAfter (multiplierOf (geometry .parameters)) (geometry .parameters) (geometry .growth) (now keys) i ⌝ }
     ensures { λ _. ⌜ now (groups .exit) ≡ groupsAfter (multiplierOf (geometry .parameters)) (geometry .parameters) (geometry .growth) (now (keys .entry)) (i + 1) (countAt (geometry .parameters) i) ⌝ }
     ensures { λ _. ⌜ now (pages .exit) ≡ pagesAfter (multiplierOf (geometry .parameters)) (geometry .parameters) (geometry .growth) (now (keys .entry)) (i + 1) ⌝ }
 {
-    let factor = powers[2 * i as usize + 1];
     regroup(geometry.parameters.width, stage, pages, groups);
-    let below = limit(geometry, stage, i);
-    step(factor, sweep, stage, below, keys, groups, pages);
-}
-
-fn steps(
-    powers: &[u32; 90],
-    geometry: Geometry,
-    sweep: Sweep,
-    keys: &[u32; 8],
-    pages: &mut [u16; 8],
-)
-    requires { ⌜ now powers ≡ firstMultipliers (multiplierOf (geometry .parameters)) ⌝ }
-    requires { ⌜ validParameters (geometry .parameters) ≡ true ⌝ }
-    requires { ⌜ validGrowth (geometry .parameters) (geometry .growth) ≡ true ⌝ }
-    requires { ⌜ sweep ≡ sweepOf (geometry .parameters .step) ⌝ }
-    requires { ⌜ now pages ≡ pagesAfter (multiplierOf (geometry .parameters)) (geometry .parameters) (geometry .growth) (now keys) 0 ⌝ }
-    ensures { λ _. ⌜ now (pages .exit) ≡ pagesAfter (multiplierOf (geometry .parameters)) (geometry .parameters) (geometry .growth) (now (keys .entry)) (geometry .growth .expansions + 1) ⌝ }
-{
-    let mut groups = [0u16; 8];
-    let mut stage = first_stage(geometry.parameters);
-    let mut i: u32 = 0;
-    while i <= geometry.growth.expansions {
-        turn(powers, geometry, sweep, stage, i, keys, &mut groups, pages);
-        stage = next_stage(geometry.parameters, i, stage);
-        i += 1;
-    }
-}
-
-// The sweep's constants are given, once for all blocks.
-pub fn homes(
-    powers: &[u32; 90],
-    geometry: Geometry,
-    sweep: Sweep,
-    numbers: &[u32; 8],
-    pages: &mut [u16; 8],
-)
-    requires { ⌜ now powers ≡ firstMultipliers (multiplierOf (geometry .parameters)) ⌝ }
-    requires { ⌜ validParameters (geometry .parameters) ≡ true ⌝ }
-    requires { ⌜ validGrowth (geometry .parameters) (geometry .growth) ≡ true ⌝ }
-    requires { ⌜ sweep ≡ sweepOf (geometry .parameters .step) ⌝ }
-    requires { ⌜ length (now pages) ≡ 8 ⌝ }
-    ensures { λ _. ⌜ now (pages .exit) ≡ lanes 8 (λ i. home (multiplierOf (geometry .parameters)) (geometry .parameters) (geometry .growth) (getD (now (numbers .entry)) i 0)) ⌝ }
-{
-    let span = geometry.parameters.width * geometry.parameters.groups;
-    starts(powers[0], span, numbers, pages);
-    steps(powers, geometry, sweep, numbers, pages);
+    step(test, sweep, stage, keys, groups, pages);
 }

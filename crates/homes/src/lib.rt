@@ -1,7 +1,8 @@
-// The homes of a page's numbers at once: eight numbers a block, every step over the whole block, in lanes of 16 bits.
+// The homes of a page's numbers at once: every step over blocks of eight numbers, in lanes of 16 bits.
 mod blocks;
 mod lanes;
 mod page;
+mod passes;
 mod scalars;
 mod stages;
 

@@ -1,17 +1,49 @@
-// The homes of a page's numbers, as many blocks of eight as its places need.
+// The homes of a page's numbers: the keys and the pages that they start from, then the steps.
 ghost use mathlib.Core.Path.{_≡_};
 ghost use mathlib.Core.Bool.{true};
 ghost use mathlib.Core.List.{map};
-ghost use Prim.Native.Nat.{_≤_};
-ghost use lib.ListN.{length, take};
-ghost use Rattle.hashing.specs.Generator.{multiplierOf, firstMultipliers};
+ghost use Prim.Native.Nat.{_*_, _%_, _≤_, _<_};
+ghost use lib.ListN.{length, getD, take};
+ghost use Rattle.generator.specs.Generator.{modulus, firstMultipliers};
+ghost use Rattle.hashing.specs.Geometry.{multiplierOf};
 ghost use Rattle.hashing.specs.Limits.{validParameters, validGrowth};
 ghost use Rattle.hashing.specs.Home.{home};
-use crate::blocks::homes;
-use crate::lanes::load;
+ghost use Rattle.homes.specs.Lanes.{lanes, blockAt, Blocks, keysAt, KeysOf};
+use crate::lanes::keys_of;
+use crate::lanes::starts;
 use crate::lanes::store;
-use crate::stages::sweep_by;
+use crate::lanes::store_keys;
+use crate::passes::steps;
 use hashing::Geometry;
+
+fn prepare(
+    factor: u32,
+    span: u16,
+    numbers: &[u32; 32],
+    places: usize,
+    keys: &mut [u64; 32],
+    pages: &mut [u16; 32],
+)
+    requires { ⌜ factor < modulus ⌝ }
+    requires { ⌜ (1 ≤ span) × (span ≤ 1024) ⌝ }
+    requires { ⌜ places ≤ 32 ⌝ }
+    requires { ⌜ (length (now keys) ≡ 32) × (length (now pages) ≡ 32) ⌝ }
+    ensures { λ _. ⌜ length (now (pages .exit)) ≡ 32 ⌝ }
+    ensures { λ _. ⌜ Blocks places (λ at. KeysOf (now (numbers .entry)) at (blockAt (now (keys .exit)) at)) ⌝ }
+    ensures { λ _. ⌜ Blocks places (λ at. blockAt (now (pages .exit)) at ≡ lanes 8 (λ i. factor * getD (keysAt (now (numbers .entry)) at) i 0 % modulus % span)) ⌝ }
+{
+    let inverse = 4294967295 / span as u32;
+    let mut at: usize = 0;
+    while at < places {
+        let mut block = [0u64; 8];
+        let mut starting = [0u16; 8];
+        keys_of(numbers, at, &mut block);
+        starts(factor, span, inverse, &block, &mut starting);
+        store_keys(&block, at, keys);
+        store(&starting, at, pages);
+        at += 8;
+    }
+}
 
 // What stands in `pages` behind the places is of no meaning.
 pub fn of_page(
@@ -28,14 +60,8 @@ pub fn of_page(
     requires { ⌜ (length (now numbers) ≡ 32) × (length (now pages) ≡ 32) ⌝ }
     ensures { λ _. ⌜ take places (now (pages .exit)) ≡ map (home (multiplierOf (geometry .parameters)) (geometry .parameters) (geometry .growth)) (take places (now (numbers .entry))) ⌝ }
 {
-    let sweep = sweep_by(geometry.parameters.step as u16);
-    let mut at: usize = 0;
-    while at < places {
-        let mut keys = [0u32; 8];
-        let mut block = [0u16; 8];
-        load(numbers, at, &mut keys);
-        homes(powers, geometry, sweep, &keys, &mut block);
-        store(&block, at, pages);
-        at += 8;
-    }
+    let mut keys = [0u64; 32];
+    let span = (geometry.parameters.width * geometry.parameters.groups) as u16;
+    prepare(powers[0], span, numbers, places, &mut keys, pages);
+    steps(powers, geometry, places, &keys, pages);
 }

@@ -1,47 +1,66 @@
 // What becomes of one number, in forms that vectorise: no division and no jump is left.
 ghost use mathlib.Core.Path.{_≡_};
 ghost use Prim.Native.Nat.{_+_, _*_, _/_, _%_, _≤_, _<_, min};
-ghost use Rattle.hashing.specs.Generator.{modulus};
+ghost use Rattle.generator.specs.Generator.{modulus};
 ghost use Rattle.hashing.specs.Geometry.{rank};
-ghost use Rattle.homes.specs.Stages.{sweepOf, Ready};
-ghost use Rattle.homes.specs.Lanes.{hitOf, movedBy};
+ghost use Rattle.homes.specs.Stages.{sweepOf, Rankable};
+ghost use Rattle.homes.specs.Lanes.{keyOf, hitOf, movedBy};
 use crate::stages::Stage;
 use crate::stages::Sweep;
 
-// A number with the remainder of factor·key. Doubled, the product's halves fall on word bounds; both factors are masked, so
-// that one multiplication of 32 bits is enough.
-fn near(factor: u32, key: u32) -> u64
-    requires { ⌜ factor < modulus ⌝ }
-    ensures { λ r. ⌜ (r % modulus ≡ factor * key % modulus) × (r ≤ modulus + 2) ⌝ }
+// At most 2^31, in a lane as wide as the product.
+pub fn keyed(number: u32) -> u64
+    ensures { λ r. ⌜ (r ≡ keyOf number) × (r ≤ 2147483648) ⌝ }
 {
-    let product = 2 * factor as u64 % 4294967296 * (key as u64 % 4294967296);
-    let sum = product / 4294967296 + product % 4294967296 / 2;
+    (number / 2147483648 + number % 2147483648) as u64
+}
+
+// A number with the remainder of factor·key. Doubled, the product's halves fall on word bounds, and their sum fits a word; both
+// factors are masked, so that one multiplication of 32 bits is enough.
+fn near(factor: u32, key: u64) -> u32
+    requires { ⌜ factor < modulus ⌝ }
+    requires { ⌜ key ≤ 2147483648 ⌝ }
+    ensures { λ r. ⌜ (r % modulus ≡ factor * key % modulus) × (r ≤ modulus) ⌝ }
+{
+    let product = 2 * factor as u64 % 4294967296 * (key % 4294967296);
+    let sum = (product / 4294967296) as u32 + (product % 4294967296) as u32 / 2;
     sum / 2147483648 + sum % 2147483648
 }
 
-// With one added, the few numbers that are m or more pass as their remainders do.
-pub fn hit(factor: u32, most: u32, key: u32) -> u16
+// With one added, m passes as its remainder 0 does.
+pub fn hit(factor: u32, most: u32, key: u64) -> u16
     requires { ⌜ factor < modulus ⌝ }
-    requires { ⌜ (2 ≤ most) × (most < modulus) ⌝ }
+    requires { ⌜ key ≤ 2147483648 ⌝ }
+    requires { ⌜ most < modulus ⌝ }
     ensures { λ r. ⌜ r ≡ hitOf factor most key ⌝ }
 {
-    let next = ((near(factor, key) + 1) % 2147483648) as u32;
+    let next = (near(factor, key) + 1) % 2147483648;
     if next <= most + 1 {
         return 1;
     }
     0
 }
 
-pub fn start(factor: u32, span: u32, key: u32) -> u16
+// The quotient by an inverse rounded down is at most one too low.
+pub fn start(factor: u32, span: u16, inverse: u32, key: u64) -> u16
     requires { ⌜ factor < modulus ⌝ }
-    requires { ⌜ (1 ≤ span) × (span ≤ 1024) ⌝ }
+    requires { ⌜ key ≤ 2147483648 ⌝ }
+    requires { ⌜ (1 ≤ span) × ((span ≤ 1024) × (inverse ≡ 4294967295 / span)) ⌝ }
     ensures { λ r. ⌜ r ≡ factor * key % modulus % span ⌝ }
 {
-    let value = near(factor, key);
+    let value = settled(near(factor, key));
+    let turns = (value as u64 % 4294967296 * (inverse as u64 % 4294967296) / 4294967296) as u32;
+    reduced((value - turns * span as u32) as u16, span)
+}
+
+fn settled(value: u32) -> u32
+    requires { ⌜ value ≤ modulus ⌝ }
+    ensures { λ r. ⌜ r ≡ value % modulus ⌝ }
+{
     if value < 2147483647 {
-        return (value as u32 % span) as u16;
+        return value;
     }
-    ((value - 2147483647) as u32 % span) as u16
+    0
 }
 
 fn smaller(x: u16, y: u16) -> u16
@@ -72,17 +91,18 @@ pub fn group(page: u16, count: u16) -> u16
     reduced(reduced(page, 2 * count), count)
 }
 
+// t + 1 is added in 16 bits, so that the product's upper half is one instruction.
 fn divided(sweep: Sweep, t: u16) -> u16
     requires { ⌜ sweep ≡ sweepOf (sweep .step) ⌝ }
     requires { ⌜ (1 ≤ sweep .step) × (sweep .step ≤ 256) ⌝ }
     requires { ⌜ t < 1024 ⌝ }
     ensures { λ r. ⌜ r ≡ t / sweep .step ⌝ }
 {
-    ((t as u32 + 1) * sweep.inverse as u32 / 65536) as u16 >> sweep.shift
+    ((t + 1) as u32 * sweep.inverse as u32 / 65536) as u16 >> sweep.shift
 }
 
 pub fn ranked(sweep: Sweep, stage: Stage, group: u16) -> u16
-    requires { ⌜ Ready sweep stage ⌝ }
+    requires { ⌜ Rankable sweep stage ⌝ }
     requires { ⌜ group < stage .count ⌝ }
     ensures { λ r. ⌜ r ≡ rank (sweep .step) (stage .count) group ⌝ }
 {

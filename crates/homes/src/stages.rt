@@ -2,10 +2,11 @@
 ghost use mathlib.Core.Path.{_≡_};
 ghost use mathlib.Core.Bool.{true};
 ghost use Prim.Native.Nat.{_+_, _*_, _/_, _%_, _≤_};
-ghost use Rattle.hashing.specs.Generator.{modulus};
+ghost use Rattle.generator.specs.Generator.{modulus, firstMultipliers};
+ghost use Rattle.hashing.specs.Geometry.{multiplierOf};
 ghost use Rattle.hashing.specs.Geometry.{countAt};
-ghost use Rattle.hashing.specs.Limits.{validParameters};
-ghost use Rattle.homes.specs.Stages.{stageAt, sweepOf, limitAt};
+ghost use Rattle.hashing.specs.Limits.{validParameters, validGrowth};
+ghost use Rattle.homes.specs.Stages.{stageAt, sweepOf, limitAt, testAt};
 use hashing::Geometry;
 use hashing::Parameters;
 
@@ -20,6 +21,13 @@ pub struct Sweep {
     pub step: u16, // s
     pub inverse: u16,
     pub shift: u16,
+}
+
+// What decides whether a step moves a number.
+pub struct Test {
+    pub factor: u32, // of X(2i)
+    pub most: u32, // the greatest X(2i) chosen
+    pub limit: u16, // ranks below it move
 }
 
 pub fn first_stage(parameters: Parameters) -> Stage
@@ -77,7 +85,7 @@ fn doubled(step: u16, width: u16, stage: Stage) -> Stage
 }
 
 // m div (n + 1), the greatest number that a step with groups of n pages chooses.
-pub fn most_chosen(size: u16) -> u32
+fn most_chosen(size: u16) -> u32
     requires { ⌜ (1 ≤ size) × (size ≤ 7) ⌝ }
     ensures { λ r. ⌜ r ≡ modulus / (size + 1) ⌝ }
 {
@@ -110,7 +118,22 @@ pub fn sweep_by(step: u16) -> Sweep
     }
 }
 
-pub fn limit(geometry: Geometry, stage: Stage, i: u32) -> u16
+pub fn test_of(powers: &[u32; 90], geometry: Geometry, stage: Stage, i: u32) -> Test
+    requires { ⌜ now powers ≡ firstMultipliers (multiplierOf (geometry .parameters)) ⌝ }
+    requires { ⌜ validParameters (geometry .parameters) ≡ true ⌝ }
+    requires { ⌜ validGrowth (geometry .parameters) (geometry .growth) ≡ true ⌝ }
+    requires { ⌜ i ≤ geometry .growth .expansions ⌝ }
+    requires { ⌜ stage ≡ stageAt (geometry .parameters) i ⌝ }
+    ensures { λ r. ⌜ r ≡ testAt (geometry .parameters) (geometry .growth) i ⌝ }
+{
+    Test {
+        factor: powers[2 * i as usize + 1],
+        most: most_chosen(stage.size),
+        limit: limit(geometry, stage, i),
+    }
+}
+
+fn limit(geometry: Geometry, stage: Stage, i: u32) -> u16
     requires { ⌜ stage ≡ stageAt (geometry .parameters) i ⌝ }
     requires { ⌜ geometry .growth .expanded ≤ 1024 ⌝ }
     ensures { λ r. ⌜ r ≡ limitAt (geometry .parameters) (geometry .growth) i ⌝ }

@@ -7,13 +7,13 @@ use mathlib.Core.Path.{_≡_, refl}
 use borrow.Author.Tests.{eqb-true, ne-eqb}
 use lib.Dec.{eqb}
 use lib.ListN.{length, drop, getD}
-use Rattle.lines.specs.Grammar.{fields, inFirst, fieldLength, naturalOf, declinationOf, enterWith, enterOf, numberOf, numberWith, growOf, letterOf, byLetter, byFields, commandOf}
+use Rattle.lines.specs.Grammar.{fields, inFirst, fieldLength, naturalOf, declinationOf, enterWith, enterFrom, numberFrom, numberWith, growFrom, letterOf, byLetter, byFields, commandOf}
 use Rattle.lines.specs.declared.Command.the-variants.{LookUp, Remove, Grow, Bad}
 use Rattle.lines.specs.declared.Natural.{Natural}
 use Rattle.lines.specs.declared.Natural.the-variants.{Of, Wrong}
 use Rattle.lines.specs.declared.Declination.{Declination}
-use Rattle.lines.proofs.Alone.{number-alone}
-use Rattle.lines.proofs.Split.{fields-last, fields-some}
+use Rattle.lines.proofs.SingleField.{number-alone}
+use Rattle.lines.proofs.Fields.{fields-last, fields-some}
 
 pub either : (t : Bool) → cond t Bad Bad ≡ Bad
 either true = refl
@@ -29,13 +29,13 @@ empty-bad [] e = no-letter []
 empty-bad (c ∷ l) e = absurd (omega arith)
 
 pub grow-alone : (l : List ℕ) → length l ≡ 1 → getD l 0 0 ≡ 71 → commandOf l ≡ Grow
-unfolding commandOf byFields fields inFirst letterOf byLetter growOf
+unfolding commandOf byFields fields inFirst letterOf byLetter growFrom
 grow-alone [] e g = absurd (omega arith)
 grow-alone (c ∷ []) e g = rw g
 grow-alone (c ∷ d ∷ l) e g = absurd (omega arith)
 
 pub other-alone : (l : List ℕ) → length l ≡ 1 → (getD l 0 0 ≡ 71 → ⊥) → commandOf l ≡ Bad
-unfolding commandOf byFields fields inFirst letterOf byLetter enterOf numberOf
+unfolding commandOf byFields fields inFirst letterOf byLetter enterFrom numberFrom
 other-alone [] e g = absurd (omega arith)
 other-alone (c ∷ []) e g = go (eqb c 32)
   where
@@ -74,8 +74,8 @@ lettered (c ∷ d ∷ l) h e = rw e (go (eqb c 32) refl)
     go true q = rw (eqb-true c 32 q)
     go false q = refl
 
-grow-more : (l : List ℕ) → growOf (fields l) ≡ Bad
-unfolding growOf
+grow-more : (l : List ℕ) → growFrom (fields l) ≡ Bad
+unfolding growFrom
 grow-more l = rw (fields-some l .2)
 
 -- without a number after it no letter but E is a command
@@ -88,12 +88,12 @@ pub other-letter : (c : ℕ) (l : List ℕ) → (c ≡ 69 → ⊥) → (c ≡ 76
 unfolding byLetter
 other-letter c l e f g = rw (ne-eqb c 69 e, ne-eqb c 76 f, ne-eqb c 82 g, grow-more l) (either (eqb c 71))
 
-pub enter-short : (l : List ℕ) → fieldLength l ≡ length l → enterOf (fields l) ≡ Bad
-unfolding enterOf
+pub enter-short : (l : List ℕ) → fieldLength l ≡ length l → enterFrom (fields l) ≡ Bad
+unfolding enterFrom
 enter-short l e = rw (fields-last l e)
 
-pub enter-wrong : (f : List ℕ) (fs : List (List ℕ)) → naturalOf f ≡ Wrong → enterOf (f ∷ fs) ≡ Bad
-unfolding enterOf enterWith
+pub enter-wrong : (f : List ℕ) (fs : List (List ℕ)) → naturalOf f ≡ Wrong → enterFrom (f ∷ fs) ≡ Bad
+unfolding enterFrom enterWith
 enter-wrong f [] e = refl
 enter-wrong f (a ∷ []) e = refl
 enter-wrong f (a ∷ b ∷ []) e = rw e
@@ -104,12 +104,12 @@ unfolding enterWith
 wrong-ra Wrong d = refl
 wrong-ra (Of n) d = refl
 
-pub enter-wrong-ra : (f g : List ℕ) (fs : List (List ℕ)) → naturalOf g ≡ Wrong → enterOf (f ∷ g ∷ fs) ≡ Bad
-unfolding enterOf
+pub enter-wrong-ra : (f g : List ℕ) (fs : List (List ℕ)) → naturalOf g ≡ Wrong → enterFrom (f ∷ g ∷ fs) ≡ Bad
+unfolding enterFrom
 enter-wrong-ra f g [] e = refl
 enter-wrong-ra f g (a ∷ []) e = rw e (wrong-ra (naturalOf f) (declinationOf a))
 enter-wrong-ra f g (a ∷ b ∷ fs) e = refl
 
-pub enter-ra-short : (f l : List ℕ) → fieldLength l ≡ length l → enterOf (f ∷ fields l) ≡ Bad
-unfolding enterOf
+pub enter-ra-short : (f l : List ℕ) → fieldLength l ≡ length l → enterFrom (f ∷ fields l) ≡ Bad
+unfolding enterFrom
 enter-ra-short f l e = rw (fields-last l e)

@@ -9,7 +9,7 @@ use lib.Dec.{eqb, eqb·suc-zero}
 use mathlib.Core.Path.{_≡_, refl, sym, ap, _∙_}
 use lib.ListN.{length, take, set, length-take, length-map}
 use lib.Seq.{take-all, take-take, take-append-le, length-take-le, take-suc-set}
-use Rattle.lines.specs.Grammar.{commandOf, kept, isEmpty, linesFrom}
+use Rattle.lines.specs.Grammar.{commandOf, kept, noBytes, linesFrom}
 use Rattle.lines.specs.declared.Command.the-variants.{Bad}
 use Rattle.lines.proofs.Lengths.{long-bad}
 
@@ -43,8 +43,8 @@ same k m e = sym (kept-command k) ∙ ap commandOf e ∙ kept-command m
 pub kept-next : (k l : List ℕ) (b : ℕ) → kept k ≡ kept l → kept (k ++ (b ∷ [])) ≡ kept (l ++ (b ∷ []))
 kept-next k l b e = sym (kept-then k b) ∙ ap (λ (m : List ℕ). kept (m ++ (b ∷ []))) e ∙ kept-then l b
 
-pub kept-empty : (l : List ℕ) → isEmpty (kept l) ≡ isEmpty l
-unfolding kept isEmpty
+pub kept-empty : (l : List ℕ) → noBytes (kept l) ≡ noBytes l
+unfolding kept noBytes
 kept-empty [] = refl
 kept-empty (c ∷ l) = refl
 
@@ -53,7 +53,7 @@ pub commands-kept :
     (l k m : List ℕ) → kept k ≡ kept m → map commandOf (linesFrom k l) ≡ map commandOf (linesFrom m l)
 unfolding linesFrom
 commands-kept [] k m e =
-    rw (sym (kept-empty k) ∙ ap isEmpty e ∙ kept-empty m) (go (isEmpty m))
+    rw (sym (kept-empty k) ∙ ap noBytes e ∙ kept-empty m) (go (noBytes m))
   where
     go : (t : Bool) → map commandOf (cond t [] (k ∷ [])) ≡ map commandOf (cond t [] (m ∷ []))
     go true = refl
@@ -95,11 +95,11 @@ module _ (bytes : List ℕ) (array : length (map (λ (v : ℕ). v) bytes) ≡ 72
   pub kept-more : n < 65 → kept (take (n + 1) (set bytes n b)) ≡ kept (kept (take n bytes) ++ (b ∷ []))
   kept-more h = rw (kept-short h, add-one n, take-suc-set bytes n b (omega (arith, whole)))
 
-  pub kept-none : isEmpty (kept (take n bytes)) ≡ eqb n 0
-  unfolding kept isEmpty
+  pub kept-none : noBytes (kept (take n bytes)) ≡ eqb n 0
+  unfolding kept noBytes
   kept-none = go n bytes whole
     where
-      go : (m : ℕ) (l : List ℕ) → length l ≡ 72 → isEmpty (kept (take m l)) ≡ eqb m 0
+      go : (m : ℕ) (l : List ℕ) → length l ≡ 72 → noBytes (kept (take m l)) ≡ eqb m 0
       go zero l e = refl
       go (suc m) [] e = absurd (omega arith)
       go (suc m) (c ∷ l) e = sym (eqb·suc-zero m)

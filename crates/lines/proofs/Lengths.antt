@@ -8,12 +8,12 @@ use mathlib.Core.Path.{_≡_, refl}
 use borrow.Author.Tests.{eqb-false, leb-true, lt-leb}
 use lib.Dec.{eqb, leb}
 use lib.ListN.{length}
-use Rattle.lines.specs.Grammar.{fields, inFirst, isDigit, allDigits, isEmpty, isDecimal, valueFrom, isUpTo, naturalOf, declinationOf, enterWith, enterOf, numberWith, numberOf, growOf, letterOf, byLetter, byFields, commandOf}
+use Rattle.lines.specs.Grammar.{fields, inFirst, isDigit, allDigits, noBytes, isDecimal, valueFrom, isUpTo, naturalOf, declinationOf, enterWith, enterFrom, numberWith, numberFrom, growFrom, letterOf, byLetter, byFields, commandOf}
 use Rattle.lines.specs.declared.Command.{Command}
 use Rattle.lines.specs.declared.Command.the-variants.{LookUp, Remove, Bad}
 use Rattle.lines.specs.declared.Natural.the-variants.{Wrong}
 use Rattle.lines.specs.declared.Declination.the-variants.{Nowhere}
-use Rattle.lines.proofs.Alone.{nowhere}
+use Rattle.lines.proofs.SingleField.{nowhere}
 use Rattle.lines.proofs.Commands.{either, no-letter, wrong-ra}
 use Rattle.lines.proofs.Numbers.{value-grows, and-false}
 
@@ -29,7 +29,7 @@ scale (suc k) m v [] h n = absurd (omega arith)
 scale (suc k) m v (c ∷ l) h n = scale k (10 * m) (10 * v + (c - 48)) l (omega arith) (omega arith)
 
 long-up-to : (most : ℕ) (f : List ℕ) → most ≤ 4294967295 → 10 < length f → isUpTo most f ≡ false
-unfolding isUpTo isDecimal isEmpty allDigits isDigit valueFrom tens
+unfolding isUpTo isDecimal noBytes allDigits isDigit valueFrom tens
 long-up-to most [] h n = refl
 long-up-to most (c ∷ []) h n = absurd (omega arith)
 long-up-to most (c ∷ d ∷ l) h n = go (eqb c 48) refl
@@ -76,8 +76,8 @@ total-fields (c ∷ l) = go (eqb c 32) (fields l) (total-fields l)
     go false [] e = absurd (omega arith)
     go false (f ∷ fs) e = omega arith
 
-long-enter : (fs : List (List ℕ)) → 36 < total fs → enterOf fs ≡ Bad
-unfolding total enterOf enterWith
+long-enter : (fs : List (List ℕ)) → 36 < total fs → enterFrom fs ≡ Bad
+unfolding total enterFrom enterWith
 long-enter [] h = refl
 long-enter (a ∷ []) h = refl
 long-enter (a ∷ b ∷ []) h = refl
@@ -89,14 +89,14 @@ long-enter (a ∷ b ∷ d ∷ []) h = go (decLt 10 (length a)) (decLt 10 (length
     go (no p) (no q) = rw (long-declination d (omega arith)) (nowhere (naturalOf a) (naturalOf b))
 long-enter (a ∷ b ∷ d ∷ e ∷ fs) h = refl
 
-long-number : (make : ℕ → Command) (fs : List (List ℕ)) → 36 < total fs → numberOf make fs ≡ Bad
-unfolding total numberOf numberWith
+long-number : (make : ℕ → Command) (fs : List (List ℕ)) → 36 < total fs → numberFrom make fs ≡ Bad
+unfolding total numberFrom numberWith
 long-number make [] h = refl
 long-number make (a ∷ []) h = rw (long-natural a (omega arith))
 long-number make (a ∷ b ∷ fs) h = refl
 
-long-grow : (fs : List (List ℕ)) → 36 < total fs → growOf fs ≡ Bad
-unfolding total growOf
+long-grow : (fs : List (List ℕ)) → 36 < total fs → growFrom fs ≡ Bad
+unfolding total growFrom
 long-grow [] h = absurd (omega arith)
 long-grow (a ∷ fs) h = refl
 

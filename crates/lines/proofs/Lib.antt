@@ -1,9 +1,9 @@
-pub mod Split
+pub mod Fields
 pub mod Numbers
 pub mod Writing
 pub mod Digits
 pub mod Declinations
-pub mod Alone
+pub mod SingleField
 pub mod Commands
 pub mod Signs
 pub mod Lengths

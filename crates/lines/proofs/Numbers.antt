@@ -7,7 +7,7 @@ use mathlib.Core.Path.{_≡_, refl}
 use borrow.Author.Tests.{ne-eqb, le-leb, lt-leb}
 use lib.Dec.{leb}
 use lib.ListN.{length, getD}
-use Rattle.lines.specs.Grammar.{isDigit, allDigits, isEmpty, isDecimal, valueFrom, isUpTo, naturalOf}
+use Rattle.lines.specs.Grammar.{isDigit, allDigits, noBytes, isDecimal, valueFrom, isUpTo, naturalOf}
 use Rattle.lines.specs.declared.Natural.{Natural}
 use Rattle.lines.specs.declared.Natural.the-variants.{Of, Wrong}
 
@@ -21,13 +21,13 @@ empty-wrong [] e = refl
 empty-wrong (c ∷ l) e = absurd (omega arith)
 
 pub zero-alone : (l : List ℕ) → length l ≡ 1 → getD l 0 0 ≡ 48 → naturalOf l ≡ Of 0
-unfolding naturalOf isUpTo isDecimal isEmpty valueFrom
+unfolding naturalOf isUpTo isDecimal noBytes valueFrom
 zero-alone [] e z = absurd (omega arith)
 zero-alone (c ∷ []) e z = rw z
 zero-alone (c ∷ d ∷ l) e z = absurd (omega arith)
 
 pub zero-leads : (l : List ℕ) → (length l ≡ 1 → ⊥) → getD l 0 0 ≡ 48 → naturalOf l ≡ Wrong
-unfolding naturalOf isUpTo isDecimal isEmpty
+unfolding naturalOf isUpTo isDecimal noBytes
 zero-leads [] e z = refl
 zero-leads (c ∷ []) e z = absurd (e refl)
 zero-leads (c ∷ d ∷ l) e z = rw z

@@ -10,7 +10,7 @@ use borrow.Author.Tests.{eqb-true, le-leb, lt-ltb, le-ltb}
 use lib.Dec.{eqb}
 use lib.IntN.{ℤ, pos, negsuc}
 use lib.ListN.{length, length-append}
-use Rattle.lines.specs.Grammar.{isDigit, allDigits, isEmpty, isDecimal, valueFrom, value, isUpTo, naturalOf}
+use Rattle.lines.specs.Grammar.{isDigit, allDigits, noBytes, isDecimal, valueFrom, value, isUpTo, naturalOf}
 use Rattle.lines.specs.Replies.{digitsBy, digits, signedDigits, replyBytes}
 use Rattle.lines.specs.declared.Natural.the-variants.{Of}
 use Rattle.lines.specs.declared.Reply.{Reply}
@@ -63,7 +63,7 @@ spelled-value (suc k) n h =
         rw (le-ltb n 10 (omega arith), value-append 0 (digitsBy k (n / 10)) ((48 + n % 10) ∷ []), e) (omega arith)
 
 one-decimal : (n : ℕ) → isDecimal ((48 + n % 10) ∷ []) ≡ true
-unfolding isDecimal isEmpty allDigits
+unfolding isDecimal noBytes allDigits
 one-decimal n = rw (digit-is n) (go (eqb (48 + n % 10) 48))
   where
     go : (t : Bool) → cond t true true ≡ true
@@ -72,13 +72,13 @@ one-decimal n = rw (digit-is n) (go (eqb (48 + n % 10) 48))
 
 -- one digit more behind a number that is not 0
 more-decimal : (f : List ℕ) (d : ℕ) → isDecimal f ≡ true → 0 < value f → isDigit d ≡ true → isDecimal (f ++ (d ∷ [])) ≡ true
-unfolding isDecimal isEmpty allDigits valueFrom
+unfolding isDecimal noBytes allDigits valueFrom
 more-decimal [] d e v h = absurd (omega arith)
 more-decimal (c ∷ l) d e v h = go (eqb c 48) refl l e v
   where
     go :
-        (t : Bool) → eqb c 48 ≡ t → (l : List ℕ) → cond t (isEmpty l) (allDigits (c ∷ l)) ≡ true → 0 < value (c ∷ l) →
-        cond t (isEmpty (l ++ (d ∷ []))) (allDigits (c ∷ (l ++ (d ∷ [])))) ≡ true
+        (t : Bool) → eqb c 48 ≡ t → (l : List ℕ) → cond t (noBytes l) (allDigits (c ∷ l)) ≡ true → 0 < value (c ∷ l) →
+        cond t (noBytes (l ++ (d ∷ []))) (allDigits (c ∷ (l ++ (d ∷ [])))) ≡ true
     go true q [] p w = absurd (omega (arith, eqb-true c 48 q))
     go true q (x ∷ l) p w = p
     go false q l p w = digits-append (c ∷ l) (d ∷ []) p (rw h)

@@ -36,14 +36,14 @@ unfoldable pub allDigits : List ℕ → Bool
 allDigits [] = true
 allDigits (c ∷ l) = isDigit c && allDigits l
 
-unfoldable pub isEmpty : List ℕ → Bool
-isEmpty [] = true
-isEmpty (c ∷ l) = false
+unfoldable pub noBytes : List ℕ → Bool
+noBytes [] = true
+noBytes (c ∷ l) = false
 
 -- "base-ten fields without leading zeros": `0` alone, or digits of which the first is not `0`
 unfoldable pub isDecimal : List ℕ → Bool
 isDecimal [] = false
-isDecimal (c ∷ l) = cond (eqb c 48) (isEmpty l) (allDigits (c ∷ l))
+isDecimal (c ∷ l) = cond (eqb c 48) (noBytes l) (allDigits (c ∷ l))
 
 -- the number that digits spell after v, whatever its size
 unfoldable pub valueFrom : ℕ → List ℕ → ℕ
@@ -76,27 +76,27 @@ enterWith (Of number) (Of ra) Nowhere = Bad
 enterWith (Of number) (Of ra) (At dec) = Enter number ra dec
 
 -- `E number ra dec`, after its letter
-unfoldable pub enterOf : List (List ℕ) → Command
-enterOf [] = Bad
-enterOf (number ∷ []) = Bad
-enterOf (number ∷ ra ∷ []) = Bad
-enterOf (number ∷ ra ∷ dec ∷ []) = enterWith (naturalOf number) (naturalOf ra) (declinationOf dec)
-enterOf (number ∷ ra ∷ dec ∷ more ∷ l) = Bad
+unfoldable pub enterFrom : List (List ℕ) → Command
+enterFrom [] = Bad
+enterFrom (number ∷ []) = Bad
+enterFrom (number ∷ ra ∷ []) = Bad
+enterFrom (number ∷ ra ∷ dec ∷ []) = enterWith (naturalOf number) (naturalOf ra) (declinationOf dec)
+enterFrom (number ∷ ra ∷ dec ∷ more ∷ l) = Bad
 
 unfoldable pub numberWith : (ℕ → Command) → Natural → Command
 numberWith make Wrong = Bad
 numberWith make (Of number) = make number
 
 -- `L number` or `R number`, after its letter
-unfoldable pub numberOf : (ℕ → Command) → List (List ℕ) → Command
-numberOf make [] = Bad
-numberOf make (number ∷ []) = numberWith make (naturalOf number)
-numberOf make (number ∷ more ∷ l) = Bad
+unfoldable pub numberFrom : (ℕ → Command) → List (List ℕ) → Command
+numberFrom make [] = Bad
+numberFrom make (number ∷ []) = numberWith make (naturalOf number)
+numberFrom make (number ∷ more ∷ l) = Bad
 
 -- `G`, after its letter
-unfoldable pub growOf : List (List ℕ) → Command
-growOf [] = Grow
-growOf (more ∷ l) = Bad
+unfoldable pub growFrom : List (List ℕ) → Command
+growFrom [] = Grow
+growFrom (more ∷ l) = Bad
 
 -- the byte of a field of one byte; 0, which is no letter, of any other
 unfoldable pub letterOf : List ℕ → ℕ
@@ -107,8 +107,8 @@ letterOf (c ∷ d ∷ l) = 0
 -- by the letter E, L, R or G of the first field, from the fields after it
 unfoldable pub byLetter : ℕ → List (List ℕ) → Command
 byLetter c fs =
-    cond (eqb c 69) (enterOf fs)
-    (cond (eqb c 76) (numberOf LookUp fs) (cond (eqb c 82) (numberOf Remove fs) (cond (eqb c 71) (growOf fs) Bad)))
+    cond (eqb c 69) (enterFrom fs)
+    (cond (eqb c 76) (numberFrom LookUp fs) (cond (eqb c 82) (numberFrom Remove fs) (cond (eqb c 71) (growFrom fs) Bad)))
 
 unfoldable pub byFields : List (List ℕ) → Command
 byFields [] = Bad
@@ -120,7 +120,7 @@ commandOf l = byFields (fields l)
 
 -- the lines of the input after the bytes `begun` of one: a newline (byte 10) ends a line, and "the last line may lack it" unless it is empty
 unfoldable pub linesFrom : List ℕ → List ℕ → List (List ℕ)
-linesFrom begun [] = cond (isEmpty begun) [] (begun ∷ [])
+linesFrom begun [] = cond (noBytes begun) [] (begun ∷ [])
 linesFrom begun (c ∷ l) = cond (eqb c 10) (begun ∷ linesFrom [] l) (linesFrom (begun ++ (c ∷ [])) l)
 
 abbrev pub linesOf : List ℕ → List (List ℕ)

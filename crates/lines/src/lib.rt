@@ -3,7 +3,7 @@ ghost use Prim.Native.Nat.{ℕ, _+_, _≤_};
 ghost use mathlib.Core.Path.{_≡_};
 ghost use mathlib.Core.List.{List, [], _∷_, _++_};
 ghost use lib.ListN.{length};
-ghost use Rattle.lines.specs.Grammar.{fields, fieldLength, commandOf, enterOf, naturalOf, declinationOf, isEmpty, kept, lineBytes};
+ghost use Rattle.lines.specs.Grammar.{fields, fieldLength, commandOf, enterFrom, naturalOf, declinationOf, noBytes, kept, lineBytes};
 ghost use Rattle.lines.specs.Replies.{digits, signedDigits, fieldBytes, replyBytes, Written};
 
 pub enum Command {
@@ -77,7 +77,7 @@ pub fn parse(line: &[u8]) -> Command
 }
 
 fn enter(operands: &[u8]) -> Command
-    ensures { λ r. ⌜ r ≡ enterOf (fields (now (operands .entry))) ⌝ }
+    ensures { λ r. ⌜ r ≡ enterFrom (fields (now (operands .entry))) ⌝ }
 {
     let a = first_blank(operands);
     if a == operands.len() {
@@ -91,7 +91,7 @@ fn enter(operands: &[u8]) -> Command
 
 // An entry's number was read; its position follows.
 fn enter_at(number: u32, position: &[u8]) -> Command
-    ensures { λ r. ⌜ ((f : List ℕ) → naturalOf f ≡ Natural.Of number → r ≡ enterOf (f ∷ fields (now (position .entry)))) ⌝ }
+    ensures { λ r. ⌜ ((f : List ℕ) → naturalOf f ≡ Natural.Of number → r ≡ enterFrom (f ∷ fields (now (position .entry)))) ⌝ }
 {
     let a = first_blank(position);
     if a == position.len() {
@@ -206,7 +206,7 @@ pub fn blank_line() -> Line
 }
 
 pub fn is_blank(line: Line) -> bool
-    ensures { λ r. ⌜ r ≡ isEmpty (lineBytes line) ⌝ }
+    ensures { λ r. ⌜ r ≡ noBytes (lineBytes line) ⌝ }
 {
     line.length == 0
 }

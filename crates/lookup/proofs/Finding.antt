@@ -10,7 +10,7 @@ use borrow.Author.Tests.{lt-ltb, le-ltb, leb-true}
 use Rattle.hashing.proofs.Bounds.{both}
 use Rattle.hashing.specs.declared.Parameters.{Parameters}
 use Rattle.hashing.specs.declared.Growth.{Growth}
-use Rattle.hashing.specs.Generator.{multiplierOf}
+use Rattle.hashing.specs.Geometry.{multiplierOf}
 use Rattle.hashing.specs.Home.{home}
 use Rattle.pages.specs.Page.{part, filled, placeOf, placeIn, pageAt}
 use Rattle.pages.specs.Position.{validWord, validNumber}
@@ -18,6 +18,7 @@ use Rattle.pages.specs.declared.page.Page.{Page}
 use Rattle.pages.specs.declared.page.Place.{Place}
 use Rattle.pages.proofs.Parts.{page-fits, take-filled, part-length, part-item, filled-item}
 use Rattle.pages.proofs.Places.{place-le, held-there}
+use Rattle.placement.specs.Rule.{starWith}
 use Rattle.placement.specs.File.{File, Sized, starsAt}
 use Rattle.placement.specs.Hash.{hashOf, soundAt, namedPage}
 use Rattle.placement.proofs.Standing.{first-le}
@@ -152,6 +153,6 @@ word-valid p g f page k sized inside some sound held =
     = λ l e. part-length (p .places) page l (page-fits (p .places) (p .pages) page inside e) in
     let ln : length ns ≡ p .places = long (f .numbers) (sized .ofNumbers) in
     let there = held-there k ns held .0 in
-    let proper = sound-proper validWord (hashOf p g) f page (sound-facts validWord (hashOf p g) f page sound) (record { number = k; word = getD ws (placeOf k ns) 0; owner = getD os (placeOf k ns) 0 })
+    let proper = sound-proper validWord (hashOf p g) f page (sound-facts validWord (hashOf p g) f page sound) (starWith k (getD ws (placeOf k ns) 0) (getD os (placeOf k ns) 0))
     (held-star ns ws os k (ln ∙ sym (long (f .words) (sized .ofWords)), ln ∙ sym (long (f .owners) (sized .ofOwners))) some held) .2 in
     ap validWord (sym (part-item (p .places) page (f .words) (placeOf k ns) (rw ln at there))) ∙ proper

@@ -1,4 +1,1 @@
-pub mod Admitting
 pub mod Finding
-pub mod Reached
-pub mod Tallies

@@ -3,12 +3,12 @@ ghost use mathlib.Core.Path.{_≡_};
 ghost use Rattle.placement.specs.Lent.{before};
 ghost use Rattle.calls.specs.Answers.{unpooled, sought};
 ghost use Rattle.calls.specs.Calls.{lookUpOf};
-use crate::lending::file_fits;
-use crate::lending::guard;
 use crate::naming::find;
 use calls::answers::Admission;
 use calls::answers::Found;
 use calls::answers::Refusal;
+use guarding::file_fits;
+use guarding::guard;
 use hashing::Geometry;
 use hashing::Growth;
 use hashing::Parameters;
@@ -38,7 +38,7 @@ pub fn look_up(
     if !pages::position::number_valid(number) {
         return Found::Refused(Refusal::BadNumber, 0);
     }
-    let table = hashing::first_multipliers(parameters.multiplier);
+    let table = generator::first_multipliers(parameters.multiplier);
     let named = find(
         &table,
         Geometry { parameters, growth },

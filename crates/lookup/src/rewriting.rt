@@ -3,13 +3,13 @@ ghost use mathlib.Core.Path.{_≡_};
 ghost use Rattle.placement.specs.Lent.{held, before};
 ghost use Rattle.calls.specs.Answers.{Leaves, unpooled, placed};
 ghost use Rattle.calls.specs.Calls.{changeOf};
-use crate::lending::file_fits;
-use crate::lending::guard;
 use crate::naming::find;
 use crate::naming::may_alter;
 use calls::answers::Admission;
 use calls::answers::Placed;
 use calls::answers::Refusal;
+use guarding::file_fits;
+use guarding::guard;
 use hashing::Geometry;
 use hashing::Growth;
 use hashing::Parameters;
@@ -46,7 +46,7 @@ pub fn change(
     if !pages::position::position_valid(position) {
         return Placed::Refused(Refusal::BadPosition, 0);
     }
-    let table = hashing::first_multipliers(parameters.multiplier);
+    let table = generator::first_multipliers(parameters.multiplier);
     let named = find(
         &table,
         Geometry { parameters, growth },

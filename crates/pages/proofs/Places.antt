@@ -2,7 +2,7 @@
 -- number is held exactly if it occurs. `Passed` is what the loop of `search` keeps.
 -- Assumes nothing.
 use mathlib.Core.Path.{_≡_, refl, sym, _∙_}
-use mathlib.Core.Bool.{Bool, true, false, cond, _&&_, _||_, true≢false, and-eq-true-iff}
+use mathlib.Core.Bool.{Bool, true, false, cond, _&&_, or-true, true≢false, and-eq-true-iff}
 use mathlib.Core.List.{List, [], _∷_, _++_, List·Memᴰ, List·Memᴰ·head, List·Memᴰ·tail, Memᴰ·cast}
 use Prim.Native.Nat.{ℕ, zero, suc, _+_, _≤_, _<_, zero-le, suc-le-suc}
 use native.Mathlib.Nat.{zero-add, suc-add, add-suc, add-zero, not-suc-le-zero, le-of-suc-le-suc}
@@ -12,7 +12,7 @@ use borrow.Author.Tests.{ltb-true, eqb-true, lt-ltb, le-ltb, le-leb, lt-leb, eq-
 use lib.Dec.{ltb, eqb}
 use lib.ListN.{length, take, drop, getD, replicate, drop-of-length-le}
 use lib.Seq.{length-take-le, drop-cons, getD-take}
-use Rattle.pages.specs.Page.{stops, placeOf, heldAt, placeIn, empties, rising, orderly}
+use Rattle.pages.specs.Page.{stops, placeOf, heldAt, placeIn, empties, rising, orderlyNumbers}
 
 cond-le : (t : Bool) {x y : ℕ} → x ≤ y → cond t 0 (suc x) ≤ suc y
 cond-le true h = zero-le
@@ -46,8 +46,6 @@ held-member k ns e =
     let h = held-there k ns e in
     Memᴰ·cast (sym (h .1)) (member-at ns (placeOf k ns) (h .0))
 
--- ---- orderly pages
-
 empty-at : (ns : List ℕ) (i : ℕ) → empties ns ≡ true → getD ns i 0 ≡ 0
 unfolding empties
 empty-at [] i e = refl
@@ -57,24 +55,24 @@ empty-at (n ∷ ns) (suc i) e = empty-at ns i (and-eq-true-iff (eqb n 0) (emptie
 -- an orderly page that begins with n: only empty places, or n and an orderly rest above it
 data Begins (low n : ℕ) (ns : List ℕ) : Type 0 where
   empty : n ≡ 0 → empties ns ≡ true → Begins low n ns
-  star : low < n → orderly n ns ≡ true → Begins low n ns
+  star : low < n → orderlyNumbers n ns ≡ true → Begins low n ns
 
-begins : (low n : ℕ) (ns : List ℕ) → orderly low (n ∷ ns) ≡ true → Begins low n ns
-unfolding orderly
+begins : (low n : ℕ) (ns : List ℕ) → orderlyNumbers low (n ∷ ns) ≡ true → Begins low n ns
+unfolding orderlyNumbers
 begins low n ns = go (eqb n 0) refl
   where
-    go : (t : Bool) → eqb n 0 ≡ t → cond t (empties ns) (ltb low n && orderly n ns) ≡ true → Begins low n ns
+    go : (t : Bool) → eqb n 0 ≡ t → cond t (empties ns) (ltb low n && orderlyNumbers n ns) ≡ true → Begins low n ns
     go true z e = empty (eqb-true n 0 z) e
     go false z e =
-        let h = and-eq-true-iff (ltb low n) (orderly n ns) .0 e in
+        let h = and-eq-true-iff (ltb low n) (orderlyNumbers n ns) .0 e in
         star (ltb-true low n (h .0)) (h .1)
 
 -- its numbers are above `low`
-pub orderly-above : (low : ℕ) (ns : List ℕ) (i : ℕ) → orderly low ns ≡ true → 1 ≤ getD ns i 0 → low < getD ns i 0
+pub orderly-above : (low : ℕ) (ns : List ℕ) (i : ℕ) → orderlyNumbers low ns ≡ true → 1 ≤ getD ns i 0 → low < getD ns i 0
 orderly-above low [] i e h = absurd (not-suc-le-zero h)
 orderly-above low (n ∷ ns) i e h = go i (begins low n ns e) h (λ (j : ℕ) o. orderly-above n ns j o)
   where
-    go : (i : ℕ) → Begins low n ns → 1 ≤ getD (n ∷ ns) i 0 → ((j : ℕ) → orderly n ns ≡ true → 1 ≤ getD ns j 0 → n < getD ns j 0) → low < getD (n ∷ ns) i 0
+    go : (i : ℕ) → Begins low n ns → 1 ≤ getD (n ∷ ns) i 0 → ((j : ℕ) → orderlyNumbers n ns ≡ true → 1 ≤ getD ns j 0 → n < getD ns j 0) → low < getD (n ∷ ns) i 0
     go zero (empty z o) h below = omega arith
     go zero (star l o) h below = l
     go (suc i) (empty z o) h below = omega (arith, empty-at ns i o)
@@ -82,23 +80,19 @@ orderly-above low (n ∷ ns) i e h = go i (begins low n ns e) h (λ (j : ℕ) o.
 
 stops-at : (k n : ℕ) → k ≤ n → stops k n ≡ true
 stops-at k n h = rw (le-leb k n h) (or-true (eqb n 0))
-  where
-    or-true : (t : Bool) → t || true ≡ true
-    or-true true = refl
-    or-true false = refl
 
 passes : (k n : ℕ) → 0 < n → n < k → stops k n ≡ false
 passes k n h b = rw (ne-eqb n 0 (omega arith), lt-leb k n b)
 
 -- the search ends at the place that holds k
-pub place-is : (low k : ℕ) (ns : List ℕ) (i : ℕ) → orderly low ns ≡ true → 1 ≤ k → i < length ns → getD ns i 0 ≡ k → placeOf k ns ≡ i
+pub place-is : (low k : ℕ) (ns : List ℕ) (i : ℕ) → orderlyNumbers low ns ≡ true → 1 ≤ k → i < length ns → getD ns i 0 ≡ k → placeOf k ns ≡ i
 unfolding placeOf
 place-is low k [] i e h b g = absurd (not-suc-le-zero b)
 place-is low k (n ∷ ns) zero e h b g = rw (stops-at k n (omega arith))
 place-is low k (n ∷ ns) (suc i) e h b g =
     go (begins low n ns e) (λ o. place-is n k ns i o h (le-of-suc-le-suc b) g)
   where
-    go : Begins low n ns → (orderly n ns ≡ true → placeOf k ns ≡ i) → cond (stops k n) 0 (suc (placeOf k ns)) ≡ suc i
+    go : Begins low n ns → (orderlyNumbers n ns ≡ true → placeOf k ns ≡ i) → cond (stops k n) 0 (suc (placeOf k ns)) ≡ suc i
     go (empty z o) rest = absurd (not-zero (empty-at ns i o))
       where
         not-zero : getD ns i 0 ≡ 0 → ⊥
@@ -107,16 +101,16 @@ place-is low k (n ∷ ns) (suc i) e h b g =
         let above : n < k = omega (arith, orderly-above n ns i o (omega arith)) in
         rw (passes k n (omega arith) above, rest o)
 
-pub held-at : (low k : ℕ) (ns : List ℕ) (i : ℕ) → orderly low ns ≡ true → 1 ≤ k → i < length ns → getD ns i 0 ≡ k → heldAt k ns ≡ true
+pub held-at : (low k : ℕ) (ns : List ℕ) (i : ℕ) → orderlyNumbers low ns ≡ true → 1 ≤ k → i < length ns → getD ns i 0 ≡ k → heldAt k ns ≡ true
 unfolding heldAt
 held-at low k ns i e h b g = rw (place-is low k ns i e h b g, lt-ltb i (length ns) b, eq-eqb (getD ns i 0) k g)
 
-pub member-held : (low k : ℕ) (ns : List ℕ) → orderly low ns ≡ true → 1 ≤ k → List·Memᴰ k ns → heldAt k ns ≡ true
+pub member-held : (low k : ℕ) (ns : List ℕ) → orderlyNumbers low ns ≡ true → 1 ≤ k → List·Memᴰ k ns → heldAt k ns ≡ true
 member-held low k ns e h m =
     let r = place-of-member m in
     held-at low k ns (r .0) e h (r .1 .0) (r .1 .1)
 
-pub not-held : (low k : ℕ) (ns : List ℕ) → orderly low ns ≡ true → 1 ≤ k → heldAt k ns ≡ false → List·Memᴰ k ns → ⊥
+pub not-held : (low k : ℕ) (ns : List ℕ) → orderlyNumbers low ns ≡ true → 1 ≤ k → heldAt k ns ≡ false → List·Memᴰ k ns → ⊥
 not-held low k ns e h f m = true≢false (sym (member-held low k ns e h m) ∙ f)
 
 empties-none : (z : ℕ) → empties (replicate z 0) ≡ true
@@ -125,16 +119,14 @@ empties-none zero = refl
 empties-none (suc z) = empties-none z
 
 -- numbers that rise strictly, with empty places behind, are orderly
-pub rising-orderly : (low : ℕ) (rs : List ℕ) (z : ℕ) → rising low rs ≡ true → orderly low (rs ++ replicate z 0) ≡ true
-unfolding rising orderly
+pub rising-orderly : (low : ℕ) (rs : List ℕ) (z : ℕ) → rising low rs ≡ true → orderlyNumbers low (rs ++ replicate z 0) ≡ true
+unfolding rising orderlyNumbers
 rising-orderly low [] zero e = refl
 rising-orderly low [] (suc z) e = empties-none z
 rising-orderly low (n ∷ rs) z e =
     let h = and-eq-true-iff (ltb low n) (rising n rs) .0 e in
     let l : low < n = ltb-true low n (h .0) in
     rw (ne-eqb n 0 (omega arith), h .0) (rising-orderly n rs z (h .1))
-
--- ---- the search
 
 -- the search of k has passed i of the first `places` numbers
 pub record Passed (places k : ℕ) (ns : List ℕ) (i : ℕ) : Type 0 where

@@ -1,10 +1,11 @@
 -- A page's items in a lent list, a page as one value, and where a number stands in it.
 -- Assumes nothing.
-use Prim.Native.Nat.{ℕ, suc, _*_, _-_}
+use Prim.Native.Nat.{ℕ, suc, _*_}
 use mathlib.Core.Bool.{Bool, true, cond, _&&_, _||_}
-use mathlib.Core.List.{List, [], _∷_, _++_}
+use mathlib.Core.List.{List, [], _∷_}
 use lib.Dec.{leb, ltb, eqb}
-use lib.ListN.{length, take, drop, getD, replicate}
+use lib.ListN.{length, take, drop, getD}
+use Rattle.buffers.specs.Lists.{padded}
 use Rattle.pages.specs.declared.page.Page.{Page}
 use Rattle.pages.specs.declared.page.Place.{Place}
 
@@ -12,9 +13,13 @@ use Rattle.pages.specs.declared.page.Place.{Place}
 unfoldable pub part : ℕ → ℕ → List ℕ → List ℕ
 part places page l = take places (drop (page * places) l)
 
+-- the items of `count` pages from page lo
+abbrev pub stretch : ℕ → ℕ → ℕ → List ℕ → List ℕ
+stretch places lo count l = take (count * places) (drop (lo * places) l)
+
 -- "one value of 32 places, unused ones empty"; 0 marks an empty place, whose word and owner are 0
-unfoldable pub filled : List ℕ → List ℕ
-filled l = l ++ replicate (32 - length l) 0
+abbrev pub filled : List ℕ → List ℕ
+filled l = padded 32 l
 
 -- a page of the lent numbers, words and owners as one value
 abbrev pub pageAt : ℕ → ℕ → List ℕ → List ℕ → List ℕ → Page
@@ -49,6 +54,6 @@ rising low [] = true
 rising low (n ∷ ns) = ltb low n && rising n ns
 
 -- "its numbers rise strictly ... and precede the empty places": numbers above `low`, then empty places
-unfoldable pub orderly : ℕ → List ℕ → Bool
-orderly low [] = true
-orderly low (n ∷ ns) = cond (eqb n 0) (empties ns) (ltb low n && orderly n ns)
+unfoldable pub orderlyNumbers : ℕ → List ℕ → Bool
+orderlyNumbers low [] = true
+orderlyNumbers low (n ∷ ns) = cond (eqb n 0) (empties ns) (ltb low n && orderlyNumbers n ns)

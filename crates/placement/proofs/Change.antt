@@ -7,12 +7,14 @@ use native.Mathlib.Nat.{suc-mul, mul-le-mul-right}
 use native.Mathlib.Decide.{decLt, ℕ-discrete}
 use native.Mathlib.Omega.{arith}
 use lib.Dec.{eqb}
-use lib.ListN.{length, getD, set, take, drop, replicate, length-map, length-set, List·getD-append, List·getD-map}
-use lib.Seq.{getD-append-add, drop-set-add, drop-set-lt, take-set-le, take-set-lt}
+use lib.ListN.{length, getD, set, take, drop, replicate, length-map, length-set, List·getD-eq-default, List·getD-map}
+use lib.Seq.{drop-set-add, drop-set-lt, take-set-le, take-set-lt}
 use borrow.Author.Tests.{eq-eqb, ne-eqb}
+use Rattle.buffers.specs.Lists.{padded}
+use Rattle.buffers.proofs.Lists.{padded-item}
 use Rattle.pages.specs.Page.{part}
-use Rattle.placement.specs.Rule.{Star, Hash, Contents, pages, separators, blank, reworded, changed}
-use Rattle.placement.specs.File.{padded, column, fileOf, laid}
+use Rattle.placement.specs.Rule.{Star, Hash, Contents, pages, separators, blank, reworded, changed, starWith}
+use Rattle.placement.specs.File.{column, fileOf, laid}
 use Rattle.placement.proofs.Order.{Rising, Absent, rising-member}
 use Rattle.placement.proofs.Mapping.{Keeps, mapped, pages-map}
 use Rattle.placement.proofs.Composition.{length-pages}
@@ -25,15 +27,15 @@ pub reworded-keeps : (k v : ℕ) → Keeps (reworded k v)
 unfolding reworded
 reworded-keeps k v s = go (eqb (s .number) k)
   where
-    go : (t : Bool) → (cond t (record { number = s .number; word = v; owner = s .owner }) s) .number ≡ s .number
+    go : (t : Bool) → (cond t (starWith (s .number) v (s .payload .owner)) s) .number ≡ s .number
     go true = refl
     go false = refl
 
-owner-kept : (k v : ℕ) (s : Star) → reworded k v s .owner ≡ s .owner
+owner-kept : (k v : ℕ) (s : Star) → reworded k v s .payload .owner ≡ s .payload .owner
 unfolding reworded
 owner-kept k v s = go (eqb (s .number) k)
   where
-    go : (t : Bool) → (cond t (record { number = s .number; word = v; owner = s .owner }) s) .owner ≡ s .owner
+    go : (t : Bool) → (cond t (starWith (s .number) v (s .payload .owner)) s) .payload .owner ≡ s .payload .owner
     go true = refl
     go false = refl
 
@@ -41,7 +43,7 @@ pub reworded-other : (k v : ℕ) (s : Star) → (s .number ≡ k → ⊥) → re
 unfolding reworded
 reworded-other k v s h = rw (ne-eqb (s .number) k h)
 
-pub reworded-same : (k v : ℕ) (s : Star) → s .number ≡ k → reworded k v s .word ≡ v
+pub reworded-same : (k v : ℕ) (s : Star) → s .number ≡ k → reworded k v s .payload .word ≡ v
 unfolding reworded
 reworded-same k v s h = rw (eq-eqb (s .number) k h)
 
@@ -52,17 +54,10 @@ changed-absent k v (s ∷ l) a =
     ap (λ (x : Star). x ∷ map (reworded k v) l) (reworded-other k v s (a s (List·Memᴰ·head refl)))
     ∙ ap (λ (m : List Star). s ∷ m) (changed-absent k v l (λ t m. a t (List·Memᴰ·tail m)))
 
--- ---- on one page
-
 number-above : (c : ℕ) (l : List Star) (i : ℕ) → Rising c l → i < length l → c ≤ getD (map numberOf l) i 0
 number-above c [] i r h = absurd (omega arith)
 number-above c (s ∷ l) zero r h = r .0
 number-above c (s ∷ l) (suc i) r h = omega (arith, r .0, number-above (suc (s .number)) l i (r .1) (omega arith))
-
-zero-at : (z i : ℕ) → getD {A = ℕ} (replicate z 0) i 0 ≡ 0
-zero-at zero i = refl
-zero-at (suc z) zero = refl
-zero-at (suc z) (suc i) = zero-at z i
 
 -- The items of a page, z empty places behind: the word beside number k becomes v.
 page-words : (k v z i c : ℕ) (l : List Star) → 1 ≤ k → Rising c l → i < length l → getD (map numberOf l) i 0 ≡ k
@@ -73,8 +68,8 @@ page-words k v z zero c (s ∷ l) h r g e =
     ap (λ (x : ℕ). x ∷ (map wordOf (changed k v l) ++ replicate z 0)) (reworded-same k v s e)
     ∙ ap (λ (m : List Star). v ∷ (map wordOf m ++ replicate z 0)) (changed-absent k v l (λ t m d. omega (arith, d, e, rising-member (suc (s .number)) l (r .1) t m)))
 page-words k v z (suc i) c (s ∷ l) h r g e =
-    ap (λ (x : Star). x .word ∷ (map wordOf (changed k v l) ++ replicate z 0)) (reworded-other k v s (λ d. omega (arith, d, above)))
-    ∙ ap (λ (m : List ℕ). s .word ∷ m) (page-words k v z i (suc (s .number)) l h (r .1) (omega arith) e)
+    ap (λ (x : Star). x .payload .word ∷ (map wordOf (changed k v l) ++ replicate z 0)) (reworded-other k v s (λ d. omega (arith, d, above)))
+    ∙ ap (λ (m : List ℕ). s .payload .word ∷ m) (page-words k v z i (suc (s .number)) l h (r .1) (omega arith) e)
   where
     above : s .number < k
     above = rw e at (number-above (suc (s .number)) l i (r .1) (omega arith))
@@ -90,34 +85,21 @@ page-changed b k v i c l h r g e =
 
 -- A number that stands in a page's items is one of its stars'.
 number-at : (b k i : ℕ) (l : List Star) → 1 ≤ k → getD (padded b (map numberOf l)) i 0 ≡ k → (i < length l) × (getD (map numberOf l) i 0 ≡ k)
-unfolding padded
 number-at b k i l h e = go (decLt i (length (map numberOf l)))
   where
     size : length (map numberOf l) ≡ length l
     size = length-map l numberOf
 
-    z : ℕ
-    z = b - length (map numberOf l)
-
     go : Dec (i < length (map numberOf l)) → (i < length l) × (getD (map numberOf l) i 0 ≡ k)
-    go (yes d) = (omega (arith, size), sym (List·getD-append (map numberOf l) (replicate z 0) 0 i d) ∙ e)
+    go (yes d) = (omega (arith, size), sym (padded-item b (map numberOf l) i) ∙ e)
     go (no d) =
-        let at : i ≡ length (map numberOf l) + (i - length (map numberOf l)) = omega arith in
-        absurd
-        (omega (
-          arith,
-          e,
-          ap (λ (j : ℕ). getD (map numberOf l ++ replicate z 0) j 0) at,
-          getD-append-add (map numberOf l) (replicate z 0) (i - length (map numberOf l)) 0,
-          zero-at z (i - length (map numberOf l)),
-        ))
+        let past : length (map numberOf l) ≤ i = omega arith in
+        absurd (omega (arith, e, padded-item b (map numberOf l) i, List·getD-eq-default (map numberOf l) 0 past))
 
 star-number : (l : List Star) (i : ℕ) → i < length l → (s : Star) × List·Memᴰ s l × (s .number ≡ getD (map numberOf l) i 0)
 star-number [] i h = absurd (omega arith)
 star-number (s ∷ l) zero h = (s, List·Memᴰ·head refl, refl)
 star-number (s ∷ l) (suc i) h = let r = star-number l i (omega arith) in (r .0, List·Memᴰ·tail (r .1), r .2)
-
--- ---- in the columns
 
 roomy-mapped : (b : ℕ) (g : Star → Star) (cs : List Contents) → Roomy b cs → Roomy b (map (mapped g) cs)
 roomy-mapped b g [] r = tt

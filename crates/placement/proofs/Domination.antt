@@ -1,12 +1,13 @@
 -- Over sound pages the rule never lowers a separator below the stored one, and leaves nothing.
-use mathlib.Core.Path.{_≡_, refl, sym, ap, _∙_}
-use mathlib.Core.Bool.{Bool, true, false, not, false≢true}
+use mathlib.Core.Path.{_≡_, sym, ap, _∙_}
+use mathlib.Core.Bool.{Bool, not}
 use mathlib.Core.List.{List, [], _∷_}
 use Prim.Native.Nat.{ℕ, zero, suc, _+_, _≤_, _<_}
 use native.Mathlib.Nat.{suc-add, add-suc, add-zero, le-trans}
 use native.Mathlib.Omega.{arith}
 use lib.ListN.{length, getD}
 use borrow.Author.Tests.{eq-eqb}
+use Rattle.buffers.proofs.Tests.{not-mono}
 use Rattle.placement.specs.Rule.{Star, Hash, separators, filter, below, staying, passing, separatorOf, contentsOf, onward, pages, left, first}
 use Rattle.placement.proofs.Filters.{filter-all, filter-comm, filter-absorb, length-filter}
 use Rattle.placement.proofs.Separator.{stays, staying-filter, sep-fits, sep-le, sep-great, below-mono}
@@ -58,11 +59,7 @@ onward-part : (H : Hash) (p v : ℕ) (w : List Star) → v ≤ separatorOf H p w
     → onward H p w ≡ filter (λ (s : Star). not (stays H p (separatorOf H p w) s)) (passing H p v w)
 unfolding onward passing
 onward-part H p v w h =
-    sym (filter-absorb (λ (s : Star). not (stays H p (separatorOf H p w) s)) (λ (s : Star). not (stays H p v s)) (λ s. go (below H p v (s .number)) (below H p (separatorOf H p w) (s .number)) (below-mono H p v (separatorOf H p w) (s .number) h)) w)
-  where
-    go : (a b : Bool) → (a ≡ true → b ≡ true) → not b ≡ true → not a ≡ true
-    go true b f g = absurd (false≢true (rw (f refl) at g))
-    go false b f g = refl
+    sym (filter-absorb (λ (s : Star). not (stays H p (separatorOf H p w) s)) (λ (s : Star). not (stays H p v s)) (λ s. not-mono (below H p v (s .number)) (below H p (separatorOf H p w) (s .number)) (below-mono H p v (separatorOf H p w) (s .number) h)) w)
 
 -- What some separators hold, the rule holds.
 pub dominated : (H : Hash) (p : ℕ) (vs : List ℕ) (w : List Star) → Holds H p vs w → left H p (length vs) w ≡ []

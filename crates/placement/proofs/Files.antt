@@ -7,28 +7,28 @@ use native.Mathlib.Nat.{add-mul, mul-le-mul-right}
 use native.Mathlib.Omega.{arith}
 use lib.ListN.{length, take, drop, getD, drop-of-length-le}
 use lib.Seq.{drop-cons, take-all, length-take-le}
+use Rattle.buffers.proofs.Written.{written-add, length-written}
+use Rattle.buffers.specs.Lists.{written, padded}
 use Rattle.pages.specs.Page.{part}
 use Rattle.placement.specs.Rule.{Star, Hash, Contents, contentsOf, onward, pages, left, pour, collected, separators, blank}
-use Rattle.placement.specs.File.{File, starsAt, contentsAt, pagesAt, gathered, padded, column, written, fileOf, replaced, laid, Sized}
+use Rattle.placement.specs.File.{File, starsAt, contentsAt, pagesAt, gathered, column, fileOf, replaced, laid, Sized}
 use Rattle.placement.proofs.Separator.{sep-fits}
 use Rattle.placement.proofs.Composition.{length-pages, middle-pages}
 use Rattle.placement.proofs.Standing.{length-separators, page-first, stands-first, standsAt}
 use Rattle.placement.proofs.Order.{Rising, rising-same, rising-filter}
 use Rattle.placement.proofs.Collecting.{on-all}
 use Rattle.placement.proofs.Locality.{standing}
-use Rattle.placement.proofs.Writing.{Roomy, written-add, length-written, part-front, part-back, part-column, parts-same, length-column, column-append, written-column, written-separators, separators-append, getD-separators}
+use Rattle.placement.proofs.Writing.{Roomy, part-front, part-back, part-column, parts-same, length-column, column-append, written-column, written-separators, separators-append, getD-separators}
 use Rattle.placement.proofs.Pages.{Proper, Numbered, starsOf-padded}
 
 abbrev pub numberOf : Star → ℕ
 numberOf s = s .number
 
 abbrev pub wordOf : Star → ℕ
-wordOf s = s .word
+wordOf s = s .payload .word
 
 abbrev pub ownerOf : Star → ℕ
-ownerOf s = s .owner
-
--- ---- a file made of pages says them
+ownerOf s = s .payload .owner
 
 pub gathered-collected : (b : ℕ) (f : File) (p n : ℕ) → gathered b f p n ≡ collected (pagesAt b f p n)
 unfolding gathered pagesAt collected contentsAt
@@ -63,8 +63,6 @@ pagesAt-of b cs p (suc n) r g h =
 pub sized-of : (b : ℕ) (cs : List Contents) → Roomy b cs → Sized b (length cs) (fileOf b cs)
 unfolding fileOf
 sized-of b cs r = record { ofSeparators = length-separators cs; ofNumbers = length-column b numberOf cs r; ofWords = length-column b wordOf cs r; ofOwners = length-column b ownerOf cs r }
-
--- ---- replacing pages
 
 pub replaced-of : (b : ℕ) (cs ds : List Contents) (p : ℕ) → Roomy b cs → Roomy b ds → p + length ds ≤ length cs
     → replaced b (fileOf b cs) p ds ≡ fileOf b (written p ds cs)
@@ -135,8 +133,6 @@ starsAt-replaced b M f p i cs z r h k g =
     rw (part-replaced b M p i numberOf cs (f .numbers) (z .ofNumbers) r h k, part-replaced b M p i wordOf cs (f .words) (z .ofWords) r h k, part-replaced b M p i ownerOf cs (f .owners) (z .ofOwners) r h k)
     (starsOf-padded b (getD cs i blank .stars) g)
 
--- ---- a file is determined by its pages
-
 pub determined : (b M : ℕ) (f g : File) → Sized b M f → Sized b M g → f .separators ≡ g .separators
     → ((p : ℕ) → p < M → part b p (f .numbers) ≡ part b p (g .numbers)) → ((p : ℕ) → p < M → part b p (f .words) ≡ part b p (g .words))
     → ((p : ℕ) → p < M → part b p (f .owners) ≡ part b p (g .owners)) → f ≡ g
@@ -147,8 +143,6 @@ determined b M f g zf zg e hn hw ho =
       words = parts-same b M (f .words) (g .words) (zf .ofWords) (zg .ofWords) hw i;
       owners = parts-same b M (f .owners) (g .owners) (zf .ofOwners) (zg .ofOwners) ho i;
     }
-
--- ---- the file that the rule lays
 
 pub roomy-pages : (H : Hash) (p n : ℕ) (w : List Star) → Roomy (H .room) (pages H p n w)
 unfolding pages contentsOf

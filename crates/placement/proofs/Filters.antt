@@ -1,30 +1,17 @@
 -- Laws of `filter`.
 use mathlib.Core.Path.{_≡_, refl, sym, ap, _∙_}
-use mathlib.Core.Bool.{Bool, true, false, not, _&&_, _||_, true≢false, false≢true}
+use mathlib.Core.Bool.{Bool, true, false, not, _&&_, and-comm, true≢false}
 use mathlib.Core.List.{List, [], _∷_, _++_, List·Memᴰ, List·Memᴰ·head, List·Memᴰ·tail, List·Memᴰ·cases-cons, List·Memᴰ·not-nil}
 use mathlib.Core.Logic.{⊎-elim, _⊎_, inl, inr}
 use Prim.Native.Nat.{ℕ, suc, _+_, _≤_, zero-le}
 use native.Mathlib.Omega.{arith}
 use lib.ListN.{length}
+pub use Rattle.buffers.proofs.Tests.{and-true}
 use Rattle.placement.specs.Rule.{keep, filter}
 
 -- Wherever q holds, r does.
 abbrev pub Within : {A : Type 0} → (A → Bool) → (A → Bool) → Type 0
 Within {A} q r = (x : A) → q x ≡ true → r x ≡ true
-
-pub and-true : (s t : Bool) → s && t ≡ true → (s ≡ true) × (t ≡ true)
-and-true true t e = (refl, e)
-and-true false t e = absurd (false≢true e)
-
-pub either-false : (s t : Bool) → s || t ≡ false → (s ≡ false) × (t ≡ false)
-either-false true t e = absurd (true≢false e)
-either-false false t e = (refl, e)
-
-pub and-comm : (s t : Bool) → s && t ≡ t && s
-and-comm true true = refl
-and-comm true false = refl
-and-comm false true = refl
-and-comm false false = refl
 
 module _ {A : Type 0} where
   pub filter-ext : (q r : A → Bool) → ((x : A) → q x ≡ r x) → (l : List A) → filter q l ≡ filter r l

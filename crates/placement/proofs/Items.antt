@@ -12,13 +12,13 @@ use lib.Seq.{drop-cons, length-take-le, getD-take, take-suc, take-suc-set, take-
 use borrow.Author.Tests.{eq-eqb, ne-eqb}
 use Rattle.hashing.specs.declared.Parameters.{Parameters}
 use Rattle.hashing.specs.declared.Growth.{Growth}
-use Rattle.hashing.specs.Generator.{topOf}
+use Rattle.generator.specs.Generator.{topOf}
 use Rattle.hashing.specs.Home.{home}
 use Rattle.pages.specs.Position.{validWord}
 use Rattle.pages.specs.Page.{part, pageAt}
 use Rattle.pages.specs.declared.page.Page.{Page}
 use Rattle.pages.proofs.Parts.{take-filled}
-use Rattle.placement.specs.Rule.{Star, keep}
+use Rattle.placement.specs.Rule.{Star, keep, starWith}
 use Rattle.placement.specs.File.{File, starsOf, starsAt, greatest, orderly, every, sound}
 use Rattle.placement.specs.Hash.{hashOf, soundAt, namedPage, homeIn, homesOf}
 use Rattle.placement.specs.Survey.{admits, soundIn, admitsItem, lastAfter}
@@ -60,7 +60,7 @@ module _ (p : Parameters) (g : Growth) (seps : List ℕ) (page : ℕ) where
 
       go : (t : Bool) →
           cond t (eqb w 0 && (eqb o 0 && orderly validWord greatest ns ws os)) (ltb last n && (leb n greatest && (validWord w && orderly validWord n ns ws os)))
-          && every here (keep (not t) (record { number = n; word = w; owner = o }) (starsOf ns ws os))
+          && every here (keep (not t) (starWith n w o) (starsOf ns ws os))
           ≡ cond t (eqb w 0 && eqb o 0) (ltb last n && (leb n greatest && (validWord w && eqb (namedPage p g seps n) page)))
           && (orderly validWord (cond t greatest n) ns ws os && every here (starsOf ns ws os))
       go true = grouped (eqb w 0) (eqb o 0) (orderly validWord greatest ns ws os) (every here (starsOf ns ws os))
@@ -149,8 +149,6 @@ module _ (p : Parameters) (g : Growth) (seps : List ℕ) (page : ℕ) where
     surveyed-all e =
         let none : drop i (take places ns) ≡ [] = drop-of-length-le (take places ns) {i = i} (omega (arith, length-take-le places ns (done .numbered))) in
         done .is ∙ rw none
-
--- ---- the page as loaded
 
 module _ (p : Parameters) (g : Growth) (f : File) (page : ℕ) where
   -- by the page's items

@@ -9,9 +9,9 @@ use native.Mathlib.Omega.{arith}
 use lib.Dec.{eqb}
 use lib.ListN.{length, getD}
 use borrow.Author.Tests.{lt-ltb, le-ltb, eqb-true, ne-eqb, eq-eqb}
+use Rattle.buffers.proofs.Written.{written-middle}
+use Rattle.buffers.specs.Lists.{written}
 use Rattle.placement.specs.Rule.{Star, Hash, Contents, separators, filter, pages, left, first, insert, pour, without, collected}
-use Rattle.placement.specs.File.{written}
-use Rattle.placement.proofs.Writing.{written-middle}
 use Rattle.placement.proofs.Filters.{Within, filter-none, filter-comm, filter-filter, filter-within, filter-absorb, filter-rest}
 use Rattle.placement.proofs.Separator.{Bounded}
 use Rattle.placement.proofs.Composition.{left-add, pages-add, length-pages}
@@ -111,8 +111,6 @@ local-left H p n w v e ew ev =
     ∙ e
     ∙ sym (left-far H p n (far H (p + n)) (far-home H (p + n)) w)
     ∙ filter-rest (near H (p + n)) (left H p n w) ew
-
--- ---- one stretch of the whole layout
 
 split : (H : Hash) (a n m : ℕ) (t : List Star)
     → pages H 0 (a + (n + m)) t ≡ pages H 0 a t ++ (pages H a n (left H 0 a t) ++ pages H (a + n) m (left H a n (left H 0 a t)))

@@ -193,8 +193,6 @@ insert-keeps s (x ∷ xs) t m = go (leb (s .number) (x .number)) (insert-keeps s
     go false ih (inl e) = List·Memᴰ·head e
     go false ih (inr n) = List·Memᴰ·tail (ih n)
 
--- ---- inserting many
-
 pub pour-append : (xs ys l : List Star) → pour (xs ++ ys) l ≡ pour xs (pour ys l)
 unfolding pour
 pour-append [] ys l = refl
@@ -299,8 +297,6 @@ pub pour-keeps : (xs l : List Star) (t : Star) → List·Memᴰ t l → List·Me
 unfolding pour
 pour-keeps [] l t m = m
 pour-keeps (x ∷ xs) l t m = insert-keeps x (pour xs l) t (pour-keeps xs l t m)
-
--- ---- a rising list is determined by its members
 
 pub rising-same : (j k : ℕ) (a b : List Star) → Rising j a → Rising k b → ((s : Star) → List·Memᴰ s a → List·Memᴰ s b) → ((s : Star) → List·Memᴰ s b → List·Memᴰ s a) → a ≡ b
 rising-same j k [] [] ra rb f g = refl

@@ -9,9 +9,11 @@ use native.Mathlib.Omega.{arith}
 use lib.Dec.{leb, ltb, eqb}
 use lib.ListN.{length, replicate, length-map}
 use borrow.Author.Tests.{leb-true, ltb-true, eqb-true, le-leb, lt-ltb, ne-eqb}
-use Rattle.placement.specs.Rule.{Star, keep, filter, insert}
-use Rattle.placement.specs.File.{starsOf, greatest, orderly, every, padded}
-use Rattle.placement.proofs.Filters.{and-true, member-filter}
+use Rattle.buffers.specs.Lists.{padded}
+use Rattle.buffers.proofs.Tests.{and-true}
+use Rattle.placement.specs.Rule.{Star, keep, filter, insert, starWith}
+use Rattle.placement.specs.File.{starsOf, greatest, orderly, every}
+use Rattle.placement.proofs.Filters.{member-filter}
 use Rattle.placement.proofs.Order.{Rising, rising-less, member-insert}
 
 pub every-member : {A : Type 0} (q : A → Bool) (l : List A) → every q l ≡ true → (x : A) → List·Memᴰ x l → q x ≡ true
@@ -27,12 +29,12 @@ member-every q (y ∷ ys) h = rw (h y (List·Memᴰ·head refl), member-every q 
 
 -- Numbers in range and words that pass the test.
 abbrev pub Proper : (ℕ → Bool) → List Star → Type 0
-Proper ok l = (s : Star) → List·Memᴰ s l → (1 ≤ s .number) × (s .number ≤ greatest) × (ok (s .word) ≡ true)
+Proper ok l = (s : Star) → List·Memᴰ s l → (1 ≤ s .number) × (s .number ≤ greatest) × (ok (s .payload .word) ≡ true)
 
 abbrev pub Numbered : List Star → Type 0
 Numbered l = (s : Star) → List·Memᴰ s l → 1 ≤ s .number
 
-pub proper-insert : (ok : ℕ → Bool) (s : Star) (l : List Star) → (1 ≤ s .number) × (s .number ≤ greatest) × (ok (s .word) ≡ true) → Proper ok l → Proper ok (insert s l)
+pub proper-insert : (ok : ℕ → Bool) (s : Star) (l : List Star) → (1 ≤ s .number) × (s .number ≤ greatest) × (ok (s .payload .word) ≡ true) → Proper ok l → Proper ok (insert s l)
 proper-insert ok s l v h t m =
     ⊎-elim
     (λ (e : t ≡ s). (rw e (v .0), rw e (v .1), rw e (v .2)))
@@ -46,12 +48,10 @@ pub rising-one : (l : List Star) → Rising 0 l → Numbered l → Rising 1 l
 rising-one [] r h = tt
 rising-one (s ∷ l) r h = (h s (List·Memᴰ·head refl), r .1)
 
--- ---- from the items to the stars
-
 -- What an item of an orderly page is: empty, or a star.
 data Item (ok : ℕ → Bool) (last n w o : ℕ) (ns ws os : List ℕ) : Type 0 where
   empty : n ≡ 0 → w ≡ 0 → o ≡ 0 → orderly ok greatest ns ws os ≡ true → starsOf (n ∷ ns) (w ∷ ws) (o ∷ os) ≡ starsOf ns ws os → Item ok last n w o ns ws os
-  star : last < n → n ≤ greatest → ok w ≡ true → orderly ok n ns ws os ≡ true → starsOf (n ∷ ns) (w ∷ ws) (o ∷ os) ≡ record { number = n; word = w; owner = o } ∷ starsOf ns ws os → Item ok last n w o ns ws os
+  star : last < n → n ≤ greatest → ok w ≡ true → orderly ok n ns ws os ≡ true → starsOf (n ∷ ns) (w ∷ ws) (o ∷ os) ≡ starWith n w o ∷ starsOf ns ws os → Item ok last n w o ns ws os
 
 picked : (t a b : Bool) → cond t a b ≡ true → ((t ≡ true) × (a ≡ true)) ⊎ ((t ≡ false) × (b ≡ true))
 picked true a b e = inl (refl, e)
@@ -94,12 +94,12 @@ orderly-proper ok last (n ∷ ns) (w ∷ ws) (o ∷ os) e s m =
     go (orderly-proper ok greatest ns ws os) (orderly-proper ok n ns ws os) (item ok last n w o ns ws os e) m
   where
     go : (orderly ok greatest ns ws os ≡ true → Proper ok (starsOf ns ws os)) → (orderly ok n ns ws os ≡ true → Proper ok (starsOf ns ws os)) → Item ok last n w o ns ws os
-        → List·Memᴰ s (starsOf (n ∷ ns) (w ∷ ws) (o ∷ os)) → (1 ≤ s .number) × (s .number ≤ greatest) × (ok (s .word) ≡ true)
+        → List·Memᴰ s (starsOf (n ∷ ns) (w ∷ ws) (o ∷ os)) → (1 ≤ s .number) × (s .number ≤ greatest) × (ok (s .payload .word) ≡ true)
     go ih₀ ih (empty z y x d q) m = ih₀ d s (rw q at m)
     go ih₀ ih (star l g v d q) m =
         ⊎-elim
-        (λ (c : s ≡ record { number = n; word = w; owner = o }).
-        (omega (arith, ap (λ (x : Star). x .number) c), omega (arith, ap (λ (x : Star). x .number) c), ap (λ (x : Star). ok (x .word)) c ∙ v))
+        (λ (c : s ≡ starWith n w o).
+        (omega (arith, ap (λ (x : Star). x .number) c), omega (arith, ap (λ (x : Star). x .number) c), ap (λ (x : Star). ok (x .payload .word)) c ∙ v))
         (λ (k : List·Memᴰ s (starsOf ns ws os)). ih d s k)
         (List·Memᴰ·cases-cons (rw q at m))
 
@@ -110,7 +110,7 @@ length-starsOf (n ∷ ns) [] os = omega arith
 length-starsOf (n ∷ ns) (w ∷ ws) [] = omega arith
 length-starsOf (n ∷ ns) (w ∷ ws) (o ∷ os) = go (not (eqb n 0)) (length-starsOf ns ws os)
   where
-    go : (t : Bool) → length (starsOf ns ws os) ≤ length ns → length (keep t (record { number = n; word = w; owner = o }) (starsOf ns ws os)) ≤ suc (length ns)
+    go : (t : Bool) → length (starsOf ns ws os) ≤ length ns → length (keep t (starWith n w o) (starsOf ns ws os)) ≤ suc (length ns)
     go true ih = omega arith
     go false ih = omega arith
 
@@ -150,7 +150,7 @@ starsOf-nil ws os = refl
 -- Items that are the columns of these stars, padded.
 abbrev pub Columns : ℕ → List ℕ → List ℕ → List ℕ → List Star → Type 0
 Columns k ns ws os l =
-    (ns ≡ padded k (map (λ (s : Star). s .number) l)) × (ws ≡ padded k (map (λ (s : Star). s .word) l)) × (os ≡ padded k (map (λ (s : Star). s .owner) l))
+    (ns ≡ padded k (map (λ (s : Star). s .number) l)) × (ws ≡ padded k (map (λ (s : Star). s .payload .word) l)) × (os ≡ padded k (map (λ (s : Star). s .payload .owner) l))
 
 -- The items of an orderly page are its stars, padded.
 pub orderly-columns : (ok : ℕ → Bool) (last : ℕ) (ns ws os : List ℕ) → length ns ≡ length ws → length ns ≡ length os → orderly ok last ns ws os ≡ true
@@ -180,11 +180,9 @@ orderly-columns ok last (n ∷ ns) (w ∷ ws) (o ∷ os) h k e =
         let E = more d in
         rw q (
           longer n ns (map (λ (s : Star). s .number) (starsOf ns ws os)) (E .0),
-          longer w ws (map (λ (s : Star). s .word) (starsOf ns ws os)) (E .1),
-          longer o os (map (λ (s : Star). s .owner) (starsOf ns ws os)) (E .2),
+          longer w ws (map (λ (s : Star). s .payload .word) (starsOf ns ws os)) (E .1),
+          longer o os (map (λ (s : Star). s .payload .owner) (starsOf ns ws os)) (E .2),
         )
-
--- ---- from the stars to the items
 
 none-made : (i j k : ℕ) → starsOf (replicate i 0) (replicate j 0) (replicate k 0) ≡ []
 unfolding starsOf
@@ -194,17 +192,17 @@ none-made (suc i) (suc j) zero = refl
 none-made (suc i) (suc j) (suc k) = none-made i j k
 
 pub starsOf-made : (l : List Star) (i j k : ℕ) → Numbered l
-    → starsOf (map (λ (s : Star). s .number) l ++ replicate i 0) (map (λ (s : Star). s .word) l ++ replicate j 0) (map (λ (s : Star). s .owner) l ++ replicate k 0) ≡ l
+    → starsOf (map (λ (s : Star). s .number) l ++ replicate i 0) (map (λ (s : Star). s .payload .word) l ++ replicate j 0) (map (λ (s : Star). s .payload .owner) l ++ replicate k 0) ≡ l
 unfolding starsOf
 starsOf-made [] i j k h = none-made i j k
 starsOf-made (s ∷ l) i j k h =
     rw (ne-eqb (s .number) 0 (λ z. omega (arith, z, h s (List·Memᴰ·head refl)))) (ap (λ (m : List Star). s ∷ m) (starsOf-made l i j k (λ t m. h t (List·Memᴰ·tail m))))
 
 pub starsOf-padded : (n : ℕ) (l : List Star) → Numbered l
-    → starsOf (padded n (map (λ (s : Star). s .number) l)) (padded n (map (λ (s : Star). s .word) l)) (padded n (map (λ (s : Star). s .owner) l)) ≡ l
+    → starsOf (padded n (map (λ (s : Star). s .number) l)) (padded n (map (λ (s : Star). s .payload .word) l)) (padded n (map (λ (s : Star). s .payload .owner) l)) ≡ l
 unfolding padded
 starsOf-padded n l h =
-    starsOf-made l (n - length (map (λ (s : Star). s .number) l)) (n - length (map (λ (s : Star). s .word) l)) (n - length (map (λ (s : Star). s .owner) l)) h
+    starsOf-made l (n - length (map (λ (s : Star). s .number) l)) (n - length (map (λ (s : Star). s .payload .word) l)) (n - length (map (λ (s : Star). s .payload .owner) l)) h
 
 empty-made : (ok : ℕ → Bool) (last i : ℕ) → orderly ok last (replicate i 0) (replicate i 0) (replicate i 0) ≡ true
 unfolding orderly
@@ -212,7 +210,7 @@ empty-made ok last zero = refl
 empty-made ok last (suc i) = empty-made ok greatest i
 
 orderly-made : (ok : ℕ → Bool) (last i : ℕ) (l : List Star) → Rising (suc last) l → Proper ok l
-    → orderly ok last (map (λ (s : Star). s .number) l ++ replicate i 0) (map (λ (s : Star). s .word) l ++ replicate i 0) (map (λ (s : Star). s .owner) l ++ replicate i 0) ≡ true
+    → orderly ok last (map (λ (s : Star). s .number) l ++ replicate i 0) (map (λ (s : Star). s .payload .word) l ++ replicate i 0) (map (λ (s : Star). s .payload .owner) l ++ replicate i 0) ≡ true
 unfolding orderly
 orderly-made ok last i [] r h = empty-made ok last i
 orderly-made ok last i (s ∷ l) r h =
@@ -221,7 +219,7 @@ orderly-made ok last i (s ∷ l) r h =
     (orderly-made ok (s .number) i l (r .1) (λ t m. h t (List·Memᴰ·tail m)))
 
 pub orderly-padded : (ok : ℕ → Bool) (n : ℕ) (l : List Star) → Rising 1 l → Proper ok l
-    → orderly ok 0 (padded n (map (λ (s : Star). s .number) l)) (padded n (map (λ (s : Star). s .word) l)) (padded n (map (λ (s : Star). s .owner) l)) ≡ true
+    → orderly ok 0 (padded n (map (λ (s : Star). s .number) l)) (padded n (map (λ (s : Star). s .payload .word) l)) (padded n (map (λ (s : Star). s .payload .owner) l)) ≡ true
 unfolding padded
 orderly-padded ok n l r h =
-    rw (length-map l (λ (s : Star). s .number), length-map l (λ (s : Star). s .word), length-map l (λ (s : Star). s .owner)) (orderly-made ok 0 (n - length l) l r h)
+    rw (length-map l (λ (s : Star). s .number), length-map l (λ (s : Star). s .payload .word), length-map l (λ (s : Star). s .payload .owner)) (orderly-made ok 0 (n - length l) l r h)

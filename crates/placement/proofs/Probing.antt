@@ -13,11 +13,13 @@ use lib.Seq.{drop-cons, drop-length, take-length, length-take-le, getD-take}
 use borrow.Author.Tests.{ne-eqb, le-leb, lt-ltb}
 use Rattle.hashing.specs.declared.Parameters.{Parameters}
 use Rattle.hashing.specs.declared.Growth.{Growth}
-use Rattle.hashing.specs.Generator.{multiplierOf, signature, topOf}
+use Rattle.generator.specs.Generator.{signature, topOf}
+use Rattle.hashing.specs.Geometry.{multiplierOf}
 use Rattle.hashing.specs.Home.{home}
 use Rattle.hashing.specs.Limits.{validParameters, validGrowth}
 use Rattle.hashing.proofs.Bounds.{limits}
-use Rattle.hashing.proofs.Laws.{signature-below, home-pages}
+use Rattle.generator.proofs.Scrambling.{signature-below}
+use Rattle.hashing.proofs.Homes.{home-pages}
 use Rattle.placement.specs.Rule.{Hash, below, first}
 use Rattle.placement.specs.Hash.{hashOf, hashFrom, namedPage}
 use Rattle.placement.proofs.Separator.{Bounded}

@@ -9,8 +9,9 @@ use native.Mathlib.Omega.{arith}
 use lib.Dec.{leb, ltb}
 use lib.ListN.{length}
 use borrow.Author.Tests.{leb-true, leb-false, ltb-true, le-leb, lt-leb, lt-ltb, le-ltb}
+use Rattle.buffers.proofs.Tests.{and-true}
 use Rattle.placement.specs.Rule.{Star, Hash, filter, below, staying, passing, onward, separatorFrom, separatorOf}
-use Rattle.placement.proofs.Filters.{and-true, filter-ext, filter-comm, filter-none, filter-absorb, length-filter, length-split, length-within}
+use Rattle.placement.proofs.Filters.{filter-ext, filter-comm, filter-none, filter-absorb, length-filter, length-split, length-within}
 
 -- The one fact of the hash that the rule needs.
 abbrev pub Bounded : Hash → Type 0

@@ -11,10 +11,13 @@ use lib.Dec.{leb, eqb}
 use lib.ListN.{length, take, drop, getD, length-drop}
 use lib.Seq.{drop-cons, drop-drop, take-add, take-all, length-take-le, getD-take, getD-drop}
 use borrow.Author.Tests.{leb-true, le-leb, le-ltb, eqb-true, eq-eqb, ne-eqb}
+use Rattle.buffers.proofs.Tests.{and-true}
+use Rattle.buffers.proofs.Written.{written-same}
+use Rattle.buffers.specs.Lists.{written, padded}
 use Rattle.pages.specs.Page.{part}
 use Rattle.placement.specs.Rule.{Star, Hash, Contents, filter, contentsOf, onward, pages, left, first, insert, pour, separators, blank}
-use Rattle.placement.specs.File.{File, starsAt, contentsAt, pagesAt, gathered, orderly, every, sound, padded, column, written, fileOf, replaced, laid, Sized, Clean}
-use Rattle.placement.proofs.Filters.{and-true, filter-all, filter-ext-on, filter-all-on, filter-none-on}
+use Rattle.placement.specs.File.{File, starsAt, contentsAt, pagesAt, gathered, orderly, every, sound, column, fileOf, replaced, laid, Sized, Clean}
+use Rattle.placement.proofs.Filters.{filter-all, filter-ext-on, filter-all-on, filter-none-on}
 use Rattle.placement.proofs.Separator.{Bounded, sep-le}
 use Rattle.placement.proofs.Composition.{length-pages}
 use Rattle.placement.proofs.Irrelevance.{near}
@@ -22,7 +25,7 @@ use Rattle.placement.proofs.Standing.{stands-first, standsAt, first-lat
 use Rattle.placement.proofs.Domination.{Holds, holds-part, holds-first, dominated, stored}
 use Rattle.placement.proofs.Order.{Sorted, Rising, Absent, sorted-insert, rising-sorted, rising-distinct, rising-pour, pour-insert, pour-comm, pour-pour, pour-nil, filter-pour, member-pour, poured, pour-keeps, sorted-pour}
 use Rattle.placement.proofs.Locality.{blocks-pages, blocks-left}
-use Rattle.placement.proofs.Writing.{Roomy, written-same, part-column, length-part}
+use Rattle.placement.proofs.Writing.{Roomy, part-column, length-part}
 use Rattle.placement.proofs.Pages.{Proper, rising-one, every-member, member-every, Columns, orderly-rising, orderly-proper, orderly-columns, orderly-padded, length-starsOf}
 use Rattle.placement.proofs.Files.{numberOf, wordOf, ownerOf, roomy-pages, page-member, rising-page, starsAt-laid, gathered-laid}
 
@@ -102,8 +105,6 @@ clean-laid ok H M w r proper e =
       allSound = λ p h. facts-sound ok H (laid (H .room) H M w) p (sound-laid ok H M w r proper p h);
       byRule = ap (laid (H .room) H M) (sym (gathered-laid ok H M w proper 0 r e));
     }
-
--- ---- a stretch of sound pages in any file
 
 abbrev pub AllSound : (ℕ → Bool) → Hash → File → ℕ → ℕ → Type 0
 AllSound ok H f p n = (q : ℕ) → p ≤ q → q < p + n → Sound ok H f q
@@ -268,8 +269,6 @@ module _ (ok : ℕ → Bool) (H : Hash) (f : File) where
       (stored H p (take n (drop p (f .separators))) (filter q (gathered (H .room) f p n))
       (holds-part H p (take n (drop p (f .separators))) q (gathered (H .room) f p n) (sound-holds M p n z h a)) i (omega (arith, size)))
 
-  -- ---- block by block
-
   -- Stars on sound pages above a page whose separator is top are homed above that page.
   pub homed-above : Bounded H → (e q : ℕ) → e < length (f .separators) → getD (f .separators) e 0 ≡ H .top → e < q → Sound ok H f q
       → (s : Star) → List·Memᴰ s (starsAt (H .room) f q) → e < H .home (s .number)
@@ -338,8 +337,6 @@ module _ (ok : ℕ → Bool) (H : Hash) (f : File) where
 
       above : filter (near H (p + suc d)) Q ≡ []
       above = rw (add-suc p d) (gathered-above b (p + d) m h top (λ q g i. a q (omega arith) (omega arith)))
-
-  -- ---- what the file already says
 
   columns-said : (M p : ℕ) → Sized (H .room) M f → p < M → Sound ok H f p
       → Columns (H .room) (part (H .room) p (f .numbers)) (part (H .room) p (f .words)) (part (H .room) p (f .owners)) (starsAt (H .room) f p)

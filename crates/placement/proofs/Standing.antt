@@ -146,8 +146,6 @@ looked-up H p n w s e m = (i, inside, at, stands H p n i w s inside m at)
     at : q ≡ p + i
     at = omega (arith, low)
 
--- ---- `first` over a part of the separators
-
 pub first-later : (H : Hash) (p i : ℕ) (vs : List ℕ) (k : ℕ) → i ≤ length vs → p + i ≤ first H p vs k → first H (p + i) (drop i vs) k ≡ first H p vs k
 unfolding first
 first-later H p zero vs k h g = rw (add-zero p)

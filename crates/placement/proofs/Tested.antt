@@ -8,9 +8,11 @@ use native.Mathlib.Omega.{arith}
 use lib.Dec.{leb, ltb, eqb}
 use lib.ListN.{length, getD, List·getD-map}
 use borrow.Author.Tests.{leb-true, ltb-true, eqb-true, eqb-false, le-leb}
+use Rattle.buffers.proofs.Tests.{and-true}
 use Rattle.hashing.specs.declared.Parameters.{Parameters}
 use Rattle.hashing.specs.declared.Growth.{Growth}
-use Rattle.hashing.specs.Generator.{multiplierOf, signature}
+use Rattle.generator.specs.Generator.{signature}
+use Rattle.hashing.specs.Geometry.{multiplierOf}
 use Rattle.hashing.specs.Home.{home}
 use Rattle.pages.specs.Position.{validNumber, validWord}
 use Rattle.pages.specs.Page.{part}
@@ -19,13 +21,10 @@ use Rattle.placement.specs.Rule.{Star}
 use Rattle.placement.specs.File.{File, Sized, starsAt, greatest, orderly}
 use Rattle.placement.specs.Hash.{hashOf, soundAt, namedPage, homeIn, homesOf}
 use Rattle.placement.specs.Survey.{lastAfter}
-use Rattle.placement.proofs.Filters.{and-true}
 use Rattle.placement.proofs.Separator.{below-home, below-signature}
 use Rattle.placement.proofs.Standing.{first-below}
 use Rattle.placement.proofs.Search.{starAt, at-star}
 use Rattle.placement.proofs.Sound.{Sound, sound-facts, facts-sound, sound-proper}
-
--- ---- items in order
 
 record Ordered (ok : ℕ → Bool) (last n w o : ℕ) (ns ws os : List ℕ) : Type 0 where
   rest : orderly ok (lastAfter n) ns ws os ≡ true
@@ -110,8 +109,6 @@ module _ (ok : ℕ → Bool) where
       go false z h = let star : (n ≡ 0 → ⊥) = eqb-false n 0 z in (omega (arith, star), h)
   items-rise last (n ∷ ns) (w ∷ ws) (o ∷ os) e (suc i) (suc j) h s = items-rise (lastAfter n) ns ws os (ordered ok last n w o ns ws os e .rest) i j (omega arith) s
 
--- ---- sound pages under the file's hash
-
 -- What holds of a star that stands on a sound page.
 pub record StarOn (p : Parameters) (g : Growth) (f : File) (page n w : ℕ) : Type 0 where
   pub number : validNumber n ≡ true
@@ -138,7 +135,7 @@ module _ (p : Parameters) (g : Growth) (f : File) (page : ℕ) where
   facts-real c = facts-sound validWord (hashOf p g) f page c
 
   module _ (sized : Sized (p .places) (p .pages) f) (inside : page < p .pages) (e : soundAt p g f page ≡ true) where
-    pub star-on : (s : Star) → List·Memᴰ s (starsAt (p .places) f page) → StarOn p g f page (s .number) (s .word)
+    pub star-on : (s : Star) → List·Memᴰ s (starsAt (p .places) f page) → StarOn p g f page (s .number) (s .payload .word)
     unfolding validNumber namedPage hashOf
     star-on s m =
         let c = real-facts e in

@@ -1,65 +1,19 @@
--- Laws of `written`, `part` and `column`: pages in the lent buffers.
+-- Laws of `part` and `column`: pages in the lent buffers.
 use mathlib.Core.Path.{_≡_, refl, sym, ap, _∙_}
 use mathlib.Core.List.{List, [], _∷_, _++_, map, append-assoc}
 use Prim.Native.Nat.{ℕ, zero, suc, _+_, _-_, _*_, _≤_, _<_}
-use native.Mathlib.Nat.{add-comm, suc-mul, zero-mul, add-mul, mul-le-mul-right}
+use native.Mathlib.Nat.{add-comm, suc-mul, zero-mul, add-mul}
 use native.Mathlib.Omega.{arith}
-use lib.ListN.{length, take, drop, getD, replicate, length-append, length-drop, length-map, length-replicate, take-append-drop, List·getD-map}
+use lib.ListN.{length, take, drop, getD, length-append, length-drop, length-map, take-append-drop, List·getD-map}
 use lib.Seq.{take-at, drop-at, take-append-le, drop-append-le, length-take-le, drop-drop}
+use Rattle.buffers.specs.Lists.{written, padded}
+use Rattle.buffers.proofs.Lists.{length-padded}
+use Rattle.buffers.proofs.Written.{around, written-middle}
 use Rattle.placement.specs.Rule.{Star, Contents, separators, blank}
 use Rattle.pages.specs.Page.{part}
-use Rattle.placement.specs.File.{padded, column, written}
+use Rattle.pages.proofs.Parts.{part-length, page-fits}
+use Rattle.placement.specs.File.{column}
 use Rattle.placement.proofs.Standing.{length-separators}
-
-module _ {A : Type 0} where
-  pub written-middle : (a : ℕ) (P Q X R : List A) → length P ≡ a → length X ≡ length Q → written a X (P ++ (Q ++ R)) ≡ P ++ (X ++ R)
-  unfolding written
-  written-middle a P Q X R lp lx =
-      rw (take-at P (Q ++ R) a lp)
-      (ap (λ (l : List A). P ++ (X ++ l))
-      (sym (drop-drop (length X) a (P ++ (Q ++ R))) ∙ ap (drop (length X)) (drop-at P (Q ++ R) a lp) ∙ drop-at Q R (length X) (sym lx)))
-
-  pub length-written : (a : ℕ) (s d : List A) → a + length s ≤ length d → length (written a s d) ≡ length d
-  unfolding written
-  length-written a s d h =
-      length-append (take a d) (s ++ drop (a + length s) d)
-      ∙ omega (arith, length-append s (drop (a + length s) d), length-take-le a d (omega arith), length-drop (a + length s) d)
-
-  -- One after the other, as one.
-  pub written-add : (a : ℕ) (s u d : List A) → a ≤ length d → written (a + length s) u (written a s d) ≡ written a (s ++ u) d
-  unfolding written
-  written-add a s u d h =
-      ap (λ (l : List A). take (a + length s) l ++ (u ++ drop (a + length s + length u) l)) (sym (append-assoc (take a d) s (drop (a + length s) d)))
-      ∙ ap (λ (l : List A). l ++ (u ++ drop (a + length s + length u) (take a d ++ s ++ drop (a + length s) d))) (take-at (take a d ++ s) (drop (a + length s) d) (a + length s) size)
-      ∙ ap (λ (l : List A). take a d ++ s ++ (u ++ l)) rest
-      ∙ append-assoc (take a d) s (u ++ drop (a + length (s ++ u)) d)
-      ∙ ap (λ (l : List A). take a d ++ l) (sym (append-assoc s u (drop (a + length (s ++ u)) d)))
-    where
-      size : length (take a d ++ s) ≡ a + length s
-      size = length-append (take a d) s ∙ ap (λ (k : ℕ). k + length s) (length-take-le a d h)
-
-      rest : drop (a + length s + length u) (take a d ++ s ++ drop (a + length s) d) ≡ drop (a + length (s ++ u)) d
-      rest =
-          let sum : a + length s + length u ≡ a + length (s ++ u) = omega (arith, length-append s u) in
-          sym (drop-drop (length u) (a + length s) (take a d ++ s ++ drop (a + length s) d))
-          ∙ ap (drop (length u)) (drop-at (take a d ++ s) (drop (a + length s) d) (a + length s) size)
-          ∙ drop-drop (length u) (a + length s) d
-          ∙ ap (λ (k : ℕ). drop k d) sum
-
-  -- A list around its n items from a.
-  pub around : (a n : ℕ) (d : List A) → d ≡ take a d ++ (take n (drop a d) ++ drop (a + n) d)
-  around a n d =
-      sym (take-append-drop a d)
-      ∙ ap (λ (l : List A). take a d ++ l) (sym (take-append-drop n (drop a d)) ∙ ap (λ (l : List A). take n (drop a d) ++ l) (drop-drop n a d))
-
-  -- What stands there already.
-  pub written-same : (a n : ℕ) (d : List A) → a + n ≤ length d → written a (take n (drop a d)) d ≡ d
-  unfolding written
-  written-same a n d h =
-      ap (λ (k : ℕ). take a d ++ (take n (drop a d) ++ drop (a + k) d)) (length-take-le n (drop a d) (omega (arith, length-drop a d)))
-      ∙ sym (around a n d)
-
--- ---- parts
 
 pub part-zero : (b : ℕ) (l : List ℕ) → part b 0 l ≡ take b l
 unfolding part
@@ -84,9 +38,7 @@ part-back b i j xs ys e =
     (ap (λ (k : ℕ). drop k (xs ++ ys)) (add-mul i j b) ∙ sym (drop-drop (j * b) (i * b) (xs ++ ys)) ∙ ap (drop (j * b)) (drop-at xs ys (i * b) e))
 
 pub length-part : (b p M : ℕ) (l : List ℕ) → length l ≡ M * b → p < M → length (part b p l) ≡ b
-unfolding part
-length-part b p M l e h =
-    length-take-le b (drop (p * b) l) (omega (arith, length-drop (p * b) l, suc-mul p b, mul-le-mul-right b h))
+length-part b p M l e h = part-length b p l (page-fits b M p h e)
 
 -- A list of M pages is determined by them.
 pub parts-same : (b M : ℕ) (k l : List ℕ) → length k ≡ M * b → length l ≡ M * b → ((p : ℕ) → p < M → part b p k ≡ part b p l) → k ≡ l
@@ -105,8 +57,6 @@ parts-same b (suc M) k l ek el h =
     shorter : (m : List ℕ) → length m ≡ suc M * b → length (drop b m) ≡ M * b
     shorter m e = omega (arith, length-drop b m, suc-mul M b)
 
--- ---- pages in columns
-
 -- At most so many stars on each page.
 abbrev pub Roomy : ℕ → List Contents → Type 0
 Roomy b [] = Unit {0}
@@ -119,10 +69,6 @@ roomy-append b (c ∷ cs) ds r = ((r .0, roomy-append b cs ds (r .1) .0), roomy-
 pub append-roomy : (b : ℕ) (cs ds : List Contents) → Roomy b cs → Roomy b ds → Roomy b (cs ++ ds)
 append-roomy b [] ds r s = s
 append-roomy b (c ∷ cs) ds r s = (r .0, append-roomy b cs ds (r .1) s)
-
-pub length-padded : (n : ℕ) (l : List ℕ) → length l ≤ n → length (padded n l) ≡ n
-unfolding padded
-length-padded n l h = length-append l (replicate (n - length l) 0) ∙ omega (arith, length-replicate {A = ℕ} (n - length l) 0)
 
 pub separators-append : (cs ds : List Contents) → separators (cs ++ ds) ≡ separators cs ++ separators ds
 unfolding separators

@@ -2,11 +2,12 @@
 use mathlib.Core.Path.{_≡_}
 use mathlib.Core.Bool.{Bool, true, false, not, cond, _&&_}
 use mathlib.Core.List.{List, [], _∷_, _++_, map}
-use Prim.Native.Nat.{ℕ, zero, suc, _+_, _-_, _*_, _<_}
+use Prim.Native.Nat.{ℕ, zero, suc, _*_, _<_}
 use lib.Dec.{leb, ltb, eqb}
-use lib.ListN.{length, take, drop, getD, replicate}
+use lib.ListN.{length, getD}
+unfoldable pub use Rattle.buffers.specs.Lists.{padded, written}
 use Rattle.pages.specs.Page.{part}
-use Rattle.placement.specs.Rule.{Star, Hash, Contents, keep, pages, first, pour, separators}
+use Rattle.placement.specs.Rule.{Star, Hash, Contents, keep, pages, first, pour, separators, starWith}
 
 pub record File : Type 0 where
   pub separators : List ℕ
@@ -19,7 +20,7 @@ unfoldable pub starsOf : List ℕ → List ℕ → List ℕ → List Star
 starsOf [] ws os = []
 starsOf (n ∷ ns) [] os = []
 starsOf (n ∷ ns) (w ∷ ws) [] = []
-starsOf (n ∷ ns) (w ∷ ws) (o ∷ os) = keep (not (eqb n 0)) (record { number = n; word = w; owner = o }) (starsOf ns ws os)
+starsOf (n ∷ ns) (w ∷ ws) (o ∷ os) = keep (not (eqb n 0)) (starWith n w o) (starsOf ns ws os)
 
 unfoldable pub starsAt : ℕ → File → ℕ → List Star
 starsAt places f p = starsOf (part places p (f .numbers)) (part places p (f .words)) (part places p (f .owners))
@@ -63,18 +64,10 @@ sound ok H f p =
     && (leb (getD (f .separators) p 0) (H .top)
     && every (λ (s : Star). eqb (first H 0 (f .separators) (s .number)) p) (starsAt (H .room) f p))
 
--- "Empty places last."
-unfoldable pub padded : ℕ → List ℕ → List ℕ
-padded n l = l ++ replicate (n - length l) 0
-
--- One item for each place of these pages: numbers, words or owners, by g.
+-- One item for each place of these pages: numbers, words or owners, by g. "Empty places last."
 unfoldable pub column : ℕ → (Star → ℕ) → List Contents → List ℕ
 column places g [] = []
 column places g (c ∷ cs) = padded places (map g (c .stars)) ++ column places g cs
-
--- d with s in the place of its items from `at` on.
-unfoldable pub written : {A : Type 0} → ℕ → List A → List A → List A
-written at s d = take at d ++ (s ++ drop (at + length s) d)
 
 -- The pages cs as a whole file.
 unfoldable pub fileOf : ℕ → List Contents → File
@@ -82,8 +75,8 @@ fileOf places cs =
     record {
       separators = separators cs;
       numbers = column places (λ (s : Star). s .number) cs;
-      words = column places (λ (s : Star). s .word) cs;
-      owners = column places (λ (s : Star). s .owner) cs;
+      words = column places (λ (s : Star). s .payload .word) cs;
+      owners = column places (λ (s : Star). s .payload .owner) cs;
     }
 
 -- "Other pages stay": the file with the pages from p on replaced by cs.
@@ -92,8 +85,8 @@ replaced places f p cs =
     record {
       separators = written p (separators cs) (f .separators);
       numbers = written (p * places) (column places (λ (s : Star). s .number) cs) (f .numbers);
-      words = written (p * places) (column places (λ (s : Star). s .word) cs) (f .words);
-      owners = written (p * places) (column places (λ (s : Star). s .owner) cs) (f .owners);
+      words = written (p * places) (column places (λ (s : Star). s .payload .word) cs) (f .words);
+      owners = written (p * places) (column places (λ (s : Star). s .payload .owner) cs) (f .owners);
     }
 
 -- The whole file under the rule.

@@ -6,7 +6,8 @@ use Prim.Native.Nat.{ℕ, _*_}
 use lib.ListN.{length}
 use Rattle.hashing.specs.declared.Parameters.{Parameters}
 use Rattle.hashing.specs.declared.Geometry.{Geometry}
-use Rattle.hashing.specs.Generator.{multiplierOf, multipliers, firstMultipliers}
+use Rattle.generator.specs.Generator.{multipliers, firstMultipliers}
+use Rattle.hashing.specs.Geometry.{multiplierOf}
 use Rattle.hashing.specs.Limits.{validParameters, validGrowth}
 use Rattle.placement.specs.File.{File, Sized}
 

@@ -5,11 +5,18 @@ use Prim.Native.Nat.{ℕ, zero, suc}
 use lib.Dec.{leb, ltb, eqb}
 use lib.ListN.{length}
 
--- The rule reads the number alone; word and owner go with it.
-pub record Star : Type 0 where
-  pub number : ℕ
+-- What goes with a star's number from place to place.
+pub record Payload : Type 0 where
   pub word : ℕ
   pub owner : ℕ
+
+-- The rule reads the number alone.
+pub record Star : Type 0 where
+  pub number : ℕ
+  pub payload : Payload
+
+abbrev pub starWith : ℕ → ℕ → ℕ → Star
+starWith number word owner = record { number = number; payload = record { word = word; owner = owner } }
 
 -- What the rule asks of the hash: a number's home and its signature on a page; top is 2^k − 1 and room is b.
 pub record Hash : Type 0 where
@@ -88,7 +95,7 @@ without k w = filter (λ (s : Star). not (eqb (s .number) k)) w
 
 -- "A change writes one word", "a change leaves the owner": the star of number k gets the word v.
 unfoldable pub reworded : ℕ → ℕ → Star → Star
-reworded k v s = cond (eqb (s .number) k) (record { number = s .number; word = v; owner = s .owner }) s
+reworded k v s = cond (eqb (s .number) k) (starWith (s .number) v (s .payload .owner)) s
 
 unfoldable pub changed : ℕ → ℕ → List Star → List Star
 changed k v w = map (reworded k v) w

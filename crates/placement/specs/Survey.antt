@@ -9,7 +9,8 @@ use lib.Seq.{paste}
 use Rattle.hashing.specs.declared.Parameters.{Parameters}
 use Rattle.hashing.specs.declared.Growth.{Growth}
 use Rattle.hashing.specs.declared.Geometry.{Geometry}
-use Rattle.hashing.specs.Generator.{multiplierOf, topOf}
+use Rattle.generator.specs.Generator.{topOf}
+use Rattle.hashing.specs.Geometry.{multiplierOf}
 use Rattle.hashing.specs.Home.{home}
 use Rattle.pages.specs.declared.page.Page.{Page}
 use Rattle.pages.specs.Page.{part}
@@ -45,7 +46,7 @@ abbrev pub Homes : Geometry → List ℕ → List ℕ → Type 0
 Homes g ns hs = take (g .parameters .places) hs ≡ map (home (multiplierOf (g .parameters)) (g .parameters) (g .growth)) (take (g .parameters .places) ns)
 
 -- What is told of an item.
-pub record Admitted (p : Parameters) (g : Growth) (seps : List ℕ) (page low n w o : ℕ) (r : Item) : Type 0 where
+pub record TestedItem (p : Parameters) (g : Growth) (seps : List ℕ) (page low n w o : ℕ) (r : Item) : Type 0 where
   pub sound : r .sound ≡ admitsItem p g seps page low n w o
   pub home : r .sound ≡ true → r .home ≡ homeIn p g n
   pub last : r .sound ≡ true → r .last ≡ lastAfter n

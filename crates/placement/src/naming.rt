@@ -4,7 +4,8 @@ ghost use mathlib.Core.Bool.{true};
 ghost use Prim.Native.Nat.{_≤_, _<_};
 ghost use lib.Dec.{eqb};
 ghost use lib.ListN.{length, take};
-ghost use Rattle.hashing.specs.Generator.{multiplierOf, firstMultipliers};
+ghost use Rattle.generator.specs.Generator.{firstMultipliers};
+ghost use Rattle.hashing.specs.Geometry.{multiplierOf};
 ghost use Rattle.hashing.specs.Limits.{validParameters};
 ghost use Rattle.placement.specs.Rule.{first};
 ghost use Rattle.placement.specs.Hash.{hashFrom, namedPage, homeUnder};
@@ -55,14 +56,14 @@ fn probe(
     let mut t = 1;
     let mut page = home;
     while page < stop {
-        let x = hashing::residue(table[2 * t], key);
-        if hashing::below_top(x, parameters.bits) < separators[page] as u32 {
+        let x = generator::residue(table[2 * t], key);
+        if generator::below_top(x, parameters.bits) < separators[page] as u32 {
             return page;
         }
         page += 1;
         t += 1;
         if t == 45 {
-            key = hashing::residue(table[87], key);
+            key = generator::residue(table[87], key);
             t = 1;
         }
     }

@@ -1,11 +1,11 @@
 // The soundness of a page. Its stars' homes are computed once and at once, for the test, and kept.
 ghost use mathlib.Core.Path.{_≡_};
 ghost use mathlib.Core.Bool.{true, _&&_};
-ghost use Prim.Native.Nat.{_+_, _*_, _≤_, _<_};
+ghost use Prim.Native.Nat.{_+_, _*_, _<_};
 ghost use lib.Dec.{eqb, leb, ltb};
 ghost use lib.ListN.{length};
-ghost use lib.Seq.{paste};
-ghost use Rattle.hashing.specs.Generator.{multiplierOf, firstMultipliers, topOf};
+ghost use Rattle.generator.specs.Generator.{firstMultipliers, topOf};
+ghost use Rattle.hashing.specs.Geometry.{multiplierOf};
 ghost use Rattle.hashing.specs.Home.{home as Home·home};
 ghost use Rattle.hashing.specs.Limits.{validParameters, validGrowth};
 ghost use Rattle.pages.specs.Position.{validWord};
@@ -13,7 +13,7 @@ ghost use Rattle.placement.specs.File.{greatest};
 ghost use Rattle.placement.specs.Hash.{soundAt};
 ghost use Rattle.placement.specs.Lent.{held, before};
 ghost use Rattle.placement.specs.Ready.{Homing, Ready};
-ghost use Rattle.placement.specs.Survey.{Homes, Admitted, Tested, surveyed};
+ghost use Rattle.placement.specs.Survey.{Homes, TestedItem, Tested, surveyed};
 use crate::naming::stands_on;
 use hashing::Geometry;
 use hashing::Parameters;
@@ -120,7 +120,7 @@ fn admitted(
     requires { ⌜ length (now separators) ≡ geometry .parameters .pages ⌝ }
     requires { ⌜ page < geometry .parameters .pages ⌝ }
     requires { ⌜ home ≡ Home·home (multiplierOf (geometry .parameters)) (geometry .parameters) (geometry .growth) number ⌝ }
-    ensures { λ r. ⌜ Admitted (geometry .parameters) (geometry .growth) (now (separators .entry)) page last number word owner r ⌝ }
+    ensures { λ r. ⌜ TestedItem (geometry .parameters) (geometry .growth) (now (separators .entry)) page last number word owner r ⌝ }
 {
     if number == 0 {
         return Item {
@@ -189,19 +189,6 @@ pub fn survey(
         return false;
     }
     let values = found.homes;
-    keep(homes, page * places, values, places);
+    buffers::copy_32(homes, page * places, &values, 0, places);
     true
-}
-
-// The first values go to the items from `first` on.
-fn keep(homes: &mut [u32], first: usize, values: [u32; 32], places: usize)
-    requires { ⌜ places ≤ 32 ⌝ }
-    requires { ⌜ first + places ≤ length (now homes) ⌝ }
-    ensures { λ _. ⌜ now (homes .exit) ≡ paste (now (homes .entry)) first values places ⌝ }
-{
-    let mut i = 0;
-    while i < places {
-        homes[first + i] = values[i];
-        i += 1;
-    }
 }

@@ -6,25 +6,28 @@ use Prim.Native.Nat.{ℕ, suc, zero, _+_, _*_, _^_, _≤_, _<_}
 use native.Mathlib.Nat.{add-zero, add-mul, le-refl, mul-one}
 use native.Mathlib.Omega.{arith}
 use lib.ListN.{length, take, drop, length-map, length-drop, take-append-drop}
-use lib.Seq.{paste, take-at, drop-at, length-take-le, drop-append-le, take-append-le, take-add, drop-drop}
+use lib.Seq.{paste, length-take-le, drop-append-le, take-append-le, take-add, drop-drop}
 use borrow.Author.Tests.{eq-eqb, le-leb}
+use Rattle.pages.specs.Page.{stretch}
+use Rattle.buffers.proofs.Lists.{map-take}
+use Rattle.buffers.proofs.Written.{taken-written, paste-written}
+use Rattle.buffers.specs.Lists.{written}
 use Rattle.hashing.specs.declared.Parameters.{Parameters}
 use Rattle.hashing.specs.declared.Growth.{Growth}
 use Rattle.hashing.specs.Home.{home}
-use Rattle.placement.specs.Rule.{Star, Hash, Contents, pages, left, insert, without, separators}
-use Rattle.placement.specs.File.{File, gathered, column, written, replaced}
+use Rattle.placement.specs.Rule.{Star, Hash, Contents, pages, left, insert, without, separators, starWith}
+use Rattle.placement.specs.File.{File, gathered, column, replaced}
 use Rattle.placement.specs.Hash.{hashOf, homesOf}
 use Rattle.placement.proofs.Mapping.{mapped, pages-map, left-map}
 use Rattle.placement.proofs.Standing.{length-separators}
 use Rattle.placement.proofs.Writing.{length-column, column-append, separators-append}
 use Rattle.waiting.specs.Lists.{all, allBelow}
 use Rattle.waiting.specs.Words.{pack}
-use Rattle.waiting.specs.Gather.{stretch, wordsFrom, group, grouped, groupsBelow, stretchWords}
+use Rattle.waiting.specs.Gather.{wordsFrom, group, grouped, groupsBelow, stretchWords}
 use Rattle.waiting.specs.Settle.{homesUpTo}
 use Rattle.waiting.proofs.Packing.{home-pack, number-pack, source-pack}
 use Rattle.planning.specs.Sources.{renamed, sourced}
 use Rattle.planning.specs.Plans.{waits, homed, carriedOn, plans, remains, Planned}
-use Rattle.planning.proofs.Copies.{paste-written, map-take}
 use Rattle.planning.proofs.Pouring.{waits-grouped, length-waits}
 use Rattle.planning.proofs.RuleOverWords.{Probes, plans-are, homed-onward, homed-probing}
 use Rattle.planning.proofs.Applying.{renamed-keeps, plans-sourced, applied, applied-is}
@@ -118,29 +121,17 @@ module _ (H : Hash) (q : Parameters) (real : Probes H q) (lo n : ℕ) (f : File)
   -- .. and with the new star k, whose source is past the items
   pub placed-new : (h : ℕ) → h ≡ H .home k → h ≤ lo → k < 2 ^ 31 → length (f .words) + 1 < 2 ^ 16 → length (f .owners) ≡ length (f .words)
       → (map (mapped (renamed (f .words) (f .owners) newword newowner)) (plans q lo 0 n (pack h k (length (f .words) + 1) ∷ []) (stretchWords (q .places) lo n k (f .numbers) hs))
-      ≡ pages H lo n (insert (record { number = k; word = newword; owner = newowner }) (without k (gathered (q .places) f lo n))))
+      ≡ pages H lo n (insert (starWith k newword newowner) (without k (gathered (q .places) f lo n))))
       × (map (renamed (f .words) (f .owners) newword newowner) (waits (remains q lo 0 n (pack h k (length (f .words) + 1) ∷ []) (stretchWords (q .places) lo n k (f .numbers) hs)))
-      ≡ left H lo n (insert (record { number = k; word = newword; owner = newowner }) (without k (gathered (q .places) f lo n))))
+      ≡ left H lo n (insert (starWith k newword newowner) (without k (gathered (q .places) f lo n))))
   placed-new h eh near hk few same =
       let s : ℕ = length (f .words) + 1 in
       let x : ℕ = pack h k s in
       let l : List ℕ = stretchWords (q .places) lo n k (f .numbers) hs in
-      placed-with (x ∷ []) (insert (record { number = k; word = newword; owner = newowner }) (without k (gathered (q .places) f lo n)))
+      placed-with (x ∷ []) (insert (starWith k newword newowner) (without k (gathered (q .places) f lo n)))
       (new-homed H h k s eh hk few) (new-near lo h k s near hk few)
       (new-star (f .words) (f .owners) newword newowner h k s l hk few stretch-fresh
       ∙ rw (named-past (f .words) newword s refl, named-past (f .owners) newowner s (ap (λ (m : ℕ). m + 1) (sym same)), stretch-stars))
-
--- ---- what the plan leaves, applied
-
--- what was written is there
-stretch-written : (b lo n : ℕ) (s d : List ℕ) → length s ≡ n * b → lo * b ≤ length d → stretch b lo n (written (lo * b) s d) ≡ s
-unfolding written
-stretch-written b lo n s d e h =
-    ap (take (n * b)) (drop-at (take (lo * b) d) (s ++ drop (lo * b + length s) d) (lo * b) (length-take-le (lo * b) d h))
-    ∙ take-at s (drop (lo * b + length s) d) (n * b) e
-
-taken-written : (at n : ℕ) (s d : List ℕ) → length s ≡ n → at ≤ length d → take n (drop at (written at s d)) ≡ s
-taken-written at n s d e h = simp mul-one at (stretch-written 1 at n s d (e ∙ sym (mul-one n)) (rw (mul-one at) h))
 
 pub stretch-add : (b lo n m : ℕ) (l : List ℕ) → stretch b lo (n + m) l ≡ stretch b lo n l ++ stretch b (lo + n) m l
 stretch-add b lo n m l =
@@ -164,26 +155,26 @@ stretch-before b lo n at s d h k =
     sym-front le = ap (stretch b lo n) (sym (take-append-drop at d)) ∙ front (take at d) (drop at d) (rw (length-take-le at d k) le)
 
 -- a stretch that goes on with what is written
-stretch-on : (b lo n m : ℕ) (s d : List ℕ) → length s ≡ m * b → (lo + n) * b ≤ length d
+pub stretch-on : (b lo n m : ℕ) (s d : List ℕ) → length s ≡ m * b → (lo + n) * b ≤ length d
     → stretch b lo (n + m) (written ((lo + n) * b) s d) ≡ stretch b lo n d ++ s
 stretch-on b lo n m s d e h =
     stretch-add b lo n m (written ((lo + n) * b) s d)
     ∙ ap (λ (x : List ℕ). x ++ stretch b (lo + n) m (written ((lo + n) * b) s d)) (stretch-before b lo n ((lo + n) * b) s d (le-refl ((lo + n) * b)) h)
-    ∙ ap (λ (x : List ℕ). stretch b lo n d ++ x) (stretch-written b (lo + n) m s d e h)
+    ∙ ap (λ (x : List ℕ). stretch b lo n d ++ x) (taken-written ((lo + n) * b) (m * b) s d e h)
 
-taken-on : (lo n m : ℕ) (s d : List ℕ) → length s ≡ m → lo + n ≤ length d → take (n + m) (drop lo (written (lo + n) s d)) ≡ take n (drop lo d) ++ s
+pub taken-on : (lo n m : ℕ) (s d : List ℕ) → length s ≡ m → lo + n ≤ length d → take (n + m) (drop lo (written (lo + n) s d)) ≡ take n (drop lo d) ++ s
 taken-on lo n m s d e h = simp mul-one at (stretch-on 1 lo n m s d (e ∙ sym (mul-one m)) (rw (mul-one (lo + n)) h))
 
 -- what has been planned of n pages from lo: the sources in the pool, the separators, and the r words carried past
 pub record Layout (q : Parameters) (lo n : ℕ) (w l pool planned W : List ℕ) (r : ℕ) : Type 0 where
-  pub sources : stretch (q .places) lo n pool ≡ column (q .places) (λ (s : Star). s .word) (plans q lo 0 n w l)
+  pub sources : stretch (q .places) lo n pool ≡ column (q .places) (λ (s : Star). s .payload .word) (plans q lo 0 n w l)
   pub separators-are : take n (drop lo planned) ≡ separators (plans q lo 0 n w l)
   pub passed : take r W ≡ remains q lo 0 n w l
   pub counted : r ≡ length (remains q lo 0 n w l)
 
-length-sources : (q : Parameters) (lo n : ℕ) (w l : List ℕ) → length (column (q .places) (λ (s : Star). s .word) (plans q lo 0 n w l)) ≡ n * q .places
+length-sources : (q : Parameters) (lo n : ℕ) (w l : List ℕ) → length (column (q .places) (λ (s : Star). s .payload .word) (plans q lo 0 n w l)) ≡ n * q .places
 length-sources q lo n w l =
-    length-column (q .places) (λ (s : Star). s .word) (plans q lo 0 n w l) (plans-roomy q lo 0 n w l)
+    length-column (q .places) (λ (s : Star). s .payload .word) (plans q lo 0 n w l) (plans-roomy q lo 0 n w l)
     ∙ ap (λ (m : ℕ). m * q .places) (length-plans q lo 0 n w l)
 
 length-planned : (q : Parameters) (lo n : ℕ) (w l : List ℕ) → length (separators (plans q lo 0 n w l)) ≡ n
@@ -196,7 +187,7 @@ layout q lo n w l pool pool′ planned planned′ W′ r P hp hd =
     record {
       sources =
           ap (stretch (q .places) lo n) (P .sources)
-          ∙ stretch-written (q .places) lo n (column (q .places) (λ (s : Star). s .word) (plans q lo 0 n w l)) pool (length-sources q lo n w l) (omega (arith, add-mul lo n (q .places)));
+          ∙ taken-written (lo * q .places) (n * q .places) (column (q .places) (λ (s : Star). s .payload .word) (plans q lo 0 n w l)) pool (length-sources q lo n w l) (omega (arith, add-mul lo n (q .places)));
       separators-are =
           ap (λ (m : List ℕ). take n (drop lo m)) (P .separators-are)
           ∙ taken-written lo n (separators (plans q lo 0 n w l)) planned (length-planned q lo n w l) (omega arith);
@@ -220,10 +211,10 @@ layout-next q lo n m w a b pool pool′ planned planned′ W W′ r r′ ga fb h
     record {
       sources =
           ap (stretch (q .places) lo (n + m)) (P .sources)
-          ∙ stretch-on (q .places) lo n m (column (q .places) (λ (s : Star). s .word) ds) pool (length-sources q (lo + n) m (take r W) b) hp
-          ∙ ap (λ (x : List ℕ). x ++ column (q .places) (λ (s : Star). s .word) ds) (A .sources)
-          ∙ sym (column-append (q .places) (λ (s : Star). s .word) cs ds)
-          ∙ ap (column (q .places) (λ (s : Star). s .word)) (sym all-pages);
+          ∙ stretch-on (q .places) lo n m (column (q .places) (λ (s : Star). s .payload .word) ds) pool (length-sources q (lo + n) m (take r W) b) hp
+          ∙ ap (λ (x : List ℕ). x ++ column (q .places) (λ (s : Star). s .payload .word) ds) (A .sources)
+          ∙ sym (column-append (q .places) (λ (s : Star). s .payload .word) cs ds)
+          ∙ ap (column (q .places) (λ (s : Star). s .payload .word)) (sym all-pages);
       separators-are =
           ap (λ (x : List ℕ). take (n + m) (drop lo x)) (P .separators-are)
           ∙ taken-on lo n m (separators ds) planned (length-planned q (lo + n) m (take r W) b) hd
@@ -242,8 +233,6 @@ applied-layout q lo n newnumber newword newowner f w l pool planned W r A sw sl 
     applied-is (q .places) lo n newnumber newword newowner pool planned f (plans q lo 0 n w l) (A .sources) (A .separators-are)
     (plans-sourced (f .numbers) newnumber q lo 0 n w l sw sl)
 
--- ---- for a caller that surveys its pages and plans them in blocks
-
 -- the homes that a survey leaves in the pool
 pub surveyed-homes : (p : Parameters) (g : Growth) (places lo n : ℕ) (hs ns : List ℕ) → (lo + n) * places ≤ length hs → (lo + n) * places ≤ length ns
     → stretch places lo n (paste hs (lo * places) (homesOf p g (drop (lo * places) ns)) (n * places)) ≡ map (itemHome (hashOf p g)) (stretch places lo n ns)
@@ -252,7 +241,7 @@ surveyed-homes p g places lo n hs ns hh hn =
     let long : n * places ≤ length items = rw (length-map (drop (lo * places) ns) (itemHome (hashOf p g)), length-drop (lo * places) ns) (omega (arith, add-mul lo n places)) in
     ap (λ (l : List ℕ). stretch places lo n (paste hs (lo * places) l (n * places))) (homes-real p g (drop (lo * places) ns))
     ∙ ap (stretch places lo n) (paste-written hs (lo * places) items (n * places) long)
-    ∙ stretch-written places lo n (take (n * places) items) hs (length-take-le (n * places) items long) (omega (arith, add-mul lo n places))
+    ∙ taken-written (lo * places) (n * places) (take (n * places) items) hs (length-take-le (n * places) items long) (omega (arith, add-mul lo n places))
     ∙ map-take (itemHome (hashOf p g)) (n * places) (drop (lo * places) ns)
 
 -- the words of two stretches, one after the other

@@ -1,39 +1,41 @@
 -- The stretch's words: they carry true homes, fall into the stretch's groups, name their sources, and stand for the stretch's stars.
 use mathlib.Core.Path.{_≡_, refl, sym, ap, _∙_}
-use mathlib.Core.Bool.{Bool, true, false, cond, not, _&&_, _||_, false≢true}
+use mathlib.Core.Bool.{Bool, true, false, cond, not, _&&_, _||_, or-true}
 use mathlib.Core.List.{List, [], _∷_, _++_, map}
 use Prim.Native.Nat.{ℕ, zero, suc, _+_, _-_, _*_, _/_, _%_, _^_, _≤_, _<_}
-use native.Mathlib.Nat.{le-refl, add-mul, mul-le-mul-right, suc-mul, zero-mul, add-suc, suc-add, add-zero, add-comm}
+use native.Mathlib.Nat.{le-refl, add-mul, zero-mul, add-suc, suc-add, add-zero}
 use native.Mathlib.Numerals.{add-one}
 use native.Mathlib.Decide.{decLe}
 use native.Mathlib.Omega.{arith}
 use lib.Dec.{leb, ltb, eqb}
-use lib.ListN.{length, take, drop, getD, length-drop, List·getD-map, List·getD-eq-default}
-use lib.Seq.{getD-take, getD-drop, take-add, drop-drop, length-take-le}
+use lib.ListN.{length, drop, getD, length-drop, List·getD-map, List·getD-eq-default}
+use lib.Seq.{getD-take, getD-drop, length-take-le}
 use borrow.Author.Tests.{le-leb, lt-leb, lt-ltb, leb-true, leb-false, ltb-true, eq-eqb, eqb-false, not-true}
-use Rattle.placement.specs.Rule.{Star, Hash, keep, insert, pour, without}
+use Rattle.buffers.proofs.Tests.{and-true, either-false}
+use Rattle.buffers.proofs.Lists.{within}
+use Rattle.placement.specs.Rule.{Star, Hash, keep, insert, pour, without, starWith}
 use Rattle.placement.specs.Rule.{filter as select}
-use Rattle.pages.specs.Page.{part}
+use Rattle.pages.specs.Page.{part, stretch}
+use Rattle.pages.proofs.Parts.{part-length, pages-apart, stretch-suc}
 use Rattle.placement.specs.File.{File, starsOf, starsAt, gathered}
+use Rattle.placement.proofs.Search.{starsOf-append}
 use Rattle.placement.proofs.Order.{pour-append}
 use Rattle.placement.proofs.Order.{filter-pour as select-pour}
 use Rattle.placement.proofs.Mapping.{pour-map, insert-map}
 use Rattle.waiting.specs.Lists.{all, allBelow}
-use Rattle.waiting.specs.Words.{pack, homeOf, numberOf, sourceOf, lowOf}
-use Rattle.waiting.specs.Gather.{skipped, wordsFrom, groupOf, groupsBelow, stretch}
+use Rattle.waiting.specs.Words.{pack, homeOf, numberIn, sourceOf, lowOf}
+use Rattle.waiting.specs.Gather.{skipped, wordsFrom, groupOf, groupsBelow}
 use Rattle.waiting.specs.Settle.{insertLow, pourLow, slotsOf}
 use Rattle.waiting.proofs.Lists.{all-head, all-tail, all-cons, all-getD, all-mono}
 use Rattle.waiting.proofs.Packing.{home-pack, number-pack, source-pack}
-use Rattle.planning.specs.Sources.{named, renamed, sourced}
+use Rattle.planning.specs.Sources.{namedItem, renamed, sourced}
 use Rattle.planning.specs.Plans.{starOf, waits, homed}
 use Rattle.planning.proofs.Pouring.{pour-cons}
-use Rattle.planning.proofs.Copies.{within}
 use Rattle.planning.proofs.Applying.{renamed-keeps}
 use Rattle.planning.proofs.Blocks.{from}
-use Rattle.placement.proofs.Filters.{and-true}
 
 -- a test that every word of the items passes
-all-words : (q : ℕ → Bool) (at k : ℕ) (ns hs : List ℕ)
+pub all-words : (q : ℕ → Bool) (at k : ℕ) (ns hs : List ℕ)
     → ((i : ℕ) → i < length ns → i < length hs → skipped k (getD ns i 0) ≡ false → q (pack (getD hs i 0) (getD ns i 0) (suc (at + i))) ≡ true)
     → all q (wordsFrom at k ns hs) ≡ true
 unfolding wordsFrom
@@ -54,11 +56,7 @@ item-below b l i e h = ltb-true (getD l i 0) b (all-getD (λ x. ltb x b) l i e h
 
 unskipped : (k n : ℕ) → skipped k n ≡ false → (eqb n 0 ≡ false) × (eqb n k ≡ false)
 unfolding skipped
-unskipped k n = go (eqb n 0) (eqb n k)
-  where
-    go : (s t : Bool) → s || t ≡ false → (s ≡ false) × (t ≡ false)
-    go true t e = absurd (false≢true (sym e))
-    go false t e = (refl, e)
+unskipped k n = either-false (eqb n 0) (eqb n k)
 
 -- the home of an item's star, 0 for an empty place
 unfoldable pub itemHome : Hash → ℕ → ℕ
@@ -68,7 +66,7 @@ module _ (at k : ℕ) (ns hs : List ℕ) (valid : allBelow (2 ^ 31) ns ≡ true)
   pub words-homed : (H : Hash) → hs ≡ map (itemHome H) ns → homed H (wordsFrom at k ns hs) ≡ true
   unfolding homed itemHome
   words-homed H e =
-      all-words (λ w. eqb (H .home (numberOf w)) (homeOf w)) at k ns hs
+      all-words (λ w. eqb (H .home (numberIn w)) (homeOf w)) at k ns hs
       (λ i a b s.
       let small : getD ns i 0 < 2 ^ 31 = item-below (2 ^ 31) ns i valid a in
       let there : getD hs i 0 ≡ H .home (getD ns i 0) =
@@ -86,17 +84,15 @@ module _ (at k : ℕ) (ns hs : List ℕ) (valid : allBelow (2 ^ 31) ns ≡ true)
       rw (home-pack (getD hs i 0) (getD ns i 0) (suc (at + i)) small (omega arith))
       (lt-ltb (getD hs i 0 - lo) n (omega arith)))
 
-  pub words-sourced : (all-numbers : List ℕ) (new : ℕ) → ((i : ℕ) → i < length ns → named all-numbers new (suc (at + i)) ≡ getD ns i 0)
+  pub words-sourced : (all-numbers : List ℕ) (new : ℕ) → ((i : ℕ) → i < length ns → namedItem all-numbers new (suc (at + i)) ≡ getD ns i 0)
       → sourced all-numbers new (wordsFrom at k ns hs) ≡ true
   unfolding sourced
   words-sourced l new e =
-      all-words (λ w. eqb (named l new (sourceOf w)) (numberOf w)) at k ns hs
+      all-words (λ w. eqb (namedItem l new (sourceOf w)) (numberIn w)) at k ns hs
       (λ i a b s.
       let small : getD ns i 0 < 2 ^ 31 = item-below (2 ^ 31) ns i valid a in
       rw (number-pack (getD hs i 0) (getD ns i 0) (suc (at + i)) small (omega arith), source-pack (getD hs i 0) (getD ns i 0) (suc (at + i)) (omega arith))
-      (eq-eqb (named l new (suc (at + i))) (getD ns i 0) (e i a)))
-
--- ---- the order of low parts is the rule's order
+      (eq-eqb (namedItem l new (suc (at + i))) (getD ns i 0) (e i a)))
 
 -- the star of x goes before that of y, whichever is inserted later
 unfoldable pub leads : ℕ → ℕ → Bool
@@ -170,10 +166,6 @@ earlier : (k s k′ s′ : ℕ) → s < 2 ^ 16 → s′ < 2 ^ 16 → s ≤ s′ 
 unfolding leads
 earlier k s k′ s′ h h′ le = go (decLe k k′)
   where
-    or-true : (t : Bool) → t || true ≡ true
-    or-true true = refl
-    or-true false = refl
-
     go : Dec (k ≤ k′) → leb (k * 2 ^ 16 + s) (k′ * 2 ^ 16 + s′) || ltb ((k′ * 2 ^ 16 + s′) / 2 ^ 16) ((k * 2 ^ 16 + s) / 2 ^ 16) ≡ true
     go (yes p) = rw (le-leb (k * 2 ^ 16 + s) (k′ * 2 ^ 16 + s′) (omega arith))
     go (no p) = rw (lt-ltb ((k′ * 2 ^ 16 + s′) / 2 ^ 16) ((k * 2 ^ 16 + s) / 2 ^ 16) (omega arith)) (or-true (leb (k * 2 ^ 16 + s) (k′ * 2 ^ 16 + s′)))
@@ -205,31 +197,29 @@ words-ordered at k (n ∷ ns) (x ∷ hs) v h =
 
 -- no word has the number k
 unfoldable pub fresh : ℕ → List ℕ → Bool
-fresh k l = all (λ w. not (eqb (numberOf w) k)) l
+fresh k l = all (λ w. not (eqb (numberIn w) k)) l
 
-pub fresh-led : (x : ℕ) (l : List ℕ) → fresh (numberOf x) l ≡ true → led x l ≡ true
+pub fresh-led : (x : ℕ) (l : List ℕ) → fresh (numberIn x) l ≡ true → led x l ≡ true
 unfolding fresh led
-fresh-led x l e = all-mono (λ w. not (eqb (numberOf w) (numberOf x))) (λ w. leads (lowOf x) (lowOf w)) l (λ w t. other w (not-true (eqb (numberOf w) (numberOf x)) t)) e
+fresh-led x l e = all-mono (λ w. not (eqb (numberIn w) (numberIn x))) (λ w. leads (lowOf x) (lowOf w)) l (λ w t. other w (not-true (eqb (numberIn w) (numberIn x)) t)) e
   where
-    other : (w : ℕ) → eqb (numberOf w) (numberOf x) ≡ false → leads (lowOf x) (lowOf w) ≡ true
-    other w t = go (leb (lowOf x) (lowOf w)) refl (eqb-false (numberOf w) (numberOf x) t)
+    other : (w : ℕ) → eqb (numberIn w) (numberIn x) ≡ false → leads (lowOf x) (lowOf w) ≡ true
+    other w t = go (leb (lowOf x) (lowOf w)) refl (eqb-false (numberIn w) (numberIn x) t)
       where
-        go : (s : Bool) → leb (lowOf x) (lowOf w) ≡ s → (numberOf w ≡ numberOf x → ⊥) → leads (lowOf x) (lowOf w) ≡ true
+        go : (s : Bool) → leb (lowOf x) (lowOf w) ≡ s → (numberIn w ≡ numberIn x → ⊥) → leads (lowOf x) (lowOf w) ≡ true
         go true a b = unfold leads in rw a
-        go false a b = unfold leads lowOf numberOf in rw (a, lt-ltb (lowOf w / 2 ^ 16) (lowOf x / 2 ^ 16) (omega (arith, leb-false (lowOf x) (lowOf w) a)))
+        go false a b = unfold leads lowOf numberIn in rw (a, lt-ltb (lowOf w / 2 ^ 16) (lowOf x / 2 ^ 16) (omega (arith, leb-false (lowOf x) (lowOf w) a)))
 
 -- the words without the number k have it not
 pub words-fresh : (at k : ℕ) (ns hs : List ℕ) → allBelow (2 ^ 31) ns ≡ true → at + length ns < 2 ^ 16 → fresh k (wordsFrom at k ns hs) ≡ true
 unfolding fresh
 words-fresh at k ns hs valid items =
-    all-words (λ w. not (eqb (numberOf w) k)) at k ns hs
+    all-words (λ w. not (eqb (numberIn w) k)) at k ns hs
     (λ i a b s.
     rw (number-pack (getD hs i 0) (getD ns i 0) (suc (at + i)) (item-below (2 ^ 31) ns i valid a) (omega arith), unskipped k (getD ns i 0) s .1))
 
--- ---- the stars of a stretch
-
 star-pack : (ws os : List ℕ) (newword newowner h k s : ℕ) → k < 2 ^ 31 → s < 2 ^ 16
-    → renamed ws os newword newowner (starOf (lowOf (pack h k s))) ≡ record { number = k; word = named ws newword s; owner = named os newowner s }
+    → renamed ws os newword newowner (starOf (lowOf (pack h k s))) ≡ starWith k (namedItem ws newword s) (namedItem os newowner s)
 unfolding renamed starOf
 star-pack ws os newword newowner h k s hk hs =
     let e : lowOf (pack h k s) ≡ k * 2 ^ 16 + s = low-of-pack h k s hk hs in
@@ -239,7 +229,7 @@ star-pack ws os newword newowner h k s hk hs =
 
 words-stars : (W O : List ℕ) (newword newowner at k : ℕ) (ns hs ws os : List ℕ) → allBelow (2 ^ 31) ns ≡ true → at + length ns < 2 ^ 16
     → length hs ≡ length ns → length ws ≡ length ns → length os ≡ length ns
-    → ((i : ℕ) → i < length ns → named W newword (suc (at + i)) ≡ getD ws i 0) → ((i : ℕ) → i < length ns → named O newowner (suc (at + i)) ≡ getD os i 0)
+    → ((i : ℕ) → i < length ns → namedItem W newword (suc (at + i)) ≡ getD ws i 0) → ((i : ℕ) → i < length ns → namedItem O newowner (suc (at + i)) ≡ getD os i 0)
     → map (λ w. renamed W O newword newowner (starOf (lowOf w))) (wordsFrom at k ns hs) ≡ without k (starsOf ns ws os)
 unfolding wordsFrom starsOf without select skipped
 words-stars W O newword newowner at k [] hs ws os v h eh ew eo words-are owners-are = refl
@@ -252,8 +242,8 @@ words-stars W O newword newowner at k (n ∷ ns) (x ∷ hs) (w ∷ ws) (o ∷ os
     (λ i a. rw (suc-add at i, ← add-suc at i) (words-are (suc i) (omega arith)))
     (λ i a. rw (suc-add at i, ← add-suc at i) (owners-are (suc i) (omega arith))))
     (star-pack W O newword newowner x n (suc at) (ltb-true n (2 ^ 31) (all-head (λ y. ltb y (2 ^ 31)) n ns v)) (omega arith)
-    ∙ ap (λ (y : ℕ). record { number = n; word = y; owner = named O newowner (suc at) }) (rw (add-zero at) at (words-are 0 (omega arith)))
-    ∙ ap (λ (y : ℕ). record { number = n; word = w; owner = y }) (rw (add-zero at) at (owners-are 0 (omega arith))))
+    ∙ ap (λ (y : ℕ). starWith n y (namedItem O newowner (suc at))) (rw (add-zero at) at (words-are 0 (omega arith)))
+    ∙ ap (λ (y : ℕ). starWith n w y) (rw (add-zero at) at (owners-are 0 (omega arith))))
   where
     f : ℕ → Star
     f y = renamed W O newword newowner (starOf (lowOf y))
@@ -262,7 +252,7 @@ words-stars W O newword newowner at k (n ∷ ns) (x ∷ hs) (w ∷ ws) (o ∷ os
     q y = not (eqb (y .number) k)
 
     star : Star
-    star = record { number = n; word = w; owner = o }
+    star = starWith n w o
 
     go : (s t : Bool) → eqb n k ≡ t → map f (wordsFrom (suc at) k ns hs) ≡ select q (starsOf ns ws os)
         → f (pack x n (suc at)) ≡ star
@@ -296,61 +286,31 @@ words-from p at k ns hs valid items high =
     (λ i a b s.
     rw (home-pack (getD hs i 0) (getD ns i 0) (suc (at + i)) (item-below (2 ^ 31) ns i valid a) (omega arith)) (le-leb p (getD hs i 0) (high i a s)))
 
--- ---- the items of a stretch in the lent lists
-
 pub length-stretch : (b lo n : ℕ) (l : List ℕ) → (lo + n) * b ≤ length l → length (stretch b lo n l) ≡ n * b
 length-stretch b lo n l h = length-take-le (n * b) (drop (lo * b) l) (rw (length-drop (lo * b) l) (omega (arith, add-mul lo n b)))
 
 -- the item's own source names it
 pub named-stretch : (b lo n new : ℕ) (l : List ℕ) → (lo + n) * b ≤ length l → (i : ℕ) → i < length (stretch b lo n l)
-    → named l new (suc (lo * b + i)) ≡ getD (stretch b lo n l) i 0
-unfolding named
+    → namedItem l new (suc (lo * b + i)) ≡ getD (stretch b lo n l) i 0
+unfolding namedItem
 named-stretch b lo n new l h i a =
     let short : i < n * b = rw (length-stretch b lo n l h) at a in
     within l new (lo * b + i) (omega (arith, add-mul lo n b))
     ∙ sym (getD-take (n * b) (drop (lo * b) l) i 0 short ∙ getD-drop (lo * b) l i 0)
-
-stretch-suc : (b p n : ℕ) (l : List ℕ) → stretch b p (suc n) l ≡ part b p l ++ stretch b (suc p) n l
-unfolding part
-stretch-suc b p n l =
-    ap (λ (k : ℕ). take k (drop (p * b) l)) (suc-mul n b ∙ add-comm (n * b) b)
-    ∙ take-add b (n * b) (drop (p * b) l)
-    ∙ ap (λ (r : List ℕ). take b (drop (p * b) l) ++ take (n * b) r) (drop-drop b (p * b) l ∙ ap (λ (k : ℕ). drop k l) (sym (suc-mul p b)))
-
-starsOf-append : (a c d x y z : List ℕ) → length a ≡ length c → length a ≡ length d → starsOf (a ++ x) (c ++ y) (d ++ z) ≡ starsOf a c d ++ starsOf x y z
-unfolding starsOf
-starsOf-append [] [] [] x y z e i = refl
-starsOf-append [] [] (o ∷ d) x y z e i = absurd (omega arith)
-starsOf-append [] (w ∷ c) d x y z e i = absurd (omega arith)
-starsOf-append (n ∷ a) [] d x y z e i = absurd (omega arith)
-starsOf-append (n ∷ a) (w ∷ c) [] x y z e i = absurd (omega arith)
-starsOf-append (n ∷ a) (w ∷ c) (o ∷ d) x y z e i = go (not (eqb n 0)) (starsOf-append a c d x y z (omega arith) (omega arith))
-  where
-    star : Star
-    star = record { number = n; word = w; owner = o }
-
-    go : (t : Bool) → starsOf (a ++ x) (c ++ y) (d ++ z) ≡ starsOf a c d ++ starsOf x y z
-        → keep t star (starsOf (a ++ x) (c ++ y) (d ++ z)) ≡ keep t star (starsOf a c d) ++ starsOf x y z
-    go true ih = rw ih
-    go false ih = ih
-
-length-part : (b p : ℕ) (l : List ℕ) → suc p * b ≤ length l → length (part b p l) ≡ b
-unfolding part
-length-part b p l h = length-take-le b (drop (p * b) l) (rw (length-drop (p * b) l) (omega (arith, suc-mul p b)))
 
 pub gathered-stretch : (b : ℕ) (f : File) (p n : ℕ) → (p + n) * b ≤ length (f .numbers) → (p + n) * b ≤ length (f .words) → (p + n) * b ≤ length (f .owners)
     → gathered b f p n ≡ pour (starsOf (stretch b p n (f .numbers)) (stretch b p n (f .words)) (stretch b p n (f .owners))) []
 unfolding gathered starsAt
 gathered-stretch b f p zero hn hw ho = unfold starsOf pour in rw (zero-mul b)
 gathered-stretch b f p (suc n) hn hw ho =
-    let more : suc p * b ≤ (p + suc n) * b = mul-le-mul-right b (omega arith) in
+    let more : p * b + b ≤ (p + suc n) * b = pages-apart b p (p + suc n) (omega arith) in
     let same : (p + suc n) * b ≡ (suc p + n) * b = ap (λ (k : ℕ). k * b) (omega arith) in
-    let first : length (part b p (f .numbers)) ≡ b = length-part b p (f .numbers) (omega arith) in
+    let first : length (part b p (f .numbers)) ≡ b = part-length b p (f .numbers) (omega arith) in
     ap (pour (starsAt b f p)) (gathered-stretch b f (suc p) n (omega arith) (omega arith) (omega arith))
     ∙ sym (pour-append (starsAt b f p) (starsOf (stretch b (suc p) n (f .numbers)) (stretch b (suc p) n (f .words)) (stretch b (suc p) n (f .owners))) [])
     ∙ ap (λ (s : List Star). pour s [])
     (sym (starsOf-append (part b p (f .numbers)) (part b p (f .words)) (part b p (f .owners)) (stretch b (suc p) n (f .numbers)) (stretch b (suc p) n (f .words)) (stretch b (suc p) n (f .owners))
-    (first ∙ sym (length-part b p (f .words) (omega arith))) (first ∙ sym (length-part b p (f .owners) (omega arith))))
+    (first ∙ sym (part-length b p (f .words) (omega arith)), first ∙ sym (part-length b p (f .owners) (omega arith))))
     ∙ rw (stretch-suc b p n (f .numbers), stretch-suc b p n (f .words), stretch-suc b p n (f .owners)))
 
 -- a map after a map
@@ -387,7 +347,7 @@ true-stars b lo n k newword newowner f hs valid items hn hw ho hh =
 -- .. and with the new star of an entry
 pub new-star : (ws os : List ℕ) (newword newowner h k s : ℕ) (l : List ℕ) → k < 2 ^ 31 → s < 2 ^ 16 → fresh k l ≡ true
     → map (renamed ws os newword newowner) (waits (pack h k s ∷ l))
-    ≡ insert (record { number = k; word = named ws newword s; owner = named os newowner s }) (map (renamed ws os newword newowner) (waits l))
+    ≡ insert (starWith k (namedItem ws newword s) (namedItem os newowner s)) (map (renamed ws os newword newowner) (waits l))
 new-star ws os newword newowner h k s l hk hs e =
     let g : Star → Star = renamed ws os newword newowner in
     ap (map g) (waits-cons (pack h k s) l (fresh-led (pack h k s) l (rw (number-pack h k s hk hs) e)))
@@ -395,6 +355,6 @@ new-star ws os newword newowner h k s l hk hs e =
     ∙ ap (λ (t : Star). insert t (map g (waits l))) (star-pack ws os newword newowner h k s hk hs)
 
 -- the source past all items names the new one
-pub named-past : (l : List ℕ) (new source : ℕ) → source ≡ length l + 1 → named l new source ≡ new
-unfolding named
+pub named-past : (l : List ℕ) (new source : ℕ) → source ≡ length l + 1 → namedItem l new source ≡ new
+unfolding namedItem
 named-past l new source e = rw (e, add-one (length l)) (List·getD-eq-default l new (le-refl (length l)))

@@ -6,27 +6,27 @@ use Prim.Native.Nat.{ℕ, zero, suc, _+_, _-_, _*_, _^_, _≤_, _<_, zero-le}
 use native.Mathlib.Nat.{add-zero, zero-add, add-suc, suc-add, add-mul, suc-mul, mul-le-mul-right}
 use native.Mathlib.Numerals.{add-one}
 use native.Mathlib.Omega.{arith}
-use lib.ListN.{length, getD, take, drop, set, length-append, take-append-drop}
-use lib.Seq.{slice, length-slice, length-take-le, take-take, take-at, drop-at, drop-drop, set-split, take-add}
+use lib.ListN.{length, getD, take, drop, set, length-append}
+use lib.Seq.{slice, length-slice, length-take-le, take-take, take-at, drop-at, drop-drop, take-add}
 use lib.Pow.{pow-mono}
+use Rattle.buffers.proofs.Lists.{drop-take}
+use Rattle.buffers.proofs.Written.{written-none, set-written, written-add}
+use Rattle.buffers.specs.Lists.{written, padded}
 use Rattle.hashing.specs.declared.Parameters.{Parameters}
-use Rattle.hashing.specs.Generator.{topOf}
+use Rattle.generator.specs.Generator.{topOf}
 use Rattle.placement.specs.Rule.{Star, Contents, separators}
-use Rattle.placement.specs.File.{padded, column, written}
+use Rattle.placement.specs.File.{column}
 use Rattle.placement.proofs.Standing.{length-separators}
-use Rattle.placement.proofs.Writing.{Roomy, column-append, length-column, separators-append, written-add}
+use Rattle.placement.proofs.Writing.{Roomy, column-append, length-column, separators-append}
 use Rattle.waiting.specs.Words.{sourceOf}
 use Rattle.waiting.specs.Gather.{group, grouped, Scattered}
 use Rattle.waiting.specs.declared.settling.Settled.{Settled}
-use Rattle.waiting.specs.Settle.{Settlement, homesUpTo, staying, separatorOf, slotsOf}
+use Rattle.waiting.specs.Settle.{Settlement, homesUpTo, stayingWords, wordsSeparator, slotsOf}
 use Rattle.waiting.proofs.Grouping.{grouped-next, grouped-add}
 use Rattle.waiting.proofs.Cutting.{separator-fits, separator-most}
 use Rattle.planning.specs.Plans.{starOf, waits, settled, carriedOn, plans, remains, PagePlanned, Planned}
 use Rattle.planning.proofs.Pouring.{length-waits}
 use Rattle.planning.proofs.RuleOverWords.{near-probing, near-onward}
-use Rattle.planning.proofs.Slots.{drop-take}
-
--- ---- the plan with one more page
 
 -- the last page comes after the others
 module _ (q : Parameters) (lo : ℕ) (l : List ℕ) where
@@ -55,11 +55,11 @@ module _ (q : Parameters) (lo : ℕ) (l : List ℕ) where
 
 -- at most b stay
 pub plans-roomy : (q : Parameters) (lo v n : ℕ) (w l : List ℕ) → Roomy (q .places) (plans q lo v n w l)
-unfolding plans settled separatorOf
+unfolding plans settled wordsSeparator
 plans-roomy q lo v zero w l = tt
 plans-roomy q lo v (suc n) w l =
     let here : List ℕ = w ++ group lo v l in (
-      rw (length-waits (staying q (lo + v) (separatorOf q (lo + v) here) here)) (separator-fits q (lo + v) here (topOf (q .bits))),
+      rw (length-waits (stayingWords q (lo + v) (wordsSeparator q (lo + v) here) here)) (separator-fits q (lo + v) here (topOf (q .bits))),
       plans-roomy q lo (suc v) n (carriedOn q (lo + v) here) l,
     )
 
@@ -69,13 +69,11 @@ length-plans q lo v zero w l = refl
 length-plans q lo v (suc n) w l = ap suc (length-plans q lo (suc v) n (carriedOn q (lo + v) (w ++ group lo v l)) l)
 
 -- a separator is a byte
-pub separator-byte : (q : Parameters) (p : ℕ) (l : List ℕ) → q .bits ≤ 8 → separatorOf q p l < 256
-unfolding separatorOf topOf
+pub separator-byte : (q : Parameters) (p : ℕ) (l : List ℕ) → q .bits ≤ 8 → wordsSeparator q p l < 256
+unfolding wordsSeparator topOf
 separator-byte q p l h =
     let power : 2 ^ q .bits ≤ 2 ^ 8 = pow-mono h in
     omega (arith, separator-most q p l (topOf (q .bits)))
-
--- ---- parts of the waiting list
 
 pub slice-join : (f m t : ℕ) (l : List ℕ) → f ≤ m → m ≤ t → t ≤ length l → slice f t l ≡ slice f m l ++ slice m t l
 slice-join f m t l a b c =
@@ -161,15 +159,11 @@ pub record Settling (q : Parameters) (lo count carried : ℕ) (l W pool planned 
   pub start : from ≤ endOf carried lo l v
   pub waiting : slice from (endOf carried lo l v) W′ ≡ remains q lo 0 v (take carried W) l
   pub ahead : drop (endOf carried lo l v) W′ ≡ drop (endOf carried lo l v) W
-  pub sources : pool′ ≡ written (lo * q .places) (column (q .places) (λ (s : Star). s .word) (plans q lo 0 v (take carried W) l)) pool
+  pub sources : pool′ ≡ written (lo * q .places) (column (q .places) (λ (s : Star). s .payload .word) (plans q lo 0 v (take carried W) l)) pool
   pub planned-are : planned′ ≡ written lo (separators (plans q lo 0 v (take carried W) l)) planned
   pub long-pool : length pool′ ≡ length pool
   pub long-waiting : length W′ ≡ length W
   pub long-planned : length planned′ ≡ length planned
-
-written-none : (at : ℕ) (d : List ℕ) → d ≡ written at [] d
-unfolding written
-written-none at d = sym (ap (λ (k : ℕ). take at d ++ drop k d) (add-zero at) ∙ take-append-drop at d)
 
 pub settling-none : (q : Parameters) (lo count carried : ℕ) (l W pool planned : List ℕ) → Settling q lo count carried l W pool planned pool W planned 0 0
 unfolding remains plans column separators grouped
@@ -212,39 +206,37 @@ module _ (q : Parameters) (lo count carried : ℕ) (l W pool planned ends : List
   pub probed-within : endOf carried lo l (suc v) ≤ length W′
   probed-within = omega (arith, ends-within lo count carried l W ends S (suc v) more, S .room, I .long-waiting)
 
--- ---- one page
-
-words-waits : (l : List ℕ) → map (λ (s : Star). s .word) (waits l) ≡ map sourceOf (slotsOf l)
+words-waits : (l : List ℕ) → map (λ (s : Star). s .payload .word) (waits l) ≡ map sourceOf (slotsOf l)
 unfolding waits starOf sourceOf
 words-waits l = go (slotsOf l)
   where
-    go : (l : List ℕ) → map (λ (s : Star). s .word) (map starOf l) ≡ map sourceOf l
+    go : (l : List ℕ) → map (λ (s : Star). s .payload .word) (map starOf l) ≡ map sourceOf l
     go [] = refl
     go (x ∷ l) = ap (λ (s : List ℕ). sourceOf x ∷ s) (go l)
 
-set-written : (l : List ℕ) (i x : ℕ) → i < length l → set l i x ≡ written i (x ∷ []) l
-unfolding written
-set-written l i x h = set-split l i x h ∙ ap (λ (k : ℕ). take i l ++ (x ∷ drop k l)) (sym (add-one i))
+-- the sources of the slots are the page's column
+pub sources-column : (b v kept : ℕ) (slots l : List ℕ) → take kept slots ≡ slotsOf l
+    → padded b (map sourceOf (take kept slots)) ≡ column b (λ (s : Star). s .payload .word) (record { separator = v; stars = waits l } ∷ [])
+unfolding column
+sources-column b v kept slots l e =
+    ap (padded b) (ap (map sourceOf) e ∙ sym (words-waits l)) ∙ sym (append-nil (padded b (map (λ (s : Star). s .payload .word) (waits l))))
 
 pub page-planned : (q : Parameters) (p : ℕ) (l : List ℕ) (reach : ℕ) (W W′ slots pool pool′ planned : List ℕ) (r : Settled)
-    → Settlement q p (separatorOf q p l) l reach W W′ slots r
+    → Settlement q p (wordsSeparator q p l) l reach W W′ slots r
     → pool′ ≡ written (p * q .places) (padded (q .places) (map sourceOf (take (r .kept) slots))) pool → p < length planned
     → PagePlanned q p l reach W W′ pool pool′ planned (set planned p (r .separator)) (r .from)
 unfolding settled column carriedOn separators
 page-planned q p l reach W W′ slots pool pool′ planned r S e h =
-    let v : ℕ = separatorOf q p l in
+    let v : ℕ = wordsSeparator q p l in
     record {
       sources =
           e ∙ ap (λ (s : List ℕ). written (p * q .places) s pool)
-          (ap (padded (q .places)) (ap (map sourceOf) (S .page) ∙ sym (words-waits (staying q p v l)))
-          ∙ sym (append-nil (padded (q .places) (map (λ (s : Star). s .word) (waits (staying q p v l))))));
+          (sources-column (q .places) v (r .kept) slots (stayingWords q p v l) (S .page));
       separator = set-written planned p (r .separator) h ∙ ap (λ (s : ℕ). written p (s ∷ []) planned) (S .separator);
       order = omega (arith, S .start);
       passed = S .passed;
       behind = S .behind;
     }
-
--- ---- from one page to the next
 
 module _ (q : Parameters) (lo count carried : ℕ) (l W pool planned ends : List ℕ) (S : Started lo count carried l W ends)
     (pool′ W′ planned′ : List ℕ) (from v : ℕ) (I : Settling q lo count carried l W pool planned pool′ W′ planned′ from v) (more : v < count)
@@ -265,21 +257,21 @@ module _ (q : Parameters) (lo count carried : ℕ) (l W pool planned ends : List
   unfolding here
   one-more = rw (zero-add v) at (plans-last q lo l 0 v w)
 
-  next-sources : pool″ ≡ written (lo * q .places) (column (q .places) (λ (s : Star). s .word) (plans q lo 0 (suc v) w l)) pool
+  next-sources : pool″ ≡ written (lo * q .places) (column (q .places) (λ (s : Star). s .payload .word) (plans q lo 0 (suc v) w l)) pool
   unfolding here w
   next-sources =
-      let done : List ℕ = column (q .places) (λ (s : Star). s .word) (plans q lo 0 v w l) in
+      let done : List ℕ = column (q .places) (λ (s : Star). s .payload .word) (plans q lo 0 v w l) in
       let size : length done ≡ v * q .places
-      = length-column (q .places) (λ (s : Star). s .word) (plans q lo 0 v w l) (plans-roomy q lo 0 v w l) ∙ ap (λ (n : ℕ). n * q .places) (length-plans q lo 0 v w l) in
+      = length-column (q .places) (λ (s : Star). s .payload .word) (plans q lo 0 v w l) (plans-roomy q lo 0 v w l) ∙ ap (λ (n : ℕ). n * q .places) (length-plans q lo 0 v w l) in
       let seam : (lo + v) * q .places ≡ lo * q .places + length done = add-mul lo v (q .places) ∙ ap (λ (n : ℕ). lo * q .places + n) (sym size) in
       P .sources
-      ∙ ap (λ (m : List ℕ). written ((lo + v) * q .places) (column (q .places) (λ (s : Star). s .word) (settled q (lo + v) m ∷ [])) pool′) is-here
-      ∙ ap (λ (m : List ℕ). written ((lo + v) * q .places) (column (q .places) (λ (s : Star). s .word) (here ∷ [])) m) (I .sources)
-      ∙ ap (λ (k : ℕ). written k (column (q .places) (λ (s : Star). s .word) (here ∷ [])) (written (lo * q .places) done pool)) seam
-      ∙ written-add (lo * q .places) done (column (q .places) (λ (s : Star). s .word) (here ∷ [])) pool (omega (arith, add-mul lo count (q .places)))
+      ∙ ap (λ (m : List ℕ). written ((lo + v) * q .places) (column (q .places) (λ (s : Star). s .payload .word) (settled q (lo + v) m ∷ [])) pool′) is-here
+      ∙ ap (λ (m : List ℕ). written ((lo + v) * q .places) (column (q .places) (λ (s : Star). s .payload .word) (here ∷ [])) m) (I .sources)
+      ∙ ap (λ (k : ℕ). written k (column (q .places) (λ (s : Star). s .payload .word) (here ∷ [])) (written (lo * q .places) done pool)) seam
+      ∙ written-add (lo * q .places) done (column (q .places) (λ (s : Star). s .payload .word) (here ∷ [])) pool (omega (arith, add-mul lo count (q .places)))
       ∙ ap (λ (m : List ℕ). written (lo * q .places) m pool)
-      (sym (column-append (q .places) (λ (s : Star). s .word) (plans q lo 0 v w l) (here ∷ []))
-      ∙ ap (column (q .places) (λ (s : Star). s .word)) (sym one-more))
+      (sym (column-append (q .places) (λ (s : Star). s .payload .word) (plans q lo 0 v w l) (here ∷ []))
+      ∙ ap (column (q .places) (λ (s : Star). s .payload .word)) (sym one-more))
 
   next-planned : planned″ ≡ written lo (separators (plans q lo 0 (suc v) w l)) planned
   unfolding here w
@@ -340,7 +332,7 @@ planned-all q lo count carried l W pool planned ends S pool′ W′ planned′ f
     let left : slice from end W′ ≡ remains q lo 0 count (take carried W) l
     = ap (λ (k : ℕ). slice from k W′) (sym last) ∙ I .waiting ∙ ap (λ (n : ℕ). remains q lo 0 n (take carried W) l) ev in
     record {
-      sources = I .sources ∙ ap (λ (n : ℕ). written (lo * q .places) (column (q .places) (λ (s : Star). s .word) (plans q lo 0 n (take carried W) l)) pool) ev;
+      sources = I .sources ∙ ap (λ (n : ℕ). written (lo * q .places) (column (q .places) (λ (s : Star). s .payload .word) (plans q lo 0 n (take carried W) l)) pool) ev;
       separators-are = I .planned-are ∙ ap (λ (n : ℕ). written lo (separators (plans q lo 0 n (take carried W) l)) planned) ev;
       passed = et ∙ left;
       counted = er ∙ sym (length-slice from end W′ (omega (arith, S .room, I .long-waiting))) ∙ ap length left;

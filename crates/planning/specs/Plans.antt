@@ -7,19 +7,20 @@ use lib.Dec.{eqb, leb}
 use lib.ListN.{length, getD, take, drop}
 use lib.Seq.{slice}
 use denote.Ref.{now}
+use Rattle.pages.specs.Page.{stretch}
 use Rattle.hashing.specs.declared.Parameters.{Parameters}
 use Rattle.hashing.specs.Limits.{validParameters}
-use Rattle.placement.specs.Rule.{Star, Hash, Contents, separators}
+use Rattle.placement.specs.Rule.{Star, Hash, Contents, separators, starWith}
 use Rattle.placement.specs.File.{column, written}
 use Rattle.placement.specs.Lent.{Lent}
 use Rattle.waiting.specs.Lists.{all, allBelow}
-use Rattle.waiting.specs.Words.{homeOf, numberOf, sourceOf}
-use Rattle.waiting.specs.Gather.{group, stretch, stretchWords, starsIn}
-use Rattle.waiting.specs.Settle.{homesUpTo, staying, passing, separatorOf, slotsOf}
+use Rattle.waiting.specs.Words.{homeOf, numberIn, sourceOf}
+use Rattle.waiting.specs.Gather.{group, stretchWords, starsIn}
+use Rattle.waiting.specs.Settle.{homesUpTo, stayingWords, passingWords, wordsSeparator, slotsOf}
 
 -- the star that a word's low part stands for: its number, and its source in place of position word and owner
 unfoldable pub starOf : ℕ → Star
-starOf low = record { number = low / 2 ^ 16; word = low % 2 ^ 16; owner = 0 }
+starOf low = starWith (low / 2 ^ 16) (low % 2 ^ 16) 0
 
 -- the rule's waiting list, of the stars whose words wait in the pool
 unfoldable pub waits : List ℕ → List Star
@@ -31,16 +32,16 @@ slotSource slots kept i = cond (leb kept i) 0 (sourceOf (getD slots i 0))
 
 -- every word carries the home of its number
 unfoldable pub homed : Hash → List ℕ → Bool
-homed H l = all (λ w. eqb (H .home (numberOf w)) (homeOf w)) l
+homed H l = all (λ w. eqb (H .home (numberIn w)) (homeOf w)) l
 
 -- what settling leaves on page p of the words that probe it
 unfoldable pub settled : Parameters → ℕ → List ℕ → Contents
 settled q p l =
-    record { separator = separatorOf q p l; stars = waits (staying q p (separatorOf q p l) l) }
+    record { separator = wordsSeparator q p l; stars = waits (stayingWords q p (wordsSeparator q p l) l) }
 
 -- what it carries on
 unfoldable pub carriedOn : Parameters → ℕ → List ℕ → List ℕ
-carriedOn q p l = passing q p (separatorOf q p l) l
+carriedOn q p l = passingWords q p (wordsSeparator q p l) l
 
 -- what n pages from lo + v get: page lo + v is probed by the words w carried on to it and its own group of the stretch's words l
 unfoldable pub plans : Parameters → ℕ → ℕ → ℕ → List ℕ → List ℕ → List Contents
@@ -56,7 +57,7 @@ remains q lo v (suc n) w l = remains q lo (suc v) n (carriedOn q (lo + v) (w ++ 
 
 -- What planning page p leaves of the lists: the words l that probed it stand in W from some place up to `reach`.
 pub record PagePlanned (q : Parameters) (p : ℕ) (l : List ℕ) (reach : ℕ) (W W′ pool pool′ planned planned′ : List ℕ) (r : ℕ) : Type 0 where
-  pub sources : pool′ ≡ written (p * q .places) (column (q .places) (λ (s : Star). s .word) (settled q p l ∷ [])) pool
+  pub sources : pool′ ≡ written (p * q .places) (column (q .places) (λ (s : Star). s .payload .word) (settled q p l ∷ [])) pool
   pub separator : planned′ ≡ written p (separators (settled q p l ∷ [])) planned
   pub order : r ≤ reach
   pub passed : slice r reach W′ ≡ carriedOn q p l
@@ -85,7 +86,7 @@ pub record Plannable (q : Parameters) (lo count k carried : ℕ) (numbers pool W
 -- What planning `count` pages from page lo leaves, of the words w carried in and the stretch's words l: the source of each place's star in
 -- the pool, the new separators, and at the front of W′ the r words that are carried past the stretch.
 pub record Planned (q : Parameters) (lo count : ℕ) (w l pool pool′ planned planned′ W′ : List ℕ) (r : ℕ) : Type 0 where
-  pub sources : pool′ ≡ written (lo * q .places) (column (q .places) (λ (s : Star). s .word) (plans q lo 0 count w l)) pool
+  pub sources : pool′ ≡ written (lo * q .places) (column (q .places) (λ (s : Star). s .payload .word) (plans q lo 0 count w l)) pool
   pub separators-are : planned′ ≡ written lo (separators (plans q lo 0 count w l)) planned
   pub passed : take r W′ ≡ remains q lo 0 count w l
   pub counted : r ≡ length (remains q lo 0 count w l)

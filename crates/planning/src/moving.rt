@@ -4,12 +4,12 @@ ghost use mathlib.Core.List.{map};
 ghost use Prim.Native.Nat.{_+_, _*_, _≤_};
 ghost use lib.ListN.{length, take, drop, replicate};
 ghost use lib.Seq.{paste};
-ghost use Rattle.placement.specs.File.{written};
-ghost use Rattle.waiting.specs.Gather.{stretch};
-ghost use Rattle.planning.specs.Sources.{named};
+ghost use Rattle.pages.specs.Page.{stretch};
+ghost use Rattle.buffers.specs.Lists.{written};
+ghost use Rattle.planning.specs.Sources.{namedItem};
 
 fn word_named(words: &[u64], source: u32, newword: u64) -> u64
-    ensures { λ r. ⌜ r ≡ named (now (words .entry)) newword source ⌝ }
+    ensures { λ r. ⌜ r ≡ namedItem (now (words .entry)) newword source ⌝ }
 {
     if source == 0 {
         return 0;
@@ -22,7 +22,7 @@ fn word_named(words: &[u64], source: u32, newword: u64) -> u64
 }
 
 fn number_named(numbers: &[u32], source: u32, newnumber: u32) -> u32
-    ensures { λ r. ⌜ r ≡ named (now (numbers .entry)) newnumber source ⌝ }
+    ensures { λ r. ⌜ r ≡ namedItem (now (numbers .entry)) newnumber source ⌝ }
 {
     if source == 0 {
         return 0;
@@ -35,7 +35,7 @@ fn number_named(numbers: &[u32], source: u32, newnumber: u32) -> u32
 }
 
 fn owner_named(owners: &[u8], source: u32, newowner: u8) -> u8
-    ensures { λ r. ⌜ r ≡ named (now (owners .entry)) newowner source ⌝ }
+    ensures { λ r. ⌜ r ≡ namedItem (now (owners .entry)) newowner source ⌝ }
 {
     if source == 0 {
         return 0;
@@ -57,7 +57,7 @@ fn fetch_words(
 )
     requires { ⌜ at + items ≤ length (now pool) ⌝ }
     requires { ⌜ at + items ≤ length (now waiting) ⌝ }
-    ensures { λ _. ⌜ now (waiting .exit) ≡ paste (now (waiting .entry)) at (map (named (now (words .entry)) newword) (drop at (now (pool .entry)))) items ⌝ }
+    ensures { λ _. ⌜ now (waiting .exit) ≡ paste (now (waiting .entry)) at (map (namedItem (now (words .entry)) newword) (drop at (now (pool .entry)))) items ⌝ }
 {
     let mut i = 0;
     while i < items {
@@ -76,7 +76,7 @@ fn fetch_owners(
 )
     requires { ⌜ at + items ≤ length (now pool) ⌝ }
     requires { ⌜ at + items ≤ length (now poolowners) ⌝ }
-    ensures { λ _. ⌜ now (poolowners .exit) ≡ paste (now (poolowners .entry)) at (map (named (now (owners .entry)) newowner) (drop at (now (pool .entry)))) items ⌝ }
+    ensures { λ _. ⌜ now (poolowners .exit) ≡ paste (now (poolowners .entry)) at (map (namedItem (now (owners .entry)) newowner) (drop at (now (pool .entry)))) items ⌝ }
 {
     let mut i = 0;
     while i < items {
@@ -87,47 +87,11 @@ fn fetch_owners(
 
 fn fetch_numbers(numbers: &[u32], pool: &mut [u32], at: usize, items: usize, newnumber: u32)
     requires { ⌜ at + items ≤ length (now pool) ⌝ }
-    ensures { λ _. ⌜ now (pool .exit) ≡ paste (now (pool .entry)) at (map (named (now (numbers .entry)) newnumber) (drop at (now (pool .entry)))) items ⌝ }
+    ensures { λ _. ⌜ now (pool .exit) ≡ paste (now (pool .entry)) at (map (namedItem (now (numbers .entry)) newnumber) (drop at (now (pool .entry)))) items ⌝ }
 {
     let mut i = 0;
     while i < items {
         pool[at + i] = number_named(numbers, pool[at + i], newnumber);
-        i += 1;
-    }
-}
-
-fn copy_words(words: &mut [u64], waiting: &[u64], at: usize, items: usize)
-    requires { ⌜ at + items ≤ length (now words) ⌝ }
-    requires { ⌜ at + items ≤ length (now waiting) ⌝ }
-    ensures { λ _. ⌜ now (words .exit) ≡ paste (now (words .entry)) at (drop at (now (waiting .entry))) items ⌝ }
-{
-    let mut i = 0;
-    while i < items {
-        words[at + i] = waiting[at + i];
-        i += 1;
-    }
-}
-
-fn copy_numbers(numbers: &mut [u32], pool: &[u32], at: usize, items: usize)
-    requires { ⌜ at + items ≤ length (now numbers) ⌝ }
-    requires { ⌜ at + items ≤ length (now pool) ⌝ }
-    ensures { λ _. ⌜ now (numbers .exit) ≡ paste (now (numbers .entry)) at (drop at (now (pool .entry))) items ⌝ }
-{
-    let mut i = 0;
-    while i < items {
-        numbers[at + i] = pool[at + i];
-        i += 1;
-    }
-}
-
-fn copy_bytes(bytes: &mut [u8], from: &[u8], at: usize, items: usize)
-    requires { ⌜ at + items ≤ length (now bytes) ⌝ }
-    requires { ⌜ at + items ≤ length (now from) ⌝ }
-    ensures { λ _. ⌜ now (bytes .exit) ≡ paste (now (bytes .entry)) at (drop at (now (from .entry))) items ⌝ }
-{
-    let mut i = 0;
-    while i < items {
-        bytes[at + i] = from[at + i];
         i += 1;
     }
 }
@@ -149,9 +113,9 @@ pub fn fetch(
     requires { ⌜ at + items ≤ length (now pool) ⌝ }
     requires { ⌜ at + items ≤ length (now waiting) ⌝ }
     requires { ⌜ at + items ≤ length (now poolowners) ⌝ }
-    ensures { λ _. ⌜ now (pool .exit) ≡ paste (now (pool .entry)) at (map (named (now (numbers .entry)) newnumber) (drop at (now (pool .entry)))) items ⌝ }
-    ensures { λ _. ⌜ now (waiting .exit) ≡ paste (now (waiting .entry)) at (map (named (now (words .entry)) newword) (drop at (now (pool .entry)))) items ⌝ }
-    ensures { λ _. ⌜ now (poolowners .exit) ≡ paste (now (poolowners .entry)) at (map (named (now (owners .entry)) newowner) (drop at (now (pool .entry)))) items ⌝ }
+    ensures { λ _. ⌜ now (pool .exit) ≡ paste (now (pool .entry)) at (map (namedItem (now (numbers .entry)) newnumber) (drop at (now (pool .entry)))) items ⌝ }
+    ensures { λ _. ⌜ now (waiting .exit) ≡ paste (now (waiting .entry)) at (map (namedItem (now (words .entry)) newword) (drop at (now (pool .entry)))) items ⌝ }
+    ensures { λ _. ⌜ now (poolowners .exit) ≡ paste (now (poolowners .entry)) at (map (namedItem (now (owners .entry)) newowner) (drop at (now (pool .entry)))) items ⌝ }
 {
     fetch_words(words, pool, waiting, at, items, newword);
     fetch_owners(owners, pool, poolowners, at, items, newowner);
@@ -178,9 +142,9 @@ fn put_back(
     ensures { λ _. ⌜ now (words .exit) ≡ paste (now (words .entry)) at (drop at (now (waiting .entry))) items ⌝ }
     ensures { λ _. ⌜ now (owners .exit) ≡ paste (now (owners .entry)) at (drop at (now (poolowners .entry))) items ⌝ }
 {
-    copy_words(words, waiting, at, items);
-    copy_numbers(numbers, pool, at, items);
-    copy_bytes(owners, poolowners, at, items);
+    buffers::copy_64(words, at, waiting, at, items);
+    buffers::copy_32(numbers, at, pool, at, items);
+    buffers::copy_8(owners, at, poolowners, at, items);
 }
 
 // The stretch of `count` pages from page lo becomes what the planned sources and separators say.
@@ -206,9 +170,9 @@ pub fn apply(
     requires { ⌜ ((lo + count) * places ≤ length (now pool)) × ((lo + count) * places ≤ length (now waiting)) ⌝ }
     requires { ⌜ ((lo + count) * places ≤ length (now owners)) × ((lo + count) * places ≤ length (now poolowners)) ⌝ }
     ensures { λ _. ⌜ now (separators .exit) ≡ written lo (take count (drop lo (now (planned .entry)))) (now (separators .entry)) ⌝ }
-    ensures { λ _. ⌜ now (numbers .exit) ≡ written (lo * places) (map (named (now (numbers .entry)) newnumber) (stretch places lo count (now (pool .entry)))) (now (numbers .entry)) ⌝ }
-    ensures { λ _. ⌜ now (words .exit) ≡ written (lo * places) (map (named (now (words .entry)) newword) (stretch places lo count (now (pool .entry)))) (now (words .entry)) ⌝ }
-    ensures { λ _. ⌜ now (owners .exit) ≡ written (lo * places) (map (named (now (owners .entry)) newowner) (stretch places lo count (now (pool .entry)))) (now (owners .entry)) ⌝ }
+    ensures { λ _. ⌜ now (numbers .exit) ≡ written (lo * places) (map (namedItem (now (numbers .entry)) newnumber) (stretch places lo count (now (pool .entry)))) (now (numbers .entry)) ⌝ }
+    ensures { λ _. ⌜ now (words .exit) ≡ written (lo * places) (map (namedItem (now (words .entry)) newword) (stretch places lo count (now (pool .entry)))) (now (words .entry)) ⌝ }
+    ensures { λ _. ⌜ now (owners .exit) ≡ written (lo * places) (map (namedItem (now (owners .entry)) newowner) (stretch places lo count (now (pool .entry)))) (now (owners .entry)) ⌝ }
 {
     let at = lo * places;
     let items = count * places;
@@ -226,37 +190,7 @@ pub fn apply(
         newowner,
     );
     put_back(numbers, words, owners, pool, waiting, poolowners, at, items);
-    copy_bytes(separators, planned, lo, count);
-}
-
-fn clear_numbers(pool: &mut [u32])
-    ensures { λ _. ⌜ now (pool .exit) ≡ replicate (length (now (pool .entry))) 0 ⌝ }
-{
-    let mut i = 0;
-    while i < pool.len() {
-        pool[i] = 0;
-        i += 1;
-    }
-}
-
-fn clear_words(waiting: &mut [u64])
-    ensures { λ _. ⌜ now (waiting .exit) ≡ replicate (length (now (waiting .entry))) 0 ⌝ }
-{
-    let mut i = 0;
-    while i < waiting.len() {
-        waiting[i] = 0;
-        i += 1;
-    }
-}
-
-fn clear_owners(poolowners: &mut [u8])
-    ensures { λ _. ⌜ now (poolowners .exit) ≡ replicate (length (now (poolowners .entry))) 0 ⌝ }
-{
-    let mut i = 0;
-    while i < poolowners.len() {
-        poolowners[i] = 0;
-        i += 1;
-    }
+    buffers::copy_8(separators, lo, planned, lo, count);
 }
 
 // Zeros in all three lists: the pool after a call that used it, and the places of an empty file.
@@ -265,7 +199,7 @@ pub fn clear(pool: &mut [u32], waiting: &mut [u64], poolowners: &mut [u8])
     ensures { λ _. ⌜ now (waiting .exit) ≡ replicate (length (now (waiting .entry))) 0 ⌝ }
     ensures { λ _. ⌜ now (poolowners .exit) ≡ replicate (length (now (poolowners .entry))) 0 ⌝ }
 {
-    clear_numbers(pool);
-    clear_words(waiting);
-    clear_owners(poolowners);
+    buffers::fill_32(pool, 0);
+    buffers::fill_64(waiting, 0);
+    buffers::fill_8(poolowners, 0);
 }

@@ -1,6 +1,6 @@
 -- The cascade of document 02 (ix) gives the pages that the rule gives the file's stars with the new one.
 use mathlib.Core.Path.{_≡_, refl, sym, ap, subst, _∙_}
-use mathlib.Core.Bool.{Bool, true, false, not, Bool·not-not, false≢true}
+use mathlib.Core.Bool.{Bool, true, false, not, Bool·not-not}
 use mathlib.Core.List.{List, [], _∷_, _++_, List·Memᴰ, List·Memᴰ·cases-cons, List·Memᴰ·not-nil}
 use mathlib.Core.Logic.{⊎-elim}
 use Prim.Native.Nat.{ℕ, zero, suc, _+_, _-_, _≤_, _<_, zero-le}
@@ -10,8 +10,10 @@ use lib.Dec.{eqb}
 use lib.ListN.{length, drop, getD}
 use lib.Seq.{drop-drop}
 use borrow.Author.Tests.{eqb-false}
-use Rattle.placement.specs.Rule.{Star, Hash, Contents, keep, filter, below, staying, passing, separatorFrom, separatorOf, contentsOf, onward, pages, left, first, insert, pour}
-use Rattle.placement.specs.File.{File, starsOf, starsAt, contentsAt, pagesAt, written, fileOf, replaced, laid}
+use Rattle.buffers.specs.Lists.{written}
+use Rattle.buffers.proofs.Tests.{not-mono}
+use Rattle.placement.specs.Rule.{Star, Hash, Contents, keep, filter, below, staying, passing, separatorFrom, separatorOf, contentsOf, onward, pages, left, first, insert, pour, starWith}
+use Rattle.placement.specs.File.{File, starsOf, starsAt, contentsAt, pagesAt, fileOf, replaced, laid}
 use Rattle.placement.proofs.Filters.{filter-ext, filter-comm, filter-absorb, filter-rest, member-filter}
 use Rattle.placement.proofs.Separator.{stays, below-mono, sep-le, sep-fits, sep-great}
 use Rattle.placement.proofs.Composition.{length-pages, pages-add, left-add, take-pages, drop-pages, middle-pages}
@@ -22,8 +24,6 @@ use Rattle.placement.proofs.Writing.{Roomy}
 use Rattle.placement.proofs.Pages.{Proper, Numbered}
 use Rattle.placement.proofs.Files.{AllNumbered, pagesAt-laid, sized-laid, replaced-of, roomy-pages}
 use Rattle.reach.specs.Cascade.{meeting, lowered, pushedTo, pushedOn, cascaded, carriedPast}
-
--- ---- the lowered separator, in any file
 
 -- "not above the stored one": the separator of a rule whose top is that one
 abbrev capped : Hash → ℕ → Hash
@@ -53,8 +53,6 @@ module _ (H : Hash) (f : File) (p : ℕ) (a : List Star) where
   unfolding staying below
   lowered-great u h g = rw lowered-capped (sep-great (capped H stored) p (meeting H f p a) u h g)
 
--- ---- what the cascade writes, in any file
-
 pub length-cascaded : (H : Hash) (f : File) (p n : ℕ) (a : List Star) → length (cascaded H f p n a) ≤ n
 unfolding cascaded
 length-cascaded H f p zero a = zero-le
@@ -75,11 +73,11 @@ numbered-stars (n ∷ ns) [] os s m = absurd (List·Memᴰ·not-nil m)
 numbered-stars (n ∷ ns) (w ∷ ws) [] s m = absurd (List·Memᴰ·not-nil m)
 numbered-stars (n ∷ ns) (w ∷ ws) (o ∷ os) s m = go (eqb n 0) refl (numbered-stars ns ws os s) m
   where
-    go : (t : Bool) → eqb n 0 ≡ t → (List·Memᴰ s (starsOf ns ws os) → 1 ≤ s .number) → List·Memᴰ s (keep (not t) (record { number = n; word = w; owner = o }) (starsOf ns ws os)) → 1 ≤ s .number
+    go : (t : Bool) → eqb n 0 ≡ t → (List·Memᴰ s (starsOf ns ws os) → 1 ≤ s .number) → List·Memᴰ s (keep (not t) (starWith n w o) (starsOf ns ws os)) → 1 ≤ s .number
     go true e ih m = ih m
     go false e ih m =
         let other : (n ≡ 0 → ⊥) = eqb-false n 0 e in
-        ⊎-elim (λ (d : s ≡ record { number = n; word = w; owner = o }). omega (arith, other, ap (λ (t : Star). t .number) d)) ih (List·Memᴰ·cases-cons m)
+        ⊎-elim (λ (d : s ≡ starWith n w o). omega (arith, other, ap (λ (t : Star). t .number) d)) ih (List·Memᴰ·cases-cons m)
 
 numbered-met : (H : Hash) (f : File) (p : ℕ) (a : List Star) → Numbered a → Numbered (meeting H f p a)
 unfolding meeting starsAt
@@ -92,8 +90,6 @@ numbered-cascaded H f p (suc n) [] h i k = absurd (omega arith)
 numbered-cascaded H f p (suc n) (s ∷ a) h zero k = λ t m. numbered-met H f p (s ∷ a) h t (member-filter _ (meeting H f p (s ∷ a)) t m .0)
 numbered-cascaded H f p (suc n) (s ∷ a) h (suc i) k =
     numbered-cascaded H f (suc p) n (pushedOn H f p (s ∷ a)) (λ t m. numbered-met H f p (s ∷ a) h t (member-filter _ (meeting H f p (s ∷ a)) t m .0)) i (omega arith)
-
--- ---- one page, where the stars w wait and the stars a arrive
 
 module _ (H : Hash) (p : ℕ) (w a : List Star) (waiting : Rising 0 w) (arriving : Sorted 0 a) where
   abbrev v : ℕ
@@ -178,15 +174,11 @@ module _ (H : Hash) (p : ℕ) (w a : List Star) (waiting : Rising 0 w) (arriving
     unfolding onward passing staying
     pass-met =
         ap (λ (l : List Star). pour l (filter (passes u) (filter (stays H p v) w)))
-        (sym (filter-absorb (passes v) (passes u) (λ s. fewer (stays H p u s) (stays H p v s) (below-mono H p u v (s .number) low)) w))
+        (sym (filter-absorb (passes v) (passes u) (λ s. not-mono (stays H p u s) (stays H p v s) (below-mono H p u v (s .number) low)) w))
         ∙ ap (pour (filter (passes v) (filter (passes u) w)))
         (filter-comm (passes u) (stays H p v) w
         ∙ sym (filter-ext (λ (s : Star). not (passes v s)) (stays H p v) (λ s. Bool·not-not (stays H p v s)) (filter (passes u) w)))
         ∙ pour-split 0 (passes v) (filter (passes u) w) (rising-filter 0 (passes u) w waiting)
-      where
-        fewer : (b c : Bool) → (b ≡ true → c ≡ true) → not c ≡ true → not b ≡ true
-        fewer true c e g = absurd (false≢true (rw (e refl) at g))
-        fewer false c e g = refl
 
     carries : onward H p (pour w a) ≡ pour (onward H p w) (pushedOn H f p a)
     unfolding onward passing pushedOn
@@ -196,8 +188,6 @@ module _ (H : Hash) (p : ℕ) (w a : List Star) (waiting : Rising 0 w) (arriving
         ∙ ap (λ (l : List Star). pour l (passing H p u a)) (sym pass-met)
         ∙ pour-pour (onward H p w) (passing H p u (staying H p v w)) (passing H p u a)
         ∙ ap (pour (onward H p w)) (sym (filter-pour (passes u) (staying H p v w) a arriving)))
-
--- ---- the pages from p on
 
 rising-onward : (H : Hash) (p : ℕ) (w : List Star) → Rising 0 w → Rising 0 (onward H p w)
 unfolding onward passing
@@ -233,8 +223,6 @@ cascades H f p (suc n) w (s ∷ a) r o e =
     let said : contentsAt (H .room) f p ≡ contentsOf H p w = cc in
     let rest = cascades H f (suc p) n (onward H p w) (pushedOn H f p (s ∷ a)) (rising-onward H p w r) (sorted-on H f p (s ∷ a) o) (cc) in
     rw (visited H p w (s ∷ a) r o f said, carries H p w (s ∷ a) r o f said, rest .0) (refl, rest .1)
-
--- ---- the file that the rule lays, and a star whose number is not in it
 
 module _ (ok : ℕ → Bool) (H : Hash) (M : ℕ) (t : List Star) (s : Star) (rising : Rising 0 t) (proper : Proper ok t) (absent : Absent (s .number) t) where
   abbrev F : File

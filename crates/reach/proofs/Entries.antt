@@ -6,8 +6,9 @@ use Prim.Native.Nat.{ℕ, _+_, _-_, _≤_, _<_}
 use native.Mathlib.Decide.{decLt}
 use native.Mathlib.Omega.{arith}
 use lib.ListN.{length}
+use Rattle.buffers.specs.Lists.{written}
 use Rattle.placement.specs.Rule.{Star, Hash, Contents, pages, left, first, insert}
-use Rattle.placement.specs.File.{File, gathered, written, replaced, laid}
+use Rattle.placement.specs.File.{File, gathered, replaced, laid}
 use Rattle.placement.proofs.Separator.{Bounded}
 use Rattle.placement.proofs.Order.{Rising, Absent, inserted}
 use Rattle.placement.proofs.Locality.{standing, enters}

@@ -1,6 +1,6 @@
 -- Which page holds a number, of pages of which some were replaced.
 use mathlib.Core.Path.{_≡_, refl, ap, _∙_}
-use mathlib.Core.Bool.{Bool, true, false, cond, _||_}
+use mathlib.Core.Bool.{Bool, true, false, cond, or-true}
 use mathlib.Core.List.{List, [], _∷_, _++_, append-nil, List·Memᴰ, List·Memᴰ·head, List·Memᴰ·tail, List·Memᴰ·cases-cons, List·Memᴰ·not-nil}
 use mathlib.Core.Logic.{⊎-elim}
 use Prim.Native.Nat.{ℕ, zero, suc, _+_, _≤_, _<_}
@@ -10,8 +10,8 @@ use lib.Dec.{eqb}
 use lib.ListN.{length, take, drop, getD, length-append}
 use lib.Seq.{length-take-le}
 use borrow.Author.Tests.{eq-eqb, ne-eqb}
+use Rattle.buffers.specs.Lists.{written}
 use Rattle.placement.specs.Rule.{Star, Hash, Contents, staying, passing, separatorOf, contentsOf, onward, pages, left, blank}
-use Rattle.placement.specs.File.{written}
 use Rattle.placement.proofs.Filters.{member-filter}
 use Rattle.placement.proofs.Separator.{stays}
 use Rattle.placement.proofs.Composition.{length-pages}
@@ -19,14 +19,11 @@ use Rattle.placement.proofs.Standing.{looked-up}
 use Rattle.placement.proofs.Order.{Absent}
 use Rattle.reach.specs.Reach.{hasNumber, holding}
 
-has : (l : List Star) (s : Star) → List·Memᴰ s l → hasNumber (s .number) l ≡ true
+-- a list has its members' numbers
+pub member-has : (l : List Star) (s : Star) → List·Memᴰ s l → hasNumber (s .number) l ≡ true
 unfolding hasNumber
-has [] s m = absurd (List·Memᴰ·not-nil m)
-has (t ∷ l) s m = ⊎-elim (λ (e : s ≡ t). rw (← e, eq-eqb (s .number) (s .number) refl)) (λ (n : List·Memᴰ s l). rw (has l s n) (or-true (eqb (t .number) (s .number)))) (List·Memᴰ·cases-cons m)
-  where
-    or-true : (b : Bool) → b || true ≡ true
-    or-true true = refl
-    or-true false = refl
+member-has [] s m = absurd (List·Memᴰ·not-nil m)
+member-has (t ∷ l) s m = ⊎-elim (λ (e : s ≡ t). rw (← e, eq-eqb (s .number) (s .number) refl)) (λ (n : List·Memᴰ s l). rw (member-has l s n) (or-true (eqb (t .number) (s .number)))) (List·Memᴰ·cases-cons m)
 
 has-not : (k : ℕ) (l : List Star) → Absent k l → hasNumber k l ≡ false
 unfolding hasNumber
@@ -114,7 +111,7 @@ holding-written H M a t u s X absent h e fits m =
     inside : holding k 0 (pages H 0 M u) < 0 + length (pages H 0 M u)
     inside =
         let r = looked-up H 0 M u s fits m in
-        holding-inside k 0 (r .0) (pages H 0 M u) (omega (arith, r .1, length-pages H 0 M u)) (has (getD (pages H 0 M u) (r .0) blank .stars) s (r .3))
+        holding-inside k 0 (r .0) (pages H 0 M u) (omega (arith, r .1, length-pages H 0 M u)) (member-has (getD (pages H 0 M u) (r .0) blank .stars) s (r .3))
 
     skipped : holding k 0 (pages H 0 M u) ≡ holding k a (X ++ R)
     skipped = ap (holding k 0) e ∙ holding-past k 0 P (X ++ R) (lacks-take k a D lacks) ∙ ap (λ (i : ℕ). holding k i (X ++ R)) (zero-add (length P) ∙ size)

@@ -8,6 +8,7 @@ use native.Mathlib.Numerals.{add-one}
 use native.Mathlib.Omega.{arith}
 use lib.ListN.{length, take, drop, length-drop, length-map}
 use lib.Seq.{paste, paste-zero, take-take, drop-drop}
+use Rattle.buffers.proofs.Lists.{map-take, map-drop}
 use Rattle.hashing.specs.declared.Parameters.{Parameters}
 use Rattle.hashing.specs.declared.Growth.{Growth}
 use Rattle.pages.specs.Page.{part}
@@ -15,7 +16,7 @@ use Rattle.placement.specs.File.{File, Sized}
 use Rattle.placement.specs.Hash.{soundAt, homesOf, homeIn}
 use Rattle.reach.specs.Reach.{firstUnsound}
 use Rattle.reach.proofs.Search.{Sought, sought-none, sought-next, sought-found, sought-all}
-use Rattle.reach.proofs.Pastes.{paste-more, map-take, map-drop}
+use Rattle.reach.proofs.Pastes.{paste-more}
 
 -- the page is unsound
 abbrev pub unsound : Parameters → Growth → File → ℕ → Bool

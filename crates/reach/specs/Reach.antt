@@ -21,6 +21,10 @@ abbrev pub isEmpty : List Star → Bool
 isEmpty [] = true
 isEmpty (s ∷ w) = false
 
+-- the stars of all pages, by number
+abbrev pub allStars : Parameters → File → List Star
+allStars p f = gathered (p .places) f 0 (p .pages)
+
 -- the pages from `from` to `to`
 abbrev pub pagesTo : ℕ → ℕ → ℕ
 pagesTo from to = suc (to - from)

@@ -9,11 +9,12 @@ use lib.Dec.{ltb, eqb}
 use lib.ListN.{length, getD, set, take, drop, length-map, List·getD-map}
 use lib.Seq.{paste}
 use borrow.Author.Tests.{lt-ltb, le-ltb, ne-eqb}
+use Rattle.pages.specs.Page.{stretch}
 use Rattle.hashing.specs.declared.Parameters.{Parameters}
 use Rattle.hashing.specs.declared.Growth.{Growth}
 use Rattle.hashing.specs.Limits.{validParameters, validGrowth}
 use Rattle.hashing.proofs.Bounds.{limits, growth-within, spread}
-use Rattle.hashing.proofs.Laws.{grown-valid}
+use Rattle.hashing.proofs.Homes.{grown-valid}
 use Rattle.hashing.proofs.Shrinking.{shrunk-valid}
 use Rattle.pages.specs.Position.{validWord}
 use Rattle.placement.specs.Rule.{Star, Hash, left, without}
@@ -23,21 +24,21 @@ use Rattle.placement.proofs.Filters.{filter-all-on}
 use Rattle.placement.proofs.Sound.{gathered-proper}
 use Rattle.placement.proofs.Probing.{homed-real}
 use Rattle.waiting.specs.Lists.{allBelow}
-use Rattle.waiting.specs.Gather.{stretch}
 use Rattle.reach.specs.Reach.{isEmpty, firstUnsound}
 use Rattle.reach.proofs.Search.{such}
 use Rattle.reach.proofs.Surveyed.{unsound}
-use Rattle.reach.proofs.Pastes.{map-take, map-drop}
-use Rattle.planning.proofs.Copies.{Copied, turn, unread, pasted-whole}
+use Rattle.buffers.proofs.Lists.{map-take, map-drop}
+use Rattle.buffers.proofs.Copies.{Copied, turn, unread}
+use Rattle.buffers.proofs.Written.{pasted-whole}
 use Rattle.planning.proofs.Sourcing.{itemHome}
 use Rattle.planning.proofs.Placed.{Gatherable, probes-real, homes-real}
-use Rattle.replacing.specs.declared.Replaced.the-variants.{Done, Unsound, Overflows}
-use Rattle.replacing.specs.Stretch.{Plannable, fitting, restretched}
-use Rattle.replacing.specs.Calls.{hash, nextOf, Movable, growthAnswer, growthFile}
+use Rattle.planning.specs.declared.outcome.Outcome.the-variants.{On, Unsound, Overflows}
+use Rattle.replacing.specs.Stretch.{StretchReady, fitting, restretched}
+use Rattle.replacing.specs.Calls.{nextOf, Movable, growthAnswer, growthFile}
 use Rattle.replacing.proofs.Ruled.{fitting-is, restretched-is}
 use Rattle.replacing.proofs.Items.{all-below, all-sound, real-sound, numbers-below, plannable-stretch, ready-stretch}
 
--- ---- homes, item by item
+-- homes, item by item
 
 -- the first i items have their homes under the growth state `next`
 abbrev pub Rehomed : Parameters → Growth → Growth → List ℕ → List ℕ → ℕ → Type 0
@@ -75,13 +76,13 @@ pub next-valid : (back : Bool) (p : Parameters) (g : Growth) → validParameters
 next-valid true p g v w m = shrunk-valid p g v m w
 next-valid false p g v w m = grown-valid p g v w m
 
--- ---- the file
+-- the file
 
 module _ (p : Parameters) (g : Growth) (f : File) (valid : validParameters p ≡ true) (sized : Sized (p .places) (p .pages) f) where
-  pub growth-refused : (next : Growth) (bad : ℕ) → bad ≡ firstUnsound p g f 0 (p .pages - 0) → bad < p .pages
-      → (Unsound bad ≡ growthAnswer p g f next) × (f ≡ growthFile p g f next)
+  pub growth-refused : (next : Growth) (page bad : ℕ) → bad ≡ firstUnsound p g f 0 (p .pages - 0) → bad < p .pages
+      → (Unsound bad ≡ growthAnswer p g f next page) × (f ≡ growthFile p g f next)
   unfolding growthAnswer growthFile
-  growth-refused next bad e h =
+  growth-refused next page bad e h =
       let is : bad ≡ firstUnsound p g f 0 (p .pages) = rw (sub-zero (p .pages)) at e in
       let t : ltb (firstUnsound p g f 0 (p .pages)) (p .pages) ≡ true = lt-ltb (firstUnsound p g f 0 (p .pages)) (p .pages) (omega arith) in
       rw (t, is) (refl, refl)
@@ -116,18 +117,18 @@ module _ (p : Parameters) (g : Growth) (f : File) (valid : validParameters p ≡
       below : allBelow (2 ^ 31) (stretch (p .places) 0 (p .pages) (f .numbers)) ≡ true
       below = numbers-below p f valid sized 0 (p .pages) (omega arith) g (all-sound p g f 0 (p .pages) sound-pages)
 
-      true-homes : stretch (p .places) 0 (p .pages) pool ≡ map (itemHome (hash p next)) (stretch (p .places) 0 (p .pages) (f .numbers))
+      true-homes : stretch (p .places) 0 (p .pages) pool ≡ map (itemHome (hashOf p next)) (stretch (p .places) 0 (p .pages) (f .numbers))
       true-homes =
-          let home : ℕ → ℕ = itemHome (hash p next) in
+          let home : ℕ → ℕ = itemHome (hashOf p next) in
           ap (stretch (p .places) 0 (p .pages)) (e ∙ homes-real p next (f .numbers))
           ∙ ap (take (p .pages * p .places)) (map-drop home (0 * p .places) (f .numbers))
           ∙ map-take home (p .pages * p .places) (drop (0 * p .places) (f .numbers))
 
-      home-inside : (x : ℕ) → itemHome (hash p next) x < 0 + p .pages
+      home-inside : (x : ℕ) → itemHome (hashOf p next) x < 0 + p .pages
       unfolding itemHome
       home-inside x = go (eqb x 0)
         where
-          go : (t : Bool) → cond t 0 (hash p next .home x) < 0 + p .pages
+          go : (t : Bool) → cond t 0 (hashOf p next .home x) < 0 + p .pages
           go true = omega (arith, some-pages)
           go false = omega (arith, homed-real p next valid later x)
 
@@ -136,8 +137,8 @@ module _ (p : Parameters) (g : Growth) (f : File) (valid : validParameters p ≡
       within =
           let ns : List ℕ = stretch (p .places) 0 (p .pages) (f .numbers) in
           rw true-homes
-          (all-below (0 + p .pages) (map (itemHome (hash p next)) ns)
-          (λ i h. rw (List·getD-map (itemHome (hash p next)) ns i 0) (home-inside (getD ns i 0))))
+          (all-below (0 + p .pages) (map (itemHome (hashOf p next)) ns)
+          (λ i h. rw (List·getD-map (itemHome (hashOf p next)) ns i 0) (home-inside (getD ns i 0))))
 
       -- no star has the number 0
       none-out : without 0 (gathered (p .places) f 0 (p .pages)) ≡ gathered (p .places) f 0 (p .pages)
@@ -147,24 +148,24 @@ module _ (p : Parameters) (g : Growth) (f : File) (valid : validParameters p ≡
           (λ s m.
           ap not
           (ne-eqb (s .number) 0
-          (λ z. omega (arith, gathered-proper validWord (hash p g) f 0 (p .pages) (real-sound p g f 0 (p .pages) (all-sound p g f 0 (p .pages) sound-pages)) s m .0))))
+          (λ z. omega (arith, gathered-proper validWord (hashOf p g) f 0 (p .pages) (real-sound p g f 0 (p .pages) (all-sound p g f 0 (p .pages) sound-pages)) s m .0))))
 
-      ready : Gatherable (hash p next) (p .places) 0 (p .pages) f pool
-      ready = ready-stretch p f valid sized 0 (p .pages) (omega arith) (omega (arith, some-pages)) pool size below within (hash p next) true-homes
+      ready : Gatherable (hashOf p next) (p .places) 0 (p .pages) f pool
+      ready = ready-stretch p f valid sized 0 (p .pages) (omega arith) (omega (arith, some-pages)) pool size below within (hashOf p next) true-homes
 
       all-are-sound : ltb (firstUnsound p g f 0 (p .pages)) (p .pages) ≡ false
       all-are-sound = le-ltb (firstUnsound p g f 0 (p .pages)) (p .pages) (omega (arith, sound-pages))
 
       pub growth-plannable : (waiting poolowners : List ℕ) → length waiting ≡ p .pages * p .places → length poolowners ≡ p .pages * p .places
-          → Plannable p 0 (p .pages) f pool waiting poolowners
+          → StretchReady p 0 (p .pages) f pool waiting poolowners
       growth-plannable waiting poolowners ew eo =
           plannable-stretch p f valid sized 0 (p .pages) (omega arith) (omega (arith, some-pages)) pool size below within waiting poolowners ew eo
 
-      pub growth-done : (r : Bool) → r ≡ fitting p 0 (p .pages) 0 f pool → (f′ : File) → f′ ≡ restretched p 0 (p .pages) 0 f pool
-          → (cond r Done Overflows ≡ growthAnswer p g f next) × (f′ ≡ growthFile p g f next)
+      pub growth-done : (page : ℕ) (r : Bool) → r ≡ fitting p 0 (p .pages) 0 f pool → (f′ : File) → f′ ≡ restretched p 0 (p .pages) 0 f pool
+          → (cond r (On page) Overflows ≡ growthAnswer p g f next page) × (f′ ≡ growthFile p g f next)
       unfolding growthAnswer growthFile
-      growth-done r er f′ ef =
-          let H : Hash = hash p next in
+      growth-done page r er f′ ef =
+          let H : Hash = hashOf p next in
           let is : r ≡ isEmpty (left H 0 (p .pages) (gathered (p .places) f 0 (p .pages))) =
           rw none-out at (er ∙ fitting-is H p (probes-real p next) 0 (p .pages) f pool ready 0) in
           rw (all-are-sound, is)

@@ -9,6 +9,7 @@ use lib.Dec.{ltb}
 use lib.ListN.{length, drop, getD, length-map, List·getD-map}
 use lib.Seq.{paste, getD-take, getD-drop}
 use borrow.Author.Tests.{lt-ltb, not-false}
+use Rattle.pages.specs.Page.{stretch}
 use Rattle.hashing.specs.declared.Parameters.{Parameters}
 use Rattle.hashing.specs.declared.Growth.{Growth}
 use Rattle.hashing.specs.Limits.{validParameters}
@@ -20,14 +21,13 @@ use Rattle.placement.specs.Hash.{hashOf, soundAt, homeIn, homesOf}
 use Rattle.placement.proofs.Sound.{AllSound}
 use Rattle.placement.proofs.Tested.{item-on, real-facts}
 use Rattle.waiting.specs.Lists.{all, allBelow}
-use Rattle.waiting.specs.Gather.{stretch}
 use Rattle.waiting.proofs.Lists.{all-cons}
 use Rattle.reach.specs.Reach.{firstUnsound}
 use Rattle.reach.proofs.Search.{such}
 use Rattle.reach.proofs.Surveyed.{unsound}
 use Rattle.planning.proofs.Sourcing.{itemHome, length-stretch}
 use Rattle.planning.proofs.Placed.{Gatherable, surveyed-homes}
-use Rattle.replacing.specs.Stretch.{Plannable}
+use Rattle.replacing.specs.Stretch.{StretchReady}
 
 -- a bound that every item keeps
 pub all-below : (b : ℕ) (l : List ℕ) → ((i : ℕ) → i < length l → getD l i 0 < b) → allBelow b l ≡ true
@@ -82,7 +82,7 @@ module _ (p : Parameters) (f : File) (valid : validParameters p ≡ true) (sized
     few : p .pages * p .places ≤ 32768
     few = omega (arith, mul-le-mul (limits p valid .pages-most) (limits p valid .places-most))
 
-    pub plannable-stretch : (waiting poolowners : List ℕ) → length waiting ≡ p .pages * p .places → length poolowners ≡ p .pages * p .places → Plannable p lo n f hs waiting poolowners
+    pub plannable-stretch : (waiting poolowners : List ℕ) → length waiting ≡ p .pages * p .places → length poolowners ≡ p .pages * p .places → StretchReady p lo n f hs waiting poolowners
     plannable-stretch waiting poolowners ew eo =
         let l = limits p valid in
         record {
@@ -132,7 +132,7 @@ module _ (p : Parameters) (g : Growth) (f : File) (valid : validParameters p ≡
   within = rw surveyed (homes-below p f valid sized lo n inside g (all-sound p g f lo n sound))
 
   pub plannable-surveyed : (waiting poolowners : List ℕ) → length pool′ ≡ p .pages * p .places → length waiting ≡ p .pages * p .places → length poolowners ≡ p .pages * p .places
-      → Plannable p lo n f pool′ waiting poolowners
+      → StretchReady p lo n f pool′ waiting poolowners
   plannable-surveyed waiting poolowners ep ew eo = plannable-stretch p f valid sized lo n inside some pool′ ep below within waiting poolowners ew eo
 
   pub ready-surveyed : length pool′ ≡ p .pages * p .places → Gatherable (hashOf p g) (p .places) lo n f pool′

@@ -10,7 +10,7 @@ use lib.Seq.{paste}
 use borrow.Author.Tests.{lt-ltb, le-ltb}
 use Rattle.hashing.specs.declared.Parameters.{Parameters}
 use Rattle.hashing.specs.declared.Growth.{Growth}
-use Rattle.hashing.specs.Generator.{topOf}
+use Rattle.generator.specs.Generator.{topOf}
 use Rattle.hashing.specs.Limits.{validParameters, validGrowth}
 use Rattle.pages.specs.Position.{validWord}
 use Rattle.placement.specs.Rule.{Star, pages, left, without}
@@ -22,21 +22,21 @@ use Rattle.reach.specs.Reach.{firstSuch, storedTop, removalEnd, firstUnsound}
 use Rattle.reach.proofs.Search.{such}
 use Rattle.reach.proofs.Surveyed.{unsound}
 use Rattle.planning.proofs.Placed.{probes-real}
-use Rattle.replacing.specs.declared.Replaced.the-variants.{Done, Unsound}
-use Rattle.replacing.specs.Stretch.{Plannable, restretched}
-use Rattle.replacing.specs.Calls.{hash, startOf, countOf, unsoundOf, removalAnswer, removalFile}
+use Rattle.planning.specs.declared.outcome.Outcome.the-variants.{On, Unsound}
+use Rattle.replacing.specs.Stretch.{StretchReady, restretched}
+use Rattle.replacing.specs.Calls.{removalStart, removalCount, removalUnsound, removalAnswer, removalFile}
 use Rattle.replacing.proofs.Ruled.{restretched-is}
 use Rattle.replacing.proofs.Items.{all-sound, real-sound, plannable-surveyed, ready-surveyed}
 
 -- the reach as the code has it
 pub record Reached (p : Parameters) (g : Growth) (f : File) (k from last : ℕ) : Type 0 where
-  pub start : from ≡ startOf p g k
-  pub end : last ≡ removalEnd (hash p g) (p .pages) f (startOf p g k)
+  pub start : from ≡ removalStart p g k
+  pub end : last ≡ removalEnd (hashOf p g) (p .pages) f (removalStart p g k)
   pub order : from ≤ last
   pub inside : last < p .pages
 
 module _ (p : Parameters) (g : Growth) (f : File) (k : ℕ) where
-  pub reached : validParameters p ≡ true → validGrowth p g ≡ true → Sized (p .places) (p .pages) f → (from last top : ℕ) → from ≡ startOf p g k → top ≡ topOf (p .bits)
+  pub reached : validParameters p ≡ true → validGrowth p g ≡ true → Sized (p .places) (p .pages) f → (from last top : ℕ) → from ≡ removalStart p g k → top ≡ topOf (p .bits)
       → last ≡ firstSuch (storedTop (f .separators) top) from (length (f .separators) - 1 - from) → Reached p g f k from last
   unfolding removalEnd hashOf
   reached valid grows sized from last top es et el =
@@ -50,22 +50,22 @@ module _ (p : Parameters) (g : Growth) (f : File) (k : ℕ) where
       }
 
   module _ (from last : ℕ) (R : Reached p g f k from last) where
-    count : last + 1 - from ≡ countOf p g f k
+    count : last + 1 - from ≡ removalCount p g f k
     count = rw (← R .end, ← R .start) (omega (arith, R .order))
 
-    stop : last + 1 ≡ startOf p g k + countOf p g f k
+    stop : last + 1 ≡ removalStart p g k + removalCount p g f k
     stop = rw (← R .end, ← R .start) (omega (arith, R .order))
 
-    same-unsound : firstUnsound p g f from (last + 1 - from) ≡ unsoundOf p g f k
+    same-unsound : firstUnsound p g f from (last + 1 - from) ≡ removalUnsound p g f k
     same-unsound = rw (count, R .start)
 
-    pub removal-refused : (bad : ℕ) → bad ≡ firstUnsound p g f from (last + 1 - from) → bad < last + 1
-        → (Unsound bad ≡ removalAnswer p g f k) × (f ≡ removalFile p g f k)
+    pub removal-refused : (page bad : ℕ) → bad ≡ firstUnsound p g f from (last + 1 - from) → bad < last + 1
+        → (Unsound bad ≡ removalAnswer p g f k page) × (f ≡ removalFile p g f k)
     unfolding removalAnswer removalFile
-    removal-refused bad e h =
-        let is : bad ≡ unsoundOf p g f k = e ∙ same-unsound in
-        let t : ltb (unsoundOf p g f k) (startOf p g k + countOf p g f k) ≡ true =
-        lt-ltb (unsoundOf p g f k) (startOf p g k + countOf p g f k) (omega (arith, stop)) in
+    removal-refused page bad e h =
+        let is : bad ≡ removalUnsound p g f k = e ∙ same-unsound in
+        let t : ltb (removalUnsound p g f k) (removalStart p g k + removalCount p g f k) ≡ true =
+        lt-ltb (removalUnsound p g f k) (removalStart p g k + removalCount p g f k) (omega (arith, stop)) in
         rw (t, is) (refl, refl)
 
     -- the survey has found all pages of the reach sound, and left their homes in the pool
@@ -95,25 +95,25 @@ module _ (p : Parameters) (g : Growth) (f : File) (k : ℕ) where
       inside : from + n ≤ p .pages
       inside = omega (arith, ends, R .inside)
 
-      fits : left (hash p g) from n (without k (gathered (p .places) f from n)) ≡ []
+      fits : left (hashOf p g) from n (without k (gathered (p .places) f from n)) ≡ []
       unfolding hashOf without
       fits =
-          sound-fits validWord (hash p g) f (p .pages) from n (λ (s : Star). not (eqb (s .number) k)) sized inside
+          sound-fits validWord (hashOf p g) f (p .pages) from n (λ (s : Star). not (eqb (s .number) k)) sized inside
           (real-sound p g f from n (all-sound p g f from n sound-stretch))
 
       pub removal-plannable : (waiting poolowners : List ℕ) → length waiting ≡ p .pages * p .places → length poolowners ≡ p .pages * p .places
-          → Plannable p from (last + 1 - from) f pool′ waiting poolowners
+          → StretchReady p from (last + 1 - from) f pool′ waiting poolowners
       unfolding n
       removal-plannable waiting poolowners ew eo =
           plannable-surveyed p g f valid sized from n some inside sound-stretch pool pool′ size kept waiting poolowners size′ ew eo
 
-      pub removal-done : (Done ≡ removalAnswer p g f k) × (restretched p from (last + 1 - from) k f pool′ ≡ removalFile p g f k)
+      pub removal-done : (page : ℕ) → (On page ≡ removalAnswer p g f k page) × (restretched p from (last + 1 - from) k f pool′ ≡ removalFile p g f k)
       unfolding removalAnswer removalFile n
-      removal-done =
-          let t : ltb (unsoundOf p g f k) (startOf p g k + countOf p g f k) ≡ false =
-          le-ltb (unsoundOf p g f k) (startOf p g k + countOf p g f k) (omega (arith, stop, same-unsound)) in
-          let done : restretched p from n k f pool′ ≡ replaced (p .places) f from (pages (hash p g) from n (without k (gathered (p .places) f from n))) =
-          restretched-is (hash p g) p (probes-real p g) from n f pool′
+      removal-done page =
+          let t : ltb (removalUnsound p g f k) (removalStart p g k + removalCount p g f k) ≡ false =
+          le-ltb (removalUnsound p g f k) (removalStart p g k + removalCount p g f k) (omega (arith, stop, same-unsound)) in
+          let done : restretched p from n k f pool′ ≡ replaced (p .places) f from (pages (hashOf p g) from n (without k (gathered (p .places) f from n))) =
+          restretched-is (hashOf p g) p (probes-real p g) from n f pool′
           (ready-surveyed p g f valid sized from n some inside sound-stretch pool pool′ size kept size′) k
           ∙ rw fits in
           rw t (refl, done ∙ rw (count, R .start))

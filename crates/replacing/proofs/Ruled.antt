@@ -8,22 +8,24 @@ use native.Mathlib.Omega.{arith}
 use lib.Dec.{eqb}
 use lib.ListN.{length, drop, take}
 use borrow.Author.Tests.{eq-eqb, ne-eqb}
+use Rattle.buffers.specs.Lists.{written}
+use Rattle.pages.specs.Page.{stretch}
 use Rattle.hashing.specs.declared.Parameters.{Parameters}
 use Rattle.placement.specs.Rule.{Star, Hash, pages, left, without}
-use Rattle.placement.specs.File.{File, gathered, replaced, written}
+use Rattle.placement.specs.File.{File, gathered, replaced}
 use Rattle.placement.specs.Hash.{lent}
-use Rattle.waiting.specs.Gather.{stretch, starsIn, stretchWords}
+use Rattle.waiting.specs.Gather.{starsIn, stretchWords}
 use Rattle.reach.specs.Reach.{isEmpty}
-use Rattle.planning.specs.Sources.{named, renamed, sourced}
+use Rattle.planning.specs.Sources.{namedItem, renamed, sourced}
 use Rattle.planning.specs.Plans.{remains, Planned}
 use Rattle.planning.proofs.RuleOverWords.{Probes}
 use Rattle.planning.proofs.Applying.{applied}
 use Rattle.planning.proofs.Sourcing.{words-sourced, named-stretch, length-stretch}
 use Rattle.planning.proofs.Placed.{Gatherable, placed, left-count, layout, applied-layout}
-use Rattle.replacing.specs.Stretch.{Plannable, newPages, fitting, restretched}
+use Rattle.replacing.specs.Stretch.{StretchReady, newPages, fitting, restretched}
 use Rattle.waiting.proofs.Gathered.{starsIn-most}
 
-module _ (q : Parameters) (lo n : ℕ) (f : File) (pool waiting poolowners : List ℕ) (L : Plannable q lo n f pool waiting poolowners) (k : ℕ) where
+module _ (q : Parameters) (lo n : ℕ) (f : File) (pool waiting poolowners : List ℕ) (L : StretchReady q lo n f pool waiting poolowners) (k : ℕ) where
   -- the waiting list has (q .places) for the stretch's stars
   pub stars-fit : 0 + starsIn k (stretch (q .places) lo n (f .numbers)) ≤ length waiting
   stars-fit =
@@ -75,9 +77,9 @@ module _ (q : Parameters) (lo n : ℕ) (f : File) (pool waiting poolowners : Lis
 -- the lists that the code leaves are the applied file's
 pub applied-lists : (places lo n : ℕ) (pool planned separators numbers words owners separators′ numbers′ words′ owners′ : List ℕ)
     → separators′ ≡ written lo (take n (drop lo planned)) separators
-    → numbers′ ≡ written (lo * places) (map (named numbers 0) (stretch places lo n pool)) numbers
-    → words′ ≡ written (lo * places) (map (named words 0) (stretch places lo n pool)) words
-    → owners′ ≡ written (lo * places) (map (named owners 0) (stretch places lo n pool)) owners
+    → numbers′ ≡ written (lo * places) (map (namedItem numbers 0) (stretch places lo n pool)) numbers
+    → words′ ≡ written (lo * places) (map (namedItem words 0) (stretch places lo n pool)) words
+    → owners′ ≡ written (lo * places) (map (namedItem owners 0) (stretch places lo n pool)) owners
     → lent separators′ numbers′ words′ owners′ ≡ applied places lo n 0 0 0 pool planned (lent separators numbers words owners)
 unfolding applied
 applied-lists places lo n pool planned separators numbers words owners separators′ numbers′ words′ owners′ es en ew eo = rw (es, en, ew, eo)

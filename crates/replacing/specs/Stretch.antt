@@ -5,17 +5,18 @@ use mathlib.Core.List.{List, [], map}
 use Prim.Native.Nat.{ℕ, _+_, _*_, _^_, _≤_, _<_}
 use lib.Dec.{eqb}
 use lib.ListN.{length}
+use Rattle.pages.specs.Page.{stretch}
 use Rattle.hashing.specs.declared.Parameters.{Parameters}
 use Rattle.placement.specs.Rule.{Contents}
 use Rattle.placement.specs.File.{File, replaced}
 use Rattle.placement.proofs.Mapping.{mapped}
 use Rattle.waiting.specs.Lists.{allBelow}
-use Rattle.waiting.specs.Gather.{stretch, stretchWords}
+use Rattle.waiting.specs.Gather.{stretchWords}
 use Rattle.planning.specs.Sources.{renamed}
 use Rattle.planning.specs.Plans.{plans, remains}
 
 -- the lists as long as the stretch needs, numbers of 31 bits, and homes below the page past it
-pub record Plannable (q : Parameters) (lo n : ℕ) (f : File) (pool waiting poolowners : List ℕ) : Type 0 where
+pub record StretchReady (q : Parameters) (lo n : ℕ) (f : File) (pool waiting poolowners : List ℕ) : Type 0 where
   pub places-most : q .places ≤ 32
   pub some : 0 < n
   pub pages-most : lo + n ≤ 1024

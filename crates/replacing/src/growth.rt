@@ -4,9 +4,9 @@ ghost use Rattle.placement.specs.Hash.{homeIn, homesOf};
 ghost use Rattle.placement.specs.Lent.{held, before, after};
 ghost use Rattle.placement.specs.Ready.{Homing, Ready, Pooled};
 ghost use Rattle.replacing.specs.Calls.{nextOf, Movable, growthAnswer, growthFile};
-use crate::Replaced;
 use crate::stretch::replace_stretch;
 use hashing::Geometry;
+use planning::Outcome;
 
 // An item's home under that growth state, from its home under this one; 0 for an empty place.
 fn next_home(table: &[u32; 90], geometry: Geometry, back: bool, number: u32, old: u32) -> u32
@@ -39,7 +39,7 @@ fn rehome(table: &[u32; 90], geometry: Geometry, back: bool, numbers: &[u32], ho
     }
 }
 
-// The stars of all pages, placed anew under that growth state.
+// The stars of all pages, placed anew under that growth state. The answer is the page given, which comes or goes.
 pub fn regrow(
     table: &[u32; 90],
     geometry: Geometry,
@@ -51,11 +51,12 @@ pub fn regrow(
     pool: &mut [u32],
     waiting: &mut [u64],
     poolowners: &mut [u8],
-) -> Replaced
+    page: usize,
+) -> Outcome
     requires { ⌜ Ready geometry (now table) (held separators numbers words owners) ⌝ }
     requires { ⌜ Pooled (geometry .parameters) (now pool) (now waiting) (now poolowners) ⌝ }
     requires { ⌜ Movable back (geometry .parameters) (geometry .growth) ⌝ }
-    ensures { λ r. ⌜ r ≡ growthAnswer (geometry .parameters) (geometry .growth) (before separators numbers words owners) (nextOf back (geometry .parameters) (geometry .growth)) ⌝ }
+    ensures { λ r. ⌜ r ≡ growthAnswer (geometry .parameters) (geometry .growth) (before separators numbers words owners) (nextOf back (geometry .parameters) (geometry .growth)) page ⌝ }
     ensures { λ r. ⌜ after separators numbers words owners ≡ growthFile (geometry .parameters) (geometry .growth) (before separators numbers words owners) (nextOf back (geometry .parameters) (geometry .growth)) ⌝ }
 {
     let pages = geometry.parameters.pages as usize;
@@ -71,7 +72,7 @@ pub fn regrow(
         pages,
     );
     if bad < pages {
-        return Replaced::Unsound(bad);
+        return Outcome::Unsound(bad);
     }
     rehome(table, geometry, back, numbers, pool);
     if !replace_stretch(
@@ -87,7 +88,7 @@ pub fn regrow(
         pages,
         0,
     ) {
-        return Replaced::Overflows;
+        return Outcome::Overflows;
     }
-    Replaced::Done
+    Outcome::On(page)
 }

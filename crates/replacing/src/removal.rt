@@ -4,11 +4,11 @@ ghost use Rattle.placement.specs.Hash.{homeUnder};
 ghost use Rattle.placement.specs.Lent.{held, before, after};
 ghost use Rattle.placement.specs.Ready.{Ready, Pooled};
 ghost use Rattle.replacing.specs.Calls.{removalAnswer, removalFile};
-use crate::Replaced;
 use crate::stretch::replace_stretch;
 use hashing::Geometry;
+use planning::Outcome;
 
-// The stars from home to the first page whose separator is 2^k − 1, placed anew without the star. Sound pages hold them all.
+// The stars from home to the first page whose separator is 2^k − 1, placed anew without the star. Sound pages hold them all. The answer is the page given.
 pub fn remove_star(
     table: &[u32; 90],
     geometry: Geometry,
@@ -21,11 +21,12 @@ pub fn remove_star(
     poolowners: &mut [u8],
     number: u32,
     home: u32,
-) -> Replaced
+    page: usize,
+) -> Outcome
     requires { ⌜ Ready geometry (now table) (held separators numbers words owners) ⌝ }
     requires { ⌜ Pooled (geometry .parameters) (now pool) (now waiting) (now poolowners) ⌝ }
     requires { ⌜ home ≡ homeUnder geometry number ⌝ }
-    ensures { λ r. ⌜ r ≡ removalAnswer (geometry .parameters) (geometry .growth) (before separators numbers words owners) number ⌝ }
+    ensures { λ r. ⌜ r ≡ removalAnswer (geometry .parameters) (geometry .growth) (before separators numbers words owners) number page ⌝ }
     ensures { λ r. ⌜ after separators numbers words owners ≡ removalFile (geometry .parameters) (geometry .growth) (before separators numbers words owners) number ⌝ }
 {
     let parameters = geometry.parameters;
@@ -44,7 +45,7 @@ pub fn remove_star(
         stop,
     );
     if bad < stop {
-        return Replaced::Unsound(bad);
+        return Outcome::Unsound(bad);
     }
     replace_stretch(
         parameters,
@@ -59,5 +60,5 @@ pub fn remove_star(
         stop - from,
         number,
     );
-    Replaced::Done
+    Outcome::On(page)
 }

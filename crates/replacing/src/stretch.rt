@@ -3,7 +3,7 @@ ghost use mathlib.Core.Path.{_≡_};
 ghost use mathlib.Core.Bool.{true};
 ghost use Rattle.hashing.specs.Limits.{validParameters};
 ghost use Rattle.placement.specs.Lent.{held, before, after};
-ghost use Rattle.replacing.specs.Stretch.{Plannable, fitting, restretched};
+ghost use Rattle.replacing.specs.Stretch.{StretchReady, fitting, restretched};
 use hashing::Parameters;
 
 // Places the stars of `count` pages from page lo anew, `without` left out; the pool holds the homes of their items.
@@ -22,7 +22,7 @@ pub fn replace_stretch(
     without: u32,
 ) -> bool
     requires { ⌜ validParameters parameters ≡ true ⌝ }
-    requires { ⌜ Plannable parameters lo count (held separators numbers words owners) (now pool) (now waiting) (now poolowners) ⌝ }
+    requires { ⌜ StretchReady parameters lo count (held separators numbers words owners) (now pool) (now waiting) (now poolowners) ⌝ }
     ensures { λ r. ⌜ r ≡ fitting parameters lo count without (before separators numbers words owners) (now (pool .entry)) ⌝ }
     ensures { λ r. ⌜ after separators numbers words owners ≡ restretched parameters lo count without (before separators numbers words owners) (now (pool .entry)) ⌝ }
 {

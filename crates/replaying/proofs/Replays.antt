@@ -16,7 +16,7 @@ use Rattle.calls.specs.declared.answers.Placed.{Placed}
 use Rattle.calls.specs.declared.answers.Placed.the-variants.{On, Refused as NotPlaced}
 use Rattle.calls.proofs.Numbers.{numbered}
 use Rattle.calls.specs.declared.answers.Answer.{Answer}
-use Rattle.calls.specs.Answers.{Pool, After, Leaves, unpooled, numberOf, placed, refusedBy, spotted}
+use Rattle.calls.specs.Answers.{Pool, After, Leaves, unpooled, refusalNumber, placed, refusedBy, spotted}
 use Rattle.calls.specs.Calls.{fileFits, unless, orElse, guarded, emptyFile, makeOf}
 use Rattle.replaying.specs.declared.replaying.Replayed.{Replayed}
 use Rattle.replaying.specs.declared.replaying.Replayed.the-variants.{Done, BadKind, Refused}
@@ -44,7 +44,7 @@ use Rattle.histories.proofs.Histories.{end-keeps, end-agrees}
 use Rattle.histories.proofs.Make.{initial-agrees}
 use Rattle.histories.proofs.Every.{conforming, every-history}
 
-refusal-number : (r : Refusal) → numberOf r ≡ suc (numberOf r - 1)
+refusal-number : (r : Refusal) → refusalNumber r ≡ suc (refusalNumber r - 1)
 refusal-number r = omega (arith, numbered r)
 
 -- A refused make leaves the file as it was.
@@ -98,10 +98,10 @@ module _ (p : Parameters) (f : File) (pool : Pool) (h : LentHistory) (answers : 
         pub make-refused : (r : Refusal) (place : ℕ) → a ≡ NotPlaced r place → Replays (replayOf p f pool h answers) (Refused r) answers file pool
         unfolding placed refusedBy spotted refusalSaid growthSaid
         make-refused r place e =
-            let n : placed a .refusal ≡ suc (numberOf r - 1) = rw e (refusal-number r) in
+            let n : placed a .refusal ≡ suc (refusalNumber r - 1) = rw e (refusal-number r) in
             let refusal = sym (ap (λ (x : Answer). x .refusal) (made .answers)) in
-            let same : file ≡ f = made .files ∙ make-refuses p f unpooled (numberOf r - 1) (refusal ∙ n) in
-            rw same (refused-replays (numberOf r - 1) (as-made ∙ n) (Refused r) (refusal-number r) refl)
+            let same : file ≡ f = made .files ∙ make-refuses p f unpooled (refusalNumber r - 1) (refusal ∙ n) in
+            rw same (refused-replays (refusalNumber r - 1) (as-made ∙ n) (Refused r) (refusal-number r) refl)
 
         pub make-done : (page place : ℕ) → a ≡ On page place → (growth : Growth) → growth ≡ makeOf p f unpooled .growth
             → (last : Growth) (answers′ : List ℕ) (file′ : File) (pool′ : Pool)

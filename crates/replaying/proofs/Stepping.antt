@@ -7,49 +7,18 @@ use lib.Dec.{eqb, ltb}
 use lib.ListN.{length}
 use lib.Seq.{paste}
 use borrow.Author.Tests.{ne-eqb, eqb-true}
+use Rattle.placement.specs.Hash.{hashOf}
 use Rattle.hashing.specs.declared.Parameters.{Parameters}
 use Rattle.hashing.specs.declared.Growth.{Growth}
 use Rattle.pages.specs.declared.position.Position.{Position}
 use Rattle.pages.specs.Position.{validNumber, validPosition, packed}
-use Rattle.placement.specs.Rule.{Star}
+use Rattle.placement.specs.Rule.{Star, starWith}
 use Rattle.placement.specs.File.{File}
 use Rattle.reach.specs.Reach.{pagesTo, entryEnd, removalEnd, entersWithin, firstUnsound, isEmpty}
 use Rattle.reach.specs.Cascade.{cascaded, carriedPast}
 use Rattle.calls.specs.declared.answers.Answer.{Answer}
 use Rattle.calls.specs.Answers.{Pool, After, Leaves, unpooled}
-use Rattle.calls.specs.Calls.{
-  hash,
-  fileFits,
-  poolFits,
-  unless,
-  orElse,
-  unlent,
-  unchanged,
-  guarded,
-  readable,
-  named,
-  holds,
-  ownerFor,
-  mayAlter,
-  allowed,
-  lookedUp,
-  lookUpOf,
-  enterTo,
-  enterOn,
-  enterOf,
-  cascadeFrom,
-  cascadeOn,
-  cascadeOf,
-  changeOn,
-  changeOf,
-  removeTo,
-  removeOn,
-  removeOf,
-  growOf,
-  shrinkOf,
-  dueOf,
-  checkOf,
-}
+use Rattle.calls.specs.Calls.{fileFits, poolFits, unless, orElse, unlent, unchanged, guarded, readable, named, holds, ownerFor, mayAlter, allowed, lookedUp, lookUpOf, enterTo, enterOn, enterOf, cascadeFrom, cascadeOn, cascadeOf, changeOn, changeOf, removeTo, removeOn, removeOf, growOf, shrinkOf, dueOf, checkOf}
 use Rattle.replaying.specs.declared.calling.Stepped.{Stepped}
 use Rattle.histories.specs.Call.{step}
 use Rattle.replaying.specs.Replay.{requestOf, encoded}
@@ -107,24 +76,24 @@ module _ (p : Parameters) (g : Growth) (f : File) (pool : Pool) where
   enter-growth : (caller k : ℕ) (q : Position) → enterOf p g f pool caller k q .growth ≡ g
   unfolding enterOf enterOn enterTo
   enter-growth caller k q =
-      let s : Star = record { number = k; word = packed q; owner = caller } in
-      let from = hash p g .home k in
-      let to = entryEnd (hash p g) (p .pages) f s in
+      let s : Star = starWith k (packed q) caller in
+      let from = hashOf p g .home k in
+      let to = entryEnd (hashOf p g) (p .pages) f s in
       guarded-growth g f pool
       (orElse (unlent p g (fileFits p f && poolFits p pool)) (orElse (unless (validNumber k) 3) (unless (validPosition q) 4))) _
       (cond-growth (readable p g f (named p g f k)) _ _ g
       (cond-growth (holds p f (named p g f k) k) _ _ g refl
       (cond-growth (ltb (firstUnsound p g f from (pagesTo from to)) (from + pagesTo from to)) _ _ g refl
-      (cond-growth (entersWithin (hash p g) f s to) _ _ g refl refl)))
+      (cond-growth (entersWithin (hashOf p g) f s to) _ _ g refl refl)))
       refl)
 
   cascade-growth : (caller k : ℕ) (q : Position) → cascadeOf p g f pool caller k q .growth ≡ g
   unfolding cascadeOf cascadeOn cascadeFrom
   cascade-growth caller k q =
-      let H = hash p g in
+      let H = hashOf p g in
       let page = named p g f k in
       let n = p .pages - page in
-      let s : Star = record { number = k; word = packed q; owner = caller } in
+      let s : Star = starWith k (packed q) caller in
       let visited = length (cascaded H f page n (s ∷ [])) in
       guarded-growth g f pool
       (orElse (unlent p g (fileFits p f && poolFits p pool)) (orElse (unless (validNumber k) 3) (unless (validPosition q) 4))) _
@@ -137,8 +106,8 @@ module _ (p : Parameters) (g : Growth) (f : File) (pool : Pool) where
   remove-growth : (caller k : ℕ) → removeOf p g f pool caller k .growth ≡ g
   unfolding removeOf removeOn removeTo allowed
   remove-growth caller k =
-      let from = hash p g .home k in
-      let to = removalEnd (hash p g) (p .pages) f from in
+      let from = hashOf p g .home k in
+      let to = removalEnd (hashOf p g) (p .pages) f from in
       guarded-growth g f pool (orElse (unlent p g (fileFits p f && poolFits p pool)) (unless (validNumber k) 3)) _
       (cond-growth (readable p g f (named p g f k)) _ _ g
       (cond-growth (holds p f (named p g f k) k) _ _ g

@@ -12,7 +12,7 @@ use Rattle.hashing.specs.Geometry.{ungrown}
 use Rattle.pages.specs.declared.position.Position.{Position}
 use Rattle.placement.specs.File.{File}
 use Rattle.calls.specs.declared.answers.Answer.{Answer}
-use Rattle.calls.specs.Answers.{Pool, numberOf, unpooled}
+use Rattle.calls.specs.Answers.{Pool, refusalNumber, unpooled}
 use Rattle.calls.specs.Calls.{unless, orElse, makeOf}
 use Rattle.replaying.specs.declared.replaying.Replayed.{Replayed}
 use Rattle.replaying.specs.declared.replaying.Replayed.the-variants.{Done, BadKind, Refused}
@@ -159,7 +159,7 @@ replayOf p f pool h answers = replayedWith (refusalOf p f pool h answers) p f po
 unfoldable pub refusalSaid : Replayed → ℕ
 refusalSaid (Done growth) = 0
 refusalSaid BadKind = unknownKind
-refusalSaid (Refused r) = numberOf r
+refusalSaid (Refused r) = refusalNumber r
 
 unfoldable pub growthSaid : Replayed → Growth
 growthSaid (Done growth) = growth

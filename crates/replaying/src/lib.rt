@@ -1,7 +1,7 @@
 // A lent history, run through the calls: `replay`.
-mod answering;
 mod calling;
 mod replaying;
+mod writing;
 
 pub use replaying::Replayed;
 pub use replaying::replay;

@@ -4,7 +4,7 @@ use mathlib.Core.List.{List, [], _∷_, map}
 use mathlib.Core.Path.{_≡_, refl, ap, _∙_}
 use Rattle.lines.specs.Grammar.{commandOf, linesOf}
 use Rattle.sessions.specs.Commands.{newFile}
-use Rattle.sessions.specs.Runs.{Run, opened, runs, onward, lastAnswer, joined, written, answersOf, runOf, Stands}
+use Rattle.sessions.specs.Runs.{Run, opened, runs, followedBy, lastAnswer, joined, writtenOut, answersOf, runOf, Stands}
 use Rattle.sessions.specs.Program.{Turn, Answers, Turns, output, blocksOf}
 use Rattle.sessions.specs.declared.blocks.Session.{Session}
 use Rattle.sessions.proofs.Running.{run-of}
@@ -18,23 +18,23 @@ turn-of s next block before after at h =
     record { text = refl; next = run-of (runs (runOf s) block) 0 at before after next h }
 
 -- what is written next does not depend on the answers so far
-written-onward : (bs : List (List ℕ)) (r : Run) → written (onward r) bs ≡ written r bs
-unfolding written lastAnswer onward
+written-onward : (bs : List (List ℕ)) (r : Run) → writtenOut (followedBy r) bs ≡ writtenOut r bs
+unfolding writtenOut lastAnswer followedBy
 written-onward [] r = refl
 written-onward (b ∷ bs) r = refl
 
 -- a session's run has no answer yet
-no-text : (s : Session) → onward (runOf s) ≡ runOf s
-unfolding onward runOf
+no-text : (s : Session) → followedBy (runOf s) ≡ runOf s
+unfolding followedBy runOf
 no-text s = refl
 
-turns-written : (ts : List Turn) (s : Session) → Turns s ts → output s ts ≡ written (runOf s) (blocksOf ts)
-unfolding output written
+turns-written : (ts : List Turn) (s : Session) → Turns s ts → output s ts ≡ writtenOut (runOf s) (blocksOf ts)
+unfolding output writtenOut
 turns-written [] s turns = refl
 turns-written (t ∷ ts) s turns =
-    let rest : output (t .next) ts ≡ written (runs (runOf s) (t .block)) (blocksOf ts) =
+    let rest : output (t .next) ts ≡ writtenOut (runs (runOf s) (t .block)) (blocksOf ts) =
     turns-written ts (t .next) (turns .1)
-    ∙ (ap (λ (r : Run). written r (blocksOf ts)) (turns .0 .next) ∙ written-onward (blocksOf ts) (runs (runOf s) (t .block))) in
+    ∙ (ap (λ (r : Run). writtenOut r (blocksOf ts)) (turns .0 .next) ∙ written-onward (blocksOf ts) (runs (runOf s) (t .block))) in
     rw (turns .0 .text, rest, no-text s)
 
 -- from `start`, over all blocks, to `finish`: the answers to the input's lines, in whatever blocks the input comes
@@ -42,4 +42,4 @@ pub program-answers :
     (s : Session) (ts : List Turn) → runOf s ≡ opened → Turns s ts →
     output s ts ≡ answersOf newFile (map commandOf (linesOf (joined (blocksOf ts))))
 program-answers s ts begins turns =
-    turns-written ts s turns ∙ (ap (λ (r : Run). written r (blocksOf ts)) begins ∙ every-input (blocksOf ts))
+    turns-written ts s turns ∙ (ap (λ (r : Run). writtenOut r (blocksOf ts)) begins ∙ every-input (blocksOf ts))

@@ -11,7 +11,7 @@ use Rattle.lines.specs.declared.Reply.the-variants.{Found, Missing}
 use Rattle.pages.specs.Position.{validNumber, validPosition, packed}
 use Rattle.pages.specs.declared.position.Position.{Position}
 use Rattle.placement.specs.File.{File}
-use Rattle.placement.specs.Rule.{Star}
+use Rattle.placement.specs.Rule.{Star, starWith}
 use Rattle.calls.specs.declared.answers.Answer.{Answer}
 use Rattle.calls.specs.Answers.{After, Pool, cleared, Leaves, lent, unpooled}
 use Rattle.calls.specs.Calls.{
@@ -33,7 +33,7 @@ use Rattle.calls.specs.Calls.{
   removeOn,
   removeTo,
 }
-use Rattle.sessions.specs.Commands.{starline, State, stateOf, called, unlessRefused, foundReply, replyWith, replyOf, nextOf, Follows}
+use Rattle.sessions.specs.Commands.{starline, State, stateOf, called, unlessRefused, foundReply, replyWith, replyTo, nextSession, Follows}
 use Rattle.sessions.specs.declared.commands.Replied.{Replied}
 
 -- what a look-up shows, by whether the star was found
@@ -74,7 +74,7 @@ enter-keeps p g f pool caller k position =
     (orElse (unlent p g (fileFits p f && poolFits p pool))
     (orElse (unless (validNumber k) 3) (unless (validPosition position) 4)))
     _
-    (enter-on-keeps p g f (cleared pool) (named p g f k) (record { number = k; word = packed position; owner = caller }))
+    (enter-on-keeps p g f (cleared pool) (named p g f k) (starWith k (packed position) caller))
 
 remove-on-keeps :
     (p : Parameters) (g : Growth) (f : File) (pool : Pool) (page caller k : ℕ) → removeOn p g f pool page caller k .growth ≡ g
@@ -95,7 +95,7 @@ pub follows :
     (s : State) (c : Command) (r : Replied) (a : Answer) (pool : Pool) →
     Leaves (called s c) a (lent (r .file .separators) (r .file .numbers) (r .file .words) (r .file .owners)) pool →
     r .file .growth ≡ called s c .growth → r .reply ≡ replyWith c a → Follows s c r
-unfolding stateOf replyOf nextOf
+unfolding stateOf replyTo nextSession
 follows s c r a pool l g e =
     record {
       replies = e ∙ ap (replyWith c) (l .answers);
@@ -103,8 +103,8 @@ follows s c r a pool l g e =
     }
 
 -- a look-up leaves all as it was
-pub looked-keeps : (s : State) (k : ℕ) → nextOf s (LookUp k) ≡ s
-unfolding nextOf called lookUpOf
+pub looked-keeps : (s : State) (k : ℕ) → nextSession s (LookUp k) ≡ s
+unfolding nextSession called lookUpOf
 looked-keeps s k =
     go (orElse (unlent starline (s .growth) (fileFits starline (s .file))) (unless (validNumber k) 3))
     (lookedUp starline (s .growth) (s .file) (named starline (s .growth) (s .file) k) k)

@@ -65,13 +65,13 @@ replyWith (Remove number) a = placedReply a
 replyWith Grow a = placedReply a
 replyWith Bad a = Malformed
 
-unfoldable pub replyOf : State → Command → Reply
-replyOf s c = replyWith c (called s c .answer)
+unfoldable pub replyTo : State → Command → Reply
+replyTo s c = replyWith c (called s c .answer)
 
-unfoldable pub nextOf : State → Command → State
-nextOf s c = record { growth = called s c .growth; file = called s c .file }
+unfoldable pub nextSession : State → Command → State
+nextSession s c = record { growth = called s c .growth; file = called s c .file }
 
 -- a reply and a file after a command
 pub record Follows (s : State) (c : Command) (r : Replied) : Type 0 where
-  pub replies : r .reply ≡ replyOf s c
-  pub leaves : stateOf (r .file) ≡ nextOf s c
+  pub replies : r .reply ≡ replyTo s c
+  pub leaves : stateOf (r .file) ≡ nextSession s c

@@ -2,7 +2,7 @@
 use Prim.Native.Nat.{ℕ}
 use mathlib.Core.List.{List, [], _∷_, _++_, map}
 use mathlib.Core.Path.{_≡_}
-use Rattle.sessions.specs.Runs.{runs, onward, lastAnswer, runOf}
+use Rattle.sessions.specs.Runs.{runs, followedBy, lastAnswer, runOf}
 use Rattle.sessions.specs.declared.blocks.Session.{Session}
 
 -- a block of input, the text that `answer_block` wrote for it, and the session that it left
@@ -14,7 +14,7 @@ pub record Turn : Type 0 where
 -- what the contract of `answer_block` says of a turn from the session s
 pub record Answers (s : Session) (t : Turn) : Type 0 where
   pub text : t .text ≡ runs (runOf s) (t .block) .text
-  pub next : runOf (t .next) ≡ onward (runs (runOf s) (t .block))
+  pub next : runOf (t .next) ≡ followedBy (runs (runOf s) (t .block))
 
 -- each turn goes on from the session that the one before left
 abbrev pub Turns : Session → List Turn → Type 0

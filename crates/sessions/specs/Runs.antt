@@ -4,10 +4,10 @@ use mathlib.Core.Bool.{cond}
 use mathlib.Core.List.{List, [], _∷_, _++_}
 use mathlib.Core.Path.{_≡_}
 use lib.Dec.{eqb}
-use Rattle.lines.specs.Grammar.{commandOf, isEmpty, kept, lineBytes}
+use Rattle.lines.specs.Grammar.{commandOf, noBytes, kept, lineBytes}
 use Rattle.lines.specs.Replies.{replyBytes, Written}
 use Rattle.lines.specs.declared.Command.{Command}
-use Rattle.sessions.specs.Commands.{State, stateOf, newFile, replyOf, nextOf}
+use Rattle.sessions.specs.Commands.{State, stateOf, newFile, replyTo, nextSession}
 use Rattle.sessions.specs.declared.blocks.Session.{Session}
 
 -- the star file, what is kept of the present line, and the answers so far
@@ -24,27 +24,27 @@ opened = record { state = newFile; begun = []; text = [] }
 unfoldable pub ended : Run → Run
 ended r =
     record {
-      state = nextOf (r .state) (commandOf (r .begun));
+      state = nextSession (r .state) (commandOf (r .begun));
       begun = [];
-      text = r .text ++ replyBytes (replyOf (r .state) (commandOf (r .begun)));
+      text = r .text ++ replyBytes (replyTo (r .state) (commandOf (r .begun)));
     }
 
 -- one byte more; a newline (byte 10) ends the line
-unfoldable pub stepped : Run → ℕ → Run
-stepped r c =
+unfoldable pub steppedBy : Run → ℕ → Run
+steppedBy r c =
     cond (eqb c 10) (ended r) (record { state = r .state; begun = kept (r .begun ++ (c ∷ [])); text = r .text })
 
 unfoldable pub runs : Run → List ℕ → Run
 runs r [] = r
-runs r (c ∷ l) = runs (stepped r c) l
+runs r (c ∷ l) = runs (steppedBy r c) l
 
 -- the same run without its answers so far
-unfoldable pub onward : Run → Run
-onward r = record { state = r .state; begun = r .begun; text = [] }
+unfoldable pub followedBy : Run → Run
+followedBy r = record { state = r .state; begun = r .begun; text = [] }
 
 -- "the last line may lack it": the answer to what is left when the input ends
 unfoldable pub lastAnswer : Run → List ℕ
-lastAnswer r = cond (isEmpty (r .begun)) [] (ended (onward r) .text)
+lastAnswer r = cond (noBytes (r .begun)) [] (ended (followedBy r) .text)
 
 -- blocks of input as one
 unfoldable pub joined : List (List ℕ) → List ℕ
@@ -52,14 +52,14 @@ joined [] = []
 joined (b ∷ bs) = b ++ joined bs
 
 -- what is written of a run whose input comes in blocks: after each block the answers in it, and the last one
-unfoldable pub written : Run → List (List ℕ) → List ℕ
-written r [] = lastAnswer r
-written r (b ∷ bs) = runs (onward r) b .text ++ written (runs (onward r) b) bs
+unfoldable pub writtenOut : Run → List (List ℕ) → List ℕ
+writtenOut r [] = lastAnswer r
+writtenOut r (b ∷ bs) = runs (followedBy r) b .text ++ writtenOut (runs (followedBy r) b) bs
 
 -- the answers to commands, one after another
 unfoldable pub answersOf : State → List Command → List ℕ
 answersOf s [] = []
-answersOf s (c ∷ cs) = replyBytes (replyOf s c) ++ answersOf (nextOf s c) cs
+answersOf s (c ∷ cs) = replyBytes (replyTo s c) ++ answersOf (nextSession s c) cs
 
 -- the run that has a session's file and line, and no answer yet
 unfoldable pub runOf : Session → Run

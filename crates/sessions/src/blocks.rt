@@ -3,7 +3,7 @@ ghost use Prim.Native.Nat.{_+_, _*_, _≤_};
 ghost use mathlib.Core.Path.{_≡_};
 ghost use lib.ListN.{length};
 ghost use Rattle.lines.specs.Replies.{Written};
-ghost use Rattle.sessions.specs.Runs.{opened, ended, stepped, runs, lastAnswer, runOf, Stands};
+ghost use Rattle.sessions.specs.Runs.{opened, ended, steppedBy, runs, lastAnswer, runOf, Stands};
 use crate::commands::StarFile;
 use crate::commands::empty_file;
 use crate::commands::follow;
@@ -52,7 +52,7 @@ fn end_line(session: Session, out: &mut [u8], at: usize) -> Answered
 
 fn take_byte(session: Session, byte: u8, out: &mut [u8], at: usize) -> Answered
     requires { ⌜ at + 64 ≤ length (now out) ⌝ }
-    ensures { λ r. ⌜ (Stands (stepped (runOf session) byte) at (now (out .entry)) (now (out .exit)) (r .session) (r .at)) × (r .at ≤ at + 37) ⌝ }
+    ensures { λ r. ⌜ (Stands (steppedBy (runOf session) byte) at (now (out .entry)) (now (out .exit)) (r .session) (r .at)) × (r .at ≤ at + 37) ⌝ }
 {
     if byte == b'\n' {
         return end_line(session, out, at);

@@ -1,7 +1,7 @@
 // The star file of the program, and its reply to each command.
 ghost use mathlib.Core.Path.{_≡_};
 ghost use Rattle.lines.specs.declared.Command.the-variants.{Enter, LookUp, Remove, Grow};
-ghost use Rattle.sessions.specs.Commands.{starline, newFile, stateOf, unlessRefused, placedReply, foundReply, replyOf, Follows};
+ghost use Rattle.sessions.specs.Commands.{starline, newFile, stateOf, unlessRefused, placedReply, foundReply, replyTo, Follows};
 use calls::answers::Answer;
 use calls::answers::placed_answer;
 use calls::answers::sought_answer;
@@ -123,7 +123,7 @@ fn enter(file: StarFile, number: u32, position: Position) -> Replied
 }
 
 fn look_up(file: StarFile, number: u32) -> Reply
-    ensures { λ r. ⌜ r ≡ replyOf (stateOf file) (LookUp number) ⌝ }
+    ensures { λ r. ⌜ r ≡ replyTo (stateOf file) (LookUp number) ⌝ }
 {
     let growth = file.growth;
     let separators = file.separators;

@@ -1,16 +1,11 @@
-// The calls on a lent star file. Each contract gives the answer, the growth state and every lent item at exit, refusals too,
-// by the definitions of crate calls. Those of one star stand in the crates updating and lookup.
-mod checking;
-mod emptying;
-mod growth;
-
-pub use checking::check;
-pub use emptying::make;
-pub use growth::grow;
-pub use growth::shrink;
+// The ten calls on a lent star file, under one name.
+pub use adding::cascade;
+pub use adding::enter;
+pub use counting::due;
 pub use lookup::change;
-pub use lookup::due;
 pub use lookup::look_up;
-pub use updating::cascade;
-pub use updating::enter;
-pub use updating::remove;
+pub use removing::remove;
+pub use whole_file::check;
+pub use whole_file::grow;
+pub use whole_file::make;
+pub use whole_file::shrink;

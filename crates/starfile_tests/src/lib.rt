@@ -374,10 +374,10 @@ pub extern "C" fn sft_scrambled(multiplier: u32, j: usize, number: u32) -> u32 {
     if j < 1 || j > 2049 {
         return 0;
     }
-    if !hashing::multiplier_valid(multiplier) {
+    if !generator::multiplier_valid(multiplier) {
         return 0;
     }
-    hashing::scrambled(multiplier, j, number)
+    generator::scrambled(multiplier, j, number)
 }
 
 // The rank of a group among count groups; 0 if there is no such group or step.

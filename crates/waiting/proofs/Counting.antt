@@ -2,7 +2,7 @@
 use mathlib.Core.Path.{_≡_, refl, ap, sym, _∙_}
 use mathlib.Core.Bool.{Bool, true, false}
 use mathlib.Core.List.{List, [], _∷_}
-use Prim.Native.Nat.{ℕ, zero, suc, _+_, _≤_, _<_}
+use Prim.Native.Nat.{ℕ, zero, suc, _+_, _-_, _≤_, _<_}
 use native.Mathlib.Nat.{add-zero, zero-add, le-of-suc-le-suc, not-suc-le-zero}
 use native.Mathlib.Numerals.{add-one}
 use native.Mathlib.Omega.{arith}
@@ -10,7 +10,7 @@ use lib.Dec.{eqb}
 use lib.ListN.{length, getD, set, length-set}
 use lib.Seq.{getD-set-same, getD-set-other, slice, slice-cons, slice-empty, length-slice}
 use borrow.Author.Tests.{eqb-true, eqb-false, eq-eqb, ne-eqb}
-use Rattle.waiting.specs.Lists.{filter, alike, sumTo}
+use Rattle.waiting.specs.Lists.{selected, alike, sumTo}
 use Rattle.waiting.proofs.Lists.{filter-length, filter-true, filter-false}
 
 pub alike-here : (f : ℕ → ℕ) (v x : ℕ) (l : List ℕ) → f x ≡ v → alike f v (x ∷ l) ≡ x ∷ alike f v l
@@ -62,6 +62,14 @@ pub sum-none : (l : List ℕ) → sumTo 0 l ≡ 0
 unfolding sumTo
 sum-none l = refl
 
+pub sum-last : (v : ℕ) (l : List ℕ) → 0 < v → sumTo v l ≡ sumTo (v - 1) l + getD l (v - 1) 0
+sum-last zero l h = absurd (not-suc-le-zero h)
+sum-last (suc v) l h = let e : suc v - 1 ≡ v = omega arith in rw e (sum-next v l)
+
+pub sum-some : (v n : ℕ) (l : List ℕ) → n < sumTo v l → 0 < v
+sum-some zero n l h = omega (arith, sum-none l)
+sum-some (suc v) n l h = omega arith
+
 -- a list that is known below v, and is set at v
 pub set-first : (l : List ℕ) (v x : ℕ) (e : ℕ → ℕ) → v < length l → ((u : ℕ) → u < v → getD l u 0 ≡ e u) → x ≡ e v
     → (u : ℕ) → u < v + 1 → getD (set l v x) u 0 ≡ e u
@@ -103,5 +111,5 @@ module _ (f : ℕ → ℕ) (n : ℕ) (l : List ℕ) (from reach : ℕ) (counts :
       omega (arith, L .lacks g h, filter-length (λ x. eqb (f x) g) (slice from reach l), length-slice from reach l (L .inside))
 
   pub lacking-all : i ≡ reach → (v : ℕ) → v < n → getD counts v 0 ≡ length (alike f v (slice from reach l))
-  unfolding filter
+  unfolding selected
   lacking-all e v h = sym (add-zero (getD counts v 0)) ∙ rw (e, slice-empty reach l) at (L .lacks v h)

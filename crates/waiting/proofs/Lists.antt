@@ -6,35 +6,35 @@ use Prim.Native.Nat.{ℕ, zero, suc, _≤_, _<_, zero-le}
 use native.Mathlib.Nat.{not-suc-le-zero, le-of-suc-le-suc}
 use native.Mathlib.Omega.{arith}
 use lib.ListN.{length, getD}
-use Rattle.waiting.specs.Lists.{filter, all}
+use Rattle.waiting.specs.Lists.{selected, all}
 use Rattle.placement.proofs.Filters.{and-true}
 
 module _ (q : ℕ → Bool) where
-  pub filter-append : (a b : List ℕ) → filter q (a ++ b) ≡ filter q a ++ filter q b
-  unfolding filter
+  pub filter-append : (a b : List ℕ) → selected q (a ++ b) ≡ selected q a ++ selected q b
+  unfolding selected
   filter-append [] b = refl
   filter-append (x ∷ a) b = go (q x) (filter-append a b)
     where
-      go : (t : Bool) → filter q (a ++ b) ≡ filter q a ++ filter q b →
-          cond t (x ∷ filter q (a ++ b)) (filter q (a ++ b)) ≡ cond t (x ∷ filter q a) (filter q a) ++ filter q b
+      go : (t : Bool) → selected q (a ++ b) ≡ selected q a ++ selected q b →
+          cond t (x ∷ selected q (a ++ b)) (selected q (a ++ b)) ≡ cond t (x ∷ selected q a) (selected q a) ++ selected q b
       go true e = rw e
       go false e = e
 
-  pub filter-length : (l : List ℕ) → length (filter q l) ≤ length l
-  unfolding filter
+  pub filter-length : (l : List ℕ) → length (selected q l) ≤ length l
+  unfolding selected
   filter-length [] = zero-le
   filter-length (x ∷ l) = go (q x) (filter-length l)
     where
-      go : (t : Bool) → length (filter q l) ≤ length l → length (cond t (x ∷ filter q l) (filter q l)) ≤ suc (length l)
+      go : (t : Bool) → length (selected q l) ≤ length l → length (cond t (x ∷ selected q l) (selected q l)) ≤ suc (length l)
       go true h = omega arith
       go false h = omega arith
 
-  pub filter-true : (x : ℕ) (l : List ℕ) → q x ≡ true → filter q (x ∷ l) ≡ x ∷ filter q l
-  unfolding filter
+  pub filter-true : (x : ℕ) (l : List ℕ) → q x ≡ true → selected q (x ∷ l) ≡ x ∷ selected q l
+  unfolding selected
   filter-true x l e = rw e
 
-  pub filter-false : (x : ℕ) (l : List ℕ) → q x ≡ false → filter q (x ∷ l) ≡ filter q l
-  unfolding filter
+  pub filter-false : (x : ℕ) (l : List ℕ) → q x ≡ false → selected q (x ∷ l) ≡ selected q l
+  unfolding selected
   filter-false x l e = rw e
 
   pub all-nil : all q [] ≡ true
@@ -63,30 +63,30 @@ module _ (q : ℕ → Bool) where
   all-getD (x ∷ l) (suc j) e h = all-getD l j (all-tail x l e) (le-of-suc-le-suc h)
 
   -- those that pass a test all pass it
-  pub all-filtered : (l : List ℕ) → all q (filter q l) ≡ true
-  unfolding filter all
+  pub all-filtered : (l : List ℕ) → all q (selected q l) ≡ true
+  unfolding selected all
   all-filtered [] = refl
   all-filtered (x ∷ l) = go (q x) refl (all-filtered l)
     where
-      go : (t : Bool) → q x ≡ t → all q (filter q l) ≡ true → all q (cond t (x ∷ filter q l) (filter q l)) ≡ true
+      go : (t : Bool) → q x ≡ t → all q (selected q l) ≡ true → all q (cond t (x ∷ selected q l) (selected q l)) ≡ true
       go true e h = rw (e, h)
       go false e h = h
 
   -- a selection from those that all pass
-  pub all-filter : (r : ℕ → Bool) (l : List ℕ) → all q l ≡ true → all q (filter r l) ≡ true
-  unfolding filter
+  pub all-filter : (r : ℕ → Bool) (l : List ℕ) → all q l ≡ true → all q (selected r l) ≡ true
+  unfolding selected
   all-filter r [] e = e
   all-filter r (x ∷ l) e = go (r x) (all-head x l e) (all-filter r l (all-tail x l e))
     where
-      go : (t : Bool) → q x ≡ true → all q (filter r l) ≡ true → all q (cond t (x ∷ filter r l) (filter r l)) ≡ true
-      go true f h = all-cons x (filter r l) f h
+      go : (t : Bool) → q x ≡ true → all q (selected r l) ≡ true → all q (cond t (x ∷ selected r l) (selected r l)) ≡ true
+      go true f h = all-cons x (selected r l) f h
       go false f h = h
 
-  pub filter-all : (l : List ℕ) → all q l ≡ true → filter q l ≡ l
+  pub filter-all : (l : List ℕ) → all q l ≡ true → selected q l ≡ l
   filter-all [] e = filter-nil
     where
-      filter-nil : filter q [] ≡ []
-      filter-nil = unfold filter in refl
+      filter-nil : selected q [] ≡ []
+      filter-nil = unfold selected in refl
   filter-all (x ∷ l) e = filter-true x l (all-head x l e) ∙ ap (λ (r : List ℕ). x ∷ r) (filter-all l (all-tail x l e))
 
 -- a weaker test

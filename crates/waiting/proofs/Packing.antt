@@ -2,14 +2,14 @@
 use mathlib.Core.Path.{_≡_}
 use Prim.Native.Nat.{ℕ, _≤_, _<_, _^_}
 use native.Mathlib.Omega.{arith}
-use Rattle.waiting.specs.Words.{pack, homeOf, numberOf, sourceOf, lowOf}
+use Rattle.waiting.specs.Words.{pack, homeOf, numberIn, sourceOf, lowOf}
 
 pub home-pack : (h k s : ℕ) → k < 2 ^ 31 → s < 2 ^ 16 → homeOf (pack h k s) ≡ h
 unfolding pack homeOf
 home-pack h k s hk hs = omega arith
 
-pub number-pack : (h k s : ℕ) → k < 2 ^ 31 → s < 2 ^ 16 → numberOf (pack h k s) ≡ k
-unfolding pack numberOf
+pub number-pack : (h k s : ℕ) → k < 2 ^ 31 → s < 2 ^ 16 → numberIn (pack h k s) ≡ k
+unfolding pack numberIn
 number-pack h k s hk hs = omega arith
 
 pub source-pack : (h k s : ℕ) → s < 2 ^ 16 → sourceOf (pack h k s) ≡ s
@@ -25,8 +25,8 @@ pub pack-fits : (h k s : ℕ) → h ≤ 1024 → k < 2 ^ 31 → s < 2 ^ 16 → p
 unfolding pack
 pack-fits h k s hh hk hs = omega arith
 
-pub number-low : (w : ℕ) → numberOf (lowOf w) ≡ numberOf w
-unfolding numberOf lowOf
+pub number-low : (w : ℕ) → numberIn (lowOf w) ≡ numberIn w
+unfolding numberIn lowOf
 number-low w = omega arith
 
 pub source-low : (w : ℕ) → sourceOf (lowOf w) ≡ sourceOf w
@@ -34,6 +34,6 @@ unfolding sourceOf lowOf
 source-low w = omega arith
 
 -- numeric order of low parts is order by number
-pub number-mono : (x y : ℕ) → lowOf x ≤ lowOf y → numberOf x ≤ numberOf y
-unfolding numberOf lowOf
+pub number-mono : (x y : ℕ) → lowOf x ≤ lowOf y → numberIn x ≤ numberIn y
+unfolding numberIn lowOf
 number-mono x y h = omega arith

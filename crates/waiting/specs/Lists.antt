@@ -5,13 +5,13 @@ use Prim.Native.Nat.{ℕ, zero, suc, _+_}
 use lib.Dec.{leb, ltb, eqb}
 
 -- those that pass the test, in order
-unfoldable pub filter : (ℕ → Bool) → List ℕ → List ℕ
-filter q [] = []
-filter q (x ∷ l) = cond (q x) (x ∷ filter q l) (filter q l)
+unfoldable pub selected : (ℕ → Bool) → List ℕ → List ℕ
+selected q [] = []
+selected q (x ∷ l) = cond (q x) (x ∷ selected q l) (selected q l)
 
 -- those of which f is v
 abbrev pub alike : (ℕ → ℕ) → ℕ → List ℕ → List ℕ
-alike f v l = filter (λ x. eqb (f x) v) l
+alike f v l = selected (λ x. eqb (f x) v) l
 
 -- all pass the test
 unfoldable pub all : (ℕ → Bool) → List ℕ → Bool

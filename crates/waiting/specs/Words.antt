@@ -8,8 +8,8 @@ pack h k s = h * 2 ^ 47 + k * 2 ^ 16 + s
 unfoldable pub homeOf : ℕ → ℕ
 homeOf w = w / 2 ^ 47
 
-unfoldable pub numberOf : ℕ → ℕ
-numberOf w = w / 2 ^ 16 % 2 ^ 31
+unfoldable pub numberIn : ℕ → ℕ
+numberIn w = w / 2 ^ 16 % 2 ^ 31
 
 unfoldable pub sourceOf : ℕ → ℕ
 sourceOf w = w % 2 ^ 16

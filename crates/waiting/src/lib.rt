@@ -1,17 +1,18 @@
 // The stars that wait for a page, each as one word of a lent list: gathered from a stretch of pages and grouped by home, and settled
 // page by page.
 mod gathering;
-mod lowering;
+mod separating;
 mod settling;
+mod signing;
 mod words;
 
 pub use gathering::count_stars;
 pub use gathering::gather;
-pub use lowering::settle_under;
 pub use settling::Settled;
 pub use settling::insert;
 pub use settling::keep_all;
 pub use settling::settle;
+pub use settling::settle_under;
 pub use words::home_of;
 pub use words::low_of;
 pub use words::number_of;

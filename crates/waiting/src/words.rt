@@ -1,7 +1,7 @@
 // A waiting star as one word: home, number and source. Numeric order of the low 47 bits is order by number.
 ghost use mathlib.Core.Path.{_≡_};
 ghost use Prim.Native.Nat.{_≤_, _<_, _^_};
-ghost use Rattle.waiting.specs.Words.{homeOf, numberOf, lowOf};
+ghost use Rattle.waiting.specs.Words.{homeOf, numberIn, lowOf};
 ghost use Rattle.waiting.specs.Words.{pack as Words·pack};
 
 const HOME: u64 = 140737488355328; // 2^47
@@ -26,7 +26,7 @@ pub fn home_of(word: u64) -> u32
 }
 
 pub fn number_of(word: u64) -> u32
-    ensures { λ r. ⌜ r ≡ numberOf word ⌝ }
+    ensures { λ r. ⌜ r ≡ numberIn word ⌝ }
 {
     (word / NUMBER % NUMBERS) as u32
 }

@@ -3,10 +3,10 @@ use contract.Running.{givenOf, tables, tablesOf}
 use denote.Triple.Spec.{tripleOf}
 use denote.Triple.Table.{entered, cited}
 use Rattle.calls.specs.Calls.{growOf}
-use Rattle.starfile.proofs.grow.Symbol as callee-def
-use Rattle.starfile.proofs.grow.Symbol.{name as #callee}
-use Rattle.starfile.proofs.grow.Met as callee-thm
-use Rattle.growth_record.proofs.Laws.{grow-keeps}
+use Rattle.whole_file.proofs.grow.Symbol as callee-def
+use Rattle.whole_file.proofs.grow.Symbol.{name as #callee}
+use Rattle.whole_file.proofs.grow.Met as callee-thm
+use Rattle.growth_record.proofs.Keeping.{grow-keeps}
 use Rattle.growth_record.proofs.Walk.{Called, Kept, meets}
 use Rattle.growth_record.proofs.kept.Symbol as kept-def
 use Rattle.growth_record.proofs.kept.Symbol.{name as #growth-record·kept}

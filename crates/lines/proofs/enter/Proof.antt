@@ -6,8 +6,8 @@ use mathlib.Core.List.{_∷_}
 use mathlib.Core.Path.{_≡_, sym, ap, _∙_}
 use lib.ListN.{length, take, drop}
 use lib.Seq.{length-take-le}
-use Rattle.lines.specs.Grammar.{fields, fieldLength, enterOf}
-use Rattle.lines.proofs.Split.{fields-more, rest-is}
+use Rattle.lines.specs.Grammar.{fields, fieldLength, enterFrom}
+use Rattle.lines.proofs.Fields.{fields-more, rest-is}
 use Rattle.lines.proofs.Commands.{enter-short, enter-wrong}
 use borrow.Author.Needs.{needs}
 use Rattle.lines.proofs.enter.Statement.{statement}
@@ -36,11 +36,11 @@ split :
     (c : tie.Else1) →
     let l = c .before .before .before .args .operands .now in
     let k = c .before .first-blank .result in
-    enterOf (fields l) ≡ enterOf (take k l ∷ fields (drop (suc k) l))
+    enterFrom (fields l) ≡ enterFrom (take k l ∷ fields (drop (suc k) l))
 split c =
     let l = c .before .before .before .args .operands .now in
     let within : fieldLength l < length l = omega (arith, c .before .first-blank .ensures, c .if1 .left) in
-    rw (c .before .first-blank .ensures .0) (ap enterOf (fields-more l within))
+    rw (c .before .first-blank .ensures .0) (ap enterFrom (fields-more l within))
 
 returns-2 : tie.Need-returns-2
 returns-2 c =

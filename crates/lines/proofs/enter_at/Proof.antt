@@ -8,9 +8,9 @@ use lib.ListN.{length, take, drop}
 use lib.Seq.{length-take-le}
 use mir.Syntax.{w32}
 use mir.Val.{toZ, ofZ}
-use Rattle.lines.specs.Grammar.{fields, fieldLength, declinationOf, enterOf, enterWith}
-use Rattle.lines.proofs.Split.{fields-more, rest-is}
-use Rattle.lines.proofs.Alone.{enter-alone, nowhere}
+use Rattle.lines.specs.Grammar.{fields, fieldLength, declinationOf, enterFrom, enterWith}
+use Rattle.lines.proofs.Fields.{fields-more, rest-is}
+use Rattle.lines.proofs.SingleField.{enter-alone, nowhere}
 use Rattle.lines.proofs.Commands.{enter-ra-short, enter-wrong-ra}
 use borrow.Author.Needs.{needs}
 use Rattle.lines.proofs.enter_at.Statement.{statement}
@@ -39,11 +39,11 @@ split :
     (c : tie.Else1) (f : List ℕ) →
     let l = c .before .before .before .args .position .now in
     let k = c .before .first-blank .result in
-    enterOf (f ∷ fields l) ≡ enterOf (f ∷ take k l ∷ fields (drop (suc k) l))
+    enterFrom (f ∷ fields l) ≡ enterFrom (f ∷ take k l ∷ fields (drop (suc k) l))
 split c f =
     let l = c .before .before .before .args .position .now in
     let within : fieldLength l < length l = omega (arith, c .before .first-blank .ensures, c .if1 .left) in
-    rw (c .before .first-blank .ensures .0) (ap (λ (fs : List (List ℕ)). enterOf (f ∷ fs)) (fields-more l within))
+    rw (c .before .first-blank .ensures .0) (ap (λ (fs : List (List ℕ)). enterFrom (f ∷ fs)) (fields-more l within))
 
 returns-2 : tie.Need-returns-2
 returns-2 c =

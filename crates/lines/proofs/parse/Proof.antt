@@ -4,8 +4,8 @@ use mathlib.Core.Path.{_≡_, sym, ap, _∙_}
 use lib.ListN.{drop, getD}
 use Rattle.lines.specs.Grammar.{commandOf, fields, naturalOf, numberWith, byLetter}
 use Rattle.lines.specs.declared.Command.the-variants.{LookUp, Remove}
-use Rattle.lines.proofs.Split.{rest-is}
-use Rattle.lines.proofs.Alone.{number-alone}
+use Rattle.lines.proofs.Fields.{rest-is}
+use Rattle.lines.proofs.SingleField.{number-alone}
 use Rattle.lines.proofs.Commands.{empty-bad, grow-alone, other-alone, second-bad, lettered, wrong-number, other-letter}
 use borrow.Author.Needs.{needs}
 use Rattle.lines.proofs.parse.Statement.{statement}

@@ -10,7 +10,7 @@ use mir.Syntax.{w32}
 use mir.ValLaws.{toZ-pos}
 use Rattle.lines.specs.Grammar.{declinationOf}
 use Rattle.lines.specs.declared.Declination.the-variants.{At, Nowhere}
-use Rattle.lines.proofs.Split.{rest-is}
+use Rattle.lines.proofs.Fields.{rest-is}
 use Rattle.lines.proofs.Declinations.{empty-nowhere, minus-wrong, minus-is, plus-wrong, plus-is, minus-fits, minus-narrow, minus-read}
 use borrow.Author.Needs.{needs}
 use Rattle.lines.proofs.read_declination.Statement.{statement}

@@ -5,9 +5,9 @@ use native.Mathlib.Omega.{arith}
 use lib.ListN.{length, length-set}
 use denote.Ref.{now}
 use borrow.Author.Needs.{needs}
-use Rattle.hashing.specs.Generator.{multiplierOf}
+use Rattle.hashing.specs.Geometry.{multiplierOf}
 use Rattle.hashing.proofs.Bounds.{Limits, limits}
-use Rattle.hashing.proofs.Laws.{home-pages}
+use Rattle.hashing.proofs.Homes.{home-pages}
 use Rattle.pages.proofs.Parts.{page-fits}
 use Rattle.placement.specs.File.{File}
 use Rattle.placement.specs.Hash.{lent}

@@ -4,16 +4,16 @@ use Prim.Native.Nat.{ℕ, _-_, _<_}
 use native.Mathlib.Omega.{arith}
 use native.Mathlib.Numerals.{add-one}
 use lib.ListN.{getD}
-use Rattle.hashing.specs.Generator.{topOf}
+use Rattle.generator.specs.Generator.{topOf}
 use Rattle.hashing.proofs.Bounds.{limits}
 use Rattle.reach.proofs.Search.{Sought, sought-none, sought-next, sought-found, sought-all}
-use Rattle.comparing.specs.Raising.{rises}
+use Rattle.comparing.specs.Raising.{mayRise}
 use Rattle.comparing.proofs.counts.first_rising.Statement.{statement}
 use Rattle.comparing.proofs.counts.first_rising.Tie as tie
 
 abbrev Inv-loop : tie.InvT-loop
 Inv-loop parameters separators counts pages top page₀ page =
-    Sought (λ (p : ℕ). rises (topOf (parameters .bits)) (parameters .places) (getD separators p 0) (getD counts p 0)) 0 (parameters .pages) page
+    Sought (λ (p : ℕ). mayRise (topOf (parameters .bits)) (parameters .places) (getD separators p 0) (getD counts p 0)) 0 (parameters .pages) page
 
 abbrev μ-loop : tie.MeasureT-loop
 μ-loop parameters separators counts pages top page₀ page = pages - page
@@ -46,11 +46,11 @@ could-rise-requires c κs = tt
 tested : (c : tie.After-could-rise Inv-loop μ-loop) →
     let k = c .before .before .before .before in
     let a = k .before .before .before .before .args in
-    rises (topOf (a .parameters .bits)) (a .parameters .places) (getD (a .separators .now) (k .loop .page) 0) (getD (a .counts .now) (k .loop .page) 0) ≡ c .could-rise .result
+    mayRise (topOf (a .parameters .bits)) (a .parameters .places) (getD (a .separators .now) (k .loop .page) 0) (getD (a .counts .now) (k .loop .page) 0) ≡ c .could-rise .result
 tested c =
     let k = c .before .before .before .before in
     let a = k .before .before .before .before .args in
-    ap (λ (t : ℕ). rises t (a .parameters .places) (getD (a .separators .now) (k .loop .page) 0) (getD (a .counts .now) (k .loop .page) 0)) (sym (k .before .top-of .ensures))
+    ap (λ (t : ℕ). mayRise t (a .parameters .places) (getD (a .separators .now) (k .loop .page) 0) (getD (a .counts .now) (k .loop .page) 0)) (sym (k .before .top-of .ensures))
     ∙ sym (c .could-rise .ensures)
 
 returns : tie.Need-returns Inv-loop μ-loop

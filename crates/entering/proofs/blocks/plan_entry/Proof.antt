@@ -6,19 +6,16 @@ use native.Mathlib.Omega.{arith}
 use lib.ListN.{length, take, length-set}
 use denote.Ref.{now}
 use borrow.Author.Needs.{needs}
-use Rattle.hashing.specs.declared.Parameters.{Parameters}
-use Rattle.hashing.specs.declared.Growth.{Growth}
-use Rattle.hashing.specs.Generator.{multiplierOf}
-use Rattle.hashing.specs.Home.{home as Home·home}
+use Rattle.hashing.specs.Geometry.{multiplierOf}
 use Rattle.hashing.proofs.Bounds.{Limits, limits}
-use Rattle.hashing.proofs.Laws.{home-pages}
+use Rattle.hashing.proofs.Homes.{home-pages}
 use Rattle.placement.specs.File.{File}
-use Rattle.placement.specs.Hash.{lent, hashOf}
+use Rattle.placement.specs.Hash.{lent}
 use Rattle.entering.specs.declared.blocks.Block.{Block}
 use Rattle.entering.specs.declared.blocks.Block.the-variants.{Planned as block·Planned, Unsound as block·Unsound, Crowded}
-use Rattle.entering.specs.Entry.{startOf, BlockPlanned, PlannedBlock}
+use Rattle.entering.specs.Entry.{entryStart, BlockPlanned, PlannedBlock}
 use Rattle.entering.proofs.Joined.{newWord, valid-most}
-use Rattle.entering.proofs.Reached.{unsound-ends, overflows-ends, block-such, block-most, some-items, Reached, reached-none, reached-unsound, reached-crowded, reached-ends, reached-applies, reached-overflows, reached-next, spanned-near, spanned-few}
+use Rattle.entering.proofs.Reached.{unsound-ends, overflows-ends, block-such, block-most, some-items, Reached, reached-none, reached-unsound, reached-crowded, reached-ends, reached-applies, reached-overflows, reached-next, spanned-near, spanned-few, home-starts}
 use Rattle.entering.proofs.blocks.plan_entry.Statement.{statement}
 use Rattle.entering.proofs.blocks.plan_entry.Tie as tie
 
@@ -102,14 +99,10 @@ slice-write-waiting c =
     let s = c .before .before .before .before .before .before .before .before .before in
     omega (arith, s .pre .1 .0 .1, some-items (s .args .geometry .parameters) (s .args .geometry .growth) (s .pre .0 .homing .valid) (s .pre .0 .homing .growth) (s .args .number))
 
-unfolded : (p : Parameters) (g : Growth) (k : ℕ) → Home·home (multiplierOf p) p g k ≡ startOf p g k
-unfolding hashOf
-unfolded p g k = refl
-
 loop-holds : tie.Need-loop-holds Inv-loop μ-loop
 loop-holds c =
     let s = c .before .before .before .before .before .before .before .before .before in
-    let from : s .args .home ≡ startOf (s .args .geometry .parameters) (s .args .geometry .growth) (s .args .number) = s .pre .1 .1 .1 .1 .1 ∙ unfolded (s .args .geometry .parameters) (s .args .geometry .growth) (s .args .number) in
+    let from : s .args .home ≡ entryStart (s .args .geometry .parameters) (s .args .geometry .growth) (s .args .number) = s .pre .1 .1 .1 .1 .1 ∙ home-starts (s .args .geometry .parameters) (s .args .geometry .growth) (s .args .number) in
     let packed : c .pack .result ≡ newWord (s .args .geometry .parameters) (s .args .geometry .growth) (file s) (s .args .number) = c .pack .ensures ∙ rw from in (
       refl,
       (
@@ -118,7 +111,7 @@ loop-holds c =
           refl,
           rw (packed, from)
               (reached-none (s .args .geometry .parameters) (s .args .geometry .growth) (file s) (s .args .number) (s .pre .0 .homing .valid) (s .pre .0 .sized) (s .pre .1 .1 .1 .0) (s .pre .1 .1 .1 .1 .0) (now (s .args .pool)) (now (s .args .planned)) (now (s .args .waiting))
-              (omega (arith, unfolded (s .args .geometry .parameters) (s .args .geometry .growth) (s .args .number), home-pages (multiplierOf (s .args .geometry .parameters)) (s .args .geometry .parameters) (s .args .geometry .growth) (s .args .number) (s .pre .0 .homing .valid) (s .pre .0 .homing .growth)))
+              (omega (arith, home-starts (s .args .geometry .parameters) (s .args .geometry .growth) (s .args .number), home-pages (multiplierOf (s .args .geometry .parameters)) (s .args .geometry .parameters) (s .args .geometry .growth) (s .args .number) (s .pre .0 .homing .valid) (s .pre .0 .homing .growth)))
               (omega (arith, s .pre .1 .0 .1, some-items (s .args .geometry .parameters) (s .args .geometry .growth) (s .pre .0 .homing .valid) (s .pre .0 .homing .growth) (s .args .number)))),
         ),
       ),

@@ -1,18 +1,15 @@
-use mathlib.Core.Path.{_≡_, refl, sym, ap, _∙_}
+use mathlib.Core.Path.{_≡_, sym, ap, _∙_}
 use Prim.Native.Nat.{ℕ, _+_, _-_, _*_, _≤_, _<_}
 use native.Mathlib.Nat.{mul-le-mul-right}
 use native.Mathlib.Omega.{arith}
 use denote.Ref.{now}
 use borrow.Author.Needs.{needs}
-use Rattle.hashing.specs.declared.Parameters.{Parameters}
-use Rattle.hashing.specs.declared.Growth.{Growth}
-use Rattle.hashing.specs.Generator.{multiplierOf}
-use Rattle.hashing.specs.Home.{home as Home·home}
 use Rattle.hashing.proofs.Bounds.{Limits, limits}
 use Rattle.placement.specs.File.{File}
-use Rattle.placement.specs.Hash.{lent, hashOf, namedPage}
+use Rattle.placement.specs.Hash.{lent, namedPage}
 use Rattle.entering.specs.declared.blocks.Reach.the-variants.{Ends}
-use Rattle.entering.specs.Entry.{newStar, startOf, reachAnswer, entryFile}
+use Rattle.entering.specs.Entry.{newStar, entryStart, reachAnswer, entryFile}
+use Rattle.entering.proofs.Reached.{home-starts}
 use Rattle.entering.proofs.Holding.{unsound-answer, overflows-answer, last-least, named-holds, ends-answer, entry-file}
 use Rattle.entering.proofs.stretch.enter_stretch.Statement.{statement}
 use Rattle.entering.proofs.stretch.enter_stretch.Tie as tie
@@ -30,12 +27,8 @@ Place = tie.After-plan-entry
 abbrev start : Place → tie.Start
 start x = x .before .before .before .before .before .before .before .before .before .before .before .before .before .before .before .before
 
-unfolded : (p : Parameters) (g : Growth) (k : ℕ) → Home·home (multiplierOf p) p g k ≡ startOf p g k
-unfolding hashOf
-unfolded p g k = refl
-
-home-is : (x : Place) → start x .args .home ≡ startOf (start x .args .geometry .parameters) (start x .args .geometry .growth) (start x .args .number)
-home-is x = start x .pre .1 .1 .1 .1 ∙ unfolded (start x .args .geometry .parameters) (start x .args .geometry .growth) (start x .args .number)
+home-is : (x : Place) → start x .args .home ≡ entryStart (start x .args .geometry .parameters) (start x .args .geometry .growth) (start x .args .number)
+home-is x = start x .pre .1 .1 .1 .1 ∙ home-starts (start x .args .geometry .parameters) (start x .args .geometry .growth) (start x .args .number)
 
 -- where the reach ends at `last`
 module _ (x : Place) (last : ℕ) (v : x .plan-entry .result ≡ Ends last) where

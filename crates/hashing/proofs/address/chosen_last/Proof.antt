@@ -2,11 +2,11 @@
 use Prim.Native.Nat.{_+_, _*_, _≤_}
 use native.Mathlib.Omega.{arith}
 use borrow.Author.Needs.{needs}
-use Rattle.hashing.specs.Generator.{multiplierOf}
+use Rattle.hashing.specs.Geometry.{multiplierOf}
 use Rattle.hashing.specs.Home.{chosen}
 use Rattle.hashing.proofs.Bounds.{limits, growth-within, spread}
 use Rattle.hashing.proofs.Codes.{code-size}
-use Rattle.hashing.proofs.Powers.{first-below, times-step}
+use Rattle.generator.proofs.Powers.{first-below, times-step}
 use Rattle.hashing.proofs.address.chosen_last.Statement.{statement}
 use Rattle.hashing.proofs.address.chosen_last.Tie as tie
 

@@ -3,9 +3,9 @@ use Prim.Native.Nat.{_*_, _≤_}
 use native.Mathlib.Nat.{mul-le-mul, mod-lt}
 use native.Mathlib.Omega.{arith}
 use borrow.Author.Needs.{needs}
-use Rattle.hashing.specs.Generator.{multiplierOf}
+use Rattle.hashing.specs.Geometry.{multiplierOf}
 use Rattle.hashing.proofs.Bounds.{Limits, limits}
-use Rattle.hashing.proofs.Powers.{first-below, times-first}
+use Rattle.generator.proofs.Powers.{first-below, times-first}
 use Rattle.hashing.proofs.address.first_page.Statement.{statement}
 use Rattle.hashing.proofs.address.first_page.Tie as tie
 

@@ -4,7 +4,8 @@ use Prim.Native.Nat.{_*_, _%_, _<_}
 use native.Mathlib.Nat.{mul-le-mul, mod-lt}
 use native.Mathlib.Omega.{arith}
 use borrow.Author.Needs.{needs}
-use Rattle.hashing.specs.Generator.{multiplierOf, modulus, scrambled}
+use Rattle.generator.specs.Generator.{modulus, scrambled}
+use Rattle.hashing.specs.Geometry.{multiplierOf}
 use Rattle.hashing.specs.Home.{afterSteps}
 use Rattle.hashing.proofs.Bounds.{Limits, Within, Spread, limits, growth-within, spread}
 use Rattle.hashing.proofs.Codes.{Passed, passed, chosen-rising, home-key}

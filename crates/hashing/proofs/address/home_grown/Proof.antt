@@ -7,12 +7,12 @@ use native.Mathlib.Omega.{arith}
 use borrow.Author.Needs.{needs}
 use borrow.Author.Tests.{le-leb, lt-leb, eq-eqb, ne-eqb, not-true, not-false}
 use lib.Dec.{leb, eqb}
-use Rattle.hashing.specs.Generator.{multiplierOf}
+use Rattle.hashing.specs.Geometry.{multiplierOf}
 use Rattle.hashing.specs.Geometry.{pageCount, groupSize, groupCount, grown}
 use Rattle.hashing.specs.Home.{home, chosen, rankAt}
-use Rattle.hashing.specs.Moves.{pageOf}
+use Rattle.hashing.specs.Moves.{codePage}
 use Rattle.hashing.proofs.Bounds.{Limits, Within, limits, growth-within, spread}
-use Rattle.hashing.proofs.Laws.{home-pages, home-regrown}
+use Rattle.hashing.proofs.Homes.{home-pages, home-regrown}
 use Rattle.hashing.proofs.Codes.{chosen-key, code-size, code-count, code-narrow, count-of-least}
 use Rattle.hashing.proofs.address.home_grown.Statement.{statement}
 use Rattle.hashing.proofs.address.home_grown.Tie as tie
@@ -38,7 +38,7 @@ regrown :
 regrown c = home-regrown (multiplierOf (c .args .geometry .parameters)) _ _ _ _ (c .pre .1 .0) (c .pre .1 .1 .0) (c .pre .1 .1 .1)
 
 first : (c : tie.After-page-of) → c .page-of .result ≡ span (c .before .before .before)
-unfolding pageOf
+unfolding codePage
 first c =
     let start = c .before .before .before in
     let p = start .args .geometry .parameters in

@@ -6,7 +6,7 @@ use native.Mathlib.Omega.{arith}
 use borrow.Author.Needs.{needs}
 use borrow.Author.Tests.{lt-ltb, le-ltb, lt-leb}
 use Rattle.hashing.specs.Home.{stepFrom, expandedAt, rankAt}
-use Rattle.hashing.specs.Moves.{Narrow, pageOf}
+use Rattle.hashing.specs.Moves.{Narrow, codePage}
 use Rattle.hashing.proofs.Bounds.{Limits, limits, growth-within, failed, passed}
 use Rattle.hashing.proofs.Codes.{code-size, code-count, code-narrow, order-below}
 use Rattle.hashing.proofs.address.last_step.Statement.{statement}
@@ -21,7 +21,7 @@ narrow c = rw (c .pre .1 .1 .1 .1 .1 .0) (code-narrow _ _ _ (bounds c) (growth-w
 -- the rank that the code tests is that of the page in the last step
 order :
     (c : tie.After-moved) →
-    c .moved .result ≡ rankAt (c .before .before .before .before .before .args .geometry .parameters) (c .before .before .before .before .before .args .geometry .growth .expansions) (pageOf (c .before .before .before .before .before .args .geometry .parameters) (c .before .before .before .before .before .args .landing .code) (c .before .before .before .before .before .args .landing .order))
+    c .moved .result ≡ rankAt (c .before .before .before .before .before .args .geometry .parameters) (c .before .before .before .before .before .args .geometry .growth .expansions) (codePage (c .before .before .before .before .before .args .geometry .parameters) (c .before .before .before .before .before .args .landing .code) (c .before .before .before .before .before .args .landing .order))
 unfolding rankAt
 order c =
     let start = c .before .before .before .before .before in
@@ -55,7 +55,7 @@ returns-2 c =
     rw (
       passed _ _ (c .before .before .before .before .chosen-last .ensures) (c .before .before .before .if1 .left),
       lt-leb (suc e) e (omega arith),
-      le-ltb (rankAt p e (pageOf p (start .args .landing .code) (start .args .landing .order))) (start .args .geometry .growth .expanded) (omega (arith, c .if2 .taken, order (c .before .before))),
+      le-ltb (rankAt p e (codePage p (start .args .landing .code) (start .args .landing .order))) (start .args .geometry .growth .expanded) (omega (arith, c .if2 .taken, order (c .before .before))),
     )
     (c .before .before .before .before .before .page-of .ensures)
 
@@ -63,10 +63,10 @@ page-of-requires-2 : tie.Need-page-of-requires-2
 page-of-requires-2 c κs =
     let start = c .before .before .before .before .before .before .before in
     let p = start .args .geometry .parameters in
-    (start .pre .1 .0, (rw (c .before .before .moved .ensures) (order-below p (start .args .last) (pageOf p (start .args .landing .code) (start .args .landing .order)) (bounds start)), narrow start))
+    (start .pre .1 .0, (rw (c .before .before .moved .ensures) (order-below p (start .args .last) (codePage p (start .args .landing .code) (start .args .landing .order)) (bounds start)), narrow start))
 
 returns-3 : tie.Need-returns-3
-unfolding stepFrom expandedAt pageOf
+unfolding stepFrom expandedAt codePage
 returns-3 c =
     let start = c .before .before .before .before .before .before .before .before in
     let e = start .args .geometry .growth .expansions in
@@ -75,7 +75,7 @@ returns-3 c =
     rw (
       passed _ _ (c .before .before .before .before .before .chosen-last .ensures) (c .before .before .before .before .if1 .left),
       lt-leb (suc e) e (omega arith),
-      lt-ltb (rankAt p e (pageOf p (start .args .landing .code) (start .args .landing .order))) (start .args .geometry .growth .expanded) (omega (arith, c .before .if2 .left, order (c .before .before .before))),
+      lt-ltb (rankAt p e (codePage p (start .args .landing .code) (start .args .landing .order))) (start .args .geometry .growth .expanded) (omega (arith, c .before .if2 .left, order (c .before .before .before))),
       c .page-of2 .ensures,
       order (c .before .before .before),
       start .pre .1 .1 .1 .1 .1 .0,

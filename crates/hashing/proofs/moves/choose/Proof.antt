@@ -4,12 +4,12 @@ use Prim.Native.Nat.{ℕ, _+_, _-_, _*_, _≤_}
 use lib.ListN.{length, take, set, length-set}
 use native.Mathlib.Omega.{arith}
 use borrow.Author.Needs.{needs}
-use Rattle.hashing.specs.Generator.{multiplierOf}
+use Rattle.hashing.specs.Geometry.{multiplierOf}
 use Rattle.hashing.specs.Home.{chosen}
 use Rattle.hashing.specs.Moves.{codeAt, moves}
 use Rattle.hashing.proofs.Bounds.{limits}
 use Rattle.hashing.proofs.Codes.{code-size, code-start, moves-taken, moves-passed}
-use Rattle.hashing.proofs.Powers.{first-below, times-step}
+use Rattle.generator.proofs.Powers.{first-below, times-step}
 use Rattle.hashing.proofs.moves.choose.Statement.{statement}
 use Rattle.hashing.proofs.moves.choose.Tie as tie
 

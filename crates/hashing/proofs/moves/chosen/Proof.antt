@@ -3,7 +3,7 @@ use Prim.Native.Nat.{_+_, _≤_}
 use native.Mathlib.Nat.{mul-le-mul}
 use native.Mathlib.Omega.{arith}
 use borrow.Author.Needs.{needs}
-use Rattle.hashing.specs.Generator.{modulus}
+use Rattle.generator.specs.Generator.{modulus}
 use Rattle.hashing.proofs.moves.chosen.Statement.{statement}
 use Rattle.hashing.proofs.moves.chosen.Tie as tie
 

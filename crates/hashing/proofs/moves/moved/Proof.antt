@@ -1,7 +1,7 @@
 -- `hashing::moved` meets its contract.
 use native.Mathlib.Nat.{mod-lt}
 use borrow.Author.Needs.{needs}
-use Rattle.hashing.specs.Moves.{pageOf, countOf}
+use Rattle.hashing.specs.Moves.{codePage, codeCount}
 use Rattle.hashing.proofs.Bounds.{limits}
 use Rattle.hashing.proofs.Codes.{count-of-least}
 use Rattle.hashing.proofs.moves.moved.Statement.{statement}
@@ -18,7 +18,7 @@ ranked-requires c κs =
       (
         start .pre .1 .0,
         (
-          rw (c .regrouped .ensures) (mod-lt (pageOf p (start .args .code) (start .args .order)) {m = countOf p (start .args .next)} (count-of-least p (start .args .next) (limits _ (start .pre .0)))),
+          rw (c .regrouped .ensures) (mod-lt (codePage p (start .args .code) (start .args .order)) {m = codeCount p (start .args .next)} (count-of-least p (start .args .next) (limits _ (start .pre .0)))),
           start .pre .1 .1 .1 .1,
         ),
       ),

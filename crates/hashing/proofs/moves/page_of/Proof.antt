@@ -1,7 +1,7 @@
 -- `hashing::page_of` meets its contract.
 use borrow.Author.Needs.{needs}
 use native.Mathlib.Omega.{arith}
-use Rattle.hashing.specs.Moves.{pageOf}
+use Rattle.hashing.specs.Moves.{codePage}
 use Rattle.hashing.proofs.moves.page_of.Statement.{statement}
 use Rattle.hashing.proofs.moves.page_of.Tie as tie
 
@@ -15,7 +15,7 @@ add-result : tie.Need-add-result
 add-result c = rw (c .count-of .ensures) (omega (arith, c .before .pre .1))
 
 returns : tie.Need-returns
-unfolding pageOf
+unfolding codePage
 returns c = rw (c .count-of .ensures)
 
 pub page-of-spec : {M : Type 1} → statement M

@@ -5,15 +5,15 @@ use native.Mathlib.Nat.{le-trans, mod-le, mul-le-mul-right}
 use native.Mathlib.Omega.{arith}
 use borrow.Author.Needs.{needs}
 use lib.Pow.{pow-pos}
-use Rattle.hashing.specs.Moves.{countOf}
-use Rattle.hashing.proofs.Numbers.{shifted}
+use Rattle.hashing.specs.Moves.{codeCount}
+use Rattle.generator.proofs.Numbers.{shifted}
 use Rattle.hashing.proofs.Bounds.{limits, few-doublings}
 use Rattle.hashing.proofs.Codes.{regroup}
 use Rattle.hashing.proofs.moves.regrouped.Statement.{statement}
 use Rattle.hashing.proofs.moves.regrouped.Tie as tie
 
 few : (c : tie.Start) → c .args .next / 8 ≤ 10
-unfolding countOf
+unfolding codeCount
 few c = few-doublings (c .args .parameters .groups) (c .args .next / 8) (limits _ (c .pre .0) .groups-least) (c .pre .1 .1 .1)
 
 power : (c : tie.Start) → 1 * 2 ^ (c .args .next / 8 - c .args .code / 8) % 65536 ≡ 2 ^ (c .args .next / 8 - c .args .code / 8)
@@ -24,7 +24,7 @@ product :
     c .before .args .code % 8 % (1 * 2 ^ (c .before .args .next / 8 - c .before .args .code / 8) % 65536) * c .count-of .result ≤ 1024
 product c =
     let start = c .before in
-    rw (c .count-of .ensures) (le-trans (mul-le-mul-right (countOf (start .args .parameters) (start .args .code)) (mod-le (start .args .code % 8) _)) (start .pre .1 .0 .1 .1))
+    rw (c .count-of .ensures) (le-trans (mul-le-mul-right (codeCount (start .args .parameters) (start .args .code)) (mod-le (start .args .code % 8) _)) (start .pre .1 .0 .1 .1))
 
 sub-rest : tie.Need-sub-rest
 sub-rest c = search needs
@@ -45,7 +45,7 @@ add-result : tie.Need-add-result
 add-result c = omega (arith, product c, c .before .pre .1 .0)
 
 returns : tie.Need-returns
-unfolding countOf
+unfolding codeCount
 returns c =
     let start = c .before in
     rw (power start, c .count-of .ensures)

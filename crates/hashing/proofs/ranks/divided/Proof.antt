@@ -3,7 +3,7 @@ use Prim.Native.Nat.{_*_, _≤_}
 use native.Mathlib.Nat.{mul-le-mul, div-le-self}
 use native.Mathlib.Omega.{arith}
 use Rattle.hashing.specs.Moves.{inverseOf}
-use Rattle.hashing.proofs.Numbers.{inverse}
+use Rattle.generator.proofs.Numbers.{inverse}
 use Rattle.hashing.proofs.ranks.divided.Statement.{statement}
 use Rattle.hashing.proofs.ranks.divided.Tie as tie
 

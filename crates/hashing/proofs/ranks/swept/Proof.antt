@@ -4,8 +4,8 @@ use native.Mathlib.Nat.{mod-one, div-one, div-mul-le-self}
 use native.Mathlib.Omega.{arith}
 use borrow.Author.Needs.{needs}
 use Rattle.hashing.specs.Geometry.{swept}
-use Rattle.hashing.proofs.Numbers.{rest}
-use Rattle.hashing.proofs.Laws.{swept-below}
+use Rattle.generator.proofs.Numbers.{rest}
+use Rattle.hashing.proofs.Homes.{swept-below}
 use Rattle.hashing.proofs.ranks.swept.Statement.{statement}
 use Rattle.hashing.proofs.ranks.swept.Tie as tie
 

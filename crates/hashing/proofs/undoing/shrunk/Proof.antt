@@ -4,7 +4,7 @@ use native.Mathlib.Omega.{arith}
 use borrow.Author.Needs.{needs}
 use borrow.Author.Tests.{eq-eqb, ne-eqb}
 use Rattle.hashing.specs.Geometry.{shrunk, shrunkBy}
-use Rattle.hashing.proofs.Numbers.{div-mono}
+use Rattle.generator.proofs.Numbers.{div-mono}
 use Rattle.hashing.proofs.Bounds.{limits, growth-within, spread}
 use Rattle.hashing.proofs.Shrinking.{some, after-first}
 use Rattle.hashing.proofs.undoing.shrunk.Statement.{statement}

@@ -5,7 +5,7 @@ use native.Mathlib.Nat.{mul-le-mul}
 use native.Mathlib.Omega.{arith}
 use borrow.Author.Needs.{needs}
 use Rattle.homes.specs.Lanes.{Under}
-use Rattle.homes.proofs.Prepared.{most-bounds}
+use Rattle.homes.proofs.Prepared.{most-below}
 use Rattle.homes.proofs.Steps.{stepped-lanes, orders-under}
 use Rattle.homes.proofs.blocks.step.Statement.{statement}
 use Rattle.homes.proofs.blocks.step.Tie as tie
@@ -14,29 +14,25 @@ first-most : (c : tie.Start) → c .args .stage .size * c .args .stage .count �
 first-most c = mul-le-mul (c .pre .1 .0 .size-most) (c .pre .1 .0 .count-most)
 
 abbrev start : tie.After-ranks → tie.Start
-start c = c .before .before .before .before .before .before
+start c = c .before .before .before .before .before
 
 under : (c : tie.After-ranks) → Under 1024 (c .ranks .last .1 .1 .1 .0)
 under c =
     let s = start c in
     orders-under (s .args .sweep) (s .args .stage) (s .args .groups .now) (c .ranks .last .1 .1 .1 .0) (c .ranks .ensures)
     (s .pre .1 .0)
-    (s .pre .1 .1 .0)
-
-most-chosen-requires : tie.Need-most-chosen-requires
-most-chosen-requires c κs = search needs
+    (s .pre .1 .1 .1 .0)
 
 tests-requires : tie.Need-tests-requires
 tests-requires c κs =
-    let start = c .before .before in
-    let r = start .pre .1 .0 in
-    (start .pre .0, (rw (c .before .most-chosen .ensures) (most-bounds (start .args .stage .size) (r .size-least) (r .size-most)), refl))
+    let start = c .before in
+    (start .pre .0 .0, (start .pre .1 .1 .0, (rw (start .pre .0 .1) (most-below (start .args .stage .size) (start .pre .1 .0 .size-least)), refl)))
 
 ranks-requires : tie.Need-ranks-requires
-ranks-requires c κs = let start = c .before .before .before .before .before in (start .pre .1 .0, (start .pre .1 .1 .0, refl))
+ranks-requires c κs = search needs
 
 moves-requires : tie.Need-moves-requires
-moves-requires c κs = let r = c .before .before .before in (omega arith, (under r, start r .pre .1 .1 .1 .0))
+moves-requires c κs = let r = c .before .before .before in (omega arith, (under r, start r .pre .1 .1 .1 .1 .0))
 
 mul-moves : tie.Need-mul-moves
 mul-moves c = omega (arith, first-most (start (c .before .before .before .before .before)))
@@ -44,22 +40,21 @@ mul-moves c = omega (arith, first-most (start (c .before .before .before .before
 moves-requires-2 : tie.Need-moves-requires-2
 moves-requires-2 c κs =
     let r = c .before .before .before .before .before .before .before .before in
-    (omega (arith, first-most (start r)), (under r, start r .pre .1 .1 .1 .1))
+    (omega (arith, first-most (start r)), (under r, start r .pre .1 .1 .1 .1 .1))
 
 returns : tie.Need-returns
 returns c =
     let r = c .before .before .before .before .before .before .before .before .before in
     let s = start r in
     let hits = r .before .before .before .tests in
-    let most = r .before .before .before .before .before .most-chosen in
     let all =
     stepped-lanes (s .args .sweep) (s .args .stage) (s .args .groups .now) (r .ranks .last .1 .1 .1 .0) (r .ranks .ensures)
-    (s .args .factor)
-    (s .args .limit)
-    (most .result)
+    (s .args .test .factor)
+    (s .args .test .limit)
+    (s .args .test .most)
     (s .args .keys .now)
     (hits .last .1 .1 .1 .0)
-    (most .ensures)
+    (s .pre .0 .1)
     (hits .ensures)
     in (
       c .before .before .before .before .before .moves .ensures ∙ all 0 (s .args .groups .now),
@@ -70,7 +65,6 @@ pub step-spec : {M : Type 1} → statement M
 step-spec =
     tie.close
     (tie.spec
-    most-chosen-requires
     tests-requires
     ranks-requires
     moves-requires

@@ -4,17 +4,17 @@ use mathlib.Core.List.{_++_}
 use Prim.Native.Nat.{ℕ, _-_, _≤_, _<_, _*_, _%_}
 use native.Mathlib.Omega.{arith}
 use lib.ListN.{length, getD, drop}
-use Rattle.hashing.specs.Generator.{modulus}
+use Rattle.generator.specs.Generator.{modulus}
 use Rattle.homes.specs.Lanes.{lanes}
 use Rattle.homes.proofs.Lists.{lane-none, lane-next, lane-end}
 use Rattle.homes.proofs.lanes.starts.Statement.{statement}
 use Rattle.homes.proofs.lanes.starts.Tie as tie
 
 abbrev Inv-loop : tie.InvT-loop
-Inv-loop factor span keys pages₀ i₀ pages i = (i ≤ 8) × (pages ≡ lanes i (λ j. factor * getD keys j 0 % modulus % span) ++ drop i pages₀)
+Inv-loop factor span inverse keys pages₀ i₀ pages i = (i ≤ 8) × (pages ≡ lanes i (λ j. factor * getD keys j 0 % modulus % span) ++ drop i pages₀)
 
 abbrev μ-loop : tie.MeasureT-loop
-μ-loop factor span keys pages₀ i₀ pages i = 8 - i
+μ-loop factor span inverse keys pages₀ i₀ pages i = 8 - i
 
 abbrev value : tie.Start Inv-loop μ-loop → ℕ → ℕ
 value c j = (c .args .factor) * getD (c .args .keys .now) j 0 % modulus % (c .args .span)
@@ -29,7 +29,7 @@ element-copy-out-start : tie.Need-element-copy-out-start Inv-loop μ-loop
 element-copy-out-start c = omega arith
 
 start-requires : tie.Need-start-requires Inv-loop μ-loop
-start-requires c κs = let start = c .before .before .before in (start .pre .0, start .pre .1 .0)
+start-requires c κs = let start = c .before .before .before in (start .pre .0, (omega (arith, start .pre .1 .0 (c .before .before .loop .i) (c .before .loop-test .taken)), start .pre .1 .1 .0))
 
 mul-pages : tie.Need-mul-pages Inv-loop μ-loop
 mul-pages c = omega arith
@@ -48,14 +48,14 @@ loop-again c =
     let turn = c .before .before .before .loop in
     let start = c .before .before .before .before in
     let near = c .before .before .loop-test .taken in
-    let within : turn .i < length (start .args .pages .now) = omega (arith, start .pre .1 .1) in
+    let within : turn .i < length (start .args .pages .now) = omega (arith, start .pre .1 .1 .1) in
     (omega arith, lane-next (value start) (start .args .pages .now) (turn .pages) (turn .i) (c .start .result) within (turn .inv .1) (c .start .ensures))
 
 returns : tie.Need-returns Inv-loop μ-loop
 returns c =
     let start = c .before .before in
     let done : c .before .loop .i ≡ 8 = omega arith in
-    lane-end (value start) (start .args .pages .now) (c .before .loop .pages) 8 (start .pre .1 .1) (rw done at (c .before .loop .inv .1))
+    lane-end (value start) (start .args .pages .now) (c .before .loop .pages) 8 (start .pre .1 .1 .1) (rw done at (c .before .loop .inv .1))
 
 pub starts-spec : {M : Type 1} → statement M
 starts-spec =

@@ -28,7 +28,7 @@ element-copy-out-hit : tie.Need-element-copy-out-hit Inv-loop μ-loop
 element-copy-out-hit c = omega arith
 
 hit-requires : tie.Need-hit-requires Inv-loop μ-loop
-hit-requires c κs = let start = c .before .before .before in (start .pre .0, start .pre .1 .0)
+hit-requires c κs = let start = c .before .before .before in (start .pre .0, (omega (arith, start .pre .1 .0 (c .before .before .loop .i) (c .before .loop-test .taken)), start .pre .1 .1 .0))
 
 mul-hits : tie.Need-mul-hits Inv-loop μ-loop
 mul-hits c = omega arith
@@ -47,14 +47,14 @@ loop-again c =
     let turn = c .before .before .before .loop in
     let start = c .before .before .before .before in
     let near = c .before .before .loop-test .taken in
-    let within : turn .i < length (start .args .hits .now) = omega (arith, start .pre .1 .1) in
+    let within : turn .i < length (start .args .hits .now) = omega (arith, start .pre .1 .1 .1) in
     (omega arith, lane-next (value start) (start .args .hits .now) (turn .hits) (turn .i) (c .hit .result) within (turn .inv .1) (c .hit .ensures))
 
 returns : tie.Need-returns Inv-loop μ-loop
 returns c =
     let start = c .before .before in
     let done : c .before .loop .i ≡ 8 = omega arith in
-    lane-end (value start) (start .args .hits .now) (c .before .loop .hits) 8 (start .pre .1 .1) (rw done at (c .before .loop .inv .1))
+    lane-end (value start) (start .args .hits .now) (c .before .loop .hits) 8 (start .pre .1 .1 .1) (rw done at (c .before .loop .inv .1))
 
 pub tests-spec : {M : Type 1} → statement M
 tests-spec =

@@ -19,13 +19,16 @@ add-result : tie.Need-add-result
 add-result c = search needs
 
 cast-result : tie.Need-cast-result
-cast-result c = omega (arith, inverse-most (c .before))
+cast-result c = search needs
+
+cast-result-2 : tie.Need-cast-result-2
+cast-result-2 c = omega (arith, inverse-most (c .before))
 
 mul-result : tie.Need-mul-result
 mul-result c = omega (arith, product-most (c .before))
 
-cast-result-2 : tie.Need-cast-result-2
-cast-result-2 c = omega (arith, product-most (c .before))
+cast-result-3 : tie.Need-cast-result-3
+cast-result-3 c = omega (arith, product-most (c .before))
 
 shr-result : tie.Need-shr-result
 shr-result c =
@@ -41,4 +44,4 @@ returns c =
 
 pub divided-spec : {M : Type 1} → statement M
 divided-spec =
-    tie.close (tie.spec add-result cast-result mul-result cast-result-2 shr-result returns)
+    tie.close (tie.spec add-result cast-result cast-result-2 mul-result cast-result-3 shr-result returns)

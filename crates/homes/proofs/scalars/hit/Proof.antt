@@ -2,7 +2,7 @@
 use Prim.Native.Nat.{_%_}
 use borrow.Author.Tests.{le-leb, lt-leb}
 use borrow.Author.Needs.{needs}
-use Rattle.hashing.specs.Generator.{modulus}
+use Rattle.generator.specs.Generator.{modulus}
 use Rattle.homes.specs.Lanes.{hitOf}
 use Rattle.homes.proofs.Numbers.{passes, fails}
 use Rattle.homes.proofs.scalars.hit.Statement.{statement}
@@ -14,9 +14,6 @@ near-requires c κs = search needs
 add-next : tie.Need-add-next
 add-next c = search needs
 
-cast-next : tie.Need-cast-next
-cast-next c = search needs
-
 add-if1 : tie.Need-add-if1
 add-if1 c = search needs
 
@@ -27,7 +24,7 @@ returns c =
     let start = at .before in
     rw (
       ← at .near .ensures .0,
-      le-leb (at .near .result % modulus) (start .args .most) (passes (at .near .result) (start .args .most) (at .near .ensures .1) (start .pre .1 .0) (c .if1 .taken)),
+      le-leb (at .near .result % modulus) (start .args .most) (passes (at .near .result) (start .args .most) (at .near .ensures .1) (c .if1 .taken)),
     )
 
 returns-2 : tie.Need-returns-2
@@ -37,8 +34,8 @@ returns-2 c =
     let start = at .before in
     rw (
       ← at .near .ensures .0,
-      lt-leb (at .near .result % modulus) (start .args .most) (fails (at .near .result) (start .args .most) (at .near .ensures .1) (start .pre .1 .0) (start .pre .1 .1) (c .if1 .left)),
+      lt-leb (at .near .result % modulus) (start .args .most) (fails (at .near .result) (start .args .most) (at .near .ensures .1) (c .if1 .left)),
     )
 
 pub hit-spec : {M : Type 1} → statement M
-hit-spec = tie.close (tie.spec near-requires add-next cast-next add-if1 returns returns-2)
+hit-spec = tie.close (tie.spec near-requires add-next add-if1 returns returns-2)

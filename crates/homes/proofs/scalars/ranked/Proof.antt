@@ -4,8 +4,8 @@ use native.Mathlib.Nat.{div-mul-le-self}
 use native.Mathlib.Omega.{arith}
 use borrow.Author.Needs.{needs}
 use Rattle.hashing.specs.Geometry.{rank, swept}
-use Rattle.hashing.proofs.Numbers.{rest}
-use Rattle.hashing.proofs.Laws.{swept-below}
+use Rattle.generator.proofs.Numbers.{rest}
+use Rattle.hashing.proofs.Homes.{swept-below}
 use Rattle.homes.proofs.scalars.ranked.Statement.{statement}
 use Rattle.homes.proofs.scalars.ranked.Tie as tie
 

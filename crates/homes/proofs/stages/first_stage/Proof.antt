@@ -6,7 +6,7 @@ use Rattle.homes.specs.Stages.{stageAt}
 use Rattle.homes.proofs.Prepared.{size-start}
 use Rattle.homes.proofs.stages.first_stage.Statement.{statement}
 use Rattle.homes.proofs.stages.first_stage.Tie as tie
-use Rattle.hashing.proofs.Laws.{start-count}
+use Rattle.hashing.proofs.Homes.{start-count}
 
 bounds : (c : tie.Start) → Limits (c .args .parameters)
 bounds c = limits _ (c .pre)

@@ -12,7 +12,7 @@ use Rattle.calls.specs.Answers.{After, sought, refusedBy}
 use Rattle.calls.specs.Lent.{Admitted}
 use Rattle.calls.specs.Calls.{unlent, lookUpOf, lookedUp, fileFits}
 use Rattle.calls.proofs.Refusals.{turned-away-first, refusal-is, none-is, admitted}
-use Rattle.lookup.proofs.Admitting.{prepared, tabled}
+use Rattle.guarding.proofs.Admitting.{prepared, tabled}
 use borrow.Author.Needs.{needs}
 use Rattle.lookup.proofs.reading.look_up.Statement.{statement}
 use Rattle.lookup.proofs.reading.look_up.Tie as tie

@@ -2,9 +2,9 @@
 -- Assumes nothing.
 use mathlib.Core.Path.{_∙_}
 use native.Mathlib.Omega.{arith}
-use Rattle.hashing.specs.Generator.{multiplierOf}
+use Rattle.hashing.specs.Geometry.{multiplierOf}
 use Rattle.hashing.proofs.Bounds.{limits}
-use Rattle.hashing.proofs.Laws.{home-pages}
+use Rattle.hashing.proofs.Homes.{home-pages}
 use Rattle.placement.proofs.Probing.{named-is}
 use Rattle.placement.proofs.naming.named_from.Statement.{statement}
 use Rattle.placement.proofs.naming.named_from.Tie as tie

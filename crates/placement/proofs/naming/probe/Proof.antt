@@ -10,11 +10,12 @@ use borrow.Author.Needs.{needs}
 use borrow.Author.Tests.{lt-ltb, le-ltb}
 use lib.ListN.{length, getD, take}
 use lib.Seq.{length-take-le, getD-take}
-use Rattle.hashing.specs.Generator.{modulus, multiplierOf, firstMultipliers, scrambled, signature}
+use Rattle.generator.specs.Generator.{modulus, firstMultipliers, scrambled, signature}
+use Rattle.hashing.specs.Geometry.{multiplierOf}
 use Rattle.hashing.proofs.Bounds.{limits}
-use Rattle.hashing.proofs.Codes.{scrambled-key}
-use Rattle.hashing.proofs.Laws.{scrambled-below}
-use Rattle.hashing.proofs.Powers.{first-below, times-first, scrambled-twice}
+use Rattle.generator.proofs.Scrambling.{scrambled-key}
+use Rattle.generator.proofs.Scrambling.{scrambled-below}
+use Rattle.generator.proofs.Powers.{first-below, times-first, scrambled-twice}
 use Rattle.placement.specs.Rule.{below}
 use Rattle.placement.specs.Hash.{hashFrom}
 use Rattle.placement.proofs.Probing.{Probed, probed-none, probed-more, probed-found, probed-all, below-from}

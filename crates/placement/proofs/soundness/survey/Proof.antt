@@ -51,25 +51,28 @@ told c =
 returns : tie.Need-returns
 returns c = (sym (sym (told (c .before .before)) ∙ not-true _ (c .if1 .taken)), λ e. absurd (false≢true e))
 
-mul-keep : tie.Need-mul-keep
-mul-keep c = let s = c .before .before .before .before .before .before .before .before .before .before .before .before in omega (arith, inside s (s .pre .1 .0))
+mul-copy-32 : tie.Need-mul-copy-32
+mul-copy-32 c = let s = c .before .before .before .before .before .before .before .before .before .before .before .before in omega (arith, inside s (s .pre .1 .0))
 
-keep-requires : tie.Need-keep-requires
-keep-requires c κs =
-    let s = c .before .before .before .before .before .before .before .before .before .before .before .before in
-    (places-most s, inside s (s .pre .1 .0))
+slice-aggregate-copy-32 : tie.Need-slice-aggregate-copy-32
+slice-aggregate-copy-32 c = search needs
+
+copy-32-requires : tie.Need-copy-32-requires
+copy-32-requires c κs =
+    let s = c .before .before .before .before .before .before .before .before .before .before .before .before .before in
+    (inside s (s .pre .1 .0), omega (arith, places-most s, slice-aggregate-copy-32 c))
 
 same-length : tie.Need-same-length
 same-length c = search needs
 
 returns-2 : tie.Need-returns-2
 returns-2 c =
-    let tested = c .before .before .before .before .before .before .before in
+    let tested = c .before .before .before .before .before .before .before .before in
     let s = tested .before .before .before .before .before .before .before .before in
-    let yes = not-false _ (c .before .before .before .before .before .if1 .left) in (
+    let yes = not-false _ (c .before .before .before .before .before .before .if1 .left) in (
       sym (sym (told tested) ∙ yes),
       λ e.
-          c .before .before .keep .ensures
+          c .before .before .copy-32 .ensures
           ∙ paste-front (s .args .homes .now) (tested .page-sound .result .homes) _ (s .args .page * s .args .geometry .parameters .places) (s .args .geometry .parameters .places)
           (tested .page-sound .ensures .homes yes ∙ homes-loaded _ _ _ _ _ _ _ (inside s (s .pre .0 .sized .ofNumbers)) (tested .before .load .ensures)),
     )
@@ -82,7 +85,8 @@ survey-spec =
     load-requires
     page-sound-requires
     returns
-    mul-keep
-    keep-requires
+    mul-copy-32
+    slice-aggregate-copy-32
+    copy-32-requires
     same-length
     returns-2)

@@ -2,7 +2,7 @@
 -- Assumes nothing.
 use native.Mathlib.Omega.{arith}
 use Rattle.hashing.proofs.Bounds.{Limits, limits}
-use Rattle.hashing.proofs.Laws.{top-least, top-most, top-shifted}
+use Rattle.generator.proofs.Scrambling.{top-least, top-most, top-shifted}
 use Rattle.placement.proofs.soundness.top_of.Statement.{statement}
 use Rattle.placement.proofs.soundness.top_of.Tie as tie
 

@@ -8,8 +8,9 @@ use borrow.Author.Needs.{needs}
 use lib.ListN.{length, getD, take}
 use lib.Seq.{slice}
 use denote.Ref.{now}
+use Rattle.pages.specs.Page.{stretch}
 use Rattle.hashing.proofs.Bounds.{limits}
-use Rattle.waiting.specs.Gather.{stretch, stretchWords}
+use Rattle.waiting.specs.Gather.{stretchWords}
 use Rattle.waiting.specs.Settle.{homesUpTo}
 use Rattle.waiting.proofs.Items.{words-count}
 use Rattle.planning.specs.Plans.{Planned}

@@ -5,7 +5,8 @@ use native.Mathlib.Omega.{arith}
 use lib.ListN.{drop, length-drop}
 use lib.Seq.{paste}
 use denote.Ref.{now}
-use Rattle.planning.proofs.Copies.{paste-written, fetched-back}
+use Rattle.buffers.proofs.Written.{paste-written}
+use Rattle.planning.proofs.Copies.{fetched-back}
 use borrow.Author.Needs.{needs}
 use Rattle.planning.proofs.moving.apply.Statement.{statement}
 use Rattle.planning.proofs.moving.apply.Tie as tie
@@ -26,8 +27,8 @@ put-back-requires : tie.Need-put-back-requires
 put-back-requires c κs =
     omega (arith, start c .pre, c .before .before .before .before .before .before .before .before .before .before .before .before .fetch .kept)
 
-copy-bytes-requires : tie.Need-copy-bytes-requires
-copy-bytes-requires c κs = omega (arith, start (c .before .before .before .before .before .before .before .before) .pre)
+copy-8-requires : tie.Need-copy-8-requires
+copy-8-requires c κs = omega (arith, start (c .before .before .before .before .before .before .before .before) .pre)
 
 same-length : tie.Need-same-length
 same-length c = search needs
@@ -58,7 +59,7 @@ returns c =
     let b = c .before .before .before .before .before .before .before .before .before .before .put-back in
     let at = a .lo * a .places in
     let items = a .count * a .places in (
-      c .before .before .copy-bytes .ensures ∙ paste-written (now (a .separators)) (a .lo) (drop (a .lo) (now (a .planned))) (a .count) (rw (length-drop (a .lo) (now (a .planned))) (omega (arith, s .pre))),
+      c .before .before .copy-8 .ensures ∙ paste-written (now (a .separators)) (a .lo) (drop (a .lo) (now (a .planned))) (a .count) (rw (length-drop (a .lo) (now (a .planned))) (omega (arith, s .pre))),
       (
         b .ensures .0 ∙ ap (λ (l : List ℕ). paste (now (a .numbers)) at (drop at l) items) (f .ensures .0) ∙ fetched-back (now (a .numbers)) (now (a .pool)) (now (a .numbers)) (now (a .pool)) (a .newnumber) at items (omega (arith, s .pre)) (omega (arith, s .pre)),
         (
@@ -76,7 +77,7 @@ apply-spec =
     mul-items
     fetch-requires
     put-back-requires
-    copy-bytes-requires
+    copy-8-requires
     same-length
     same-length-2
     same-length-3

@@ -5,12 +5,12 @@ use native.Mathlib.Omega.{arith}
 use lib.ListN.{drop}
 use borrow.Author.Needs.{needs}
 use Rattle.planning.proofs.Copies.{Copied, none, turn, done, unread, named-item, left-named}
-use Rattle.planning.specs.Sources.{named}
+use Rattle.planning.specs.Sources.{namedItem}
 use Rattle.planning.proofs.moving.fetch_numbers.Statement.{statement}
 use Rattle.planning.proofs.moving.fetch_numbers.Tie as tie
 
 abbrev Inv-loop : tie.InvT-loop
-Inv-loop numbers pool₀ at items newnumber i₀ pool i = (i ≤ items) × Copied pool₀ at (map (named numbers newnumber) (drop at pool₀)) pool i
+Inv-loop numbers pool₀ at items newnumber i₀ pool i = (i ≤ items) × Copied pool₀ at (map (namedItem numbers newnumber) (drop at pool₀)) pool i
 
 abbrev μ-loop : tie.MeasureT-loop
 μ-loop numbers pool₀ at items newnumber i₀ pool i = items - i
@@ -51,7 +51,7 @@ loop-again c =
     let j = c .before .before .before .loop .i in
     let inv = c .before .before .before .loop .inv .1 in
     let held = left-named (a .numbers .now) (a .newnumber) (a .at) (a .items) j (a .pool .now) (omega arith) (omega arith) in
-    (omega arith, turn _ _ _ _ _ _ (omega arith) held (c .number-named .ensures ∙ ap (λ (s : ℕ). named (a .numbers .now) (a .newnumber) s) (unread _ _ _ _ _ (omega arith) (omega arith) inv) ∙ named-item (a .numbers .now) (a .newnumber) (a .at) j (a .pool .now)) inv)
+    (omega arith, turn _ _ _ _ _ _ (omega arith) held (c .number-named .ensures ∙ ap (λ (s : ℕ). namedItem (a .numbers .now) (a .newnumber) s) (unread _ _ _ _ _ (omega arith) (omega arith) inv) ∙ named-item (a .numbers .now) (a .newnumber) (a .at) j (a .pool .now)) inv)
 
 same-length : tie.Need-same-length Inv-loop μ-loop
 same-length c = c .before .loop .inv .1 .kept

@@ -5,12 +5,12 @@ use native.Mathlib.Omega.{arith}
 use lib.ListN.{drop}
 use borrow.Author.Needs.{needs}
 use Rattle.planning.proofs.Copies.{Copied, none, turn, done, named-item, left-named}
-use Rattle.planning.specs.Sources.{named}
+use Rattle.planning.specs.Sources.{namedItem}
 use Rattle.planning.proofs.moving.fetch_owners.Statement.{statement}
 use Rattle.planning.proofs.moving.fetch_owners.Tie as tie
 
 abbrev Inv-loop : tie.InvT-loop
-Inv-loop owners pool poolowners₀ at items newowner i₀ poolowners i = (i ≤ items) × Copied poolowners₀ at (map (named owners newowner) (drop at pool)) poolowners i
+Inv-loop owners pool poolowners₀ at items newowner i₀ poolowners i = (i ≤ items) × Copied poolowners₀ at (map (namedItem owners newowner) (drop at pool)) poolowners i
 
 abbrev μ-loop : tie.MeasureT-loop
 μ-loop owners pool poolowners₀ at items newowner i₀ poolowners i = items - i

@@ -5,12 +5,12 @@ use native.Mathlib.Omega.{arith}
 use lib.ListN.{drop}
 use borrow.Author.Needs.{needs}
 use Rattle.planning.proofs.Copies.{Copied, none, turn, done, named-item, left-named}
-use Rattle.planning.specs.Sources.{named}
+use Rattle.planning.specs.Sources.{namedItem}
 use Rattle.planning.proofs.moving.fetch_words.Statement.{statement}
 use Rattle.planning.proofs.moving.fetch_words.Tie as tie
 
 abbrev Inv-loop : tie.InvT-loop
-Inv-loop words pool waiting₀ at items newword i₀ waiting i = (i ≤ items) × Copied waiting₀ at (map (named words newword) (drop at pool)) waiting i
+Inv-loop words pool waiting₀ at items newword i₀ waiting i = (i ≤ items) × Copied waiting₀ at (map (namedItem words newword) (drop at pool)) waiting i
 
 abbrev μ-loop : tie.MeasureT-loop
 μ-loop words pool waiting₀ at items newword i₀ waiting i = items - i

@@ -2,14 +2,14 @@ use borrow.Author.Needs.{needs}
 use Rattle.planning.proofs.moving.put_back.Statement.{statement}
 use Rattle.planning.proofs.moving.put_back.Tie as tie
 
-copy-words-requires : tie.Need-copy-words-requires
-copy-words-requires c κs = search needs
+copy-64-requires : tie.Need-copy-64-requires
+copy-64-requires c κs = search needs
 
-copy-numbers-requires : tie.Need-copy-numbers-requires
-copy-numbers-requires c κs = search needs
+copy-32-requires : tie.Need-copy-32-requires
+copy-32-requires c κs = search needs
 
-copy-bytes-requires : tie.Need-copy-bytes-requires
-copy-bytes-requires c κs = search needs
+copy-8-requires : tie.Need-copy-8-requires
+copy-8-requires c κs = search needs
 
 same-length : tie.Need-same-length
 same-length c = search needs
@@ -22,15 +22,15 @@ same-length-3 c = search needs
 
 returns : tie.Need-returns
 returns c =
-    (c .before .before .before .before .before .before .copy-numbers .ensures, (c .before .before .before .before .before .before .before .before .before .before .copy-words .ensures, c .before .before .copy-bytes .ensures))
+    (c .before .before .before .before .before .before .copy-32 .ensures, (c .before .before .before .before .before .before .before .before .before .before .copy-64 .ensures, c .before .before .copy-8 .ensures))
 
 pub put-back-spec : {M : Type 1} → statement M
 put-back-spec =
     tie.close
     (tie.spec
-    copy-words-requires
-    copy-numbers-requires
-    copy-bytes-requires
+    copy-64-requires
+    copy-32-requires
+    copy-8-requires
     same-length
     same-length-2
     same-length-3

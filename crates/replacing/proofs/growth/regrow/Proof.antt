@@ -1,7 +1,7 @@
 use mathlib.Core.Bool.{Bool, true, false, cond}
 use Rattle.hashing.specs.Limits.{validGrowth}
 use Rattle.placement.specs.Hash.{lent}
-use Rattle.replacing.specs.declared.Replaced.the-variants.{Done, Overflows}
+use Rattle.planning.specs.declared.outcome.Outcome.the-variants.{On, Overflows}
 use Rattle.replacing.specs.Calls.{nextOf, growthAnswer, growthFile}
 use mathlib.Core.Path.{_≡_, _∙_, sym}
 use native.Mathlib.Omega.{arith}
@@ -41,7 +41,7 @@ returns : tie.Need-returns
 returns c =
     let surveyed = c .before .before .before in
     let pre = start surveyed .pre in
-    growth-refused _ _ _ (pre .0 .homing .valid) (pre .0 .sized) _ _ (surveyed .survey-pages .ensures .0) (c .if1 .taken)
+    growth-refused _ _ _ (pre .0 .homing .valid) (pre .0 .sized) _ _ _ (surveyed .survey-pages .ensures .0) (c .if1 .taken)
 
 later : (c : tie.After-survey-pages) → validGrowth (start c .args .geometry .parameters) (nextOf (start c .args .back) (start c .args .geometry .parameters) (start c .args .geometry .growth)) ≡ true
 later c =
@@ -77,14 +77,14 @@ answered : (c : tie.After-replace-stretch) (r : Bool) → c .replace-stretch .re
     let next = nextOf (a .back) p g in
     let f = lent (a .separators .now) (a .numbers .now) (a .words .now) (a .owners .now) in
     let exit = c .replace-stretch .last .1 in
-    (cond r Done Overflows ≡ growthAnswer p g f next) × (lent (exit .0) (exit .1 .0) (exit .1 .1 .0) (exit .1 .1 .1 .0) ≡ growthFile p g f next)
+    (cond r (On (a .page)) Overflows ≡ growthAnswer p g f next (a .page)) × (lent (exit .0) (exit .1 .0) (exit .1 .1 .0) (exit .1 .1 .1 .0) ≡ growthFile p g f next)
 answered c r e =
     let rehomed = c .before .before .before .before .before .before .before .before .before .before in
     let sound = rehomed .before .before .before in
     let surveyed = sound .before .before .before in
     let pre = start surveyed .pre in
     growth-done _ _ _ (pre .0 .homing .valid) (pre .0 .sized) _ (surveyed .survey-pages .ensures .0) (sound .if1 .left) _ (later surveyed) _ (rehomed .rehome .ensures)
-    r (sym e ∙ c .replace-stretch .ensures .0) _ (c .replace-stretch .ensures .1)
+    _ r (sym e ∙ c .replace-stretch .ensures .0) _ (c .replace-stretch .ensures .1)
 
 same-length-6 : tie.Need-same-length-6
 same-length-6 c = search needs

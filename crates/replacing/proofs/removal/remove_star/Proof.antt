@@ -1,8 +1,8 @@
 use mathlib.Core.Path.{_∙_}
 use native.Mathlib.Omega.{arith}
-use Rattle.hashing.specs.Generator.{multiplierOf}
+use Rattle.hashing.specs.Geometry.{multiplierOf}
 use Rattle.hashing.proofs.Bounds.{limits}
-use Rattle.hashing.proofs.Laws.{home-pages}
+use Rattle.hashing.proofs.Homes.{home-pages}
 use Rattle.placement.specs.Hash.{hashOf, lent}
 use Rattle.replacing.proofs.Removing.{Reached, reached, removal-refused, removal-plannable, removal-done}
 use borrow.Author.Needs.{needs}
@@ -60,7 +60,7 @@ same-length-5 c = search needs
 returns : tie.Need-returns
 returns c =
     let surveyed = c .before .before .before in
-    removal-refused _ _ _ _ _ _ (reach (surveyed .before .before .before .before .before .before)) _ (surveyed .survey-pages .ensures .0) (c .if1 .taken)
+    removal-refused _ _ _ _ _ _ (reach (surveyed .before .before .before .before .before .before)) _ _ (surveyed .survey-pages .ensures .0) (c .if1 .taken)
 
 sub-replace-stretch : tie.Need-sub-replace-stretch
 sub-replace-stretch c = omega (arith, reach (c .before .before .before .before .before .before .before .before .before .before .before .before .before .before .before .before) .order)
@@ -108,7 +108,7 @@ returns-2 c =
     let lengths = pre .1 .0 in
     let done =
     removal-done _ _ _ _ _ _ (reach end) (pre .0 .homing .valid) (pre .0 .sized) _ (surveyed .survey-pages .ensures .0) (sound .if1 .left) _ _ (lengths .ofNumbers)
-    (surveyed .survey-pages .kept .1 .1 .1 .1 .1 .1 .0 ∙ lengths .ofNumbers) (surveyed .survey-pages .ensures .1) in
+    (surveyed .survey-pages .kept .1 .1 .1 .1 .1 .1 .0 ∙ lengths .ofNumbers) (surveyed .survey-pages .ensures .1) (start end .args .page) in
     (done .0, placed .replace-stretch .ensures .1 ∙ done .1)
 
 pub remove-star-spec : {M : Type 1} → statement M

@@ -1,6 +1,6 @@
 use mathlib.Core.Path.{refl, sym, _∙_}
 use native.Mathlib.Omega.{arith}
-use Rattle.sessions.specs.Runs.{onward, lastAnswer, runOf}
+use Rattle.sessions.specs.Runs.{followedBy, lastAnswer, runOf}
 use borrow.Author.Needs.{needs}
 use Rattle.sessions.proofs.blocks.finish.Statement.{statement}
 use Rattle.sessions.proofs.blocks.finish.Tie as tie
@@ -19,7 +19,7 @@ same-length : tie.Need-same-length
 same-length c = search needs
 
 returns-2 : tie.Need-returns-2
-unfolding lastAnswer onward runOf
+unfolding lastAnswer followedBy runOf
 returns-2 c =
     let kept = c .before .before .before .before in
     rw (sym (kept .before .is-blank .ensures) ∙ kept .if1 .left) (c .before .before .end-line .ensures .0 .text, omega arith)

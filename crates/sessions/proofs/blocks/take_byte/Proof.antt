@@ -2,7 +2,7 @@ use mathlib.Core.Path.{refl, sym}
 use native.Mathlib.Nat.{add-zero}
 use native.Mathlib.Omega.{arith}
 use borrow.Author.Tests.{eq-eqb, ne-eqb}
-use Rattle.sessions.specs.Runs.{stepped, runOf}
+use Rattle.sessions.specs.Runs.{steppedBy, runOf}
 use borrow.Author.Needs.{needs}
 use Rattle.sessions.proofs.blocks.take_byte.Statement.{statement}
 use Rattle.sessions.proofs.blocks.take_byte.Tie as tie
@@ -14,14 +14,14 @@ same-length : tie.Need-same-length
 same-length c = search needs
 
 returns : tie.Need-returns
-unfolding stepped
+unfolding steppedBy
 returns c = rw (eq-eqb _ 10 (c .before .before .before .before .if1 .taken)) (c .before .before .end-line .ensures)
 
 push-requires : tie.Need-push-requires
 push-requires c κs = search needs
 
 returns-2 : tie.Need-returns-2
-unfolding stepped runOf
+unfolding steppedBy runOf
 returns-2 c =
     rw (ne-eqb _ 10 (c .before .before .before .if1 .left)) (
       record { state = refl; line = c .push .ensures; text = record { buffer = refl; end = sym (add-zero _) } },

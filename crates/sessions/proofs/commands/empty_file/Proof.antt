@@ -1,4 +1,5 @@
-use Rattle.hashing.specs.Limits.{validMultiplier, validParameters, within}
+use Rattle.hashing.specs.Limits.{validParameters, within}
+use Rattle.generator.specs.Generator.{validMultiplier}
 use Rattle.calls.specs.Calls.{makeOf, fileFits}
 use Rattle.sessions.specs.Commands.{starline, newFile, stateOf}
 use borrow.Author.Needs.{needs}

@@ -1,5 +1,5 @@
 use mathlib.Core.Path.{ap, _∙_}
-use Rattle.sessions.specs.Commands.{stateOf, called, foundReply, replyWith, replyOf}
+use Rattle.sessions.specs.Commands.{stateOf, called, foundReply, replyWith, replyTo}
 use borrow.Author.Needs.{needs}
 use Rattle.sessions.proofs.commands.look_up.Statement.{statement}
 use Rattle.sessions.proofs.commands.look_up.Tie as tie
@@ -29,7 +29,7 @@ found-reply-requires : tie.Need-found-reply-requires
 found-reply-requires c κs = search needs
 
 returns : tie.Need-returns
-unfolding stateOf called replyWith replyOf
+unfolding stateOf called replyWith replyTo
 returns c =
     let called = c .before .before in
     let looked = rw (called .before .before .before .before .before .parameters .ensures) at (called .look-up .ensures) in

@@ -1,6 +1,6 @@
 use borrow.Author.Needs.{needs}
 use native.Mathlib.Omega.{arith}
-use Rattle.waiting.specs.Words.{numberOf}
+use Rattle.waiting.specs.Words.{numberIn}
 use Rattle.waiting.proofs.words.number_of.Statement.{statement}
 use Rattle.waiting.proofs.words.number_of.Tie as tie
 
@@ -8,7 +8,7 @@ cast-result : tie.Need-cast-result
 cast-result c = search needs
 
 returns : tie.Need-returns
-unfolding numberOf
+unfolding numberIn
 returns c = omega arith
 
 pub number-of-spec : {M : Type 1} → statement M

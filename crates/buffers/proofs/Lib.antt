@@ -1,0 +1,5 @@
+pub mod Copies
+pub mod Fills
+pub mod Lists
+pub mod Tests
+pub mod Written

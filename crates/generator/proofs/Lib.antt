@@ -1,0 +1,4 @@
+pub mod Numbers
+pub mod Powers
+pub mod Products
+pub mod Scrambling

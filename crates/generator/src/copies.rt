@@ -1,0 +1,50 @@
+// Which multipliers there are, and their tables.
+ghost use mathlib.Core.Path.{_≡_};
+ghost use mathlib.Core.Bool.{true};
+ghost use Rattle.generator.specs.Generator.{validMultiplier, firstMultipliers, probeMultipliers};
+ghost use Rattle.generator.specs.Generator.{multipliers as Generator·multipliers};
+use crate::firsts::FIRST_16807;
+use crate::firsts::FIRST_48271;
+use crate::probes::PROBES_16807;
+use crate::probes::PROBES_48271;
+use crate::table::MULTIPLIERS_16807;
+use crate::table::MULTIPLIERS_48271;
+
+pub fn multiplier_valid(multiplier: u32) -> bool
+    ensures { λ r. ⌜ r ≡ validMultiplier multiplier ⌝ }
+{
+    multiplier == 16807 || multiplier == 48271
+}
+
+// A copy of the multiplier's table, for a caller that must know no more of it than that it is the table.
+pub fn multipliers(multiplier: u32) -> [u32; 2049]
+    requires { ⌜ validMultiplier multiplier ≡ true ⌝ }
+    ensures { λ r. ⌜ r ≡ Generator·multipliers multiplier ⌝ }
+{
+    if multiplier == 48271 {
+        return MULTIPLIERS_48271;
+    }
+    MULTIPLIERS_16807
+}
+
+// The same of its first ninety.
+pub fn first_multipliers(multiplier: u32) -> [u32; 90]
+    requires { ⌜ validMultiplier multiplier ≡ true ⌝ }
+    ensures { λ r. ⌜ r ≡ firstMultipliers multiplier ⌝ }
+{
+    if multiplier == 48271 {
+        return FIRST_48271;
+    }
+    FIRST_16807
+}
+
+// The same of those of signatures.
+pub fn probe_multipliers(multiplier: u32) -> [u32; 63]
+    requires { ⌜ validMultiplier multiplier ≡ true ⌝ }
+    ensures { λ r. ⌜ r ≡ probeMultipliers multiplier ⌝ }
+{
+    if multiplier == 48271 {
+        return PROBES_48271;
+    }
+    PROBES_16807
+}

@@ -1,0 +1,4 @@
+// The call that removes a star.
+mod removal;
+
+pub use removal::remove;

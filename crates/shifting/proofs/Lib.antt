@@ -1,0 +1,5 @@
+pub mod Moving
+pub mod Splits
+pub mod Columns
+pub mod Shifted
+pub mod OnePage

@@ -1,0 +1,6 @@
+// A page altered in place: a star put in at its place, or taken out. The stars behind it move by one place, and no other page is touched.
+mod items;
+mod star;
+
+pub use star::put_star;
+pub use star::take_star;

@@ -1,0 +1,46 @@
+-- Making an empty file, by the definitions.
+use mathlib.Core.Path.{_≡_, refl, sym, ap}
+use mathlib.Core.Bool.{Bool, true, false, _&&_}
+use mathlib.Core.List.{List}
+use Prim.Native.Nat.{ℕ}
+use lib.ListN.{length, replicate}
+use Rattle.hashing.specs.declared.Parameters.{Parameters}
+use Rattle.hashing.specs.declared.Growth.{Growth}
+use Rattle.generator.specs.Generator.{topOf}
+use Rattle.hashing.specs.Geometry.{ungrown}
+use Rattle.hashing.specs.Limits.{validParameters, validGrowth}
+use Rattle.hashing.proofs.Homes.{start-valid}
+use Rattle.placement.specs.File.{File}
+use Rattle.placement.specs.Hash.{lent}
+use Rattle.calls.specs.declared.answers.Refusal.{Refusal}
+use Rattle.calls.specs.declared.answers.Answer.{Answer}
+use Rattle.calls.specs.Answers.{After, Pool, Leaves, accepted, refusalNumber, refusedBy}
+use Rattle.calls.specs.Calls.{unless, orElse, unlent, makeOf, fileFits, emptyFile}
+use Rattle.calls.proofs.Refusals.{leaves, sized, turned-away}
+
+pub made-by : (after : After) (a : Answer) (g : Growth) (f : File) (pool : Pool) → after ≡ record { answer = a; growth = g; file = f; pool = pool } → Leaves after a f pool × (g ≡ after .growth)
+made-by after a g f pool e = (leaves after a g f pool e, sym (ap (λ (x : After). x .growth) e))
+
+-- a new file's growth state is valid, so the guard of the other calls is make's too
+new-guard : (p : Parameters) (lengths : Bool) → orElse (unless (validParameters p) 1) (unless lengths 2) ≡ unlent p ungrown lengths
+unfolding unlent
+new-guard p lengths = go (validParameters p) refl
+  where
+    go : (t : Bool) → validParameters p ≡ t → orElse (unless t 1) (unless lengths 2) ≡ orElse (unless (t && validGrowth p ungrown) 1) (unless lengths 2)
+    go true e = rw (start-valid p e)
+    go false e = refl
+
+module _ (p : Parameters) (f : File) (pool : Pool) where
+  pub make-refused : (r : Refusal) → refusalNumber r ≡ unlent p ungrown (fileFits p f) → Leaves (makeOf p f pool) (refusedBy r 0) f pool × (ungrown ≡ makeOf p f pool .growth)
+  unfolding makeOf
+  make-refused r e =
+      made-by (makeOf p f pool) (refusedBy r 0) ungrown f pool
+      (rw (new-guard p (fileFits p f)) (turned-away ungrown f pool _ p (fileFits p f) r e))
+
+  pub make-empty : (separators numbers words owners : List ℕ) → validParameters p ≡ true → fileFits p f ≡ true → separators ≡ replicate (length (f .separators)) (topOf (p .bits))
+      → numbers ≡ replicate (length (f .numbers)) 0 → words ≡ replicate (length (f .words)) 0 → owners ≡ replicate (length (f .owners)) 0
+      → Leaves (makeOf p f pool) (accepted 0) (lent separators numbers words owners) pool × (ungrown ≡ makeOf p f pool .growth)
+  unfolding makeOf emptyFile
+  make-empty separators numbers words owners e l es en ew eo =
+      made-by (makeOf p f pool) (accepted 0) ungrown (lent separators numbers words owners) pool
+      (rw (e, l, es, en, ew, eo, sized p f l .ofSeparators, sized p f l .ofNumbers, sized p f l .ofWords, sized p f l .ofOwners))
