@@ -23,7 +23,8 @@ pub fn settle_page(
     requires { ⌜ Signers parameters (now table) ⌝ }
     requires { ⌜ Probing page from reach (now waiting) ⌝ }
     requires { ⌜ (most ≤ 255) × ((page < length (now planned)) × (page * parameters .places + parameters .places ≤ length (now pool))) ⌝ }
-    ensures { λ r. ⌜ Lowered parameters page most (slice from reach (now (waiting .entry))) reach (now (pool .entry)) (now (pool .exit)) (now (planned .entry)) (now (planned .exit)) (now (waiting .exit)) r ⌝ }
+    ensures { λ r. ⌜ Lowered parameters page most (slice from reach (now (waiting .entry))) reach
+        (now (pool .entry)) (now (pool .exit)) (now (planned .entry)) (now (planned .exit)) (now (waiting .exit)) r ⌝ }
 {
     let places = parameters.places as usize;
     let mut slots = [0u64; 32];

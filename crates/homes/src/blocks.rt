@@ -76,7 +76,8 @@ pub fn turn(
     requires { ⌜ (Keys (now keys)) × (length (now groups) ≡ 8) ⌝ }
     requires { ⌜ Grouped (multiplierOf (geometry .parameters)) (geometry .parameters) (geometry .growth) (now keys) i (now groups) ⌝ }
     requires { ⌜ now pages ≡ pagesAfter (multiplierOf (geometry .parameters)) (geometry .parameters) (geometry .growth) (now keys) i ⌝ }
-    ensures { λ _. ⌜ now (groups .exit) ≡ groupsAfter (multiplierOf (geometry .parameters)) (geometry .parameters) (geometry .growth) (now (keys .entry)) (i + 1) (countAt (geometry .parameters) i) ⌝ }
+    ensures { λ _. ⌜ now (groups .exit) ≡ groupsAfter (multiplierOf (geometry .parameters)) (geometry .parameters) (geometry .growth)
+        (now (keys .entry)) (i + 1) (countAt (geometry .parameters) i) ⌝ }
     ensures { λ _. ⌜ now (pages .exit) ≡ pagesAfter (multiplierOf (geometry .parameters)) (geometry .parameters) (geometry .growth) (now (keys .entry)) (i + 1) ⌝ }
 {
     regroup(geometry.parameters.width, stage, pages, groups);

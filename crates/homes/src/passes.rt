@@ -45,8 +45,10 @@ fn turn_at(
     requires { ⌜ Keys (blockAt (now keys) at) ⌝ }
     requires { ⌜ GroupedAt geometry (now keys) i (now groups) at ⌝ }
     requires { ⌜ PagedAt geometry (now keys) i (now pages) at ⌝ }
-    ensures { λ _. ⌜ now (groups .exit) ≡ paste (now (groups .entry)) at (groupsAfter (multiplierOf (geometry .parameters)) (geometry .parameters) (geometry .growth) (blockAt (now (keys .entry)) at) (i + 1) (countAt (geometry .parameters) i)) 8 ⌝ }
-    ensures { λ _. ⌜ now (pages .exit) ≡ paste (now (pages .entry)) at (pagesAfter (multiplierOf (geometry .parameters)) (geometry .parameters) (geometry .growth) (blockAt (now (keys .entry)) at) (i + 1)) 8 ⌝ }
+    ensures { λ _. ⌜ now (groups .exit) ≡ paste (now (groups .entry)) at
+        (groupsAfter (multiplierOf (geometry .parameters)) (geometry .parameters) (geometry .growth) (blockAt (now (keys .entry)) at) (i + 1) (countAt (geometry .parameters) i)) 8 ⌝ }
+    ensures { λ _. ⌜ now (pages .exit) ≡ paste (now (pages .entry)) at
+        (pagesAfter (multiplierOf (geometry .parameters)) (geometry .parameters) (geometry .growth) (blockAt (now (keys .entry)) at) (i + 1)) 8 ⌝ }
 {
     let mut block_keys = [0u64; 8];
     let mut block_groups = [0u16; 8];

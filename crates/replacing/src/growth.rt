@@ -57,7 +57,8 @@ pub fn regrow(
     requires { ⌜ Pooled (geometry .parameters) (now pool) (now waiting) (now poolowners) ⌝ }
     requires { ⌜ Movable back (geometry .parameters) (geometry .growth) ⌝ }
     ensures { λ r. ⌜ r ≡ growthAnswer (geometry .parameters) (geometry .growth) (before separators numbers words owners) (nextOf back (geometry .parameters) (geometry .growth)) page ⌝ }
-    ensures { λ r. ⌜ after separators numbers words owners ≡ growthFile (geometry .parameters) (geometry .growth) (before separators numbers words owners) (nextOf back (geometry .parameters) (geometry .growth)) ⌝ }
+    ensures { λ r. ⌜ after separators numbers words owners ≡ growthFile (geometry .parameters) (geometry .growth)
+        (before separators numbers words owners) (nextOf back (geometry .parameters) (geometry .growth)) ⌝ }
 {
     let pages = geometry.parameters.pages as usize;
     let bad = reach::survey_pages(

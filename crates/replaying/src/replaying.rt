@@ -176,7 +176,8 @@ fn run(
     answers: &mut [u32],
 ) -> Growth
     requires { ⌜ Even (lentHistory (now kinds) (now callers) (now stars) (now ras) (now decs)) (now answers) ⌝ }
-    ensures { λ r. ⌜ Runs (fresh parameters growth (before separators numbers words owners)) (poolBefore poolnumbers poolwords poolowners) (requestsOf (historyBefore kinds callers stars ras decs)) []
+    ensures { λ r. ⌜ Runs (fresh parameters growth (before separators numbers words owners)) (poolBefore poolnumbers poolwords poolowners)
+        (requestsOf (historyBefore kinds callers stars ras decs)) []
         r (now (answers .exit)) (after separators numbers words owners) (poolAfter poolnumbers poolwords poolowners) ⌝ }
 {
     let mut state = growth;
