@@ -12,8 +12,7 @@ use borrow.Author.Tests.{leb-false, lt-ltb, eqb-true}
 use Rattle.buffers.proofs.Tests.{either-false}
 use Rattle.hashing.specs.declared.Parameters.{Parameters}
 use Rattle.hashing.specs.declared.Growth.{Growth}
-use Rattle.hashing.specs.Geometry.{multiplierOf}
-use Rattle.hashing.specs.Geometry.{groupSize, groupCount, pageCount, grown}
+use Rattle.hashing.specs.Geometry.{multiplierOf, groupSize, groupCount, pageCount, grown}
 use Rattle.hashing.specs.Limits.{validParameters, validGrowth}
 use Rattle.hashing.specs.Home.{home, rankAt, chosen}
 use Rattle.hashing.proofs.Bounds.{both}

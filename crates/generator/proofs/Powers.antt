@@ -9,8 +9,7 @@ use lib.Dec.{T, eqb, eqb→eq}
 use lib.ListN.{getD}
 use lib.Pow.{pow-add}
 use borrow.Author.Tests.{eqb-true}
-use Rattle.generator.specs.Generator.{modulus, power, scrambled, chain, firstMultipliers}
-use Rattle.generator.specs.Generator.{validMultiplier}
+use Rattle.generator.specs.Generator.{modulus, power, scrambled, chain, firstMultipliers, validMultiplier}
 use Rattle.generator.proofs.Numbers.{mul-mod, mul-mod-right}
 
 -- n entries, each being the one before times a mod m

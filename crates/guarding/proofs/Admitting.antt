@@ -7,9 +7,8 @@ use borrow.Author.Tests.{ltb-true}
 use Rattle.hashing.specs.declared.Parameters.{Parameters}
 use Rattle.hashing.specs.declared.Growth.{Growth}
 use Rattle.hashing.specs.declared.Geometry.{Geometry}
-use Rattle.generator.specs.Generator.{firstMultipliers}
+use Rattle.generator.specs.Generator.{firstMultipliers, validMultiplier}
 use Rattle.hashing.specs.Geometry.{multiplierOf}
-use Rattle.generator.specs.Generator.{validMultiplier}
 use Rattle.hashing.proofs.Bounds.{both, limits}
 use Rattle.placement.specs.File.{File}
 use Rattle.placement.specs.Hash.{soundAt}

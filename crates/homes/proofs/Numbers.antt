@@ -1,8 +1,7 @@
 -- Facts on native numbers: remainders near the modulus, inverses rounded down, doubled quotients.
 use mathlib.Core.Path.{_≡_, _∙_, refl, sym, ap}
 use Prim.Native.Nat.{ℕ, suc, _+_, _-_, _*_, _/_, _%_, _≤_, _<_}
-use native.Mathlib.Nat.{add-mul, mul-add, mul-one, one-mul, mul-assoc, mul-comm, suc-mul, mod-lt, mul-add-mod-self-right}
-use native.Mathlib.Nat.{mod-eq-of-lt, mod-eq-sub-mod, div-add-mod', div-mul-le-self, lt-mul-div-succ, mul-le-mul-left, mul-le-mul-right, div-eq-of-lt-le}
+use native.Mathlib.Nat.{add-mul, mul-add, mul-one, one-mul, mul-assoc, mul-comm, suc-mul, mod-lt, mul-add-mod-self-right, mod-eq-of-lt, mod-eq-sub-mod, div-add-mod', div-mul-le-self, lt-mul-div-succ, mul-le-mul-left, mul-le-mul-right, div-eq-of-lt-le}
 use native.Mathlib.Decide.{decLe, decLt}
 use native.Mathlib.Omega.{arith}
 use lib.Arith.{digits-div, digits-mod}

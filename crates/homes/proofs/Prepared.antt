@@ -3,8 +3,7 @@ use mathlib.Core.Path.{_≡_, _∙_, refl, sym, ap}
 use mathlib.Core.Bool.{Bool, true, false}
 use mathlib.Core.Logic.{inl, inr}
 use Prim.Native.Nat.{ℕ, suc, _+_, _-_, _*_, _/_, _%_, _^_, _≤_, _<_}
-use native.Mathlib.Nat.{zero-mod, add-zero, mul-assoc, mul-comm, pow-suc, mul-le-mul}
-use native.Mathlib.Nat.{mul-le-mul-left, le-trans, div-div-eq-div-mul, div-one, div-le-self, div-lt-self, div-le-of-le-mul}
+use native.Mathlib.Nat.{zero-mod, add-zero, mul-assoc, mul-comm, pow-suc, mul-le-mul, mul-le-mul-left, le-trans, div-div-eq-div-mul, div-one, div-le-self, div-lt-self, div-le-of-le-mul}
 use native.Mathlib.Decide.{decLe}
 use native.Mathlib.Numerals.{add-one}
 use native.Mathlib.Omega.{arith}
@@ -15,8 +14,7 @@ use borrow.Author.Tests.{leb-true, leb-false}
 use Rattle.hashing.specs.declared.Parameters.{Parameters}
 use Rattle.hashing.specs.declared.Growth.{Growth}
 use Rattle.generator.specs.Generator.{modulus, power, firstMultipliers}
-use Rattle.hashing.specs.Geometry.{multiplierOf}
-use Rattle.hashing.specs.Geometry.{sizeAt, countAt}
+use Rattle.hashing.specs.Geometry.{multiplierOf, sizeAt, countAt}
 use Rattle.hashing.specs.Limits.{validParameters, validGrowth}
 use Rattle.generator.proofs.Numbers.{next, Next, div-mono}
 use Rattle.hashing.proofs.Bounds.{Limits, limits, growth-within, spread, size-most, size-least, count-least}

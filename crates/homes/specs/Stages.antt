@@ -6,8 +6,7 @@ use lib.Dec.{leb, ltb}
 use Rattle.hashing.specs.declared.Parameters.{Parameters}
 use Rattle.hashing.specs.declared.Growth.{Growth}
 use Rattle.generator.specs.Generator.{modulus, power}
-use Rattle.hashing.specs.Geometry.{multiplierOf}
-use Rattle.hashing.specs.Geometry.{sizeAt, countAt}
+use Rattle.hashing.specs.Geometry.{multiplierOf, sizeAt, countAt}
 use Rattle.homes.specs.declared.stages.Stage.{Stage}
 use Rattle.homes.specs.declared.stages.Sweep.{Sweep}
 use Rattle.homes.specs.declared.stages.Test.{Test}

@@ -7,8 +7,7 @@ use native.Mathlib.Omega.{arith}
 use borrow.Author.Needs.{needs}
 use borrow.Author.Tests.{le-leb, lt-leb, eq-eqb, ne-eqb, not-true, not-false}
 use lib.Dec.{leb, eqb}
-use Rattle.hashing.specs.Geometry.{multiplierOf}
-use Rattle.hashing.specs.Geometry.{pageCount, groupSize, groupCount, grown}
+use Rattle.hashing.specs.Geometry.{multiplierOf, pageCount, groupSize, groupCount, grown}
 use Rattle.hashing.specs.Home.{home, chosen, rankAt}
 use Rattle.hashing.specs.Moves.{codePage}
 use Rattle.hashing.proofs.Bounds.{Limits, Within, limits, growth-within, spread}

@@ -6,8 +6,7 @@ use native.Mathlib.Nat.{not-suc-le-zero}
 use native.Mathlib.Omega.{arith}
 use lib.ListN.{length}
 use lib.Seq.{length-paste}
-use Rattle.hashing.specs.Geometry.{multiplierOf}
-use Rattle.hashing.specs.Geometry.{countAt}
+use Rattle.hashing.specs.Geometry.{multiplierOf, countAt}
 use Rattle.homes.specs.Lanes.{blockAt, Blocks, pagesAfter, groupsAfter, PagedAt, RegroupedAt}
 use Rattle.homes.proofs.Lists.{Kept, blocks-more, blocks-rest}
 use Rattle.homes.proofs.Steps.{pages-length, groups-length}

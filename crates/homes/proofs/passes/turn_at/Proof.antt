@@ -7,8 +7,7 @@ use lib.Seq.{paste}
 use borrow.Author.Needs.{needs}
 use Rattle.hashing.specs.declared.Parameters.{Parameters}
 use Rattle.hashing.specs.declared.Growth.{Growth}
-use Rattle.hashing.specs.Geometry.{multiplierOf}
-use Rattle.hashing.specs.Geometry.{countAt}
+use Rattle.hashing.specs.Geometry.{multiplierOf, countAt}
 use Rattle.homes.specs.Lanes.{blockAt, pagesAfter, groupsAfter, Grouped}
 use Rattle.homes.proofs.Lists.{part-length}
 use Rattle.homes.proofs.Steps.{pages-length, groups-length}

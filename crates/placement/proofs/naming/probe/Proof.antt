@@ -13,8 +13,7 @@ use lib.Seq.{length-take-le, getD-take}
 use Rattle.generator.specs.Generator.{modulus, firstMultipliers, scrambled, signature}
 use Rattle.hashing.specs.Geometry.{multiplierOf}
 use Rattle.hashing.proofs.Bounds.{limits}
-use Rattle.generator.proofs.Scrambling.{scrambled-key}
-use Rattle.generator.proofs.Scrambling.{scrambled-below}
+use Rattle.generator.proofs.Scrambling.{scrambled-key, scrambled-below}
 use Rattle.generator.proofs.Powers.{first-below, times-first, scrambled-twice}
 use Rattle.placement.specs.Rule.{below}
 use Rattle.placement.specs.Hash.{hashFrom}
