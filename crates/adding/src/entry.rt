@@ -18,7 +18,7 @@ use guarding::guard;
 use hashing::Geometry;
 use hashing::Growth;
 use hashing::Parameters;
-use lookup::find;
+use lookup::find_kept;
 use pages::position::Position;
 
 // The answer of an accepted entry is the page where the star now stands, its caller's. Entering a held star with its own position changes nothing.
@@ -174,7 +174,16 @@ fn enter_star(
 {
     let table = generator::first_multipliers(parameters.multiplier);
     let geometry = Geometry { parameters, growth };
-    let named = find(&table, geometry, separators, numbers, words, owners, number);
+    let named = find_kept(
+        &table,
+        geometry,
+        separators,
+        numbers,
+        words,
+        owners,
+        poolnumbers,
+        number,
+    );
     let page = named.page as u32;
     if !named.readable {
         return Placed::Refused(Refusal::Damaged(page), 0);
@@ -222,6 +231,7 @@ fn enter_star(
             caller,
             named.home,
             named.place,
+            named.page,
         ),
         named.place,
     )

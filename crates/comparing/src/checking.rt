@@ -109,6 +109,7 @@ pub fn check_file(
         pool,
         0,
         pages,
+        pages,
     );
     if unsound < pages {
         return Verdict::Unsound(unsound);

@@ -9,6 +9,7 @@ ghost use Rattle.pages.specs.Position.{validNumber};
 ghost use Rattle.placement.specs.Hash.{homeUnder, namedPage};
 ghost use Rattle.placement.specs.Lent.{held, before, after};
 ghost use Rattle.placement.specs.Ready.{Ready, Pooled};
+ghost use Rattle.reach.specs.Known.{Known};
 ghost use Rattle.entering.specs.Entry.{Unheld, newStar, takesAlone, entryAnswer, entryFile};
 use crate::stretch::enter_stretch;
 use hashing::Geometry;
@@ -31,7 +32,8 @@ fn takes_alone(parameters: Parameters, separators: &[u8], numbers: &[u32], page:
     numbers[page * places + last] == 0
 }
 
-// The entry of a number that the file does not hold, sought on its named page at this place. A refusal leaves the file as it was.
+// The entry of a number that the file does not hold, sought on its named page at this place. The known page was tested before.
+// A refusal leaves the file as it was.
 pub fn enter_star(
     table: &[u32; 90],
     geometry: Geometry,
@@ -47,6 +49,7 @@ pub fn enter_star(
     owner: u8,
     home: u32,
     place: u32,
+    known: usize,
 ) -> Outcome
     requires { ⌜ Ready geometry (now table) (held separators numbers words owners) ⌝ }
     requires { ⌜ Pooled (geometry .parameters) (now pool) (now waiting) (now poolowners) ⌝ }
@@ -54,6 +57,7 @@ pub fn enter_star(
     requires { ⌜ Unheld (geometry .parameters) (geometry .growth) (held separators numbers words owners) number ⌝ }
     requires { ⌜ home ≡ homeUnder geometry number ⌝ }
     requires { ⌜ place ≡ placeOf number (part (geometry .parameters .places) (namedPage (geometry .parameters) (geometry .growth) (now separators) number) (now numbers)) ⌝ }
+    requires { ⌜ Known (geometry .parameters) (geometry .growth) (held separators numbers words owners) (now pool) known ⌝ }
     ensures { λ r. ⌜ r ≡ entryAnswer (geometry .parameters) (geometry .growth) (before separators numbers words owners) (newStar number word owner) ⌝ }
     ensures { λ _. ⌜ after separators numbers words owners ≡ entryFile (geometry .parameters) (geometry .growth) (before separators numbers words owners) (newStar number word owner) ⌝ }
 {
@@ -74,6 +78,7 @@ pub fn enter_star(
             word,
             owner,
             home,
+            known,
         );
     }
     let places = parameters.places as usize;

@@ -2,13 +2,15 @@
 use mathlib.Core.Path.{_≡_}
 use mathlib.Core.Bool.{true}
 use Prim.Native.Nat.{ℕ, _*_, _≤_, _<_}
-use lib.ListN.{getD}
+use lib.ListN.{getD, take}
 use Rattle.hashing.specs.declared.Parameters.{Parameters}
 use Rattle.hashing.specs.declared.Growth.{Growth}
 use Rattle.hashing.specs.Geometry.{multiplierOf}
 use Rattle.hashing.specs.Home.{home}
+use Rattle.pages.specs.Page.{part}
 use Rattle.pages.specs.Position.{validWord}
 use Rattle.placement.specs.File.{File}
+use Rattle.placement.specs.Hash.{homesOf}
 use Rattle.calls.specs.Calls.{named, readable, holds, placeFor, itemOf, ownerFor}
 use Rattle.lookup.specs.declared.naming.Named.{Named}
 
@@ -24,3 +26,4 @@ pub record NamedAs (p : Parameters) (g : Growth) (f : File) (k : ℕ) (r : Named
   pub ownerIs : r .held ≡ true → r .owner ≡ ownerFor p f (named p g f k) k
   pub itemBelow : r .held ≡ true → r .item < p .pages * p .places
   pub wordValid : r .held ≡ true → validWord (r .word) ≡ true
+  pub homesAre : r .readable ≡ true → take (p .places) (r .homes) ≡ homesOf p g (part (p .places) (named p g f k) (f .numbers))

@@ -7,16 +7,20 @@ use native.Mathlib.Nat.{zero-mul, mul-le-mul-right, suc-mul, add-mul}
 use native.Mathlib.Numerals.{add-one}
 use native.Mathlib.Omega.{arith}
 use lib.ListN.{length, take, drop, length-drop, length-map}
-use lib.Seq.{paste, paste-zero, take-take, drop-drop}
+use lib.Seq.{paste, paste-zero, drop-paste, take-take, drop-drop}
+use Rattle.buffers.specs.Lists.{written}
 use Rattle.buffers.proofs.Lists.{map-take, map-drop}
+use Rattle.buffers.proofs.Written.{all-written, taken-written}
 use Rattle.hashing.specs.declared.Parameters.{Parameters}
 use Rattle.hashing.specs.declared.Growth.{Growth}
 use Rattle.pages.specs.Page.{part}
+use Rattle.pages.proofs.Parts.{page-fits, part-length}
 use Rattle.placement.specs.File.{File, Sized}
 use Rattle.placement.specs.Hash.{soundAt, homesOf, homeIn}
+use Rattle.reach.specs.Known.{Known}
 use Rattle.reach.specs.Reach.{firstUnsound}
 use Rattle.reach.proofs.Search.{Sought, sought-none, sought-next, sought-found, sought-all}
-use Rattle.reach.proofs.Pastes.{paste-more}
+use Rattle.reach.proofs.Pastes.{paste-more, paste-same}
 
 -- the page is unsound
 abbrev pub unsound : Parameters → Growth → File → ℕ → Bool
@@ -74,6 +78,16 @@ module _ (p : Parameters) (g : Growth) (f : File) (before : List ℕ) (from n : 
       rw (length-map (drop (from * p .places) (f .numbers)) (homeIn p g), length-drop (from * p .places) (f .numbers))
       (omega (arith, ahead, within, sized .ofNumbers))
 
+  -- the homes from this page on are as they were
+  unread : drop (page * p .places) homes ≡ drop (page * p .places) before
+  unread =
+      ap (drop (page * p .places)) (s .kept)
+      ∙ rw (← ahead) (drop-paste before (from * p .places) (homesFrom p g f from) ((page - from) * p .places) (omega (arith, ahead, within)) long-enough)
+
+  pub still-known : Known p g f before page → Known p g f homes page
+  unfolding part
+  still-known k = record { sound = k .sound; kept = λ h. ap (take (p .places)) unread ∙ k .kept h }
+
   pub surveyed-next : (after : List ℕ) → soundAt p g f page ≡ true
       → after ≡ paste homes (page * p .places) (homesOf p g (part (p .places) page (f .numbers))) (p .places)
       → length after ≡ length homes
@@ -99,3 +113,36 @@ pub surveyed-all : (p : Parameters) (g : Growth) (f : File) (before : List ℕ) 
     → from + n ≤ page → page ≡ firstUnsound p g f from n
 unfolding firstUnsound
 surveyed-all p g f before from n homes page s h = sought-all (unsound p g f) from n page (s .sought) h
+
+homes-long : (p : Parameters) (g : Growth) (ns : List ℕ) → length (homesOf p g ns) ≡ length ns
+unfolding homesOf
+homes-long p g ns = length-map ns (homeIn p g)
+
+-- what was written over a page is there
+part-written : (places page : ℕ) (s d : List ℕ) → length s ≡ places → page * places ≤ length d → part places page (written (page * places) s d) ≡ s
+unfolding part
+part-written places page s d e h = taken-written (page * places) places s d e h
+
+-- the page past the file's is known
+pub known-none : (p : Parameters) (g : Growth) (f : File) (homes : List ℕ) (page : ℕ) → p .pages ≤ page → Known p g f homes page
+known-none p g f homes page h = record { sound = λ b. absurd (omega arith); kept = λ b. absurd (omega arith) }
+
+-- a survey of a known page changes nothing
+pub known-surveyed : (p : Parameters) (g : Growth) (f : File) (homes : List ℕ) (page : ℕ) → page < p .pages → Known p g f homes page
+    → homes ≡ paste homes (page * p .places) (homesOf p g (part (p .places) page (f .numbers))) (p .places)
+unfolding part
+known-surveyed p g f homes page h k = paste-same homes (page * p .places) _ (p .places) (k .kept h)
+
+-- a surveyed page is known
+pub surveyed-known : (p : Parameters) (g : Growth) (f : File) (before after : List ℕ) (page : ℕ) → Sized (p .places) (p .pages) f → length before ≡ p .pages * p .places
+    → soundAt p g f page ≡ true → after ≡ paste before (page * p .places) (homesOf p g (part (p .places) page (f .numbers))) (p .places)
+    → Known p g f after page
+surveyed-known p g f before after page sized fits sound e = record { sound = λ h. sound; kept = there }
+  where
+    long : page < p .pages → length (homesOf p g (part (p .places) page (f .numbers))) ≡ p .places
+    long h = homes-long p g (part (p .places) page (f .numbers)) ∙ part-length (p .places) page (f .numbers) (page-fits (p .places) (p .pages) page h (sized .ofNumbers))
+
+    there : page < p .pages → part (p .places) page after ≡ homesOf p g (part (p .places) page (f .numbers))
+    there h =
+        ap (part (p .places) page) (e ∙ all-written before (page * p .places) (homesOf p g (part (p .places) page (f .numbers))) (p .places) (long h))
+        ∙ part-written (p .places) page (homesOf p g (part (p .places) page (f .numbers))) before (long h) (omega (arith, page-fits (p .places) (p .pages) page h fits))

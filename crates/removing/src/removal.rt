@@ -17,7 +17,7 @@ use guarding::guard;
 use hashing::Geometry;
 use hashing::Growth;
 use hashing::Parameters;
-use lookup::find;
+use lookup::find_kept;
 use lookup::may_alter;
 
 // The answer of an accepted removal is the page where the star stood.
@@ -93,7 +93,16 @@ fn remove_held(
 {
     let table = generator::first_multipliers(parameters.multiplier);
     let geometry = Geometry { parameters, growth };
-    let named = find(&table, geometry, separators, numbers, words, owners, number);
+    let named = find_kept(
+        &table,
+        geometry,
+        separators,
+        numbers,
+        words,
+        owners,
+        poolnumbers,
+        number,
+    );
     let page = named.page as u32;
     if !named.readable {
         return Placed::Refused(Refusal::Damaged(page), 0);

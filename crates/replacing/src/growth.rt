@@ -71,6 +71,7 @@ pub fn regrow(
         pool,
         0,
         pages,
+        pages,
     );
     if bad < pages {
         return Outcome::Unsound(bad);

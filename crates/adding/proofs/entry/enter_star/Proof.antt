@@ -7,6 +7,7 @@ use denote.Ref.{now}
 use Rattle.hashing.proofs.Bounds.{limits}
 use Rattle.placement.specs.File.{File}
 use Rattle.placement.specs.Hash.{lent}
+use Rattle.placement.specs.Ready.{Pooled}
 use Rattle.placement.specs.Rule.{Star}
 use Rattle.entering.specs.Entry.{Unheld, newStar}
 use Rattle.calls.specs.Answers.{Pool, placed, refusedBy, pooled, cleared}
@@ -27,13 +28,13 @@ poolOf s = pooled (now (s .args .poolnumbers)) (now (s .args .poolwords)) (now (
 first-multipliers-requires : tie.Need-first-multipliers-requires
 first-multipliers-requires c κs = tabled (c .before .before .before .before .before .before .before .pre .0)
 
-find-requires : tie.Need-find-requires
-find-requires c κs =
-    let pre = c .before .before .before .before .before .before .before .before .before .before .before .before .before .pre in
-    (prepared (c .before .before .before .before .before .first-multipliers .ensures) (pre .0), pre .1 .1)
+find-kept-requires : tie.Need-find-kept-requires
+find-kept-requires c κs =
+    let pre = c .before .before .before .before .before .before .before .before .before .before .before .before .before .before .pre in
+    (prepared (c .before .before .before .before .before .before .first-multipliers .ensures) (pre .0), (pre .1 .0 .ofNumbers, pre .1 .1))
 
 cast-page : tie.Need-cast-page
-cast-page c = omega (arith, c .before .find .ensures .pageMost, limits _ (c .before .before .before .before .before .before .before .before .before .before .before .before .before .before .before .pre .0 .homing .valid) .pages-most)
+cast-page c = omega (arith, c .before .before .before .find-kept .ensures .0 .pageMost, limits _ (c .before .before .before .before .before .before .before .before .before .before .before .before .before .before .before .before .before .before .pre .0 .homing .valid) .pages-most)
 
 same-length : tie.Need-same-length
 same-length c = search needs
@@ -47,15 +48,15 @@ same-length-3 c = search needs
 same-length-4 : tie.Need-same-length-4
 same-length-4 c = search needs
 
+same-length-5 : tie.Need-same-length-5
+same-length-5 c = search needs
+
 returns : tie.Need-returns
 unfolding placed refusedBy
 returns c =
-    let found = c .before .before .before .find .ensures in
+    let found = c .before .before .before .before .before .find-kept .ensures .0 in
     let unread = sym (found .readableIs) ∙ not-true _ (c .if1 .taken) in
     record { answers = rw (unread, found .pageIs); files = rw unread }
-
-same-length-5 : tie.Need-same-length-5
-same-length-5 c = search needs
 
 same-length-6 : tie.Need-same-length-6
 same-length-6 c = search needs
@@ -66,10 +67,16 @@ same-length-7 c = search needs
 same-length-8 : tie.Need-same-length-8
 same-length-8 c = search needs
 
+same-length-9 : tie.Need-same-length-9
+same-length-9 c = search needs
+
+same-length-10 : tie.Need-same-length-10
+same-length-10 c = search needs
+
 returns-2 : tie.Need-returns-2
 unfolding enteredAgain placed
 returns-2 c =
-    let found = c .before .before .before .before .before .before .find .ensures in
+    let found = c .before .before .before .before .before .before .before .before .find-kept .ensures .0 in
     let opened = not-false _ (c .before .before .before .if1 .left) in
     let read = sym (found .readableIs) ∙ opened in
     let there = c .before .before .if2 .taken in
@@ -77,22 +84,25 @@ returns-2 c =
     let same = eq-eqb _ _ (sym (found .wordIs there) ∙ c .if3 .taken) in
     record { answers = rw (read, held, same, ← found .placeIs opened, ← found .pageIs); files = rw (read, held) }
 
-same-length-9 : tie.Need-same-length-9
-same-length-9 c = search needs
-
-same-length-10 : tie.Need-same-length-10
-same-length-10 c = search needs
-
 same-length-11 : tie.Need-same-length-11
 same-length-11 c = search needs
 
 same-length-12 : tie.Need-same-length-12
 same-length-12 c = search needs
 
+same-length-13 : tie.Need-same-length-13
+same-length-13 c = search needs
+
+same-length-14 : tie.Need-same-length-14
+same-length-14 c = search needs
+
+same-length-15 : tie.Need-same-length-15
+same-length-15 c = search needs
+
 returns-3 : tie.Need-returns-3
 unfolding enteredAgain placed refusedBy
 returns-3 c =
-    let found = c .before .before .before .before .before .before .find .ensures in
+    let found = c .before .before .before .before .before .before .before .before .find-kept .ensures .0 in
     let opened = not-false _ (c .before .before .before .if1 .left) in
     let read = sym (found .readableIs) ∙ opened in
     let there = c .before .before .if2 .taken in
@@ -103,36 +113,42 @@ returns-3 c =
 -- past the test of the named page: it does not hold the star
 module _ (c : tie.Else2) where
   abbrev begun : tie.Start
-  begun = c .before .before .before .before .before .before .before .before .before .before .before .before .before .before .before .before .before .before
+  begun = c .before .before .before .before .before .before .before .before .before .before .before .before .before .before .before .before .before .before .before .before .before
 
   abbrev star : Star
   star = newStar (begun .args .number) (begun .args .word) (begun .args .caller)
 
-  opened : c .before .before .before .before .find .result .readable ≡ true
+  opened : c .before .before .before .before .before .before .find-kept .result .readable ≡ true
   opened = not-false _ (c .before .if1 .left)
 
   read : readable (begun .args .parameters) (begun .args .growth) (fileOf begun) (named (begun .args .parameters) (begun .args .growth) (fileOf begun) (begun .args .number)) ≡ true
-  read = sym (c .before .before .before .before .find .ensures .readableIs) ∙ opened
+  read = sym (c .before .before .before .before .before .before .find-kept .ensures .0 .readableIs) ∙ opened
 
   held : holds (begun .args .parameters) (fileOf begun) (named (begun .args .parameters) (begun .args .growth) (fileOf begun) (begun .args .number)) (begun .args .number) ≡ false
-  held = sym (c .before .before .before .before .find .ensures .heldIs opened) ∙ c .if2 .left
+  held = sym (c .before .before .before .before .before .before .find-kept .ensures .0 .heldIs opened) ∙ c .if2 .left
 
   missing : Unheld (begun .args .parameters) (begun .args .growth) (fileOf begun) (begun .args .number)
   missing = unheld (begun .args .parameters) (begun .args .growth) (fileOf begun) (begun .args .number) read held
+
+  -- the search left the pool as long as it was
+  pooled-still : Pooled (begun .args .parameters) (c .before .before .before .before .before .before .find-kept .last .1 .1 .1 .1 .1 .1 .0) (now (begun .args .poolwords)) (now (begun .args .poolowners))
+  pooled-still =
+      let pools = begun .pre .1 .0 in
+      record { ofNumbers = c .before .before .before .before .before .before .find-kept .kept .1 .1 .1 .1 .1 .1 .0 ∙ pools .ofNumbers; ofWords = pools .ofWords; ofOwners = pools .ofOwners }
 
 cascade-requires : tie.Need-cascade-requires
 cascade-requires c κs =
     let e = c .before .before .before .before .before .before .before .before .before in
     let s = begun e in
-    let found = c .before .before .before .before .before .before .before .before .before .before .before .before .before .find .ensures in (
+    let found = c .before .before .before .before .before .before .before .before .before .before .before .before .before .before .before .find-kept .ensures .0 in (
       record {
-        ready = prepared (c .before .before .before .before .before .before .before .before .before .before .before .before .before .before .before .before .before .before .before .first-multipliers .ensures) (s .pre .0);
+        ready = prepared (c .before .before .before .before .before .before .before .before .before .before .before .before .before .before .before .before .before .before .before .before .before .before .first-multipliers .ensures) (s .pre .0);
         number = s .pre .1 .1;
         unheld = missing e;
         homed = found .homeIs;
         here = found .pageIs;
       },
-      s .pre .1 .0,
+      pooled-still e,
     )
 
 placed-from-requires : tie.Need-placed-from-requires
@@ -140,16 +156,7 @@ placed-from-requires c κs =
     let e = c .before .before .before .before .before .before .before .before .before .before .before .before .before .before .before .before .before .before .before .before .before .before .before .before in
     let s = begun e in
     rw (c .before .before .before .before .before .before .before .before .before .before .before .before .before .before .cascade .ensures .0)
-    (cascade-small (s .args .parameters) (s .args .growth) (fileOf s) (s .pre .0 .homing .valid) (s .pre .0 .homing .growth) (star e) (c .before .before .before .before .before .before .before .before .before .before .before .before .before .before .before .before .before .before .before .before .before .before .before .before .before .before .before .before .find .result .page) (omega (arith, c .before .before .before .before .before .before .before .before .before .before .before .before .before .before .before .before .before .before .before .before .before .before .before .before .before .before .before .before .find .ensures .pageIs, missing e .named)))
-
-same-length-13 : tie.Need-same-length-13
-same-length-13 c = search needs
-
-same-length-14 : tie.Need-same-length-14
-same-length-14 c = search needs
-
-same-length-15 : tie.Need-same-length-15
-same-length-15 c = search needs
+    (cascade-small (s .args .parameters) (s .args .growth) (fileOf s) (s .pre .0 .homing .valid) (s .pre .0 .homing .growth) (star e) (c .before .before .before .before .before .before .before .before .before .before .before .before .before .before .before .before .before .before .before .before .before .before .before .before .before .before .before .before .before .before .find-kept .result .page) (omega (arith, c .before .before .before .before .before .before .before .before .before .before .before .before .before .before .before .before .before .before .before .before .before .before .before .before .before .before .before .before .before .before .find-kept .ensures .0 .pageIs, missing e .named)))
 
 same-length-16 : tie.Need-same-length-16
 same-length-16 c = search needs
@@ -163,11 +170,20 @@ same-length-18 c = search needs
 same-length-19 : tie.Need-same-length-19
 same-length-19 c = search needs
 
+same-length-20 : tie.Need-same-length-20
+same-length-20 c = search needs
+
+same-length-21 : tie.Need-same-length-21
+same-length-21 c = search needs
+
+same-length-22 : tie.Need-same-length-22
+same-length-22 c = search needs
+
 returns-4 : tie.Need-returns-4
 returns-4 c =
     let e = c .before .before .before .before .before .before .before .before .before .before .before .before .before .before .before .before .before .before .before .before .before .before .before .before .before in
     let s = begun e in
-    let found = c .before .before .before .before .before .before .before .before .before .before .before .before .before .before .before .before .before .before .before .before .before .before .before .before .before .before .before .before .before .find .ensures in
+    let found = c .before .before .before .before .before .before .before .before .before .before .before .before .before .before .before .before .before .before .before .before .before .before .before .before .before .before .before .before .before .before .before .find-kept .ensures .0 in
     let done = rw (found .pageIs) at (c .before .before .before .before .before .before .before .before .before .before .before .before .before .before .before .cascade .ensures) in
     let is = cascaded-is (s .args .parameters) (s .args .growth) (fileOf s) (cleared (poolOf s)) (star e) (placeFor (s .args .parameters) (fileOf s) (named (s .args .parameters) (s .args .growth) (fileOf s) (s .args .number)) (s .args .number)) (named (s .args .parameters) (s .args .growth) (fileOf s) (s .args .number)) in
     record {
@@ -179,9 +195,9 @@ enter-star-requires : tie.Need-enter-star-requires
 enter-star-requires c κs =
     let e = c .before .before .before .before .before .before .before .before .before in
     let s = begun e in
-    let found = c .before .before .before .before .before .before .before .before .before .before .before .before .before .find .ensures in (
-      prepared (c .before .before .before .before .before .before .before .before .before .before .before .before .before .before .before .before .before .before .before .first-multipliers .ensures) (s .pre .0),
-      (s .pre .1 .0, (s .pre .1 .1, (missing e, (found .homeIs, found .placeIs (opened e))))),
+    let found = c .before .before .before .before .before .before .before .before .before .before .before .before .before .before .before .find-kept .ensures .0 in (
+      prepared (c .before .before .before .before .before .before .before .before .before .before .before .before .before .before .before .before .before .before .before .before .before .before .first-multipliers .ensures) (s .pre .0),
+      (pooled-still e, (s .pre .1 .1, (missing e, (found .homeIs, (found .placeIs (opened e), e .before .before .before .before .before .before .find-kept .ensures .1 (opened e)))))),
     )
 
 placed-from-requires-2 : tie.Need-placed-from-requires-2
@@ -190,15 +206,6 @@ placed-from-requires-2 c κs =
     let s = begun e in
     rw (c .before .before .before .before .before .before .before .before .before .before .before .before .before .before .enter-star .ensures .0)
     (entry-small (s .args .parameters) (s .args .growth) (fileOf s) (s .pre .0 .homing .valid) (s .pre .0 .homing .growth) (star e))
-
-same-length-20 : tie.Need-same-length-20
-same-length-20 c = search needs
-
-same-length-21 : tie.Need-same-length-21
-same-length-21 c = search needs
-
-same-length-22 : tie.Need-same-length-22
-same-length-22 c = search needs
 
 same-length-23 : tie.Need-same-length-23
 same-length-23 c = search needs
@@ -212,11 +219,20 @@ same-length-25 c = search needs
 same-length-26 : tie.Need-same-length-26
 same-length-26 c = search needs
 
+same-length-27 : tie.Need-same-length-27
+same-length-27 c = search needs
+
+same-length-28 : tie.Need-same-length-28
+same-length-28 c = search needs
+
+same-length-29 : tie.Need-same-length-29
+same-length-29 c = search needs
+
 returns-5 : tie.Need-returns-5
 returns-5 c =
     let e = c .before .before .before .before .before .before .before .before .before .before .before .before .before .before .before .before .before .before .before .before .before .before .before .before .before in
     let s = begun e in
-    let found = c .before .before .before .before .before .before .before .before .before .before .before .before .before .before .before .before .before .before .before .before .before .before .before .before .before .before .before .before .before .find .ensures in
+    let found = c .before .before .before .before .before .before .before .before .before .before .before .before .before .before .before .before .before .before .before .before .before .before .before .before .before .before .before .before .before .before .before .find-kept .ensures .0 in
     let done = c .before .before .before .before .before .before .before .before .before .before .before .before .before .before .before .enter-star .ensures in
     let is = entered-is (s .args .parameters) (s .args .growth) (fileOf s) (cleared (poolOf s)) (star e) (placeFor (s .args .parameters) (fileOf s) (named (s .args .parameters) (s .args .growth) (fileOf s) (s .args .number)) (s .args .number)) in
     record {
@@ -229,40 +245,43 @@ enter-star-spec =
     tie.close
     (tie.spec
     first-multipliers-requires
-    find-requires
+    find-kept-requires
     cast-page
     same-length
     same-length-2
     same-length-3
     same-length-4
-    returns
     same-length-5
+    returns
     same-length-6
     same-length-7
     same-length-8
-    returns-2
     same-length-9
     same-length-10
+    returns-2
     same-length-11
     same-length-12
-    returns-3
-    cascade-requires
-    placed-from-requires
     same-length-13
     same-length-14
     same-length-15
+    returns-3
+    cascade-requires
+    placed-from-requires
     same-length-16
     same-length-17
     same-length-18
     same-length-19
-    returns-4
-    enter-star-requires
-    placed-from-requires-2
     same-length-20
     same-length-21
     same-length-22
+    returns-4
+    enter-star-requires
+    placed-from-requires-2
     same-length-23
     same-length-24
     same-length-25
     same-length-26
+    same-length-27
+    same-length-28
+    same-length-29
     returns-5)

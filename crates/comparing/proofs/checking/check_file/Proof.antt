@@ -6,6 +6,7 @@ use Rattle.placement.specs.File.{File}
 use Rattle.placement.specs.Hash.{homesOf, lent}
 use Rattle.placement.proofs.Prepared.{ready}
 use Rattle.reach.specs.Reach.{firstUnsound, homesKept}
+use Rattle.reach.proofs.Surveyed.{known-none}
 use Rattle.comparing.proofs.Planned.{homes-whole}
 use Rattle.comparing.proofs.Unraisable.{none-raisable}
 use Rattle.comparing.proofs.Verdicts.{surveyed, surveyed-sound, told-unsound, told-differs, told-clean}
@@ -22,7 +23,7 @@ cast-pages c = search needs
 survey-pages-requires : tie.Need-survey-pages-requires
 survey-pages-requires c κs =
     let pre = c .before .before .before .before .before .before .before .before .before .pre in
-    (pre .0, (pre .1 .ofNumbers, (omega arith, le-refl _)))
+    (pre .0, (pre .1 .ofNumbers, (omega arith, (le-refl _, known-none _ _ _ _ _ (le-refl _)))))
 
 same-length : tie.Need-same-length
 same-length c = search needs

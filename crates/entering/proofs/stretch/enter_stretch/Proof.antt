@@ -28,7 +28,7 @@ abbrev start : Place → tie.Start
 start x = x .before .before .before .before .before .before .before .before .before .before .before .before .before .before .before .before
 
 home-is : (x : Place) → start x .args .home ≡ entryStart (start x .args .geometry .parameters) (start x .args .geometry .growth) (start x .args .number)
-home-is x = start x .pre .1 .1 .1 .1 ∙ home-starts (start x .args .geometry .parameters) (start x .args .geometry .growth) (start x .args .number)
+home-is x = start x .pre .1 .1 .1 .1 .0 ∙ home-starts (start x .args .geometry .parameters) (start x .args .geometry .growth) (start x .args .number)
 
 -- where the reach ends at `last`
 module _ (x : Place) (last : ℕ) (v : x .plan-entry .result ≡ Ends last) where
@@ -105,7 +105,7 @@ named-from-requires : tie.Need-named-from-requires
 named-from-requires c κs =
     let x = c .before .before .before .before .before .before .before .before .before .before .before .before .before .before .before .before .before .before .before .before .before .before .before .before .before .before .before .before .before .before .before .before in
     let s = start x in
-    (s .pre .0 .homing, (c .before .before .before .before .before .before .before .before .before .before .before .before .before .before .before .apply .kept .0 ∙ s .pre .0 .sized .ofSeparators, s .pre .1 .1 .1 .1))
+    (s .pre .0 .homing, (c .before .before .before .before .before .before .before .before .before .before .before .before .before .before .before .apply .kept .0 ∙ s .pre .0 .sized .ofSeparators, s .pre .1 .1 .1 .1 .0))
 
 same-length : tie.Need-same-length
 same-length c = search needs

@@ -3,14 +3,15 @@ use mathlib.Core.Path.{_≡_, sym, _∙_}
 use mathlib.Core.Bool.{true}
 use Prim.Native.Nat.{_+_, _*_, _≤_, _<_}
 use native.Mathlib.Omega.{arith}
-use lib.ListN.{length}
+use lib.ListN.{length, take}
 use borrow.Author.Tests.{not-true, not-false}
 use denote.Ref.{now}
 use Rattle.hashing.proofs.Bounds.{limits}
+use Rattle.pages.specs.Page.{part}
 use Rattle.pages.proofs.Parts.{page-fits}
 use Rattle.placement.specs.File.{File}
-use Rattle.placement.specs.Hash.{lent, soundAt}
-use Rattle.placement.proofs.Items.{sound-loaded}
+use Rattle.placement.specs.Hash.{lent, soundAt, homesOf}
+use Rattle.placement.proofs.Items.{sound-loaded, homes-loaded}
 use Rattle.calls.proofs.Refusals.{items-most}
 use Rattle.lookup.proofs.Finding.{named-most, past-file, in-file, unread-as, absent-as, held-as, held-is, place-is, place-most, at-is, at-below, word-is, owner-is, item-below, word-valid, one-least}
 use borrow.Author.Needs.{needs}
@@ -41,7 +42,7 @@ returns : tie.Need-returns
 returns c =
     let s = c .before .before .before .before .before .before .before .before .before .before in
     rw (c .unread .ensures)
-    (unread-as (s .args .geometry .parameters) (s .args .geometry .growth) (fileOf s) (s .args .number) _ _ (s .pre .0 .sized) (c .before .before .before .before .home .ensures) (c .before .before .before .named-from .ensures)
+    (unread-as (s .args .geometry .parameters) (s .args .geometry .growth) (fileOf s) (s .args .number) _ _ (s .pre .0 .sized) (c .before .before .before .before .home .ensures) (c .before .before .before .named-from .ensures) _
     (past-file _ _ _ _ (c .before .if1 .taken)))
 
 -- past the first test, the page is one of the file
@@ -81,77 +82,99 @@ returns-2 : tie.Need-returns-2
 returns-2 c =
     let s = c .before .before .before .before .before .before .before .before .before .before .before .before .before .before in
     rw (c .unread2 .ensures)
-    (unread-as (s .args .geometry .parameters) (s .args .geometry .growth) (fileOf s) (s .args .number) _ _ (s .pre .0 .sized) (c .before .before .before .before .before .before .before .before .home .ensures) (c .before .before .before .before .before .before .before .named-from .ensures)
+    (unread-as (s .args .geometry .parameters) (s .args .geometry .growth) (fileOf s) (s .args .number) _ _ (s .pre .0 .sized) (c .before .before .before .before .before .before .before .before .home .ensures) (c .before .before .before .before .before .before .before .named-from .ensures) _
     (in-file _ _ _ _ _ (inside (c .before .before .before .before .before)) (sym (told (c .before .before .before)) ∙ not-true _ (c .before .if2 .taken))))
 
 search-requires : tie.Need-search-requires
-search-requires c κs = limits _ (c .before .before .before .before .before .before .before .before .before .before .before .before .before .pre .0 .homing .valid) .places-most
+search-requires c κs = limits _ (c .before .before .before .before .before .before .before .before .before .before .before .before .before .before .pre .0 .homing .valid) .places-most
 
 -- what the search of the page tells of the lent lists
+abbrev passed : tie.After-search → tie.Else2
+passed c = c .before .before
+
 abbrev tested : tie.After-search → tie.After-page-sound
-tested c = c .before .before .before
+tested c = passed c .before .before
 
-sound : (c : tie.After-search) → soundAt (begun (tested c .before .before) .args .geometry .parameters) (begun (tested c .before .before) .args .geometry .growth) (fileOf (begun (tested c .before .before))) (tested c .before .before .before .before .named-from .result) ≡ true
-sound c = sym (told (tested c)) ∙ not-false _ (c .before .if2 .left)
+abbrev entered : tie.After-search → tie.Else1
+entered c = tested c .before .before
 
-place-below : (c : tie.After-search) → c .search .result .at ≤ begun (tested c .before .before) .args .geometry .parameters .places
+sound : (c : tie.After-search) → soundAt (begun (entered c) .args .geometry .parameters) (begun (entered c) .args .geometry .growth) (fileOf (begun (entered c))) (entered c .before .before .named-from .result) ≡ true
+sound c = sym (told (tested c)) ∙ not-false _ (passed c .if2 .left)
+
+homes : (c : tie.After-search)
+    → take (begun (entered c) .args .geometry .parameters .places) (tested c .page-sound .result .homes)
+    ≡ homesOf (begun (entered c) .args .geometry .parameters) (begun (entered c) .args .geometry .growth) (part (begun (entered c) .args .geometry .parameters .places) (entered c .before .before .named-from .result) (now (begun (entered c) .args .numbers)))
+homes c = tested c .page-sound .ensures .homes (not-false _ (passed c .if2 .left)) ∙ homes-loaded _ _ _ _ _ _ _ (fits (entered c)) (tested c .before .load .ensures)
+
+place-below : (c : tie.After-search) → c .search .result .at ≤ begun (entered c) .args .geometry .parameters .places
 place-below c =
-    let e = tested c .before .before in
-    place-most (begun e .args .geometry .parameters) (fileOf (begun e)) (begun e .args .number) _ _ _ (fits e) (c .before .before .before .before .load .ensures) (c .search .ensures)
+    let e = entered c in
+    place-most (begun e .args .geometry .parameters) (fileOf (begun e)) (begun e .args .number) _ _ _ (fits e) (tested c .before .load .ensures) (c .search .ensures)
 
 cast-place : tie.Need-cast-place
-cast-place c = omega (arith, place-below c, limits _ (begun (tested c .before .before) .pre .0 .homing .valid) .places-most)
+cast-place c = omega (arith, place-below c, limits _ (begun (entered c) .pre .0 .homing .valid) .places-most)
 
 returns-3 : tie.Need-returns-3
 returns-3 c =
     let d = c .before .before in
-    let e = tested d .before .before in
+    let e = entered d in
     let s = begun e in
-    absent-as (s .args .geometry .parameters) (s .args .geometry .growth) (fileOf s) (s .args .number) _ _ (s .pre .0 .sized) (c .before .before .before .before .before .before .before .before .before .before .home .ensures) (c .before .before .before .before .before .before .before .before .before .named-from .ensures) _
+    let loaded = tested d .before .load .ensures in
+    absent-as (s .args .geometry .parameters) (s .args .geometry .growth) (fileOf s) (s .args .number) _ _ (s .pre .0 .sized) (e .before .before .before .home .ensures) (e .before .before .named-from .ensures) _ _
     (in-file _ _ _ _ _ (inside e) (sound d))
-    (sym (held-is (s .args .geometry .parameters) (fileOf s) _ _ _ _ (fits e) (c .before .before .before .before .before .before .load .ensures) (d .search .ensures)) ∙ not-true _ (c .if3 .taken))
-    (place-is (s .args .geometry .parameters) (fileOf s) _ _ _ _ (fits e) (c .before .before .before .before .before .before .load .ensures) (d .search .ensures))
+    (sym (held-is (s .args .geometry .parameters) (fileOf s) _ _ _ _ (fits e) loaded (d .search .ensures)) ∙ not-true _ (c .if3 .taken))
+    (place-is (s .args .geometry .parameters) (fileOf s) _ _ _ _ (fits e) loaded (d .search .ensures))
+    (homes d)
 
 -- the number is held
-held : (c : tie.Else3) → c .before .before .search .result .held ≡ true
+abbrev sought : tie.Else3 → tie.After-search
+sought c = c .before .before
+
+held : (c : tie.Else3) → sought c .search .result .held ≡ true
 held c = not-false _ (c .if3 .left)
 
-within : (c : tie.Else3) → c .before .before .search .result .at < c .before .before .before .before .before .before .before .before .before .before .before .before .before .before .before .before .args .geometry .parameters .places
+within : (c : tie.Else3) → sought c .search .result .at < begun (entered (sought c)) .args .geometry .parameters .places
 within c =
-    let e = tested (c .before .before) .before .before in
-    at-below (begun e .args .geometry .parameters) (fileOf (begun e)) (begun e .args .number) _ _ _ (fits e) (c .before .before .before .before .before .before .load .ensures) (c .before .before .search .ensures) (held c)
+    let e = entered (sought c) in
+    at-below (begun e .args .geometry .parameters) (fileOf (begun e)) (begun e .args .number) _ _ _ (fits e) (tested (sought c) .before .load .ensures) (sought c .search .ensures) (held c)
 
-mul-t15 : tie.Need-mul-t15
-mul-t15 c = omega (arith, fits (tested (c .before .before) .before .before), items-most _ (c .before .before .before .before .before .before .before .before .before .before .before .before .before .before .before .before .pre .0 .homing .valid), c .before .before .before .before .before .before .before .before .before .before .before .before .before .before .before .before .pre .0 .sized .ofNumbers)
+few : (c : tie.Else3) → begun (entered (sought c)) .args .geometry .parameters .places ≤ 32
+few c = limits _ (begun (entered (sought c)) .pre .0 .homing .valid) .places-most
 
-add-t19 : tie.Need-add-t19
-add-t19 c = omega (arith, fits (tested (c .before .before) .before .before), items-most _ (c .before .before .before .before .before .before .before .before .before .before .before .before .before .before .before .before .pre .0 .homing .valid), c .before .before .before .before .before .before .before .before .before .before .before .before .before .before .before .before .pre .0 .sized .ofNumbers, within c)
+mul-t17 : tie.Need-mul-t17
+mul-t17 c = let e = entered (sought c) in omega (arith, fits e, items-most _ (begun e .pre .0 .homing .valid), begun e .pre .0 .sized .ofNumbers)
 
-mul-t20 : tie.Need-mul-t20
-mul-t20 c = omega (arith, within c, limits _ (c .before .before .before .before .before .before .before .before .before .before .before .before .before .before .before .before .pre .0 .homing .valid) .places-most)
+add-t20 : tie.Need-add-t20
+add-t20 c = let e = entered (sought c) in omega (arith, fits e, items-most _ (begun e .pre .0 .homing .valid), begun e .pre .0 .sized .ofNumbers, within c)
 
-element-copy-out-t23 : tie.Need-element-copy-out-t23
-element-copy-out-t23 c = omega (arith, within c, limits _ (c .before .before .before .before .before .before .before .before .before .before .before .before .before .before .before .before .pre .0 .homing .valid) .places-most)
+mul-t21 : tie.Need-mul-t21
+mul-t21 c = omega (arith, within c, few c)
 
-element-copy-out-t26 : tie.Need-element-copy-out-t26
-element-copy-out-t26 c = omega (arith, within (c .before), limits _ (c .before .before .before .before .before .before .before .before .before .before .before .before .before .before .before .before .before .pre .0 .homing .valid) .places-most)
+element-copy-out-t24 : tie.Need-element-copy-out-t24
+element-copy-out-t24 c = omega (arith, within c, few c)
+
+element-copy-out-t27 : tie.Need-element-copy-out-t27
+element-copy-out-t27 c = omega (arith, within (c .before), few (c .before))
 
 returns-4 : tie.Need-returns-4
 returns-4 c =
-    let d = c .before .before .before .before in
-    let e = tested d .before .before in
+    let h = c .before .before in
+    let d = sought h in
+    let e = entered d in
     let s = begun e in
-    held-as (s .args .geometry .parameters) (s .args .geometry .growth) (fileOf s) (s .args .number) _ _ (s .pre .0 .sized) (c .before .before .before .before .before .before .before .before .before .before .before .before .home .ensures) (c .before .before .before .before .before .before .before .before .before .before .before .named-from .ensures) _ _ _ _
+    let loaded = tested d .before .load .ensures in
+    held-as (s .args .geometry .parameters) (s .args .geometry .growth) (fileOf s) (s .args .number) _ _ (s .pre .0 .sized) (e .before .before .before .home .ensures) (e .before .before .named-from .ensures) _ _ _ _ _
     (in-file _ _ _ _ _ (inside e) (sound d))
-    (sym (held-is (s .args .geometry .parameters) (fileOf s) _ _ _ _ (fits e) (c .before .before .before .before .before .before .before .before .load .ensures) (d .search .ensures)) ∙ held (c .before .before))
-    (place-is (s .args .geometry .parameters) (fileOf s) _ _ _ _ (fits e) (c .before .before .before .before .before .before .before .before .load .ensures) (d .search .ensures))
-    (at-is (s .args .geometry .parameters) (fileOf s) _ _ _ _ (fits e) (c .before .before .before .before .before .before .before .before .load .ensures) (d .search .ensures))
-    (word-is (s .args .geometry .parameters) (fileOf s) _ _ _ _ (fits e) (c .before .before .before .before .before .before .before .before .load .ensures) (d .search .ensures) (held (c .before .before)))
-    (owner-is (s .args .geometry .parameters) (fileOf s) _ _ _ _ (fits e) (c .before .before .before .before .before .before .before .before .load .ensures) (d .search .ensures) (held (c .before .before)))
-    (item-below (s .args .geometry .parameters) (fileOf s) (s .args .number) _ _ _ (fits e) (c .before .before .before .before .before .before .before .before .load .ensures) (d .search .ensures) (held (c .before .before)) (sym (s .pre .0 .sized .ofNumbers)))
-    (rw (word-is (s .args .geometry .parameters) (fileOf s) (s .args .number) _ _ _ (fits e) (c .before .before .before .before .before .before .before .before .load .ensures) (d .search .ensures) (held (c .before .before)))
+    (sym (held-is (s .args .geometry .parameters) (fileOf s) _ _ _ _ (fits e) loaded (d .search .ensures)) ∙ held h)
+    (place-is (s .args .geometry .parameters) (fileOf s) _ _ _ _ (fits e) loaded (d .search .ensures))
+    (at-is (s .args .geometry .parameters) (fileOf s) _ _ _ _ (fits e) loaded (d .search .ensures))
+    (word-is (s .args .geometry .parameters) (fileOf s) _ _ _ _ (fits e) loaded (d .search .ensures) (held h))
+    (owner-is (s .args .geometry .parameters) (fileOf s) _ _ _ _ (fits e) loaded (d .search .ensures) (held h))
+    (item-below (s .args .geometry .parameters) (fileOf s) (s .args .number) _ _ _ (fits e) loaded (d .search .ensures) (held h) (sym (s .pre .0 .sized .ofNumbers)))
+    (rw (word-is (s .args .geometry .parameters) (fileOf s) (s .args .number) _ _ _ (fits e) loaded (d .search .ensures) (held h))
     (word-valid (s .args .geometry .parameters) (s .args .geometry .growth) (fileOf s) _ _ (s .pre .0 .sized) (inside e) (one-least _ (s .pre .1)) (sound d)
-    (sym (held-is (s .args .geometry .parameters) (fileOf s) _ _ _ _ (fits e) (c .before .before .before .before .before .before .before .before .load .ensures) (d .search .ensures)) ∙ held (c .before .before))))
+    (sym (held-is (s .args .geometry .parameters) (fileOf s) _ _ _ _ (fits e) loaded (d .search .ensures)) ∙ held h)))
+    (homes d)
 
 pub find-spec : {M : Type 1} → statement M
 find-spec =
@@ -170,9 +193,9 @@ find-spec =
     search-requires
     cast-place
     returns-3
-    mul-t15
-    add-t19
-    mul-t20
-    element-copy-out-t23
-    element-copy-out-t26
+    mul-t17
+    add-t20
+    mul-t21
+    element-copy-out-t24
+    element-copy-out-t27
     returns-4)

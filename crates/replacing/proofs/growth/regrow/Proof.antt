@@ -4,9 +4,11 @@ use Rattle.placement.specs.Hash.{lent}
 use Rattle.planning.specs.declared.outcome.Outcome.the-variants.{On, Overflows}
 use Rattle.replacing.specs.Calls.{nextOf, growthAnswer, growthFile}
 use mathlib.Core.Path.{_≡_, _∙_, sym}
+use native.Mathlib.Nat.{le-refl}
 use native.Mathlib.Omega.{arith}
 use borrow.Author.Tests.{not-true, not-false}
 use Rattle.replacing.proofs.Growing.{next-valid, growth-refused, surveyed-all, growth-plannable, growth-done}
+use Rattle.reach.proofs.Surveyed.{known-none}
 use borrow.Author.Needs.{needs}
 use Rattle.replacing.proofs.growth.regrow.Statement.{statement}
 use Rattle.replacing.proofs.growth.regrow.Tie as tie
@@ -20,7 +22,7 @@ start c = c .before .before .before .before .before .before .before .before .bef
 survey-pages-requires : tie.Need-survey-pages-requires
 survey-pages-requires c κs =
     let pre = c .before .before .before .before .before .before .before .before .before .before .before .before .before .pre in
-    (pre .0, (pre .1 .0 .ofNumbers, (omega arith, omega arith)))
+    (pre .0, (pre .1 .0 .ofNumbers, (omega arith, (omega arith, known-none _ _ _ _ _ (le-refl _)))))
 
 same-length : tie.Need-same-length
 same-length c = search needs
