@@ -8,7 +8,7 @@ ghost use Rattle.calls.specs.Lent.{poolBefore, poolAfter};
 use calls::answers::Admission;
 use calls::answers::Checked;
 use calls::answers::Refusal;
-use comparing::Verdict;
+use checking::Verdict;
 use guarding::all_fit;
 use guarding::guard;
 use hashing::Geometry;
@@ -44,7 +44,7 @@ pub fn check(
         return Checked::Refused(refusal, 0);
     }
     let table = generator::first_multipliers(parameters.multiplier);
-    let verdict = comparing::check_file(
+    let verdict = checking::check_file(
         &table,
         Geometry { parameters, growth },
         separators,

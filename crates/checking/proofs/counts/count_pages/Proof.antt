@@ -4,10 +4,10 @@ use native.Mathlib.Nat.{mul-le-mul-right}
 use native.Mathlib.Omega.{arith}
 use Rattle.hashing.proofs.Bounds.{limits}
 use Rattle.placement.specs.Hash.{hashOf}
-use Rattle.comparing.specs.Raising.{countTo, Added, hashUnder}
-use Rattle.comparing.proofs.Counters.{pages-none, pages-next, pages-counts, pages-all}
-use Rattle.comparing.proofs.counts.count_pages.Statement.{statement}
-use Rattle.comparing.proofs.counts.count_pages.Tie as tie
+use Rattle.checking.specs.Raising.{countTo, Added, hashUnder}
+use Rattle.checking.proofs.Counters.{pages-none, pages-next, pages-counts, pages-all}
+use Rattle.checking.proofs.counts.count_pages.Statement.{statement}
+use Rattle.checking.proofs.counts.count_pages.Tie as tie
 use Rattle.calls.proofs.Refusals.{items-most}
 
 abbrev Inv-loop : tie.InvT-loop

@@ -6,7 +6,7 @@ ghost use lib.ListN.{length};
 ghost use Rattle.hashing.specs.Limits.{validParameters};
 ghost use Rattle.placement.specs.Hash.{homeUnder};
 ghost use Rattle.placement.specs.Ready.{Signing};
-ghost use Rattle.comparing.specs.Raising.{passed, countOn, countTo, mayRise, one, Counts, Adds, Homed, hashUnder, firstRaisable, firstRising};
+ghost use Rattle.checking.specs.Raising.{passed, countOn, countTo, mayRise, one, Counts, Adds, Homed, hashUnder, firstRaisable, firstRising};
 use hashing::Geometry;
 use hashing::Parameters;
 

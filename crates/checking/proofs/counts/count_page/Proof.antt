@@ -7,11 +7,11 @@ use native.Mathlib.Omega.{arith}
 use lib.ListN.{length, getD}
 use Rattle.hashing.proofs.Bounds.{limits}
 use Rattle.placement.specs.Hash.{hashOf}
-use Rattle.comparing.specs.Raising.{hashUnder}
+use Rattle.checking.specs.Raising.{hashUnder}
 use Rattle.calls.proofs.Spots.{item-within}
-use Rattle.comparing.proofs.Counters.{PlacesCounted, places-none, places-empty, places-star, places-fits, places-counts, places-all, home-item, homes-count}
-use Rattle.comparing.proofs.counts.count_page.Statement.{statement}
-use Rattle.comparing.proofs.counts.count_page.Tie as tie
+use Rattle.checking.proofs.Counters.{PlacesCounted, places-none, places-empty, places-star, places-fits, places-counts, places-all, home-item, homes-count}
+use Rattle.checking.proofs.counts.count_page.Statement.{statement}
+use Rattle.checking.proofs.counts.count_page.Tie as tie
 use Rattle.calls.proofs.Refusals.{items-most}
 
 abbrev Inv-loop : tie.InvT-loop

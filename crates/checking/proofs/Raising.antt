@@ -24,7 +24,7 @@ use Rattle.placement.proofs.Order.{Sorted, filter-pour, length-pour, sorted-pou
 use Rattle.placement.proofs.Writing.{getD-separators, length-part}
 use Rattle.placement.proofs.Files.{length-pagesAt}
 use Rattle.placement.proofs.Sound.{AllSound, gathered-add, stands-gathered, sound-holds, clean-said}
-use Rattle.comparing.specs.Raising.{passed, countsOn, countOn, countTo, raisable}
+use Rattle.checking.specs.Raising.{passed, countsOn, countOn, countTo, raisable}
 
 -- Of the separators vs, from page p, each below top would keep more than room of w if it were one greater.
 abbrev pub Unraisable : Hash → ℕ → List ℕ → List Star → Type 0

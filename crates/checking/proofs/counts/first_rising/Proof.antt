@@ -7,9 +7,9 @@ use lib.ListN.{getD}
 use Rattle.generator.specs.Generator.{topOf}
 use Rattle.hashing.proofs.Bounds.{limits}
 use Rattle.reach.proofs.Search.{Sought, sought-none, sought-next, sought-found, sought-all}
-use Rattle.comparing.specs.Raising.{mayRise}
-use Rattle.comparing.proofs.counts.first_rising.Statement.{statement}
-use Rattle.comparing.proofs.counts.first_rising.Tie as tie
+use Rattle.checking.specs.Raising.{mayRise}
+use Rattle.checking.proofs.counts.first_rising.Statement.{statement}
+use Rattle.checking.proofs.counts.first_rising.Tie as tie
 
 abbrev Inv-loop : tie.InvT-loop
 Inv-loop parameters separators counts pages top page₀ page =

@@ -8,10 +8,10 @@ use Rattle.placement.specs.File.{File}
 use Rattle.placement.specs.Hash.{hashOf, lent}
 use Rattle.waiting.specs.Lists.{all}
 use Rattle.planning.proofs.Placed.{Gatherable}
-use Rattle.comparing.proofs.Planned.{homes-long, stars-inside, ready, planned-ruled, spot-ruled}
+use Rattle.checking.proofs.Planned.{homes-long, stars-inside, ready, planned-ruled, spot-ruled}
 use borrow.Author.Needs.{needs}
-use Rattle.comparing.proofs.checking.compare_planned.Statement.{statement}
-use Rattle.comparing.proofs.checking.compare_planned.Tie as tie
+use Rattle.checking.proofs.checking.compare_planned.Statement.{statement}
+use Rattle.checking.proofs.checking.compare_planned.Tie as tie
 use Rattle.calls.proofs.Refusals.{items-most}
 
 abbrev file : tie.Start → File

@@ -4,10 +4,10 @@ use Prim.Native.Nat.{_-_, _≤_}
 use native.Mathlib.Omega.{arith}
 use Rattle.hashing.proofs.Bounds.{limits}
 use Rattle.placement.specs.Hash.{hashOf}
-use Rattle.comparing.specs.Raising.{hashUnder}
-use Rattle.comparing.proofs.Counters.{ProbesCounted, probes-none, probes-counted, probes-skipped, probes-fits, probes-all}
-use Rattle.comparing.proofs.counts.count_passed.Statement.{statement}
-use Rattle.comparing.proofs.counts.count_passed.Tie as tie
+use Rattle.checking.specs.Raising.{hashUnder}
+use Rattle.checking.proofs.Counters.{ProbesCounted, probes-none, probes-counted, probes-skipped, probes-fits, probes-all}
+use Rattle.checking.proofs.counts.count_passed.Statement.{statement}
+use Rattle.checking.proofs.counts.count_passed.Tie as tie
 
 abbrev Inv-loop : tie.InvT-loop
 Inv-loop table geometry separators counts₀ number home page next₀ counts next =

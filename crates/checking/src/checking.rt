@@ -9,10 +9,10 @@ ghost use Rattle.placement.specs.Lent.{held, before};
 ghost use Rattle.placement.specs.Ready.{Ready, Pooled};
 ghost use Rattle.reach.specs.Reach.{firstUnsound};
 ghost use Rattle.calls.specs.Spots.{spotOf};
-ghost use Rattle.comparing.specs.Verdicts.{verdictFor};
+ghost use Rattle.checking.specs.Verdicts.{verdictFor};
 use crate::counts::first_raisable;
-use crate::search::Spot;
-use crate::search::compare;
+use comparing::Spot;
+use comparing::compare;
 use hashing::Geometry;
 
 // A clean file; the first page and place that differ from the rule over all pages, place b being the separator; or the lowest unsound page.

@@ -16,7 +16,7 @@ use Rattle.generator.specs.Generator.{topOf}
 use Rattle.pages.specs.Page.{part}
 use Rattle.placement.specs.Rule.{Hash, keep, filter}
 use Rattle.placement.specs.Hash.{hashOf, homeIn, homesOf, homeUnder}
-use Rattle.comparing.specs.Raising.{passed, countsOn, countedItem, countOn, countTo, mayRise, raisable, hashUnder, firstRaisable, firstRising, one, Counts, Added}
+use Rattle.checking.specs.Raising.{passed, countsOn, countedItem, countOn, countTo, mayRise, raisable, hashUnder, firstRaisable, firstRising, one, Counts, Added}
 use Rattle.calls.proofs.Alike.{such-same}
 
 one-most : (t : Bool) → one t ≤ 1

@@ -3,10 +3,10 @@ use Prim.Native.Nat.{ℕ}
 use native.Mathlib.Omega.{arith}
 use lib.ListN.{replicate, getD-replicate}
 use Rattle.hashing.proofs.Bounds.{limits}
-use Rattle.comparing.specs.Raising.{Counts}
-use Rattle.comparing.proofs.Counters.{rising-raisable}
-use Rattle.comparing.proofs.counts.first_raisable.Statement.{statement}
-use Rattle.comparing.proofs.counts.first_raisable.Tie as tie
+use Rattle.checking.specs.Raising.{Counts}
+use Rattle.checking.proofs.Counters.{rising-raisable}
+use Rattle.checking.proofs.counts.first_raisable.Statement.{statement}
+use Rattle.checking.proofs.counts.first_raisable.Tie as tie
 
 none : Counts 0 (replicate {A = ℕ} 1024 0)
 none = (refl, λ p h. omega (arith, getD-replicate {A = ℕ} 1024 p 0 0 h))

@@ -12,8 +12,8 @@ use Rattle.reach.specs.Reach.{firstSuch, firstUnsound}
 use Rattle.reach.proofs.Search.{such}
 use Rattle.calls.specs.Spots.{firstSpot, ruled}
 use Rattle.calls.proofs.Ruled.{all-sound, accepts-clean}
-use Rattle.comparing.specs.Raising.{raisable}
-use Rattle.comparing.proofs.Raising.{clean-exactly}
+use Rattle.checking.specs.Raising.{raisable}
+use Rattle.checking.proofs.Raising.{clean-exactly}
 
 pub none-raisable : (p : Parameters) (g : Growth) (f : File) → Sized (p .places) (p .pages) f → firstUnsound p g f 0 (p .pages) ≡ p .pages
     → (r : ℕ) → r ≡ firstSuch (raisable (hashOf p g) (p .pages) (f .separators) (f .numbers)) 0 (p .pages) → p .pages ≤ r

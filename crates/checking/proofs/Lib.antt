@@ -1,0 +1,5 @@
+pub mod Planned
+pub mod Verdicts
+pub mod Raising
+pub mod Counters
+pub mod Unraisable
