@@ -147,7 +147,7 @@ fn put_back(
     buffers::copy_8(owners, at, poolowners, at, items);
 }
 
-// The stretch of `count` pages from page lo becomes what the planned sources and separators say.
+// The stretch of `count` pages from page lo becomes what the planned sources and separators say. The pool stays behind it.
 pub fn apply(
     separators: &mut [u8],
     numbers: &mut [u32],
@@ -173,6 +173,7 @@ pub fn apply(
     ensures { λ _. ⌜ now (numbers .exit) ≡ written (lo * places) (map (namedItem (now (numbers .entry)) newnumber) (stretch places lo count (now (pool .entry)))) (now (numbers .entry)) ⌝ }
     ensures { λ _. ⌜ now (words .exit) ≡ written (lo * places) (map (namedItem (now (words .entry)) newword) (stretch places lo count (now (pool .entry)))) (now (words .entry)) ⌝ }
     ensures { λ _. ⌜ now (owners .exit) ≡ written (lo * places) (map (namedItem (now (owners .entry)) newowner) (stretch places lo count (now (pool .entry)))) (now (owners .entry)) ⌝ }
+    ensures { λ _. ⌜ drop ((lo + count) * places) (now (pool .exit)) ≡ drop ((lo + count) * places) (now (pool .entry)) ⌝ }
 {
     let at = lo * places;
     let items = count * places;

@@ -1,6 +1,6 @@
 -- A growth or a shrinking: the homes under the growth state `next`, and that the rule over all pages is what the code leaves.
 use mathlib.Core.Path.{_≡_, refl, sym, ap, _∙_}
-use mathlib.Core.Bool.{Bool, true, false, not, cond}
+use mathlib.Core.Bool.{Bool, true, false, cond}
 use mathlib.Core.List.{List, [], map}
 use Prim.Native.Nat.{ℕ, _+_, _-_, _*_, _^_, _≤_, _<_}
 use native.Mathlib.Nat.{zero-add, zero-mul, sub-zero}
@@ -8,7 +8,7 @@ use native.Mathlib.Omega.{arith}
 use lib.Dec.{ltb, eqb}
 use lib.ListN.{length, getD, set, take, drop, length-map, List·getD-map}
 use lib.Seq.{paste}
-use borrow.Author.Tests.{lt-ltb, le-ltb, ne-eqb}
+use borrow.Author.Tests.{lt-ltb, le-ltb}
 use Rattle.pages.specs.Page.{stretch}
 use Rattle.hashing.specs.declared.Parameters.{Parameters}
 use Rattle.hashing.specs.declared.Growth.{Growth}
@@ -16,12 +16,9 @@ use Rattle.hashing.specs.Limits.{validParameters, validGrowth}
 use Rattle.hashing.proofs.Bounds.{limits, growth-within, spread}
 use Rattle.hashing.proofs.Homes.{grown-valid}
 use Rattle.hashing.proofs.Shrinking.{shrunk-valid}
-use Rattle.pages.specs.Position.{validWord}
-use Rattle.placement.specs.Rule.{Star, Hash, left, without}
+use Rattle.placement.specs.Rule.{Hash, left, without}
 use Rattle.placement.specs.File.{File, Sized, gathered}
 use Rattle.placement.specs.Hash.{hashOf, homeIn, homesOf}
-use Rattle.placement.proofs.Filters.{filter-all-on}
-use Rattle.placement.proofs.Sound.{gathered-proper}
 use Rattle.placement.proofs.Probing.{homed-real}
 use Rattle.waiting.specs.Lists.{allBelow}
 use Rattle.reach.specs.Reach.{isEmpty, firstUnsound}
@@ -36,7 +33,7 @@ use Rattle.planning.specs.declared.outcome.Outcome.the-variants.{On, Unsound, O
 use Rattle.replacing.specs.Stretch.{StretchReady, fitting, restretched}
 use Rattle.replacing.specs.Calls.{nextOf, Movable, growthAnswer, growthFile}
 use Rattle.replacing.proofs.Ruled.{fitting-is, restretched-is}
-use Rattle.replacing.proofs.Items.{all-below, all-sound, real-sound, numbers-below, plannable-stretch, ready-stretch}
+use Rattle.replacing.proofs.Items.{all-below, all-sound, all-numbered, numbers-below, plannable-stretch, ready-stretch}
 
 -- homes, item by item
 
@@ -140,15 +137,8 @@ module _ (p : Parameters) (g : Growth) (f : File) (valid : validParameters p ≡
           (all-below (0 + p .pages) (map (itemHome (hashOf p next)) ns)
           (λ i h. rw (List·getD-map (itemHome (hashOf p next)) ns i 0) (home-inside (getD ns i 0))))
 
-      -- no star has the number 0
       none-out : without 0 (gathered (p .places) f 0 (p .pages)) ≡ gathered (p .places) f 0 (p .pages)
-      unfolding without hashOf
-      none-out =
-          filter-all-on (λ (s : Star). not (eqb (s .number) 0)) (gathered (p .places) f 0 (p .pages))
-          (λ s m.
-          ap not
-          (ne-eqb (s .number) 0
-          (λ z. omega (arith, gathered-proper validWord (hashOf p g) f 0 (p .pages) (real-sound p g f 0 (p .pages) (all-sound p g f 0 (p .pages) sound-pages)) s m .0))))
+      none-out = all-numbered p g f 0 (p .pages) (all-sound p g f 0 (p .pages) sound-pages)
 
       ready : Gatherable (hashOf p next) (p .places) 0 (p .pages) f pool
       ready = ready-stretch p f valid sized 0 (p .pages) (omega arith) (omega (arith, some-pages)) pool size below within (hashOf p next) true-homes

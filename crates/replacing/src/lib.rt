@@ -6,3 +6,4 @@ mod stretch;
 
 pub use growth::regrow;
 pub use held::remove_held;
+pub use stretch::replace_stretch;

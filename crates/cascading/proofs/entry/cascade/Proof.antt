@@ -195,7 +195,7 @@ returns-3 c =
     let count : last + 1 - s .args .page ≡ pagesTo (s .args .page) last = omega (arith, ends x last (v .1) .0) in
     let whole : lent (y .last .0) (y .last .1 .0) (y .last .1 .1 .0) (y .last .1 .1 .1 .0) ≡ replaced (p .places) (file s) (s .args .page) (visited p g (file s) (newStar (s .args .number) (s .args .word) (s .args .owner)) (s .args .page)) =
     lists-applied (p .places) (s .args .page) (last + 1 - s .args .page) (s .args .number) (s .args .word) (s .args .owner) pool planned (file s) (y .last .0) (y .last .1 .0) (y .last .1 .1 .0) (y .last .1 .1 .1 .0)
-    (y .ensures .0) (y .ensures .1 .0) (y .ensures .1 .1 .0) (y .ensures .1 .1 .1)
+    (y .ensures .0) (y .ensures .1 .0) (y .ensures .1 .1 .0) (y .ensures .1 .1 .1 .0)
     ∙ ap (λ (n : ℕ). applied (p .places) (s .args .page) n (s .args .number) (s .args .word) (s .args .owner) pool planned (file s)) count
     ∙ k .applies in (
       kept-answer p g (file s) (s .args .number) (s .args .word) (s .args .owner) (s .args .page) pool planned last k (c .named-from .result)

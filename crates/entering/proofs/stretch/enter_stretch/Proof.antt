@@ -187,7 +187,7 @@ returns-3 c =
     let whole : lent (y .last .0) (y .last .1 .0) (y .last .1 .1 .0) (y .last .1 .1 .1 .0) ≡ entryFile (s .args .geometry .parameters) (s .args .geometry .growth) (file s) (newStar (s .args .number) (s .args .word) (s .args .owner)) =
     entry-file (s .args .geometry .parameters) (s .args .geometry .growth) (file s) (s .args .number) (s .args .word) (s .args .owner) (x .plan-entry .last .1 .1 .1 .1 .1 .1 .0) (x .plan-entry .last .1 .1 .1 .1 .1 .1 .1 .1 .0) last (answer x last (v .1))
     (λ word owner l e. x .plan-entry .ensures .1 word owner l (v .1 ∙ e)) (y .last .0) (y .last .1 .0) (y .last .1 .1 .0) (y .last .1 .1 .1 .0)
-    (rw (home-is x) at (y .ensures .0)) (rw (home-is x) at (y .ensures .1 .0)) (rw (home-is x) at (y .ensures .1 .1 .0)) (rw (home-is x) at (y .ensures .1 .1 .1)) in (
+    (rw (home-is x) at (y .ensures .0)) (rw (home-is x) at (y .ensures .1 .0)) (rw (home-is x) at (y .ensures .1 .1 .0)) (rw (home-is x) at (y .ensures .1 .1 .1 .0)) in (
       ends-answer (s .args .geometry .parameters) (s .args .geometry .growth) (file s) (s .args .number) (s .args .word) (s .args .owner) last (answer x last (v .1)) (c .named-from .result)
           (c .named-from .ensures
           ∙ ap (λ (f : File). namedPage (s .args .geometry .parameters) (s .args .geometry .growth) (f .separators) (s .args .number)) whole

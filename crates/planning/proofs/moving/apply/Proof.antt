@@ -1,12 +1,12 @@
 use mathlib.Core.Path.{ap, _∙_}
 use mathlib.Core.List.{List}
-use Prim.Native.Nat.{ℕ, _*_}
+use Prim.Native.Nat.{ℕ, _+_, _*_}
 use native.Mathlib.Omega.{arith}
 use lib.ListN.{drop, length-drop}
 use lib.Seq.{paste}
 use denote.Ref.{now}
 use Rattle.buffers.proofs.Written.{paste-written}
-use Rattle.planning.proofs.Copies.{fetched-back}
+use Rattle.planning.proofs.Copies.{fetched-back, fetched-behind}
 use borrow.Author.Needs.{needs}
 use Rattle.planning.proofs.moving.apply.Statement.{statement}
 use Rattle.planning.proofs.moving.apply.Tie as tie
@@ -64,7 +64,10 @@ returns c =
         b .ensures .0 ∙ ap (λ (l : List ℕ). paste (now (a .numbers)) at (drop at l) items) (f .ensures .0) ∙ fetched-back (now (a .numbers)) (now (a .pool)) (now (a .numbers)) (now (a .pool)) (a .newnumber) at items (omega (arith, s .pre)) (omega (arith, s .pre)),
         (
           b .ensures .1 .0 ∙ ap (λ (l : List ℕ). paste (now (a .words)) at (drop at l) items) (f .ensures .1 .0) ∙ fetched-back (now (a .words)) (now (a .waiting)) (now (a .words)) (now (a .pool)) (a .newword) at items (omega (arith, s .pre)) (omega (arith, s .pre)),
-          b .ensures .1 .1 ∙ ap (λ (l : List ℕ). paste (now (a .owners)) at (drop at l) items) (f .ensures .1 .1) ∙ fetched-back (now (a .owners)) (now (a .poolowners)) (now (a .owners)) (now (a .pool)) (a .newowner) at items (omega (arith, s .pre)) (omega (arith, s .pre)),
+          (
+            b .ensures .1 .1 ∙ ap (λ (l : List ℕ). paste (now (a .owners)) at (drop at l) items) (f .ensures .1 .1) ∙ fetched-back (now (a .owners)) (now (a .poolowners)) (now (a .owners)) (now (a .pool)) (a .newowner) at items (omega (arith, s .pre)) (omega (arith, s .pre)),
+            ap (drop ((a .lo + a .count) * a .places)) (f .ensures .0) ∙ fetched-behind (now (a .numbers)) (now (a .pool)) (a .newnumber) (a .places) (a .lo) (a .count) (omega (arith, s .pre)),
+          ),
         ),
       ),
     )

@@ -86,7 +86,7 @@ answered c r e =
     let surveyed = sound .before .before .before in
     let pre = start surveyed .pre in
     growth-done _ _ _ (pre .0 .homing .valid) (pre .0 .sized) _ (surveyed .survey-pages .ensures .0) (sound .if1 .left) _ (later surveyed) _ (rehomed .rehome .ensures)
-    _ r (sym e ∙ c .replace-stretch .ensures .0) _ (c .replace-stretch .ensures .1)
+    _ r (sym e ∙ c .replace-stretch .ensures .0) _ (c .replace-stretch .ensures .1 .0)
 
 same-length-6 : tie.Need-same-length-6
 same-length-6 c = search needs

@@ -109,7 +109,7 @@ returns-2 c =
     let done =
     removal-done _ _ _ _ _ _ (reach end) (pre .0 .homing .valid) (pre .0 .sized) _ (surveyed .survey-pages .ensures .0) (sound .if1 .left) _ _ (lengths .ofNumbers)
     (surveyed .survey-pages .kept .1 .1 .1 .1 .1 .1 .0 ∙ lengths .ofNumbers) (surveyed .survey-pages .ensures .1) (start end .args .page) in
-    (done .0, placed .replace-stretch .ensures .1 ∙ done .1)
+    (done .0, placed .replace-stretch .ensures .1 .0 ∙ done .1)
 
 pub remove-star-spec : {M : Type 1} → statement M
 remove-star-spec =
