@@ -145,7 +145,7 @@ fn enter_by(
         number,
         word,
     );
-    planning::clear(poolnumbers, poolwords, poolowners);
+    applying::clear(poolnumbers, poolwords, poolowners);
     answer
 }
 

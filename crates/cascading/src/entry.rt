@@ -50,7 +50,7 @@ pub fn cascade(
         Reach::Unsound(bad) => Outcome::Unsound(bad),
         Reach::Overflows => Outcome::Overflows,
         Reach::Ends(last) => {
-            planning::apply(
+            applying::apply(
                 separators,
                 numbers,
                 words,

@@ -55,7 +55,7 @@ fn compare_planned(
         0,
         0,
     );
-    planning::fetch(
+    applying::fetch(
         numbers,
         words,
         owners,

@@ -58,7 +58,7 @@ pub fn enter_stretch(
         Reach::Unsound(page) => Outcome::Unsound(page),
         Reach::Overflows => Outcome::Overflows,
         Reach::Ends(last) => {
-            planning::apply(
+            applying::apply(
                 separators,
                 numbers,
                 words,

@@ -66,7 +66,7 @@ pub fn remove(
         caller,
         number,
     );
-    planning::clear(poolnumbers, poolwords, poolowners);
+    applying::clear(poolnumbers, poolwords, poolowners);
     answer
 }
 

@@ -44,7 +44,7 @@ pub fn replace_stretch(
     if left != 0 {
         return false;
     }
-    planning::apply(
+    applying::apply(
         separators,
         numbers,
         words,

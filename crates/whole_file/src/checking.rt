@@ -55,7 +55,7 @@ pub fn check(
         poolwords,
         poolowners,
     );
-    planning::clear(poolnumbers, poolwords, poolowners);
+    applying::clear(poolnumbers, poolwords, poolowners);
     verdict_checked(verdict, parameters.places)
 }
 

@@ -42,7 +42,7 @@ pub fn make(
     }
     let top = placement::top_of(parameters);
     buffers::fill_8(separators, top);
-    planning::clear(numbers, words, owners);
+    applying::clear(numbers, words, owners);
     Grown {
         answer: Placed::On(0, 0),
         growth,

@@ -123,7 +123,7 @@ fn regrow(
         poolwords,
         poolowners,
     );
-    planning::clear(poolnumbers, poolwords, poolowners);
+    applying::clear(poolnumbers, poolwords, poolowners);
     answer
 }
 

@@ -3,7 +3,7 @@ use Prim.Native.Nat.{_-_, _≤_}
 use native.Mathlib.Nat.{le-antisymm}
 use native.Mathlib.Omega.{arith}
 use lib.ListN.{length}
-use Rattle.planning.proofs.Copies.{none}
+use Rattle.buffers.proofs.Copies.{none}
 use Rattle.replacing.specs.Calls.{nextOf}
 use Rattle.replacing.proofs.Growing.{Rehomed, homes-long, home-there, rehomed-next, rehomed-all}
 use Rattle.replacing.proofs.growth.rehome.Statement.{statement}

@@ -6,10 +6,10 @@ use lib.ListN.{drop, length-drop}
 use lib.Seq.{paste}
 use denote.Ref.{now}
 use Rattle.buffers.proofs.Written.{paste-written}
-use Rattle.planning.proofs.Copies.{fetched-back, fetched-behind}
+use Rattle.applying.proofs.Fetched.{fetched-back, fetched-behind}
 use borrow.Author.Needs.{needs}
-use Rattle.planning.proofs.moving.apply.Statement.{statement}
-use Rattle.planning.proofs.moving.apply.Tie as tie
+use Rattle.applying.proofs.moving.apply.Statement.{statement}
+use Rattle.applying.proofs.moving.apply.Tie as tie
 
 mul-at : tie.Need-mul-at
 mul-at c = search needs

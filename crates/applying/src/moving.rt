@@ -6,7 +6,7 @@ ghost use lib.ListN.{length, take, drop, replicate};
 ghost use lib.Seq.{paste};
 ghost use Rattle.pages.specs.Page.{stretch};
 ghost use Rattle.buffers.specs.Lists.{written};
-ghost use Rattle.planning.specs.Sources.{namedItem};
+ghost use Rattle.applying.specs.Sources.{namedItem};
 
 fn word_named(words: &[u64], source: u32, newword: u64) -> u64
     ensures { λ r. ⌜ r ≡ namedItem (now (words .entry)) newword source ⌝ }

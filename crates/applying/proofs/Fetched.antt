@@ -7,11 +7,9 @@ use native.Mathlib.Omega.{arith}
 use lib.ListN.{length, getD, take, drop, length-append, length-drop, length-map, List·getD-map, List·getD-eq-default}
 use lib.Seq.{paste, drop-at, drop-drop, drop-paste, getD-drop, length-take-le}
 use Rattle.buffers.specs.Lists.{written}
-pub use Rattle.buffers.proofs.Copies.{Copied, none, turn, done, unread}
 use Rattle.buffers.proofs.Lists.{map-take, within}
 use Rattle.buffers.proofs.Written.{through}
-pub use Rattle.buffers.proofs.Written.{pasted-whole}
-use Rattle.planning.specs.Sources.{namedItem}
+use Rattle.applying.specs.Sources.{namedItem}
 
 suc-sub : (i : ℕ) → suc i - 1 ≡ i
 suc-sub i = omega arith

@@ -1,6 +1,6 @@
 use borrow.Author.Needs.{needs}
-use Rattle.planning.proofs.moving.put_back.Statement.{statement}
-use Rattle.planning.proofs.moving.put_back.Tie as tie
+use Rattle.applying.proofs.moving.put_back.Statement.{statement}
+use Rattle.applying.proofs.moving.put_back.Tie as tie
 
 copy-64-requires : tie.Need-copy-64-requires
 copy-64-requires c κs = search needs
