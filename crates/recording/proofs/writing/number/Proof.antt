@@ -1,7 +1,7 @@
--- `replaying::writing::number` meets its contract.
-use Rattle.replaying.specs.Replay.{bit}
-use Rattle.replaying.proofs.writing.number.Statement.{statement}
-use Rattle.replaying.proofs.writing.number.Tie as tie
+-- `recording::writing::number` meets its contract.
+use Rattle.recording.specs.Rows.{bit}
+use Rattle.recording.proofs.writing.number.Statement.{statement}
+use Rattle.recording.proofs.writing.number.Tie as tie
 
 returns : tie.Need-returns
 unfolding bit

@@ -1,8 +1,8 @@
--- `replaying::writing::unsigned` meets its contract. The machine's sum is the number raised by 2^31.
+-- `recording::writing::unsigned` meets its contract. The machine's sum is the number raised by 2^31.
 use mir.Facts.{toZ-ofZ, sfits-widen}
-use Rattle.replaying.proofs.Signed.{lifts, widened, sum-fits, lifted-back}
-use Rattle.replaying.proofs.writing.unsigned.Statement.{statement}
-use Rattle.replaying.proofs.writing.unsigned.Tie as tie
+use Rattle.recording.proofs.Signed.{lifts, widened, sum-fits, lifted-back}
+use Rattle.recording.proofs.writing.unsigned.Statement.{statement}
+use Rattle.recording.proofs.writing.unsigned.Tie as tie
 
 cast-result : tie.Need-cast-result
 cast-result c = rw (toZ-ofZ (c .fits .dec)) (sfits-widen tt (c .fits .dec))

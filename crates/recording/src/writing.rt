@@ -3,7 +3,7 @@ ghost use mathlib.Core.Path.{_≡_};
 ghost use Prim.Native.Nat.{_+_, _≤_};
 ghost use lib.ListN.{length};
 ghost use lib.Seq.{paste};
-ghost use Rattle.replaying.specs.Replay.{bit, shifted, encoded};
+ghost use Rattle.recording.specs.Rows.{bit, shifted, encoded};
 use calls::answers::Answer;
 
 // The eight numbers from item `at` on.

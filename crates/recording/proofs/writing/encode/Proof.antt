@@ -1,10 +1,10 @@
--- `replaying::writing::encode` meets its contract. The declination goes to `unsigned` as bits, and fits.
+-- `recording::writing::encode` meets its contract. The declination goes to `unsigned` as bits, and fits.
 use mir.Syntax.{w32}
 use mir.Facts.{toZ-ofZ}
-use Rattle.replaying.specs.Replay.{encoded}
+use Rattle.recording.specs.Rows.{encoded}
 use borrow.Author.Needs.{needs}
-use Rattle.replaying.proofs.writing.encode.Statement.{statement}
-use Rattle.replaying.proofs.writing.encode.Tie as tie
+use Rattle.recording.proofs.writing.encode.Statement.{statement}
+use Rattle.recording.proofs.writing.encode.Tie as tie
 
 number-requires : tie.Need-number-requires
 number-requires c κs = search needs

@@ -1,4 +1,4 @@
--- `replaying::writing::write` meets its contract. The invariant: the first i numbers of the row are copied.
+-- `recording::writing::write` meets its contract. The invariant: the first i numbers of the row are copied.
 use mathlib.Core.Path.{_≡_, refl, ap, _∙_}
 use Prim.Native.Nat.{_-_, _≤_}
 use native.Mathlib.Numerals.{add-one}
@@ -6,9 +6,9 @@ use native.Mathlib.Omega.{arith}
 use lib.ListN.{length, length-set}
 use lib.Seq.{paste, paste-zero, paste-suc}
 use denote.Ref.{now}
-use Rattle.replaying.proofs.Running.{eight-long}
-use Rattle.replaying.proofs.writing.write.Statement.{statement}
-use Rattle.replaying.proofs.writing.write.Tie as tie
+use Rattle.recording.proofs.Rows.{eight-long}
+use Rattle.recording.proofs.writing.write.Statement.{statement}
+use Rattle.recording.proofs.writing.write.Tie as tie
 
 abbrev Inv-loop : tie.InvT-loop
 Inv-loop answers₀ at row i₀ answers i =

@@ -7,7 +7,7 @@ use lib.IntN.{ℤ, pos, negsuc, _+ℤ_}
 use mir.Syntax.{w32, w64}
 use mir.Val.{SFits, toZ, ofZ}
 use mir.Facts.{toZ-ofZ, sfits-widen}
-use Rattle.replaying.specs.Replay.{shifted}
+use Rattle.recording.specs.Rows.{shifted}
 
 pub record Lifted (z : ℤ) : Type 0 where
   pub is : z +ℤ pos 2147483648 ≡ pos (shifted z)
