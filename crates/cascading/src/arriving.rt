@@ -81,15 +81,22 @@ pub fn take_in(
     let places = geometry.parameters.places as usize;
     let at = page * places;
     let value = pages::page::load(numbers, words, owners, places, page);
-    let found = placement::page_sound(table, geometry, separators, value, page);
-    if !found.sound {
+    let mut homes = [0u32; 32];
+    if !placement::page_sound(
+        table,
+        geometry,
+        separators,
+        &value.numbers,
+        &value.words,
+        &value.owners,
+        page,
+        &mut homes,
+    ) {
         return Taken::Unsound;
     }
     if exceeds(numbers, at, places, waiting.len() - end) {
         return Taken::Crowded;
     }
-    let there = value.numbers;
-    let homes = found.homes;
-    let reach = append(waiting, &there, &homes, places, at, end);
+    let reach = append(waiting, &value.numbers, &homes, places, at, end);
     Taken::Joined(reach)
 }

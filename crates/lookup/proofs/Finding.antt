@@ -5,10 +5,9 @@ use mathlib.Core.List.{List}
 use Prim.Native.Nat.{ℕ, _+_, _*_, _≤_, _<_}
 use native.Mathlib.Nat.{zero-add}
 use native.Mathlib.Omega.{arith}
-use lib.Dec.{ltb}
 use lib.ListN.{length, getD, take}
 use lib.Seq.{paste}
-use borrow.Author.Tests.{lt-ltb, le-ltb, ltb-true, leb-true}
+use borrow.Author.Tests.{lt-ltb, le-ltb, leb-true}
 use Rattle.hashing.proofs.Bounds.{both}
 use Rattle.hashing.specs.declared.Parameters.{Parameters}
 use Rattle.hashing.specs.declared.Growth.{Growth}
@@ -30,8 +29,9 @@ use Rattle.placement.proofs.Sound.{sound-facts, sound-proper}
 use Rattle.reach.specs.Known.{Known}
 use Rattle.reach.proofs.Surveyed.{surveyed-known}
 use Rattle.calls.specs.Calls.{named, readable, holds, placeFor, itemOf, ownerFor, mayAlter}
+use Rattle.guarding.proofs.Admitting.{readable-facts}
 use Rattle.lookup.specs.declared.naming.Named.{Named}
-use Rattle.lookup.specs.Named.{NamedAs}
+use Rattle.lookup.specs.Named.{NamedAs, HomedAs}
 
 pub named-most : (p : Parameters) (g : Growth) (f : File) (k : ℕ) → Sized (p .places) (p .pages) f → named p g f k ≤ p .pages
 unfolding namedPage
@@ -51,9 +51,9 @@ unfolding readable
 in-file p g f page t h e = rw (lt-ltb page (p .pages) h, e)
 
 module _ (p : Parameters) (g : Growth) (f : File) (k from page : ℕ) (sized : Sized (p .places) (p .pages) f) (homed : from ≡ home (multiplierOf p) p g k) (is : page ≡ named p g f k) where
-  pub unread-as : (hs : List ℕ) → readable p g f page ≡ false
-      → NamedAs p g f k (record { home = from; page = page; readable = false; held = false; place = 0; item = 0; word = 0; owner = 0; homes = hs })
-  unread-as hs e =
+  pub unread-as : readable p g f page ≡ false
+      → NamedAs p g f k (record { home = from; page = page; readable = false; held = false; place = 0; item = 0; word = 0; owner = 0 })
+  unread-as e =
       record {
         homeIs = homed;
         pageMost = rw is (named-most p g f k sized);
@@ -66,13 +66,11 @@ module _ (p : Parameters) (g : Growth) (f : File) (k from page : ℕ) (sized : S
         ownerIs = λ t. absurd (false≢true t);
         itemBelow = λ t. absurd (false≢true t);
         wordValid = λ t. absurd (false≢true t);
-        homesAre = λ t. absurd (false≢true t);
       }
 
-  pub absent-as : (place : ℕ) (hs : List ℕ) → readable p g f page ≡ true → holds p f page k ≡ false → place ≡ placeFor p f page k
-      → take (p .places) hs ≡ homesOf p g (part (p .places) page (f .numbers))
-      → NamedAs p g f k (record { home = from; page = page; readable = true; held = false; place = place; item = 0; word = 0; owner = 0; homes = hs })
-  absent-as place hs e h a m =
+  pub absent-as : (place : ℕ) → readable p g f page ≡ true → holds p f page k ≡ false → place ≡ placeFor p f page k
+      → NamedAs p g f k (record { home = from; page = page; readable = true; held = false; place = place; item = 0; word = 0; owner = 0 })
+  absent-as place e h a =
       record {
         homeIs = homed;
         pageMost = rw is (named-most p g f k sized);
@@ -85,14 +83,12 @@ module _ (p : Parameters) (g : Growth) (f : File) (k from page : ℕ) (sized : S
         ownerIs = λ t. absurd (false≢true t);
         itemBelow = λ t. absurd (false≢true t);
         wordValid = λ t. absurd (false≢true t);
-        homesAre = λ t. rw (← is) m;
       }
 
-  pub held-as : (place item word owner : ℕ) (hs : List ℕ) → readable p g f page ≡ true → holds p f page k ≡ true → place ≡ placeFor p f page k → item ≡ itemOf p f page k
+  pub held-as : (place item word owner : ℕ) → readable p g f page ≡ true → holds p f page k ≡ true → place ≡ placeFor p f page k → item ≡ itemOf p f page k
       → word ≡ getD (f .words) (itemOf p f page k) 0 → owner ≡ ownerFor p f page k → item < p .pages * p .places → validWord word ≡ true
-      → take (p .places) hs ≡ homesOf p g (part (p .places) page (f .numbers))
-      → NamedAs p g f k (record { home = from; page = page; readable = true; held = true; place = place; item = item; word = word; owner = owner; homes = hs })
-  held-as place item word owner hs e h a i w o b v m =
+      → NamedAs p g f k (record { home = from; page = page; readable = true; held = true; place = place; item = item; word = word; owner = owner })
+  held-as place item word owner e h a i w o b v =
       record {
         homeIs = homed;
         pageMost = rw is (named-most p g f k sized);
@@ -105,7 +101,6 @@ module _ (p : Parameters) (g : Growth) (f : File) (k from page : ℕ) (sized : S
         ownerIs = λ t. rw (← is) o;
         itemBelow = λ t. b;
         wordValid = λ t. v;
-        homesAre = λ t. rw (← is) m;
       }
 
 -- the search of the loaded page, said of the lent lists
@@ -169,24 +164,16 @@ word-valid p g f page k sized inside some sound held =
     (held-star ns ws os k (ln ∙ sym (long (f .words) (sized .ofWords)), ln ∙ sym (long (f .owners) (sized .ofOwners))) some held) .2 in
     ap validWord (sym (part-item (p .places) page (f .words) (placeOf k ns) (rw ln at there))) ∙ proper
 
--- a page that is read is one of the file, and sound
-read-facts : (p : Parameters) (g : Growth) (f : File) (page : ℕ) → readable p g f page ≡ true → (page < p .pages) × (soundAt p g f page ≡ true)
-unfolding readable
-read-facts p g f page e = let r = both (ltb page (p .pages)) (soundAt p g f page) e in (ltb-true page (p .pages) (r .0), r .1)
-
--- what is kept of it
+-- what is kept of a page that is read
 module _ (p : Parameters) (g : Growth) (f : File) (k : ℕ) (r : Named) (is : NamedAs p g f k r) (opened : r .readable ≡ true) where
   facts : (r .page < p .pages) × (soundAt p g f (r .page) ≡ true)
-  facts = read-facts p g f (r .page) (ap (readable p g f) (is .pageIs) ∙ (sym (is .readableIs) ∙ opened))
-
-  homes-there : take (p .places) (r .homes) ≡ homesOf p g (part (p .places) (r .page) (f .numbers))
-  homes-there = rw (is .pageIs) (is .homesAre opened)
+  facts = readable-facts p g f (r .page) (ap (readable p g f) (is .pageIs) ∙ (sym (is .readableIs) ∙ opened))
 
   pub named-inside : r .page < p .pages
   named-inside = facts .0
 
-  pub named-known : (pool after : List ℕ) → Sized (p .places) (p .pages) f → length pool ≡ p .pages * p .places
-      → after ≡ paste pool (r .page * p .places) (r .homes) (p .places) → Known p g f after (r .page)
-  named-known pool after sized long h =
+  pub named-known : (homes pool after : List ℕ) → HomedAs p g f r homes → Sized (p .places) (p .pages) f → length pool ≡ p .pages * p .places
+      → after ≡ paste pool (r .page * p .places) homes (p .places) → Known p g f after (r .page)
+  named-known homes pool after there sized long h =
       surveyed-known p g f pool after (r .page) sized long (facts .1)
-      (h ∙ paste-front pool (r .homes) (homesOf p g (part (p .places) (r .page) (f .numbers))) (r .page * p .places) (p .places) homes-there)
+      (h ∙ paste-front pool homes (homesOf p g (part (p .places) (r .page) (f .numbers))) (r .page * p .places) (p .places) (there .homed opened))

@@ -7,6 +7,5 @@ mod rewriting;
 pub use naming::Named;
 pub use naming::find;
 pub use naming::find_kept;
-pub use naming::may_alter;
 pub use reading::look_up;
 pub use rewriting::change;

@@ -2,13 +2,12 @@
 ghost use mathlib.Core.Path.{_≡_};
 ghost use mathlib.Core.Bool.{true, false};
 ghost use Prim.Native.Nat.{_*_};
-ghost use lib.ListN.{length, replicate};
+ghost use lib.ListN.{length};
 ghost use Rattle.pages.specs.Position.{validNumber};
 ghost use Rattle.placement.specs.Lent.{held, before};
 ghost use Rattle.placement.specs.Ready.{Ready};
 ghost use Rattle.reach.specs.Known.{Known};
-ghost use Rattle.calls.specs.Calls.{mayAlter};
-ghost use Rattle.lookup.specs.Named.{NamedAs};
+ghost use Rattle.lookup.specs.Named.{NamedAs, HomedAs};
 use hashing::Geometry;
 
 pub struct Named {
@@ -23,11 +22,9 @@ pub struct Named {
     pub item: usize,
     pub word: u64,
     pub owner: u8,
-    // of the page's stars, 0 for an empty place, if it is readable
-    pub homes: [u32; 32],
 }
 
-// Reads the separators and one page, copied as a value before it is searched.
+// Reads the separators and one page, copied as a value before it is searched. If it is readable, `homes` has its stars' homes, 0 for an empty place.
 pub fn find(
     table: &[u32; 90],
     geometry: Geometry,
@@ -36,10 +33,13 @@ pub fn find(
     words: &[u64],
     owners: &[u8],
     number: u32,
+    homes: &mut [u32; 32],
 ) -> Named
     requires { ⌜ Ready geometry (now table) (held separators numbers words owners) ⌝ }
     requires { ⌜ validNumber number ≡ true ⌝ }
+    requires { ⌜ length (now homes) ≡ 32 ⌝ }
     ensures { λ r. ⌜ NamedAs (geometry .parameters) (geometry .growth) (before separators numbers words owners) number r ⌝ }
+    ensures { λ r. ⌜ HomedAs (geometry .parameters) (geometry .growth) (before separators numbers words owners) r (now (homes .exit)) ⌝ }
 {
     let places = geometry.parameters.places as usize;
     let home = hashing::home(table, geometry, number);
@@ -48,12 +48,19 @@ pub fn find(
         return unread(home, page);
     }
     let value = pages::page::load(numbers, words, owners, places, page);
-    let tested = placement::page_sound(table, geometry, separators, value, page);
-    if !tested.sound {
+    if !placement::page_sound(
+        table,
+        geometry,
+        separators,
+        &value.numbers,
+        &value.words,
+        &value.owners,
+        page,
+        homes,
+    ) {
         return unread(home, page);
     }
-    let homes = tested.homes;
-    let found = pages::page::search(value, places, number);
+    let found = pages::page::search(&value.numbers, places, number);
     let at = found.at;
     let place = at as u32;
     if !found.held {
@@ -66,7 +73,6 @@ pub fn find(
             item: 0,
             word: 0,
             owner: 0,
-            homes,
         };
     }
     Named {
@@ -78,7 +84,6 @@ pub fn find(
         item: page * places + at,
         word: value.words[at],
         owner: value.owners[at],
-        homes,
     }
 }
 
@@ -99,21 +104,29 @@ pub fn find_kept(
     ensures { λ r. ⌜ NamedAs (geometry .parameters) (geometry .growth) (before separators numbers words owners) number r ⌝ }
     ensures { λ r. ⌜ (r .readable ≡ true → Known (geometry .parameters) (geometry .growth) (before separators numbers words owners) (now (pool .exit)) (r .page)) ⌝ }
 {
-    let named = find(table, geometry, separators, numbers, words, owners, number);
+    let mut homes = [0u32; 32];
+    let named = find(
+        table,
+        geometry,
+        separators,
+        numbers,
+        words,
+        owners,
+        number,
+        &mut homes,
+    );
     if !named.readable {
         return named;
     }
     let places = geometry.parameters.places as usize;
-    let homes = named.homes;
     let page = named.page;
     buffers::copy_32(pool, page * places, &homes, 0, places);
     named
 }
 
 fn unread(home: u32, page: usize) -> Named
-    ensures { λ r. ⌜ r ≡ record { home = home; page = page; readable = false; held = false; place = 0; item = 0; word = 0; owner = 0; homes = replicate 32 0 } ⌝ }
+    ensures { λ r. ⌜ r ≡ record { home = home; page = page; readable = false; held = false; place = 0; item = 0; word = 0; owner = 0 } ⌝ }
 {
-    let homes = [0u32; 32];
     Named {
         home,
         page,
@@ -123,16 +136,5 @@ fn unread(home: u32, page: usize) -> Named
         item: 0,
         word: 0,
         owner: 0,
-        homes,
     }
-}
-
-// Who may change or remove a held star: the institute, or its owner.
-pub fn may_alter(caller: u8, owner: u8) -> bool
-    ensures { λ r. ⌜ r ≡ mayAlter caller owner ⌝ }
-{
-    if caller == 0 {
-        return true;
-    }
-    caller == owner
 }

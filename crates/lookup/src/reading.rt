@@ -39,6 +39,7 @@ pub fn look_up(
         return Found::Refused(Refusal::BadNumber, 0);
     }
     let table = generator::first_multipliers(parameters.multiplier);
+    let mut homes = [0u32; 32];
     let named = find(
         &table,
         Geometry { parameters, growth },
@@ -47,6 +48,7 @@ pub fn look_up(
         words,
         owners,
         number,
+        &mut homes,
     );
     let page = named.page as u32;
     if !named.readable {

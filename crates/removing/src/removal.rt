@@ -14,11 +14,11 @@ use calls::answers::Placed;
 use calls::answers::Refusal;
 use guarding::all_fit;
 use guarding::guard;
+use guarding::may_alter;
 use hashing::Geometry;
 use hashing::Growth;
 use hashing::Parameters;
 use lookup::find_kept;
-use lookup::may_alter;
 
 // The answer of an accepted removal is the page where the star stood.
 pub fn remove(

@@ -1,5 +1,5 @@
 -- The value tested is the page's, and its words join those that have come.
-use mathlib.Core.Path.{_≡_, sym, ap, _∙_}
+use mathlib.Core.Path.{_≡_, refl, sym, ap, _∙_}
 use mathlib.Core.Bool.{true}
 use mathlib.Core.List.{List, _++_}
 use Prim.Native.Nat.{ℕ, _+_, _-_, _*_, _≤_}
@@ -43,25 +43,26 @@ load-requires c κs =
 
 page-sound-requires : tie.Need-page-sound-requires
 page-sound-requires c κs =
-    let pre = c .before .before .before .before .before .before .before .pre in
-    (pre .0 .homing, (pre .0 .sized .ofSeparators, pre .1 .1 .0))
+    let pre = c .before .before .before .before .before .before .before .before .before .before .before .before .pre in
+    let page = c .before .before .before .before .before .load .ok in
+    (pre .0 .homing, (pre .0 .sized .ofSeparators, (pre .1 .1 .0, ((search (needs, page), (search (needs, page), search (needs, page))), refl))))
 
 -- from the test of the page on
 abbrev start : tie.After-page-sound → tie.Start
-start c = c .before .before .before .before .before .before .before .before
+start c = c .before .before .before .before .before .before .before .before .before .before .before .before .before
 
-told : (c : tie.After-page-sound) → c .page-sound .result .sound ≡ soundAt (start c .args .geometry .parameters) (start c .args .geometry .growth) (file (start c)) (start c .args .page)
+told : (c : tie.After-page-sound) → c .page-sound .result ≡ soundAt (start c .args .geometry .parameters) (start c .args .geometry .growth) (file (start c)) (start c .args .page)
 told c =
     let s = start c in
     c .page-sound .ensures .sound
-    ∙ sound-loaded _ _ (file s) _ _ (inside s (s .pre .0 .sized .ofNumbers)) (inside s (s .pre .0 .sized .ofWords)) (inside s (s .pre .0 .sized .ofOwners)) (c .before .load .ensures)
+    ∙ sound-loaded _ _ (file s) _ _ (inside s (s .pre .0 .sized .ofNumbers)) (inside s (s .pre .0 .sized .ofWords)) (inside s (s .pre .0 .sized .ofOwners)) (c .before .before .before .before .before .before .load .ensures)
 
 returns : tie.Need-returns
-returns c = sym (told (c .before .before)) ∙ not-true _ (c .if1 .taken)
+returns c = sym (told (c .before)) ∙ not-true _ (c .if1 .taken)
 
 -- where the page is sound
 abbrev tested : tie.Else1 → tie.After-page-sound
-tested c = c .before .before
+tested c = c .before
 
 sound : (c : tie.Else1) → soundAt (start (tested c) .args .geometry .parameters) (start (tested c) .args .geometry .growth) (file (start (tested c))) (start (tested c) .args .page) ≡ true
 sound c = sym (told (tested c)) ∙ not-false _ (c .if1 .left)
@@ -77,37 +78,37 @@ stars s =
     ∙ sym (stars-count (s .args .geometry .parameters) (s .args .geometry .growth) (file s) (s .pre .0 .homing .valid) (s .pre .0 .sized) (s .args .page) (s .pre .1 .1 .0))
 
 sub-exceeds : tie.Need-sub-exceeds
-sub-exceeds c = omega (arith, c .before .before .before .before .before .before .before .before .before .before .pre .1 .1 .1)
+sub-exceeds c = omega (arith, c .before .before .before .before .before .before .before .before .before .before .before .before .before .before .pre .1 .1 .1)
 
 exceeds-requires : tie.Need-exceeds-requires
-exceeds-requires c κs = let s = c .before .before .before .before .before .before .before .before .before .before in inside s (s .pre .0 .sized .ofNumbers)
+exceeds-requires c κs = let s = c .before .before .before .before .before .before .before .before .before .before .before .before .before .before in inside s (s .pre .0 .sized .ofNumbers)
 
 returns-2 : tie.Need-returns-2
 returns-2 c =
-    let s = c .before .before .before .before .before .before .before .before .before .before .before .before in
+    let s = c .before .before .before .before .before .before .before .before .before .before .before .before .before .before .before .before in
     let more = ltb-true (length (now (s .args .waiting)) - s .args .end) (counted s) (sym (c .before .exceeds .ensures) ∙ c .if2 .taken) in
     record { sound = sound (c .before .before); many = omega (arith, more, stars s, s .pre .1 .0, s .pre .1 .1 .1) }
 
 append-requires : tie.Need-append-requires
 append-requires c κs =
-    let s = c .before .before .before .before .before .before .before .before .before .before .before .before .before .before .before .before .before in
+    let s = c .before .before .before .before .before .before .before .before .before .before .before .before .before .before .before .before .before .before .before .before in
     let p = s .args .geometry .parameters in
     let g = s .args .geometry .growth in
-    let l = c .before .before .before .before .before .before .before .before .before .before .load in
-    let h = c .before .before .before .before .before .before .before .before .before .page-sound in
-    let yes = not-false _ (c .before .before .before .before .before .before .before .if1 .left) in
-    let fits = ltb-false (length (now (s .args .waiting)) - s .args .end) (counted s) (sym (c .before .before .before .before .before .before .exceeds .ensures) ∙ c .before .before .before .before .before .if2 .left) in
+    let l = c .before .before .before .before .before .before .before .before .before .before .before .before .before .load in
+    let h = c .before .before .before .before .before .before .before .page-sound in
+    let yes = not-false _ (c .before .before .before .before .before .before .if1 .left) in
+    let fits = ltb-false (length (now (s .args .waiting)) - s .args .end) (counted s) (sym (c .before .before .before .before .before .exceeds .ensures) ∙ c .before .before .before .before .if2 .left) in
     let same = loaded-numbers p g (file s) (s .pre .0 .homing .valid) (s .pre .0 .sized) (s .args .page) (s .pre .1 .1 .0) (l .result) (l .ensures) in (
       (limits p (s .pre .0 .homing .valid) .places-most, page-few p g (file s) (s .pre .0 .homing .valid) (s .pre .0 .sized) (s .args .page) (s .pre .1 .1 .0)),
       (
         (
           loaded-long p g (file s) (s .pre .0 .homing .valid) (s .pre .0 .sized) (s .args .page) (s .pre .1 .1 .0) (l .result) (l .ensures),
-          homes-long p g (file s) (s .pre .0 .homing .valid) (s .pre .0 .sized) (s .args .page) (s .pre .1 .1 .0) (l .result) (l .ensures) (sound (c .before .before .before .before .before .before .before)) (h .result .homes) (h .ensures .homes yes),
+          homes-long p g (file s) (s .pre .0 .homing .valid) (s .pre .0 .sized) (s .args .page) (s .pre .1 .1 .0) (l .result) (l .ensures) (sound (c .before .before .before .before .before .before)) _ (h .ensures .homed yes),
         ),
         (
           (
-            loaded-below p g (file s) (s .pre .0 .homing .valid) (s .pre .0 .sized) (s .args .page) (s .pre .1 .1 .0) (l .result) (l .ensures) (sound (c .before .before .before .before .before .before .before)),
-            homes-small p g (file s) (s .pre .0 .homing .valid) (s .pre .0 .sized) (s .args .page) (s .pre .1 .1 .0) (l .result) (l .ensures) (sound (c .before .before .before .before .before .before .before)) (h .result .homes) (h .ensures .homes yes),
+            loaded-below p g (file s) (s .pre .0 .homing .valid) (s .pre .0 .sized) (s .args .page) (s .pre .1 .1 .0) (l .result) (l .ensures) (sound (c .before .before .before .before .before .before)),
+            homes-small p g (file s) (s .pre .0 .homing .valid) (s .pre .0 .sized) (s .args .page) (s .pre .1 .1 .0) (l .result) (l .ensures) (sound (c .before .before .before .before .before .before)) _ (h .ensures .homed yes),
           ),
           omega (arith, fits, stars s, ap (starsIn 0) same, stars-count p g (file s) (s .pre .0 .homing .valid) (s .pre .0 .sized) (s .args .page) (s .pre .1 .1 .0), s .pre .1 .1 .1),
         ),
@@ -119,15 +120,15 @@ same-length c = search needs
 
 returns-3 : tie.Need-returns-3
 returns-3 c =
-    let s = c .before .before .before .before .before .before .before .before .before .before .before .before .before .before .before .before .before .before .before .before in
+    let s = c .before .before .before .before .before .before .before .before .before .before .before .before .before .before .before .before .before .before .before .before .before .before .before in
     let p = s .args .geometry .parameters in
     let g = s .args .geometry .growth in
-    let l = c .before .before .before .before .before .before .before .before .before .before .before .before .before .load in
-    let h = c .before .before .before .before .before .before .before .before .before .before .before .before .page-sound in
-    let yes = not-false _ (c .before .before .before .before .before .before .before .before .before .before .if1 .left) in
-    let same = loaded-words p g (file s) (s .pre .0 .homing .valid) (s .pre .0 .sized) (s .args .page) (s .pre .1 .1 .0) (l .result) (l .ensures) (sound (c .before .before .before .before .before .before .before .before .before .before)) (h .result .homes) (h .ensures .homes yes) in
+    let l = c .before .before .before .before .before .before .before .before .before .before .before .before .before .before .before .before .load in
+    let h = c .before .before .before .before .before .before .before .before .before .before .page-sound in
+    let yes = not-false _ (c .before .before .before .before .before .before .before .before .before .if1 .left) in
+    let same = loaded-words p g (file s) (s .pre .0 .homing .valid) (s .pre .0 .sized) (s .args .page) (s .pre .1 .1 .0) (l .result) (l .ensures) (sound (c .before .before .before .before .before .before .before .before .before)) _ (h .ensures .homed yes) in
     record {
-      sound = sound (c .before .before .before .before .before .before .before .before .before .before);
+      sound = sound (c .before .before .before .before .before .before .before .before .before);
       ends = c .before .before .append .ensures .0 ∙ ap (λ (w : List ℕ). s .args .end + length w) same;
       words = c .before .before .append .ensures .1 ∙ ap (λ (w : List ℕ). take (s .args .end) (now (s .args .waiting)) ++ w) same;
     }

@@ -11,8 +11,8 @@ cast-places c = search needs
 
 of-page-requires : tie.Need-of-page-requires
 of-page-requires c κs =
-    let s = c .before .before .before .before in
-    (s .pre .0, (s .pre .1 .0, (s .pre .1 .1, (limits (s .args .geometry .parameters) (s .pre .1 .0) .places-most, (search needs, refl)))))
+    let s = c .before .before in
+    (s .pre .0, (s .pre .1 .0, (s .pre .1 .1 .0, (limits (s .args .geometry .parameters) (s .pre .1 .0) .places-most, (s .pre .1 .1 .1, refl)))))
 
 returns : tie.Need-returns
 returns c = search needs

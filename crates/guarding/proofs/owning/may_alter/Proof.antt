@@ -1,8 +1,8 @@
--- `starfile::naming::may_alter` meets its contract.
+-- `guarding::owning::may_alter` meets its contract.
 use borrow.Author.Tests.{eq-eqb, ne-eqb}
 use Rattle.calls.specs.Calls.{mayAlter}
-use Rattle.lookup.proofs.naming.may_alter.Statement.{statement}
-use Rattle.lookup.proofs.naming.may_alter.Tie as tie
+use Rattle.guarding.proofs.owning.may_alter.Statement.{statement}
+use Rattle.guarding.proofs.owning.may_alter.Tie as tie
 
 returns : tie.Need-returns
 unfolding mayAlter
