@@ -7,7 +7,7 @@ ghost use Rattle.placement.specs.Hash.{homeUnder, namedPage};
 ghost use Rattle.placement.specs.Lent.{held, before, after};
 ghost use Rattle.placement.specs.Ready.{Ready, Pooled};
 ghost use Rattle.reach.specs.Known.{Known};
-ghost use Rattle.replacing.specs.Calls.{Held, removalAnswer, removalFile};
+ghost use Rattle.replacing.specs.Removal.{Held, removalAnswer, removalFile};
 use crate::removal::remove_star;
 use hashing::Geometry;
 use planning::Outcome;

@@ -4,7 +4,7 @@ ghost use Rattle.placement.specs.Hash.{homeUnder};
 ghost use Rattle.placement.specs.Lent.{held, before, after};
 ghost use Rattle.placement.specs.Ready.{Ready, Pooled};
 ghost use Rattle.reach.specs.Known.{Known};
-ghost use Rattle.replacing.specs.Calls.{removalAnswer, removalFile};
+ghost use Rattle.replacing.specs.Removal.{removalAnswer, removalFile};
 use crate::stretch::replace_stretch;
 use hashing::Geometry;
 use planning::Outcome;

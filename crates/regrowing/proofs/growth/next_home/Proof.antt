@@ -2,8 +2,8 @@ use mathlib.Core.Path.{_≡_}
 use borrow.Author.Tests.{eq-eqb, ne-eqb}
 use Rattle.hashing.specs.Geometry.{multiplierOf}
 use Rattle.hashing.specs.Home.{home}
-use Rattle.replacing.proofs.growth.next_home.Statement.{statement}
-use Rattle.replacing.proofs.growth.next_home.Tie as tie
+use Rattle.regrowing.proofs.growth.next_home.Statement.{statement}
+use Rattle.regrowing.proofs.growth.next_home.Tie as tie
 
 returns : tie.Need-returns
 returns c = rw (eq-eqb _ _ (c .if1 .taken))

@@ -3,10 +3,10 @@ ghost use mathlib.Core.Path.{_≡_};
 ghost use Rattle.placement.specs.Hash.{homeIn, homesOf};
 ghost use Rattle.placement.specs.Lent.{held, before, after};
 ghost use Rattle.placement.specs.Ready.{Homing, Ready, Pooled};
-ghost use Rattle.replacing.specs.Calls.{nextOf, Movable, growthAnswer, growthFile};
-use crate::stretch::replace_stretch;
+ghost use Rattle.regrowing.specs.Growth.{nextOf, Movable, growthAnswer, growthFile};
 use hashing::Geometry;
 use planning::Outcome;
+use replacing::replace_stretch;
 
 // An item's home under that growth state, from its home under this one; 0 for an empty place.
 fn next_home(table: &[u32; 90], geometry: Geometry, back: bool, number: u32, old: u32) -> u32

@@ -2,16 +2,16 @@ use mathlib.Core.Bool.{Bool, true, false, cond}
 use Rattle.hashing.specs.Limits.{validGrowth}
 use Rattle.placement.specs.Hash.{lent}
 use Rattle.planning.specs.declared.outcome.Outcome.the-variants.{On, Overflows}
-use Rattle.replacing.specs.Calls.{nextOf, growthAnswer, growthFile}
+use Rattle.regrowing.specs.Growth.{nextOf, growthAnswer, growthFile}
 use mathlib.Core.Path.{_≡_, _∙_, sym}
 use native.Mathlib.Nat.{le-refl}
 use native.Mathlib.Omega.{arith}
 use borrow.Author.Tests.{not-true, not-false}
-use Rattle.replacing.proofs.Growing.{next-valid, growth-refused, surveyed-all, growth-plannable, growth-done}
+use Rattle.regrowing.proofs.Growing.{next-valid, growth-refused, surveyed-all, growth-plannable, growth-done}
 use Rattle.reach.proofs.Surveyed.{known-none}
 use borrow.Author.Needs.{needs}
-use Rattle.replacing.proofs.growth.regrow.Statement.{statement}
-use Rattle.replacing.proofs.growth.regrow.Tie as tie
+use Rattle.regrowing.proofs.growth.regrow.Statement.{statement}
+use Rattle.regrowing.proofs.growth.regrow.Tie as tie
 
 cast-pages : tie.Need-cast-pages
 cast-pages c = search needs

@@ -30,10 +30,10 @@ use Rattle.buffers.proofs.Written.{pasted-whole}
 use Rattle.planning.proofs.Sourcing.{itemHome}
 use Rattle.planning.proofs.Placed.{Gatherable, probes-real, homes-real}
 use Rattle.planning.specs.declared.outcome.Outcome.the-variants.{On, Unsound, Overflows}
 use Rattle.replacing.specs.Stretch.{StretchReady, fitting, restretched}
-use Rattle.replacing.specs.Calls.{nextOf, Movable, growthAnswer, growthFile}
+use Rattle.regrowing.specs.Growth.{nextOf, Movable, growthAnswer, growthFile}
 use Rattle.replacing.proofs.Ruled.{fitting-is, restretched-is}
 use Rattle.replacing.proofs.Items.{all-below, all-sound, all-numbered, numbers-below, plannable-stretch, ready-stretch}
 
 -- homes, item by item
 

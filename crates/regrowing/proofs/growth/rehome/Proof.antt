@@ -4,10 +4,10 @@ use native.Mathlib.Nat.{le-antisymm}
 use native.Mathlib.Omega.{arith}
 use lib.ListN.{length}
 use Rattle.buffers.proofs.Copies.{none}
-use Rattle.replacing.specs.Calls.{nextOf}
-use Rattle.replacing.proofs.Growing.{Rehomed, homes-long, home-there, rehomed-next, rehomed-all}
-use Rattle.replacing.proofs.growth.rehome.Statement.{statement}
-use Rattle.replacing.proofs.growth.rehome.Tie as tie
+use Rattle.regrowing.specs.Growth.{nextOf}
+use Rattle.regrowing.proofs.Growing.{Rehomed, homes-long, home-there, rehomed-next, rehomed-all}
+use Rattle.regrowing.proofs.growth.rehome.Statement.{statement}
+use Rattle.regrowing.proofs.growth.rehome.Tie as tie
 
 abbrev Inv-loop : tie.InvT-loop
 Inv-loop table geometry back numbers homes₀ i₀ homes i =
