@@ -1,58 +1,53 @@
+use mathlib.Core.Path.{refl, _∙_}
+use native.Mathlib.Omega.{arith}
 use borrow.Author.Needs.{needs}
+use borrow.Author.Tests.{eqb-true}
+use Rattle.blocks.proofs.Block.{block-ready, block-placed, block-stays}
 use Rattle.blocks.proofs.renewing.replace_block.Statement.{statement}
 use Rattle.blocks.proofs.renewing.replace_block.Tie as tie
-use Rattle.blocks.proofs.renewing.replace_block.Reads as reads
-use Rattle.blocks.proofs.renewing.replace_block.Lts as lts
-use Rattle.placement.proofs.top_of.Reads as top-of-reads
-use Rattle.replacing.proofs.replace_stretch.Reads as replace-stretch-reads
 
--- src/renewing.rt:33:22
 slice-read-if2 : tie.Need-slice-read-if2
 slice-read-if2 c = search needs
 
--- src/renewing.rt:33:40
 top-of-requires : tie.Need-top-of-requires
 top-of-requires c κs = search needs
 
--- src/renewing.rt:34:9
 returns : tie.Need-returns
-returns c = ?
+returns c =
+    let block = c .before .before .before .before .before .before .before .before .before .before .before .before .pre in
+    (block-stays _ _ _ _ _ _ _ block (omega arith) (eqb-true _ _ (c .if2 .taken) ∙ c .before .top-of .ensures), refl)
 
--- src/renewing.rt:36:5
 replace-stretch-requires : tie.Need-replace-stretch-requires
-replace-stretch-requires c κs = ?
+replace-stretch-requires c κs =
+    let block = c .before .before .before .before .before .before .before .before .before .before .before .before .before .before .before .before .pre in
+    (block .ready .valid, block-ready _ _ _ _ _ _ _ block)
 
--- src/renewing.rt:15:1
 same-length : tie.Need-same-length
 same-length c = search needs
 
--- src/renewing.rt:15:1
 same-length-2 : tie.Need-same-length-2
 same-length-2 c = search needs
 
--- src/renewing.rt:15:1
 same-length-3 : tie.Need-same-length-3
 same-length-3 c = search needs
 
--- src/renewing.rt:15:1
 same-length-4 : tie.Need-same-length-4
 same-length-4 c = search needs
 
--- src/renewing.rt:15:1
 same-length-5 : tie.Need-same-length-5
 same-length-5 c = search needs
 
--- src/renewing.rt:15:1
 same-length-6 : tie.Need-same-length-6
 same-length-6 c = search needs
 
--- src/renewing.rt:15:1
 same-length-7 : tie.Need-same-length-7
 same-length-7 c = search needs
 
--- src/renewing.rt:15:1
 returns-2 : tie.Need-returns-2
-returns-2 c = ?
+returns-2 c =
+    let placed = c .before .before .before .before .before .before .before .before .before .before .before .before .before .before in
+    let left = placed .replace-stretch .ensures .1 in
+    (left .0 ∙ block-placed _ _ _ _ _ _ _ (placed .before .before .before .before .before .before .before .before .before .before .before .before .before .before .before .before .before .pre), left .1)
 
 pub replace-block-spec : {M : Type 1} → statement M
 replace-block-spec =
