@@ -10,14 +10,14 @@ use lib.Seq.{getD-drop}
 use Rattle.buffers.specs.Lists.{written}
 use Rattle.buffers.proofs.Written.{written-same, taken-written}
 use Rattle.pages.specs.Page.{part}
-use Rattle.placement.specs.Rule.{Star, Hash, Contents, separators, pages, first, pour}
+use Rattle.placement.specs.Rule.{Star, Hash, Contents, separators, pages}
 use Rattle.placement.specs.File.{File, Sized, starsAt, contentsAt, pagesAt, gathered, column, replaced}
 use Rattle.placement.proofs.Order.{rising-sorted, pour-nil}
 use Rattle.placement.proofs.Separator.{Bounded}
 use Rattle.placement.proofs.Standing.{first-home, length-separators}
 use Rattle.placement.proofs.Writing.{Roomy, length-column}
 use Rattle.placement.proofs.Files.{numberOf, wordOf, ownerOf}
-use Rattle.placement.proofs.Sound.{Sound, sound-rising, length-starsAt, replaced-same}
+use Rattle.placement.proofs.Sound.{Sound, sound-rising, length-starsAt}
 use Rattle.planning.proofs.Copies.{written-behind, alike-later}
 use Rattle.shifting.proofs.OnePage.{pages-alone}
 use Rattle.blocks.specs.Blocks.{AlikeFrom}

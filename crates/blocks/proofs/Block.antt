@@ -1,8 +1,8 @@
 -- One block: a plan over it can be made, and what the code leaves of it is the rule over its stars.
-use mathlib.Core.Path.{_≡_, refl, sym, ap, _∙_}
+use mathlib.Core.Path.{_≡_, sym, ap, _∙_}
 use mathlib.Core.Bool.{true}
 use mathlib.Core.List.{List, [], map}
-use Prim.Native.Nat.{ℕ, _+_, _*_, _^_, _≤_, _<_}
+use Prim.Native.Nat.{ℕ, _+_, _*_, _^_, _<_}
 use native.Mathlib.Omega.{arith}
 use lib.ListN.{getD, take}
 use Rattle.hashing.specs.declared.Parameters.{Parameters}
@@ -12,7 +12,7 @@ use Rattle.pages.specs.Page.{stretch}
 use Rattle.pages.specs.Position.{validWord}
 use Rattle.placement.specs.Rule.{Hash, pages, left, without}
 use Rattle.placement.specs.File.{File, pagesAt, gathered, replaced}
-use Rattle.placement.specs.Hash.{hashOf, soundAt, homesOf}
+use Rattle.placement.specs.Hash.{hashOf}
 use Rattle.placement.proofs.Files.{length-pagesAt}
 use Rattle.placement.proofs.Sound.{AllSound, replaced-same}
 use Rattle.placement.proofs.Probing.{bounded-real}

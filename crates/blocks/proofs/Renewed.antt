@@ -1,8 +1,8 @@
 -- The file when the blocks below page lo are placed anew.
-use mathlib.Core.Path.{_≡_, refl, sym, ap, _∙_}
+use mathlib.Core.Path.{_≡_, sym, ap, _∙_}
 use mathlib.Core.Bool.{true}
-use mathlib.Core.List.{List, [], _++_, map}
-use Prim.Native.Nat.{ℕ, suc, _+_, _-_, _*_, _≤_, _<_}
+use mathlib.Core.List.{List, [], map}
+use Prim.Native.Nat.{ℕ, _+_, _-_, _*_, _≤_, _<_}
 use native.Mathlib.Nat.{zero-add, mul-le-mul-right}
 use native.Mathlib.Omega.{arith}
 use lib.ListN.{length, getD, take, drop}
@@ -10,6 +10,7 @@ use borrow.Author.Tests.{eqb-true}
 use Rattle.buffers.proofs.Lists.{map-take, map-drop}
 use Rattle.buffers.proofs.Written.{written-none}
 use Rattle.hashing.specs.declared.Parameters.{Parameters}
+use Rattle.hashing.specs.declared.Growth.{Growth}
 use Rattle.hashing.specs.declared.Geometry.{Geometry}
 use Rattle.generator.specs.Generator.{topOf}
 use Rattle.pages.specs.Page.{stretch}
@@ -27,9 +28,22 @@ use Rattle.planning.proofs.Copies.{alike-later}
 use Rattle.reach.specs.Reach.{firstSuch, firstUnsound, storedTop, allStars}
 use Rattle.reach.proofs.Search.{Such, such}
 use Rattle.replacing.proofs.Items.{all-sound, real-sound}
-use Rattle.blocks.specs.Blocks.{Pages, AlikeFrom, SoundBlock}
+use Rattle.blocks.specs.Blocks.{Placeable, AlikeFrom, SoundBlock}
 use Rattle.blocks.proofs.Joining.{Starts, nothing-left, pages-joined}
 use Rattle.blocks.proofs.Alike.{gathered-alike, separator-alike, replaced-alike}
+
+-- a file of sound pages
+module _ (p : Parameters) (g : Growth) (f : File) (sound : firstUnsound p g f 0 (p .pages) ≡ p .pages) where
+  sound-at : (q : ℕ) → 0 ≤ q → q < 0 + p .pages → soundAt p g f q ≡ true
+  sound-at = all-sound p g f 0 (p .pages) (omega (arith, sound))
+
+  all-are-sound : AllSound validWord (hashOf p g) f 0 (p .pages)
+  all-are-sound = real-sound p g f 0 (p .pages) sound-at
+
+  -- the rule carries nothing past the last page
+  pub nothing-past : Sized (p .places) (p .pages) f → left (hashOf p g) 0 (p .pages) (allStars p f) ≡ []
+  unfolding hashOf
+  nothing-past sized = nothing-left validWord (hashOf p g) f (p .pages) 0 (p .pages) sized (omega arith) all-are-sound
 
 -- the rule over the pages of f below lo
 abbrev pub ruledBelow : Geometry → File → ℕ → List Contents
@@ -53,7 +67,7 @@ replaced-none b f =
       owners = written-none (0 * b) (f .owners) i;
     }
 
-module _ (g : Geometry) (f : File) (pool₀ waiting₀ poolowners₀ : List ℕ) (R : Pages g f pool₀ waiting₀ poolowners₀)
+module _ (g : Geometry) (f : File) (pool₀ waiting₀ poolowners₀ : List ℕ) (R : Placeable g f pool₀ waiting₀ poolowners₀)
     (sound : firstUnsound (g .parameters) (g .growth) f 0 (g .parameters .pages) ≡ g .parameters .pages)
     (stored : pool₀ ≡ homesOf (g .parameters) (g .growth) (f .numbers)) where
   abbrev p : Parameters
@@ -61,17 +75,6 @@ module _ (g : Geometry) (f : File) (pool₀ waiting₀ poolowners₀ : List ℕ)
 
   abbrev H : Hash
   H = hashOf (g .parameters) (g .growth)
-
-  sound-at : (q : ℕ) → 0 ≤ q → q < 0 + p .pages → soundAt p (g .growth) f q ≡ true
-  sound-at = all-sound p (g .growth) f 0 (p .pages) (omega (arith, sound))
-
-  all-are-sound : AllSound validWord H f 0 (p .pages)
-  all-are-sound = real-sound p (g .growth) f 0 (p .pages) sound-at
-
-  -- the rule carries nothing past the last page
-  pub nothing-past : left H 0 (p .pages) (allStars p f) ≡ []
-  unfolding hashOf
-  nothing-past = nothing-left validWord H f (p .pages) 0 (p .pages) (R .sized) (omega arith) all-are-sound
 
   pub renewed-none : Renewed g f f pool₀ waiting₀ poolowners₀ 0
   unfolding pages
@@ -116,7 +119,7 @@ module _ (g : Geometry) (f : File) (pool₀ waiting₀ poolowners₀ : List ℕ)
         ∙ ap (λ (x : File). replaced (p .places) x lo ds) (r .file)
         ∙ ap (λ (k : ℕ). replaced (p .places) (replaced (p .places) f 0 cs) k ds) at
         ∙ replaced-add (p .places) (p .pages) f 0 cs ds (R .sized) roomy (omega arith)
-        ∙ ap (replaced (p .places) f 0) (sym (pages-joined validWord H f (p .pages) (R .sized) all-are-sound (bounded-real p (g .growth) (R .valid)) lo n (r .starts inside) h))
+        ∙ ap (replaced (p .places) f 0) (sym (pages-joined validWord H f (p .pages) (R .sized) (all-are-sound p (g .growth) f sound) (bounded-real p (g .growth) (R .valid)) lo n (r .starts inside) h))
 
     -- where the block ends
     module _ (top last : ℕ) (et : top ≡ topOf (p .bits)) (inside : lo < p .pages)
@@ -152,13 +155,13 @@ module _ (g : Geometry) (f : File) (pool₀ waiting₀ poolowners₀ : List ℕ)
       pub renewed-block : SoundBlock g lo (last + 1 - lo) F pool waiting poolowners
       renewed-block =
           record {
-            ready = record { valid = R .valid; growth = R .growth; sized = renewed-sized; pooled = r .pooled };
+            ready = record { valid = R .valid; sized = renewed-sized; pooled = r .pooled };
             some = omega (arith, ends-least);
             inside = omega (arith, sum, ends-most);
             stored = f;
             sized = R .sized;
             alike = renewed-alike;
-            sound = λ q a b. sound-at q (omega arith) (omega (arith, sum, ends-most));
+            sound = λ q a b. sound-at p (g .growth) f sound q (omega arith) (omega (arith, sum, ends-most));
             homes = block-homes;
           }
 

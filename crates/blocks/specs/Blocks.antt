@@ -5,16 +5,15 @@ use mathlib.Core.List.{List}
 use Prim.Native.Nat.{ℕ, _+_, _*_, _≤_, _<_}
 use lib.ListN.{drop}
 use Rattle.hashing.specs.declared.Geometry.{Geometry}
-use Rattle.hashing.specs.Limits.{validParameters, validGrowth}
+use Rattle.hashing.specs.Limits.{validParameters}
 use Rattle.pages.specs.Page.{stretch}
 use Rattle.placement.specs.File.{File, Sized}
 use Rattle.placement.specs.Hash.{soundAt, homesOf}
 use Rattle.placement.specs.Ready.{Pooled}
 
--- valid parameters and growth state, and a file and a pool as long as the parameters say
-pub record Pages (g : Geometry) (f : File) (pool waiting poolowners : List ℕ) : Type 0 where
+-- valid parameters, and a file and a pool as long as they say
+pub record Placeable (g : Geometry) (f : File) (pool waiting poolowners : List ℕ) : Type 0 where
   pub valid : validParameters (g .parameters) ≡ true
-  pub growth : validGrowth (g .parameters) (g .growth) ≡ true
   pub sized : Sized (g .parameters .places) (g .parameters .pages) f
   pub pooled : Pooled (g .parameters) pool waiting poolowners
 
@@ -27,7 +26,7 @@ pub record AlikeFrom (places lo : ℕ) (f g : File) : Type 0 where
 
 -- n pages from lo on, sound in the file that was stored before pages below them were placed anew; the pool holds the homes of their items
 pub record SoundBlock (g : Geometry) (lo n : ℕ) (f : File) (pool waiting poolowners : List ℕ) : Type 0 where
-  pub ready : Pages g f pool waiting poolowners
+  pub ready : Placeable g f pool waiting poolowners
   pub some : 0 < n
   pub inside : lo + n ≤ g .parameters .pages
   pub stored : File

@@ -8,7 +8,7 @@ ghost use Rattle.placement.specs.File.{gathered, replaced};
 ghost use Rattle.placement.specs.Hash.{hashOf, homesOf};
 ghost use Rattle.placement.specs.Lent.{held, before, after};
 ghost use Rattle.reach.specs.Reach.{firstUnsound, allStars};
-ghost use Rattle.blocks.specs.Blocks.{Pages, SoundBlock};
+ghost use Rattle.blocks.specs.Blocks.{Placeable, SoundBlock};
 use hashing::Geometry;
 
 // The block of `count` pages from page lo. A block of one page under 2^k − 1 stays: all its stars are homed there.
@@ -59,7 +59,7 @@ pub fn replace_blocks(
     waiting: &mut [u64],
     poolowners: &mut [u8],
 )
-    requires { ⌜ Pages geometry (held separators numbers words owners) (now pool) (now waiting) (now poolowners) ⌝ }
+    requires { ⌜ Placeable geometry (held separators numbers words owners) (now pool) (now waiting) (now poolowners) ⌝ }
     requires { ⌜ firstUnsound (geometry .parameters) (geometry .growth) (held separators numbers words owners) 0 (geometry .parameters .pages) ≡ geometry .parameters .pages ⌝ }
     requires { ⌜ now pool ≡ homesOf (geometry .parameters) (geometry .growth) (now numbers) ⌝ }
     ensures { λ _. ⌜ after separators numbers words owners ≡ replaced (geometry .parameters .places) (before separators numbers words owners) 0

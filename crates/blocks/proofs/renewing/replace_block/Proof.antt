@@ -15,7 +15,7 @@ top-of-requires c κs = search needs
 returns : tie.Need-returns
 returns c =
     let block = c .before .before .before .before .before .before .before .before .before .before .before .before .pre in
-    (block-stays _ _ _ _ _ _ _ block (omega arith) (eqb-true _ _ (c .if2 .taken) ∙ c .before .top-of .ensures), refl)
+    (block-stays _ _ _ _ _ _ _ block (omega arith) (omega (arith, eqb-true, c .if2 .taken, c .before .top-of .ensures)), refl)
 
 replace-stretch-requires : tie.Need-replace-stretch-requires
 replace-stretch-requires c κs =

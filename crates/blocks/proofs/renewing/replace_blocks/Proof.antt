@@ -1,10 +1,9 @@
-use mathlib.Core.Path.{_≡_, sym, _∙_}
-use Prim.Native.Nat.{ℕ, _+_, _-_, _≤_, _<_}
+use mathlib.Core.Path.{sym, _∙_}
+use Prim.Native.Nat.{_-_, _≤_, _<_}
 use native.Mathlib.Omega.{arith}
-use denote.Ref.{now}
 use borrow.Author.Needs.{needs}
 use Rattle.hashing.proofs.Bounds.{limits}
-use Rattle.placement.specs.File.{File, Sized}
+use Rattle.placement.specs.File.{Sized}
 use Rattle.placement.specs.Hash.{lent}
 use Rattle.blocks.proofs.Renewed.{Renewed, renewed-none, renewed-all, renewed-sized, ends-least, ends-most, renewed-block, renewed-next}
 use Rattle.blocks.proofs.renewing.replace_blocks.Statement.{statement}
