@@ -1,11 +1,11 @@
 -- What the sources of a part name, item by item, and the part written through the pool.
 use mathlib.Core.Path.{_≡_, refl, sym, ap, _∙_}
-use mathlib.Core.List.{List, _++_, map, append-assoc}
+use mathlib.Core.List.{List, map}
 use Prim.Native.Nat.{ℕ, zero, suc, _+_, _-_, _*_, _≤_, _<_}
 use native.Mathlib.Nat.{add-mul}
 use native.Mathlib.Omega.{arith}
-use lib.ListN.{length, getD, take, drop, length-append, length-drop, length-map, List·getD-map, List·getD-eq-default}
-use lib.Seq.{paste, drop-at, drop-drop, drop-paste, getD-drop, length-take-le}
+use lib.ListN.{length, getD, take, drop, length-drop, length-map, List·getD-map, List·getD-eq-default}
+use lib.Seq.{paste, drop-paste, getD-drop}
 use Rattle.buffers.specs.Lists.{written}
 use Rattle.buffers.proofs.Lists.{map-take, within}
 use Rattle.buffers.proofs.Written.{through}
@@ -52,17 +52,3 @@ fetched-behind l s new b lo n h =
     let inside : lo * b + n * b ≤ length s = rw (← add-mul lo n b) h in
     let some : n * b ≤ length x = rw (length-map (drop (lo * b) s) (namedItem l new), length-drop (lo * b) s) (omega arith) in
     rw (add-mul lo n b) (drop-paste s (lo * b) x (n * b) (omega arith) some)
-
--- what stands behind the items written stays
-pub written-behind : (at k : ℕ) (s d : List ℕ) → at ≤ length d → at + length s ≡ k → drop k (written at s d) ≡ drop k d
-unfolding written
-written-behind at k s d h e =
-    rw (← append-assoc (take at d) s (drop (at + length s) d))
-    (drop-at (take at d ++ s) (drop (at + length s) d) k (length-append (take at d) s ∙ ap (λ (m : ℕ). m + length s) (length-take-le at d h) ∙ e)
-    ∙ ap (λ (m : ℕ). drop m d) e)
-
--- lists alike from k on are alike from any later item on
-pub alike-later : (k j : ℕ) (c d : List ℕ) → k ≤ j → drop k c ≡ drop k d → drop j c ≡ drop j d
-alike-later k j c d h e =
-    let sum : k + (j - k) ≡ j = omega arith in
-    rw (← sum, ← drop-drop (j - k) k c, ← drop-drop (j - k) k d, e)

@@ -8,7 +8,7 @@ use native.Mathlib.Omega.{arith}
 use lib.ListN.{length, take, drop, getD}
 use lib.Seq.{getD-drop}
 use Rattle.buffers.specs.Lists.{written}
-use Rattle.buffers.proofs.Written.{written-same, taken-written}
+use Rattle.buffers.proofs.Written.{written-same, taken-written, written-behind, alike-later}
 use Rattle.pages.specs.Page.{part}
 use Rattle.placement.specs.Rule.{Star, Hash, Contents, separators, pages}
 use Rattle.placement.specs.File.{File, Sized, starsAt, contentsAt, pagesAt, gathered, column, replaced}
@@ -18,7 +18,6 @@ use Rattle.placement.proofs.Standing.{first-home, length-separators}
 use Rattle.placement.proofs.Writing.{Roomy, length-column}
 use Rattle.placement.proofs.Files.{numberOf, wordOf, ownerOf}
 use Rattle.placement.proofs.Sound.{Sound, sound-rising, length-starsAt}
-use Rattle.planning.proofs.Copies.{written-behind, alike-later}
 use Rattle.shifting.proofs.OnePage.{pages-alone}
 use Rattle.blocks.specs.Blocks.{AlikeFrom}
 

@@ -8,7 +8,7 @@ use native.Mathlib.Omega.{arith}
 use lib.ListN.{length, getD, take, drop}
 use borrow.Author.Tests.{eqb-true}
 use Rattle.buffers.proofs.Lists.{map-take, map-drop}
-use Rattle.buffers.proofs.Written.{written-none}
+use Rattle.buffers.proofs.Written.{written-none, alike-later}
 use Rattle.hashing.specs.declared.Parameters.{Parameters}
 use Rattle.hashing.specs.declared.Growth.{Growth}
 use Rattle.hashing.specs.declared.Geometry.{Geometry}
@@ -24,7 +24,6 @@ use Rattle.placement.proofs.Writing.{Roomy}
 use Rattle.placement.proofs.Files.{roomy-pages, replaced-add, sized-replaced}
 use Rattle.placement.proofs.Sound.{AllSound}
 use Rattle.placement.proofs.Probing.{bounded-real}
-use Rattle.planning.proofs.Copies.{alike-later}
 use Rattle.reach.specs.Reach.{firstSuch, firstUnsound, storedTop, allStars}
 use Rattle.reach.proofs.Search.{Such, such}
 use Rattle.replacing.proofs.Items.{all-sound, real-sound}

@@ -18,7 +18,7 @@ use Rattle.waiting.specs.Gather.{starsIn, stretchWords}
 use Rattle.reach.specs.Reach.{isEmpty}
 use Rattle.planning.specs.Sources.{namedItem, renamed, sourced}
 use Rattle.planning.specs.Plans.{plans, remains, Planned}
-use Rattle.applying.proofs.Fetched.{written-behind}
+use Rattle.buffers.proofs.Written.{written-behind}
 use Rattle.planning.proofs.RuleOverWords.{Probes}
 use Rattle.planning.proofs.Applying.{applied}
 use Rattle.planning.proofs.Sourcing.{words-sourced, named-stretch, length-stretch}
