@@ -84,7 +84,7 @@ module _ (b : ℕ) where
           → written (lo * b) (column b h cs) l ≡ l → written (lo * b) (column b h cs) m ≡ m
       other h l m el em d w = still (lo * b) (length cs * b) (column b h cs) l m (length-column b h cs r) (omega (arith, long)) (omega (arith, long)) d w
 
--- a sound page under 2^k − 1
+-- a sound page whose separator is 2^k − 1
 module _ (ok : ℕ → Bool) (H : Hash) (bounded : Bounded H) (f : File) (M lo : ℕ) (sized : Sized (H .room) M f) (inside : lo < M) (sound : Sound ok H f lo) where
   homed-alone : (s : Star) → List·Memᴰ s (starsAt (H .room) f lo) → H .home (s .number) ≤ lo
   homed-alone s m =

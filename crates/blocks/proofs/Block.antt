@@ -69,7 +69,7 @@ module _ (g : Geometry) (lo n : ℕ) (f : File) (pool waiting poolowners : List 
   one-sound : AllSound validWord H (B .stored) lo 1
   one-sound = real-sound p (g .growth) (B .stored) lo 1 (λ q a b. B .sound q a (omega (arith, B .some)))
 
-  -- a block of one page under 2^k − 1
+  -- a block of one page whose separator is 2^k − 1
   pub block-stays : n ≡ 1 → getD (f .separators) lo 0 ≡ topOf (p .bits) → f ≡ replaced (p .places) f lo (pages H lo n (gathered (p .places) f lo n))
   unfolding hashOf
   block-stays one top =

@@ -11,7 +11,7 @@ ghost use Rattle.reach.specs.Reach.{firstUnsound, allStars};
 ghost use Rattle.blocks.specs.Blocks.{Placeable, SoundBlock};
 use hashing::Geometry;
 
-// The block of `count` pages from page lo. A block of one page under 2^k − 1 stays: all its stars are homed there.
+// The block of `count` pages from page lo. A page by itself whose separator is 2^k − 1 stays: all its stars are homed there, and fit.
 fn replace_block(
     geometry: Geometry,
     separators: &mut [u8],
