@@ -1,0 +1,4 @@
+pub mod Joiners
+pub mod TwoPages
+pub mod Fewer
+pub mod Step
