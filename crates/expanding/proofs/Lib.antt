@@ -2,3 +2,5 @@ pub mod Joiners
 pub mod TwoPages
 pub mod Fewer
 pub mod Step
+pub mod OnPage
+pub mod Whole

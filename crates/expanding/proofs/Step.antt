@@ -15,8 +15,6 @@ use Rattle.buffers.proofs.Lists.{padded-item, length-padded}
 use Rattle.hashing.specs.declared.Parameters.{Parameters}
 use Rattle.hashing.specs.declared.Growth.{Growth}
 use Rattle.hashing.specs.Geometry.{pageCount}
-use Rattle.hashing.specs.Limits.{validParameters}
-use Rattle.hashing.proofs.Bounds.{limits}
 use Rattle.pages.specs.Page.{part, placeOf}
 use Rattle.pages.specs.Position.{validWord}
 use Rattle.pages.proofs.Parts.{page-fits, part-item, part-length}
@@ -60,6 +58,9 @@ module _ (p : Parameters) (g : Growth) (ns ws os hs : List ℕ) (u : Underway p 
   proper : (q : ℕ) → q < p .pages → Proper validWord (starsIn p ns ws os q)
   proper q h = orderly-proper validWord 0 (part (p .places) q ns) (part (p .places) q ws) (part (p .places) q os) (u .inOrder q h)
 
+  pub numbered : (q : ℕ) → q < p .pages → Numbered (starsIn p ns ws os q)
+  numbered q h s m = proper q h s m .0
+
   rising : (q : ℕ) → q < p .pages → Rising 1 (starsIn p ns ws os q)
   rising q h = orderly-rising validWord 0 (part (p .places) q ns) (part (p .places) q ws) (part (p .places) q os) (omega arith) (u .inOrder q h)
 
@@ -72,7 +73,7 @@ module _ (p : Parameters) (g : Growth) (ns ws os hs : List ℕ) (u : Underway p 
         ∙ ap (λ (m : List ℕ). getD m i 0) (ap (map f) (split .isMore) ∙ map-append f (split .front) (s ∷ split .back))
         ∙ getD-at (map f (split .front)) (f s) (map f (split .back)) 0 i (length-map (split .front) f ∙ split .at)
 
-  module _ (valid : validParameters p ≡ true) (room : pageCount p g < p .pages) (q i : ℕ) (low : q < pageCount p g)
+  module _ (room : pageCount p g < p .pages) (q i : ℕ) (low : q < pageCount p g)
       (held : 0 < numberAt (p .places) q i ns) (chosen : joins p g (numberAt (p .places) q i ns) ≡ true) where
     abbrev P : ℕ
     P = pageCount p g
@@ -180,7 +181,10 @@ module _ (p : Parameters) (g : Growth) (ns ws os hs : List ℕ) (u : Underway p 
     fewN =
         omega (
           arith,
-          ap (length {A = Star}) (split .isLess), ap (length {A = Star}) (split .isMore), length-append (split .front) (split .back), length-append (split .front) (s ∷ split .back),
+          ap (length {A = Star}) (split .isLess),
+          ap (length {A = Star}) (split .isMore),
+          length-append (split .front) (split .back),
+          length-append (split .front) (s ∷ split .back),
           most-there,
         )
       where
@@ -274,3 +278,171 @@ module _ (p : Parameters) (g : Growth) (ns ws os hs : List ℕ) (u : Underway p 
 
       pub homes-after : q * p .places + p .places ≤ length hs₁
       homes-after = page-fits (p .places) (p .pages) q inside (same-long (homeOn p g P) hs hs₁ (u .ofHomes) put-homes)
+
+      -- .. and taken from its page
+      module _ (ns₂ ws₂ os₂ hs₂ : List ℕ)
+          (fn : ns₂ ≡ written (q * p .places) (padded (p .places) (map numberOf (without (numberAt (p .places) q i ns₁) (starsIn p ns₁ ws₁ os₁ q)))) ns₁)
+          (fw : ws₂ ≡ written (q * p .places) (padded (p .places) (map wordOf (without (numberAt (p .places) q i ns₁) (starsIn p ns₁ ws₁ os₁ q)))) ws₁)
+          (fo : os₂ ≡ written (q * p .places) (padded (p .places) (map ownerOf (without (numberAt (p .places) q i ns₁) (starsIn p ns₁ ws₁ os₁ q)))) os₁)
+          (fh : hs₂ ≡ closed (q * p .places + i) (p .places - i - 1) hs₁) where
+        moved : (f h : Star → ℕ) (l l₁ l₂ : List ℕ) → length l ≡ p .pages * p .places → Put f l l₁
+            → l₂ ≡ written (q * p .places) (padded (p .places) (map h (without (numberAt (p .places) q i ns₁) (starsIn p ns₁ ws₁ os₁ q)))) l₁
+            → TwoPages (p .places) (p .pages) P q f h L N l l₂
+        moved f h l l₁ l₂ long e d =
+            two-pages (p .places) (p .pages) P q f h L N l l₂ room inside apart fewL fewN long
+            (d
+            ∙ ap (λ (m : List ℕ). written (q * p .places) (padded (p .places) (map h (without (numberAt (p .places) q i ns₁) (starsIn p ns₁ ws₁ os₁ q)))) m) e
+            ∙ rw (same-number, same-stars))
+
+        numbers : TwoPages (p .places) (p .pages) P q numberOf numberOf L N ns ns₂
+        numbers = moved numberOf numberOf ns ns₁ ns₂ (u .ofNumbers) (putting numberOf ns ns₁ en) fn
+
+        words : TwoPages (p .places) (p .pages) P q wordOf wordOf L N ws ws₂
+        words = moved wordOf wordOf ws ws₁ ws₂ (u .ofWords) (putting wordOf ws ws₁ ew) fw
+
+        owners : TwoPages (p .places) (p .pages) P q ownerOf ownerOf L N os os₂
+        owners = moved ownerOf ownerOf os os₁ os₂ (u .ofOwners) (putting ownerOf os os₁ eo) fo
+
+        home-parts : TwoPages (p .places) (p .pages) P q (homeOn p g P) (homeOn p g q) L N hs hs₂
+        home-parts =
+            moved (homeOn p g P) (homeOn p g q) hs hs₁ hs₂ (u .ofHomes) put-homes
+            (fh
+            ∙ take-list occupied-after (homeOn p g q) hs₁
+            (homes-after, same-part (homeOn p g P) hs hs₁ (u .ofHomes) put-homes ∙ u .homes q inside ∙ ap (λ (l : List Star). padded (p .places) (map (homeOn p g q) l)) (sym same-stars)))
+
+        abbrev T : ℕ → List Star
+        T r = starsIn p ns₂ ws₂ os₂ r
+
+        at-new : T P ≡ L
+        at-new = rw (numbers .here, words .here, owners .here) (starsOf-padded (p .places) L (λ t m. properL t m .0))
+
+        at-old : T q ≡ N
+        at-old = rw (numbers .there, words .there, owners .there) (starsOf-padded (p .places) N (λ t m. properN t m .0))
+
+        elsewhere : (r : ℕ) → (r ≡ P → ⊥) → (r ≡ q → ⊥) → T r ≡ S r
+        elsewhere r a b = rw (numbers .others r a b, words .others r a b, owners .others r a b)
+
+        -- where a star was, and where it is
+        came : (r : ℕ) (t : Star) → List·Memᴰ t (T r) → (List·Memᴰ t (S r) × (r ≡ q → t .number ≡ k → ⊥)) ⊎ ((t ≡ s) × (r ≡ P))
+        came r t m = go (which P q r)
+          where
+            put : (r ≡ P) → (t ≡ s) ⊎ List·Memᴰ t (S P) → (List·Memᴰ t (S r) × (r ≡ q → t .number ≡ k → ⊥)) ⊎ ((t ≡ s) × (r ≡ P))
+            put e (inl d) = inr (d, e)
+            put e (inr n) = inl (rw e n, λ d. absurd (apart (sym e ∙ d)))
+
+            go : Which P q r → (List·Memᴰ t (S r) × (r ≡ q → t .number ≡ k → ⊥)) ⊎ ((t ≡ s) × (r ≡ P))
+            go (first e) = put e (member-insert s (S P) t (rw (e, at-new) at m))
+            go (second e) =
+                let n = member-without k (S q) t (rw (e, at-old) at m) in
+                inl (rw e (n .0), λ d. n .1)
+            go (neither a b) = inl (rw (elsewhere r a b) at m, λ d. absurd (b d))
+
+        went : (r : ℕ) (t : Star) → List·Memᴰ t (S r) → List·Memᴰ t (T r) ⊎ ((t ≡ s) × List·Memᴰ t (T P))
+        went r t m = go (which P q r)
+          where
+            new : t ≡ s → List·Memᴰ t (T P)
+            new d = rw (at-new, d) (inserted s (S P))
+
+            old : r ≡ q → (t ≡ s) ⊎ List·Memᴰ t (split .front ++ split .back) → List·Memᴰ t (T r) ⊎ ((t ≡ s) × List·Memᴰ t (T P))
+            old e (inl d) = inr (d, new d)
+            old e (inr n) = inl (rw (e, at-old, split .isLess) n)
+
+            go : Which P q r → List·Memᴰ t (T r) ⊎ ((t ≡ s) × List·Memᴰ t (T P))
+            go (first e) = inl (rw (e, at-new) (insert-keeps s (S P) t (rw e at m)))
+            go (second e) = old e (split-cases (split .front) (split .back) s t (rw (e, split .isMore) at m))
+            go (neither a b) = inl (rw (elsewhere r a b) m)
+
+        pub step-kept : Kept p g ns ws os ns₂ ws₂ os₂
+        step-kept =
+            record {
+              back = λ r h t m.
+                  ⊎-elim
+                  (λ (d : List·Memᴰ t (S r) × (r ≡ q → t .number ≡ k → ⊥)). inl (d .0))
+                  (λ (d : (t ≡ s) × (r ≡ P)). inr (d .1, ap (λ (x : Star). joins p g (x .number)) (d .0) ∙ s-joins, (q, inside, rw (d .0) s-there)))
+                  (came r t m);
+              forth = λ r h t m.
+                  ⊎-elim
+                  (λ (d : List·Memᴰ t (T r)). inl d)
+                  (λ (d : (t ≡ s) × List·Memᴰ t (T P)). inr (ap (λ (x : Star). joins p g (x .number)) (d .0) ∙ s-joins, d .1))
+                  (went r t m);
+            }
+
+        -- the number of the star that came is on its page only
+        never : (r : ℕ) → r < p .pages → (t x : Star) → (List·Memᴰ t (S r) × (r ≡ q → t .number ≡ k → ⊥)) → x ≡ s → t .number ≡ x .number → ⊥
+        never r h t x m d e =
+            let same : t .number ≡ s .number = e ∙ ap numberOf d in
+            m .1 (u .once r q h inside t s (m .0) s-there same) (same ∙ sym number-is)
+
+        once-after : (a b : ℕ) → a < p .pages → b < p .pages → (x y : Star) → List·Memᴰ x (T a) → List·Memᴰ y (T b) → x .number ≡ y .number → a ≡ b
+        once-after a b ha hb x y mx my e = go (came a x mx) (came b y my)
+          where
+            go : (List·Memᴰ x (S a) × (a ≡ q → x .number ≡ k → ⊥)) ⊎ ((x ≡ s) × (a ≡ P))
+                → (List·Memᴰ y (S b) × (b ≡ q → y .number ≡ k → ⊥)) ⊎ ((y ≡ s) × (b ≡ P)) → a ≡ b
+            go (inl m) (inl n) = u .once a b ha hb x y (m .0) (n .0) e
+            go (inl m) (inr n) = absurd (never a ha x y m (n .0) e)
+            go (inr m) (inl n) = absurd (never b hb y x n (m .0) (sym e))
+            go (inr m) (inr n) = m .1 ∙ sym (n .1)
+
+        fewer : joinersBelow p g ns P ≡ suc (joinersBelow p g ns₂ P)
+        fewer =
+            below-less p g ns ns₂ q P low (λ r h d. numbers .others r (λ z. omega (arith, z)) d)
+            (on-page ∙ ap suc (sym (ap (joinersIn p g) (numbers .there) ∙ joiners-padded p g (p .places) (map numberOf N))))
+
+        pub step-underway : Underway p g ns₂ ws₂ os₂ hs₂
+        step-underway =
+            record {
+              ofNumbers = numbers .long ∙ u .ofNumbers;
+              ofWords = words .long ∙ u .ofWords;
+              ofOwners = owners .long ∙ u .ofOwners;
+              ofHomes = home-parts .long ∙ u .ofHomes;
+              inOrder = λ r h. in-order r h (which P q r);
+              low = λ r h t m j.
+                  ⊎-elim
+                  (λ (d : List·Memᴰ t (S r) × (r ≡ q → t .number ≡ k → ⊥)). u .low r h t (d .0) j)
+                  (λ (d : (t ≡ s) × (r ≡ P)). omega (arith, d .1))
+                  (came r t m);
+              once = once-after;
+              few = omega (arith, u .few, fewer, ap (length {A = Star}) at-new, length-insert s (S P));
+              homes = λ r h. at-home r h (which P q r);
+            }
+          where
+            in-order : (r : ℕ) → r < p .pages → Which P q r → orderly validWord 0 (part (p .places) r ns₂) (part (p .places) r ws₂) (part (p .places) r os₂) ≡ true
+            in-order r h (first e) = rw (e, numbers .here, words .here, owners .here) (orderly-padded validWord (p .places) L risingL properL)
+            in-order r h (second e) = rw (e, numbers .there, words .there, owners .there) (orderly-padded validWord (p .places) N risingN properN)
+            in-order r h (neither a b) = rw (numbers .others r a b, words .others r a b, owners .others r a b) (u .inOrder r h)
+
+            at-home : (r : ℕ) → r < p .pages → Which P q r → part (p .places) r hs₂ ≡ padded (p .places) (map (homeOn p g r) (T r))
+            at-home r h (first e) = rw (e, at-new) (home-parts .here)
+            at-home r h (second e) = rw (e, at-old) (home-parts .there)
+            at-home r h (neither a b) = rw (elsewhere r a b) (home-parts .others r a b ∙ u .homes r h)
+
+        pub step-closed : drop i (T q) ≡ drop (suc i) (S q)
+        step-closed = ap (drop i) at-old ∙ split-drop split
+
+    -- the same, with the new page as the code has it
+    module _ (added : ℕ) (is : added ≡ pageCount p g) where
+      pub vacancy-at : Vacancy (p .places) added ns ws os
+      vacancy-at = rw is vacancy
+
+      module _ (ns₁ ws₁ os₁ hs₁ : List ℕ)
+          (en : ns₁ ≡ written (added * p .places) (padded (p .places) (map numberOf (insert star (S added)))) ns)
+          (ew : ws₁ ≡ written (added * p .places) (padded (p .places) (map wordOf (insert star (S added)))) ws)
+          (eo : os₁ ≡ written (added * p .places) (padded (p .places) (map ownerOf (insert star (S added)))) os)
+          (eh : hs₁ ≡ openedAt (added * p .places + placeOf (star .number) (part (p .places) added ns)) (p .places - placeOf (star .number) (part (p .places) added ns)) added hs) where
+        pub still-occupied : Occupied (p .places) q i ns₁ ws₁ os₁ × (q * p .places + p .places ≤ length hs₁)
+        still-occupied = (
+          occupied-after ns₁ ws₁ os₁ hs₁ (rw is at en) (rw is at ew) (rw is at eo) (rw is at eh),
+          homes-after ns₁ ws₁ os₁ hs₁ (rw is at en) (rw is at ew) (rw is at eo) (rw is at eh),
+        )
+
+        module _ (ns₂ ws₂ os₂ hs₂ : List ℕ)
+            (fn : ns₂ ≡ written (q * p .places) (padded (p .places) (map numberOf (without (numberAt (p .places) q i ns₁) (starsIn p ns₁ ws₁ os₁ q)))) ns₁)
+            (fw : ws₂ ≡ written (q * p .places) (padded (p .places) (map wordOf (without (numberAt (p .places) q i ns₁) (starsIn p ns₁ ws₁ os₁ q)))) ws₁)
+            (fo : os₂ ≡ written (q * p .places) (padded (p .places) (map ownerOf (without (numberAt (p .places) q i ns₁) (starsIn p ns₁ ws₁ os₁ q)))) os₁)
+            (fh : hs₂ ≡ closed (q * p .places + i) (p .places - i - 1) hs₁) where
+          pub stepped : Underway p g ns₂ ws₂ os₂ hs₂ × Kept p g ns ws os ns₂ ws₂ os₂ × (drop i (starsIn p ns₂ ws₂ os₂ q) ≡ drop (suc i) (S q))
+          stepped = (
+            step-underway ns₁ ws₁ os₁ hs₁ (rw is at en) (rw is at ew) (rw is at eo) (rw is at eh) ns₂ ws₂ os₂ hs₂ fn fw fo fh,
+            step-kept ns₁ ws₁ os₁ hs₁ (rw is at en) (rw is at ew) (rw is at eo) (rw is at eh) ns₂ ws₂ os₂ hs₂ fn fw fo fh,
+            step-closed ns₁ ws₁ os₁ hs₁ (rw is at en) (rw is at ew) (rw is at eo) (rw is at eh) ns₂ ws₂ os₂ hs₂ fn fw fo fh,
+          )

@@ -57,9 +57,11 @@ returns : tie.Need-returns
 returns c =
     let d = c .before .before .before .before .before .before .before .before .before .before .before .before .before .before in
     let s = d .before .before .before .before .before .before in
-    let put = c .before .before .before .before .before .before .before .before .before .before .put-star .ensures in
-    (record { ofNumbers = put .ofNumbers; ofWords = put .ofWords; ofOwners = put .ofOwners }, c .before .before .put-number .ensures
-    ∙ ap (λ (place : ℕ). openedAt (s .args .page * s .args .places + place) (s .args .places - place) (s .args .page) (now (s .args .homes))) (d .place-on .ensures))
+    let put = c .before .before .before .before .before .before .before .before .before .before .put-star .ensures in (
+      record { ofNumbers = put .ofNumbers; ofWords = put .ofWords; ofOwners = put .ofOwners },
+      c .before .before .put-number .ensures
+          ∙ ap (λ (place : ℕ). openedAt (s .args .page * s .args .places + place) (s .args .places - place) (s .args .page) (now (s .args .homes))) (d .place-on .ensures),
+    )
 
 pub put-homed-spec : {M : Type 1} → statement M
 put-homed-spec =

@@ -19,10 +19,10 @@ Inv-loop table geometry numbers homes₀ page places first i₀ homes i =
 abbrev μ-loop : tie.MeasureT-loop
 μ-loop table geometry numbers homes₀ page places first i₀ homes i = geometry .parameters .places - i
 
-long : (s : tie.Start) → length (s .args .homes .now) ≡ length (s .args .numbers .now)
+long : (s : tie.Start Inv-loop μ-loop) → length (s .args .homes .now) ≡ length (s .args .numbers .now)
 long s = length-homes _ _ _ _ (s .pre .1 .1)
 
-next-long : (s : tie.Start)
+next-long : (s : tie.Start Inv-loop μ-loop)
     → let p = s .args .geometry .parameters in
     let at = s .args .page * p .places in
     length (drop at (homesOf p (grown p (s .args .geometry .growth)) (s .args .numbers .now))) ≡ length (s .args .numbers .now) - at
@@ -61,9 +61,11 @@ shared-slice-read-next-home c = omega (arith, c .before .before .before .before 
 next-home-requires : tie.Need-next-home-requires Inv-loop μ-loop
 next-home-requires c κs =
     let s = c .before .before .before .before .before .before .before in
-    let at = s .args .page * s .args .geometry .parameters .places in
-    ( s .pre .0, unread _ at _ _ _ (omega (arith, s .pre .1 .0, long s)) (omega (arith, s .pre .1 .0, next-long s)) (c .before .before .before .loop .inv .1)
-    ∙ home-item _ _ _ _ _ (s .pre .1 .1))
+    let at = s .args .page * s .args .geometry .parameters .places in (
+      s .pre .0,
+      unread _ at _ _ _ (omega (arith, s .pre .1 .0, long s)) (omega (arith, s .pre .1 .0, next-long s)) (c .before .before .before .loop .inv .1)
+          ∙ home-item _ _ _ _ _ (s .pre .1 .1),
+    )
 
 add-homes : tie.Need-add-homes Inv-loop μ-loop
 add-homes c = omega (arith, c .before .before .before .before .before .before .before .before .pre .1 .0)
@@ -86,16 +88,18 @@ loop-again c =
     let p = s .args .geometry .parameters in
     let at = s .args .page * p .places in
     let ns = s .args .numbers .now in
-    let i = c .before .before .before .before .loop .i in
-    ( omega arith, turn _ at _ _ i _ (omega (arith, s .pre .1 .0, long s)) (omega (arith, s .pre .1 .0, next-long s))
-    (c .next-home .ensures ∙ sym (getD-drop at (homesOf p (grown p (s .args .geometry .growth)) ns) i 0 ∙ home-item p (grown p (s .args .geometry .growth)) _ ns (at + i) refl))
-    (c .before .before .before .before .loop .inv .1))
+    let i = c .before .before .before .before .loop .i in (
+      omega arith,
+      turn _ at _ _ i _ (omega (arith, s .pre .1 .0, long s)) (omega (arith, s .pre .1 .0, next-long s))
+          (c .next-home .ensures ∙ sym (getD-drop at (homesOf p (grown p (s .args .geometry .growth)) ns) i 0 ∙ home-item p (grown p (s .args .geometry .growth)) _ ns (at + i) refl))
+          (c .before .before .before .before .loop .inv .1),
+    )
 
 same-length : tie.Need-same-length Inv-loop μ-loop
 same-length c = c .before .loop .inv .1 .kept
 
 returns : tie.Need-returns Inv-loop μ-loop
-returns c = done _ (omega arith) (omega arith) (c .before .loop .inv .1)
+returns c = done (c .before .before .before .before .before .args .geometry .parameters .places) (omega arith) (omega arith) (c .before .loop .inv .1)
 
 pub rehome-page-spec : {M : Type 1} → statement M
 rehome-page-spec =
