@@ -2,5 +2,7 @@
 mod items;
 mod star;
 
+pub use items::put_number;
+pub use items::take_number;
 pub use star::put_star;
 pub use star::take_star;

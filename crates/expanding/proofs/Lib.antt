@@ -1,0 +1,6 @@
+pub mod Joiners
+pub mod TwoPages
+pub mod Fewer
+pub mod Step
+pub mod OnPage
+pub mod Whole
