@@ -1,5 +1,5 @@
 -- A growth or a shrinking: the homes under the growth state `next`, and that the rule over all pages is what the code leaves.
-use mathlib.Core.Path.{_≡_, refl, sym, ap, _∙_}
+use mathlib.Core.Path.{_≡_, refl, sym, ap, subst, _∙_}
 use mathlib.Core.Bool.{Bool, true, false, cond}
 use mathlib.Core.List.{List, [], map}
 use Prim.Native.Nat.{ℕ, _+_, _-_, _*_, _^_, _≤_, _<_}
@@ -29,6 +29,7 @@ use Rattle.buffers.proofs.Copies.{Copied, turn, unread}
 use Rattle.buffers.proofs.Written.{pasted-whole}
 use Rattle.planning.proofs.Sourcing.{itemHome}
 use Rattle.planning.proofs.Placed.{Gatherable, probes-real, homes-real}
+use Rattle.planning.specs.declared.outcome.Outcome.{Outcome}
 use Rattle.planning.specs.declared.outcome.Outcome.the-variants.{On, Unsound, Overflows}
 use Rattle.replacing.specs.Stretch.{StretchReady, fitting, restretched}
 use Rattle.regrowing.specs.Growth.{nextOf, Movable, growthAnswer, growthFile}
@@ -73,6 +74,21 @@ pub next-valid : (back : Bool) (p : Parameters) (g : Growth) → validParameters
 next-valid true p g v w m = shrunk-valid p g v m w
 next-valid false p g v w m = grown-valid p g v w m
 
+-- a growth, where it is not a shrinking
+
+pub grows-movable : (back : Bool) (p : Parameters) (g : Growth) → back ≡ false → Movable back p g → Movable false p g
+grows-movable back p g e m = subst (λ (b : Bool). Movable b p g) e m
+
+pub grows-done : (back : Bool) (p : Parameters) (g : Growth) (f f′ : File) (page : ℕ) (r : Outcome) → back ≡ false
+    → (r ≡ growthAnswer p g f (nextOf false p g) page) × (f′ ≡ growthFile p g f (nextOf false p g))
+    → (r ≡ growthAnswer p g f (nextOf back p g) page) × (f′ ≡ growthFile p g f (nextOf back p g))
+grows-done back p g f f′ page r e d = subst (λ (b : Bool). (r ≡ growthAnswer p g f (nextOf b p g) page) × (f′ ≡ growthFile p g f (nextOf b p g))) (sym e) d
+
+-- of a file that is still the one before
+pub still-done : (p : Parameters) (g next : Growth) (f f₁ f′ : File) (page : ℕ) (r : Outcome) → f₁ ≡ f
+    → (r ≡ growthAnswer p g f₁ next page) × (f′ ≡ growthFile p g f₁ next) → (r ≡ growthAnswer p g f next page) × (f′ ≡ growthFile p g f next)
+still-done p g next f f₁ f′ page r e d = subst (λ (x : File). (r ≡ growthAnswer p g x next page) × (f′ ≡ growthFile p g x next)) e d
+
 -- the file
 
 module _ (p : Parameters) (g : Growth) (f : File) (valid : validParameters p ≡ true) (sized : Sized (p .places) (p .pages) f) where
@@ -100,6 +116,10 @@ module _ (p : Parameters) (g : Growth) (f : File) (valid : validParameters p ≡
     sound-pages =
         let is : bad ≡ firstUnsound p g f 0 (p .pages) = rw (sub-zero (p .pages)) at survey in
         omega arith
+
+    pub surveyed-sound : firstUnsound p g f 0 (p .pages) ≡ p .pages
+    unfolding firstUnsound
+    surveyed-sound = omega (arith, sound-pages, such (unsound p g f) 0 (p .pages) .high)
 
     module _ (next : Growth) (later : validGrowth p next ≡ true) (pool : List ℕ) (e : pool ≡ homesOf p next (f .numbers)) where
       some-pages : 0 < p .pages

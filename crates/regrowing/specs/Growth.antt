@@ -1,6 +1,7 @@
 -- What a growth and a shrinking make of sound pages: document 01, "The cut" and "Where each refusal is met"; document 02 (i).
 use mathlib.Core.Path.{_≡_}
 use mathlib.Core.Bool.{Bool, true, false, cond}
+use mathlib.Core.List.{List}
 use Prim.Native.Nat.{ℕ, _<_}
 use lib.Dec.{ltb}
 use Rattle.hashing.specs.declared.Parameters.{Parameters}
@@ -36,3 +37,10 @@ growthAnswer p g f next page = byGrowth p g f next (Unsound (firstUnsound p g f 
 unfoldable pub growthFile : Parameters → Growth → File → Growth → File
 growthFile p g f next =
     byGrowth p g f next f f (replaced (p .places) f 0 (pages (hashOf p next) 0 (p .pages) (allStars p f)))
+
+-- a growth in place leaves what a growth leaves, and it is always accepted; or nothing is changed, the pool neither
+pub record GrowsInPlace (p : Parameters) (g : Growth) (f f′ : File) (pool pool′ : List ℕ) (r : Bool) : Type 0 where
+  pub accepts : r ≡ true → (page : ℕ) → On page ≡ growthAnswer p g f (grown p g) page
+  pub file : r ≡ true → f′ ≡ growthFile p g f (grown p g)
+  pub kept : r ≡ false → f′ ≡ f
+  pub pool-kept : r ≡ false → pool′ ≡ pool
