@@ -39,10 +39,6 @@ admitsItem p g seps page last n w o =
 abbrev pub lastAfter : ℕ → ℕ
 lastAfter n = cond (eqb n 0) greatest n
 
--- The homes of the numbers in a page's places, of empty ones too.
-abbrev pub Homes : Geometry → List ℕ → List ℕ → Type 0
-Homes g ns hs = take (g .parameters .places) hs ≡ map (home (multiplierOf (g .parameters)) (g .parameters) (g .growth)) (take (g .parameters .places) ns)
-
 -- What is told of an item.
 pub record TestedItem (p : Parameters) (g : Growth) (seps : List ℕ) (page low n w o : ℕ) (r : Item) : Type 0 where
   pub sound : r .sound ≡ admitsItem p g seps page low n w o
