@@ -25,7 +25,7 @@ pub struct Named {
 }
 
 // Reads the separators and one page, copied as a value before it is searched. If the page is readable, `homes` has its stars' homes, 0 for
-// an empty place.
+// an empty place. Callers make the geometry before the table: a copy that directly follows its stores waits for them.
 pub fn find(
     table: &[u32; 90],
     geometry: Geometry,
