@@ -172,8 +172,8 @@ fn enter_star(
         (named parameters growth (before separators numbers words owners) number) (starWith number word caller))
         (placed r) (after separators numbers words owners) ⌝ }
 {
-    let table = generator::first_multipliers(parameters.multiplier);
     let geometry = Geometry { parameters, growth };
+    let table = generator::first_multipliers(parameters.multiplier);
     let named = find_kept(
         &table,
         geometry,

@@ -24,7 +24,8 @@ pub struct Named {
     pub owner: u8,
 }
 
-// Reads the separators and one page, copied as a value before it is searched. If it is readable, `homes` has its stars' homes, 0 for an empty place.
+// Reads the separators and one page, copied as a value before it is searched. If the page is readable, `homes` has its stars' homes, 0 for
+// an empty place. Callers make the geometry before the table: a copy that directly follows its stores waits for them.
 pub fn find(
     table: &[u32; 90],
     geometry: Geometry,

@@ -46,11 +46,12 @@ pub fn change(
     if !pages::position::position_valid(position) {
         return Placed::Refused(Refusal::BadPosition, 0);
     }
+    let geometry = Geometry { parameters, growth };
     let table = generator::first_multipliers(parameters.multiplier);
     let mut homes = [0u32; 32];
     let named = find(
         &table,
-        Geometry { parameters, growth },
+        geometry,
         separators,
         numbers,
         words,

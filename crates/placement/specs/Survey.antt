@@ -1,7 +1,7 @@
 -- The soundness of a page by its items, as it is tested: each item after the one before.
 use mathlib.Core.Path.{_≡_}
 use mathlib.Core.Bool.{Bool, true, cond, _&&_}
-use mathlib.Core.List.{List, map}
+use mathlib.Core.List.{List}
 use Prim.Native.Nat.{ℕ, _*_}
 use lib.Dec.{leb, ltb, eqb}
 use lib.ListN.{length, getD, take}
@@ -10,8 +10,6 @@ use Rattle.hashing.specs.declared.Parameters.{Parameters}
 use Rattle.hashing.specs.declared.Growth.{Growth}
 use Rattle.hashing.specs.declared.Geometry.{Geometry}
 use Rattle.generator.specs.Generator.{topOf}
-use Rattle.hashing.specs.Geometry.{multiplierOf}
-use Rattle.hashing.specs.Home.{home}
 use Rattle.pages.specs.Page.{part}
 use Rattle.pages.specs.Position.{validWord}
 use Rattle.placement.specs.Rule.{Star}
@@ -38,10 +36,6 @@ admitsItem p g seps page last n w o =
 -- What the next number must exceed: after an empty place no number is taken.
 abbrev pub lastAfter : ℕ → ℕ
 lastAfter n = cond (eqb n 0) greatest n
-
--- The homes of the numbers in a page's places, of empty ones too.
-abbrev pub Homes : Geometry → List ℕ → List ℕ → Type 0
-Homes g ns hs = take (g .parameters .places) hs ≡ map (home (multiplierOf (g .parameters)) (g .parameters) (g .growth)) (take (g .parameters .places) ns)
 
 -- What is told of an item.
 pub record TestedItem (p : Parameters) (g : Growth) (seps : List ℕ) (page low n w o : ℕ) (r : Item) : Type 0 where

@@ -4,16 +4,16 @@ ghost use mathlib.Core.Bool.{true, _&&_};
 ghost use Prim.Native.Nat.{_+_, _*_, _<_};
 ghost use lib.Dec.{eqb, leb, ltb};
 ghost use lib.ListN.{length};
-ghost use Rattle.generator.specs.Generator.{firstMultipliers, topOf};
+ghost use Rattle.generator.specs.Generator.{topOf};
 ghost use Rattle.hashing.specs.Geometry.{multiplierOf};
 ghost use Rattle.hashing.specs.Home.{home as Home·home};
-ghost use Rattle.hashing.specs.Limits.{validParameters, validGrowth};
+ghost use Rattle.hashing.specs.Limits.{validParameters};
 ghost use Rattle.pages.specs.Position.{validWord};
 ghost use Rattle.placement.specs.File.{greatest};
 ghost use Rattle.placement.specs.Hash.{soundAt};
 ghost use Rattle.placement.specs.Lent.{held, before};
 ghost use Rattle.placement.specs.Ready.{Homing, Ready};
-ghost use Rattle.placement.specs.Survey.{Homes, TestedItem, Tested, surveyed};
+ghost use Rattle.placement.specs.Survey.{TestedItem, Tested, surveyed};
 use crate::naming::stands_on;
 use hashing::Geometry;
 use hashing::Parameters;
@@ -49,7 +49,8 @@ pub fn page_sound<'a>(
     if top_of(geometry.parameters) < separators[page] {
         return false;
     }
-    let found = homes_of(table, geometry, numbers);
+    let mut found = [0u16; 32];
+    homes::of_page(table, geometry, numbers, places, &mut found);
     let mut last: u32 = 0;
     let mut i = 0;
     while i < places {
@@ -72,20 +73,6 @@ pub fn page_sound<'a>(
         i += 1;
     }
     true
-}
-
-// The homes of the page's numbers.
-fn homes_of(table: &[u32; 90], geometry: Geometry, numbers: &[u32; 32]) -> [u16; 32]
-    requires { ⌜ now table ≡ firstMultipliers (multiplierOf (geometry .parameters)) ⌝ }
-    requires { ⌜ validParameters (geometry .parameters) ≡ true ⌝ }
-    requires { ⌜ validGrowth (geometry .parameters) (geometry .growth) ≡ true ⌝ }
-    requires { ⌜ length (now numbers) ≡ 32 ⌝ }
-    ensures { λ r. ⌜ Homes geometry (now (numbers .entry)) r ⌝ }
-{
-    let places = geometry.parameters.places as usize;
-    let mut pages = [0u16; 32];
-    homes::of_page(table, geometry, numbers, places, &mut pages);
-    pages
 }
 
 // 2^k − 1, the greatest separator.

@@ -91,8 +91,8 @@ fn remove_held(
         (named parameters growth (before separators numbers words owners) number) caller number)
         (placed r) (after separators numbers words owners) ⌝ }
 {
-    let table = generator::first_multipliers(parameters.multiplier);
     let geometry = Geometry { parameters, growth };
+    let table = generator::first_multipliers(parameters.multiplier);
     let named = find_kept(
         &table,
         geometry,
