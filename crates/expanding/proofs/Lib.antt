@@ -4,3 +4,4 @@ pub mod Fewer
 pub mod Step
 pub mod OnPage
 pub mod Whole
+pub mod Walk

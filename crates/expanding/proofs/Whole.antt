@@ -1,10 +1,10 @@
 -- All pages: sound before, and after the moves sound under the next growth state, with the same stars.
 use mathlib.Core.Path.{_≡_, refl, sym, ap, _∙_}
-use mathlib.Core.Bool.{Bool, true, false, not, cond, true≢false}
+use mathlib.Core.Bool.{Bool, true, false, not, cond, _&&_, _||_, true≢false, and-false}
 use mathlib.Core.Logic.{_⊎_, inl, inr, ⊎-elim}
 use mathlib.Core.List.{List, [], _∷_, _++_, map, map-append, List·Memᴰ, List·Memᴰ·head, List·Memᴰ·tail}
 use Prim.Native.Nat.{ℕ, zero, suc, _+_, _-_, _*_, _≤_, _<_}
-use native.Mathlib.Nat.{zero-add}
+use native.Mathlib.Nat.{zero-add, add-zero, add-suc}
 use native.Mathlib.Decide.{decLt}
 use native.Mathlib.Omega.{arith}
 use lib.Dec.{eqb}
@@ -16,22 +16,22 @@ use Rattle.buffers.proofs.Lists.{padded-item, map-take, map-drop}
 use Rattle.buffers.proofs.Written.{paste-written}
 use Rattle.hashing.specs.declared.Parameters.{Parameters}
 use Rattle.hashing.specs.declared.Growth.{Growth}
-use Rattle.hashing.specs.Geometry.{multiplierOf, pageCount, grown}
+use Rattle.hashing.specs.Geometry.{multiplierOf, pageCount, grown, expands}
 use Rattle.hashing.specs.Limits.{validParameters, validGrowth}
 use Rattle.hashing.specs.Home.{home}
-use Rattle.hashing.proofs.Homes.{home-below, home-grown}
+use Rattle.hashing.proofs.Homes.{home-below, home-grown, home-moves}
 use Rattle.generator.specs.Generator.{topOf}
 use Rattle.pages.specs.Page.{part}
 use Rattle.pages.specs.Position.{validWord}
 use Rattle.pages.proofs.Parts.{page-fits, part-length}
-use Rattle.placement.specs.Rule.{Star, Hash, first}
+use Rattle.placement.specs.Rule.{Star, filter, first}
 use Rattle.placement.specs.File.{File, Sized, starsAt, orderly}
 use Rattle.placement.specs.Hash.{hashOf, hashFrom, soundAt, namedPage, homeIn, homesOf, lent}
 use Rattle.placement.proofs.Order.{rising-same}
 use Rattle.placement.proofs.Pages.{Numbered, length-starsOf}
 use Rattle.placement.proofs.Files.{numberOf}
 use Rattle.placement.proofs.Writing.{parts-same}
-use Rattle.placement.proofs.Standing.{past-top}
+use Rattle.placement.proofs.Standing.{first-home, past-top}
 use Rattle.placement.proofs.Sound.{Sound, AllSound, gathered-member, member-gathered, gathered-rising, sound-proper}
 use Rattle.placement.proofs.Tested.{real-facts, facts-real}
 use Rattle.placement.proofs.Probing.{bounded-real, first-from}
@@ -41,10 +41,11 @@ use Rattle.reach.proofs.Surveyed.{unsound}
 use Rattle.shifting.specs.Shift.{numberAt, Ordered}
 use Rattle.shifting.proofs.Shifted.{of-numbers}
 use Rattle.shifting.proofs.OnePage.{named-home}
-use Rattle.expanding.specs.Expansion.{joins, joinersBelow, starsIn, RoomFor, homeOn, Underway, Kept, SettledBelow, Moved}
+use Rattle.expanding.specs.Expansion.{joins, joinsAt, joinersIn, joinersBelow, NoneJoins, starsIn, runsTo, isNear, NoneAway, NoneCounted, RoomFor, homeOn, Underway, Kept, SettledBelow, Moved}
 use Rattle.expanding.proofs.TwoPages.{part-here, part-there, written-long}
 use Rattle.expanding.proofs.Step.{ordered, numbered}
-use Rattle.expanding.proofs.Joiners.{length-homes}
+use Rattle.expanding.proofs.Joiners.{length-homes, joiners-none}
+use Rattle.expanding.proofs.Fewer.{joiners-padded}
 
 -- homes by the stars
 
@@ -84,6 +85,10 @@ full-item : (l : List Star) (j : ℕ) → j < length l → Numbered l → 1 ≤ 
 full-item [] j h a = absurd (omega arith)
 full-item (s ∷ l) zero h a = a s (List·Memᴰ·head refl)
 full-item (s ∷ l) (suc j) h a = full-item l j (omega arith) (λ t m. a t (List·Memᴰ·tail m))
+
+or-true : (t : Bool) → t || true ≡ true
+or-true true = refl
+or-true false = refl
 
 -- the pages before
 
@@ -139,6 +144,67 @@ module _ (p : Parameters) (g : Growth) (f : File) (valid : validParameters p ≡
             past-top (hashOf p g) (bounded-real p g valid) 0 P (f .separators) (s .number) (omega (arith, sized .ofSeparators)) top-there (omega (arith, here-before q h s m, zero-add P)),
           ))
       go (no d) = omega arith
+
+  -- where stars that join the new page stand
+  module _ (q : ℕ) (inside : q < p .pages) (s : Star) (there : List·Memᴰ s (starsIn p (f .numbers) (f .words) (f .owners) q)) (chosen : joins p g (s .number) ≡ true) where
+    from-group : expands p g (hashOf p g .home (s .number)) ≡ true
+    unfolding hashOf joins
+    from-group =
+        ⊎-elim
+        (λ (e : home (multiplierOf p) p g (s .number) ≡ home (multiplierOf p) p (grown p g) (s .number)).
+        absurd (omega (arith, e, eqb-true (home (multiplierOf p) p (grown p g) (s .number)) P chosen, home-low (s .number))))
+        (λ (e : (expands p g (home (multiplierOf p) p g (s .number)) ≡ true) × (home (multiplierOf p) p g (s .number) < P) × (home (multiplierOf p) p (grown p g) (s .number) ≡ P)). e .0)
+        (home-moves (multiplierOf p) p g (s .number) valid grows)
+
+    home-most : hashOf p g .home (s .number) ≤ q
+    home-most =
+        omega (
+          arith,
+          here-before q inside s there,
+          first-home (hashOf p g) 0 (f .separators) (s .number) (omega (arith, here-before q inside s there, sized .ofSeparators, zero-add (length (f .separators)))),
+        )
+
+    passed-on : (r : ℕ) → hashOf p g .home (s .number) ≤ r → r < q → eqb (getD (f .separators) r 0) (topOf (p .bits)) ≡ false
+    passed-on r a b =
+        ne-eqb (getD (f .separators) r 0) (topOf (p .bits))
+        (λ e.
+        omega (
+          arith,
+          zero-add r,
+          past-top (hashOf p g) (bounded-real p g valid) 0 r (f .separators) (s .number) (omega (arith, sized .ofSeparators)) (e ∙ sym top-is) (omega (arith, here-before q inside s there, zero-add r)),
+        ))
+      where
+        top-is : hashOf p g .top ≡ topOf (p .bits)
+        top-is = sym top-there ∙ top
+
+    near-from : (n : ℕ) → hashOf p g .home (s .number) + n ≤ q → isNear p g (f .separators) (hashOf p g .home (s .number) + n) ≡ true
+    unfolding runsTo
+    near-from zero b = rw (add-zero (hashOf p g .home (s .number)), from-group) (or-true (runsTo p g (f .separators) (hashOf p g .home (s .number))))
+    near-from (suc n) b =
+        rw (add-suc (hashOf p g .home (s .number)) n, near-from n (omega arith), passed-on (hashOf p g .home (s .number) + n) (omega arith) (omega arith))
+
+    near-there : isNear p g (f .separators) q ≡ true
+    near-there =
+        let at : hashOf p g .home (s .number) + (q - hashOf p g .home (s .number)) ≡ q = omega (arith, home-most) in
+        rw at at (near-from (q - hashOf p g .home (s .number)) (omega (arith, home-most)))
+
+  pub none-away : NoneAway p g (f .separators) (f .numbers) (f .words) (f .owners)
+  none-away q low far s m = go (joins p g (s .number)) refl
+    where
+      go : (t : Bool) → joins p g (s .number) ≡ t → joins p g (s .number) ≡ false
+      go true j = absurd (true≢false (sym (near-there q (omega arith) s m j) ∙ far))
+      go false j = j
+
+  pub none-counted : NoneCounted p g (f .separators) (f .numbers)
+  unfolding joinersIn joinsAt filter
+  none-counted q low far =
+      ap (joinersIn p g) (of-numbers (p .places) q (f .numbers) (f .words) (f .owners) (ordered-before q (omega arith)) .1)
+      ∙ joiners-padded p g (p .places) (map numberOf (starsIn p (f .numbers) (f .words) (f .owners) q))
+      ∙ go (starsIn p (f .numbers) (f .words) (f .owners) q) (none-away q low far)
+    where
+      go : (l : List Star) → NoneJoins p g l → joinersIn p g (map numberOf l) ≡ 0
+      go [] n = joiners-none p g
+      go (s ∷ l) n = rw (n s (List·Memᴰ·head refl), and-false (not (eqb (s .number) 0))) (go l (λ t m. n t (List·Memᴰ·tail m)))
 
   -- before the first move
   module _ (hs hs₁ : List ℕ) (homes : hs ≡ homesOf p g (f .numbers)) (count : ℕ) (counted : count ≡ joinersBelow p g (f .numbers) P)
@@ -350,6 +416,12 @@ module _ (p : Parameters) (g : Growth) (f : File) (valid : validParameters p ≡
       → hs₁ ≡ paste hs (added * p .places) (drop (added * p .places) (homesOf p (grown p g) (f .numbers))) (p .places) → Underway p g (f .numbers) (f .words) (f .owners) hs₁
   begun-at hs hs₁ homes count counted fits rehomed =
       begun p g f valid grows sized all room (rw is at top) hs hs₁ homes count (rw is at counted) (rw is at fits) (rw is at rehomed)
+
+  pub none-away-at : NoneAway p g (f .separators) (f .numbers) (f .words) (f .owners)
+  none-away-at = none-away p g f valid grows sized all room (rw is at top)
+
+  pub none-counted-at : NoneCounted p g (f .separators) (f .numbers)
+  none-counted-at = none-counted p g f valid grows sized all room (rw is at top)
 
   pub moved-at : (ns ws os hs : List ℕ) → Underway p g ns ws os hs → Kept p g (f .numbers) (f .words) (f .owners) ns ws os → SettledBelow p g added ns ws os
       → Moved p g f (lent (f .separators) ns ws os) hs

@@ -1,16 +1,17 @@
 -- Growth by one page where the new page has not overflowed and has room: the stars whose home becomes that page are moved there, and all
 -- pages are then sound under the next growth state, with the separators that they had.
 use mathlib.Core.Path.{_≡_}
-use mathlib.Core.Bool.{Bool, true, false, not, cond, _&&_}
+use mathlib.Core.Bool.{Bool, true, false, not, cond, _&&_, _||_}
 use mathlib.Core.List.{List, map, List·Memᴰ}
 use mathlib.Core.Logic.{_⊎_}
 use Prim.Native.Nat.{ℕ, zero, suc, _+_, _-_, _*_, _≤_, _<_}
 use lib.Dec.{eqb}
-use lib.ListN.{length, drop}
+use lib.ListN.{length, drop, getD}
 use denote.Ref.{now}
 use Rattle.hashing.specs.declared.Parameters.{Parameters}
 use Rattle.hashing.specs.declared.Growth.{Growth}
-use Rattle.hashing.specs.Geometry.{multiplierOf, pageCount, grown}
+use Rattle.hashing.specs.Geometry.{multiplierOf, pageCount, grown, expands}
+use Rattle.generator.specs.Generator.{topOf}
 use Rattle.hashing.specs.Home.{home}
 use Rattle.buffers.specs.Lists.{padded}
 use Rattle.pages.specs.Page.{part}
@@ -45,6 +46,22 @@ starsIn p ns ws os q = starsOn (p .places) q ns ws os
 -- no star of this list joins the new page
 abbrev pub NoneJoins : Parameters → Growth → List Star → Type 0
 NoneJoins p g l = (s : Star) → List·Memᴰ s l → joins p g (s .number) ≡ false
+
+-- a star of the expanded group's pages may have passed on to page q: from the page below, if it is one of the group or such a page itself,
+-- and its separator is not 2^k − 1
+unfoldable pub runsTo : Parameters → Growth → List ℕ → ℕ → Bool
+runsTo p g separators zero = false
+runsTo p g separators (suc q) = (runsTo p g separators q || expands p g q) && not (eqb (getD separators q 0) (topOf (p .bits)))
+
+abbrev pub isNear : Parameters → Growth → List ℕ → ℕ → Bool
+isNear p g separators q = runsTo p g separators q || expands p g q
+
+-- no star of the other pages joins the new page
+abbrev pub NoneAway : Parameters → Growth → List ℕ → List ℕ → List ℕ → List ℕ → Type 0
+NoneAway p g separators ns ws os = (q : ℕ) → q < pageCount p g → isNear p g separators q ≡ false → NoneJoins p g (starsIn p ns ws os q)
+
+abbrev pub NoneCounted : Parameters → Growth → List ℕ → List ℕ → Type 0
+NoneCounted p g separators ns = (q : ℕ) → q < pageCount p g → isNear p g separators q ≡ false → joinersIn p g (part (p .places) q ns) ≡ 0
 
 -- a page has room for so many more: none, or the first of so many last places is empty
 abbrev pub RoomFor : ℕ → ℕ → ℕ → List ℕ → Type 0

@@ -7,8 +7,10 @@ ghost use Rattle.hashing.specs.Geometry.{pageCount};
 ghost use Rattle.pages.specs.Page.{part};
 ghost use Rattle.placement.specs.Hash.{homesOf};
 ghost use Rattle.placement.specs.Ready.{Homing};
-ghost use Rattle.expanding.specs.Expansion.{joinersIn, joinersBelow, RoomFor};
+ghost use Rattle.expanding.specs.Expansion.{joinersIn, joinersBelow, RoomFor, NoneCounted};
 use crate::joining::joins;
+use crate::walking::near;
+use crate::walking::runs_on;
 use hashing::Geometry;
 
 // Those of one page.
@@ -44,6 +46,7 @@ fn count_page(
 pub fn count_stars(
     table: &[u32; 90],
     geometry: Geometry,
+    separators: &[u8],
     numbers: &[u32],
     homes: &[u32],
     added: u32,
@@ -51,17 +54,25 @@ pub fn count_stars(
     requires { ⌜ Homing geometry (now table) ⌝ }
     requires { ⌜ added ≡ pageCount (geometry .parameters) (geometry .growth) ⌝ }
     requires { ⌜ added < geometry .parameters .pages ⌝ }
+    requires { ⌜ length (now separators) ≡ geometry .parameters .pages ⌝ }
     requires { ⌜ length (now numbers) ≡ geometry .parameters .pages * geometry .parameters .places ⌝ }
     requires { ⌜ now homes ≡ homesOf (geometry .parameters) (geometry .growth) (now numbers) ⌝ }
+    requires { ⌜ NoneCounted (geometry .parameters) (geometry .growth) (now separators) (now numbers) ⌝ }
     ensures { λ r. ⌜ r ≡ joinersBelow (geometry .parameters) (geometry .growth) (now (numbers .entry)) added ⌝ }
 {
+    let parameters = geometry.parameters;
     let stop = added as usize;
     let mut total = 0;
+    let mut runs = false;
     let mut page = 0;
     while page < stop {
-        let count = count_page(table, geometry, numbers, homes, page, added);
-        total += count;
+        let at = page;
+        let here = near(geometry, runs, at);
+        runs = runs_on(parameters, here, separators[at]);
         page += 1;
+        if here {
+            total += count_page(table, geometry, numbers, homes, at, added);
+        }
     }
     total
 }

@@ -3,5 +3,6 @@ mod counting;
 mod joining;
 mod moving;
 mod stars;
+mod walking;
 
 pub use stars::move_stars;

@@ -9,12 +9,14 @@ ghost use Rattle.placement.specs.Hash.{homesOf};
 ghost use Rattle.placement.specs.Lent.{held};
 ghost use Rattle.placement.specs.Ready.{Homing, Ready};
 ghost use Rattle.reach.specs.Reach.{firstUnsound};
-ghost use Rattle.expanding.specs.Expansion.{Underway, Stepped, NoneJoins, starsIn, SettledBelow, Expanded};
+ghost use Rattle.expanding.specs.Expansion.{Underway, Stepped, NoneJoins, starsIn, SettledBelow, NoneAway, Expanded};
 use crate::counting::count_stars;
 use crate::counting::has_room;
 use crate::joining::joins;
 use crate::joining::next_home;
 use crate::moving::move_star;
+use crate::walking::near;
+use crate::walking::runs_on;
 use hashing::Geometry;
 
 // The homes of the new page's stars under the next growth state.
@@ -79,6 +81,7 @@ fn move_from(
 fn move_below(
     table: &[u32; 90],
     geometry: Geometry,
+    separators: &[u8],
     numbers: &mut [u32],
     words: &mut [u64],
     owners: &mut [u8],
@@ -86,16 +89,25 @@ fn move_below(
     added: u32,
 )
     requires { ⌜ Homing geometry (now table) ⌝ }
+    requires { ⌜ length (now separators) ≡ geometry .parameters .pages ⌝ }
     requires { ⌜ Underway (geometry .parameters) (geometry .growth) (now numbers) (now words) (now owners) (now homes) ⌝ }
     requires { ⌜ (added ≡ pageCount (geometry .parameters) (geometry .growth)) × (added < geometry .parameters .pages) ⌝ }
+    requires { ⌜ NoneAway (geometry .parameters) (geometry .growth) (now separators) (now numbers) (now words) (now owners) ⌝ }
     ensures { λ _. ⌜ Stepped (geometry .parameters) (geometry .growth) numbers words owners homes ⌝ }
     ensures { λ _. ⌜ SettledBelow (geometry .parameters) (geometry .growth) added (now (numbers .exit)) (now (words .exit)) (now (owners .exit)) ⌝ }
 {
+    let parameters = geometry.parameters;
     let stop = added as usize;
+    let mut runs = false;
     let mut page = 0;
     while page < stop {
-        move_from(table, geometry, numbers, words, owners, homes, page, added);
+        let at = page;
+        let here = near(geometry, runs, at);
+        runs = runs_on(parameters, here, separators[at]);
         page += 1;
+        if here {
+            move_from(table, geometry, numbers, words, owners, homes, at, added);
+        }
     }
 }
 
@@ -122,11 +134,20 @@ pub fn move_stars(
     if separators[page] != placement::top_of(geometry.parameters) {
         return false;
     }
-    let count = count_stars(table, geometry, numbers, homes, added);
+    let count = count_stars(table, geometry, separators, numbers, homes, added);
     if !has_room(numbers, places, page, count) {
         return false;
     }
     rehome_page(table, geometry, numbers, homes, page);
-    move_below(table, geometry, numbers, words, owners, homes, added);
+    move_below(
+        table,
+        geometry,
+        separators,
+        numbers,
+        words,
+        owners,
+        homes,
+        added,
+    );
     true
 }

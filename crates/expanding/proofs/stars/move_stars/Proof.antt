@@ -11,7 +11,7 @@ use Rattle.hashing.proofs.Bounds.{limits, growth-within, spread}
 use Rattle.pages.proofs.Parts.{page-fits}
 use Rattle.placement.specs.File.{File}
 use Rattle.placement.specs.Hash.{lent}
-use Rattle.expanding.proofs.Whole.{begun-at, moved-at}
+use Rattle.expanding.proofs.Whole.{begun-at, none-away-at, none-counted-at, moved-at}
 use borrow.Author.Needs.{needs}
 use Rattle.expanding.proofs.stars.move_stars.Statement.{statement}
 use Rattle.expanding.proofs.stars.move_stars.Tie as tie
@@ -65,7 +65,10 @@ returns c = record { moved = λ e. absurd (false≢true e); untouched = λ e. re
 count-stars-requires : tie.Need-count-stars-requires
 count-stars-requires c κs =
     let s = c .before .before .before .before .before .before .before .before .before .before .before .before in
-    (s .pre .0 .homing, (added-is (c .before .before .before .before .before), (inside (c .before .before .before .before .before), (s .pre .0 .sized .ofNumbers, s .pre .1 .0))))
+    let topped = c .before .before in
+    let raised = topped .before .before .before in
+    let none = none-counted-at (s .args .geometry .parameters) (s .args .geometry .growth) (file s) (s .pre .0 .homing .valid) (s .pre .0 .homing .growth) (s .pre .0 .sized) (s .pre .1 .1 .0) (s .pre .1 .1 .1) _ (added-is raised) (stored topped) in
+    (s .pre .0 .homing, (added-is raised, (inside raised, (s .pre .0 .sized .ofSeparators, (s .pre .0 .sized .ofNumbers, (s .pre .1 .0, none))))))
 
 has-room-requires : tie.Need-has-room-requires
 has-room-requires c κs =
@@ -93,14 +96,12 @@ move-below-requires c κs =
     let fitting = rehomed .before .before .before in
     let counted = fitting .before .before .before in
     let topped = counted .before .before .before in
-    let raised = topped .before .before .before in (
-      s .pre .0 .homing,
-      (
-        begun-at (s .args .geometry .parameters) (s .args .geometry .growth) (file s) (s .pre .0 .homing .valid) (s .pre .0 .homing .growth) (s .pre .0 .sized) (s .pre .1 .1 .0) (s .pre .1 .1 .1) _ (added-is raised) (stored topped)
-            _ _ (s .pre .1 .0) _ (counted .count-stars .ensures) (fitting .before .has-room .ensures (not-false _ (fitting .if2 .left))) (rehomed .rehome-page .ensures),
-        (added-is raised, inside raised),
-      ),
-    )
+    let raised = topped .before .before .before in
+    let start =
+    begun-at (s .args .geometry .parameters) (s .args .geometry .growth) (file s) (s .pre .0 .homing .valid) (s .pre .0 .homing .growth) (s .pre .0 .sized) (s .pre .1 .1 .0) (s .pre .1 .1 .1) _ (added-is raised) (stored topped)
+    _ _ (s .pre .1 .0) _ (counted .count-stars .ensures) (fitting .before .has-room .ensures (not-false _ (fitting .if2 .left))) (rehomed .rehome-page .ensures) in
+    let none = none-away-at (s .args .geometry .parameters) (s .args .geometry .growth) (file s) (s .pre .0 .homing .valid) (s .pre .0 .homing .growth) (s .pre .0 .sized) (s .pre .1 .1 .0) (s .pre .1 .1 .1) _ (added-is raised) (stored topped) in
+    (s .pre .0 .homing, (s .pre .0 .sized .ofSeparators, (start, ((added-is raised, inside raised), none))))
 
 same-length-3 : tie.Need-same-length-3
 same-length-3 c = search needs

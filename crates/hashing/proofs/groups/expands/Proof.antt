@@ -1,14 +1,12 @@
--- `backup::expands` meets its contract.
 use Prim.Native.Nat.{_*_, _%_, _≤_, _<_}
 use native.Mathlib.Nat.{mod-lt, mul-le-mul}
 use native.Mathlib.Omega.{arith}
 use borrow.Author.Needs.{needs}
 use borrow.Author.Tests.{le-ltb, lt-ltb}
-use Rattle.hashing.specs.Geometry.{groupSize, groupCount}
+use Rattle.hashing.specs.Geometry.{groupSize, groupCount, expands}
 use Rattle.hashing.proofs.Bounds.{Limits, Spread, limits, growth-within, spread}
-use Rattle.backup.specs.Stretches.{expands}
-use Rattle.backup.proofs.expands.Statement.{statement}
-use Rattle.backup.proofs.expands.Tie as tie
+use Rattle.hashing.proofs.groups.expands.Statement.{statement}
+use Rattle.hashing.proofs.groups.expands.Tie as tie
 
 bounds : (c : tie.Start) → Limits (c .args .geometry .parameters)
 bounds c = limits (c .args .geometry .parameters) (c .pre .0)
