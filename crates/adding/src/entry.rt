@@ -9,6 +9,7 @@ ghost use Rattle.calls.specs.Answers.{Leaves, Stores, cleared, placed};
 ghost use Rattle.calls.specs.Calls.{enterOf, cascadeOf, named};
 ghost use Rattle.adding.specs.Entries.{entryOn, entryOf};
 ghost use Rattle.calls.specs.Lent.{Admitted, poolBefore, poolAfter};
+use answering::entered_again;
 use answering::placed_from;
 use calls::answers::Admission;
 use calls::answers::Placed;
@@ -189,10 +190,7 @@ fn enter_star(
         return Placed::Refused(Refusal::Damaged(page), 0);
     }
     if named.held {
-        if named.word == word {
-            return Placed::On(page, named.place);
-        }
-        return Placed::Refused(Refusal::Held, named.place);
+        return entered_again(page, named.place, named.word, word);
     }
     if cascading {
         return placed_from(

@@ -11,8 +11,8 @@ use Rattle.pages.proofs.Parts.{page-fits}
 use Rattle.placement.specs.File.{File}
 use Rattle.placement.specs.Hash.{lent}
 use Rattle.shifting.proofs.OnePage.{home-start}
-use Rattle.shifting.specs.Shift.{Vacant}
-use Rattle.entering.specs.Entry.{entryStart, takesAlone}
+use Rattle.shifting.specs.Shift.{Vacant, takesAlone}
+use Rattle.entering.specs.Entry.{entryStart}
 use Rattle.entering.proofs.OnePage.{vacant-home, alone-lists}
 use Rattle.entering.proofs.star.enter_star.Statement.{statement}
 use Rattle.entering.proofs.star.enter_star.Tie as tie

@@ -8,9 +8,9 @@ use borrow.Author.Tests.{eq-eqb, ne-eqb}
 use Rattle.generator.specs.Generator.{topOf}
 use Rattle.hashing.proofs.Bounds.{limits}
 use Rattle.pages.proofs.Parts.{part-item}
-use Rattle.entering.specs.Entry.{takesAlone}
-use Rattle.entering.proofs.star.takes_alone.Statement.{statement}
-use Rattle.entering.proofs.star.takes_alone.Tie as tie
+use Rattle.shifting.specs.Shift.{takesAlone}
+use Rattle.shifting.proofs.room.takes_alone.Statement.{statement}
+use Rattle.shifting.proofs.room.takes_alone.Tie as tie
 
 cast-places : tie.Need-cast-places
 cast-places c = search needs

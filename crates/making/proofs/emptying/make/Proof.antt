@@ -1,4 +1,4 @@
--- `whole_file::make` meets its contract.
+-- `making::make` meets its contract.
 use mathlib.Core.Path.{_≡_, _∙_, ap}
 use lib.ListN.{length, replicate}
 use Prim.Native.Nat.{ℕ}
@@ -9,11 +9,11 @@ use Rattle.placement.specs.Hash.{lent}
 use Rattle.calls.specs.Answers.{placed, unpooled}
 use Rattle.calls.specs.Calls.{fileFits, unlent}
 use Rattle.calls.specs.Lent.{Admitted}
-use Rattle.whole_file.proofs.Making.{make-refused, make-empty}
+use Rattle.making.proofs.Making.{make-refused, make-empty}
 use Rattle.calls.proofs.Refusals.{unlent-facts, refusal-is, none-is, admitted}
 use borrow.Author.Needs.{needs}
-use Rattle.whole_file.proofs.emptying.make.Statement.{statement}
-use Rattle.whole_file.proofs.emptying.make.Tie as tie
+use Rattle.making.proofs.emptying.make.Statement.{statement}
+use Rattle.making.proofs.emptying.make.Tie as tie
 
 abbrev fileOf : tie.Start → File
 fileOf s = lent (now (s .args .separators)) (now (s .args .numbers)) (now (s .args .words)) (now (s .args .owners))
