@@ -1,10 +1,9 @@
 -- A growth in place: the stars that move are on the new page, all pages are sound under the next growth state, and the blocks are placed anew.
-use mathlib.Core.Path.{_≡_, refl, sym, ap, _∙_}
+use mathlib.Core.Path.{_≡_, sym, ap, _∙_}
 use mathlib.Core.Bool.{false}
 use mathlib.Core.List.{List, []}
 use Prim.Native.Nat.{ℕ, _*_}
 use native.Mathlib.Nat.{zero-mul, le-refl}
-use native.Mathlib.Omega.{arith}
 use lib.Dec.{ltb}
 use lib.ListN.{length}
 use borrow.Author.Tests.{le-ltb}
@@ -20,7 +19,7 @@ use Rattle.placement.proofs.Composition.{length-pages}
 use Rattle.placement.proofs.Standing.{length-separators}
 use Rattle.placement.proofs.Writing.{Roomy, length-column}
 use Rattle.placement.proofs.Files.{numberOf, wordOf, ownerOf, roomy-pages}
-use Rattle.reach.specs.Reach.{isEmpty, firstUnsound, allStars}
+use Rattle.reach.specs.Reach.{firstUnsound, allStars}
 use Rattle.planning.specs.declared.outcome.Outcome.the-variants.{On}
 use Rattle.blocks.proofs.Renewed.{nothing-past}
 use Rattle.expanding.specs.Expansion.{Moved}
