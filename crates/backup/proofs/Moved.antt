@@ -1,20 +1,18 @@
 -- Growth moves homes from the expanded group's pages to the new page alone, so a page outside the stretches stays as it is.
 use mathlib.Core.Path.{_≡_, refl, sym, _∙_}
-use mathlib.Core.Bool.{Bool, true, false, cond, _&&_, true≢false}
+use mathlib.Core.Bool.{true, false, _&&_, true≢false}
 use mathlib.Core.Logic.{_⊎_, inl, inr}
 use mathlib.Core.List.{List}
-use Prim.Native.Nat.{ℕ, suc, _+_, _-_, _*_, _≤_, _<_}
+use Prim.Native.Nat.{ℕ, suc, _+_, _-_, _≤_, _<_}
 use native.Mathlib.Decide.{decLt, decLe}
 use native.Mathlib.Omega.{arith}
-use lib.Dec.{leb, ltb, eqb}
 use lib.ListN.{getD}
-use borrow.Author.Tests.{leb-false, lt-ltb, eqb-true}
+use borrow.Author.Tests.{eqb-true}
 use Rattle.buffers.proofs.Tests.{either-false}
 use Rattle.hashing.specs.declared.Parameters.{Parameters}
 use Rattle.hashing.specs.declared.Growth.{Growth}
-use Rattle.hashing.specs.Geometry.{multiplierOf, groupSize, groupCount, pageCount, grown}
+use Rattle.hashing.specs.Geometry.{multiplierOf, pageCount, grown}
 use Rattle.hashing.specs.Limits.{validParameters, validGrowth}
-use Rattle.hashing.specs.Home.{home, rankAt, chosen}
 use Rattle.hashing.proofs.Bounds.{both}
 use Rattle.hashing.proofs.Homes.{home-moves}
 use Rattle.placement.specs.Rule.{Star, Hash, pages, separators, blank}

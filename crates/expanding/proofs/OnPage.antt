@@ -1,18 +1,15 @@
 -- The places of a page, looked at from the last to the first, and the moves that follow one another.
 use mathlib.Core.Path.{_≡_, refl, sym, ap, _∙_}
-use mathlib.Core.Bool.{Bool, true, false, not, _&&_, false≢true}
+use mathlib.Core.Bool.{true, false, false≢true}
 use mathlib.Core.Logic.{_⊎_, inl, inr, ⊎-elim}
 use mathlib.Core.List.{List, [], _∷_, map, List·Memᴰ, List·Memᴰ·head, List·Memᴰ·tail, List·Memᴰ·cases-cons, List·Memᴰ·not-nil}
 use Prim.Native.Nat.{ℕ, zero, suc, _+_, _-_, _*_, _≤_, _<_}
 use native.Mathlib.Decide.{decLt}
 use native.Mathlib.Omega.{arith}
-use lib.Dec.{eqb}
-use lib.ListN.{length, drop, getD, drop-of-length-le}
+use lib.ListN.{drop, getD, drop-of-length-le}
 use lib.Seq.{drop-nil}
-use borrow.Author.Tests.{eqb-false, eqb-true, ne-eqb}
-use Rattle.buffers.specs.Lists.{padded}
+use borrow.Author.Tests.{ne-eqb}
 use Rattle.buffers.proofs.Lists.{padded-item}
-use Rattle.buffers.proofs.Tests.{and-true}
 use Rattle.hashing.specs.declared.Parameters.{Parameters}
 use Rattle.hashing.specs.declared.Growth.{Growth}
 use Rattle.hashing.specs.Geometry.{multiplierOf, pageCount}
@@ -23,9 +20,8 @@ use Rattle.placement.specs.Rule.{Star}
 use Rattle.placement.specs.Hash.{homeIn}
 use Rattle.placement.proofs.Pages.{Numbered, length-starsOf}
 use Rattle.placement.proofs.Files.{numberOf}
-use Rattle.shifting.specs.Shift.{numberAt}
 use Rattle.shifting.proofs.Shifted.{of-numbers}
-use Rattle.expanding.specs.Expansion.{joins, joinsAt, starsIn, NoneJoins, SettledBelow, homeOn, Underway, Kept}
+use Rattle.expanding.specs.Expansion.{joins, joinsAt, pageStars, NoneJoins, SettledBelow, homeOn, Underway, Kept}
 use Rattle.expanding.proofs.Step.{ordered, numbered}
 
 module _ (p : Parameters) (g : Growth) where
@@ -42,16 +38,16 @@ module _ (p : Parameters) (g : Growth) where
   module _ (ns ws os ns₁ ws₁ os₁ ns₂ ws₂ os₂ : List ℕ) (room : pageCount p g < p .pages) (a : Kept p g ns ws os ns₁ ws₁ os₁) (b : Kept p g ns₁ ws₁ os₁ ns₂ ws₂ os₂) where
     abbrev Back : ℕ → Star → List ℕ → List ℕ → List ℕ → Type 0
     Back q s ms vs ts =
-        List·Memᴰ s (starsIn p ms vs ts q)
-        ⊎ ((q ≡ pageCount p g) × (joins p g (s .number) ≡ true) × ((r : ℕ) × (r < p .pages) × List·Memᴰ s (starsIn p ms vs ts r)))
+        List·Memᴰ s (pageStars p ms vs ts q)
+        ⊎ ((q ≡ pageCount p g) × (joins p g (s .number) ≡ true) × ((r : ℕ) × (r < p .pages) × List·Memᴰ s (pageStars p ms vs ts r)))
 
     abbrev Forth : ℕ → Star → List ℕ → List ℕ → List ℕ → Type 0
-    Forth q s ms vs ts = List·Memᴰ s (starsIn p ms vs ts q) ⊎ ((joins p g (s .number) ≡ true) × List·Memᴰ s (starsIn p ms vs ts (pageCount p g)))
+    Forth q s ms vs ts = List·Memᴰ s (pageStars p ms vs ts q) ⊎ ((joins p g (s .number) ≡ true) × List·Memᴰ s (pageStars p ms vs ts (pageCount p g)))
 
     pub kept-more : Kept p g ns ws os ns₂ ws₂ os₂
     kept-more = record { back = λ q h s m. down q h s (b .back q h s m); forth = λ q h s m. up q h s (a .forth q h s m) }
       where
-        origin : (q : ℕ) (s : Star) → q < p .pages → Back q s ns ws os → (r : ℕ) × (r < p .pages) × List·Memᴰ s (starsIn p ns ws os r)
+        origin : (q : ℕ) (s : Star) → q < p .pages → Back q s ns ws os → (r : ℕ) × (r < p .pages) × List·Memᴰ s (pageStars p ns ws os r)
         origin q s h (inl m) = (q, h, m)
         origin q s h (inr m) = m .2
 
@@ -59,7 +55,7 @@ module _ (p : Parameters) (g : Growth) where
         down q h s (inl m) = a .back q h s m
         down q h s (inr (e, j, (r, k, m))) = inr (e, j, origin r s k (a .back r k s m))
 
-        new : (s : Star) → Forth (pageCount p g) s ns₂ ws₂ os₂ → List·Memᴰ s (starsIn p ns₂ ws₂ os₂ (pageCount p g))
+        new : (s : Star) → Forth (pageCount p g) s ns₂ ws₂ os₂ → List·Memᴰ s (pageStars p ns₂ ws₂ os₂ (pageCount p g))
         new s (inl m) = m
         new s (inr m) = m .1
 
@@ -87,7 +83,7 @@ module _ (p : Parameters) (g : Growth) where
 
   module _ (ns ws os hs : List ℕ) (u : Underway p g ns ws os hs) (q : ℕ) (inside : q < p .pages) where
     abbrev stars : List Star
-    stars = starsIn p ns ws os q
+    stars = pageStars p ns ws os q
 
     item-is : (j : ℕ) → j < p .places → getD ns (q * p .places + j) 0 ≡ getD (map numberOf stars) j 0
     item-is j h =
@@ -125,21 +121,21 @@ module _ (p : Parameters) (g : Growth) where
       n s (rw (e, same) at m)
 
   pub left-there : (ns ws os hs : List ℕ) → Underway p g ns ws os hs → (q i : ℕ) → q < p .pages → 0 < i → i ≤ p .places
-      → joinsAt p g (getD ns (q * p .places + (i - 1)) 0) ≡ false → NoneJoins p g (drop i (starsIn p ns ws os q)) → NoneJoins p g (drop (i - 1) (starsIn p ns ws os q))
+      → joinsAt p g (getD ns (q * p .places + (i - 1)) 0) ≡ false → NoneJoins p g (drop i (pageStars p ns ws os q)) → NoneJoins p g (drop (i - 1) (pageStars p ns ws os q))
   left-there ns ws os hs u q i inside h k e n =
       let same : i ≡ suc (i - 1) = omega arith in
       stays-there ns ws os hs u q inside (i - 1) (omega arith) e (λ s m. n s (rw (← same) at m))
 
   -- a page more has no star left to move
   pub settled-next : (ns ws os ns′ ws′ os′ : List ℕ) (q : ℕ) → Kept p g ns ws os ns′ ws′ os′ → q < pageCount p g → pageCount p g < p .pages
-      → SettledBelow p g q ns ws os → NoneJoins p g (starsIn p ns′ ws′ os′ q) → SettledBelow p g (q + 1) ns′ ws′ os′
+      → SettledBelow p g q ns ws os → NoneJoins p g (pageStars p ns′ ws′ os′ q) → SettledBelow p g (q + 1) ns′ ws′ os′
   settled-next ns ws os ns′ ws′ os′ q kept low room done here r h s m = go (decLt r q)
     where
       go : Dec (r < q) → joins p g (s .number) ≡ false
       go (yes d) =
           ⊎-elim
-          (λ (n : List·Memᴰ s (starsIn p ns ws os r)). done r d s n)
-          (λ (n : (r ≡ pageCount p g) × (joins p g (s .number) ≡ true) × ((t : ℕ) × (t < p .pages) × List·Memᴰ s (starsIn p ns ws os t))). absurd (omega (arith, n .0)))
+          (λ (n : List·Memᴰ s (pageStars p ns ws os r)). done r d s n)
+          (λ (n : (r ≡ pageCount p g) × (joins p g (s .number) ≡ true) × ((t : ℕ) × (t < p .pages) × List·Memᴰ s (pageStars p ns ws os t))). absurd (omega (arith, n .0)))
           (kept .back r (omega arith) s m)
       go (no d) =
           let at : r ≡ q = omega arith in

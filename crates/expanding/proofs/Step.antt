@@ -1,8 +1,8 @@
 -- One star moved to the new page: what holds while stars are moved holds after it.
-use mathlib.Core.Path.{_≡_, refl, sym, ap, _∙_, subst}
+use mathlib.Core.Path.{_≡_, refl, sym, ap, _∙_}
 use mathlib.Core.Bool.{Bool, true, false}
 use mathlib.Core.Logic.{_⊎_, inl, inr, ⊎-elim}
-use mathlib.Core.List.{List, [], _∷_, _++_, map, map-append, List·Memᴰ}
+use mathlib.Core.List.{List, _∷_, _++_, map, map-append, List·Memᴰ}
 use Prim.Native.Nat.{ℕ, zero, suc, _+_, _-_, _*_, _≤_, _<_}
 use native.Mathlib.Decide.{decLt}
 use native.Mathlib.Omega.{arith}
@@ -21,13 +21,12 @@ use Rattle.pages.proofs.Parts.{page-fits, part-item, part-length}
 use Rattle.placement.specs.Rule.{Star, insert, without, starWith}
 use Rattle.placement.specs.File.{orderly, greatest}
 use Rattle.placement.proofs.Order.{Rising, Absent, rising-insert, rising-without, member-insert, inserted, insert-keeps, member-without, length-insert}
-use Rattle.placement.proofs.Filters.{length-filter}
 use Rattle.placement.proofs.Pages.{Proper, Numbered, proper-insert, orderly-rising, orderly-proper, orderly-padded, starsOf-padded, length-starsOf}
 use Rattle.placement.proofs.Files.{numberOf, wordOf, ownerOf}
-use Rattle.shifting.specs.Shift.{starsOn, numberAt, Ordered, Vacant, Occupied, openedAt, closed}
+use Rattle.shifting.specs.Shift.{numberAt, Ordered, Vacant, Occupied, openedAt, closed}
 use Rattle.shifting.proofs.Splits.{Split}
 use Rattle.shifting.proofs.Shifted.{of-numbers, of-words, of-owners, put-list, take-list, taken-split, occupied-place}
-use Rattle.expanding.specs.Expansion.{joins, joinsAt, joinersIn, joinersBelow, starsIn, homeOn, Vacancy, Underway, Kept}
+use Rattle.expanding.specs.Expansion.{joins, joinsAt, joinersIn, joinersBelow, pageStars, homeOn, Vacancy, Underway, Kept}
 use Rattle.expanding.proofs.TwoPages.{part-there, written-long, TwoPages, two-pages}
 use Rattle.expanding.proofs.Fewer.{split-cases, split-middle, split-drop, joiners-padded, joiners-split, below-less}
 
@@ -55,21 +54,21 @@ module _ (p : Parameters) (g : Growth) (ns ws os hs : List ℕ) (u : Underway p 
         inOrder = u .inOrder q h;
       }
 
-  proper : (q : ℕ) → q < p .pages → Proper validWord (starsIn p ns ws os q)
+  proper : (q : ℕ) → q < p .pages → Proper validWord (pageStars p ns ws os q)
   proper q h = orderly-proper validWord 0 (part (p .places) q ns) (part (p .places) q ws) (part (p .places) q os) (u .inOrder q h)
 
-  pub numbered : (q : ℕ) → q < p .pages → Numbered (starsIn p ns ws os q)
+  pub numbered : (q : ℕ) → q < p .pages → Numbered (pageStars p ns ws os q)
   numbered q h s m = proper q h s m .0
 
-  rising : (q : ℕ) → q < p .pages → Rising 1 (starsIn p ns ws os q)
+  rising : (q : ℕ) → q < p .pages → Rising 1 (pageStars p ns ws os q)
   rising q h = orderly-rising validWord 0 (part (p .places) q ns) (part (p .places) q ws) (part (p .places) q os) (omega arith) (u .inOrder q h)
 
   -- what the place of a page's list has
-  module _ (q : ℕ) (inside : q < p .pages) (i : ℕ) (s : Star) (less : List Star) (split : Split s less (starsIn p ns ws os q) i) where
-    pub item-of : (f : Star → ℕ) (l : List ℕ) → part (p .places) q l ≡ padded (p .places) (map f (starsIn p ns ws os q)) → getD (part (p .places) q l) i 0 ≡ f s
+  module _ (q : ℕ) (inside : q < p .pages) (i : ℕ) (s : Star) (less : List Star) (split : Split s less (pageStars p ns ws os q) i) where
+    pub item-of : (f : Star → ℕ) (l : List ℕ) → part (p .places) q l ≡ padded (p .places) (map f (pageStars p ns ws os q)) → getD (part (p .places) q l) i 0 ≡ f s
     item-of f l e =
         ap (λ (m : List ℕ). getD m i 0) e
-        ∙ padded-item (p .places) (map f (starsIn p ns ws os q)) i
+        ∙ padded-item (p .places) (map f (pageStars p ns ws os q)) i
         ∙ ap (λ (m : List ℕ). getD m i 0) (ap (map f) (split .isMore) ∙ map-append f (split .front) (s ∷ split .back))
         ∙ getD-at (map f (split .front)) (f s) (map f (split .back)) 0 i (length-map (split .front) f ∙ split .at)
 
@@ -79,7 +78,7 @@ module _ (p : Parameters) (g : Growth) (ns ws os hs : List ℕ) (u : Underway p 
     P = pageCount p g
 
     abbrev S : ℕ → List Star
-    S r = starsIn p ns ws os r
+    S r = pageStars p ns ws os r
 
     abbrev k : ℕ
     k = numberAt (p .places) q i ns
@@ -257,7 +256,7 @@ module _ (p : Parameters) (g : Growth) (ns ws os hs : List ℕ) (u : Underway p 
       abbrev same-owners : part (p .places) q os₁ ≡ part (p .places) q os
       same-owners = same-part ownerOf os os₁ (u .ofOwners) (putting ownerOf os os₁ eo)
 
-      same-stars : starsIn p ns₁ ws₁ os₁ q ≡ S q
+      same-stars : pageStars p ns₁ ws₁ os₁ q ≡ S q
       same-stars = rw (same-numbers, same-words, same-owners)
 
       same-number : numberAt (p .places) q i ns₁ ≡ k
@@ -281,17 +280,17 @@ module _ (p : Parameters) (g : Growth) (ns ws os hs : List ℕ) (u : Underway p 
 
       -- .. and taken from its page
       module _ (ns₂ ws₂ os₂ hs₂ : List ℕ)
-          (fn : ns₂ ≡ written (q * p .places) (padded (p .places) (map numberOf (without (numberAt (p .places) q i ns₁) (starsIn p ns₁ ws₁ os₁ q)))) ns₁)
-          (fw : ws₂ ≡ written (q * p .places) (padded (p .places) (map wordOf (without (numberAt (p .places) q i ns₁) (starsIn p ns₁ ws₁ os₁ q)))) ws₁)
-          (fo : os₂ ≡ written (q * p .places) (padded (p .places) (map ownerOf (without (numberAt (p .places) q i ns₁) (starsIn p ns₁ ws₁ os₁ q)))) os₁)
+          (fn : ns₂ ≡ written (q * p .places) (padded (p .places) (map numberOf (without (numberAt (p .places) q i ns₁) (pageStars p ns₁ ws₁ os₁ q)))) ns₁)
+          (fw : ws₂ ≡ written (q * p .places) (padded (p .places) (map wordOf (without (numberAt (p .places) q i ns₁) (pageStars p ns₁ ws₁ os₁ q)))) ws₁)
+          (fo : os₂ ≡ written (q * p .places) (padded (p .places) (map ownerOf (without (numberAt (p .places) q i ns₁) (pageStars p ns₁ ws₁ os₁ q)))) os₁)
           (fh : hs₂ ≡ closed (q * p .places + i) (p .places - i - 1) hs₁) where
         moved : (f h : Star → ℕ) (l l₁ l₂ : List ℕ) → length l ≡ p .pages * p .places → Put f l l₁
-            → l₂ ≡ written (q * p .places) (padded (p .places) (map h (without (numberAt (p .places) q i ns₁) (starsIn p ns₁ ws₁ os₁ q)))) l₁
+            → l₂ ≡ written (q * p .places) (padded (p .places) (map h (without (numberAt (p .places) q i ns₁) (pageStars p ns₁ ws₁ os₁ q)))) l₁
             → TwoPages (p .places) (p .pages) P q f h L N l l₂
         moved f h l l₁ l₂ long e d =
             two-pages (p .places) (p .pages) P q f h L N l l₂ room inside apart fewL fewN long
             (d
-            ∙ ap (λ (m : List ℕ). written (q * p .places) (padded (p .places) (map h (without (numberAt (p .places) q i ns₁) (starsIn p ns₁ ws₁ os₁ q)))) m) e
+            ∙ ap (λ (m : List ℕ). written (q * p .places) (padded (p .places) (map h (without (numberAt (p .places) q i ns₁) (pageStars p ns₁ ws₁ os₁ q)))) m) e
             ∙ rw (same-number, same-stars))
 
         numbers : TwoPages (p .places) (p .pages) P q numberOf numberOf L N ns ns₂
@@ -311,7 +310,7 @@ module _ (p : Parameters) (g : Growth) (ns ws os hs : List ℕ) (u : Underway p 
             (homes-after, same-part (homeOn p g P) hs hs₁ (u .ofHomes) put-homes ∙ u .homes q inside ∙ ap (λ (l : List Star). padded (p .places) (map (homeOn p g q) l)) (sym same-stars)))
 
         abbrev T : ℕ → List Star
-        T r = starsIn p ns₂ ws₂ os₂ r
+        T r = pageStars p ns₂ ws₂ os₂ r
 
         at-new : T P ≡ L
         at-new = rw (numbers .here, words .here, owners .here) (starsOf-padded (p .places) L (λ t m. properL t m .0))
@@ -436,11 +435,11 @@ module _ (p : Parameters) (g : Growth) (ns ws os hs : List ℕ) (u : Underway p 
         )
 
         module _ (ns₂ ws₂ os₂ hs₂ : List ℕ)
-            (fn : ns₂ ≡ written (q * p .places) (padded (p .places) (map numberOf (without (numberAt (p .places) q i ns₁) (starsIn p ns₁ ws₁ os₁ q)))) ns₁)
-            (fw : ws₂ ≡ written (q * p .places) (padded (p .places) (map wordOf (without (numberAt (p .places) q i ns₁) (starsIn p ns₁ ws₁ os₁ q)))) ws₁)
-            (fo : os₂ ≡ written (q * p .places) (padded (p .places) (map ownerOf (without (numberAt (p .places) q i ns₁) (starsIn p ns₁ ws₁ os₁ q)))) os₁)
+            (fn : ns₂ ≡ written (q * p .places) (padded (p .places) (map numberOf (without (numberAt (p .places) q i ns₁) (pageStars p ns₁ ws₁ os₁ q)))) ns₁)
+            (fw : ws₂ ≡ written (q * p .places) (padded (p .places) (map wordOf (without (numberAt (p .places) q i ns₁) (pageStars p ns₁ ws₁ os₁ q)))) ws₁)
+            (fo : os₂ ≡ written (q * p .places) (padded (p .places) (map ownerOf (without (numberAt (p .places) q i ns₁) (pageStars p ns₁ ws₁ os₁ q)))) os₁)
             (fh : hs₂ ≡ closed (q * p .places + i) (p .places - i - 1) hs₁) where
-          pub stepped : Underway p g ns₂ ws₂ os₂ hs₂ × Kept p g ns ws os ns₂ ws₂ os₂ × (drop i (starsIn p ns₂ ws₂ os₂ q) ≡ drop (suc i) (S q))
+          pub stepped : Underway p g ns₂ ws₂ os₂ hs₂ × Kept p g ns ws os ns₂ ws₂ os₂ × (drop i (pageStars p ns₂ ws₂ os₂ q) ≡ drop (suc i) (S q))
           stepped = (
             step-underway ns₁ ws₁ os₁ hs₁ (rw is at en) (rw is at ew) (rw is at eo) (rw is at eh) ns₂ ws₂ os₂ hs₂ fn fw fo fh,
             step-kept ns₁ ws₁ os₁ hs₁ (rw is at en) (rw is at ew) (rw is at eo) (rw is at eh) ns₂ ws₂ os₂ hs₂ fn fw fo fh,

@@ -1,9 +1,9 @@
 -- The walk over the pages that may hold a star to be moved.
-use mathlib.Core.Path.{_≡_, refl, sym, ap, _∙_}
+use mathlib.Core.Path.{_≡_, refl, ap, _∙_}
 use mathlib.Core.Bool.{Bool, true, false, not, _&&_, _||_}
 use mathlib.Core.Logic.{_⊎_, ⊎-elim}
 use mathlib.Core.List.{List, List·Memᴰ}
-use Prim.Native.Nat.{ℕ, suc, _+_, _<_}
+use Prim.Native.Nat.{ℕ, _+_, _<_}
 use native.Mathlib.Numerals.{add-one}
 use native.Mathlib.Omega.{arith}
 use lib.Dec.{eqb}
@@ -12,8 +12,7 @@ use Rattle.generator.specs.Generator.{topOf}
 use Rattle.hashing.specs.declared.Parameters.{Parameters}
 use Rattle.hashing.specs.declared.Growth.{Growth}
 use Rattle.hashing.specs.Geometry.{pageCount, expands}
-use Rattle.placement.specs.Rule.{Star}
-use Rattle.expanding.specs.Expansion.{joins, NoneJoins, starsIn, runsTo, isNear, NoneAway, Kept}
+use Rattle.expanding.specs.Expansion.{joins, NoneJoins, pageStars, runsTo, isNear, NoneAway, Kept}
 
 module _ (p : Parameters) (g : Growth) (separators : List ℕ) where
   pub runs-none : runsTo p g separators 0 ≡ false
@@ -30,9 +29,9 @@ module _ (p : Parameters) (g : Growth) (separators : List ℕ) where
 
   -- a page that is passed over has no star to be moved, before the moves and so after them
   pub none-left : (ns ws os ns′ ws′ os′ : List ℕ) → NoneAway p g separators ns ws os → Kept p g ns ws os ns′ ws′ os′ → pageCount p g < p .pages
-      → (q : ℕ) → q < pageCount p g → isNear p g separators q ≡ false → NoneJoins p g (starsIn p ns′ ws′ os′ q)
+      → (q : ℕ) → q < pageCount p g → isNear p g separators q ≡ false → NoneJoins p g (pageStars p ns′ ws′ os′ q)
   none-left ns ws os ns′ ws′ os′ none kept room q low far s m =
       ⊎-elim
-      (λ (n : List·Memᴰ s (starsIn p ns ws os q)). none q low far s n)
-      (λ (n : (q ≡ pageCount p g) × (joins p g (s .number) ≡ true) × ((r : ℕ) × (r < p .pages) × List·Memᴰ s (starsIn p ns ws os r))). absurd (omega (arith, n .0)))
+      (λ (n : List·Memᴰ s (pageStars p ns ws os q)). none q low far s n)
+      (λ (n : (q ≡ pageCount p g) × (joins p g (s .number) ≡ true) × ((r : ℕ) × (r < p .pages) × List·Memᴰ s (pageStars p ns ws os r))). absurd (omega (arith, n .0)))
       (kept .back q (omega arith) s m)

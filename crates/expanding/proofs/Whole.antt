@@ -1,8 +1,8 @@
 -- All pages: sound before, and after the moves sound under the next growth state, with the same stars.
 use mathlib.Core.Path.{_≡_, refl, sym, ap, _∙_}
-use mathlib.Core.Bool.{Bool, true, false, not, cond, _&&_, _||_, true≢false, and-false}
+use mathlib.Core.Bool.{Bool, true, false, not, cond, _||_, true≢false, and-false}
 use mathlib.Core.Logic.{_⊎_, inl, inr, ⊎-elim}
-use mathlib.Core.List.{List, [], _∷_, _++_, map, map-append, List·Memᴰ, List·Memᴰ·head, List·Memᴰ·tail}
+use mathlib.Core.List.{List, [], _∷_, _++_, map, List·Memᴰ, List·Memᴰ·head, List·Memᴰ·tail}
 use Prim.Native.Nat.{ℕ, zero, suc, _+_, _-_, _*_, _≤_, _<_}
 use native.Mathlib.Nat.{zero-add, add-zero, add-suc}
 use native.Mathlib.Decide.{decLt}
@@ -10,7 +10,7 @@ use native.Mathlib.Omega.{arith}
 use lib.Dec.{eqb}
 use lib.ListN.{length, take, drop, getD, replicate, length-map, length-drop}
 use lib.Seq.{paste, length-take-le}
-use borrow.Author.Tests.{not-false, eqb-true, eqb-false, eq-eqb, ne-eqb}
+use borrow.Author.Tests.{not-false, eqb-true, eqb-false, ne-eqb}
 use Rattle.buffers.specs.Lists.{padded, written}
 use Rattle.buffers.proofs.Lists.{padded-item, map-take, map-drop}
 use Rattle.buffers.proofs.Written.{paste-written}
@@ -32,7 +32,7 @@ use Rattle.placement.proofs.Pages.{Numbered, length-starsOf}
 use Rattle.placement.proofs.Files.{numberOf}
 use Rattle.placement.proofs.Writing.{parts-same}
 use Rattle.placement.proofs.Standing.{first-home, past-top}
-use Rattle.placement.proofs.Sound.{Sound, AllSound, gathered-member, member-gathered, gathered-rising, sound-proper}
+use Rattle.placement.proofs.Sound.{Sound, gathered-member, member-gathered, gathered-rising, sound-proper}
 use Rattle.placement.proofs.Tested.{real-facts, facts-real}
 use Rattle.placement.proofs.Probing.{bounded-real, first-from}
 use Rattle.reach.specs.Reach.{firstUnsound, allStars}
@@ -41,7 +41,7 @@ use Rattle.reach.proofs.Surveyed.{unsound}
 use Rattle.shifting.specs.Shift.{numberAt, Ordered}
 use Rattle.shifting.proofs.Shifted.{of-numbers}
 use Rattle.shifting.proofs.OnePage.{named-home}
-use Rattle.expanding.specs.Expansion.{joins, joinsAt, joinersIn, joinersBelow, NoneJoins, starsIn, runsTo, isNear, NoneAway, NoneCounted, RoomFor, homeOn, Underway, Kept, SettledBelow, Moved}
+use Rattle.expanding.specs.Expansion.{joins, joinsAt, joinersIn, joinersBelow, NoneJoins, pageStars, runsTo, isNear, NoneAway, NoneCounted, RoomFor, homeOn, Underway, Kept, SettledBelow, Moved}
 use Rattle.expanding.proofs.TwoPages.{part-here, part-there, written-long}
 use Rattle.expanding.proofs.Step.{ordered, numbered}
 use Rattle.expanding.proofs.Joiners.{length-homes, joiners-none}
@@ -70,12 +70,12 @@ module _ (p : Parameters) (h : Growth) where
   homes-part b q ns = ap (take b) (map-drop (homeIn p h) (q * b) ns) ∙ map-take (homeIn p h) b (drop (q * b) ns)
 
   -- of a page in order
-  pub homes-page : (q : ℕ) (ns ws os : List ℕ) → Ordered (p .places) q ns ws os → Numbered (starsIn p ns ws os q)
-      → part (p .places) q (homesOf p h ns) ≡ padded (p .places) (map homeOf (starsIn p ns ws os q))
+  pub homes-page : (q : ℕ) (ns ws os : List ℕ) → Ordered (p .places) q ns ws os → Numbered (pageStars p ns ws os q)
+      → part (p .places) q (homesOf p h ns) ≡ padded (p .places) (map homeOf (pageStars p ns ws os q))
   homes-page q ns ws os o a =
       homes-part (p .places) q ns
       ∙ ap (map (homeIn p h)) (of-numbers (p .places) q ns ws os o .1)
-      ∙ homes-padded (p .places) (starsIn p ns ws os q) a
+      ∙ homes-padded (p .places) (pageStars p ns ws os q) a
 
 map-same : (f h : Star → ℕ) (l : List Star) → ((s : Star) → List·Memᴰ s l → f s ≡ h s) → map f l ≡ map h l
 map-same f h [] e = refl
@@ -105,7 +105,7 @@ module _ (p : Parameters) (g : Growth) (f : File) (valid : validParameters p ≡
   unfolding hashOf
   in-order q h = facts q h .inOrder
 
-  here-before : (q : ℕ) → q < p .pages → (s : Star) → List·Memᴰ s (starsIn p (f .numbers) (f .words) (f .owners) q) → first (hashOf p g) 0 (f .separators) (s .number) ≡ q
+  here-before : (q : ℕ) → q < p .pages → (s : Star) → List·Memᴰ s (pageStars p (f .numbers) (f .words) (f .owners) q) → first (hashOf p g) 0 (f .separators) (s .number) ≡ q
   unfolding hashOf starsAt
   here-before q h s m = facts q h .here s m
 
@@ -118,7 +118,7 @@ module _ (p : Parameters) (g : Growth) (f : File) (valid : validParameters p ≡
         inOrder = in-order q h;
       }
 
-  numbered-before : (q : ℕ) → q < p .pages → Numbered (starsIn p (f .numbers) (f .words) (f .owners) q)
+  numbered-before : (q : ℕ) → q < p .pages → Numbered (pageStars p (f .numbers) (f .words) (f .owners) q)
   unfolding hashOf starsAt
   numbered-before q h s m = sound-proper validWord (hashOf p g) f q (facts q h) s m .0
 
@@ -131,7 +131,7 @@ module _ (p : Parameters) (g : Growth) (f : File) (valid : validParameters p ≡
   home-low k = home-below (multiplierOf p) p g k valid
 
   -- no star stands above the new page
-  low-before : (q : ℕ) → q < p .pages → (s : Star) → List·Memᴰ s (starsIn p (f .numbers) (f .words) (f .owners) q) → q ≤ P
+  low-before : (q : ℕ) → q < p .pages → (s : Star) → List·Memᴰ s (pageStars p (f .numbers) (f .words) (f .owners) q) → q ≤ P
   low-before q h s m = go (decLt P q)
     where
       go : Dec (P < q) → q ≤ P
@@ -146,7 +146,7 @@ module _ (p : Parameters) (g : Growth) (f : File) (valid : validParameters p ≡
       go (no d) = omega arith
 
   -- where stars that join the new page stand
-  module _ (q : ℕ) (inside : q < p .pages) (s : Star) (there : List·Memᴰ s (starsIn p (f .numbers) (f .words) (f .owners) q)) (chosen : joins p g (s .number) ≡ true) where
+  module _ (q : ℕ) (inside : q < p .pages) (s : Star) (there : List·Memᴰ s (pageStars p (f .numbers) (f .words) (f .owners) q)) (chosen : joins p g (s .number) ≡ true) where
     from-group : expands p g (hashOf p g .home (s .number)) ≡ true
     unfolding hashOf joins
     from-group =
@@ -199,8 +199,8 @@ module _ (p : Parameters) (g : Growth) (f : File) (valid : validParameters p ≡
   unfolding joinersIn joinsAt filter
   none-counted q low far =
       ap (joinersIn p g) (of-numbers (p .places) q (f .numbers) (f .words) (f .owners) (ordered-before q (omega arith)) .1)
-      ∙ joiners-padded p g (p .places) (map numberOf (starsIn p (f .numbers) (f .words) (f .owners) q))
-      ∙ go (starsIn p (f .numbers) (f .words) (f .owners) q) (none-away q low far)
+      ∙ joiners-padded p g (p .places) (map numberOf (pageStars p (f .numbers) (f .words) (f .owners) q))
+      ∙ go (pageStars p (f .numbers) (f .words) (f .owners) q) (none-away q low far)
     where
       go : (l : List Star) → NoneJoins p g l → joinersIn p g (map numberOf l) ≡ 0
       go [] n = joiners-none p g
@@ -210,10 +210,10 @@ module _ (p : Parameters) (g : Growth) (f : File) (valid : validParameters p ≡
   module _ (hs hs₁ : List ℕ) (homes : hs ≡ homesOf p g (f .numbers)) (count : ℕ) (counted : count ≡ joinersBelow p g (f .numbers) P)
       (fits : RoomFor (p .places) P count (f .numbers))
       (rehomed : hs₁ ≡ paste hs (P * p .places) (drop (P * p .places) (homesOf p (grown p g) (f .numbers))) (p .places)) where
-    few : length (starsIn p (f .numbers) (f .words) (f .owners) P) + count ≤ p .places
+    few : length (pageStars p (f .numbers) (f .words) (f .owners) P) + count ≤ p .places
     few = go fits
       where
-        most : length (starsIn p (f .numbers) (f .words) (f .owners) P) ≤ p .places
+        most : length (pageStars p (f .numbers) (f .words) (f .owners) P) ≤ p .places
         most =
             omega (
               arith,
@@ -221,21 +221,21 @@ module _ (p : Parameters) (g : Growth) (f : File) (valid : validParameters p ≡
               part-length (p .places) P (f .numbers) (ordered-before P room .inNumbers),
             )
 
-        item : getD (map numberOf (starsIn p (f .numbers) (f .words) (f .owners) P)) (p .places - count) 0 ≡ numberAt (p .places) P (p .places - count) (f .numbers)
+        item : getD (map numberOf (pageStars p (f .numbers) (f .words) (f .owners) P)) (p .places - count) 0 ≡ numberAt (p .places) P (p .places - count) (f .numbers)
         item =
             sym
             (ap (λ (l : List ℕ). getD l (p .places - count) 0) (of-numbers (p .places) P (f .numbers) (f .words) (f .owners) (ordered-before P room) .1)
-            ∙ padded-item (p .places) (map numberOf (starsIn p (f .numbers) (f .words) (f .owners) P)) (p .places - count))
+            ∙ padded-item (p .places) (map numberOf (pageStars p (f .numbers) (f .words) (f .owners) P)) (p .places - count))
 
         later : count ≤ p .places → numberAt (p .places) P (p .places - count) (f .numbers) ≡ 0
-            → Dec (p .places - count < length (starsIn p (f .numbers) (f .words) (f .owners) P)) → length (starsIn p (f .numbers) (f .words) (f .owners) P) + count ≤ p .places
+            → Dec (p .places - count < length (pageStars p (f .numbers) (f .words) (f .owners) P)) → length (pageStars p (f .numbers) (f .words) (f .owners) P) + count ≤ p .places
         later c e (yes d) =
-            absurd (omega (arith, item, e, full-item (starsIn p (f .numbers) (f .words) (f .owners) P) (p .places - count) d (numbered-before P room)))
+            absurd (omega (arith, item, e, full-item (pageStars p (f .numbers) (f .words) (f .owners) P) (p .places - count) d (numbered-before P room)))
         later c e (no d) = omega arith
 
-        go : RoomFor (p .places) P count (f .numbers) → length (starsIn p (f .numbers) (f .words) (f .owners) P) + count ≤ p .places
+        go : RoomFor (p .places) P count (f .numbers) → length (pageStars p (f .numbers) (f .words) (f .owners) P) + count ≤ p .places
         go (inl e) = omega (arith, e, most)
-        go (inr (c, e)) = later c e (decLt (p .places - count) (length (starsIn p (f .numbers) (f .words) (f .owners) P)))
+        go (inr (c, e)) = later c e (decLt (p .places - count) (length (pageStars p (f .numbers) (f .words) (f .owners) P)))
 
     long : length hs ≡ p .pages * p .places
     long = length-homes p g hs (f .numbers) homes ∙ sized .ofNumbers
@@ -268,7 +268,7 @@ module _ (p : Parameters) (g : Growth) (f : File) (valid : validParameters p ≡
     unfolding homeOn
     home-on q t e s = rw e
 
-    home-column : (q : ℕ) → q < p .pages → (t : Bool) → eqb q P ≡ t → part (p .places) q hs₁ ≡ padded (p .places) (map (homeOn p g q) (starsIn p (f .numbers) (f .words) (f .owners) q))
+    home-column : (q : ℕ) → q < p .pages → (t : Bool) → eqb q P ≡ t → part (p .places) q hs₁ ≡ padded (p .places) (map (homeOn p g q) (pageStars p (f .numbers) (f .words) (f .owners) q))
     home-column q h true e =
         let at : q ≡ P = eqb-true q P e in
         ap (λ (r : ℕ). part (p .places) r hs₁) at
@@ -276,14 +276,14 @@ module _ (p : Parameters) (g : Growth) (f : File) (valid : validParameters p ≡
         ∙ part-here (p .places) (p .pages) P room next hs next-size long
         ∙ next-part
         ∙ homes-page p (grown p g) P (f .numbers) (f .words) (f .owners) (ordered-before P room) (numbered-before P room)
-        ∙ ap (λ (r : ℕ). padded (p .places) (map (homeOf p (grown p g)) (starsIn p (f .numbers) (f .words) (f .owners) r))) (sym at)
-        ∙ ap (padded (p .places)) (sym (map-same (homeOn p g q) (homeOf p (grown p g)) (starsIn p (f .numbers) (f .words) (f .owners) q) (λ s m. home-on q true e s)))
+        ∙ ap (λ (r : ℕ). padded (p .places) (map (homeOf p (grown p g)) (pageStars p (f .numbers) (f .words) (f .owners) r))) (sym at)
+        ∙ ap (padded (p .places)) (sym (map-same (homeOn p g q) (homeOf p (grown p g)) (pageStars p (f .numbers) (f .words) (f .owners) q) (λ s m. home-on q true e s)))
     home-column q h false e =
         ap (part (p .places) q) wrote
         ∙ part-there (p .places) (p .pages) P room next hs next-size long q (eqb-false q P e)
         ∙ ap (part (p .places) q) homes
         ∙ homes-page p g q (f .numbers) (f .words) (f .owners) (ordered-before q h) (numbered-before q h)
-        ∙ ap (padded (p .places)) (sym (map-same (homeOn p g q) (homeOf p g) (starsIn p (f .numbers) (f .words) (f .owners) q) (λ s m. home-on q false e s)))
+        ∙ ap (padded (p .places)) (sym (map-same (homeOn p g q) (homeOf p g) (pageStars p (f .numbers) (f .words) (f .owners) q) (λ s m. home-on q false e s)))
 
     pub begun : Underway p g (f .numbers) (f .words) (f .owners) hs₁
     begun =
@@ -308,7 +308,7 @@ module _ (p : Parameters) (g : Growth) (f : File) (valid : validParameters p ≡
     sized-after = record { ofSeparators = sized .ofSeparators; ofNumbers = u .ofNumbers; ofWords = u .ofWords; ofOwners = u .ofOwners }
 
     -- those that join the new page are on it
-    joined : (q : ℕ) → q < p .pages → (s : Star) → List·Memᴰ s (starsIn p ns ws os q) → joins p g (s .number) ≡ true → q ≡ P
+    joined : (q : ℕ) → q < p .pages → (s : Star) → List·Memᴰ s (pageStars p ns ws os q) → joins p g (s .number) ≡ true → q ≡ P
     joined q h s m j = go (decLt q P)
       where
         go : Dec (q < P) → q ≡ P
@@ -334,7 +334,7 @@ module _ (p : Parameters) (g : Growth) (f : File) (valid : validParameters p ≡
         ∙ ap (λ (h : ℕ). first (hashFrom p h) 0 (f .separators) k) (home-kept k j)
         ∙ first-from p g 0 (f .separators) k
 
-    here-after : (q : ℕ) → q < p .pages → (s : Star) → List·Memᴰ s (starsIn p ns ws os q) → first (hashOf p (grown p g)) 0 (f .separators) (s .number) ≡ q
+    here-after : (q : ℕ) → q < p .pages → (s : Star) → List·Memᴰ s (pageStars p ns ws os q) → first (hashOf p (grown p g)) 0 (f .separators) (s .number) ≡ q
     here-after q h s m = go (joins p g (s .number)) refl
       where
         go : (t : Bool) → joins p g (s .number) ≡ t → first (hashOf p (grown p g)) 0 (f .separators) (s .number) ≡ q
@@ -342,8 +342,8 @@ module _ (p : Parameters) (g : Growth) (f : File) (valid : validParameters p ≡
         go false j =
             named-kept (s .number) j
             ∙ ⊎-elim
-            (λ (n : List·Memᴰ s (starsIn p (f .numbers) (f .words) (f .owners) q)). here-before q h s n)
-            (λ (n : (q ≡ P) × (joins p g (s .number) ≡ true) × ((r : ℕ) × (r < p .pages) × List·Memᴰ s (starsIn p (f .numbers) (f .words) (f .owners) r))). absurd (true≢false (sym (n .1) ∙ j)))
+            (λ (n : List·Memᴰ s (pageStars p (f .numbers) (f .words) (f .owners) q)). here-before q h s n)
+            (λ (n : (q ≡ P) × (joins p g (s .number) ≡ true) × ((r : ℕ) × (r < p .pages) × List·Memᴰ s (pageStars p (f .numbers) (f .words) (f .owners) r))). absurd (true≢false (sym (n .1) ∙ j)))
             (kept .back q h s m)
 
     facts-after : (q : ℕ) → q < p .pages → Sound validWord (hashOf p (grown p g)) after q
@@ -376,8 +376,8 @@ module _ (p : Parameters) (g : Growth) (f : File) (valid : validParameters p ≡
         down s m =
             let there = gathered-member (p .places) after 0 (p .pages) s m in
             ⊎-elim
-            (λ (n : List·Memᴰ s (starsIn p (f .numbers) (f .words) (f .owners) (there .0))). member-gathered (p .places) f 0 (p .pages) (there .0) s (omega arith) (there .2) n)
-            (λ (n : (there .0 ≡ P) × (joins p g (s .number) ≡ true) × ((r : ℕ) × (r < p .pages) × List·Memᴰ s (starsIn p (f .numbers) (f .words) (f .owners) r))).
+            (λ (n : List·Memᴰ s (pageStars p (f .numbers) (f .words) (f .owners) (there .0))). member-gathered (p .places) f 0 (p .pages) (there .0) s (omega arith) (there .2) n)
+            (λ (n : (there .0 ≡ P) × (joins p g (s .number) ≡ true) × ((r : ℕ) × (r < p .pages) × List·Memᴰ s (pageStars p (f .numbers) (f .words) (f .owners) r))).
             member-gathered (p .places) f 0 (p .pages) (n .2 .0) s (omega arith) (omega (arith, n .2 .1)) (n .2 .2))
             (kept .back (there .0) (omega (arith, there .2)) s (there .3))
 
@@ -385,11 +385,11 @@ module _ (p : Parameters) (g : Growth) (f : File) (valid : validParameters p ≡
         up s m =
             let there = gathered-member (p .places) f 0 (p .pages) s m in
             ⊎-elim
-            (λ (n : List·Memᴰ s (starsIn p ns ws os (there .0))). member-gathered (p .places) after 0 (p .pages) (there .0) s (omega arith) (there .2) n)
-            (λ (n : (joins p g (s .number) ≡ true) × List·Memᴰ s (starsIn p ns ws os P)). member-gathered (p .places) after 0 (p .pages) P s (omega arith) (omega (arith, room)) (n .1))
+            (λ (n : List·Memᴰ s (pageStars p ns ws os (there .0))). member-gathered (p .places) after 0 (p .pages) (there .0) s (omega arith) (there .2) n)
+            (λ (n : (joins p g (s .number) ≡ true) × List·Memᴰ s (pageStars p ns ws os P)). member-gathered (p .places) after 0 (p .pages) P s (omega arith) (omega (arith, room)) (n .1))
             (kept .forth (there .0) (omega (arith, there .2)) s (there .3))
 
-    home-after : (q : ℕ) → q < p .pages → (t : Bool) → eqb q P ≡ t → (s : Star) → List·Memᴰ s (starsIn p ns ws os q) → homeOn p g q s ≡ home (multiplierOf p) p (grown p g) (s .number)
+    home-after : (q : ℕ) → q < p .pages → (t : Bool) → eqb q P ≡ t → (s : Star) → List·Memᴰ s (pageStars p ns ws os q) → homeOn p g q s ≡ home (multiplierOf p) p (grown p g) (s .number)
     unfolding homeOn
     home-after q h true e s m = rw e
     home-after q h false e s m = rw e (sym (home-kept (s .number) (go (joins p g (s .number)) refl)))
@@ -403,7 +403,7 @@ module _ (p : Parameters) (g : Growth) (f : File) (valid : validParameters p ≡
         parts-same (p .places) (p .pages) hs (homesOf p (grown p g) ns) (u .ofHomes) (length-homes p (grown p g) (homesOf p (grown p g) ns) ns refl ∙ u .ofNumbers)
         (λ q h.
         u .homes q h
-        ∙ ap (padded (p .places)) (map-same (homeOn p g q) (homeOf p (grown p g)) (starsIn p ns ws os q) (home-after q h (eqb q P) refl))
+        ∙ ap (padded (p .places)) (map-same (homeOn p g q) (homeOf p (grown p g)) (pageStars p ns ws os q) (home-after q h (eqb q P) refl))
         ∙ sym (homes-page p (grown p g) q ns ws os (ordered p g ns ws os hs u q h) (numbered p g ns ws os hs u q h)))
 
     pub all-moved : Moved p g f after hs

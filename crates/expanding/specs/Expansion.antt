@@ -40,8 +40,8 @@ joinersBelow p g ns zero = 0
 joinersBelow p g ns (suc q) = joinersBelow p g ns q + joinersIn p g (part (p .places) q ns)
 
 -- the stars of a page, by the lent lists
-abbrev pub starsIn : Parameters → List ℕ → List ℕ → List ℕ → ℕ → List Star
-starsIn p ns ws os q = starsOn (p .places) q ns ws os
+abbrev pub pageStars : Parameters → List ℕ → List ℕ → List ℕ → ℕ → List Star
+pageStars p ns ws os q = starsOn (p .places) q ns ws os
 
 -- no star of this list joins the new page
 abbrev pub NoneJoins : Parameters → Growth → List Star → Type 0
@@ -58,7 +58,7 @@ isNear p g separators q = runsTo p g separators q || expands p g q
 
 -- no star of the other pages joins the new page
 abbrev pub NoneAway : Parameters → Growth → List ℕ → List ℕ → List ℕ → List ℕ → Type 0
-NoneAway p g separators ns ws os = (q : ℕ) → q < pageCount p g → isNear p g separators q ≡ false → NoneJoins p g (starsIn p ns ws os q)
+NoneAway p g separators ns ws os = (q : ℕ) → q < pageCount p g → isNear p g separators q ≡ false → NoneJoins p g (pageStars p ns ws os q)
 
 abbrev pub NoneCounted : Parameters → Growth → List ℕ → List ℕ → Type 0
 NoneCounted p g separators ns = (q : ℕ) → q < pageCount p g → isNear p g separators q ≡ false → joinersIn p g (part (p .places) q ns) ≡ 0
@@ -87,22 +87,22 @@ pub record Underway (p : Parameters) (g : Growth) (ns ws os hs : List ℕ) : Typ
   pub ofOwners : length os ≡ p .pages * p .places
   pub ofHomes : length hs ≡ p .pages * p .places
   pub inOrder : (q : ℕ) → q < p .pages → orderly validWord 0 (part (p .places) q ns) (part (p .places) q ws) (part (p .places) q os) ≡ true
-  pub low : (q : ℕ) → q < p .pages → (s : Star) → List·Memᴰ s (starsIn p ns ws os q) → joins p g (s .number) ≡ true → q ≤ pageCount p g
+  pub low : (q : ℕ) → q < p .pages → (s : Star) → List·Memᴰ s (pageStars p ns ws os q) → joins p g (s .number) ≡ true → q ≤ pageCount p g
   pub once :
-      (q r : ℕ) → q < p .pages → r < p .pages → (s t : Star) → List·Memᴰ s (starsIn p ns ws os q) → List·Memᴰ t (starsIn p ns ws os r)
+      (q r : ℕ) → q < p .pages → r < p .pages → (s t : Star) → List·Memᴰ s (pageStars p ns ws os q) → List·Memᴰ t (pageStars p ns ws os r)
       → s .number ≡ t .number → q ≡ r
-  pub few : length (starsIn p ns ws os (pageCount p g)) + joinersBelow p g ns (pageCount p g) ≤ p .places
-  pub homes : (q : ℕ) → q < p .pages → part (p .places) q hs ≡ padded (p .places) (map (homeOn p g q) (starsIn p ns ws os q))
+  pub few : length (pageStars p ns ws os (pageCount p g)) + joinersBelow p g ns (pageCount p g) ≤ p .places
+  pub homes : (q : ℕ) → q < p .pages → part (p .places) q hs ≡ padded (p .places) (map (homeOn p g q) (pageStars p ns ws os q))
 
 -- the stars after are those before, each on its page or, if it joins the new page, there
 pub record Kept (p : Parameters) (g : Growth) (ns ws os ns′ ws′ os′ : List ℕ) : Type 0 where
   pub back :
-      (q : ℕ) → q < p .pages → (s : Star) → List·Memᴰ s (starsIn p ns′ ws′ os′ q)
-      → List·Memᴰ s (starsIn p ns ws os q)
-      ⊎ ((q ≡ pageCount p g) × (joins p g (s .number) ≡ true) × ((r : ℕ) × (r < p .pages) × List·Memᴰ s (starsIn p ns ws os r)))
+      (q : ℕ) → q < p .pages → (s : Star) → List·Memᴰ s (pageStars p ns′ ws′ os′ q)
+      → List·Memᴰ s (pageStars p ns ws os q)
+      ⊎ ((q ≡ pageCount p g) × (joins p g (s .number) ≡ true) × ((r : ℕ) × (r < p .pages) × List·Memᴰ s (pageStars p ns ws os r)))
   pub forth :
-      (q : ℕ) → q < p .pages → (s : Star) → List·Memᴰ s (starsIn p ns ws os q)
-      → List·Memᴰ s (starsIn p ns′ ws′ os′ q) ⊎ ((joins p g (s .number) ≡ true) × List·Memᴰ s (starsIn p ns′ ws′ os′ (pageCount p g)))
+      (q : ℕ) → q < p .pages → (s : Star) → List·Memᴰ s (pageStars p ns ws os q)
+      → List·Memᴰ s (pageStars p ns′ ws′ os′ q) ⊎ ((joins p g (s .number) ≡ true) × List·Memᴰ s (pageStars p ns′ ws′ os′ (pageCount p g)))
 
 -- what one move, the moves from a page, and those from all pages leave
 pub record Stepped (p : Parameters) (g : Growth) (numbers words owners homes : Lent) : Type 0 where
@@ -113,12 +113,12 @@ pub record Stepped (p : Parameters) (g : Growth) (numbers words owners homes : L
 -- .. and the stars from that place on are those that were behind it
 abbrev pub ClosedUp : Parameters → ℕ → ℕ → Lent → Lent → Lent → Type 0
 ClosedUp p page place numbers words owners =
-    drop place (starsIn p (now (numbers .exit)) (now (words .exit)) (now (owners .exit)) page)
-    ≡ drop (suc place) (starsIn p (now (numbers .entry)) (now (words .entry)) (now (owners .entry)) page)
+    drop place (pageStars p (now (numbers .exit)) (now (words .exit)) (now (owners .exit)) page)
+    ≡ drop (suc place) (pageStars p (now (numbers .entry)) (now (words .entry)) (now (owners .entry)) page)
 
 -- .. and no star of the pages below q is left to move
 abbrev pub SettledBelow : Parameters → Growth → ℕ → List ℕ → List ℕ → List ℕ → Type 0
-SettledBelow p g q ns ws os = (r : ℕ) → r < q → NoneJoins p g (starsIn p ns ws os r)
+SettledBelow p g q ns ws os = (r : ℕ) → r < q → NoneJoins p g (pageStars p ns ws os r)
 
 -- .. or nothing
 pub record Untouched (numbers words owners homes : Lent) : Type 0 where

@@ -2,12 +2,12 @@
 ghost use mathlib.Core.Path.{_≡_};
 ghost use mathlib.Core.Bool.{true};
 ghost use Prim.Native.Nat.{_+_, _-_, _*_, _≤_, _<_};
-ghost use lib.ListN.{length, getD};
+ghost use lib.ListN.{length};
 ghost use Rattle.hashing.specs.Limits.{validParameters};
 ghost use Rattle.hashing.specs.Geometry.{pageCount};
 ghost use Rattle.pages.specs.Page.{part, placeOf};
 ghost use Rattle.placement.specs.Rule.{insert, without, starWith};
-ghost use Rattle.shifting.specs.Shift.{Ordered, Occupied, StandsOn, starsBefore, numberAt, openedAt, closed};
+ghost use Rattle.shifting.specs.Shift.{Occupied, StandsOn, starsBefore, numberAt, openedAt, closed};
 ghost use Rattle.expanding.specs.Expansion.{joins, Underway, Stepped, ClosedUp, Vacancy};
 use hashing::Geometry;
 

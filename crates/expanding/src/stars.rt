@@ -9,7 +9,7 @@ ghost use Rattle.placement.specs.Hash.{homesOf};
 ghost use Rattle.placement.specs.Lent.{held};
 ghost use Rattle.placement.specs.Ready.{Homing, Ready};
 ghost use Rattle.reach.specs.Reach.{firstUnsound};
-ghost use Rattle.expanding.specs.Expansion.{Underway, Stepped, NoneJoins, starsIn, SettledBelow, NoneAway, Expanded};
+ghost use Rattle.expanding.specs.Expansion.{Underway, Stepped, NoneJoins, pageStars, SettledBelow, NoneAway, Expanded};
 use crate::counting::count_stars;
 use crate::counting::has_room;
 use crate::joining::joins;
@@ -62,7 +62,7 @@ fn move_from(
     requires { ⌜ page < added ⌝ }
     ensures { λ _. ⌜ Stepped (geometry .parameters) (geometry .growth) numbers words owners homes ⌝ }
     ensures { λ _. ⌜ NoneJoins (geometry .parameters) (geometry .growth)
-        (starsIn (geometry .parameters) (now (numbers .exit)) (now (words .exit)) (now (owners .exit)) page) ⌝ }
+        (pageStars (geometry .parameters) (now (numbers .exit)) (now (words .exit)) (now (owners .exit)) page) ⌝ }
 {
     let places = geometry.parameters.places as usize;
     let first = page * places;

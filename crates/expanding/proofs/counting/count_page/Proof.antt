@@ -1,13 +1,12 @@
 use mathlib.Core.Path.{_≡_, _∙_, sym, ap}
-use Prim.Native.Nat.{ℕ, _+_, _*_, _-_, _≤_}
+use Prim.Native.Nat.{ℕ, _+_, _-_, _≤_}
 use mathlib.Core.Bool.{Bool, true, false}
 use lib.Seq.{take-all}
 use native.Mathlib.Omega.{arith}
-use lib.ListN.{length, take, drop, getD, length-map, List·getD-map}
+use lib.ListN.{take}
 use borrow.Author.Needs.{needs}
 use Rattle.pages.specs.Page.{part}
 use Rattle.pages.proofs.Parts.{part-length, part-item}
-use Rattle.placement.specs.Hash.{homeIn, homesOf}
 use Rattle.expanding.specs.Expansion.{joinsAt, joinersIn}
 use Rattle.expanding.proofs.Joiners.{oneIf, home-item, length-homes, joiners-none, joiners-next}
 use Rattle.expanding.proofs.counting.count_page.Statement.{statement}

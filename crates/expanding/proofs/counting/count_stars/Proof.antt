@@ -1,12 +1,7 @@
-use mathlib.Core.Path.{_≡_, refl, _∙_, sym, ap}
-use mathlib.Core.Bool.{Bool, true, false, not, _&&_, _||_}
-use Prim.Native.Nat.{ℕ, _+_, _*_, _-_, _≤_, _<_}
+use mathlib.Core.Path.{_≡_, _∙_, sym, ap}
+use Prim.Native.Nat.{_+_, _*_, _-_, _≤_, _<_}
 use native.Mathlib.Nat.{mul-le-mul}
 use native.Mathlib.Omega.{arith}
-use borrow.Author.Needs.{needs}
-use lib.Dec.{eqb}
-use lib.ListN.{getD}
-use Rattle.generator.specs.Generator.{topOf}
 use Rattle.hashing.proofs.Bounds.{limits}
 use Rattle.pages.proofs.Parts.{page-fits}
 use Rattle.expanding.specs.Expansion.{joinersBelow, runsTo, isNear}

@@ -1,8 +1,4 @@
-use mathlib.Core.Path.{_≡_, sym, _∙_}
-use mathlib.Core.Bool.{Bool, true}
 use borrow.Author.Tests.{eq-eqb, ne-eqb}
-use Rattle.hashing.specs.Geometry.{multiplierOf}
-use Rattle.hashing.specs.Home.{home}
 use Rattle.expanding.specs.Expansion.{joins, joinsAt}
 use Rattle.expanding.proofs.joining.joins.Statement.{statement}
 use Rattle.expanding.proofs.joining.joins.Tie as tie

@@ -1,15 +1,15 @@
 use mathlib.Core.Path.{_≡_, sym, ap, _∙_}
-use mathlib.Core.Bool.{Bool, true, false}
-use Prim.Native.Nat.{ℕ, _+_, _-_, _*_, _≤_, _<_}
+use mathlib.Core.Bool.{true}
+use Prim.Native.Nat.{_+_, _-_, _*_, _≤_, _<_}
 use native.Mathlib.Nat.{mul-le-mul}
 use native.Mathlib.Omega.{arith}
-use lib.ListN.{length, drop, getD}
+use lib.ListN.{drop}
 use borrow.Author.Needs.{needs}
 use Rattle.hashing.specs.Geometry.{pageCount}
 use Rattle.hashing.proofs.Bounds.{limits}
 use Rattle.pages.proofs.Parts.{page-fits, part-item}
 use Rattle.shifting.specs.Shift.{numberAt}
-use Rattle.expanding.specs.Expansion.{joins, joinsAt, NoneJoins, starsIn, Underway, Kept}
+use Rattle.expanding.specs.Expansion.{joins, joinsAt, NoneJoins, pageStars, Underway, Kept}
 use Rattle.expanding.proofs.OnPage.{held-joins, kept-none, kept-more, home-there, none-behind, taken-there, left-there}
 use Rattle.expanding.proofs.stars.move_from.Statement.{statement}
 use Rattle.expanding.proofs.stars.move_from.Tie as tie
@@ -18,7 +18,7 @@ abbrev Inv-loop : tie.InvT-loop
 Inv-loop table geometry numbers₀ words₀ owners₀ homes₀ page added places first i₀ numbers words owners homes i =
     (i ≤ geometry .parameters .places) × Underway (geometry .parameters) (geometry .growth) numbers words owners homes
     × Kept (geometry .parameters) (geometry .growth) numbers₀ words₀ owners₀ numbers words owners
-    × NoneJoins (geometry .parameters) (geometry .growth) (drop i (starsIn (geometry .parameters) numbers words owners page))
+    × NoneJoins (geometry .parameters) (geometry .growth) (drop i (pageStars (geometry .parameters) numbers words owners page))
 
 abbrev μ-loop : tie.MeasureT-loop
 μ-loop table geometry numbers₀ words₀ owners₀ homes₀ page added places first i₀ numbers words owners homes i = i
