@@ -21,7 +21,7 @@ use Rattle.placement.specs.Hash.{homeIn}
 use Rattle.placement.proofs.Pages.{Numbered, length-starsOf}
 use Rattle.placement.proofs.Files.{numberOf}
 use Rattle.shifting.proofs.Shifted.{of-numbers}
-use Rattle.expanding.specs.Expansion.{joins, joinsAt, pageStars, NoneJoins, SettledBelow, homeOn, Underway, Kept}
+use Rattle.expanding.specs.Expansion.{joins, joinsAt, pageStars, NoneJoins, SettledBelow, homeOn, Underway, KeptStars}
 use Rattle.expanding.proofs.Step.{ordered, numbered}
 
 module _ (p : Parameters) (g : Growth) where
@@ -32,10 +32,10 @@ module _ (p : Parameters) (g : Growth) where
   held-joins (suc n) e = (omega arith, rw (ne-eqb (suc n) 0 (λ z. omega (arith, z))) at e)
 
   -- moves after moves
-  pub kept-none : (ns ws os : List ℕ) → Kept p g ns ws os ns ws os
+  pub kept-none : (ns ws os : List ℕ) → KeptStars p g ns ws os ns ws os
   kept-none ns ws os = record { back = λ q h s m. inl m; forth = λ q h s m. inl m }
 
-  module _ (ns ws os ns₁ ws₁ os₁ ns₂ ws₂ os₂ : List ℕ) (room : pageCount p g < p .pages) (a : Kept p g ns ws os ns₁ ws₁ os₁) (b : Kept p g ns₁ ws₁ os₁ ns₂ ws₂ os₂) where
+  module _ (ns ws os ns₁ ws₁ os₁ ns₂ ws₂ os₂ : List ℕ) (room : pageCount p g < p .pages) (a : KeptStars p g ns ws os ns₁ ws₁ os₁) (b : KeptStars p g ns₁ ws₁ os₁ ns₂ ws₂ os₂) where
     abbrev Back : ℕ → Star → List ℕ → List ℕ → List ℕ → Type 0
     Back q s ms vs ts =
         List·Memᴰ s (pageStars p ms vs ts q)
@@ -44,7 +44,7 @@ module _ (p : Parameters) (g : Growth) where
     abbrev Forth : ℕ → Star → List ℕ → List ℕ → List ℕ → Type 0
     Forth q s ms vs ts = List·Memᴰ s (pageStars p ms vs ts q) ⊎ ((joins p g (s .number) ≡ true) × List·Memᴰ s (pageStars p ms vs ts (pageCount p g)))
 
-    pub kept-more : Kept p g ns ws os ns₂ ws₂ os₂
+    pub kept-more : KeptStars p g ns ws os ns₂ ws₂ os₂
     kept-more = record { back = λ q h s m. down q h s (b .back q h s m); forth = λ q h s m. up q h s (a .forth q h s m) }
       where
         origin : (q : ℕ) (s : Star) → q < p .pages → Back q s ns ws os → (r : ℕ) × (r < p .pages) × List·Memᴰ s (pageStars p ns ws os r)
@@ -127,7 +127,7 @@ module _ (p : Parameters) (g : Growth) where
       stays-there ns ws os hs u q inside (i - 1) (omega arith) e (λ s m. n s (rw (← same) at m))
 
   -- a page more has no star left to move
-  pub settled-next : (ns ws os ns′ ws′ os′ : List ℕ) (q : ℕ) → Kept p g ns ws os ns′ ws′ os′ → q < pageCount p g → pageCount p g < p .pages
+  pub settled-next : (ns ws os ns′ ws′ os′ : List ℕ) (q : ℕ) → KeptStars p g ns ws os ns′ ws′ os′ → q < pageCount p g → pageCount p g < p .pages
       → SettledBelow p g q ns ws os → NoneJoins p g (pageStars p ns′ ws′ os′ q) → SettledBelow p g (q + 1) ns′ ws′ os′
   settled-next ns ws os ns′ ws′ os′ q kept low room done here r h s m = go (decLt r q)
     where

@@ -26,7 +26,7 @@ use Rattle.placement.proofs.Files.{numberOf, wordOf, ownerOf}
 use Rattle.shifting.specs.Shift.{numberAt, Ordered, Vacant, Occupied, openedAt, closed}
 use Rattle.shifting.proofs.Splits.{Split}
 use Rattle.shifting.proofs.Shifted.{of-numbers, of-words, of-owners, put-list, take-list, taken-split, occupied-place}
-use Rattle.expanding.specs.Expansion.{joins, joinsAt, joinersIn, joinersBelow, pageStars, homeOn, Vacancy, Underway, Kept}
+use Rattle.expanding.specs.Expansion.{joins, joinsAt, joinersIn, joinersBelow, pageStars, homeOn, Vacancy, Underway, KeptStars}
 use Rattle.expanding.proofs.TwoPages.{part-there, written-long, TwoPages, two-pages}
 use Rattle.expanding.proofs.Fewer.{split-cases, split-middle, split-drop, joiners-padded, joiners-split, below-less}
 
@@ -351,7 +351,7 @@ module _ (p : Parameters) (g : Growth) (ns ws os hs : List ℕ) (u : Underway p 
             go (second e) = old e (split-cases (split .front) (split .back) s t (rw (e, split .isMore) at m))
             go (neither a b) = inl (rw (elsewhere r a b) m)
 
-        pub step-kept : Kept p g ns ws os ns₂ ws₂ os₂
+        pub step-kept : KeptStars p g ns ws os ns₂ ws₂ os₂
         step-kept =
             record {
               back = λ r h t m.
@@ -439,7 +439,7 @@ module _ (p : Parameters) (g : Growth) (ns ws os hs : List ℕ) (u : Underway p 
             (fw : ws₂ ≡ written (q * p .places) (padded (p .places) (map wordOf (without (numberAt (p .places) q i ns₁) (pageStars p ns₁ ws₁ os₁ q)))) ws₁)
             (fo : os₂ ≡ written (q * p .places) (padded (p .places) (map ownerOf (without (numberAt (p .places) q i ns₁) (pageStars p ns₁ ws₁ os₁ q)))) os₁)
             (fh : hs₂ ≡ closed (q * p .places + i) (p .places - i - 1) hs₁) where
-          pub stepped : Underway p g ns₂ ws₂ os₂ hs₂ × Kept p g ns ws os ns₂ ws₂ os₂ × (drop i (pageStars p ns₂ ws₂ os₂ q) ≡ drop (suc i) (S q))
+          pub stepped : Underway p g ns₂ ws₂ os₂ hs₂ × KeptStars p g ns ws os ns₂ ws₂ os₂ × (drop i (pageStars p ns₂ ws₂ os₂ q) ≡ drop (suc i) (S q))
           stepped = (
             step-underway ns₁ ws₁ os₁ hs₁ (rw is at en) (rw is at ew) (rw is at eo) (rw is at eh) ns₂ ws₂ os₂ hs₂ fn fw fo fh,
             step-kept ns₁ ws₁ os₁ hs₁ (rw is at en) (rw is at ew) (rw is at eo) (rw is at eh) ns₂ ws₂ os₂ hs₂ fn fw fo fh,

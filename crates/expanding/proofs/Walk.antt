@@ -12,7 +12,7 @@ use Rattle.generator.specs.Generator.{topOf}
 use Rattle.hashing.specs.declared.Parameters.{Parameters}
 use Rattle.hashing.specs.declared.Growth.{Growth}
 use Rattle.hashing.specs.Geometry.{pageCount, expands}
-use Rattle.expanding.specs.Expansion.{joins, NoneJoins, pageStars, runsTo, isNear, NoneAway, Kept}
+use Rattle.expanding.specs.Expansion.{joins, NoneJoins, pageStars, runsTo, isNear, NoneAway, KeptStars}
 
 module _ (p : Parameters) (g : Growth) (separators : List ℕ) where
   pub runs-none : runsTo p g separators 0 ≡ false
@@ -28,7 +28,7 @@ module _ (p : Parameters) (g : Growth) (separators : List ℕ) where
   runs-next q here next e d = rw (add-one q) (d ∙ ap (λ (t : Bool). t && not (eqb (getD separators q 0) (topOf (p .bits)))) e)
 
   -- a page that is passed over has no star to be moved, before the moves and so after them
-  pub none-left : (ns ws os ns′ ws′ os′ : List ℕ) → NoneAway p g separators ns ws os → Kept p g ns ws os ns′ ws′ os′ → pageCount p g < p .pages
+  pub none-left : (ns ws os ns′ ws′ os′ : List ℕ) → NoneAway p g separators ns ws os → KeptStars p g ns ws os ns′ ws′ os′ → pageCount p g < p .pages
       → (q : ℕ) → q < pageCount p g → isNear p g separators q ≡ false → NoneJoins p g (pageStars p ns′ ws′ os′ q)
   none-left ns ws os ns′ ws′ os′ none kept room q low far s m =
       ⊎-elim

@@ -41,7 +41,7 @@ use Rattle.reach.proofs.Surveyed.{unsound}
 use Rattle.shifting.specs.Shift.{numberAt, Ordered}
 use Rattle.shifting.proofs.Shifted.{of-numbers}
 use Rattle.shifting.proofs.OnePage.{named-home}
-use Rattle.expanding.specs.Expansion.{joins, joinsAt, joinersIn, joinersBelow, NoneJoins, pageStars, runsTo, isNear, NoneAway, NoneCounted, RoomFor, homeOn, Underway, Kept, SettledBelow, Moved}
+use Rattle.expanding.specs.Expansion.{joins, joinsAt, joinersIn, joinersBelow, NoneJoins, pageStars, runsTo, isNear, NoneAway, NoneCounted, RoomFor, homeOn, Underway, KeptStars, SettledBelow, Moved}
 use Rattle.expanding.proofs.TwoPages.{part-here, part-there, written-long}
 use Rattle.expanding.proofs.Step.{ordered, numbered}
 use Rattle.expanding.proofs.Joiners.{length-homes, joiners-none}
@@ -300,7 +300,7 @@ module _ (p : Parameters) (g : Growth) (f : File) (valid : validParameters p ≡
         }
 
   -- after the last one
-  module _ (ns ws os hs : List ℕ) (u : Underway p g ns ws os hs) (kept : Kept p g (f .numbers) (f .words) (f .owners) ns ws os) (settled : SettledBelow p g P ns ws os) where
+  module _ (ns ws os hs : List ℕ) (u : Underway p g ns ws os hs) (kept : KeptStars p g (f .numbers) (f .words) (f .owners) ns ws os) (settled : SettledBelow p g P ns ws os) where
     abbrev after : File
     after = lent (f .separators) ns ws os
 
@@ -423,6 +423,6 @@ module _ (p : Parameters) (g : Growth) (f : File) (valid : validParameters p ≡
   pub none-counted-at : NoneCounted p g (f .separators) (f .numbers)
   none-counted-at = none-counted p g f valid grows sized all room (rw is at top)
 
-  pub moved-at : (ns ws os hs : List ℕ) → Underway p g ns ws os hs → Kept p g (f .numbers) (f .words) (f .owners) ns ws os → SettledBelow p g added ns ws os
+  pub moved-at : (ns ws os hs : List ℕ) → Underway p g ns ws os hs → KeptStars p g (f .numbers) (f .words) (f .owners) ns ws os → SettledBelow p g added ns ws os
       → Moved p g f (lent (f .separators) ns ws os) hs
   moved-at ns ws os hs u kept settled = all-moved p g f valid grows sized all room (rw is at top) ns ws os hs u kept (λ r h. settled r (omega (arith, is)))

@@ -95,7 +95,7 @@ pub record Underway (p : Parameters) (g : Growth) (ns ws os hs : List ℕ) : Typ
   pub homes : (q : ℕ) → q < p .pages → part (p .places) q hs ≡ padded (p .places) (map (homeOn p g q) (pageStars p ns ws os q))
 
 -- the stars after are those before, each on its page or, if it joins the new page, there
-pub record Kept (p : Parameters) (g : Growth) (ns ws os ns′ ws′ os′ : List ℕ) : Type 0 where
+pub record KeptStars (p : Parameters) (g : Growth) (ns ws os ns′ ws′ os′ : List ℕ) : Type 0 where
   pub back :
       (q : ℕ) → q < p .pages → (s : Star) → List·Memᴰ s (pageStars p ns′ ws′ os′ q)
       → List·Memᴰ s (pageStars p ns ws os q)
@@ -108,7 +108,7 @@ pub record Kept (p : Parameters) (g : Growth) (ns ws os ns′ ws′ os′ : List
 pub record Stepped (p : Parameters) (g : Growth) (numbers words owners homes : Lent) : Type 0 where
   pub underway : Underway p g (now (numbers .exit)) (now (words .exit)) (now (owners .exit)) (now (homes .exit))
   pub kept :
-      Kept p g (now (numbers .entry)) (now (words .entry)) (now (owners .entry)) (now (numbers .exit)) (now (words .exit)) (now (owners .exit))
+      KeptStars p g (now (numbers .entry)) (now (words .entry)) (now (owners .entry)) (now (numbers .exit)) (now (words .exit)) (now (owners .exit))
 
 -- .. and the stars from that place on are those that were behind it
 abbrev pub ClosedUp : Parameters → ℕ → ℕ → Lent → Lent → Lent → Type 0
@@ -121,7 +121,7 @@ abbrev pub SettledBelow : Parameters → Growth → ℕ → List ℕ → List �
 SettledBelow p g q ns ws os = (r : ℕ) → r < q → NoneJoins p g (pageStars p ns ws os r)
 
 -- .. or nothing
-pub record Untouched (numbers words owners homes : Lent) : Type 0 where
+pub record Unchanged (numbers words owners homes : Lent) : Type 0 where
   pub ofNumbers : now (numbers .exit) ≡ now (numbers .entry)
   pub ofWords : now (words .exit) ≡ now (words .entry)
   pub ofOwners : now (owners .exit) ≡ now (owners .entry)
@@ -139,4 +139,4 @@ pub record Expanded (p : Parameters) (g : Growth) (separators numbers words owne
   pub moved :
       r ≡ true
       → Moved p g (before separators numbers words owners) (held (separators .entry) (numbers .exit) (words .exit) (owners .exit)) (now (homes .exit))
-  pub untouched : r ≡ false → Untouched numbers words owners homes
+  pub untouched : r ≡ false → Unchanged numbers words owners homes

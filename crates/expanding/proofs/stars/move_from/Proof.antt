@@ -9,7 +9,7 @@ use Rattle.hashing.specs.Geometry.{pageCount}
 use Rattle.hashing.proofs.Bounds.{limits}
 use Rattle.pages.proofs.Parts.{page-fits, part-item}
 use Rattle.shifting.specs.Shift.{numberAt}
-use Rattle.expanding.specs.Expansion.{joins, joinsAt, NoneJoins, pageStars, Underway, Kept}
+use Rattle.expanding.specs.Expansion.{joins, joinsAt, NoneJoins, pageStars, Underway, KeptStars}
 use Rattle.expanding.proofs.OnPage.{held-joins, kept-none, kept-more, home-there, none-behind, taken-there, left-there}
 use Rattle.expanding.proofs.stars.move_from.Statement.{statement}
 use Rattle.expanding.proofs.stars.move_from.Tie as tie
@@ -17,7 +17,7 @@ use Rattle.expanding.proofs.stars.move_from.Tie as tie
 abbrev Inv-loop : tie.InvT-loop
 Inv-loop table geometry numbers₀ words₀ owners₀ homes₀ page added places first i₀ numbers words owners homes i =
     (i ≤ geometry .parameters .places) × Underway (geometry .parameters) (geometry .growth) numbers words owners homes
-    × Kept (geometry .parameters) (geometry .growth) numbers₀ words₀ owners₀ numbers words owners
+    × KeptStars (geometry .parameters) (geometry .growth) numbers₀ words₀ owners₀ numbers words owners
     × NoneJoins (geometry .parameters) (geometry .growth) (drop i (pageStars (geometry .parameters) numbers words owners page))
 
 abbrev μ-loop : tie.MeasureT-loop
