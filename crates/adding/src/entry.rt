@@ -216,7 +216,7 @@ fn enter_star(
         );
     }
     placed_from(
-        entering::enter_star(
+        runs::enter_star(
             &table,
             geometry,
             separators,

@@ -62,7 +62,7 @@ module _ (ok : ℕ → Bool) (H : Hash) (M : ℕ) (f : File) (sized : Sized (H .
     (inside : H .home (s .number) + (q + m) ≤ M) (all : AllSound ok H f (H .home (s .number)) (q + m))
     (said : pagesAt (H .room) f (H .home (s .number)) (q + m) ≡ pages H (H .home (s .number)) (q + m) (gathered (H .room) f (H .home (s .number)) (q + m)))
     (absent : Absent (s .number) (gathered (H .room) f (H .home (s .number)) (q + m)))
-    (named : first H 0 (f .separators) (s .number) ≡ H .home (s .number) + q) (some : 0 < m)
+    (named : first H 0 (f .separators) (s .number) ≡ H .home (s .number) + q)
     (ends : carriedPast H f (H .home (s .number) + q) m (s ∷ []) ≡ []) where
   abbrev from : ℕ
   from = H .home (s .number)

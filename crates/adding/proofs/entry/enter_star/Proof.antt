@@ -148,7 +148,7 @@ cascade-requires c κs =
         homed = found .homeIs;
         here = found .pageIs;
       },
-      pooled-still e,
+      (pooled-still e, e .before .before .before .before .before .before .find-kept .ensures .1 (opened e)),
     )
 
 placed-from-requires : tie.Need-placed-from-requires
@@ -196,8 +196,14 @@ enter-star-requires c κs =
     let e = c .before .before .before .before .before .before .before .before .before in
     let s = begun e in
     let found = c .before .before .before .before .before .before .before .before .before .before .before .before .before .before .before .find-kept .ensures .0 in (
-      prepared (c .before .before .before .before .before .before .before .before .before .before .before .before .before .before .before .before .before .before .before .before .before .before .first-multipliers .ensures) (s .pre .0),
-      (pooled-still e, (s .pre .1 .1, (missing e, (found .homeIs, (found .placeIs (opened e), e .before .before .before .before .before .before .find-kept .ensures .1 (opened e)))))),
+      record {
+        ready = prepared (c .before .before .before .before .before .before .before .before .before .before .before .before .before .before .before .before .before .before .before .before .before .before .first-multipliers .ensures) (s .pre .0);
+        number = s .pre .1 .1;
+        unheld = missing e;
+        homed = found .homeIs;
+        here = found .pageIs;
+      },
+      (pooled-still e, (found .placeIs (opened e), e .before .before .before .before .before .before .find-kept .ensures .1 (opened e))),
     )
 
 placed-from-requires-2 : tie.Need-placed-from-requires-2
