@@ -214,7 +214,7 @@ fn enter_star(
         );
     }
     placed_from(
-        entering::enter_star(
+        runs::enter_star(
             &table,
             geometry,
             separators,

@@ -10,7 +10,6 @@ ghost use Rattle.placement.specs.Ready.{Ready, Pooled};
 ghost use Rattle.reach.specs.Reach.{firstUnsound};
 ghost use Rattle.calls.specs.Spots.{spotOf};
 ghost use Rattle.checking.specs.Verdicts.{verdictFor};
-use crate::counts::first_raisable;
 use comparing::Spot;
 use comparing::compare;
 use hashing::Geometry;
@@ -114,7 +113,7 @@ pub fn check_file(
     if unsound < pages {
         return Verdict::Unsound(unsound);
     }
-    if pages <= first_raisable(geometry, separators, numbers, pool) {
+    if pages <= raising::first_raisable(geometry, separators, numbers, pool, 0, pages) {
         return Verdict::Clean;
     }
     let spot = compare_planned(

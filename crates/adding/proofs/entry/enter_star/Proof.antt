@@ -2,7 +2,7 @@
 use mathlib.Core.Path.{_≡_, sym, ap, _∙_}
 use mathlib.Core.Bool.{true, false}
 use native.Mathlib.Omega.{arith}
-use borrow.Author.Tests.{not-true, not-false, eq-eqb, ne-eqb}
+use borrow.Author.Tests.{not-true, not-false}
 use denote.Ref.{now}
 use Rattle.hashing.proofs.Bounds.{limits}
 use Rattle.placement.specs.File.{File}
@@ -12,6 +12,7 @@ use Rattle.placement.specs.Rule.{Star}
 use Rattle.entering.specs.Entry.{Unheld, newStar}
 use Rattle.calls.specs.Answers.{Pool, placed, refusedBy, pooled, cleared}
 use Rattle.calls.specs.Calls.{readable, holds, enteredAgain, named, placeFor}
+use Rattle.answering.proofs.Resent.{again-placed}
 use Rattle.adding.proofs.Outcomes.{entry-small, cascade-small, entered-is, cascaded-is}
 use Rattle.guarding.proofs.Admitting.{prepared, tabled}
 use Rattle.adding.proofs.Pools.{unheld}
@@ -73,42 +74,21 @@ same-length-9 c = search needs
 same-length-10 : tie.Need-same-length-10
 same-length-10 c = search needs
 
+entered-again-requires : tie.Need-entered-again-requires
+entered-again-requires c κs = tt
+
 returns-2 : tie.Need-returns-2
-unfolding enteredAgain placed
+unfolding enteredAgain
 returns-2 c =
-    let found = c .before .before .before .before .before .before .before .before .find-kept .ensures .0 in
-    let opened = not-false _ (c .before .before .before .if1 .left) in
+    let found = c .before .before .before .before .before .before .before .find-kept .ensures .0 in
+    let opened = not-false _ (c .before .before .if1 .left) in
     let read = sym (found .readableIs) ∙ opened in
-    let there = c .before .before .if2 .taken in
+    let there = c .before .if2 .taken in
     let held = sym (found .heldIs opened) ∙ there in
-    let same = eq-eqb _ _ (sym (found .wordIs there) ∙ c .if3 .taken) in
-    record { answers = rw (read, held, same, ← found .placeIs opened, ← found .pageIs); files = rw (read, held) }
-
-same-length-11 : tie.Need-same-length-11
-same-length-11 c = search needs
-
-same-length-12 : tie.Need-same-length-12
-same-length-12 c = search needs
-
-same-length-13 : tie.Need-same-length-13
-same-length-13 c = search needs
-
-same-length-14 : tie.Need-same-length-14
-same-length-14 c = search needs
-
-same-length-15 : tie.Need-same-length-15
-same-length-15 c = search needs
-
-returns-3 : tie.Need-returns-3
-unfolding enteredAgain placed refusedBy
-returns-3 c =
-    let found = c .before .before .before .before .before .before .before .before .find-kept .ensures .0 in
-    let opened = not-false _ (c .before .before .before .if1 .left) in
-    let read = sym (found .readableIs) ∙ opened in
-    let there = c .before .before .if2 .taken in
-    let held = sym (found .heldIs opened) ∙ there in
-    let other = ne-eqb _ _ (λ e. c .if3 .left (found .wordIs there ∙ e)) in
-    record { answers = rw (read, held, other, ← found .placeIs opened); files = rw (read, held) }
+    record {
+      answers = ap placed (c .entered-again .ensures) ∙ again-placed _ _ _ _ ∙ rw (read, held, ← found .wordIs there, ← found .placeIs opened, ← found .pageIs);
+      files = rw (read, held);
+    }
 
 -- past the test of the named page: it does not hold the star
 module _ (c : tie.Else2) where
@@ -148,7 +128,7 @@ cascade-requires c κs =
         homed = found .homeIs;
         here = found .pageIs;
       },
-      pooled-still e,
+      (pooled-still e, e .before .before .before .before .before .before .find-kept .ensures .1 (opened e)),
     )
 
 placed-from-requires : tie.Need-placed-from-requires
@@ -158,11 +138,60 @@ placed-from-requires c κs =
     rw (c .before .before .before .before .before .before .before .before .before .before .before .before .before .before .cascade .ensures .0)
     (cascade-small (s .args .parameters) (s .args .growth) (fileOf s) (s .pre .0 .homing .valid) (s .pre .0 .homing .growth) (star e) (c .before .before .before .before .before .before .before .before .before .before .before .before .before .before .before .before .before .before .before .before .before .before .before .before .before .before .before .before .before .before .find-kept .result .page) (omega (arith, c .before .before .before .before .before .before .before .before .before .before .before .before .before .before .before .before .before .before .before .before .before .before .before .before .before .before .before .before .before .before .find-kept .ensures .0 .pageIs, missing e .named)))
 
+same-length-11 : tie.Need-same-length-11
+same-length-11 c = search needs
+
+same-length-12 : tie.Need-same-length-12
+same-length-12 c = search needs
+
+same-length-13 : tie.Need-same-length-13
+same-length-13 c = search needs
+
+same-length-14 : tie.Need-same-length-14
+same-length-14 c = search needs
+
+same-length-15 : tie.Need-same-length-15
+same-length-15 c = search needs
+
 same-length-16 : tie.Need-same-length-16
 same-length-16 c = search needs
 
 same-length-17 : tie.Need-same-length-17
 same-length-17 c = search needs
+
+returns-3 : tie.Need-returns-3
+returns-3 c =
+    let e = c .before .before .before .before .before .before .before .before .before .before .before .before .before .before .before .before .before .before .before .before .before .before .before .before .before in
+    let s = begun e in
+    let found = c .before .before .before .before .before .before .before .before .before .before .before .before .before .before .before .before .before .before .before .before .before .before .before .before .before .before .before .before .before .before .before .find-kept .ensures .0 in
+    let done = rw (found .pageIs) at (c .before .before .before .before .before .before .before .before .before .before .before .before .before .before .before .cascade .ensures) in
+    let is = cascaded-is (s .args .parameters) (s .args .growth) (fileOf s) (cleared (poolOf s)) (star e) (placeFor (s .args .parameters) (fileOf s) (named (s .args .parameters) (s .args .growth) (fileOf s) (s .args .number)) (s .args .number)) (named (s .args .parameters) (s .args .growth) (fileOf s) (s .args .number)) in
+    record {
+      answers = rw (read e, held e, c .before .before .before .before .before .before .before .before .before .before .before .before .before .before .before .before .before .before .before .before .before .before .before .before .if4 .taken) (ap placed (rw (done .0, found .placeIs (opened e)) at (c .placed-from .ensures)) ∙ is .0);
+      files = rw (read e, held e, c .before .before .before .before .before .before .before .before .before .before .before .before .before .before .before .before .before .before .before .before .before .before .before .before .if4 .taken) (done .1 ∙ is .1);
+    }
+
+enter-star-requires : tie.Need-enter-star-requires
+enter-star-requires c κs =
+    let e = c .before .before .before .before .before .before .before .before .before in
+    let s = begun e in
+    let found = c .before .before .before .before .before .before .before .before .before .before .before .before .before .before .before .find-kept .ensures .0 in (
+      record {
+        ready = prepared (c .before .before .before .before .before .before .before .before .before .before .before .before .before .before .before .before .before .before .before .before .before .before .first-multipliers .ensures) (s .pre .0);
+        number = s .pre .1 .1;
+        unheld = missing e;
+        homed = found .homeIs;
+        here = found .pageIs;
+      },
+      (pooled-still e, (found .placeIs (opened e), e .before .before .before .before .before .before .find-kept .ensures .1 (opened e))),
+    )
+
+placed-from-requires-2 : tie.Need-placed-from-requires-2
+placed-from-requires-2 c κs =
+    let e = c .before .before .before .before .before .before .before .before .before .before .before .before .before .before .before .before .before .before .before .before .before .before .before .before in
+    let s = begun e in
+    rw (c .before .before .before .before .before .before .before .before .before .before .before .before .before .before .enter-star .ensures .0)
+    (entry-small (s .args .parameters) (s .args .growth) (fileOf s) (s .pre .0 .homing .valid) (s .pre .0 .homing .growth) (star e))
 
 same-length-18 : tie.Need-same-length-18
 same-length-18 c = search needs
@@ -179,57 +208,14 @@ same-length-21 c = search needs
 same-length-22 : tie.Need-same-length-22
 same-length-22 c = search needs
 
-returns-4 : tie.Need-returns-4
-returns-4 c =
-    let e = c .before .before .before .before .before .before .before .before .before .before .before .before .before .before .before .before .before .before .before .before .before .before .before .before .before in
-    let s = begun e in
-    let found = c .before .before .before .before .before .before .before .before .before .before .before .before .before .before .before .before .before .before .before .before .before .before .before .before .before .before .before .before .before .before .before .find-kept .ensures .0 in
-    let done = rw (found .pageIs) at (c .before .before .before .before .before .before .before .before .before .before .before .before .before .before .before .cascade .ensures) in
-    let is = cascaded-is (s .args .parameters) (s .args .growth) (fileOf s) (cleared (poolOf s)) (star e) (placeFor (s .args .parameters) (fileOf s) (named (s .args .parameters) (s .args .growth) (fileOf s) (s .args .number)) (s .args .number)) (named (s .args .parameters) (s .args .growth) (fileOf s) (s .args .number)) in
-    record {
-      answers = rw (read e, held e, c .before .before .before .before .before .before .before .before .before .before .before .before .before .before .before .before .before .before .before .before .before .before .before .before .if4 .taken) (ap placed (rw (done .0, found .placeIs (opened e)) at (c .placed-from .ensures)) ∙ is .0);
-      files = rw (read e, held e, c .before .before .before .before .before .before .before .before .before .before .before .before .before .before .before .before .before .before .before .before .before .before .before .before .if4 .taken) (done .1 ∙ is .1);
-    }
-
-enter-star-requires : tie.Need-enter-star-requires
-enter-star-requires c κs =
-    let e = c .before .before .before .before .before .before .before .before .before in
-    let s = begun e in
-    let found = c .before .before .before .before .before .before .before .before .before .before .before .before .before .before .before .find-kept .ensures .0 in (
-      prepared (c .before .before .before .before .before .before .before .before .before .before .before .before .before .before .before .before .before .before .before .before .before .before .first-multipliers .ensures) (s .pre .0),
-      (pooled-still e, (s .pre .1 .1, (missing e, (found .homeIs, (found .placeIs (opened e), e .before .before .before .before .before .before .find-kept .ensures .1 (opened e)))))),
-    )
-
-placed-from-requires-2 : tie.Need-placed-from-requires-2
-placed-from-requires-2 c κs =
-    let e = c .before .before .before .before .before .before .before .before .before .before .before .before .before .before .before .before .before .before .before .before .before .before .before .before in
-    let s = begun e in
-    rw (c .before .before .before .before .before .before .before .before .before .before .before .before .before .before .enter-star .ensures .0)
-    (entry-small (s .args .parameters) (s .args .growth) (fileOf s) (s .pre .0 .homing .valid) (s .pre .0 .homing .growth) (star e))
-
 same-length-23 : tie.Need-same-length-23
 same-length-23 c = search needs
 
 same-length-24 : tie.Need-same-length-24
 same-length-24 c = search needs
 
-same-length-25 : tie.Need-same-length-25
-same-length-25 c = search needs
-
-same-length-26 : tie.Need-same-length-26
-same-length-26 c = search needs
-
-same-length-27 : tie.Need-same-length-27
-same-length-27 c = search needs
-
-same-length-28 : tie.Need-same-length-28
-same-length-28 c = search needs
-
-same-length-29 : tie.Need-same-length-29
-same-length-29 c = search needs
-
-returns-5 : tie.Need-returns-5
-returns-5 c =
+returns-4 : tie.Need-returns-4
+returns-4 c =
     let e = c .before .before .before .before .before .before .before .before .before .before .before .before .before .before .before .before .before .before .before .before .before .before .before .before .before in
     let s = begun e in
     let found = c .before .before .before .before .before .before .before .before .before .before .before .before .before .before .before .before .before .before .before .before .before .before .before .before .before .before .before .before .before .before .before .find-kept .ensures .0 in
@@ -258,30 +244,25 @@ enter-star-spec =
     same-length-8
     same-length-9
     same-length-10
+    entered-again-requires
     returns-2
+    cascade-requires
+    placed-from-requires
     same-length-11
     same-length-12
     same-length-13
     same-length-14
     same-length-15
-    returns-3
-    cascade-requires
-    placed-from-requires
     same-length-16
     same-length-17
+    returns-3
+    enter-star-requires
+    placed-from-requires-2
     same-length-18
     same-length-19
     same-length-20
     same-length-21
     same-length-22
-    returns-4
-    enter-star-requires
-    placed-from-requires-2
     same-length-23
     same-length-24
-    same-length-25
-    same-length-26
-    same-length-27
-    same-length-28
-    same-length-29
-    returns-5)
+    returns-4)

@@ -55,10 +55,20 @@ cast-places c = search needs
 slice-aggregate-push : tie.Need-slice-aggregate-push
 slice-aggregate-push c = search needs
 
+add-push : tie.Need-add-push
+add-push c =
+    let s = c .before .before .before .before .before .before .before .before .before .before .before .before .before .before .before in
+    omega (arith, s .pre .0 .here, s .pre .0 .unheld .named, bounds s .pages-most)
+
 push-requires : tie.Need-push-requires
 push-requires c κs =
-    let s = c .before .before .before .before .before .before .before .before .before .before .before .before .before .before .before in
-    (s .pre .0, ((s .pre .1 .ofNumbers, s .pre .1 .ofWords), bounds s .pages-most))
+    let s = c .before .before .before .before .before .before .before .before .before .before .before .before .before .before .before in (
+      s .pre .0,
+      (
+        (s .pre .1 .0 .ofNumbers, s .pre .1 .0 .ofWords),
+        (bounds s .pages-most, λ q a h. let same : q ≡ s .args .page = omega arith in rw same (s .pre .1 .1)),
+      ),
+    )
 
 enum-known-bad : tie.Need-enum-known-bad
 enum-known-bad c = search needs
@@ -98,8 +108,8 @@ apply-requires c κs =
         (
           (omega (arith, items x l (v .1), sized .ofNumbers), omega (arith, items x l (v .1), sized .ofWords)),
           (
-            (omega (arith, items x l (v .1), s .pre .1 .ofNumbers, x .push .kept .1 .1 .1 .1 .1 .1 .0), omega (arith, items x l (v .1), s .pre .1 .ofWords, x .push .kept .1 .1 .1 .1 .1 .1 .1 .0)),
-            (omega (arith, items x l (v .1), sized .ofOwners), omega (arith, items x l (v .1), s .pre .1 .ofOwners)),
+            (omega (arith, items x l (v .1), s .pre .1 .0 .ofNumbers, x .push .kept .1 .1 .1 .1 .1 .1 .0), omega (arith, items x l (v .1), s .pre .1 .0 .ofWords, x .push .kept .1 .1 .1 .1 .1 .1 .1 .0)),
+            (omega (arith, items x l (v .1), sized .ofOwners), omega (arith, items x l (v .1), s .pre .1 .0 .ofOwners)),
           ),
         ),
       ),
@@ -211,6 +221,7 @@ cascade-spec =
     (tie.spec
     cast-places
     slice-aggregate-push
+    add-push
     push-requires
     enum-known-bad
     enum-told

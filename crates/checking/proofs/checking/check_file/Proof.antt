@@ -1,12 +1,16 @@
-use mathlib.Core.Path.{_≡_, sym, _∙_, refl}
+use mathlib.Core.Path.{_≡_, sym, ap, _∙_, refl}
+use Prim.Native.Nat.{ℕ, _≤_, _<_}
 use native.Mathlib.Omega.{arith}
 use native.Mathlib.Nat.{le-refl, add-zero}
 use denote.Ref.{now}
+use Rattle.pages.specs.Page.{part}
 use Rattle.placement.specs.File.{File}
 use Rattle.placement.specs.Hash.{homesOf, lent}
 use Rattle.placement.proofs.Prepared.{ready}
 use Rattle.reach.specs.Reach.{firstUnsound, homesKept}
-use Rattle.reach.proofs.Surveyed.{known-none}
+use Rattle.reach.specs.Known.{Known}
+use Rattle.reach.proofs.Surveyed.{known-none, surveyed-pages}
+use Rattle.calls.proofs.Ruled.{all-sound}
 use Rattle.checking.proofs.Planned.{homes-whole}
 use Rattle.checking.proofs.Unraisable.{none-raisable}
 use Rattle.checking.proofs.Verdicts.{surveyed, surveyed-sound, told-unsound, told-differs, told-clean}
@@ -52,6 +56,14 @@ homed c =
     let a = start c .args in
     homes-whole (a .geometry .parameters) (a .geometry .growth) (now (a .pool)) (now (a .numbers)) (a .geometry .parameters .pages) (start c .pre .1 .ofNumbers) (start c .pre .0 .sized .ofNumbers)
 
+page-known : (c : tie.Else1) (q : ℕ) → 0 ≤ q → q < start c .args .geometry .parameters .pages →
+    let a = start c .args in
+    Known (a .geometry .parameters) (a .geometry .growth) (file (start c)) (homesKept (a .geometry) 0 (a .geometry .parameters .pages) (now (a .numbers)) (now (a .pool))) q
+page-known c =
+    let s = start c in
+    surveyed-pages (s .args .geometry .parameters) (s .args .geometry .growth) (file s) (now (s .args .pool)) 0 (s .args .geometry .parameters .pages) (s .pre .0 .sized) (s .pre .1 .ofNumbers) (le-refl _)
+    (λ q a h. all-sound _ _ (file s) (none-unsound c) q h)
+
 first-raisable-requires : tie.Need-first-raisable-requires
 first-raisable-requires c κs =
     let e = c .before in
@@ -60,7 +72,10 @@ first-raisable-requires c κs =
       record {
         separators = pre .0 .sized .ofSeparators;
         numbers = pre .0 .sized .ofNumbers;
-        homes = e .before .before .before .survey-pages .ensures .1 (all-of e) ∙ homed e;
+        homes = e .before .before .before .survey-pages .kept .1 .1 .1 .1 .1 .1 .0 ∙ pre .1 .ofNumbers;
+        low = omega arith;
+        high = le-refl _;
+        kept = λ q a h. ap (part (start e .args .geometry .parameters .places) q) (e .before .before .before .survey-pages .ensures .1 (all-of e)) ∙ page-known e q a h .kept h;
       },
     )
 

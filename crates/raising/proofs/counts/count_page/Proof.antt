@@ -1,25 +1,24 @@
 -- The first i numbers of the page are counted.
-use mathlib.Core.Path.{refl, ap, _∙_}
-use Prim.Native.Nat.{ℕ, _+_, _-_, _*_, _≤_, _<_}
-use mathlib.Core.List.{List}
+use mathlib.Core.Path.{_≡_, refl}
+use Prim.Native.Nat.{_+_, _-_, _*_, _≤_, _<_}
 use native.Mathlib.Nat.{suc-mul, mul-le-mul-right}
 use native.Mathlib.Omega.{arith}
 use lib.ListN.{length, getD}
 use Rattle.hashing.proofs.Bounds.{limits}
-use Rattle.placement.specs.Hash.{hashOf}
-use Rattle.checking.specs.Raising.{hashUnder}
+use Rattle.placement.specs.Hash.{hashOf, homeUnder}
+use Rattle.raising.specs.Raising.{hashUnder}
 use Rattle.calls.proofs.Spots.{item-within}
-use Rattle.checking.proofs.Counters.{PlacesCounted, places-none, places-empty, places-star, places-fits, places-counts, places-all, home-item, homes-count}
-use Rattle.checking.proofs.counts.count_page.Statement.{statement}
-use Rattle.checking.proofs.counts.count_page.Tie as tie
+use Rattle.raising.proofs.Counters.{PlacesCounted, places-none, places-empty, places-star, places-fits, places-counts, places-home, places-all, home-item}
+use Rattle.raising.proofs.counts.count_page.Statement.{statement}
+use Rattle.raising.proofs.counts.count_page.Tie as tie
 use Rattle.calls.proofs.Refusals.{items-most}
 
 abbrev Inv-loop : tie.InvT-loop
-Inv-loop table geometry separators numbers homes counts₀ page places first i₀ counts i =
-    (i ≤ places) × PlacesCounted (hashUnder geometry) separators numbers page i counts₀ counts
+Inv-loop table geometry separators numbers homes counts₀ from page places first i₀ counts i =
+    (i ≤ places) × PlacesCounted (hashUnder geometry) separators numbers from page i counts₀ counts
 
 abbrev μ-loop : tie.MeasureT-loop
-μ-loop table geometry separators numbers homes counts₀ page places first i₀ counts i = places - i
+μ-loop table geometry separators numbers homes counts₀ from page places first i₀ counts i = places - i
 
 abbrev start : tie.At-loop Inv-loop μ-loop → tie.Start Inv-loop μ-loop
 start k = k .before .before .before .before .before
@@ -30,7 +29,7 @@ within : (c : tie.In-loop Inv-loop μ-loop) →
     a .page * a .geometry .parameters .places + c .before .loop .i < a .geometry .parameters .pages * a .geometry .parameters .places
 within c =
     let s = start (c .before) in
-    item-within (s .args .geometry .parameters .pages) (s .args .geometry .parameters .places) (s .args .page) (c .before .loop .i) (s .pre .1 .1 .1) (c .loop-test .taken)
+    item-within (s .args .geometry .parameters .pages) (s .args .geometry .parameters .places) (s .args .page) (c .before .loop .i) (s .pre .1 .0 .high) (c .loop-test .taken)
 
 inside : (c : tie.In-loop Inv-loop μ-loop) →
     let a = start (c .before) .args in
@@ -43,7 +42,7 @@ few : (c : tie.In-loop Inv-loop μ-loop) →
 few c = omega (arith, within c, items-most (start (c .before) .args .geometry .parameters) (start (c .before) .pre .0 .valid))
 
 low-page : (s : tie.Start Inv-loop μ-loop) → s .args .page < 1024
-low-page s = omega (arith, s .pre .1 .1 .1, limits (s .args .geometry .parameters) (s .pre .0 .valid) .pages-most)
+low-page s = omega (arith, s .pre .1 .0 .high, limits (s .args .geometry .parameters) (s .pre .0 .valid) .pages-most)
 
 cast-places : tie.Need-cast-places Inv-loop μ-loop
 cast-places c = omega (arith, limits _ (c .before .before .before .before .pre .0 .valid) .places-most)
@@ -51,10 +50,10 @@ cast-places c = omega (arith, limits _ (c .before .before .before .before .pre .
 mul-first : tie.Need-mul-first Inv-loop μ-loop
 mul-first c =
     let s = c .before .before .before .before in
-    omega (arith, mul-le-mul-right (s .args .geometry .parameters .places) (s .pre .1 .1 .1), suc-mul (s .args .page) (s .args .geometry .parameters .places), items-most _ (s .pre .0 .valid))
+    omega (arith, mul-le-mul-right (s .args .geometry .parameters .places) (s .pre .1 .0 .high), suc-mul (s .args .page) (s .args .geometry .parameters .places), items-most _ (s .pre .0 .valid))
 
 loop-holds : tie.Need-loop-holds Inv-loop μ-loop
-loop-holds c = (omega arith, places-none _ _ _ _ _ (c .before .before .before .before .pre .1 .1 .0 .0))
+loop-holds c = (omega arith, places-none _ _ _ _ _ _ (c .before .before .before .before .pre .1 .1 .0 .0))
 
 add-number : tie.Need-add-number Inv-loop μ-loop
 add-number c = omega (arith, few c)
@@ -74,7 +73,7 @@ mul-home c = omega (arith, few (c .before))
 shared-slice-read-home : tie.Need-shared-slice-read-home Inv-loop μ-loop
 shared-slice-read-home c =
     let s = start (c .before .before .before) in
-    omega (arith, inside (c .before .before), ap length (s .pre .1 .0 .homes), homes-count (s .args .geometry) (s .args .numbers .now))
+    omega (arith, within (c .before .before), s .pre .1 .0 .homes)
 
 cast-home : tie.Need-cast-home Inv-loop μ-loop
 cast-home c =
@@ -97,25 +96,35 @@ add-counts c =
     let s = start k in
     omega (
       arith,
-      places-fits _ _ _ _ _ 32768 _ _ (k .loop .inv .1) (s .pre .1 .1 .0 .1) (s .args .page) (low-page s),
+      places-fits _ _ _ _ _ _ 32768 _ _ (k .loop .inv .1) (s .pre .1 .1 .0 .1) (s .args .page) (s .pre .1 .1 .1) (low-page s),
       limits (s .args .geometry .parameters) (s .pre .0 .valid) .places-most,
     )
 
 element-write-counts : tie.Need-element-write-counts Inv-loop μ-loop
 element-write-counts c = low-page (start (c .before .before .before .before .before))
 
+-- the star's home
+homed : (c : tie.Then1 Inv-loop μ-loop) →
+    let k = c .before .before .before .before in
+    let a = start k .args in
+    let j = a .page * a .geometry .parameters .places + k .loop .i in
+    getD (a .homes .now) j 0 ≡ homeUnder (a .geometry) (getD (a .numbers .now) j 0)
+homed c =
+    let k = c .before .before .before .before in
+    let s = start k in
+    home-item (s .args .geometry) (s .args .separators .now) (s .args .numbers .now) (s .args .homes .now) (s .args .page) (s .pre .1 .0) (k .loop .i) (c .before .before .before .loop-test .taken) (c .if1 .taken)
+
 count-passed-requires : tie.Need-count-passed-requires Inv-loop μ-loop
 count-passed-requires c κs =
-    let k = c .before .before .before .before .before .before in
+    let k = c .before .before .before .before .before .before .before in
     let s = start k in
     let few-places = limits (s .args .geometry .parameters) (s .pre .0 .valid) .places-most in (
       s .pre .0,
       (
-        (omega (arith, s .pre .1 .0 .separators, s .pre .1 .1 .1), omega (arith, low-page s)),
+        (omega (arith, s .pre .1 .0 .separators, s .pre .1 .0 .high), omega (arith, low-page s)),
         (
-          places-counts _ _ _ _ _ 32768 65535 _ _ (k .loop .inv .1) (s .pre .1 .1 .0) (low-page s) (omega (arith, few-places)),
-          ap (λ (l : List ℕ). getD l (s .args .page * s .args .geometry .parameters .places + k .loop .i) 0) (s .pre .1 .0 .homes)
-              ∙ home-item (s .args .geometry) (s .args .numbers .now) (s .args .page * s .args .geometry .parameters .places + k .loop .i) (c .before .before .if1 .taken),
+          places-counts _ _ _ _ _ _ 32768 65535 _ _ (k .loop .inv .1) (s .pre .1 .1 .0) (low-page s) (omega (arith, few-places)),
+          homed (c .before .before .before),
         ),
       ),
     )
@@ -126,10 +135,10 @@ loop-less c = omega arith
 loop-again : tie.Need-loop-again Inv-loop μ-loop
 unfolding hashOf
 loop-again c =
-    let k = c .before .before .before .before .before .before .before in
+    let k = c .before .before .before .before .before .before .before .before in
     let s = start k in (
-      omega arith,
-      places-star _ _ _ _ _ _ _ (k .loop .inv .1) (c .before .before .before .before .before .before .loop-test .taken) (inside (c .before .before .before .before .before .before)) _ _ refl (c .before .before .before .if1 .taken) (low-page s) (c .count-passed .ensures),
+      omega (arith, c .before .before .before .before .before .before .before .loop-test .taken),
+      places-star _ _ _ _ _ _ _ _ (k .loop .inv .1) (c .before .before .before .before .before .before .before .loop-test .taken) (inside (c .before .before .before .before .before .before .before)) _ _ refl (c .before .before .before .before .if1 .taken) (low-page s) (c .count-passed .ensures),
     )
 
 loop-less-2 : tie.Need-loop-less-2 Inv-loop μ-loop
@@ -138,12 +147,25 @@ loop-less-2 c = omega arith
 loop-again-2 : tie.Need-loop-again-2 Inv-loop μ-loop
 unfolding hashOf
 loop-again-2 c =
+    let k = c .before .before .before .before .before .before in
+    let s = start k in (
+      omega (arith, c .before .before .before .before .before .loop-test .taken),
+      places-home _ _ _ _ _ _ _ _ (k .loop .inv .1) (c .before .before .before .before .before .loop-test .taken) (inside (c .before .before .before .before .before)) _ refl (c .before .before .if1 .taken) (low-page s)
+          (omega (arith, homed (c .before .before), c .if2 .left)),
+    )
+
+loop-less-3 : tie.Need-loop-less-3 Inv-loop μ-loop
+loop-less-3 c = omega arith
+
+loop-again-3 : tie.Need-loop-again-3 Inv-loop μ-loop
+unfolding hashOf
+loop-again-3 c =
     let k = c .before .before .before .before in
-    (omega arith, places-empty _ _ _ _ _ _ _ (k .loop .inv .1) (c .before .before .before .loop-test .taken) (inside (c .before .before .before)) (c .if1 .left))
+    (omega arith, places-empty _ _ _ _ _ _ _ _ (k .loop .inv .1) (c .before .before .before .loop-test .taken) (inside (c .before .before .before)) (c .if1 .left))
 
 returns : tie.Need-returns Inv-loop μ-loop
 unfolding hashOf
-returns c = places-all _ _ _ _ _ _ _ (c .before .loop .inv .1) (c .loop-test .left)
+returns c = places-all _ _ _ _ _ _ _ _ (c .before .loop .inv .1) (c .loop-test .left)
 
 pub count-page-spec : {M : Type 1} → statement M
 count-page-spec =
@@ -171,4 +193,6 @@ count-page-spec =
     loop-again
     loop-less-2
     loop-again-2
+    loop-less-3
+    loop-again-3
     returns)

@@ -1,7 +1,7 @@
 -- Sound pages are the rule's exactly if no separator could be one greater.
 use mathlib.Core.Path.{_≡_, refl, sym, ap, _∙_}
 use mathlib.Core.Bool.{Bool, true, false, not, cond, _&&_, _||_, and-false}
-use mathlib.Core.List.{List, [], _∷_}
+use mathlib.Core.List.{List, [], _∷_, List·Memᴰ}
 use mathlib.Core.Logic.{_↔_}
 use Prim.Native.Nat.{ℕ, zero, suc, _+_, _≤_, _<_}
 use native.Mathlib.Nat.{zero-add, add-zero, suc-add, add-suc, le-refl}
@@ -9,22 +9,22 @@ use native.Mathlib.Numerals.{add-one}
 use native.Mathlib.Decide.{decLe, decLt}
 use native.Mathlib.Omega.{arith}
 use lib.Dec.{leb, ltb, eqb}
-use lib.ListN.{length, getD, take, drop}
-use lib.Seq.{ext-getD, take-all}
+use lib.ListN.{length, getD, take, drop, length-drop}
+use lib.Seq.{ext-getD, take-all, length-take-le, getD-take, getD-drop}
 use borrow.Author.Tests.{leb-false, ltb-false, le-leb, lt-leb, lt-ltb, le-ltb, eq-eqb, ne-eqb, eqb-true, eqb-false}
 use Rattle.pages.specs.Page.{part}
 use Rattle.placement.specs.Rule.{Star, Hash, keep, filter, below, staying, passing, separatorOf, contentsOf, onward, pages, first, pour, separators, blank, starWith}
 use Rattle.placement.specs.File.{File, starsOf, starsAt, contentsAt, pagesAt, gathered, laid, fileOf, Sized, Clean}
 use Rattle.placement.proofs.Filters.{filter-ext, filter-ext-on, filter-filter}
 use Rattle.placement.proofs.Separator.{stays, below-mono, sep-great, sep-unique}
-use Rattle.placement.proofs.Standing.{standsAt, first-ge, first-below, first-before, page-first}
+use Rattle.placement.proofs.Standing.{standsAt, first-ge, first-below, first-before, first-later, first-within, page-first}
 use Rattle.placement.proofs.Composition.{length-pages}
 use Rattle.placement.proofs.Domination.{Holds}
 use Rattle.placement.proofs.Order.{Sorted, filter-pour, length-pour, sorted-pour}
 use Rattle.placement.proofs.Writing.{getD-separators, length-part}
 use Rattle.placement.proofs.Files.{length-pagesAt}
-use Rattle.placement.proofs.Sound.{AllSound, gathered-add, stands-gathered, sound-holds, clean-said}
-use Rattle.checking.specs.Raising.{passed, countsOn, countOn, countTo, raisable}
+use Rattle.placement.proofs.Sound.{AllSound, gathered-add, gathered-first, stands-gathered, sound-holds, clean-said}
+use Rattle.raising.specs.Raising.{passed, countsOn, countOn, countFrom, raisableFrom, raisable}
 
 -- Of the separators vs, from page p, each below top would keep more than room of w if it were one greater.
 abbrev pub Unraisable : Hash → ℕ → List ℕ → List Star → Type 0
@@ -100,26 +100,29 @@ below-next H p v k e = go (leb (H .home k) p) e
     go true e = next-signature (H .signature k p) v (ltb-false (H .signature k p) v e)
     go false e = refl
 
--- Of the numbers with a first page, those within are those that count.
-within-counted : (H : Hash) (vs : List ℕ) (p k : ℕ) → p < length vs
-    → leb (0 + p) (first H 0 vs k) && below H (0 + p) (suc (getD vs p 0)) k ≡ countsOn H vs p (first H 0 vs k) k
+-- Of the numbers whose first page among the separators from page `from` is their first page of all, those within are those that count.
+within-counted : (H : Hash) (from : ℕ) (vs us : List ℕ) (i k : ℕ) → i < length us → getD us i 0 ≡ getD vs (from + i) 0
+    → leb (from + i) (first H from us k) && below H (from + i) (suc (getD us i 0)) k ≡ countsOn H vs (from + i) (first H from us k) k
 unfolding countsOn passed
-within-counted H vs p k h = rw (zero-add p) (go (decLt (first H 0 vs k) p) (decLt p (first H 0 vs k)))
+within-counted H from vs us i k h e = rw (← e) (go (decLt F p) (decLt p F))
   where
+    p : ℕ
+    p = from + i
+
     F : ℕ
-    F = first H 0 vs k
+    F = first H from us k
 
     go : Dec (F < p) → Dec (p < F)
-        → leb p F && below H p (suc (getD vs p 0)) k ≡ eqb F p || (leb (H .home k) p && (ltb p F && eqb (H .signature k p) (getD vs p 0)))
+        → leb p F && below H p (suc (getD us i 0)) k ≡ eqb F p || (leb (H .home k) p && (ltb p F && eqb (H .signature k p) (getD us i 0)))
     go (yes l) g =
         rw (lt-leb p F l, ne-eqb F p (λ e. omega (arith, e)), le-ltb p F (omega arith)) (sym (and-false (leb (H .home k) p)))
     go (no l) (yes g) =
-        let out : below H p (getD vs p 0) k ≡ false = rw (zero-add p) at (first-before H 0 p vs k h (omega (arith, zero-add p))) in
-        rw (le-leb p F (omega arith), ne-eqb F p (λ e. omega (arith, e)), lt-ltb p F g) (below-next H p (getD vs p 0) k out)
+        let out : below H p (getD us i 0) k ≡ false = first-before H from i us k h g in
+        rw (le-leb p F (omega arith), ne-eqb F p (λ e. omega (arith, e)), lt-ltb p F g) (below-next H p (getD us i 0) k out)
     go (no l) (no g) =
         let here : F ≡ p = omega arith in
-        let stands : below H p (getD vs p 0) k ≡ true = rw (zero-add p) at (first-below H 0 p vs k h (here ∙ sym (zero-add p))) in
-        rw (le-leb p F (omega arith), eq-eqb F p here) (below-mono H p (getD vs p 0) (suc (getD vs p 0)) k (omega arith) stands)
+        let stands : below H p (getD us i 0) k ≡ true = first-below H from i us k h here in
+        rw (le-leb p F (omega arith), eq-eqb F p here) (below-mono H p (getD us i 0) (suc (getD us i 0)) k (omega arith) stands)
 
 -- Counting stars is counting numbers other than 0.
 length-keep : {A : Type 0} (t : Bool) (x : A) (l : List A) → length (keep t x l) ≡ cond t 1 0 + length l
@@ -143,21 +146,20 @@ count-stars q (n ∷ ns) (w ∷ ws) (o ∷ os) e eo = go (eqb n 0) (count-stars 
         ∙ ap (λ (k : ℕ). cond (q n) 1 0 + k) ih
         ∙ sym (length-keep (q n) (starWith n w o) (filter (λ (s : Star). q (s .number)) (starsOf ns ws os)))
 
-gathered-next : (b : ℕ) (f : File) (n : ℕ) → gathered b f 0 (suc n) ≡ pour (gathered b f 0 n) (pour (starsAt b f n) [])
+gathered-next : (b : ℕ) (f : File) (from n : ℕ) → gathered b f from (suc n) ≡ pour (gathered b f from n) (pour (starsAt b f (from + n)) [])
 unfolding gathered
-gathered-next b f n =
-    ap (gathered b f 0) (sym (add-one n)) ∙ gathered-add b f 0 n 1 ∙ ap (λ (p : ℕ). pour (gathered b f 0 n) (gathered b f p 1)) (zero-add n)
+gathered-next b f from n = ap (gathered b f from) (sym (add-one n)) ∙ gathered-add b f from n 1
 
 length-poured : (q : Star → Bool) (xs l : List Star) → Sorted 0 l → length (filter q (pour xs l)) ≡ length (filter q xs) + length (filter q l)
 length-poured q xs l h = ap length (filter-pour q xs l h) ∙ length-pour (filter q xs) (filter q l)
 
-count-next : (q : Star → Bool) (b : ℕ) (f : File) (n : ℕ)
-    → length (filter q (gathered b f 0 (suc n))) ≡ length (filter q (gathered b f 0 n)) + length (filter q (starsAt b f n))
+count-next : (q : Star → Bool) (b : ℕ) (f : File) (from n : ℕ)
+    → length (filter q (gathered b f from (suc n))) ≡ length (filter q (gathered b f from n)) + length (filter q (starsAt b f (from + n)))
 unfolding filter
-count-next q b f n =
-    ap (λ (l : List Star). length (filter q l)) (gathered-next b f n)
-    ∙ length-poured q (gathered b f 0 n) (pour (starsAt b f n) []) (sorted-pour (starsAt b f n) [] tt)
-    ∙ ap (λ (k : ℕ). length (filter q (gathered b f 0 n)) + k) (length-poured q (starsAt b f n) [] tt ∙ add-zero (length (filter q (starsAt b f n))))
+count-next q b f from n =
+    ap (λ (l : List Star). length (filter q l)) (gathered-next b f from n)
+    ∙ length-poured q (gathered b f from n) (pour (starsAt b f (from + n)) []) (sorted-pour (starsAt b f (from + n)) [] tt)
+    ∙ ap (λ (k : ℕ). length (filter q (gathered b f from n)) + k) (length-poured q (starsAt b f (from + n)) [] tt ∙ add-zero (length (filter q (starsAt b f (from + n)))))
 
 getD-pagesAt : (b : ℕ) (f : File) (p n i : ℕ) → i < n → getD (pagesAt b f p n) i blank ≡ contentsAt b f (p + i)
 unfolding pagesAt
@@ -165,85 +167,121 @@ getD-pagesAt b f p zero i h = absurd (omega arith)
 getD-pagesAt b f p (suc n) zero h = rw (add-zero p)
 getD-pagesAt b f p (suc n) (suc i) h = rw (add-suc p i) (rw (suc-add p i) at (getD-pagesAt b f (suc p) n i (omega arith)))
 
-module _ (ok : ℕ → Bool) (H : Hash) (M : ℕ) (f : File) (sized : Sized (H .room) M f) (all : AllSound ok H f 0 M) where
+-- The n pages from `from` on are sound.
+module _ (ok : ℕ → Bool) (H : Hash) (M : ℕ) (f : File) (sized : Sized (H .room) M f) (from n : ℕ) (inside : from + n ≤ M) (all : AllSound ok H f from n) where
   abbrev G : List Star
-  G = gathered (H .room) f 0 M
+  G = gathered (H .room) f from n
+
+  -- their separators
+  abbrev us : List ℕ
+  us = take n (drop from (f .separators))
+
+  size : length us ≡ n
+  size = length-take-le n (drop from (f .separators)) (omega (arith, length-drop from (f .separators), sized .ofSeparators))
+
+  item : (i : ℕ) → i < n → getD us i 0 ≡ getD (f .separators) (from + i) 0
+  item i k = getD-take n (drop from (f .separators)) i 0 k ∙ getD-drop from (f .separators) i 0
+
+  -- A star's first page among them is its first page of all.
+  shorter : (s : Star) → List·Memᴰ s G → first H from us (s .number) ≡ first H 0 (f .separators) (s .number)
+  shorter s m =
+      let g = gathered-first ok H f from n all s m in
+      let later : first H from (drop from (f .separators)) (s .number) ≡ first H 0 (f .separators) (s .number) =
+      rw (zero-add from) at (first-later H 0 from (f .separators) (s .number) (omega (arith, sized .ofSeparators)) (rw (zero-add from) (g .0))) in
+      first-within H from n (drop from (f .separators)) (s .number) (omega (arith, later, g .1)) ∙ later
 
   abbrev here : ℕ → Star → Bool
   here p s = countsOn H (f .separators) p (first H 0 (f .separators) (s .number)) (s .number)
 
-  count-page : (p q : ℕ) → q < M → countOn H (f .separators) (f .numbers) p q ≡ length (filter (here p) (starsAt (H .room) f q))
+  count-page : (p q : ℕ) → from ≤ q → q < from + n → countOn H (f .separators) (f .numbers) p q ≡ length (filter (here p) (starsAt (H .room) f q))
   unfolding countOn starsAt
-  count-page p q h =
+  count-page p q a h =
+      let few : q < M = omega arith in
       count-stars (countsOn H (f .separators) p q) (part (H .room) q (f .numbers)) (part (H .room) q (f .words)) (part (H .room) q (f .owners))
-      (length-part (H .room) q M (f .numbers) (sized .ofNumbers) h ∙ sym (length-part (H .room) q M (f .words) (sized .ofWords) h))
-      (length-part (H .room) q M (f .numbers) (sized .ofNumbers) h ∙ sym (length-part (H .room) q M (f .owners) (sized .ofOwners) h))
+      (length-part (H .room) q M (f .numbers) (sized .ofNumbers) few ∙ sym (length-part (H .room) q M (f .words) (sized .ofWords) few))
+      (length-part (H .room) q M (f .numbers) (sized .ofNumbers) few ∙ sym (length-part (H .room) q M (f .owners) (sized .ofOwners) few))
       ∙ ap length
       (filter-ext-on (λ (s : Star). countsOn H (f .separators) p q (s .number)) (here p) (starsOf (part (H .room) q (f .numbers)) (part (H .room) q (f .words)) (part (H .room) q (f .owners)))
-      (λ s m. ap (λ (r : ℕ). countsOn H (f .separators) p r (s .number)) (sym (all q (omega arith) (omega arith) .here s m))))
+      (λ s m. ap (λ (r : ℕ). countsOn H (f .separators) p r (s .number)) (sym (all q a h .here s m))))
 
-  count-pages : (p n : ℕ) → n ≤ M → countTo H (f .separators) (f .numbers) p n ≡ length (filter (here p) (gathered (H .room) f 0 n))
-  unfolding countTo gathered filter
+  count-pages : (p m : ℕ) → m ≤ n → countFrom H (f .separators) (f .numbers) from p m ≡ length (filter (here p) (gathered (H .room) f from m))
+  unfolding countFrom gathered filter
   count-pages p zero h = refl
-  count-pages p (suc n) h =
-      rw (count-pages p n (omega arith), count-page p n h) (sym (count-next (here p) (H .room) f n))
+  count-pages p (suc m) h =
+      rw (count-pages p m (omega arith), count-page p (from + m) (omega arith) (omega arith)) (sym (count-next (here p) (H .room) f from m))
 
-  count-within : (p : ℕ) → p < M → countTo H (f .separators) (f .numbers) p M ≡ length (filter (within H 0 (f .separators) p) G)
-  count-within p h =
-      count-pages p M (le-refl M)
-      ∙ ap length (filter-ext (here p) (within H 0 (f .separators) p) (λ s. sym (within-counted H (f .separators) p (s .number) (omega (arith, sized .ofSeparators)))) G)
+  count-within : (i : ℕ) → i < n → countFrom H (f .separators) (f .numbers) from (from + i) n ≡ length (filter (within H from us i) G)
+  count-within i h =
+      count-pages (from + i) n (le-refl n)
+      ∙ ap length
+      (filter-ext-on (here (from + i)) (within H from us i) G
+      (λ s m.
+      ap (λ (r : ℕ). countsOn H (f .separators) (from + i) r (s .number)) (sym (shorter s m))
+      ∙ sym (within-counted H from (f .separators) us i (s .number) (omega (arith, size)) (item i h))))
 
+  -- The rule gives these separators: then it gives these pages.
+  pages-said : separators (pages H from n G) ≡ us → pagesAt (H .room) f from n ≡ pages H from n G
+  unfolding contentsAt
+  pages-said e =
+      ext-getD blank (pagesAt (H .room) f from n) (pages H from n G) (length-pagesAt (H .room) f from n ∙ sym (length-pages H from n G))
+      (λ i h. same i (omega (arith, length-pagesAt (H .room) f from n)))
+    where
+      stars-same : (i : ℕ) → i < n → starsAt (H .room) f (from + i) ≡ getD (pages H from n G) i blank .stars
+      stars-same i h =
+          sym (page-first H from n i G h
+          ∙ ap (λ (vs : List ℕ). filter (standsAt H from vs (from + i)) G) e
+          ∙ filter-ext-on (standsAt H from us (from + i)) (standsAt H 0 (f .separators) (from + i)) G (λ s m. ap (λ (r : ℕ). eqb r (from + i)) (shorter s m))
+          ∙ stands-gathered ok H f from n (from + i) all (omega arith) (omega arith))
+
+      separator-same : (i : ℕ) → i < n → getD (f .separators) (from + i) 0 ≡ getD (pages H from n G) i blank .separator
+      separator-same i h = sym (item i h) ∙ ap (λ (vs : List ℕ). getD vs i 0) (sym e) ∙ getD-separators (pages H from n G) i
+
+      same : (i : ℕ) → i < n → getD (pagesAt (H .room) f from n) i blank ≡ getD (pages H from n G) i blank
+      same i h = getD-pagesAt (H .room) f from n i h ∙ (λ j. record { separator = separator-same i h j; stars = stars-same i h j })
+
+  -- No separator of them could be one greater, by their own stars: they are what the rule gives these.
+  pub none-ruled : ((p : ℕ) → from ≤ p → p < from + n → raisableFrom H from n (f .separators) (f .numbers) p ≡ false) → pagesAt (H .room) f from n ≡ pages H from n G
+  unfolding raisableFrom
+  none-ruled none = pages-said rule
+    where
+      each : AtEach H from us G
+      each i k h =
+          let within-n : i < n = omega (arith, size) in
+          let low : getD (f .separators) (from + i) 0 < H .top = rw (item i within-n) at h in
+          let more : leb (countFrom H (f .separators) (f .numbers) from (from + i) n) (H .room) ≡ false =
+          rw (lt-ltb (getD (f .separators) (from + i) 0) (H .top) low) at (none (from + i) (omega arith) (omega arith)) in
+          rw (← count-within i within-n) (leb-false (countFrom H (f .separators) (f .numbers) from (from + i) n) (H .room) more)
+
+      rule : separators (pages H from n G) ≡ us
+      rule = rw size at (unraisable-rule H from us G (sound-holds ok H f M from n sized inside all) (each-unraisable H from us G each))
+
+  ruled-none : separators (pages H from n G) ≡ us → (i : ℕ) → i < n → raisableFrom H from n (f .separators) (f .numbers) (from + i) ≡ false
+  unfolding raisableFrom
+  ruled-none rule i h = go (decLt (getD (f .separators) (from + i) 0) (H .top))
+    where
+      each : AtEach H from us G
+      each = unraisable-each H from us G (rw rule at (rule-unraisable H from n G))
+
+      go : Dec (getD (f .separators) (from + i) 0 < H .top)
+          → ltb (getD (f .separators) (from + i) 0) (H .top) && leb (countFrom H (f .separators) (f .numbers) from (from + i) n) (H .room) ≡ false
+      go (yes d) =
+          rw (lt-ltb (getD (f .separators) (from + i) 0) (H .top) d)
+          (lt-leb (countFrom H (f .separators) (f .numbers) from (from + i) n) (H .room) (rw (count-within i h) (each i (omega (arith, size)) (rw (item i h) d))))
+      go (no d) = rw (le-ltb (getD (f .separators) (from + i) 0) (H .top) (omega arith))
+
+module _ (ok : ℕ → Bool) (H : Hash) (M : ℕ) (f : File) (sized : Sized (H .room) M f) (all : AllSound ok H f 0 M) where
   whole : take M (drop 0 (f .separators)) ≡ f .separators
   whole = take-all M (f .separators) (omega (arith, sized .ofSeparators))
 
-  -- The rule gives these separators: then it gives these pages.
-  pages-said : separators (pages H 0 M G) ≡ f .separators → pagesAt (H .room) f 0 M ≡ pages H 0 M G
-  unfolding contentsAt
-  pages-said e =
-      ext-getD blank (pagesAt (H .room) f 0 M) (pages H 0 M G) (length-pagesAt (H .room) f 0 M ∙ sym (length-pages H 0 M G))
-      (λ i h. same i (omega (arith, length-pagesAt (H .room) f 0 M)))
-    where
-      stars-same : (i : ℕ) → i < M → starsAt (H .room) f i ≡ getD (pages H 0 M G) i blank .stars
-      stars-same i h =
-          sym (page-first H 0 M i G h
-          ∙ ap (λ (vs : List ℕ). filter (standsAt H 0 vs (0 + i)) G) e
-          ∙ ap (λ (r : ℕ). filter (standsAt H 0 (f .separators) r) G) (zero-add i)
-          ∙ stands-gathered ok H f 0 M i all (omega arith) (omega arith))
-
-      separator-same : (i : ℕ) → getD (f .separators) i 0 ≡ getD (pages H 0 M G) i blank .separator
-      separator-same i = ap (λ (vs : List ℕ). getD vs i 0) (sym e) ∙ getD-separators (pages H 0 M G) i
-
-      same : (i : ℕ) → i < M → getD (pagesAt (H .room) f 0 M) i blank ≡ getD (pages H 0 M G) i blank
-      same i h = getD-pagesAt (H .room) f 0 M i h ∙ rw (zero-add i) (λ j. record { separator = separator-same i j; stars = stars-same i h j })
-
   none-clean : ((p : ℕ) → p < M → raisable H M (f .separators) (f .numbers) p ≡ false) → Clean ok H M f
-  unfolding raisable
-  none-clean none = clean-said ok H f M sized all (pages-said rule)
-    where
-      each : AtEach H 0 (f .separators) G
-      each i k h =
-          let inside : i < M = omega (arith, sized .ofSeparators) in
-          let more : leb (countTo H (f .separators) (f .numbers) i M) (H .room) ≡ false = rw (lt-ltb (getD (f .separators) i 0) (H .top) h) at (none i inside) in
-          rw (← count-within i inside) (leb-false (countTo H (f .separators) (f .numbers) i M) (H .room) more)
-
-      rule : separators (pages H 0 M G) ≡ f .separators
-      rule =
-          rw (sized .ofSeparators) at
-          (unraisable-rule H 0 (f .separators) G (rw whole at (sound-holds ok H f M 0 M sized (omega arith) all)) (each-unraisable H 0 (f .separators) G each))
+  none-clean none = clean-said ok H f M sized all (none-ruled ok H M f sized 0 M (omega arith) all (λ p a h. none p (omega arith)))
 
   clean-none : Clean ok H M f → (p : ℕ) → p < M → raisable H M (f .separators) (f .numbers) p ≡ false
-  unfolding raisable laid fileOf
-  clean-none c p h = go (decLt (getD (f .separators) p 0) (H .top))
+  unfolding laid fileOf
+  clean-none c p h = rw (zero-add p) at (ruled-none ok H M f sized 0 M (omega arith) all (rule ∙ sym whole) p h)
     where
-      rule : separators (pages H 0 M G) ≡ f .separators
+      rule : separators (pages H 0 M (gathered (H .room) f 0 M)) ≡ f .separators
       rule = sym (ap (λ (l : File). l .separators) (c .byRule))
-
-      each : AtEach H 0 (f .separators) G
-      each = unraisable-each H 0 (f .separators) G (rw rule at (rule-unraisable H 0 M G))
-
-      go : Dec (getD (f .separators) p 0 < H .top) → ltb (getD (f .separators) p 0) (H .top) && leb (countTo H (f .separators) (f .numbers) p M) (H .room) ≡ false
-      go (yes d) = rw (lt-ltb (getD (f .separators) p 0) (H .top) d) (lt-leb (countTo H (f .separators) (f .numbers) p M) (H .room) (rw (count-within p h) (each p (omega (arith, sized .ofSeparators)) d)))
-      go (no d) = rw (le-ltb (getD (f .separators) p 0) (H .top) (omega arith))
 
   -- The file is clean exactly if no separator could be one greater.
   pub clean-exactly : ((p : ℕ) → p < M → raisable H M (f .separators) (f .numbers) p ≡ false) ↔ Clean ok H M f

@@ -1,6 +1,6 @@
 use borrow.Author.Tests.{lt-ltb, le-ltb}
-use Rattle.checking.proofs.counts.could_rise.Statement.{statement}
-use Rattle.checking.proofs.counts.could_rise.Tie as tie
+use Rattle.raising.proofs.counts.could_rise.Statement.{statement}
+use Rattle.raising.proofs.counts.could_rise.Tie as tie
 
 returns : tie.Need-returns
 returns c = rw (lt-ltb _ _ (c .if1 .taken))

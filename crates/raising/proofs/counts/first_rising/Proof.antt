@@ -7,22 +7,19 @@ use lib.ListN.{getD}
 use Rattle.generator.specs.Generator.{topOf}
 use Rattle.hashing.proofs.Bounds.{limits}
 use Rattle.reach.proofs.Search.{Sought, sought-none, sought-next, sought-found, sought-all}
-use Rattle.checking.specs.Raising.{mayRise}
-use Rattle.checking.proofs.counts.first_rising.Statement.{statement}
-use Rattle.checking.proofs.counts.first_rising.Tie as tie
+use Rattle.raising.specs.Raising.{mayRise}
+use Rattle.raising.proofs.counts.first_rising.Statement.{statement}
+use Rattle.raising.proofs.counts.first_rising.Tie as tie
 
 abbrev Inv-loop : tie.InvT-loop
-Inv-loop parameters separators counts pages top page₀ page =
-    Sought (λ (p : ℕ). mayRise (topOf (parameters .bits)) (parameters .places) (getD separators p 0) (getD counts p 0)) 0 (parameters .pages) page
+Inv-loop parameters separators counts from stop top page₀ page =
+    Sought (λ (p : ℕ). mayRise (topOf (parameters .bits)) (parameters .places) (getD separators p 0) (getD counts p 0)) from (stop - from) page
 
 abbrev μ-loop : tie.MeasureT-loop
-μ-loop parameters separators counts pages top page₀ page = pages - page
-
-cast-pages : tie.Need-cast-pages Inv-loop μ-loop
-cast-pages c = omega (arith, limits _ (c .before .before .pre .0) .pages-most)
+μ-loop parameters separators counts from stop top page₀ page = stop - page
 
 top-of-requires : tie.Need-top-of-requires Inv-loop μ-loop
-top-of-requires c κs = c .before .before .pre .0
+top-of-requires c κs = c .before .pre .0
 
 loop-holds : tie.Need-loop-holds Inv-loop μ-loop
 loop-holds c = sought-none _ _ _
@@ -31,7 +28,7 @@ shared-slice-read-could-rise : tie.Need-shared-slice-read-could-rise Inv-loop μ
 shared-slice-read-could-rise c = omega arith
 
 few : (c : tie.In-loop Inv-loop μ-loop) → c .before .loop .page < 1024
-few c = omega (arith, limits _ (c .before .before .before .before .before .pre .0) .pages-most)
+few c = omega (arith, c .before .before .before .before .pre .1 .1 .1, limits _ (c .before .before .before .before .pre .0) .pages-most)
 
 mul-could-rise : tie.Need-mul-could-rise Inv-loop μ-loop
 mul-could-rise c = omega (arith, few (c .before))
@@ -45,11 +42,11 @@ could-rise-requires c κs = tt
 -- the code's test
 tested : (c : tie.After-could-rise Inv-loop μ-loop) →
     let k = c .before .before .before .before in
-    let a = k .before .before .before .before .args in
+    let a = k .before .before .before .args in
     mayRise (topOf (a .parameters .bits)) (a .parameters .places) (getD (a .separators .now) (k .loop .page) 0) (getD (a .counts .now) (k .loop .page) 0) ≡ c .could-rise .result
 tested c =
     let k = c .before .before .before .before in
-    let a = k .before .before .before .before .args in
+    let a = k .before .before .before .args in
     ap (λ (t : ℕ). mayRise t (a .parameters .places) (getD (a .separators .now) (k .loop .page) 0) (getD (a .counts .now) (k .loop .page) 0)) (sym (k .before .top-of .ensures))
     ∙ sym (c .could-rise .ensures)
 
@@ -78,7 +75,6 @@ first-rising-spec =
     (tie.spec
     Inv-loop
     μ-loop
-    cast-pages
     top-of-requires
     loop-holds
     shared-slice-read-could-rise
