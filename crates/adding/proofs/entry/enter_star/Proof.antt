@@ -12,7 +12,7 @@ use Rattle.placement.specs.Rule.{Star}
 use Rattle.entering.specs.Entry.{Unheld, newStar}
 use Rattle.calls.specs.Answers.{Pool, placed, refusedBy, pooled, cleared}
 use Rattle.calls.specs.Calls.{readable, holds, enteredAgain, named, placeFor}
-use Rattle.answering.proofs.Resent.{again-placed}
+use Rattle.answering.proofs.Resent.{again-is}
 use Rattle.adding.proofs.Outcomes.{entry-small, cascade-small, entered-is, cascaded-is}
 use Rattle.guarding.proofs.Admitting.{prepared, tabled}
 use Rattle.adding.proofs.Pools.{unheld}
@@ -86,7 +86,7 @@ returns-2 c =
     let there = c .before .if2 .taken in
     let held = sym (found .heldIs opened) ∙ there in
     record {
-      answers = ap placed (c .entered-again .ensures) ∙ again-placed _ _ _ _ ∙ rw (read, held, ← found .wordIs there, ← found .placeIs opened, ← found .pageIs);
+      answers = rw (read, held) (again-is _ _ _ _ _ _ _ _ (c .entered-again .ensures) (found .pageIs) (found .placeIs opened) (found .wordIs there));
       files = rw (read, held);
     }
 
@@ -167,8 +167,8 @@ returns-3 c =
     let done = rw (found .pageIs) at (c .before .before .before .before .before .before .before .before .before .before .before .before .before .before .before .cascade .ensures) in
     let is = cascaded-is (s .args .parameters) (s .args .growth) (fileOf s) (cleared (poolOf s)) (star e) (placeFor (s .args .parameters) (fileOf s) (named (s .args .parameters) (s .args .growth) (fileOf s) (s .args .number)) (s .args .number)) (named (s .args .parameters) (s .args .growth) (fileOf s) (s .args .number)) in
     record {
-      answers = rw (read e, held e, c .before .before .before .before .before .before .before .before .before .before .before .before .before .before .before .before .before .before .before .before .before .before .before .before .if4 .taken) (ap placed (rw (done .0, found .placeIs (opened e)) at (c .placed-from .ensures)) ∙ is .0);
-      files = rw (read e, held e, c .before .before .before .before .before .before .before .before .before .before .before .before .before .before .before .before .before .before .before .before .before .before .before .before .if4 .taken) (done .1 ∙ is .1);
+      answers = rw (read e, held e, c .before .before .before .before .before .before .before .before .before .before .before .before .before .before .before .before .before .before .before .before .before .before .before .before .if3 .taken) (ap placed (rw (done .0, found .placeIs (opened e)) at (c .placed-from .ensures)) ∙ is .0);
+      files = rw (read e, held e, c .before .before .before .before .before .before .before .before .before .before .before .before .before .before .before .before .before .before .before .before .before .before .before .before .if3 .taken) (done .1 ∙ is .1);
     }
 
 enter-star-requires : tie.Need-enter-star-requires
@@ -222,8 +222,8 @@ returns-4 c =
     let done = c .before .before .before .before .before .before .before .before .before .before .before .before .before .before .before .enter-star .ensures in
     let is = entered-is (s .args .parameters) (s .args .growth) (fileOf s) (cleared (poolOf s)) (star e) (placeFor (s .args .parameters) (fileOf s) (named (s .args .parameters) (s .args .growth) (fileOf s) (s .args .number)) (s .args .number)) in
     record {
-      answers = rw (read e, held e, c .before .before .before .before .before .before .before .before .before .before .before .before .before .before .before .before .before .before .before .before .before .before .before .before .if4 .left) (ap placed (rw (done .0, found .placeIs (opened e)) at (c .placed-from2 .ensures)) ∙ is .0);
-      files = rw (read e, held e, c .before .before .before .before .before .before .before .before .before .before .before .before .before .before .before .before .before .before .before .before .before .before .before .before .if4 .left) (done .1 ∙ is .1);
+      answers = rw (read e, held e, c .before .before .before .before .before .before .before .before .before .before .before .before .before .before .before .before .before .before .before .before .before .before .before .before .if3 .left) (ap placed (rw (done .0, found .placeIs (opened e)) at (c .placed-from2 .ensures)) ∙ is .0);
+      files = rw (read e, held e, c .before .before .before .before .before .before .before .before .before .before .before .before .before .before .before .before .before .before .before .before .before .before .before .before .if3 .left) (done .1 ∙ is .1);
     }
 
 pub enter-star-spec : {M : Type 1} → statement M
@@ -239,12 +239,12 @@ enter-star-spec =
     same-length-4
     same-length-5
     returns
+    entered-again-requires
     same-length-6
     same-length-7
     same-length-8
     same-length-9
     same-length-10
-    entered-again-requires
     returns-2
     cascade-requires
     placed-from-requires

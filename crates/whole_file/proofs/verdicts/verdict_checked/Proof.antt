@@ -1,8 +1,8 @@
--- `whole_file::checking::verdict_checked` meets its contract.
+-- `whole_file::verdicts::verdict_checked` meets its contract.
 use native.Mathlib.Omega.{arith}
 use borrow.Author.Needs.{needs}
-use Rattle.whole_file.proofs.checking.verdict_checked.Statement.{statement}
-use Rattle.whole_file.proofs.checking.verdict_checked.Tie as tie
+use Rattle.whole_file.proofs.verdicts.verdict_checked.Statement.{statement}
+use Rattle.whole_file.proofs.verdicts.verdict_checked.Tie as tie
 
 enum-told : tie.Need-enum-told
 enum-told c = search needs

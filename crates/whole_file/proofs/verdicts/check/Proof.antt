@@ -14,8 +14,8 @@ use Rattle.calls.proofs.Refusals.{turned-away, refusal-is, none-is, admitted-po
 use Rattle.guarding.proofs.Admitting.{prepared, tabled}
 use Rattle.answering.proofs.Pools.{cleared-is}
 use borrow.Author.Needs.{needs}
-use Rattle.whole_file.proofs.checking.check.Statement.{statement}
-use Rattle.whole_file.proofs.checking.check.Tie as tie
+use Rattle.whole_file.proofs.verdicts.check.Statement.{statement}
+use Rattle.whole_file.proofs.verdicts.check.Tie as tie
 
 abbrev fileOf : tie.Start → File
 fileOf s = lent (now (s .args .separators)) (now (s .args .numbers)) (now (s .args .words)) (now (s .args .owners))
