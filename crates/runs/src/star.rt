@@ -1,6 +1,9 @@
 // Where a run's pages are the rule's, only the new star and what it pushes move.
 ghost use mathlib.Core.Path.{_≡_};
-ghost use Prim.Native.Nat.{_<_};
+ghost use mathlib.Core.Bool.{true};
+ghost use Prim.Native.Nat.{_+_, _*_, _≤_, _<_};
+ghost use lib.ListN.{length};
+ghost use Rattle.hashing.specs.Limits.{validParameters};
 ghost use Rattle.pages.specs.Page.{part, placeOf};
 ghost use Rattle.placement.specs.Hash.{namedPage};
 ghost use Rattle.placement.specs.Lent.{held, before, after};
@@ -11,6 +14,7 @@ ghost use Rattle.cascading.specs.Cascade.{Enters};
 ghost use Rattle.runs.specs.Runs.{CleanRun, endOf};
 use entering::Reach;
 use hashing::Geometry;
+use hashing::Parameters;
 use planning::Outcome;
 
 // The page where a planned cascade ends, or the one after `last`.
@@ -193,7 +197,22 @@ fn enter_run(
     )
 }
 
-// As `entering::enter_star`, with the named page as the known one. Short runs are planned whole.
+// Whether a cascade may save time: the run is long, and its last page has room, so that most cascades end there. One that goes on has to be
+// planned whole after all.
+fn may_gain(parameters: Parameters, numbers: &[u32], from: usize, last: usize) -> bool
+    requires { ⌜ validParameters parameters ≡ true ⌝ }
+    requires { ⌜ (from ≤ last) × (last < 1024) ⌝ }
+    requires { ⌜ last * parameters .places + parameters .places ≤ length (now numbers) ⌝ }
+{
+    if last - from < 8 {
+        return false;
+    }
+    let places = parameters.places as usize;
+    let end = places - 1;
+    numbers[last * places + end] == 0
+}
+
+// As `entering::enter_star`, with the named page as the known one. Where a cascade is not likely to end within the run, the reach is planned.
 pub fn enter_star(
     table: &[u32; 90],
     geometry: Geometry,
@@ -220,7 +239,7 @@ pub fn enter_star(
 {
     let from = home as usize;
     let last = reach::stretch_end(separators, placement::top_of(geometry.parameters), from);
-    if last - from < 8 {
+    if !may_gain(geometry.parameters, numbers, from, last) {
         return entering::enter_star(
             table,
             geometry,

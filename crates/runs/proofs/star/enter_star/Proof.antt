@@ -4,10 +4,12 @@ use Prim.Native.Nat.{_<_}
 use native.Mathlib.Omega.{arith}
 use denote.Ref.{now}
 use borrow.Author.Needs.{needs}
+use Rattle.hashing.proofs.Bounds.{limits}
+use Rattle.pages.proofs.Parts.{page-fits}
 use Rattle.placement.specs.File.{File}
 use Rattle.placement.specs.Hash.{lent}
 use Rattle.entering.specs.Entry.{blockEnd}
-use Rattle.entering.proofs.Surveyed.{end-found, last-low}
+use Rattle.entering.proofs.Surveyed.{end-found, last-low, last-high}
 use Rattle.runs.proofs.Entered.{home-is, home-inside}
 use Rattle.runs.proofs.star.enter_star.Statement.{statement}
 use Rattle.runs.proofs.star.enter_star.Tie as tie
@@ -34,14 +36,27 @@ top-of-requires c κs = search needs
 stretch-end-requires : tie.Need-stretch-end-requires
 stretch-end-requires c κs = let s = c .before .before .before .before .before .before .before .before .before in omega (arith, inside s, s .pre .0 .ready .sized .ofSeparators)
 
-sub-if1 : tie.Need-sub-if1
-sub-if1 c =
-    let s = start c in
-    last-low (s .args .geometry .parameters) (s .args .geometry .growth) (file s) (s .pre .0 .ready .homing .valid) (s .pre .0 .ready .sized) (s .args .home) (inside s) (c .stretch-end .result) (ended c)
+may-gain-requires : tie.Need-may-gain-requires
+may-gain-requires c κs =
+    let k = c .before in
+    let s = start k in
+    let p = s .args .geometry .parameters in
+    let valid = s .pre .0 .ready .homing .valid in
+    let sized = s .pre .0 .ready .sized in
+    let most : k .stretch-end .result < p .pages = last-high p (s .args .geometry .growth) (file s) valid sized (s .args .home) (inside s) (k .stretch-end .result) (ended k) in (
+      valid,
+      (
+        (
+          last-low p (s .args .geometry .growth) (file s) valid sized (s .args .home) (inside s) (k .stretch-end .result) (ended k),
+          omega (arith, most, limits p valid .pages-most),
+        ),
+        page-fits (p .places) (p .pages) (k .stretch-end .result) most (sized .ofNumbers),
+      ),
+    )
 
 enter-star-requires : tie.Need-enter-star-requires
 enter-star-requires c κs =
-    let pre = c .before .before .before .before .before .before .before .before .before .before .before .before .before .before .before .before .before .before .pre in
+    let pre = c .before .before .before .before .before .before .before .before .before .before .before .before .before .before .before .before .before .before .before .before .pre in
     (pre .0 .ready, (pre .1 .0, (pre .0 .number, (pre .0 .unheld, (pre .0 .homed, (pre .1 .1 .0, pre .1 .1 .1))))))
 
 same-length : tie.Need-same-length
@@ -70,8 +85,8 @@ returns c = search needs
 
 enter-run-requires : tie.Need-enter-run-requires
 enter-run-requires c κs =
-    let pre = c .before .before .before .before .before .before .before .before .before .before .before .before .before .before .before .before .before .before .pre in
-    (pre .0, (pre .1 .0, (pre .1 .1 .0, (pre .1 .1 .1, ended (c .before .before .before .before .before .before .before .before)))))
+    let pre = c .before .before .before .before .before .before .before .before .before .before .before .before .before .before .before .before .before .before .before .before .pre in
+    (pre .0, (pre .1 .0, (pre .1 .1 .0, (pre .1 .1 .1, ended (c .before .before .before .before .before .before .before .before .before .before)))))
 
 same-length-8 : tie.Need-same-length-8
 same-length-8 c = search needs
@@ -103,7 +118,7 @@ enter-star-spec =
     (tie.spec
     top-of-requires
     stretch-end-requires
-    sub-if1
+    may-gain-requires
     enter-star-requires
     same-length
     same-length-2
