@@ -197,22 +197,22 @@ fn enter_run(
     )
 }
 
-// Whether a cascade may save time: the run is long, and its last page has room, so that most cascades end there. One that goes on has to be
-// planned whole after all.
-fn may_gain(parameters: Parameters, numbers: &[u32], from: usize, last: usize) -> bool
+// Whether a cascade saves time: the run is long, and the star's own page has room, so that nothing is pushed on. One that leaves the run would
+// have to be planned whole after all.
+fn may_gain(parameters: Parameters, numbers: &[u32], from: usize, last: usize, page: usize) -> bool
     requires { ⌜ validParameters parameters ≡ true ⌝ }
-    requires { ⌜ (from ≤ last) × (last < 1024) ⌝ }
-    requires { ⌜ last * parameters .places + parameters .places ≤ length (now numbers) ⌝ }
+    requires { ⌜ (from ≤ last) × (page < 1024) ⌝ }
+    requires { ⌜ page * parameters .places + parameters .places ≤ length (now numbers) ⌝ }
 {
     if last - from < 8 {
         return false;
     }
     let places = parameters.places as usize;
     let end = places - 1;
-    numbers[last * places + end] == 0
+    numbers[page * places + end] == 0
 }
 
-// As `entering::enter_star`, with the named page as the known one. Where a cascade is not likely to end within the run, the reach is planned.
+// As `entering::enter_star`, with the named page as the known one.
 pub fn enter_star(
     table: &[u32; 90],
     geometry: Geometry,
@@ -239,7 +239,7 @@ pub fn enter_star(
 {
     let from = home as usize;
     let last = reach::stretch_end(separators, placement::top_of(geometry.parameters), from);
-    if !may_gain(geometry.parameters, numbers, from, last) {
+    if !may_gain(geometry.parameters, numbers, from, last, page) {
         return entering::enter_star(
             table,
             geometry,

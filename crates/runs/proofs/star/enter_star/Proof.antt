@@ -9,7 +9,7 @@ use Rattle.pages.proofs.Parts.{page-fits}
 use Rattle.placement.specs.File.{File}
 use Rattle.placement.specs.Hash.{lent}
 use Rattle.entering.specs.Entry.{blockEnd}
-use Rattle.entering.proofs.Surveyed.{end-found, last-low, last-high}
+use Rattle.entering.proofs.Surveyed.{end-found, last-low}
 use Rattle.runs.proofs.Entered.{home-is, home-inside}
 use Rattle.runs.proofs.star.enter_star.Statement.{statement}
 use Rattle.runs.proofs.star.enter_star.Tie as tie
@@ -43,14 +43,14 @@ may-gain-requires c κs =
     let p = s .args .geometry .parameters in
     let valid = s .pre .0 .ready .homing .valid in
     let sized = s .pre .0 .ready .sized in
-    let most : k .stretch-end .result < p .pages = last-high p (s .args .geometry .growth) (file s) valid sized (s .args .home) (inside s) (k .stretch-end .result) (ended k) in (
+    let most : s .args .page < p .pages = omega (arith, s .pre .0 .here, s .pre .0 .unheld .named) in (
       valid,
       (
         (
           last-low p (s .args .geometry .growth) (file s) valid sized (s .args .home) (inside s) (k .stretch-end .result) (ended k),
           omega (arith, most, limits p valid .pages-most),
         ),
-        page-fits (p .places) (p .pages) (k .stretch-end .result) most (sized .ofNumbers),
+        page-fits (p .places) (p .pages) (s .args .page) most (sized .ofNumbers),
       ),
     )
 
