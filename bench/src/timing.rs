@@ -32,6 +32,14 @@ pub fn nanoseconds(work: impl FnOnce()) -> f64 {
     clock() - start
 }
 
+/// Half a second of work, so that the first times are not those of a processor that has just woken.
+pub fn warm_up() {
+    let (start, mut sum) = (clock(), 0_u64);
+    while clock() - start < 5e8 {
+        sum = std::hint::black_box(sum.wrapping_mul(6_364_136_223_846_793_005).wrapping_add(1));
+    }
+}
+
 fn median(mut list: Vec<f64>) -> f64 {
     list.sort_by(f64::total_cmp);
     list[list.len() / 2]

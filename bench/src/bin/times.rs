@@ -3,7 +3,7 @@
 
 use bench::files::{self, File, SIZES};
 use bench::floors::Homes;
-use bench::timing::{alone, in_turn, many, nanoseconds, restored, Report, Runs, Table, FEW_RUNS, RUNS};
+use bench::timing::{alone, in_turn, many, nanoseconds, restored, warm_up, Report, Runs, Table, FEW_RUNS, RUNS};
 use bench::{libraries, today, Answer, Library};
 use model::hashing::MULTIPLIERS;
 use model::placement::entered_stretch;
@@ -248,6 +248,7 @@ fn one_home(report: &mut Report, random: &mut Random) {
 }
 
 fn main() {
+    warm_up();
     let mut report = Report::begin();
     for multiplier in MULTIPLIERS {
         let mut random = Random(1);

@@ -9,6 +9,7 @@ ghost use Rattle.calls.specs.Answers.{Leaves, Stores, cleared, placed};
 ghost use Rattle.calls.specs.Calls.{enterOf, cascadeOf, named};
 ghost use Rattle.adding.specs.Entries.{entryOn, entryOf};
 ghost use Rattle.calls.specs.Lent.{Admitted, poolBefore, poolAfter};
+use answering::entered_again;
 use answering::placed_from;
 use calls::answers::Admission;
 use calls::answers::Placed;
@@ -18,7 +19,7 @@ use guarding::guard;
 use hashing::Geometry;
 use hashing::Growth;
 use hashing::Parameters;
-use lookup::find;
+use lookup::find_kept;
 use pages::position::Position;
 
 // The answer of an accepted entry is the page where the star now stands, its caller's. Entering a held star with its own position changes nothing.
@@ -145,7 +146,7 @@ fn enter_by(
         number,
         word,
     );
-    planning::clear(poolnumbers, poolwords, poolowners);
+    applying::clear(poolnumbers, poolwords, poolowners);
     answer
 }
 
@@ -172,18 +173,24 @@ fn enter_star(
         (named parameters growth (before separators numbers words owners) number) (starWith number word caller))
         (placed r) (after separators numbers words owners) ⌝ }
 {
-    let table = generator::first_multipliers(parameters.multiplier);
     let geometry = Geometry { parameters, growth };
-    let named = find(&table, geometry, separators, numbers, words, owners, number);
+    let table = generator::first_multipliers(parameters.multiplier);
+    let named = find_kept(
+        &table,
+        geometry,
+        separators,
+        numbers,
+        words,
+        owners,
+        poolnumbers,
+        number,
+    );
     let page = named.page as u32;
     if !named.readable {
         return Placed::Refused(Refusal::Damaged(page), 0);
     }
     if named.held {
-        if named.word == word {
-            return Placed::On(page, named.place);
-        }
-        return Placed::Refused(Refusal::Held, named.place);
+        return entered_again(page, named.place, named.word, word);
     }
     if cascading {
         return placed_from(
@@ -207,7 +214,7 @@ fn enter_star(
         );
     }
     placed_from(
-        entering::enter_star(
+        runs::enter_star(
             &table,
             geometry,
             separators,
@@ -222,6 +229,7 @@ fn enter_star(
             caller,
             named.home,
             named.place,
+            named.page,
         ),
         named.place,
     )

@@ -1,8 +1,10 @@
 -- What comes of placing pages anew, as answers of the calls. Their pages are small enough for 32 bits.
+use mathlib.Core.Bool.{cond}
 use Prim.Native.Nat.{ℕ, _^_, _<_}
+use lib.Dec.{eqb}
 use Rattle.planning.specs.declared.outcome.Outcome.{Outcome}
 use Rattle.planning.specs.declared.outcome.Outcome.the-variants.{On, Unsound, Overflows}
-use Rattle.calls.specs.declared.answers.Refusal.the-variants.{Damaged, Full}
+use Rattle.calls.specs.declared.answers.Refusal.the-variants.{Damaged, Full, Held}
 use Rattle.calls.specs.declared.answers.Placed.{Placed}
 use Rattle.calls.specs.declared.answers.Placed.the-variants.{On as placed·On, Refused}
 
@@ -15,3 +17,7 @@ abbrev pub outcomePlaced : Outcome → ℕ → Placed
 outcomePlaced (On page) place = placed·On page place
 outcomePlaced (Unsound page) place = Refused (Damaged page) place
 outcomePlaced Overflows place = Refused Full place
+
+-- "a held star with exactly its stored position is now accepted .. Any other position is 6": document 02 (v)
+abbrev pub againPlaced : ℕ → ℕ → ℕ → ℕ → Placed
+againPlaced page place stored word = cond (eqb stored word) (placed·On page place) (Refused Held place)

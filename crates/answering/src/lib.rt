@@ -1,4 +1,6 @@
-// What every call that places stars ends with: the outcome told as its answer, and the pool zeros.
+// What calls that place stars end with: the outcome told as an answer, and the entry of a held star.
+mod again;
 mod outcome;
 
+pub use again::entered_again;
 pub use outcome::placed_from;

@@ -1,22 +1,20 @@
 -- Growth moves homes from the expanded group's pages to the new page alone, so a page outside the stretches stays as it is.
 use mathlib.Core.Path.{_≡_, refl, sym, _∙_}
-use mathlib.Core.Bool.{Bool, true, false, cond, _&&_, true≢false}
+use mathlib.Core.Bool.{true, false, _&&_, true≢false}
 use mathlib.Core.Logic.{_⊎_, inl, inr}
 use mathlib.Core.List.{List}
-use Prim.Native.Nat.{ℕ, suc, _+_, _-_, _*_, _≤_, _<_}
+use Prim.Native.Nat.{ℕ, suc, _+_, _-_, _≤_, _<_}
 use native.Mathlib.Decide.{decLt, decLe}
 use native.Mathlib.Omega.{arith}
-use lib.Dec.{leb, ltb, eqb}
 use lib.ListN.{getD}
-use borrow.Author.Tests.{leb-false, lt-ltb, eqb-true}
+use borrow.Author.Tests.{eqb-true}
 use Rattle.buffers.proofs.Tests.{either-false}
 use Rattle.hashing.specs.declared.Parameters.{Parameters}
 use Rattle.hashing.specs.declared.Growth.{Growth}
-use Rattle.hashing.specs.Geometry.{multiplierOf, groupSize, groupCount, pageCount, grown}
+use Rattle.hashing.specs.Geometry.{multiplierOf, pageCount, grown}
 use Rattle.hashing.specs.Limits.{validParameters, validGrowth}
-use Rattle.hashing.specs.Home.{home, rankAt, chosen}
 use Rattle.hashing.proofs.Bounds.{both}
-use Rattle.hashing.proofs.Homes.{home-regrown}
+use Rattle.hashing.proofs.Homes.{home-moves}
 use Rattle.placement.specs.Rule.{Star, Hash, pages, separators, blank}
 use Rattle.placement.specs.Hash.{hashOf}
 use Rattle.placement.proofs.Probing.{bounded-real}
@@ -41,26 +39,8 @@ module _ (p : Parameters) (g : Growth) (valid : validParameters p ≡ true) (gro
   Moves k = (old .home k ≡ new .home k) ⊎ ((expands p g (old .home k) ≡ true) × (old .home k < pageCount p g) × (new .home k ≡ pageCount p g))
 
   pub moves : (k : ℕ) → Moves k
-  unfolding hashOf expands pageCount rankAt
-  moves k =
-      rw (home-regrown (multiplierOf p) p g k (home (multiplierOf p) p g k) valid grows refl)
-      (go (leb span h) refl (chosen (multiplierOf p) p k (g .expansions)) (eqb (rankAt p (g .expansions) h) (g .expanded)) refl)
-    where
-      h : ℕ
-      h = home (multiplierOf p) p g k
-
-      span : ℕ
-      span = groupSize p g * groupCount p g
-
-      go : (t : Bool) → leb span h ≡ t → (u v : Bool) → eqb (rankAt p (g .expansions) h) (g .expanded) ≡ v
-          → (h ≡ cond t h (cond (u && v) (span + g .expanded) h))
-          ⊎ ((ltb h span && v ≡ true) × (h < span + g .expanded) × (cond t h (cond (u && v) (span + g .expanded) h) ≡ span + g .expanded))
-      go true e u v d = inl refl
-      go false e false v d = inl refl
-      go false e true false d = inl refl
-      go false e true true d =
-          let low : h < span = leb-false span h e in
-          inr (rw (lt-ltb h span low), omega arith, refl)
+  unfolding hashOf
+  moves k = home-moves (multiplierOf p) p g k valid grows
 
   module _ (t : List Star) where
     abbrev before : List ℕ

@@ -3,19 +3,17 @@
 -- separator is 2^k − 1 both before and after, or to page M−1 where there is none."
 use mathlib.Core.Bool.{Bool, false, _&&_, _||_}
 use mathlib.Core.List.{List}
-use Prim.Native.Nat.{ℕ, zero, suc, _-_, _*_, _%_}
-use lib.Dec.{ltb, eqb}
+use Prim.Native.Nat.{ℕ, zero, suc, _-_}
+use lib.Dec.{eqb}
 use lib.ListN.{getD}
 use Rattle.hashing.specs.declared.Parameters.{Parameters}
 use Rattle.hashing.specs.declared.Growth.{Growth}
 use Rattle.generator.specs.Generator.{topOf}
-use Rattle.hashing.specs.Geometry.{groupSize, groupCount, pageCount, rank}
+use Rattle.hashing.specs.Geometry.{pageCount}
+-- "page of the expanded group"
+unfoldable pub use Rattle.hashing.specs.Geometry.{expands}
 use Rattle.hashing.specs.Limits.{within}
 use Rattle.reach.specs.Reach.{firstSuch}
-
--- "page of the expanded group": growth under (e, x) expands the group of rank x, whose pages are those below n·G with its number mod G
-unfoldable pub expands : Parameters → Growth → ℕ → Bool
-expands p g q = ltb q (groupSize p g * groupCount p g) && eqb (rank (p .step) (groupCount p g) (q % groupCount p g)) (g .expanded)
 
 -- a page's separator is 2^k − 1
 unfoldable pub topAt : Parameters → List ℕ → ℕ → Bool

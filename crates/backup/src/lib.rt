@@ -5,9 +5,8 @@ ghost use Prim.Native.Nat.{_<_};
 ghost use lib.Dec.{eqb};
 ghost use lib.ListN.{length};
 ghost use Rattle.generator.specs.Generator.{topOf};
-ghost use Rattle.hashing.specs.Geometry.{pageCount};
+ghost use Rattle.hashing.specs.Geometry.{pageCount, expands};
 ghost use Rattle.hashing.specs.Limits.{validParameters, validGrowth};
-ghost use Rattle.backup.specs.Stretches.{expands as Stretches·expands};
 ghost use Rattle.backup.specs.Marks.{mark, markRefusal, marksOf, markingOf, told};
 use hashing::Geometry;
 use hashing::Growth;
@@ -89,10 +88,10 @@ fn mark_pages(geometry: Geometry, old: &[u8], new: &[u8], marks: &mut [u8])
 fn reached(geometry: Geometry, run: Running, page: u32) -> Running
     requires { ⌜ validParameters (geometry .parameters) ≡ true ⌝ }
     requires { ⌜ validGrowth (geometry .parameters) (geometry .growth) ≡ true ⌝ }
-    ensures { λ r. ⌜ (r .group ≡ (Stretches·expands (geometry .parameters) (geometry .growth) page || run .group))
+    ensures { λ r. ⌜ (r .group ≡ (expands (geometry .parameters) (geometry .growth) page || run .group))
         × (r .added ≡ (eqb page (pageCount (geometry .parameters) (geometry .growth)) || run .added)) ⌝ }
 {
-    let group = either(expands(geometry, page), run.group);
+    let group = either(hashing::expands(geometry, page), run.group);
     let added = either(page == geometry.highest_address() + 1, run.added);
     Running { group, added }
 }
@@ -104,21 +103,6 @@ fn either(one: bool, other: bool) -> bool
         return true;
     }
     other
-}
-
-// Whether it is a page of the group that is expanded.
-fn expands(geometry: Geometry, page: u32) -> bool
-    requires { ⌜ validParameters (geometry .parameters) ≡ true ⌝ }
-    requires { ⌜ validGrowth (geometry .parameters) (geometry .growth) ≡ true ⌝ }
-    ensures { λ r. ⌜ r ≡ Stretches·expands (geometry .parameters) (geometry .growth) page ⌝ }
-{
-    let count = geometry.group_count();
-    if geometry.group_size() * count <= page {
-        return false;
-    }
-    let step = geometry.parameters.step as u16;
-    let group = (page % count) as u16;
-    hashing::rank(step, count as u16, group) as u32 == geometry.growth.expanded
 }
 
 fn mark_of(run: Running) -> u8

@@ -1,7 +1,7 @@
 -- Laws of `written`, and what copies are in its terms.
 use mathlib.Core.Path.{_≡_, sym, ap, _∙_}
 use mathlib.Core.List.{List, [], _∷_, _++_, append-nil, append-assoc}
-use Prim.Native.Nat.{ℕ, _+_, _≤_, _<_}
+use Prim.Native.Nat.{ℕ, _+_, _-_, _≤_, _<_}
 use native.Mathlib.Nat.{le-refl, add-zero, zero-add}
 use native.Mathlib.Numerals.{add-one}
 use native.Mathlib.Omega.{arith}
@@ -104,3 +104,17 @@ module _ {A : Type 0} where
       ∙ ap (λ (l : List A). take at d ++ l ++ drop (at + n) d) (take-at (take n s) (drop (at + n) e) n size)
       ∙ append-assoc (take at d) (take n s) (drop (at + n) d)
       ∙ ap (λ (k : ℕ). take at d ++ (take n s ++ drop (at + k) d)) (sym size)
+
+  -- what stands behind the items written stays
+  pub written-behind : (at k : ℕ) (s d : List A) → at ≤ length d → at + length s ≡ k → drop k (written at s d) ≡ drop k d
+  unfolding written
+  written-behind at k s d h e =
+      rw (← append-assoc (take at d) s (drop (at + length s) d))
+      (drop-at (take at d ++ s) (drop (at + length s) d) k (length-append (take at d) s ∙ ap (λ (m : ℕ). m + length s) (length-take-le at d h) ∙ e)
+      ∙ ap (λ (m : ℕ). drop m d) e)
+
+  -- lists alike from k on are alike from any later item on
+  pub alike-later : (k j : ℕ) (c d : List A) → k ≤ j → drop k c ≡ drop k d → drop j c ≡ drop j d
+  alike-later k j c d h e =
+      let sum : k + (j - k) ≡ j = omega arith in
+      rw (← sum, ← drop-drop (j - k) k c, ← drop-drop (j - k) k d, e)

@@ -137,6 +137,7 @@ module _ (p : Parameters) (g : Growth) (f : File) (k page : ℕ) (pool planned w
         record {
           sound = all-sound word owner all-visited;
           none = fits;
+          within = ap (λ (n : ℕ). carriedPast (hashOf p g) f page n (new word owner ∷ [])) count ∙ nothing;
           applies =
               ap (λ (n : ℕ). applied (p .places) page n k word owner pool planned f) count
               ∙ applied-is (p .places) page d k word owner pool planned f (P .contents) (P .sources) (P .separators-are) (P .all-sourced)

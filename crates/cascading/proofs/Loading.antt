@@ -3,15 +3,16 @@ use mathlib.Core.Path.{_≡_, sym, ap, _∙_}
 use mathlib.Core.Bool.{true}
 use mathlib.Core.List.{List}
 use Prim.Native.Nat.{ℕ, _+_, _-_, _*_, _^_, _≤_, _<_}
-use native.Mathlib.Nat.{one-mul, mul-le-mul}
+use native.Mathlib.Nat.{zero-add, one-mul, mul-le-mul}
 use native.Mathlib.Omega.{arith}
 use lib.Dec.{ltb}
-use lib.ListN.{length, take, drop, replicate, length-map, length-take, getD-replicate}
-use lib.Seq.{slice, getD-take}
+use lib.ListN.{length, take, drop, replicate, length-map, length-take, length-drop, getD-replicate}
+use lib.Seq.{slice, paste, take-paste, length-paste, getD-take}
 use borrow.Author.Tests.{lt-ltb, ltb-true}
 use Rattle.buffers.proofs.Lists.{drop-take}
 use Rattle.hashing.specs.declared.Parameters.{Parameters}
 use Rattle.hashing.specs.declared.Growth.{Growth}
+use Rattle.hashing.specs.declared.Geometry.{Geometry}
 use Rattle.hashing.specs.Limits.{validParameters}
 use Rattle.hashing.proofs.Bounds.{limits}
 use Rattle.pages.specs.declared.page.Page.{Page}
@@ -19,13 +20,16 @@ use Rattle.pages.specs.Page.{part, pageAt, stretch}
 use Rattle.pages.proofs.Parts.{page-fits, take-filled, filled-length}
 use Rattle.placement.specs.File.{File, Sized}
 use Rattle.placement.specs.Hash.{soundAt, homesOf, homeIn}
+use Rattle.placement.specs.Survey.{Tested}
+use Rattle.placement.proofs.Items.{sound-loaded, homes-loaded}
+use Rattle.reach.specs.Known.{Known}
 use Rattle.waiting.specs.Lists.{allBelow}
 use Rattle.waiting.specs.Gather.{wordsFrom, starsIn}
 use Rattle.waiting.proofs.Lists.{all-mono, all-items}
 use Rattle.waiting.proofs.Items.{words-count, words-length}
 use Rattle.entering.specs.Entry.{blockNumbers, blockWords}
 use Rattle.entering.proofs.Items.{numbers-count, stretch-homes, homes-below}
-use Rattle.cascading.specs.Arriving.{pageWords}
+use Rattle.cascading.specs.Arriving.{pageWords, KnownValue}
 use Rattle.cascading.proofs.PageWords.{page-numbers}
 
 -- all zeros
@@ -113,3 +117,39 @@ module _ (p : Parameters) (g : Growth) (f : File) (valid : validParameters p ≡
         pub loaded-words : wordsFrom (q * p .places) 0 (take (p .places) (v .numbers)) (take (p .places) hs) ≡ pageWords p g f q
         unfolding blockWords
         loaded-words = rw (homes, loaded-numbers, stretch-homes p g f valid sized q 1 (omega arith))
+
+-- a known page, by its value
+pub known-value : (g : Geometry) (f : File) → Sized (g .parameters .places) (g .parameters .pages) f → (q : ℕ) → q < g .parameters .pages
+    → (v : Page) → v ≡ pageAt (g .parameters .places) q (f .numbers) (f .words) (f .owners) → (pool : List ℕ)
+    → Known (g .parameters) (g .growth) f pool q → KnownValue g (f .separators) q (v .numbers) (v .words) (v .owners) pool
+known-value g f sized q inside v loaded pool k =
+    record {
+      sound =
+          sound-loaded (g .parameters) (g .growth) f q v (within (sized .ofNumbers)) (within (sized .ofWords)) (within (sized .ofOwners)) loaded
+          ∙ k .sound inside;
+      kept = k .kept inside ∙ sym (homes-loaded (g .parameters) (g .growth) q (f .numbers) (f .words) (f .owners) v (within (sized .ofNumbers)) loaded);
+    }
+  where
+    within : {n : ℕ} → n ≡ g .parameters .pages * g .parameters .places → q * g .parameters .places + g .parameters .places ≤ n
+    within e = page-fits (g .parameters .places) (g .parameters .pages) q inside e
+
+-- what the test of a known page tells
+pub known-tested : (g : Geometry) (seps : List ℕ) (page : ℕ) (ns ws os pool hs : List ℕ) → KnownValue g seps page ns ws os pool → length hs ≡ 32
+    → g .parameters .places ≤ 32 → page * g .parameters .places + g .parameters .places ≤ length pool
+    → Tested g seps page ns ws os (paste hs 0 (drop (page * g .parameters .places) pool) (g .parameters .places)) true
+unfolding part
+known-tested g seps page ns ws os pool hs k long few inside =
+    record {
+      sound = sym (k .sound);
+      long = length-paste hs 0 (drop at pool) places (omega arith) enough ∙ long;
+      homed = λ _. ap (λ (n : ℕ). take n (paste hs 0 (drop at pool) places)) (sym (zero-add places)) ∙ take-paste hs 0 (drop at pool) places (omega arith) enough ∙ k .kept;
+    }
+  where
+    places : ℕ
+    places = g .parameters .places
+
+    at : ℕ
+    at = page * places
+
+    enough : places ≤ length (drop at pool)
+    enough = omega (arith, length-drop at pool)

@@ -1,20 +1,24 @@
 -- The loop of the cascade: what stands when it comes to page `at`, and what each of its ways out answers.
 use mathlib.Core.Path.{_≡_, sym, ap, _∙_}
 use mathlib.Core.Bool.{true, false}
-use mathlib.Core.List.{List, [], _++_}
+use mathlib.Core.List.{List, _++_}
 use Prim.Native.Nat.{ℕ, suc, _+_, _-_, _*_, _≤_, _<_}
-use native.Mathlib.Nat.{add-zero, suc-mul, mul-le-mul, mul-le-mul-right}
+use native.Mathlib.Nat.{add-zero, one-mul, suc-mul, mul-le-mul, mul-le-mul-right}
 use native.Mathlib.Numerals.{add-one}
 use native.Mathlib.Omega.{arith}
 use lib.Dec.{leb}
-use lib.ListN.{length, take, drop, getD, set, length-append, length-take, length-set}
+use lib.ListN.{length, take, drop, getD, set, length-append, length-take, length-drop, length-set}
 use lib.Seq.{slice, length-slice, take-suc-set, drop-append-le, length-take-le}
 use Rattle.hashing.specs.declared.Parameters.{Parameters}
 use Rattle.hashing.specs.declared.Growth.{Growth}
 use Rattle.hashing.specs.Limits.{validParameters}
 use Rattle.hashing.proofs.Bounds.{limits}
 use Rattle.pages.specs.Position.{validNumber}
-use Rattle.placement.specs.File.{File, Sized}
+use Rattle.pages.specs.Page.{part}
+use Rattle.placement.specs.File.{File, Sized, written}
+use Rattle.placement.proofs.Writing.{part-back, length-column}
+use Rattle.buffers.proofs.Written.{around}
+use Rattle.pages.proofs.Parts.{page-fits}
 use Rattle.placement.specs.Hash.{soundAt, namedPage}
 use Rattle.waiting.specs.Words.{homeOf}
 use Rattle.waiting.specs.Settle.{Probing, wordsSeparatorFrom}
@@ -23,13 +27,34 @@ use Rattle.waiting.proofs.Cutting.{separator-fits}
 use Rattle.entering.specs.declared.blocks.Reach.the-variants.{Ends}
 use Rattle.entering.specs.Entry.{Unheld, newStar}
 use Rattle.entering.proofs.Joined.{newWord}
-use Rattle.cascading.specs.Arriving.{pageWords, Joins, Crowds}
+use Rattle.cascading.specs.Arriving.{pageWords, Joins, Crowds, KnownTo}
 use Rattle.cascading.specs.Cascade.{Stopped, Spilled, Plans, loweredOn, Lowered}
 use Rattle.cascading.proofs.Tying.{parted}
 use Rattle.cascading.proofs.PageWords.{page-near}
+use Rattle.cascading.proofs.Settled.{lowered-roomy}
 use Rattle.cascading.proofs.Loading.{stars-room}
 use Rattle.cascading.proofs.Pushed.{Pushed, pushed-none, pushed-next}
 use Rattle.cascading.proofs.Answers.{plans-unsound, plans-overflow, plans-ends, plans-crowded}
+
+-- a page after page p, of a list whose first parts are p pages and one more
+part-after : (b p q : ℕ) (xs ys zs : List ℕ) → length xs ≡ p * b → length ys ≡ b → p + 1 ≤ q → part b q (xs ++ (ys ++ zs)) ≡ part b (q - (p + 1)) zs
+part-after b p q xs ys zs ex ey h =
+    let sum : q ≡ p + (1 + (q - (p + 1))) = omega arith in
+    ap (λ (n : ℕ). part b n (xs ++ (ys ++ zs))) sum
+    ∙ part-back b p (1 + (q - (p + 1))) xs (ys ++ zs) ex
+    ∙ part-back b 1 (q - (p + 1)) ys zs (ey ∙ sym (one-mul b))
+
+-- what is written on page p leaves the pages after it
+part-past : (b p q : ℕ) (s l : List ℕ) → length s ≡ b → p * b + b ≤ length l → p + 1 ≤ q → part b q (written (p * b) s l) ≡ part b q l
+unfolding written
+part-past b p q s l e long h =
+    part-after b p q (take (p * b) l) s (drop (p * b + length s) l) low e h
+    ∙ ap (λ (n : ℕ). part b (q - (p + 1)) (drop (p * b + n) l)) e
+    ∙ sym (part-after b p q (take (p * b) l) (take b (drop (p * b) l)) (drop (p * b + b) l) low (length-take-le b (drop (p * b) l) (omega (arith, length-drop (p * b) l))) h)
+    ∙ ap (part b q) (sym (around (p * b) b l))
+  where
+    low : length (take (p * b) l) ≡ p * b
+    low = length-take-le (p * b) l (omega arith)
 
 -- the pages below `at` are planned, and the words carried on stand from `from` up to `end`
 pub record Rolling (p : Parameters) (g : Growth) (f : File) (k page : ℕ) (pool planned W : List ℕ) (at from end : ℕ) : Type 0 where
@@ -162,4 +187,12 @@ module _ (p : Parameters) (g : Growth) (f : File) (k page : ℕ) (valid : validP
               within = omega (arith, reach-within);
               kept = rw (add-one (R .done), suc-mul (R .done) (p .places)) (omega (arith, start-least, R .kept));
               come = rw (add-one (R .done), suc-mul (R .done) (p .places)) reach-come;
+            }
+
+        -- the sources written stand on page `at`: the pages after it are known as before
+        pub rolling-known : (tested : ℕ) → KnownTo p g f pool at tested → KnownTo p g f pool′ (at + 1) tested
+        rolling-known tested k q a h =
+            record {
+              sound = k q (omega arith) h .sound;
+              kept = λ i. ap (part (p .places) q) (L .sources) ∙ part-past (p .places) at q _ pool (length-column (p .places) _ _ (lowered-roomy p at stored (slice from reach W′), tt) ∙ one-mul (p .places)) (page-fits (p .places) (p .pages) at inside lp) a ∙ k q (omega arith) h .kept i;
             }

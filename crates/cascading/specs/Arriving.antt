@@ -2,15 +2,18 @@
 use mathlib.Core.Path.{_≡_}
 use mathlib.Core.Bool.{true, false}
 use mathlib.Core.List.{List, _++_}
-use Prim.Native.Nat.{ℕ, _+_, _*_, _<_}
+use Prim.Native.Nat.{ℕ, _+_, _*_, _≤_, _<_}
 use lib.ListN.{length, take}
 use denote.Ref.{now}
 use Rattle.hashing.specs.declared.Parameters.{Parameters}
 use Rattle.hashing.specs.declared.Growth.{Growth}
 use Rattle.hashing.specs.declared.Geometry.{Geometry}
 use Rattle.placement.specs.File.{File}
-use Rattle.placement.specs.Hash.{soundAt}
+use Rattle.pages.specs.Page.{part}
+use Rattle.placement.specs.Hash.{soundAt, homesOf}
+use Rattle.placement.specs.Survey.{soundIn}
 use Rattle.placement.specs.Lent.{Lent}
+use Rattle.reach.specs.Known.{Known}
 use Rattle.entering.specs.Entry.{blockWords}
 use Rattle.cascading.specs.declared.arriving.Taken.{Taken}
 use Rattle.cascading.specs.declared.arriving.Taken.the-variants.{Joined, Unsound, Crowded}
@@ -36,3 +39,12 @@ TakenIn p g f q end W W′ Crowded = Crowds p g f q end
 -- the words that have come stand before `end`
 abbrev pub TakesIn : Geometry → File → ℕ → ℕ → Lent → Taken → Type 0
 TakesIn g f q end waiting r = TakenIn (g .parameters) (g .growth) f q end (now (waiting .entry)) (now (waiting .exit)) r
+
+-- the page whose numbers, words and owners these are is sound, and the pool holds its homes
+pub record KnownValue (g : Geometry) (seps : List ℕ) (page : ℕ) (ns ws os pool : List ℕ) : Type 0 where
+  pub sound : soundIn (g .parameters) (g .growth) seps page (take (g .parameters .places) ns) (take (g .parameters .places) ws) (take (g .parameters .places) os) ≡ true
+  pub kept : part (g .parameters .places) page pool ≡ homesOf (g .parameters) (g .growth) (take (g .parameters .places) ns)
+
+-- the pages from `from` up to the one before `stop` are known
+abbrev pub KnownTo : Parameters → Growth → File → List ℕ → ℕ → ℕ → Type 0
+KnownTo p g f pool from stop = (q : ℕ) → from ≤ q → q < stop → Known p g f pool q

@@ -74,10 +74,11 @@ pub record Spilled (p : Parameters) (g : Growth) (f : File) (s : Star) (page : �
   pub sound : cascadeUnsound p g f s page ≡ stopOf p g f s page
   pub over : isEmpty (overflow p g f s page) ≡ false
 
--- they are sound, none is, and the planned sources and separators of the pages up to `last` are theirs
+-- they are sound, none is, none is carried past page `last`, and the planned sources and separators of the pages up to it are theirs
 pub record Kept (p : Parameters) (g : Growth) (f : File) (k word owner page : ℕ) (pool planned : List ℕ) (last : ℕ) : Type 0 where
   pub sound : cascadeUnsound p g f (newStar k word owner) page ≡ stopOf p g f (newStar k word owner) page
   pub none : overflow p g f (newStar k word owner) page ≡ []
+  pub within : carriedPast (hashOf p g) f page (pagesTo page last) (newStar k word owner ∷ []) ≡ []
   pub applies : applied (p .places) page (pagesTo page last) k word owner pool planned f ≡ replaced (p .places) f page (visited p g f (newStar k word owner) page)
 
 -- what planning the cascade of the star k answers and leaves, with any word and owner

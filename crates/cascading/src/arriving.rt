@@ -4,13 +4,15 @@ ghost use mathlib.Core.Bool.{true};
 ghost use mathlib.Core.List.{_++_};
 ghost use Prim.Native.Nat.{_+_, _*_, _^_, _≤_, _<_};
 ghost use lib.Dec.{ltb};
-ghost use lib.ListN.{length, take};
-ghost use lib.Seq.{slice};
+ghost use lib.ListN.{length, take, drop};
+ghost use lib.Seq.{paste, slice};
 ghost use Rattle.placement.specs.Lent.{held, before};
-ghost use Rattle.placement.specs.Ready.{Ready};
+ghost use Rattle.placement.specs.Ready.{Homing, Ready};
+ghost use Rattle.placement.specs.Survey.{Tested};
+ghost use Rattle.reach.specs.Known.{Known};
 ghost use Rattle.waiting.specs.Lists.{allBelow};
 ghost use Rattle.waiting.specs.Gather.{wordsFrom, starsIn};
-ghost use Rattle.cascading.specs.Arriving.{TakesIn};
+ghost use Rattle.cascading.specs.Arriving.{TakesIn, KnownValue};
 use hashing::Geometry;
 
 // Where the words of a page's stars end; the page is unsound; or the list does not hold them.
@@ -61,7 +63,58 @@ fn exceeds(numbers: &[u32], at: usize, places: usize, room: usize) -> bool
     room < waiting::count_stars(numbers, at, at + places, 0)
 }
 
-// Loads the page, tests it, and appends its stars to the words up to `end`.
+// The homes that the pool holds from item `at` on.
+fn load_homes(pool: &[u32], homes: &mut [u32; 32], places: usize, at: usize)
+    requires { ⌜ (places ≤ 32) × (length (now homes) ≡ 32) ⌝ }
+    requires { ⌜ at + places ≤ length (now pool) ⌝ }
+    ensures { λ _. ⌜ now (homes .exit) ≡ paste (now (homes .entry)) 0 (drop at (now (pool .entry))) places ⌝ }
+{
+    let mut i = 0;
+    while i < places {
+        homes[i] = pool[at + i];
+        i += 1;
+    }
+}
+
+// As `placement::page_sound`, but a page below `tested` is known: it is not tested again.
+fn test_page<'a>(
+    table: &[u32; 90],
+    geometry: Geometry,
+    separators: &[u8],
+    numbers: &'a [u32; 32],
+    words: &'a [u64; 32],
+    owners: &'a [u8; 32],
+    pool: &[u32],
+    page: usize,
+    tested: usize,
+    homes: &mut [u32; 32],
+) -> bool
+    requires { ⌜ Homing geometry (now table) ⌝ }
+    requires { ⌜ (length (now separators) ≡ geometry .parameters .pages) × (length (now pool) ≡ geometry .parameters .pages * geometry .parameters .places) ⌝ }
+    requires { ⌜ page < geometry .parameters .pages ⌝ }
+    requires { ⌜ (length (now numbers) ≡ 32) × ((length (now words) ≡ 32) × (length (now owners) ≡ 32)) ⌝ }
+    requires { ⌜ length (now homes) ≡ 32 ⌝ }
+    requires { ⌜ (page < tested → KnownValue geometry (now separators) page (now numbers) (now words) (now owners) (now pool)) ⌝ }
+    ensures { λ r. ⌜ Tested geometry (now (separators .entry)) page (now (numbers .entry)) (now (words .entry)) (now (owners .entry)) (now (homes .exit)) r ⌝ }
+{
+    if page < tested {
+        let places = geometry.parameters.places as usize;
+        load_homes(pool, homes, places, page * places);
+        return true;
+    }
+    placement::page_sound(
+        table,
+        geometry,
+        separators,
+        numbers,
+        words,
+        owners,
+        page,
+        homes,
+    )
+}
+
+// Loads the page, tests it, and appends its stars to the words up to `end`. A page below `tested` is known.
 pub fn take_in(
     table: &[u32; 90],
     geometry: Geometry,
@@ -69,27 +122,39 @@ pub fn take_in(
     numbers: &[u32],
     words: &[u64],
     owners: &[u8],
+    pool: &[u32],
     waiting: &mut [u64],
     page: usize,
     end: usize,
+    tested: usize,
 ) -> Taken
     requires { ⌜ Ready geometry (now table) (held separators numbers words owners) ⌝ }
-    requires { ⌜ length (now waiting) ≡ geometry .parameters .pages * geometry .parameters .places ⌝ }
+    requires { ⌜ (length (now waiting) ≡ geometry .parameters .pages * geometry .parameters .places) × (length (now pool) ≡ geometry .parameters .pages * geometry .parameters .places) ⌝ }
     requires { ⌜ (page < geometry .parameters .pages) × (end ≤ length (now waiting)) ⌝ }
+    requires { ⌜ (page < tested → Known (geometry .parameters) (geometry .growth) (held separators numbers words owners) (now pool) page) ⌝ }
     ensures { λ r. ⌜ TakesIn geometry (before separators numbers words owners) page end waiting r ⌝ }
 {
     let places = geometry.parameters.places as usize;
     let at = page * places;
     let value = pages::page::load(numbers, words, owners, places, page);
-    let found = placement::page_sound(table, geometry, separators, value, page);
-    if !found.sound {
+    let mut homes = [0u32; 32];
+    if !test_page(
+        table,
+        geometry,
+        separators,
+        &value.numbers,
+        &value.words,
+        &value.owners,
+        pool,
+        page,
+        tested,
+        &mut homes,
+    ) {
         return Taken::Unsound;
     }
     if exceeds(numbers, at, places, waiting.len() - end) {
         return Taken::Crowded;
     }
-    let there = value.numbers;
-    let homes = found.homes;
-    let reach = append(waiting, &there, &homes, places, at, end);
+    let reach = append(waiting, &value.numbers, &homes, places, at, end);
     Taken::Joined(reach)
 }

@@ -2,6 +2,7 @@
 ghost use mathlib.Core.Path.{_≡_};
 ghost use Rattle.placement.specs.Lent.{held, before, after};
 ghost use Rattle.placement.specs.Ready.{Pooled};
+ghost use Rattle.reach.specs.Known.{Known};
 ghost use Rattle.entering.specs.Entry.{newStar};
 ghost use Rattle.cascading.specs.Cascade.{Enters, cascadeAnswer, cascadeFile};
 use crate::pushing::push;
@@ -9,7 +10,8 @@ use entering::Reach;
 use hashing::Geometry;
 use planning::Outcome;
 
-// Enters a number that the file does not hold, from the page that the separators name for it. Nothing is written before the cascade has ended.
+// Enters a number that the file does not hold, from the page that the separators name for it, which is known. Nothing is written before the
+// cascade has ended.
 pub fn cascade(
     table: &[u32; 90],
     geometry: Geometry,
@@ -28,6 +30,7 @@ pub fn cascade(
 ) -> Outcome
     requires { ⌜ Enters geometry (now table) (held separators numbers words owners) number home page ⌝ }
     requires { ⌜ Pooled (geometry .parameters) (now pool) (now waiting) (now poolowners) ⌝ }
+    requires { ⌜ Known (geometry .parameters) (geometry .growth) (held separators numbers words owners) (now pool) page ⌝ }
     ensures { λ r. ⌜ r ≡ cascadeAnswer (geometry .parameters) (geometry .growth) (before separators numbers words owners) (newStar number word owner) page ⌝ }
     ensures { λ _. ⌜ after separators numbers words owners ≡ cascadeFile (geometry .parameters) (geometry .growth) (before separators numbers words owners) (newStar number word owner) page ⌝ }
 {
@@ -46,11 +49,12 @@ pub fn cascade(
         number,
         home,
         page,
+        page + 1,
     ) {
         Reach::Unsound(bad) => Outcome::Unsound(bad),
         Reach::Overflows => Outcome::Overflows,
         Reach::Ends(last) => {
-            planning::apply(
+            applying::apply(
                 separators,
                 numbers,
                 words,

@@ -32,11 +32,10 @@ pub fn fill_page(
     let places = geometry.parameters.places as usize;
     let at = page * places;
     let value = pages::page::load(numbers, words, owners, places, page);
-    let there = value.numbers;
     let homes = [0u32; 32];
     let mut slots = [0u64; 32];
     waiting[0] = waiting::pack(home, number, numbers.len() + 1);
-    let reach = append(waiting, &there, &homes, places, at, 1);
+    let reach = append(waiting, &value.numbers, &homes, places, at, 1);
     waiting::keep_all(waiting, 0, reach, &mut slots);
     planned[page] = separators[page];
     planning::store_sources(pool, &slots, at, places, reach);

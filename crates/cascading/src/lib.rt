@@ -6,3 +6,4 @@ mod keeping;
 mod pushing;
 
 pub use entry::cascade;
+pub use pushing::push;

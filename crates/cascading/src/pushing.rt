@@ -4,6 +4,7 @@ ghost use Prim.Native.Nat.{_*_, _≤_};
 ghost use lib.ListN.{length};
 ghost use Rattle.placement.specs.Lent.{held, before};
 ghost use Rattle.waiting.specs.Settle.{Signers};
+ghost use Rattle.cascading.specs.Arriving.{KnownTo};
 ghost use Rattle.cascading.specs.Cascade.{Enters, Plans};
 use crate::arriving::Taken;
 use crate::arriving::take_in;
@@ -12,7 +13,8 @@ use crate::keeping::settle_page;
 use entering::Reach;
 use hashing::Geometry;
 
-// The words carried on stand from `from` up to `end`; those of the next page come behind them.
+// The words carried on stand from `from` up to `end`; those of the next page come behind them. A page's sources are written over its homes
+// when it is taken in, and the homes of the known pages after it stand.
 fn push_along(
     table: &[u32; 90],
     signs: &[u32; 63],
@@ -27,11 +29,13 @@ fn push_along(
     number: u32,
     home: u32,
     page: usize,
+    tested: usize,
 ) -> Reach
     requires { ⌜ Enters geometry (now table) (held separators numbers words owners) number home page ⌝ }
     requires { ⌜ Signers (geometry .parameters) (now signs) ⌝ }
     requires { ⌜ (length (now pool) ≡ geometry .parameters .pages * geometry .parameters .places) × (length (now waiting) ≡ geometry .parameters .pages * geometry .parameters .places) ⌝ }
     requires { ⌜ geometry .parameters .pages ≤ length (now planned) ⌝ }
+    requires { ⌜ KnownTo (geometry .parameters) (geometry .growth) (held separators numbers words owners) (now pool) page tested ⌝ }
     ensures { λ r. ⌜ Plans (geometry .parameters) (geometry .growth) (before separators numbers words owners) number page (now (pool .exit)) (now (planned .exit)) r ⌝ }
 {
     let parameters = geometry.parameters;
@@ -48,9 +52,11 @@ fn push_along(
             numbers,
             words,
             owners,
+            pool,
             waiting,
             at,
             end,
+            tested,
         ) {
             Taken::Unsound => return Reach::Unsound(at),
             Taken::Crowded => return Reach::Overflows,
@@ -78,7 +84,7 @@ fn push_along(
     Reach::Overflows
 }
 
-// The table of signatures is made only where the first page is full.
+// The table of signatures is made only where the first page is full. The pages from `page` up to the one before `tested` are known.
 pub fn push(
     table: &[u32; 90],
     geometry: Geometry,
@@ -92,10 +98,12 @@ pub fn push(
     number: u32,
     home: u32,
     page: usize,
+    tested: usize,
 ) -> Reach
     requires { ⌜ Enters geometry (now table) (held separators numbers words owners) number home page ⌝ }
     requires { ⌜ (length (now pool) ≡ geometry .parameters .pages * geometry .parameters .places) × (length (now waiting) ≡ geometry .parameters .pages * geometry .parameters .places) ⌝ }
     requires { ⌜ geometry .parameters .pages ≤ length (now planned) ⌝ }
+    requires { ⌜ KnownTo (geometry .parameters) (geometry .growth) (held separators numbers words owners) (now pool) page tested ⌝ }
     ensures { λ r. ⌜ Plans (geometry .parameters) (geometry .growth) (before separators numbers words owners) number page (now (pool .exit)) (now (planned .exit)) r ⌝ }
 {
     let places = geometry.parameters.places as usize;
@@ -131,5 +139,6 @@ pub fn push(
         number,
         home,
         page,
+        tested,
     )
 }

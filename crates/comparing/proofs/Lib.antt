@@ -1,6 +1,1 @@
 pub mod Differences
-pub mod Planned
-pub mod Verdicts
-pub mod Raising
-pub mod Counters
-pub mod Unraisable

@@ -1,9 +1,5 @@
-// The work below the call `check`: the first unsound page, or the first page and place that differ from the rule over the whole file.
-mod checking;
-mod counts;
+// Two files compared: the first page and place at which they differ.
 mod search;
 
-pub use checking::Verdict;
-pub use checking::check_file;
 pub use search::Spot;
 pub use search::compare;

@@ -24,11 +24,11 @@ use Rattle.placement.proofs.Order.{member-insert, inserted, length-insert}
 use Rattle.placement.proofs.Probing.{bounded-real, homed-real}
 use Rattle.placement.proofs.Files.{numberOf, wordOf, ownerOf}
 use Rattle.reach.specs.Reach.{pagesTo, entering, entersWithin, entryEnd, holding}
-use Rattle.shifting.specs.Shift.{numberAt, starsOn, Vacant}
+use Rattle.shifting.specs.Shift.{numberAt, starsOn, Vacant, takesAlone}
 use Rattle.shifting.proofs.Shifted.{vacant-room}
 use Rattle.shifting.proofs.OnePage.{file-alone, pages-alone, left-alone, first-here, named-home, ordered-page, homed-here, gathered-alone}
 use Rattle.planning.specs.declared.outcome.Outcome.the-variants.{On, Unsound, Overflows}
-use Rattle.entering.specs.Entry.{Unheld, newStar, entryStart, entryLast, entryUnsound, entryContents, takesAlone, entryAnswer, entryFile}
+use Rattle.entering.specs.Entry.{Unheld, newStar, entryStart, entryLast, entryUnsound, entryContents, entryAnswer, entryFile}
 use Rattle.entering.proofs.Reached.{ending, by-reach}
 use Rattle.entering.proofs.Holding.{member-has}
 

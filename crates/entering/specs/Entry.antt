@@ -1,22 +1,20 @@
 -- The entry of a star over its reach: document 01, "The cut" and "Where each refusal is met".
 use mathlib.Core.Path.{_≡_}
-use mathlib.Core.Bool.{Bool, true, false, cond, _&&_}
+use mathlib.Core.Bool.{true, false, cond}
 use mathlib.Core.List.{List}
 use Prim.Native.Nat.{ℕ, _+_, _-_, _*_, _<_}
-use lib.Dec.{eqb, ltb}
-use lib.ListN.{length, take, getD}
+use lib.Dec.{ltb}
+use lib.ListN.{length, take}
 use denote.Ref.{now}
 use Rattle.hashing.specs.declared.Parameters.{Parameters}
 use Rattle.hashing.specs.declared.Growth.{Growth}
 use Rattle.hashing.specs.declared.Geometry.{Geometry}
-use Rattle.generator.specs.Generator.{topOf}
 use Rattle.pages.specs.Page.{part, heldAt, stretch}
 use Rattle.placement.specs.Rule.{Star, Contents, pages, starWith}
 use Rattle.placement.specs.File.{File, replaced}
 use Rattle.placement.specs.Hash.{hashOf, soundAt, namedPage, homesOf}
 use Rattle.placement.specs.Lent.{Lent}
 use Rattle.reach.specs.Reach.{pagesTo, removalEnd, entering, entersWithin, entryEnd, firstUnsound, holding}
-use Rattle.shifting.specs.Shift.{numberAt}
 use Rattle.waiting.specs.Gather.{starsIn, stretchWords}
 use Rattle.planning.specs.Plans.{Planned}
 use Rattle.planning.proofs.Applying.{applied}
@@ -26,11 +24,6 @@ use Rattle.entering.specs.declared.blocks.Block.{Block}
 use Rattle.entering.specs.declared.blocks.Block.the-variants.{Planned as block·Planned, Unsound as block·Unsound, Crowded}
 use Rattle.planning.specs.declared.outcome.Outcome.{Outcome}
 use Rattle.planning.specs.declared.outcome.Outcome.the-variants.{On, Unsound as outcome·Unsound, Overflows as outcome·Overflows}
-
--- the page's stored separator is 2^k − 1, and its last place is empty
-unfoldable pub takesAlone : Parameters → List ℕ → List ℕ → ℕ → Bool
-takesAlone p separators numbers page =
-    eqb (getD separators page 0) (topOf (p .bits)) && eqb (numberAt (p .places) page (p .places - 1) numbers) 0
 
 -- the page that the separators name for k is sound and does not hold it
 pub record Unheld (p : Parameters) (g : Growth) (f : File) (k : ℕ) : Type 0 where

@@ -7,6 +7,7 @@ ghost use Rattle.pages.specs.Position.{validNumber};
 ghost use Rattle.placement.specs.Hash.{homeUnder};
 ghost use Rattle.placement.specs.Lent.{held, before};
 ghost use Rattle.placement.specs.Ready.{Ready};
+ghost use Rattle.reach.specs.Known.{Known};
 ghost use Rattle.waiting.specs.Settle.{homesUpTo};
 ghost use Rattle.entering.specs.Entry.{Unheld, newStar, reachAnswer, Applies, PlansBlock};
 use hashing::Geometry;
@@ -25,7 +26,7 @@ pub enum Block {
     Crowded,
 }
 
-// The block from page lo on, with the `incoming` words at the front of `waiting`.
+// The block from page lo on, with the `incoming` words at the front of `waiting`. The known page was tested before.
 fn plan_block(
     table: &[u32; 90],
     geometry: Geometry,
@@ -38,11 +39,13 @@ fn plan_block(
     planned: &mut [u8],
     lo: usize,
     incoming: usize,
+    known: usize,
 ) -> Block
     requires { ⌜ Ready geometry (now table) (held separators numbers words owners) ⌝ }
     requires { ⌜ (length (now pool) ≡ geometry .parameters .pages * geometry .parameters .places) × (length (now waiting) ≡ geometry .parameters .pages * geometry .parameters .places) ⌝ }
     requires { ⌜ (geometry .parameters .pages ≤ length (now planned)) × (lo < geometry .parameters .pages) ⌝ }
     requires { ⌜ (incoming ≤ length (now waiting)) × (homesUpTo lo (take incoming (now waiting)) ≡ true) ⌝ }
+    requires { ⌜ Known (geometry .parameters) (geometry .growth) (held separators numbers words owners) (now pool) known ⌝ }
     ensures { λ r. ⌜ PlansBlock geometry (before separators numbers words owners) lo incoming pool waiting planned r ⌝ }
 {
     let parameters = geometry.parameters;
@@ -59,6 +62,7 @@ fn plan_block(
         pool,
         lo,
         stop,
+        known,
     );
     if unsound < stop {
         return Block::Unsound(unsound);
@@ -94,6 +98,7 @@ pub fn plan_entry(
     planned: &mut [u8],
     number: u32,
     home: u32,
+    known: usize,
 ) -> Reach
     requires { ⌜ Ready geometry (now table) (held separators numbers words owners) ⌝ }
     requires { ⌜ (length (now pool) ≡ geometry .parameters .pages * geometry .parameters .places) × (length (now waiting) ≡ geometry .parameters .pages * geometry .parameters .places) ⌝ }
@@ -101,6 +106,7 @@ pub fn plan_entry(
     requires { ⌜ validNumber number ≡ true ⌝ }
     requires { ⌜ Unheld (geometry .parameters) (geometry .growth) (held separators numbers words owners) number ⌝ }
     requires { ⌜ home ≡ homeUnder geometry number ⌝ }
+    requires { ⌜ Known (geometry .parameters) (geometry .growth) (held separators numbers words owners) (now pool) known ⌝ }
     ensures { λ r. ⌜ ((word owner : ℕ) → r ≡ reachAnswer (geometry .parameters) (geometry .growth) (before separators numbers words owners) (newStar number word owner)) ⌝ }
     ensures { λ r. ⌜ Applies (geometry .parameters) (geometry .growth) (before separators numbers words owners) number (now (pool .exit)) (now (planned .exit)) r ⌝ }
 {
@@ -108,6 +114,7 @@ pub fn plan_entry(
     waiting[0] = waiting::pack(home, number, numbers.len() + 1);
     let mut lo = home as usize;
     let mut carried = 1;
+    let mut tested = known;
     loop {
         match plan_block(
             table,
@@ -121,6 +128,7 @@ pub fn plan_entry(
             planned,
             lo,
             carried,
+            tested,
         ) {
             Block::Unsound(page) => return Reach::Unsound(page),
             Block::Crowded => return Reach::Overflows,
@@ -130,6 +138,8 @@ pub fn plan_entry(
                 }
                 lo = last + 1;
                 carried = left;
+                // a planned block's homes are written over
+                tested = pages;
                 if lo == pages {
                     return Reach::Overflows;
                 }

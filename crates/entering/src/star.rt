@@ -1,37 +1,19 @@
 // The entry of a star, whose home page most often takes it alone.
 ghost use mathlib.Core.Path.{_≡_};
 ghost use mathlib.Core.Bool.{true};
-ghost use Prim.Native.Nat.{_+_, _*_, _≤_, _<_};
-ghost use lib.ListN.{length};
-ghost use Rattle.hashing.specs.Limits.{validParameters};
 ghost use Rattle.pages.specs.Page.{part, placeOf};
 ghost use Rattle.pages.specs.Position.{validNumber};
 ghost use Rattle.placement.specs.Hash.{homeUnder, namedPage};
 ghost use Rattle.placement.specs.Lent.{held, before, after};
 ghost use Rattle.placement.specs.Ready.{Ready, Pooled};
-ghost use Rattle.entering.specs.Entry.{Unheld, newStar, takesAlone, entryAnswer, entryFile};
+ghost use Rattle.reach.specs.Known.{Known};
+ghost use Rattle.entering.specs.Entry.{Unheld, newStar, entryAnswer, entryFile};
 use crate::stretch::enter_stretch;
 use hashing::Geometry;
-use hashing::Parameters;
 use planning::Outcome;
 
-// Whether a page takes one more star of its home alone: its separator is 2^k − 1, which ends the reach, and its last place is empty, so that
-// all stay under it.
-fn takes_alone(parameters: Parameters, separators: &[u8], numbers: &[u32], page: usize) -> bool
-    requires { ⌜ validParameters parameters ≡ true ⌝ }
-    requires { ⌜ page < length (now separators) ⌝ }
-    requires { ⌜ page * parameters .places + parameters .places ≤ length (now numbers) ⌝ }
-    ensures { λ r. ⌜ r ≡ takesAlone parameters (now (separators .entry)) (now (numbers .entry)) page ⌝ }
-{
-    let places = parameters.places as usize;
-    if separators[page] != placement::top_of(parameters) {
-        return false;
-    }
-    let last = places - 1;
-    numbers[page * places + last] == 0
-}
-
-// The entry of a number that the file does not hold, sought on its named page at this place. A refusal leaves the file as it was.
+// The entry of a number that the file does not hold, sought on its named page at this place. The known page was tested before.
+// A refusal leaves the file as it was.
 pub fn enter_star(
     table: &[u32; 90],
     geometry: Geometry,
@@ -47,6 +29,7 @@ pub fn enter_star(
     owner: u8,
     home: u32,
     place: u32,
+    known: usize,
 ) -> Outcome
     requires { ⌜ Ready geometry (now table) (held separators numbers words owners) ⌝ }
     requires { ⌜ Pooled (geometry .parameters) (now pool) (now waiting) (now poolowners) ⌝ }
@@ -54,12 +37,13 @@ pub fn enter_star(
     requires { ⌜ Unheld (geometry .parameters) (geometry .growth) (held separators numbers words owners) number ⌝ }
     requires { ⌜ home ≡ homeUnder geometry number ⌝ }
     requires { ⌜ place ≡ placeOf number (part (geometry .parameters .places) (namedPage (geometry .parameters) (geometry .growth) (now separators) number) (now numbers)) ⌝ }
+    requires { ⌜ Known (geometry .parameters) (geometry .growth) (held separators numbers words owners) (now pool) known ⌝ }
     ensures { λ r. ⌜ r ≡ entryAnswer (geometry .parameters) (geometry .growth) (before separators numbers words owners) (newStar number word owner) ⌝ }
     ensures { λ _. ⌜ after separators numbers words owners ≡ entryFile (geometry .parameters) (geometry .growth) (before separators numbers words owners) (newStar number word owner) ⌝ }
 {
     let parameters = geometry.parameters;
     let page = home as usize;
-    if !takes_alone(parameters, separators, numbers, page) {
+    if !shifting::takes_alone(parameters, separators, numbers, page) {
         return enter_stretch(
             table,
             geometry,
@@ -74,6 +58,7 @@ pub fn enter_star(
             word,
             owner,
             home,
+            known,
         );
     }
     let places = parameters.places as usize;

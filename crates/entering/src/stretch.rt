@@ -5,6 +5,7 @@ ghost use Rattle.pages.specs.Position.{validNumber};
 ghost use Rattle.placement.specs.Hash.{homeUnder};
 ghost use Rattle.placement.specs.Lent.{held, before, after};
 ghost use Rattle.placement.specs.Ready.{Ready, Pooled};
+ghost use Rattle.reach.specs.Known.{Known};
 ghost use Rattle.entering.specs.Entry.{Unheld, newStar, entryAnswer, entryFile};
 use crate::blocks::Reach;
 use crate::blocks::plan_entry;
@@ -26,12 +27,14 @@ pub fn enter_stretch(
     word: u64,
     owner: u8,
     home: u32,
+    known: usize,
 ) -> Outcome
     requires { ⌜ Ready geometry (now table) (held separators numbers words owners) ⌝ }
     requires { ⌜ Pooled (geometry .parameters) (now pool) (now waiting) (now poolowners) ⌝ }
     requires { ⌜ validNumber number ≡ true ⌝ }
     requires { ⌜ Unheld (geometry .parameters) (geometry .growth) (held separators numbers words owners) number ⌝ }
     requires { ⌜ home ≡ homeUnder geometry number ⌝ }
+    requires { ⌜ Known (geometry .parameters) (geometry .growth) (held separators numbers words owners) (now pool) known ⌝ }
     ensures { λ r. ⌜ r ≡ entryAnswer (geometry .parameters) (geometry .growth) (before separators numbers words owners) (newStar number word owner) ⌝ }
     ensures { λ _. ⌜ after separators numbers words owners ≡ entryFile (geometry .parameters) (geometry .growth) (before separators numbers words owners) (newStar number word owner) ⌝ }
 {
@@ -50,11 +53,12 @@ pub fn enter_stretch(
         &mut planned,
         number,
         home,
+        known,
     ) {
         Reach::Unsound(page) => Outcome::Unsound(page),
         Reach::Overflows => Outcome::Overflows,
         Reach::Ends(last) => {
-            planning::apply(
+            applying::apply(
                 separators,
                 numbers,
                 words,

@@ -8,11 +8,11 @@ use native.Mathlib.Decide.{decLe, decLt}
 use native.Mathlib.Numerals.{add-one}
 use native.Mathlib.Omega.{arith}
 use lib.Dec.{leb, ltb, eqb}
-use borrow.Author.Tests.{ltb-true, eqb-true, eqb-false, le-leb, lt-ltb, le-ltb, lt-leb, eq-eqb, ne-eqb}
+use borrow.Author.Tests.{leb-false, ltb-true, eqb-true, eqb-false, le-leb, lt-ltb, le-ltb, lt-leb, eq-eqb, ne-eqb}
 use Rattle.hashing.specs.declared.Parameters.{Parameters}
 use Rattle.hashing.specs.declared.Growth.{Growth}
 use Rattle.generator.specs.Generator.{scrambled}
-use Rattle.hashing.specs.Geometry.{sizeAt, countAt, groupSize, groupCount, pageCount, highest, grown, grownBy, ungrown, rank, swept}
+use Rattle.hashing.specs.Geometry.{sizeAt, countAt, groupSize, groupCount, pageCount, highest, grown, grownBy, ungrown, rank, swept, expands}
 use Rattle.hashing.specs.Limits.{validParameters, validGrowth}
 use Rattle.hashing.specs.Home.{rankAt, chosen, expandedAt, movedIf, stepFrom, afterSteps, home}
 use Rattle.generator.proofs.Numbers.{next, Next, sweep-below}
@@ -279,3 +279,29 @@ home-grown a p g k v w =
     go true t′ = inl refl
     go false true = inr refl
     go false false = inl refl
+
+-- a home stays, or leaves a page of the expanded group and becomes the new page
+pub home-moves :
+    (a : ℕ) (p : Parameters) (g : Growth) (k : ℕ) → validParameters p ≡ true → validGrowth p g ≡ true →
+    (home a p g k ≡ home a p (grown p g) k) ⊎ ((expands p g (home a p g k) ≡ true) × (home a p g k < pageCount p g) × (home a p (grown p g) k ≡ pageCount p g))
+unfolding expands pageCount rankAt
+home-moves a p g k v w =
+    rw (home-regrown a p g k (home a p g k) v w refl)
+    (go (leb span h) refl (chosen a p k (g .expansions)) (eqb (rankAt p (g .expansions) h) (g .expanded)) refl)
+  where
+    h : ℕ
+    h = home a p g k
+
+    span : ℕ
+    span = groupSize p g * groupCount p g
+
+    go :
+        (t : Bool) → leb span h ≡ t → (u r : Bool) → eqb (rankAt p (g .expansions) h) (g .expanded) ≡ r →
+        (h ≡ cond t h (cond (u && r) (span + g .expanded) h))
+        ⊎ ((ltb h span && r ≡ true) × (h < span + g .expanded) × (cond t h (cond (u && r) (span + g .expanded) h) ≡ span + g .expanded))
+    go true e u r d = inl refl
+    go false e false r d = inl refl
+    go false e true false d = inl refl
+    go false e true true d =
+        let low : h < span = leb-false span h e in
+        inr (rw (lt-ltb h span low), omega arith, refl)

@@ -1,7 +1,7 @@
 -- Group size, group count and page count: document 01, "The lent buffers"; the growth step: "The cut".
 use mathlib.Core.Bool.{Bool, true, false, _&&_}
 use Prim.Native.Nat.{ℕ, _+_, _-_, _*_, _/_, _%_, _^_, min}
-use lib.Dec.{eqb}
+use lib.Dec.{ltb, eqb}
 use Rattle.hashing.specs.declared.Parameters.{Parameters}
 use Rattle.hashing.specs.declared.Growth.{Growth}
 
@@ -61,3 +61,7 @@ swept step count t = t % step * (count / step) + min (t % step) (count % step) +
 -- the rank of a group among G groups, by backward sweeps of step s
 unfoldable pub rank : ℕ → ℕ → ℕ → ℕ
 rank step count group = swept step count (count - 1 - group)
+
+-- a page of the group that growth expands under (e, x): the group of rank x, whose pages are those below n·G with its number mod G
+unfoldable pub expands : Parameters → Growth → ℕ → Bool
+expands p g q = ltb q (groupSize p g * groupCount p g) && eqb (rank (p .step) (groupCount p g) (q % groupCount p g)) (g .expanded)

@@ -3,11 +3,12 @@ ghost use mathlib.Core.Path.{_≡_};
 ghost use mathlib.Core.Bool.{true};
 ghost use Prim.Native.Nat.{_/_, _<_, _≤_};
 ghost use Rattle.hashing.specs.Geometry.{sizeAt, countAt, groupSize, groupCount, pageCount, highest};
-ghost use Rattle.hashing.specs.Geometry.{grown as Geometry·grown};
+ghost use Rattle.hashing.specs.Geometry.{grown as Geometry·grown, expands as Geometry·expands};
 ghost use Rattle.hashing.specs.Limits.{validParameters, validGrowth};
 use crate::Geometry;
 use crate::Growth;
 use crate::Parameters;
+use crate::ranks::rank;
 
 impl Geometry {
     pub fn group_size(self) -> u32
@@ -71,4 +72,19 @@ pub fn grown(geometry: Geometry) -> Growth
         expansions: geometry.growth.expansions,
         expanded: next,
     }
+}
+
+// Whether it is a page of the group that the next growth expands.
+pub fn expands(geometry: Geometry, page: u32) -> bool
+    requires { ⌜ validParameters (geometry .parameters) ≡ true ⌝ }
+    requires { ⌜ validGrowth (geometry .parameters) (geometry .growth) ≡ true ⌝ }
+    ensures { λ r. ⌜ r ≡ Geometry·expands (geometry .parameters) (geometry .growth) page ⌝ }
+{
+    let count = geometry.group_count();
+    if geometry.group_size() * count <= page {
+        return false;
+    }
+    let step = geometry.parameters.step as u16;
+    let group = (page % count) as u16;
+    rank(step, count as u16, group) as u32 == geometry.growth.expanded
 }

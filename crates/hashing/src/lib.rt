@@ -8,6 +8,7 @@ mod undoing;
 
 pub use address::home;
 pub use address::home_grown;
+pub use groups::expands;
 pub use groups::grown;
 pub use limits::growth_valid;
 pub use limits::parameters_valid;

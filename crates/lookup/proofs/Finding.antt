@@ -6,6 +6,7 @@ use Prim.Native.Nat.{ℕ, _+_, _*_, _≤_, _<_}
 use native.Mathlib.Nat.{zero-add}
 use native.Mathlib.Omega.{arith}
 use lib.ListN.{length, getD, take}
+use lib.Seq.{paste}
 use borrow.Author.Tests.{lt-ltb, le-ltb, leb-true}
 use Rattle.hashing.proofs.Bounds.{both}
 use Rattle.hashing.specs.declared.Parameters.{Parameters}
@@ -20,12 +21,17 @@ use Rattle.pages.proofs.Parts.{page-fits, take-filled, part-length, part-item, 
 use Rattle.pages.proofs.Places.{place-le, held-there}
 use Rattle.placement.specs.Rule.{starWith}
 use Rattle.placement.specs.File.{File, Sized, starsAt}
-use Rattle.placement.specs.Hash.{hashOf, soundAt, namedPage}
+use Rattle.placement.specs.Hash.{hashOf, soundAt, namedPage, homesOf}
+use Rattle.placement.proofs.Items.{paste-front}
 use Rattle.placement.proofs.Standing.{first-le}
 use Rattle.placement.proofs.Search.{held-star}
 use Rattle.placement.proofs.Sound.{sound-facts, sound-proper}
+use Rattle.reach.specs.Known.{Known}
+use Rattle.reach.proofs.Surveyed.{surveyed-known}
 use Rattle.calls.specs.Calls.{named, readable, holds, placeFor, itemOf, ownerFor, mayAlter}
-use Rattle.lookup.specs.Named.{NamedAs}
+use Rattle.guarding.proofs.Admitting.{readable-facts}
+use Rattle.lookup.specs.declared.naming.Named.{Named}
+use Rattle.lookup.specs.Named.{NamedAs, HomedAs}
 
 pub named-most : (p : Parameters) (g : Growth) (f : File) (k : ℕ) → Sized (p .places) (p .pages) f → named p g f k ≤ p .pages
 unfolding namedPage
@@ -45,7 +51,8 @@ unfolding readable
 in-file p g f page t h e = rw (lt-ltb page (p .pages) h, e)
 
 module _ (p : Parameters) (g : Growth) (f : File) (k from page : ℕ) (sized : Sized (p .places) (p .pages) f) (homed : from ≡ home (multiplierOf p) p g k) (is : page ≡ named p g f k) where
-  pub unread-as : readable p g f page ≡ false → NamedAs p g f k (record { home = from; page = page; readable = false; held = false; place = 0; item = 0; word = 0; owner = 0 })
+  pub unread-as : readable p g f page ≡ false
+      → NamedAs p g f k (record { home = from; page = page; readable = false; held = false; place = 0; item = 0; word = 0; owner = 0 })
   unread-as e =
       record {
         homeIs = homed;
@@ -156,3 +163,17 @@ word-valid p g f page k sized inside some sound held =
     let proper = sound-proper validWord (hashOf p g) f page (sound-facts validWord (hashOf p g) f page sound) (starWith k (getD ws (placeOf k ns) 0) (getD os (placeOf k ns) 0))
     (held-star ns ws os k (ln ∙ sym (long (f .words) (sized .ofWords)), ln ∙ sym (long (f .owners) (sized .ofOwners))) some held) .2 in
     ap validWord (sym (part-item (p .places) page (f .words) (placeOf k ns) (rw ln at there))) ∙ proper
+
+-- what is kept of a page that is read
+module _ (p : Parameters) (g : Growth) (f : File) (k : ℕ) (r : Named) (is : NamedAs p g f k r) (opened : r .readable ≡ true) where
+  facts : (r .page < p .pages) × (soundAt p g f (r .page) ≡ true)
+  facts = readable-facts p g f (r .page) (ap (readable p g f) (is .pageIs) ∙ (sym (is .readableIs) ∙ opened))
+
+  pub named-inside : r .page < p .pages
+  named-inside = facts .0
+
+  pub named-known : (homes pool after : List ℕ) → HomedAs p g f r homes → Sized (p .places) (p .pages) f → length pool ≡ p .pages * p .places
+      → after ≡ paste pool (r .page * p .places) homes (p .places) → Known p g f after (r .page)
+  named-known homes pool after there sized long h =
+      surveyed-known p g f pool after (r .page) sized long (facts .1)
+      (h ∙ paste-front pool homes (homesOf p g (part (p .places) (r .page) (f .numbers))) (r .page * p .places) (p .places) (there .homed opened))

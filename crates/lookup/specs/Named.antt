@@ -1,14 +1,17 @@
 -- What the internal search for a number's page and place finds.
 use mathlib.Core.Path.{_≡_}
 use mathlib.Core.Bool.{true}
+use mathlib.Core.List.{List}
 use Prim.Native.Nat.{ℕ, _*_, _≤_, _<_}
-use lib.ListN.{getD}
+use lib.ListN.{length, getD, take}
 use Rattle.hashing.specs.declared.Parameters.{Parameters}
 use Rattle.hashing.specs.declared.Growth.{Growth}
 use Rattle.hashing.specs.Geometry.{multiplierOf}
 use Rattle.hashing.specs.Home.{home}
+use Rattle.pages.specs.Page.{part}
 use Rattle.pages.specs.Position.{validWord}
 use Rattle.placement.specs.File.{File}
+use Rattle.placement.specs.Hash.{homesOf}
 use Rattle.calls.specs.Calls.{named, readable, holds, placeFor, itemOf, ownerFor}
 use Rattle.lookup.specs.declared.naming.Named.{Named}
 
@@ -24,3 +27,8 @@ pub record NamedAs (p : Parameters) (g : Growth) (f : File) (k : ℕ) (r : Named
   pub ownerIs : r .held ≡ true → r .owner ≡ ownerFor p f (named p g f k) k
   pub itemBelow : r .held ≡ true → r .item < p .pages * p .places
   pub wordValid : r .held ≡ true → validWord (r .word) ≡ true
+
+-- The homes of the page's stars, where it is read.
+pub record HomedAs (p : Parameters) (g : Growth) (f : File) (r : Named) (homes : List ℕ) : Type 0 where
+  pub long : length homes ≡ 32
+  pub homed : r .readable ≡ true → take (p .places) homes ≡ homesOf p g (part (p .places) (r .page) (f .numbers))

@@ -6,6 +6,6 @@ mod rewriting;
 
 pub use naming::Named;
 pub use naming::find;
-pub use naming::may_alter;
+pub use naming::find_kept;
 pub use reading::look_up;
 pub use rewriting::change;

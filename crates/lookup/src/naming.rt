@@ -1,11 +1,13 @@
 // The page that the separators name for a number, and what it holds of it.
 ghost use mathlib.Core.Path.{_≡_};
 ghost use mathlib.Core.Bool.{true, false};
+ghost use Prim.Native.Nat.{_*_};
+ghost use lib.ListN.{length};
 ghost use Rattle.pages.specs.Position.{validNumber};
 ghost use Rattle.placement.specs.Lent.{held, before};
 ghost use Rattle.placement.specs.Ready.{Ready};
-ghost use Rattle.calls.specs.Calls.{mayAlter};
-ghost use Rattle.lookup.specs.Named.{NamedAs};
+ghost use Rattle.reach.specs.Known.{Known};
+ghost use Rattle.lookup.specs.Named.{NamedAs, HomedAs};
 use hashing::Geometry;
 
 pub struct Named {
@@ -22,7 +24,8 @@ pub struct Named {
     pub owner: u8,
 }
 
-// Reads the separators and one page, copied as a value before it is searched.
+// Reads the separators and one page, copied as a value before it is searched. If the page is readable, `homes` has its stars' homes, 0 for
+// an empty place. Callers make the geometry before the table: a copy that directly follows its stores waits for them.
 pub fn find(
     table: &[u32; 90],
     geometry: Geometry,
@@ -31,10 +34,13 @@ pub fn find(
     words: &[u64],
     owners: &[u8],
     number: u32,
+    homes: &mut [u32; 32],
 ) -> Named
     requires { ⌜ Ready geometry (now table) (held separators numbers words owners) ⌝ }
     requires { ⌜ validNumber number ≡ true ⌝ }
+    requires { ⌜ length (now homes) ≡ 32 ⌝ }
     ensures { λ r. ⌜ NamedAs (geometry .parameters) (geometry .growth) (before separators numbers words owners) number r ⌝ }
+    ensures { λ r. ⌜ HomedAs (geometry .parameters) (geometry .growth) (before separators numbers words owners) r (now (homes .exit)) ⌝ }
 {
     let places = geometry.parameters.places as usize;
     let home = hashing::home(table, geometry, number);
@@ -43,10 +49,19 @@ pub fn find(
         return unread(home, page);
     }
     let value = pages::page::load(numbers, words, owners, places, page);
-    if !placement::page_sound(table, geometry, separators, value, page).sound {
+    if !placement::page_sound(
+        table,
+        geometry,
+        separators,
+        &value.numbers,
+        &value.words,
+        &value.owners,
+        page,
+        homes,
+    ) {
         return unread(home, page);
     }
-    let found = pages::page::search(value, places, number);
+    let found = pages::page::search(&value.numbers, places, number);
     let at = found.at;
     let place = at as u32;
     if !found.held {
@@ -73,6 +88,43 @@ pub fn find(
     }
 }
 
+// The same for a call that has a pool, which keeps the homes of a readable page, so that a survey need not test it again.
+pub fn find_kept(
+    table: &[u32; 90],
+    geometry: Geometry,
+    separators: &[u8],
+    numbers: &[u32],
+    words: &[u64],
+    owners: &[u8],
+    pool: &mut [u32],
+    number: u32,
+) -> Named
+    requires { ⌜ Ready geometry (now table) (held separators numbers words owners) ⌝ }
+    requires { ⌜ length (now pool) ≡ geometry .parameters .pages * geometry .parameters .places ⌝ }
+    requires { ⌜ validNumber number ≡ true ⌝ }
+    ensures { λ r. ⌜ NamedAs (geometry .parameters) (geometry .growth) (before separators numbers words owners) number r ⌝ }
+    ensures { λ r. ⌜ (r .readable ≡ true → Known (geometry .parameters) (geometry .growth) (before separators numbers words owners) (now (pool .exit)) (r .page)) ⌝ }
+{
+    let mut homes = [0u32; 32];
+    let named = find(
+        table,
+        geometry,
+        separators,
+        numbers,
+        words,
+        owners,
+        number,
+        &mut homes,
+    );
+    if !named.readable {
+        return named;
+    }
+    let places = geometry.parameters.places as usize;
+    let page = named.page;
+    buffers::copy_32(pool, page * places, &homes, 0, places);
+    named
+}
+
 fn unread(home: u32, page: usize) -> Named
     ensures { λ r. ⌜ r ≡ record { home = home; page = page; readable = false; held = false; place = 0; item = 0; word = 0; owner = 0 } ⌝ }
 {
@@ -86,14 +138,4 @@ fn unread(home: u32, page: usize) -> Named
         word: 0,
         owner: 0,
     }
-}
-
-// Who may change or remove a held star: the institute, or its owner.
-pub fn may_alter(caller: u8, owner: u8) -> bool
-    ensures { λ r. ⌜ r ≡ mayAlter caller owner ⌝ }
-{
-    if caller == 0 {
-        return true;
-    }
-    caller == owner
 }

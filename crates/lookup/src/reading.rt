@@ -38,15 +38,18 @@ pub fn look_up(
     if !pages::position::number_valid(number) {
         return Found::Refused(Refusal::BadNumber, 0);
     }
+    let geometry = Geometry { parameters, growth };
     let table = generator::first_multipliers(parameters.multiplier);
+    let mut homes = [0u32; 32];
     let named = find(
         &table,
-        Geometry { parameters, growth },
+        geometry,
         separators,
         numbers,
         words,
         owners,
         number,
+        &mut homes,
     );
     let page = named.page as u32;
     if !named.readable {

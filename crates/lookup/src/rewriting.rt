@@ -4,12 +4,12 @@ ghost use Rattle.placement.specs.Lent.{held, before};
 ghost use Rattle.calls.specs.Answers.{Leaves, unpooled, placed};
 ghost use Rattle.calls.specs.Calls.{changeOf};
 use crate::naming::find;
-use crate::naming::may_alter;
 use calls::answers::Admission;
 use calls::answers::Placed;
 use calls::answers::Refusal;
 use guarding::file_fits;
 use guarding::guard;
+use guarding::may_alter;
 use hashing::Geometry;
 use hashing::Growth;
 use hashing::Parameters;
@@ -46,15 +46,18 @@ pub fn change(
     if !pages::position::position_valid(position) {
         return Placed::Refused(Refusal::BadPosition, 0);
     }
+    let geometry = Geometry { parameters, growth };
     let table = generator::first_multipliers(parameters.multiplier);
+    let mut homes = [0u32; 32];
     let named = find(
         &table,
-        Geometry { parameters, growth },
+        geometry,
         separators,
         numbers,
         words,
         owners,
         number,
+        &mut homes,
     );
     let page = named.page as u32;
     if !named.readable {

@@ -1,4 +1,4 @@
-// A page as one value of 32 places, copied from the lent lists, and the search of one.
+// A page as one value of 32 places, copied from the lent lists, and the search of its numbers.
 ghost use mathlib.Core.Path.{_≡_};
 ghost use Prim.Native.Nat.{_+_, _*_, _≤_};
 ghost use lib.ListN.{length, take};
@@ -40,13 +40,13 @@ pub fn load(numbers: &[u32], words: &[u64], owners: &[u8], places: usize, page: 
     value
 }
 
-pub fn search(value: Page, places: usize, number: u32) -> Place
-    requires { ⌜ places ≤ 32 ⌝ }
-    ensures { λ r. ⌜ r ≡ placeIn number (take places (value .numbers)) ⌝ }
+pub fn search(numbers: &[u32; 32], places: usize, number: u32) -> Place
+    requires { ⌜ (places ≤ 32) × (length (now numbers) ≡ 32) ⌝ }
+    ensures { λ r. ⌜ r ≡ placeIn number (take places (now (numbers .entry))) ⌝ }
 {
     let mut i = 0;
     while i < places {
-        let there = value.numbers[i];
+        let there = numbers[i];
         if there == 0 || number <= there {
             return Place {
                 at: i,

@@ -1,5 +1,5 @@
 -- A page is sound exactly if each of its items is, after the one before.
-use mathlib.Core.Path.{_≡_, refl, sym, _∙_}
+use mathlib.Core.Path.{_≡_, refl, sym, ap, _∙_}
 use mathlib.Core.Bool.{Bool, true, false, not, cond, _&&_, true≢false, false≢true}
 use mathlib.Core.List.{List, [], _∷_, map, map-append}
 use Prim.Native.Nat.{ℕ, zero, suc, _+_, _-_, _*_, _≤_, _<_}
@@ -7,7 +7,7 @@ use native.Mathlib.Nat.{le-refl}
 use native.Mathlib.Numerals.{add-one}
 use native.Mathlib.Omega.{arith}
 use lib.Dec.{leb, ltb, eqb}
-use lib.ListN.{length, getD, take, drop, set, replicate, length-set, drop-of-length-le}
+use lib.ListN.{length, getD, take, drop, set, length-map, length-set, length-take, drop-of-length-le}
 use lib.Seq.{drop-cons, length-take-le, getD-take, take-suc, take-suc-set, take-take, paste}
 use borrow.Author.Tests.{eq-eqb, ne-eqb}
 use Rattle.hashing.specs.declared.Parameters.{Parameters}
@@ -28,6 +28,9 @@ map-at : (f : ℕ → ℕ) (l : List ℕ) (i : ℕ) → i < length l → getD (m
 map-at f [] i h = absurd (omega arith)
 map-at f (x ∷ l) zero h = refl
 map-at f (x ∷ l) (suc i) h = map-at f l i (omega arith)
+
+pub found-count : (f : ℕ → ℕ) (ns hs : List ℕ) (n : ℕ) → n ≤ length ns → take n hs ≡ map f (take n ns) → n ≤ length hs
+found-count f ns hs n h e = omega (arith, ap length e, length-map (take n ns) f, length-take-le n ns h, length-take n hs)
 
 pub item-at : (f : ℕ → ℕ) (ns hs : List ℕ) (n i : ℕ) → n ≤ length ns → i < n → take n hs ≡ map f (take n ns) → getD hs i 0 ≡ f (getD ns i 0)
 item-at f ns hs n i h b e =
@@ -102,9 +105,10 @@ module _ (p : Parameters) (g : Growth) (seps : List ℕ) (page : ℕ) where
     pub is : admits p g seps page 0 (take places ns) (take places ws) (take places os) ≡ admits p g seps page last (drop i (take places ns)) (drop i (take places ws)) (drop i (take places os))
     pub homed : take i homes ≡ homesOf p g (take i ns)
 
-  pub surveyed-none : (ns ws os : List ℕ) (places : ℕ) → places ≤ length ns → places ≤ length ws → places ≤ length os → Surveyed ns ws os places 0 0 (replicate 32 0)
+  pub surveyed-none : (ns ws os : List ℕ) (places : ℕ) (homes : List ℕ) → places ≤ length ns → places ≤ length ws → places ≤ length os → length homes ≡ 32
+      → Surveyed ns ws os places 0 0 homes
   unfolding homesOf
-  surveyed-none ns ws os places n w o = record { numbered = n; worded = w; owned = o; long = refl; is = refl; homed = refl }
+  surveyed-none ns ws os places homes n w o h = record { numbered = n; worded = w; owned = o; long = h; is = refl; homed = refl }
 
   module _ {ns ws os : List ℕ} {places i last : ℕ} {homes : List ℕ} (done : Surveyed ns ws os places i last homes) where
     -- the next item decides, or is admitted too

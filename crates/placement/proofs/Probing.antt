@@ -10,7 +10,7 @@ use native.Mathlib.Omega.{arith}
 use lib.Dec.{eqb, ltb}
 use lib.ListN.{length, getD, take, drop}
 use lib.Seq.{drop-cons, drop-length, take-length, length-take-le, getD-take}
-use borrow.Author.Tests.{ne-eqb, le-leb, lt-ltb}
+use borrow.Author.Tests.{eq-eqb, ne-eqb, le-leb, lt-ltb}
 use Rattle.hashing.specs.declared.Parameters.{Parameters}
 use Rattle.hashing.specs.declared.Growth.{Growth}
 use Rattle.generator.specs.Generator.{signature, topOf}
@@ -112,6 +112,14 @@ unfolding below hashOf
 below-top p g k page v ok h t =
     let low = signature-below (multiplierOf p) (p .bits) k (page - home (multiplierOf p) p g k + 1) (limits p ok .bits-least) in
     rw (le-leb (home (multiplierOf p) p g k) page h, lt-ltb (signature (multiplierOf p) (p .bits) k (page - home (multiplierOf p) p g k + 1)) v (omega (arith, low, t)))
+
+-- from home to home no page is probed
+pub none-probed : (p : Parameters) (seps : List ℕ) (k h page : ℕ) → h ≡ page → page ≤ length seps → eqb (first (hashFrom p h) 0 (take page seps) k) page ≡ true
+unfolding hashFrom
+none-probed p seps k h page e i =
+    let long = length-take-le page seps i in
+    let here = probed-none (hashFrom p h) (take page seps) k page (omega (arith, long)) (omega arith) in
+    eq-eqb (first (hashFrom p h) 0 (take page seps) k) page (sym (probed-all (hashFrom p h) (take page seps) k page (sym long) here))
 
 -- What a probe of a number from its home finds: of all pages the named one, of those up to a page whether that is named.
 module _ (p : Parameters) (g : Growth) (seps : List ℕ) (k h : ℕ) (at-home : h ≡ home (multiplierOf p) p g k) where

@@ -1,25 +1,21 @@
 -- The soundness of a page by its items, as it is tested: each item after the one before.
 use mathlib.Core.Path.{_≡_}
 use mathlib.Core.Bool.{Bool, true, cond, _&&_}
-use mathlib.Core.List.{List, map}
+use mathlib.Core.List.{List}
 use Prim.Native.Nat.{ℕ, _*_}
 use lib.Dec.{leb, ltb, eqb}
-use lib.ListN.{getD, take}
+use lib.ListN.{length, getD, take}
 use lib.Seq.{paste}
 use Rattle.hashing.specs.declared.Parameters.{Parameters}
 use Rattle.hashing.specs.declared.Growth.{Growth}
 use Rattle.hashing.specs.declared.Geometry.{Geometry}
 use Rattle.generator.specs.Generator.{topOf}
-use Rattle.hashing.specs.Geometry.{multiplierOf}
-use Rattle.hashing.specs.Home.{home}
-use Rattle.pages.specs.declared.page.Page.{Page}
 use Rattle.pages.specs.Page.{part}
 use Rattle.pages.specs.Position.{validWord}
 use Rattle.placement.specs.Rule.{Star}
 use Rattle.placement.specs.File.{starsOf, greatest, orderly, every}
 use Rattle.placement.specs.Hash.{namedPage, homeIn, homesOf}
 use Rattle.placement.specs.declared.soundness.Item.{Item}
-use Rattle.placement.specs.declared.soundness.Soundness.{Soundness}
 
 -- The items after the number `last` are in order, and each star stands on this page.
 unfoldable pub admits : Parameters → Growth → List ℕ → ℕ → ℕ → List ℕ → List ℕ → List ℕ → Bool
@@ -41,22 +37,17 @@ admitsItem p g seps page last n w o =
 abbrev pub lastAfter : ℕ → ℕ
 lastAfter n = cond (eqb n 0) greatest n
 
--- The homes of the numbers in a page's places, of empty ones too.
-abbrev pub Homes : Geometry → List ℕ → List ℕ → Type 0
-Homes g ns hs = take (g .parameters .places) hs ≡ map (home (multiplierOf (g .parameters)) (g .parameters) (g .growth)) (take (g .parameters .places) ns)
-
 -- What is told of an item.
 pub record TestedItem (p : Parameters) (g : Growth) (seps : List ℕ) (page low n w o : ℕ) (r : Item) : Type 0 where
   pub sound : r .sound ≡ admitsItem p g seps page low n w o
   pub home : r .sound ≡ true → r .home ≡ homeIn p g n
   pub last : r .sound ≡ true → r .last ≡ lastAfter n
 
--- What is told of a page, by the value of its places.
-pub record Tested (g : Geometry) (seps : List ℕ) (page : ℕ) (value : Page) (r : Soundness) : Type 0 where
-  pub sound : r .sound ≡ soundIn (g .parameters) (g .growth) seps page (take (g .parameters .places) (value .numbers)) (take (g .parameters .places) (value .words)) (take (g .parameters .places) (value .owners))
-  pub homes :
-      r .sound ≡ true
-      → take (g .parameters .places) (r .homes) ≡ homesOf (g .parameters) (g .growth) (take (g .parameters .places) (value .numbers))
+-- What is told of a page, by the values of its places.
+pub record Tested (g : Geometry) (seps : List ℕ) (page : ℕ) (ns ws os homes : List ℕ) (r : Bool) : Type 0 where
+  pub sound : r ≡ soundIn (g .parameters) (g .growth) seps page (take (g .parameters .places) ns) (take (g .parameters .places) ws) (take (g .parameters .places) os)
+  pub long : length homes ≡ 32
+  pub homed : r ≡ true → take (g .parameters .places) homes ≡ homesOf (g .parameters) (g .growth) (take (g .parameters .places) ns)
 
 -- The list hs with the homes of a page's numbers at its items.
 abbrev pub surveyed : Geometry → ℕ → List ℕ → List ℕ → List ℕ

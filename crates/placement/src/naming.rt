@@ -70,6 +70,26 @@ fn probe(
     page
 }
 
+// Whether the number, from its home, stays on no page below this one.
+fn passes(
+    table: &[u32; 90],
+    parameters: Parameters,
+    separators: &[u8],
+    number: u32,
+    home: usize,
+    page: usize,
+) -> bool
+    requires { ⌜ (now table ≡ firstMultipliers (multiplierOf parameters)) × (validParameters parameters ≡ true) ⌝ }
+    requires { ⌜ (home ≤ page) × (page ≤ 1024) ⌝ }
+    requires { ⌜ page ≤ length (now separators) ⌝ }
+    ensures { λ r. ⌜ r ≡ eqb (first (hashFrom parameters home) 0 (take page (now (separators .entry))) number) page ⌝ }
+{
+    if home == page {
+        return true;
+    }
+    probe(table, parameters, separators, number, home, page) == page
+}
+
 // Whether the page is the one that the separators name, by the number's home: no page above it is probed, and not the page itself
 // where every signature is below its separator.
 pub fn stands_on(
@@ -91,7 +111,7 @@ pub fn stands_on(
         return false;
     }
     if top_of(parameters) <= separators[page] {
-        return probe(table, parameters, separators, number, home, page) == page;
+        return passes(table, parameters, separators, number, home, page);
     }
     probe(table, parameters, separators, number, home, page + 1) == page
 }

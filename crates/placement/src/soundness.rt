@@ -4,58 +4,53 @@ ghost use mathlib.Core.Bool.{true, _&&_};
 ghost use Prim.Native.Nat.{_+_, _*_, _<_};
 ghost use lib.Dec.{eqb, leb, ltb};
 ghost use lib.ListN.{length};
-ghost use Rattle.generator.specs.Generator.{firstMultipliers, topOf};
+ghost use Rattle.generator.specs.Generator.{topOf};
 ghost use Rattle.hashing.specs.Geometry.{multiplierOf};
 ghost use Rattle.hashing.specs.Home.{home as Home·home};
-ghost use Rattle.hashing.specs.Limits.{validParameters, validGrowth};
+ghost use Rattle.hashing.specs.Limits.{validParameters};
 ghost use Rattle.pages.specs.Position.{validWord};
 ghost use Rattle.placement.specs.File.{greatest};
 ghost use Rattle.placement.specs.Hash.{soundAt};
 ghost use Rattle.placement.specs.Lent.{held, before};
 ghost use Rattle.placement.specs.Ready.{Homing, Ready};
-ghost use Rattle.placement.specs.Survey.{Homes, TestedItem, Tested, surveyed};
+ghost use Rattle.placement.specs.Survey.{TestedItem, Tested, surveyed};
 use crate::naming::stands_on;
 use hashing::Geometry;
 use hashing::Parameters;
-use pages::page::Page;
 
 const LAST_NUMBER: u32 = 2147483646;
 
-// Whether a page is sound, and if so its stars' homes, 0 for an empty place.
-pub struct Soundness {
-    pub sound: bool,
-    pub homes: [u32; 32],
-}
-
-// The same of one item, with the number that the next one must exceed.
+// Whether an item is sound, and if so its star's home, 0 for an empty place, and the number that the next one must exceed.
 pub struct Item {
     pub sound: bool,
     pub home: u32,
     pub last: u32,
 }
 
-// The value is that of the page as loaded.
-pub fn page_sound(
+// Whether a page is sound, by the value of its places as loaded; if so, `homes` has its stars' homes, 0 for an empty place.
+pub fn page_sound<'a>(
     table: &[u32; 90],
     geometry: Geometry,
     separators: &[u8],
-    value: Page,
+    numbers: &'a [u32; 32],
+    words: &'a [u64; 32],
+    owners: &'a [u8; 32],
     page: usize,
-) -> Soundness
+    homes: &mut [u32; 32],
+) -> bool
     requires { ⌜ Homing geometry (now table) ⌝ }
     requires { ⌜ length (now separators) ≡ geometry .parameters .pages ⌝ }
     requires { ⌜ page < geometry .parameters .pages ⌝ }
-    ensures { λ r. ⌜ Tested geometry (now (separators .entry)) page value r ⌝ }
+    requires { ⌜ (length (now numbers) ≡ 32) × ((length (now words) ≡ 32) × (length (now owners) ≡ 32)) ⌝ }
+    requires { ⌜ length (now homes) ≡ 32 ⌝ }
+    ensures { λ r. ⌜ Tested geometry (now (separators .entry)) page (now (numbers .entry)) (now (words .entry)) (now (owners .entry)) (now (homes .exit)) r ⌝ }
 {
     let places = geometry.parameters.places as usize;
-    let mut homes = [0u32; 32];
     if top_of(geometry.parameters) < separators[page] {
-        return Soundness {
-            sound: false,
-            homes,
-        };
+        return false;
     }
-    let found = homes_of(table, geometry, value);
+    let mut found = [0u16; 32];
+    homes::of_page(table, geometry, numbers, places, &mut found);
     let mut last: u32 = 0;
     let mut i = 0;
     while i < places {
@@ -65,36 +60,19 @@ pub fn page_sound(
             separators,
             page,
             last,
-            value.numbers[i],
-            value.words[i],
-            value.owners[i],
+            numbers[i],
+            words[i],
+            owners[i],
             found[i],
         );
         if !item.sound {
-            return Soundness {
-                sound: false,
-                homes,
-            };
+            return false;
         }
         homes[i] = item.home;
         last = item.last;
         i += 1;
     }
-    Soundness { sound: true, homes }
-}
-
-// The homes of the page's numbers.
-fn homes_of(table: &[u32; 90], geometry: Geometry, value: Page) -> [u16; 32]
-    requires { ⌜ now table ≡ firstMultipliers (multiplierOf (geometry .parameters)) ⌝ }
-    requires { ⌜ validParameters (geometry .parameters) ≡ true ⌝ }
-    requires { ⌜ validGrowth (geometry .parameters) (geometry .growth) ≡ true ⌝ }
-    ensures { λ r. ⌜ Homes geometry (value .numbers) r ⌝ }
-{
-    let numbers = value.numbers;
-    let places = geometry.parameters.places as usize;
-    let mut pages = [0u16; 32];
-    homes::of_page(table, geometry, &numbers, places, &mut pages);
-    pages
+    true
 }
 
 // 2^k − 1, the greatest separator.
@@ -184,11 +162,19 @@ pub fn survey(
 {
     let places = geometry.parameters.places as usize;
     let value = pages::page::load(numbers, words, owners, places, page);
-    let found = page_sound(table, geometry, separators, value, page);
-    if !found.sound {
+    let mut found = [0u32; 32];
+    if !page_sound(
+        table,
+        geometry,
+        separators,
+        &value.numbers,
+        &value.words,
+        &value.owners,
+        page,
+        &mut found,
+    ) {
         return false;
     }
-    let values = found.homes;
-    buffers::copy_32(homes, page * places, &values, 0, places);
+    buffers::copy_32(homes, page * places, &found, 0, places);
     true
 }

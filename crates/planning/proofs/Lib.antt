@@ -1,4 +1,3 @@
-pub mod Copies
 pub mod Pouring
 pub mod RuleOverWords
 pub mod Applying

@@ -172,7 +172,7 @@ pub record Layout (q : Parameters) (lo n : ℕ) (w l pool planned W : List ℕ) 
   pub passed : take r W ≡ remains q lo 0 n w l
   pub counted : r ≡ length (remains q lo 0 n w l)
 
-length-sources : (q : Parameters) (lo n : ℕ) (w l : List ℕ) → length (column (q .places) (λ (s : Star). s .payload .word) (plans q lo 0 n w l)) ≡ n * q .places
+pub length-sources : (q : Parameters) (lo n : ℕ) (w l : List ℕ) → length (column (q .places) (λ (s : Star). s .payload .word) (plans q lo 0 n w l)) ≡ n * q .places
 length-sources q lo n w l =
     length-column (q .places) (λ (s : Star). s .payload .word) (plans q lo 0 n w l) (plans-roomy q lo 0 n w l)
     ∙ ap (λ (m : ℕ). m * q .places) (length-plans q lo 0 n w l)

@@ -1,16 +1,12 @@
--- What a planned source names. Assumes nothing.
+-- Planned stars and the words that wait, with what their sources name. Assumes nothing.
 use mathlib.Core.Bool.{Bool}
-use mathlib.Core.List.{List, _∷_}
+use mathlib.Core.List.{List}
 use Prim.Native.Nat.{ℕ}
 use lib.Dec.{eqb}
-use lib.ListN.{getD}
+unfoldable pub use Rattle.applying.specs.Sources.{namedItem}
 use Rattle.placement.specs.Rule.{Star, starWith}
 use Rattle.waiting.specs.Lists.{all}
 use Rattle.waiting.specs.Words.{numberIn, sourceOf}
-
--- a source is an item plus 1, and 0 for an empty place; past the items it is the new star of an entry
-unfoldable pub namedItem : List ℕ → ℕ → ℕ → ℕ
-namedItem l new source = getD (0 ∷ l) source new
 
 -- a planned star with the position word and the owner that its source names
 unfoldable pub renamed : List ℕ → List ℕ → ℕ → ℕ → Star → Star

@@ -4,11 +4,11 @@ use mathlib.Core.Bool.{Bool, true, false, not, Bool·not-not}
 use mathlib.Core.List.{List, [], _∷_, _++_, List·Memᴰ, List·Memᴰ·cases-cons, List·Memᴰ·not-nil}
 use mathlib.Core.Logic.{⊎-elim}
 use Prim.Native.Nat.{ℕ, zero, suc, _+_, _-_, _≤_, _<_, zero-le}
-use native.Mathlib.Nat.{zero-add, le-refl, le-trans, le-antisymm}
+use native.Mathlib.Nat.{zero-add, add-zero, suc-add, add-suc, le-refl, le-trans, le-antisymm}
 use native.Mathlib.Omega.{arith}
 use lib.Dec.{eqb}
-use lib.ListN.{length, drop, getD}
-use lib.Seq.{drop-drop}
+use lib.ListN.{length, take, drop, getD}
+use lib.Seq.{drop-drop, take-at, drop-at}
 use borrow.Author.Tests.{eqb-false}
 use Rattle.buffers.specs.Lists.{written}
 use Rattle.buffers.proofs.Tests.{not-mono}
@@ -22,7 +22,7 @@ use Rattle.placement.proofs.Order.{Sorted, Rising, Absent, rising-sorted, risin
 use Rattle.placement.proofs.Collecting.{rising-left, sorted-left}
 use Rattle.placement.proofs.Writing.{Roomy}
 use Rattle.placement.proofs.Pages.{Proper, Numbered}
-use Rattle.placement.proofs.Files.{AllNumbered, pagesAt-laid, sized-laid, replaced-of, roomy-pages}
+use Rattle.placement.proofs.Files.{AllNumbered, length-pagesAt, pagesAt-laid, sized-laid, replaced-of, roomy-pages}
 use Rattle.reach.specs.Cascade.{meeting, lowered, pushedTo, pushedOn, cascaded, carriedPast}
 
 -- "not above the stored one": the separator of a rule whose top is that one
@@ -224,42 +224,63 @@ cascades H f p (suc n) w (s ∷ a) r o e =
     let rest = cascades H f (suc p) n (onward H p w) (pushedOn H f p (s ∷ a)) (rising-onward H p w r) (sorted-on H f p (s ∷ a) o) (cc) in
     rw (visited H p w (s ∷ a) r o f said, carries H p w (s ∷ a) r o f said, rest .0) (refl, rest .1)
 
-module _ (ok : ℕ → Bool) (H : Hash) (M : ℕ) (t : List Star) (s : Star) (rising : Rising 0 t) (proper : Proper ok t) (absent : Absent (s .number) t) where
-  abbrev F : File
-  F = laid (H .room) H M t
+-- What the file says of pages after others.
+pub pagesAt-add : (b : ℕ) (f : File) (p n m : ℕ) → pagesAt b f p (n + m) ≡ pagesAt b f p n ++ pagesAt b f (p + n) m
+unfolding pagesAt
+pagesAt-add b f p zero m = rw (zero-add m, add-zero p)
+pagesAt-add b f p (suc n) m = rw (suc-add n m, add-suc p n) (ap (λ (l : List Contents). contentsAt b f p ∷ l) (rw (suc-add p n) at (pagesAt-add b f (suc p) n m)))
 
-  said-pages : (p n : ℕ) → p + n ≤ M → pagesAt (H .room) F p n ≡ pages H p n (left H 0 p t)
-  said-pages p n h = pagesAt-laid ok H M t proper p n h ∙ middle-pages H p n M t h
-
-  poured-in : insert s t ≡ pour t (s ∷ [])
+-- A star that is new to w, whose rule's pages the file says. It is below no separator of the first q pages from `from`, and the cascade runs over the m after them.
+module _ (H : Hash) (f : File) (from q m : ℕ) (w : List Star) (s : Star) (rising : Rising 0 w) (absent : Absent (s .number) w)
+    (said : pagesAt (H .room) f from (q + m) ≡ pages H from (q + m) w)
+    (above : (i : ℕ) → from ≤ i → i < from + q → below H i (getD (f .separators) i 0) (s .number) ≡ false) where
+  poured-in : insert s w ≡ pour w (s ∷ [])
   unfolding insert
-  poured-in = sym (pour-insert t s [] absent ∙ ap (insert s) (pour-nil 0 t (rising-sorted 0 t rising)))
+  poured-in = sym (pour-insert w s [] absent ∙ ap (insert s) (pour-nil 0 w (rising-sorted 0 w rising)))
 
   alone : Sorted 0 (s ∷ [])
   alone = (omega arith, tt)
 
-  -- It is below no separator of the first q pages, and the cascade runs over the m after them.
-  module _ (q m : ℕ) (all : q + m ≡ M) (above : (i : ℕ) → i < q → below H i (getD (F .separators) i 0) (s .number) ≡ false) where
-    before : (pages H 0 q (pour t (s ∷ [])) ≡ pages H 0 q t) × (left H 0 q (pour t (s ∷ [])) ≡ pour (left H 0 q t) (s ∷ []))
-    unfolding left staying filter
-    before = unreached H F 0 q t (s ∷ []) rising alone (said-pages 0 q (omega arith)) (λ i g h. rw (above i (omega arith)))
+  pub said-before : pagesAt (H .room) f from q ≡ pages H from q w
+  said-before =
+      sym (take-at (pagesAt (H .room) f from q) (pagesAt (H .room) f (from + q) m) q (length-pagesAt (H .room) f from q))
+      ∙ ap (take q) (sym (pagesAt-add (H .room) f from q m) ∙ said)
+      ∙ take-pages H from q m w
 
-    after : (pages H q m (pour (left H 0 q t) (s ∷ [])) ≡ cascaded H F q m (s ∷ []) ++ drop (length (cascaded H F q m (s ∷ []))) (pages H q m (left H 0 q t)))
-        × (left H q m (pour (left H 0 q t) (s ∷ [])) ≡ pour (left H q m (left H 0 q t)) (carriedPast H F q m (s ∷ [])))
-    after = cascades H F q m (left H 0 q t) (s ∷ []) (rising-left H 0 q 0 t rising) alone (said-pages q m (omega arith))
+  pub said-after : pagesAt (H .room) f (from + q) m ≡ pages H (from + q) m (left H from q w)
+  said-after =
+      sym (drop-at (pagesAt (H .room) f from q) (pagesAt (H .room) f (from + q) m) q (length-pagesAt (H .room) f from q))
+      ∙ ap (drop q) (sym (pagesAt-add (H .room) f from q m) ∙ said)
+      ∙ drop-pages H from q m w
 
-    new-pages : pages H 0 (q + m) (insert s t) ≡ written q (cascaded H F q m (s ∷ [])) (pages H 0 (q + m) t)
-    unfolding written
-    new-pages =
-        ap (pages H 0 (q + m)) poured-in
-        ∙ pages-add H 0 q m (pour t (s ∷ []))
-        ∙ rw (before .0, before .1, zero-add q, after .0, take-pages H 0 q m t, ← drop-drop (length (cascaded H F q m (s ∷ []))) q (pages H 0 (q + m) t), drop-pages H 0 q m t, zero-add q)
+  before : (pages H from q (pour w (s ∷ [])) ≡ pages H from q w) × (left H from q (pour w (s ∷ [])) ≡ pour (left H from q w) (s ∷ []))
+  unfolding left staying filter
+  before = unreached H f from q w (s ∷ []) rising alone said-before (λ i g h. rw (above i g h))
 
-    new-left : left H 0 (q + m) (insert s t) ≡ pour (left H 0 (q + m) t) (carriedPast H F q m (s ∷ []))
-    new-left =
-        ap (left H 0 (q + m)) poured-in
-        ∙ left-add H 0 q m (pour t (s ∷ []))
-        ∙ rw (before .1, zero-add q, after .1, left-add H 0 q m t, zero-add q)
+  after : (pages H (from + q) m (pour (left H from q w) (s ∷ [])) ≡ cascaded H f (from + q) m (s ∷ []) ++ drop (length (cascaded H f (from + q) m (s ∷ []))) (pages H (from + q) m (left H from q w)))
+      × (left H (from + q) m (pour (left H from q w) (s ∷ [])) ≡ pour (left H (from + q) m (left H from q w)) (carriedPast H f (from + q) m (s ∷ [])))
+  after = cascades H f (from + q) m (left H from q w) (s ∷ []) (rising-left H from q 0 w rising) alone said-after
+
+  pub new-pages : pages H from (q + m) (insert s w) ≡ written q (cascaded H f (from + q) m (s ∷ [])) (pages H from (q + m) w)
+  unfolding written
+  new-pages =
+      ap (pages H from (q + m)) poured-in
+      ∙ pages-add H from q m (pour w (s ∷ []))
+      ∙ rw (before .0, before .1, after .0, take-pages H from q m w, ← drop-drop (length (cascaded H f (from + q) m (s ∷ []))) q (pages H from (q + m) w), drop-pages H from q m w)
+
+  pub new-left : left H from (q + m) (insert s w) ≡ pour (left H from (q + m) w) (carriedPast H f (from + q) m (s ∷ []))
+  new-left =
+      ap (left H from (q + m)) poured-in
+      ∙ left-add H from q m (pour w (s ∷ []))
+      ∙ rw (before .1, after .1, left-add H from q m w)
+
+module _ (ok : ℕ → Bool) (H : Hash) (M : ℕ) (t : List Star) (s : Star) (rising : Rising 0 t) (proper : Proper ok t) (absent : Absent (s .number) t) where
+  abbrev F : File
+  F = laid (H .room) H M t
+
+  said-pages : (k : ℕ) → k ≡ M → pagesAt (H .room) F 0 k ≡ pages H 0 k t
+  unfolding left
+  said-pages k e = pagesAt-laid ok H M t proper 0 k (omega (arith, e)) ∙ middle-pages H 0 k M t (omega (arith, e))
 
   abbrev named : ℕ
   named = first H 0 (F .separators) (s .number)
@@ -273,15 +294,16 @@ module _ (ok : ℕ → Bool) (H : Hash) (M : ℕ) (t : List Star) (s : Star) (ri
   all : named + (M - named) ≡ M
   all = omega (arith, first-le H 0 (F .separators) (s .number), zero-add (length (F .separators)), size)
 
-  above : (i : ℕ) → i < named → below H i (getD (F .separators) i 0) (s .number) ≡ false
-  above i h = rw (zero-add i) at (first-before H 0 i (F .separators) (s .number) (omega (arith, size, all)) (omega (arith, zero-add i)))
+  above : (i : ℕ) → 0 ≤ i → i < 0 + named → below H i (getD (F .separators) i 0) (s .number) ≡ false
+  above i g h = rw (zero-add i) at (first-before H 0 i (F .separators) (s .number) (omega (arith, size, all)) (omega (arith, zero-add i)))
 
   pub cascade-inside : named + length cascade ≤ M
   cascade-inside = omega (arith, all, length-cascaded H F named (M - named) (s ∷ []))
 
   -- Document 02 (ix): "separators, pages .. are those of the present entry".
   pub cascade-pages : pages H 0 M (insert s t) ≡ written named cascade (pages H 0 M t)
-  cascade-pages = subst (λ (k : ℕ). pages H 0 k (insert s t) ≡ written named cascade (pages H 0 k t)) all (new-pages named (M - named) all above)
+  cascade-pages = subst (λ (k : ℕ). pages H 0 k (insert s t) ≡ written named cascade (pages H 0 k t)) all
+      (rw (zero-add named) at (new-pages H F 0 named (M - named) t s rising absent (said-pages (named + (M - named)) all) above))
 
   pub cascade-file : replaced (H .room) F named cascade ≡ laid (H .room) H M (insert s t)
   unfolding laid
@@ -293,5 +315,6 @@ module _ (ok : ℕ → Bool) (H : Hash) (M : ℕ) (t : List Star) (s : Star) (ri
   pub cascade-left : left H 0 M t ≡ [] → left H 0 M (insert s t) ≡ carriedPast H F named (M - named) (s ∷ [])
   unfolding pour
   cascade-left fits =
-      subst (λ (k : ℕ). left H 0 k (insert s t) ≡ pour (left H 0 k t) (carriedPast H F named (M - named) (s ∷ []))) all (new-left named (M - named) all above)
+      subst (λ (k : ℕ). left H 0 k (insert s t) ≡ pour (left H 0 k t) (carriedPast H F named (M - named) (s ∷ []))) all
+      (rw (zero-add named) at (new-left H F 0 named (M - named) t s rising absent (said-pages (named + (M - named)) all) above))
       ∙ ap (λ (l : List Star). pour l (carriedPast H F named (M - named) (s ∷ []))) fits

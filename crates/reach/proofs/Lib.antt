@@ -5,3 +5,4 @@ pub mod Reaching
 pub mod Cascading
 pub mod Holding
 pub mod Entries
+pub mod Stretches

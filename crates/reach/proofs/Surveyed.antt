@@ -1,22 +1,27 @@
 -- The survey of a stretch, page after page.
 use mathlib.Core.Path.{_≡_, refl, sym, ap, _∙_}
 use mathlib.Core.Bool.{Bool, true, false, not}
-use mathlib.Core.List.{List, []}
+use mathlib.Core.List.{List, _++_}
 use Prim.Native.Nat.{ℕ, suc, _+_, _-_, _*_, _≤_, _<_}
 use native.Mathlib.Nat.{zero-mul, mul-le-mul-right, suc-mul, add-mul}
 use native.Mathlib.Numerals.{add-one}
 use native.Mathlib.Omega.{arith}
-use lib.ListN.{length, take, drop, length-drop, length-map}
-use lib.Seq.{paste, paste-zero, take-take, drop-drop}
+use lib.ListN.{length, take, drop, length-append, length-drop, length-map, take-append-drop}
+use lib.Seq.{paste, paste-zero, drop-paste, take-take, drop-drop, length-take-le}
+use Rattle.buffers.specs.Lists.{written}
 use Rattle.buffers.proofs.Lists.{map-take, map-drop}
+use Rattle.buffers.proofs.Written.{all-written, taken-written}
 use Rattle.hashing.specs.declared.Parameters.{Parameters}
 use Rattle.hashing.specs.declared.Growth.{Growth}
 use Rattle.pages.specs.Page.{part}
+use Rattle.pages.proofs.Parts.{page-fits, part-length}
 use Rattle.placement.specs.File.{File, Sized}
 use Rattle.placement.specs.Hash.{soundAt, homesOf, homeIn}
+use Rattle.placement.proofs.Writing.{part-front, part-back}
+use Rattle.reach.specs.Known.{Known}
 use Rattle.reach.specs.Reach.{firstUnsound}
 use Rattle.reach.proofs.Search.{Sought, sought-none, sought-next, sought-found, sought-all}
-use Rattle.reach.proofs.Pastes.{paste-more}
+use Rattle.reach.proofs.Pastes.{paste-more, paste-same}
 
 -- the page is unsound
 abbrev pub unsound : Parameters → Growth → File → ℕ → Bool
@@ -74,6 +79,16 @@ module _ (p : Parameters) (g : Growth) (f : File) (before : List ℕ) (from n : 
       rw (length-map (drop (from * p .places) (f .numbers)) (homeIn p g), length-drop (from * p .places) (f .numbers))
       (omega (arith, ahead, within, sized .ofNumbers))
 
+  -- the homes from this page on are as they were
+  unread : drop (page * p .places) homes ≡ drop (page * p .places) before
+  unread =
+      ap (drop (page * p .places)) (s .kept)
+      ∙ rw (← ahead) (drop-paste before (from * p .places) (homesFrom p g f from) ((page - from) * p .places) (omega (arith, ahead, within)) long-enough)
+
+  pub still-known : Known p g f before page → Known p g f homes page
+  unfolding part
+  still-known k = record { sound = k .sound; kept = λ h. ap (take (p .places)) unread ∙ k .kept h }
+
   pub surveyed-next : (after : List ℕ) → soundAt p g f page ≡ true
       → after ≡ paste homes (page * p .places) (homesOf p g (part (p .places) page (f .numbers))) (p .places)
       → length after ≡ length homes
@@ -99,3 +114,92 @@ pub surveyed-all : (p : Parameters) (g : Growth) (f : File) (before : List ℕ) 
     → from + n ≤ page → page ≡ firstUnsound p g f from n
 unfolding firstUnsound
 surveyed-all p g f before from n homes page s h = sought-all (unsound p g f) from n page (s .sought) h
+
+homes-long : (p : Parameters) (g : Growth) (ns : List ℕ) → length (homesOf p g ns) ≡ length ns
+unfolding homesOf
+homes-long p g ns = length-map ns (homeIn p g)
+
+-- what was written over a page is there
+part-written : (places page : ℕ) (s d : List ℕ) → length s ≡ places → page * places ≤ length d → part places page (written (page * places) s d) ≡ s
+unfolding part
+part-written places page s d e h = taken-written (page * places) places s d e h
+
+-- the page past the file's is known
+pub known-none : (p : Parameters) (g : Growth) (f : File) (homes : List ℕ) (page : ℕ) → p .pages ≤ page → Known p g f homes page
+known-none p g f homes page h = record { sound = λ b. absurd (omega arith); kept = λ b. absurd (omega arith) }
+
+-- a survey of a known page changes nothing
+pub known-surveyed : (p : Parameters) (g : Growth) (f : File) (homes : List ℕ) (page : ℕ) → page < p .pages → Known p g f homes page
+    → homes ≡ paste homes (page * p .places) (homesOf p g (part (p .places) page (f .numbers))) (p .places)
+unfolding part
+known-surveyed p g f homes page h k = paste-same homes (page * p .places) _ (p .places) (k .kept h)
+
+-- a surveyed page is known
+pub surveyed-known : (p : Parameters) (g : Growth) (f : File) (before after : List ℕ) (page : ℕ) → Sized (p .places) (p .pages) f → length before ≡ p .pages * p .places
+    → soundAt p g f page ≡ true → after ≡ paste before (page * p .places) (homesOf p g (part (p .places) page (f .numbers))) (p .places)
+    → Known p g f after page
+surveyed-known p g f before after page sized fits sound e = record { sound = λ h. sound; kept = there }
+  where
+    long : page < p .pages → length (homesOf p g (part (p .places) page (f .numbers))) ≡ p .places
+    long h = homes-long p g (part (p .places) page (f .numbers)) ∙ part-length (p .places) page (f .numbers) (page-fits (p .places) (p .pages) page h (sized .ofNumbers))
+
+    there : page < p .pages → part (p .places) page after ≡ homesOf p g (part (p .places) page (f .numbers))
+    there h =
+        ap (part (p .places) page) (e ∙ all-written before (page * p .places) (homesOf p g (part (p .places) page (f .numbers))) (p .places) (long h))
+        ∙ part-written (p .places) page (homesOf p g (part (p .places) page (f .numbers))) before (long h) (omega (arith, page-fits (p .places) (p .pages) page h fits))
+
+-- each page of a surveyed stretch is known
+module _ (p : Parameters) (g : Growth) (f : File) (before : List ℕ) (from stop : ℕ) (sized : Sized (p .places) (p .pages) f) (fits : length before ≡ p .pages * p .places) (bound : stop ≤ p .pages) where
+  abbrev after : List ℕ
+  after = paste before (from * p .places) (homesFrom p g f from) ((stop - from) * p .places)
+
+  homes-enough : from ≤ stop → (stop - from) * p .places ≤ length (homesFrom p g f from)
+  homes-enough h =
+      rw (homes-long p g (drop (from * p .places) (f .numbers)), length-drop (from * p .places) (f .numbers), sized .ofNumbers)
+      (omega (arith, reached h, mul-le-mul-right {m = stop} {n = p .pages} (p .places) bound))
+    where
+      reached : from ≤ stop → from * p .places + (stop - from) * p .places ≡ stop * p .places
+      reached h =
+          let e : from + (stop - from) ≡ stop = omega arith in
+          sym (add-mul from (stop - from) (p .places)) ∙ ap (λ (k : ℕ). k * p .places) e
+
+  homes-part : (j : ℕ) → part (p .places) j (homesFrom p g f from) ≡ homesOf p g (part (p .places) j (drop (from * p .places) (f .numbers)))
+  unfolding part homesOf
+  homes-part j =
+      ap (take (p .places)) (map-drop (homeIn p g) (j * p .places) (drop (from * p .places) (f .numbers)))
+      ∙ map-take (homeIn p g) (p .places) (drop (j * p .places) (drop (from * p .places) (f .numbers)))
+
+  dropped : (j : ℕ) → part (p .places) j (drop (from * p .places) (f .numbers)) ≡ part (p .places) (from + j) (f .numbers)
+  unfolding part
+  dropped j =
+      ap (take (p .places)) (drop-drop (j * p .places) (from * p .places) (f .numbers) ∙ ap (λ (k : ℕ). drop k (f .numbers)) (sym (add-mul from j (p .places))))
+
+  kept-page : (j : ℕ) → from + j < stop → part (p .places) (from + j) after ≡ homesOf p g (part (p .places) (from + j) (f .numbers))
+  kept-page j h =
+      part-front (p .places) (from + j) (take (from * p .places) before ++ take N S) (drop (from * p .places + N) before)
+      (rw (length-append (take (from * p .places) before) (take N S), low, all-taken) (omega (arith, mul-le-mul-right {m = suc (from + j)} {n = from + (stop - from)} (p .places) (omega arith), add-mul from (stop - from) (p .places))))
+      ∙ part-back (p .places) from j (take (from * p .places) before) (take N S) low
+      ∙ sym (part-front (p .places) j (take N S) (drop N S) (rw all-taken (mul-le-mul-right {m = suc j} {n = stop - from} (p .places) (omega arith))))
+      ∙ ap (part (p .places) j) (take-append-drop N S)
+      ∙ homes-part j
+      ∙ ap (homesOf p g) (dropped j)
+    where
+      N : ℕ
+      N = (stop - from) * p .places
+
+      S : List ℕ
+      S = homesFrom p g f from
+
+      low : length (take (from * p .places) before) ≡ from * p .places
+      low = length-take-le (from * p .places) before (omega (arith, fits, mul-le-mul-right {m = from} {n = p .pages} (p .places) (omega arith)))
+
+      all-taken : length (take N S) ≡ N
+      all-taken = length-take-le N S (homes-enough (omega arith))
+
+  pub surveyed-pages : ((q : ℕ) → from ≤ q → q < stop → soundAt p g f q ≡ true) → (q : ℕ) → from ≤ q → q < stop → Known p g f after q
+  surveyed-pages sound q a h =
+      let e : from + (q - from) ≡ q = omega arith in
+      record {
+        sound = λ _. sound q a h;
+        kept = λ _. rw e at (kept-page (q - from) (omega arith));
+      }

@@ -1,11 +1,49 @@
 // The survey of a stretch: each page is tested upward, and its stars' homes are kept.
 ghost use mathlib.Core.Path.{_≡_};
-ghost use Prim.Native.Nat.{_-_, _*_, _≤_};
+ghost use mathlib.Core.Bool.{true};
+ghost use Prim.Native.Nat.{_-_, _*_, _≤_, _<_};
 ghost use lib.ListN.{length};
+ghost use Rattle.placement.specs.Hash.{soundAt};
 ghost use Rattle.placement.specs.Lent.{held, before};
 ghost use Rattle.placement.specs.Ready.{Ready};
+ghost use Rattle.placement.specs.Survey.{surveyed};
+ghost use Rattle.reach.specs.Known.{Known};
 ghost use Rattle.reach.specs.Reach.{firstUnsound, homesKept};
 use hashing::Geometry;
+
+// As `placement::survey`, but the known page is not tested again.
+fn survey_page(
+    table: &[u32; 90],
+    geometry: Geometry,
+    separators: &[u8],
+    numbers: &[u32],
+    words: &[u64],
+    owners: &[u8],
+    homes: &mut [u32],
+    page: usize,
+    known: usize,
+) -> bool
+    requires { ⌜ Ready geometry (now table) (held separators numbers words owners) ⌝ }
+    requires { ⌜ length (now homes) ≡ geometry .parameters .pages * geometry .parameters .places ⌝ }
+    requires { ⌜ page < geometry .parameters .pages ⌝ }
+    requires { ⌜ (page ≡ known → Known (geometry .parameters) (geometry .growth) (held separators numbers words owners) (now homes) page) ⌝ }
+    ensures { λ r. ⌜ r ≡ soundAt (geometry .parameters) (geometry .growth) (before separators numbers words owners) page ⌝ }
+    ensures { λ r. ⌜ (r ≡ true → now (homes .exit) ≡ surveyed geometry page (now (numbers .entry)) (now (homes .entry))) ⌝ }
+{
+    if page == known {
+        return true;
+    }
+    placement::survey(
+        table,
+        geometry,
+        separators,
+        numbers,
+        words,
+        owners,
+        homes,
+        page,
+    )
+}
 
 // The first unsound page from `from` up to the one before `stop`, or `stop`.
 pub fn survey_pages(
@@ -18,17 +56,19 @@ pub fn survey_pages(
     homes: &mut [u32],
     from: usize,
     stop: usize,
+    known: usize,
 ) -> usize
     requires { ⌜ Ready geometry (now table) (held separators numbers words owners) ⌝ }
     requires { ⌜ length (now homes) ≡ geometry .parameters .pages * geometry .parameters .places ⌝ }
     requires { ⌜ from ≤ stop ⌝ }
     requires { ⌜ stop ≤ geometry .parameters .pages ⌝ }
+    requires { ⌜ Known (geometry .parameters) (geometry .growth) (held separators numbers words owners) (now homes) known ⌝ }
     ensures { λ r. ⌜ r ≡ firstUnsound (geometry .parameters) (geometry .growth) (before separators numbers words owners) from (stop - from) ⌝ }
     ensures { λ r. ⌜ (r ≡ stop → now (homes .exit) ≡ homesKept geometry from stop (now (numbers .entry)) (now (homes .entry))) ⌝ }
 {
     let mut page = from;
     while page < stop {
-        if !placement::survey(
+        if !survey_page(
             table,
             geometry,
             separators,
@@ -37,6 +77,7 @@ pub fn survey_pages(
             owners,
             homes,
             page,
+            known,
         ) {
             return page;
         }

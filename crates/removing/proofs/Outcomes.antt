@@ -14,8 +14,8 @@ use Rattle.placement.specs.Rule.{pages, without}
 use Rattle.placement.specs.File.{File, gathered, replaced}
 use Rattle.placement.specs.Hash.{hashOf}
 use Rattle.reach.specs.Reach.{removalEnd}
-use Rattle.replacing.specs.Calls.{removalAnswer, removalFile}
-use Rattle.replacing.specs.Calls as removal
+use Rattle.replacing.specs.Removal.{removalAnswer, removalFile}
+use Rattle.replacing.specs.Removal as removal
 use Rattle.calls.specs.Answers.{Pool, placed}
 use Rattle.calls.specs.Calls.{removeTo}
 use Rattle.answering.specs.Outcomes.{OutcomeSmall, outcomePlaced}

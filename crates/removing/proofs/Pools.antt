@@ -7,7 +7,7 @@ use Rattle.placement.specs.Hash.{hashOf}
 use Rattle.hashing.specs.declared.Parameters.{Parameters}
 use Rattle.hashing.specs.declared.Growth.{Growth}
 use Rattle.placement.specs.File.{File}
-use Rattle.replacing.specs.Calls.{Held}
+use Rattle.replacing.specs.Removal.{Held}
 use Rattle.guarding.proofs.Admitting.{readable-facts}
 use Rattle.reach.specs.Reach.{pagesTo, removalEnd, firstUnsound}
 use Rattle.calls.specs.Answers.{After, Pool}

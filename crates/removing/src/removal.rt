@@ -14,11 +14,11 @@ use calls::answers::Placed;
 use calls::answers::Refusal;
 use guarding::all_fit;
 use guarding::guard;
+use guarding::may_alter;
 use hashing::Geometry;
 use hashing::Growth;
 use hashing::Parameters;
-use lookup::find;
-use lookup::may_alter;
+use lookup::find_kept;
 
 // The answer of an accepted removal is the page where the star stood.
 pub fn remove(
@@ -66,7 +66,7 @@ pub fn remove(
         caller,
         number,
     );
-    planning::clear(poolnumbers, poolwords, poolowners);
+    applying::clear(poolnumbers, poolwords, poolowners);
     answer
 }
 
@@ -91,9 +91,18 @@ fn remove_held(
         (named parameters growth (before separators numbers words owners) number) caller number)
         (placed r) (after separators numbers words owners) ⌝ }
 {
-    let table = generator::first_multipliers(parameters.multiplier);
     let geometry = Geometry { parameters, growth };
-    let named = find(&table, geometry, separators, numbers, words, owners, number);
+    let table = generator::first_multipliers(parameters.multiplier);
+    let named = find_kept(
+        &table,
+        geometry,
+        separators,
+        numbers,
+        words,
+        owners,
+        poolnumbers,
+        number,
+    );
     let page = named.page as u32;
     if !named.readable {
         return Placed::Refused(Refusal::Damaged(page), 0);

@@ -1,24 +1,25 @@
 -- The items of a stretch of sound pages: what a plan over them asks.
 use mathlib.Core.Path.{_≡_, refl, ap, _∙_}
-use mathlib.Core.Bool.{true}
+use mathlib.Core.Bool.{true, not}
 use mathlib.Core.List.{List, [], _∷_, map}
 use Prim.Native.Nat.{ℕ, suc, _+_, _*_, _/_, _%_, _^_, _≤_, _<_}
 use native.Mathlib.Nat.{add-mul, mod-lt, div-add-mod', div-lt-iff-lt-mul, mul-le-mul, mul-le-mul-right}
 use native.Mathlib.Omega.{arith}
-use lib.Dec.{ltb}
+use lib.Dec.{ltb, eqb}
 use lib.ListN.{length, drop, getD, length-map, List·getD-map}
 use lib.Seq.{paste, getD-take, getD-drop}
-use borrow.Author.Tests.{lt-ltb, not-false}
+use borrow.Author.Tests.{lt-ltb, ne-eqb, not-false}
 use Rattle.pages.specs.Page.{stretch}
 use Rattle.hashing.specs.declared.Parameters.{Parameters}
 use Rattle.hashing.specs.declared.Growth.{Growth}
 use Rattle.hashing.specs.Limits.{validParameters}
 use Rattle.hashing.proofs.Bounds.{limits}
 use Rattle.pages.specs.Position.{validWord}
-use Rattle.placement.specs.Rule.{Hash}
-use Rattle.placement.specs.File.{File, Sized, greatest}
+use Rattle.placement.specs.Rule.{Star, Hash, without}
+use Rattle.placement.specs.File.{File, Sized, gathered, greatest}
 use Rattle.placement.specs.Hash.{hashOf, soundAt, homeIn, homesOf}
-use Rattle.placement.proofs.Sound.{AllSound}
+use Rattle.placement.proofs.Filters.{filter-all-on}
+use Rattle.placement.proofs.Sound.{AllSound, gathered-proper}
 use Rattle.placement.proofs.Tested.{item-on, real-facts}
 use Rattle.waiting.specs.Lists.{all, allBelow}
 use Rattle.waiting.proofs.Lists.{all-cons}
@@ -43,6 +44,14 @@ all-sound p g f lo n h q a b = not-false (soundAt p g f q) (such (unsound p g f)
 pub real-sound : (p : Parameters) (g : Growth) (f : File) (lo n : ℕ) → ((q : ℕ) → lo ≤ q → q < lo + n → soundAt p g f q ≡ true)
     → AllSound validWord (hashOf p g) f lo n
 real-sound p g f lo n sound q a b = real-facts p g f q (sound q a b)
+
+-- no star of a sound stretch has the number 0
+pub all-numbered : (p : Parameters) (g : Growth) (f : File) (lo n : ℕ) → ((q : ℕ) → lo ≤ q → q < lo + n → soundAt p g f q ≡ true)
+    → without 0 (gathered (p .places) f lo n) ≡ gathered (p .places) f lo n
+unfolding without hashOf
+all-numbered p g f lo n sound =
+    filter-all-on (λ (s : Star). not (eqb (s .number) 0)) (gathered (p .places) f lo n)
+    (λ s m. ap not (ne-eqb (s .number) 0 (λ z. omega (arith, gathered-proper validWord (hashOf p g) f lo n (real-sound p g f lo n sound) s m .0))))
 
 module _ (p : Parameters) (f : File) (valid : validParameters p ≡ true) (sized : Sized (p .places) (p .pages) f) (lo n : ℕ) (inside : lo + n ≤ p .pages) where
   long : (lo + n) * p .places ≤ p .pages * p .places

@@ -28,7 +28,7 @@ use Rattle.reach.specs.Reach.{pagesTo, storedTop, removalEnd}
 use Rattle.shifting.specs.Shift.{numberAt, starsOn, Occupied}
 use Rattle.shifting.proofs.OnePage.{file-alone, pages-alone, first-here, named-home, ordered-page, homed-here, gathered-alone, unsound-alone}
 use Rattle.planning.specs.declared.outcome.Outcome.the-variants.{On}
-use Rattle.replacing.specs.Calls.{Held, removalStart, removalCount, removalUnsound, removalAnswer, removalFile}
+use Rattle.replacing.specs.Removal.{Held, removalStart, removalCount, removalUnsound, removalAnswer, removalFile}
 
 module _ (p : Parameters) (g : Growth) (f : File) (k : ℕ) (valid : validParameters p ≡ true) (grows : validGrowth p g ≡ true) (sized : Sized (p .places) (p .pages) f) (number : validNumber k ≡ true)
     (held : Held p g f k) (stored : getD (f .separators) (removalStart p g k) 0 ≡ topOf (p .bits)) where

@@ -24,7 +24,7 @@ use Rattle.reach.proofs.Surveyed.{unsound}
 use Rattle.planning.proofs.Placed.{probes-real}
 use Rattle.planning.specs.declared.outcome.Outcome.the-variants.{On, Unsound}
 use Rattle.replacing.specs.Stretch.{StretchReady, restretched}
-use Rattle.replacing.specs.Calls.{removalStart, removalCount, removalUnsound, removalAnswer, removalFile}
+use Rattle.replacing.specs.Removal.{removalStart, removalCount, removalUnsound, removalAnswer, removalFile}
 use Rattle.replacing.proofs.Ruled.{restretched-is}
 use Rattle.replacing.proofs.Items.{all-sound, real-sound, plannable-surveyed, ready-surveyed}
 

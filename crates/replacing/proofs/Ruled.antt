@@ -12,16 +12,17 @@ use Rattle.buffers.specs.Lists.{written}
 use Rattle.pages.specs.Page.{stretch}
 use Rattle.hashing.specs.declared.Parameters.{Parameters}
 use Rattle.placement.specs.Rule.{Star, Hash, pages, left, without}
-use Rattle.placement.specs.File.{File, gathered, replaced}
+use Rattle.placement.specs.File.{File, gathered, column, replaced}
 use Rattle.placement.specs.Hash.{lent}
 use Rattle.waiting.specs.Gather.{starsIn, stretchWords}
 use Rattle.reach.specs.Reach.{isEmpty}
 use Rattle.planning.specs.Sources.{namedItem, renamed, sourced}
-use Rattle.planning.specs.Plans.{remains, Planned}
+use Rattle.planning.specs.Plans.{plans, remains, Planned}
+use Rattle.buffers.proofs.Written.{written-behind}
 use Rattle.planning.proofs.RuleOverWords.{Probes}
 use Rattle.planning.proofs.Applying.{applied}
 use Rattle.planning.proofs.Sourcing.{words-sourced, named-stretch, length-stretch}
-use Rattle.planning.proofs.Placed.{Gatherable, placed, left-count, layout, applied-layout}
+use Rattle.planning.proofs.Placed.{Gatherable, placed, left-count, length-sources, layout, applied-layout}
 use Rattle.replacing.specs.Stretch.{StretchReady, newPages, fitting, restretched}
 use Rattle.waiting.proofs.Gathered.{starsIn-most}
 
@@ -66,6 +67,16 @@ module _ (q : Parameters) (lo n : ℕ) (f : File) (pool waiting poolowners : Lis
     stretch-kept some =
         let e : eqb (length (remains q lo 0 n [] (stretchWords (q .places) lo n k (f .numbers) pool))) 0 ≡ false = ne-eqb _ 0 (λ z. some (P .counted ∙ z)) in
         rw e (refl, refl)
+
+    -- the pool behind the stretch stays
+    pub stretch-behind : drop ((lo + n) * q .places) pool′ ≡ drop ((lo + n) * q .places) pool
+    stretch-behind =
+        let l : List ℕ = stretchWords (q .places) lo n k (f .numbers) pool in
+        let items : List ℕ = column (q .places) (λ (s : Star). s .payload .word) (plans q lo 0 n [] l) in
+        let sum : lo * q .places + n * q .places ≡ (lo + n) * q .places = omega (arith, add-mul lo n (q .places)) in
+        ap (drop ((lo + n) * q .places)) (P .sources)
+        ∙ written-behind (lo * q .places) ((lo + n) * q .places) items pool (omega (arith, sum, L .pool-long))
+        (ap (λ (m : ℕ). lo * q .places + m) (length-sources q lo n [] l) ∙ sum)
 
     pub stretch-placed : r ≡ 0 → lo + n ≤ length planned
         → (true ≡ fitting q lo n k f pool) × (applied (q .places) lo n 0 0 0 pool′ planned′ f ≡ restretched q lo n k f pool)

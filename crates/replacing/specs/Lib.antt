@@ -1,2 +1,2 @@
 pub mod Stretch
-pub mod Calls
+pub mod Removal

@@ -6,13 +6,14 @@ ghost use Rattle.pages.specs.Position.{validNumber};
 ghost use Rattle.placement.specs.Hash.{homeUnder, namedPage};
 ghost use Rattle.placement.specs.Lent.{held, before, after};
 ghost use Rattle.placement.specs.Ready.{Ready, Pooled};
-ghost use Rattle.replacing.specs.Calls.{Held, removalAnswer, removalFile};
+ghost use Rattle.reach.specs.Known.{Known};
+ghost use Rattle.replacing.specs.Removal.{Held, removalAnswer, removalFile};
 use crate::removal::remove_star;
 use hashing::Geometry;
 use planning::Outcome;
 
 // The removal of a star that its named page holds at this place. Where its home page's separator is 2^k − 1 that page is the whole reach, and
-// its other stars stay: so it is altered in place. The answer is the page given.
+// its other stars stay: so it is altered in place. The answer is the page given, which was tested before.
 pub fn remove_held(
     table: &[u32; 90],
     geometry: Geometry,
@@ -34,6 +35,7 @@ pub fn remove_held(
     requires { ⌜ Held (geometry .parameters) (geometry .growth) (held separators numbers words owners) number ⌝ }
     requires { ⌜ home ≡ homeUnder geometry number ⌝ }
     requires { ⌜ place ≡ placeOf number (part (geometry .parameters .places) (namedPage (geometry .parameters) (geometry .growth) (now separators) number) (now numbers)) ⌝ }
+    requires { ⌜ Known (geometry .parameters) (geometry .growth) (held separators numbers words owners) (now pool) page ⌝ }
     ensures { λ r. ⌜ r ≡ removalAnswer (geometry .parameters) (geometry .growth) (before separators numbers words owners) number page ⌝ }
     ensures { λ r. ⌜ after separators numbers words owners ≡ removalFile (geometry .parameters) (geometry .growth) (before separators numbers words owners) number ⌝ }
 {

@@ -1,8 +1,7 @@
-// Pages placed anew by the rule: one page or a stretch of them by a removal over its reach, all pages by a growth or a shrinking.
-mod growth;
+// Pages placed anew by the rule: a stretch of them over its own stars, and by a removal over its reach.
 mod held;
 mod removal;
 mod stretch;
 
-pub use growth::regrow;
 pub use held::remove_held;
+pub use stretch::replace_stretch;

@@ -3,12 +3,14 @@ ghost use mathlib.Core.Path.{_≡_};
 ghost use Rattle.placement.specs.Hash.{homeUnder};
 ghost use Rattle.placement.specs.Lent.{held, before, after};
 ghost use Rattle.placement.specs.Ready.{Ready, Pooled};
-ghost use Rattle.replacing.specs.Calls.{removalAnswer, removalFile};
+ghost use Rattle.reach.specs.Known.{Known};
+ghost use Rattle.replacing.specs.Removal.{removalAnswer, removalFile};
 use crate::stretch::replace_stretch;
 use hashing::Geometry;
 use planning::Outcome;
 
-// The stars from home to the first page whose separator is 2^k − 1, placed anew without the star. Sound pages hold them all. The answer is the page given.
+// The stars from home to the first page whose separator is 2^k − 1, placed anew without the star. Sound pages hold them all. The answer is the page given,
+// which was tested before.
 pub fn remove_star(
     table: &[u32; 90],
     geometry: Geometry,
@@ -26,6 +28,7 @@ pub fn remove_star(
     requires { ⌜ Ready geometry (now table) (held separators numbers words owners) ⌝ }
     requires { ⌜ Pooled (geometry .parameters) (now pool) (now waiting) (now poolowners) ⌝ }
     requires { ⌜ home ≡ homeUnder geometry number ⌝ }
+    requires { ⌜ Known (geometry .parameters) (geometry .growth) (held separators numbers words owners) (now pool) page ⌝ }
     ensures { λ r. ⌜ r ≡ removalAnswer (geometry .parameters) (geometry .growth) (before separators numbers words owners) number page ⌝ }
     ensures { λ r. ⌜ after separators numbers words owners ≡ removalFile (geometry .parameters) (geometry .growth) (before separators numbers words owners) number ⌝ }
 {
@@ -43,6 +46,7 @@ pub fn remove_star(
         pool,
         from,
         stop,
+        page,
     );
     if bad < stop {
         return Outcome::Unsound(bad);

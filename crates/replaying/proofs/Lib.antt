@@ -1,4 +1,3 @@
-pub mod Signed
 pub mod Known
 pub mod Stepping
 pub mod Running

@@ -15,6 +15,7 @@ use Rattle.calls.specs.Answers.{Pool, After}
 use Rattle.histories.specs.Model.{Request}
 use Rattle.histories.specs.Call.{callOf, step}
 use Rattle.histories.specs.Run.{HistoryState, fresh, outcome, next, events, end}
+use Rattle.recording.proofs.Rows.{eight-long}
 use Rattle.replaying.specs.Replay.{LentHistory, requestAt, requestsTo, requestsOf, historyFrom, lastPool, encoded, eventAnswers}
 use Rattle.replaying.specs.Steps.{Recorded, Even, Runs}
 use Rattle.histories.proofs.Histories.{end-keeps}
@@ -55,10 +56,6 @@ written-behind done whole before row at l e =
 eight : (a : Answer) → take 8 (encoded a) ≡ encoded a
 unfolding encoded
 eight a = refl
-
-pub eight-long : (a : Answer) → length (encoded a) ≡ 8
-unfolding encoded
-eight-long a = refl
 
 -- the first i calls of a lent history, run from a state whose model is the empty one
 pub record Ongoing (p : Parameters) (h : LentHistory) (growth₀ : Growth) (file₀ : File) (pool₀ : Pool) (answers₀ : List ℕ)

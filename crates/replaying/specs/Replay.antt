@@ -4,16 +4,16 @@ use mathlib.Core.Bool.{Bool, true, false, cond, _&&_}
 use mathlib.Core.List.{List, [], _∷_, _++_}
 use Prim.Native.Nat.{ℕ, zero, suc, _*_}
 use lib.Dec.{eqb, ltb}
-use lib.IntN.{ℤ, pos, natAbs, _+ℤ_}
+use lib.IntN.{ℤ, pos}
 use lib.ListN.{length, getD}
 use Rattle.hashing.specs.declared.Parameters.{Parameters}
 use Rattle.hashing.specs.declared.Growth.{Growth}
 use Rattle.hashing.specs.Geometry.{ungrown}
 use Rattle.pages.specs.declared.position.Position.{Position}
 use Rattle.placement.specs.File.{File}
-use Rattle.calls.specs.declared.answers.Answer.{Answer}
 use Rattle.calls.specs.Answers.{Pool, refusalNumber, unpooled}
 use Rattle.calls.specs.Calls.{unless, orElse, makeOf}
+unfoldable pub use Rattle.recording.specs.Rows.{encoded}
 use Rattle.replaying.specs.declared.replaying.Replayed.{Replayed}
 use Rattle.replaying.specs.declared.replaying.Replayed.the-variants.{Done, BadKind, Refused}
 use Rattle.histories.specs.Model.{modelFile, Request, lookUp, enter, cascade, change, remove, grow, shrink, due, check}
@@ -74,29 +74,7 @@ unfoldable pub lastPool : HistoryState → Pool → List Request → Pool
 lastPool s pool [] = pool
 lastPool s pool (r ∷ rs) = lastPool (next s (callOf pool r)) (outcome s (callOf pool r) .pool) rs
 
--- Eight numbers for each answer.
-
-unfoldable pub bit : Bool → ℕ
-bit true = 1
-bit false = 0
-
--- a signed number of 32 bits, raised by 2^31
-unfoldable pub shifted : ℤ → ℕ
-shifted dec = natAbs (dec +ℤ pos 2147483648)
-
--- refusal, page, place, found, right ascension, declination, due, stars
-unfoldable pub encoded : Answer → List ℕ
-encoded a =
-    a .refusal
-    ∷ a .page
-    ∷ a .place
-    ∷ bit (a .found)
-    ∷ a .position .ra
-    ∷ shifted (a .position .dec)
-    ∷ bit (a .due)
-    ∷ a .stars
-    ∷ []
-
+-- eight numbers for each answer
 unfoldable pub eventAnswers : List Event → List ℕ
 eventAnswers [] = []
 eventAnswers (t ∷ ts) = encoded (t .answer) ++ eventAnswers ts

@@ -303,6 +303,6 @@ pub fn replay_step(
         position,
     );
     let answer = stepped.answer;
-    crate::writing::write(answers, at, answer);
+    recording::write(answers, at, answer);
     stepped.growth
 }

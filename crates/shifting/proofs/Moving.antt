@@ -7,7 +7,7 @@ use native.Mathlib.Omega.{arith}
 use lib.ListN.{length, take, drop, getD, set, length-append, length-drop, List·getD-append}
 use lib.Seq.{paste, drop-drop, drop-paste, take-all, take-at, drop-at, getD-drop, getD-take, getD-at, append-snoc, length-take-le}
 use Rattle.buffers.proofs.Copies.{Copied, turn}
-use Rattle.planning.proofs.Copies.{done}
+use Rattle.buffers.proofs.Copies.{done}
 use Rattle.shifting.specs.Shift.{openedAt, closed}
 
 -- an item that is not yet written is as it was

@@ -125,6 +125,10 @@ module _ {places page place : ℕ} {ns ws os : List ℕ} (h : Occupied places pa
   pub occupied-place : place < places
   occupied-place = take-place places page ns ws os (h .ordered) place (h .held)
 
+  -- the star that is taken, and the others
+  pub taken-split : (s : Star) × Split s (without (numberAt places page place ns) (starsOn places page ns ws os)) (starsOn places page ns ws os) place
+  taken-split = divided places page ns ws os (h .ordered) place (h .held)
+
   pub take-list : (g : Star → ℕ) (l : List ℕ) → Of places page ns ws os (h .ordered) g l
       → closed (page * places + place) (places - place - 1) l ≡ written (page * places) (padded places (map g (without (numberAt places page place ns) (starsOn places page ns ws os)))) l
   take-list = take-items places page ns ws os (h .ordered) place (h .held)

@@ -1,12 +1,15 @@
 -- A page altered in place: its items moved by one place, and the stars that then stand on it. Assumes nothing.
 use mathlib.Core.Path.{_≡_}
-use mathlib.Core.Bool.{true}
+use mathlib.Core.Bool.{Bool, true, _&&_}
 use mathlib.Core.List.{List, [], _∷_, _++_, map}
 use Prim.Native.Nat.{ℕ, _+_, _-_, _*_, _≤_, _<_}
+use lib.Dec.{eqb}
 use lib.ListN.{length, take, drop, getD}
 use lib.Seq.{paste}
 use denote.Ref.{now}
 use Rattle.buffers.specs.Lists.{padded, written}
+use Rattle.generator.specs.Generator.{topOf}
+use Rattle.hashing.specs.declared.Parameters.{Parameters}
 use Rattle.pages.specs.Page.{part, placeOf}
 use Rattle.pages.specs.Position.{validWord}
 use Rattle.placement.specs.Rule.{Star}
@@ -31,6 +34,11 @@ starsBefore places page numbers words owners = starsOn places page (now (numbers
 -- the number at a place of the page
 abbrev pub numberAt : ℕ → ℕ → ℕ → List ℕ → ℕ
 numberAt places page place ns = getD (part places page ns) place 0
+
+-- the page's stored separator is 2^k − 1, and its last place is empty
+unfoldable pub takesAlone : Parameters → List ℕ → List ℕ → ℕ → Bool
+takesAlone p separators numbers page =
+    eqb (getD separators page 0) (topOf (p .bits)) && eqb (numberAt (p .places) page (p .places - 1) numbers) 0
 
 -- a page within the lists, in order
 pub record Ordered (places page : ℕ) (ns ws os : List ℕ) : Type 0 where

@@ -16,9 +16,9 @@ use Rattle.placement.specs.Rule.{pages, left}
 use Rattle.placement.specs.File.{File, replaced}
 use Rattle.reach.specs.Reach.{firstUnsound, isEmpty, allStars}
 use Rattle.planning.specs.declared.outcome.Outcome.the-variants.{On, Unsound, Overflows}
-use Rattle.replacing.specs.Calls.{growthAnswer, growthFile}
-use Rattle.comparing.specs.declared.checking.Verdict.the-variants.{Clean, Differs, Unsound as verdict·Unsound}
-use Rattle.comparing.specs.Verdicts.{verdictOf}
+use Rattle.regrowing.specs.Growth.{growthAnswer, growthFile}
+use Rattle.checking.specs.declared.checking.Verdict.the-variants.{Clean, Differs, Unsound as verdict·Unsound}
+use Rattle.checking.specs.Verdicts.{verdictOf}
 use Rattle.calls.specs.Answers.{Pool, placed, checked, refusedBy, accepted, refused, spotted}
 use Rattle.calls.specs.Calls.{unchanged, regrowTo, checkedAt}
 use Rattle.answering.specs.Outcomes.{OutcomeSmall}

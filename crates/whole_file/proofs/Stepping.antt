@@ -12,7 +12,7 @@ use Rattle.hashing.specs.Limits.{validParameters, validGrowth}
 use Rattle.hashing.proofs.Bounds.{limits, growth-within}
 use Rattle.placement.specs.File.{File}
 use Rattle.planning.specs.declared.outcome.Outcome.{Outcome}
-use Rattle.replacing.specs.Calls.{nextOf, Movable, growthAnswer, growthFile}
+use Rattle.regrowing.specs.Growth.{nextOf, Movable, growthAnswer, growthFile}
 use Rattle.calls.specs.declared.answers.Refusal.{Refusal}
 use Rattle.calls.specs.declared.answers.Refusal.the-variants.{Full, Ungrown}
 use Rattle.calls.specs.declared.answers.Grown.{Grown}

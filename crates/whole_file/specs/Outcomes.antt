@@ -7,8 +7,8 @@ use Rattle.hashing.specs.declared.Growth.{Growth}
 use Rattle.hashing.specs.Geometry.{pageCount, highest, grown, isUngrown, shrunk}
 use Rattle.placement.specs.File.{File}
 use Rattle.planning.specs.declared.outcome.Outcome.{Outcome}
-use Rattle.comparing.specs.declared.checking.Verdict.{Verdict}
-use Rattle.comparing.specs.declared.checking.Verdict.the-variants.{Clean, Differs, Unsound as verdict·Unsound}
+use Rattle.checking.specs.declared.checking.Verdict.{Verdict}
+use Rattle.checking.specs.declared.checking.Verdict.the-variants.{Clean, Differs, Unsound as verdict·Unsound}
 use Rattle.calls.specs.declared.answers.Refusal.{Refusal}
 use Rattle.calls.specs.declared.answers.Refusal.the-variants.{Damaged, Full, Ungrown}
 use Rattle.calls.specs.declared.answers.Placed.{Placed}

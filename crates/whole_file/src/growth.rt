@@ -123,7 +123,7 @@ fn regrow(
         poolwords,
         poolowners,
     );
-    planning::clear(poolnumbers, poolwords, poolowners);
+    applying::clear(poolnumbers, poolwords, poolowners);
     answer
 }
 
@@ -176,7 +176,7 @@ fn regrow_file(
         Step::Not(refusal) => unmoved(growth, refusal),
         Step::To(next, page) => {
             let table = generator::first_multipliers(parameters.multiplier);
-            let outcome = replacing::regrow(
+            let outcome = regrowing::regrow(
                 &table,
                 geometry,
                 back,

@@ -1,10 +1,8 @@
 // The calls over the whole file. Each contract gives the answer, the growth state and every lent item at exit, refusals too, by the definitions
 // of crate calls.
-mod checking;
-mod emptying;
 mod growth;
+mod verdicts;
 
-pub use checking::check;
-pub use emptying::make;
 pub use growth::grow;
 pub use growth::shrink;
+pub use verdicts::check;

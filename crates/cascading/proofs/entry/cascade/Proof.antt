@@ -55,10 +55,20 @@ cast-places c = search needs
 slice-aggregate-push : tie.Need-slice-aggregate-push
 slice-aggregate-push c = search needs
 
+add-push : tie.Need-add-push
+add-push c =
+    let s = c .before .before .before .before .before .before .before .before .before .before .before .before .before .before .before in
+    omega (arith, s .pre .0 .here, s .pre .0 .unheld .named, bounds s .pages-most)
+
 push-requires : tie.Need-push-requires
 push-requires c κs =
-    let s = c .before .before .before .before .before .before .before .before .before .before .before .before .before .before .before in
-    (s .pre .0, ((s .pre .1 .ofNumbers, s .pre .1 .ofWords), bounds s .pages-most))
+    let s = c .before .before .before .before .before .before .before .before .before .before .before .before .before .before .before in (
+      s .pre .0,
+      (
+        (s .pre .1 .0 .ofNumbers, s .pre .1 .0 .ofWords),
+        (bounds s .pages-most, λ q a h. let same : q ≡ s .args .page = omega arith in rw same (s .pre .1 .1)),
+      ),
+    )
 
 enum-known-bad : tie.Need-enum-known-bad
 enum-known-bad c = search needs
@@ -98,8 +108,8 @@ apply-requires c κs =
         (
           (omega (arith, items x l (v .1), sized .ofNumbers), omega (arith, items x l (v .1), sized .ofWords)),
           (
-            (omega (arith, items x l (v .1), s .pre .1 .ofNumbers, x .push .kept .1 .1 .1 .1 .1 .1 .0), omega (arith, items x l (v .1), s .pre .1 .ofWords, x .push .kept .1 .1 .1 .1 .1 .1 .1 .0)),
-            (omega (arith, items x l (v .1), sized .ofOwners), omega (arith, items x l (v .1), s .pre .1 .ofOwners)),
+            (omega (arith, items x l (v .1), s .pre .1 .0 .ofNumbers, x .push .kept .1 .1 .1 .1 .1 .1 .0), omega (arith, items x l (v .1), s .pre .1 .0 .ofWords, x .push .kept .1 .1 .1 .1 .1 .1 .1 .0)),
+            (omega (arith, items x l (v .1), sized .ofOwners), omega (arith, items x l (v .1), s .pre .1 .0 .ofOwners)),
           ),
         ),
       ),
@@ -195,7 +205,7 @@ returns-3 c =
     let count : last + 1 - s .args .page ≡ pagesTo (s .args .page) last = omega (arith, ends x last (v .1) .0) in
     let whole : lent (y .last .0) (y .last .1 .0) (y .last .1 .1 .0) (y .last .1 .1 .1 .0) ≡ replaced (p .places) (file s) (s .args .page) (visited p g (file s) (newStar (s .args .number) (s .args .word) (s .args .owner)) (s .args .page)) =
     lists-applied (p .places) (s .args .page) (last + 1 - s .args .page) (s .args .number) (s .args .word) (s .args .owner) pool planned (file s) (y .last .0) (y .last .1 .0) (y .last .1 .1 .0) (y .last .1 .1 .1 .0)
-    (y .ensures .0) (y .ensures .1 .0) (y .ensures .1 .1 .0) (y .ensures .1 .1 .1)
+    (y .ensures .0) (y .ensures .1 .0) (y .ensures .1 .1 .0) (y .ensures .1 .1 .1 .0)
     ∙ ap (λ (n : ℕ). applied (p .places) (s .args .page) n (s .args .number) (s .args .word) (s .args .owner) pool planned (file s)) count
     ∙ k .applies in (
       kept-answer p g (file s) (s .args .number) (s .args .word) (s .args .owner) (s .args .page) pool planned last k (c .named-from .result)
@@ -211,6 +221,7 @@ cascade-spec =
     (tie.spec
     cast-places
     slice-aggregate-push
+    add-push
     push-requires
     enum-known-bad
     enum-told

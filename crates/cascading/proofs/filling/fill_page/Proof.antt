@@ -58,7 +58,7 @@ add-pack c = search needs
 
 pack-requires : tie.Need-pack-requires
 pack-requires c κs =
-    let s = c .before .before .before .before .before .before .before .before .before .before in (
+    let s = c .before .before .before .before .before .before .before .before .before in (
       omega (arith, s .pre .0 .homed, home-pages (multiplierOf (s .args .geometry .parameters)) (s .args .geometry .parameters) (s .args .geometry .growth) (s .args .number) (s .pre .0 .ready .homing .valid) (s .pre .0 .ready .homing .growth), bounds s .pages-most),
       (
         small (s .args .geometry .parameters) (s .args .geometry .growth) (file s) (s .args .number) (s .args .page) (s .pre .0 .ready .homing .valid) (s .pre .0 .ready .sized) (s .pre .0 .number) (s .pre .0 .unheld) (s .pre .0 .here),
@@ -67,7 +67,7 @@ pack-requires c κs =
     )
 
 slice-write-waiting : tie.Need-slice-write-waiting
-slice-write-waiting c = omega (arith, items (c .before .before .before .before .before .before .before .before .before .before .before))
+slice-write-waiting c = omega (arith, items (c .before .before .before .before .before .before .before .before .before .before))
 
 append-requires : tie.Need-append-requires
 append-requires c κs =
@@ -85,7 +85,7 @@ append-requires c κs =
                 (sound p g (file s) (s .args .number) (s .args .page) (e .ready .homing .valid) (e .ready .sized) (e .number) (e .unheld) (e .here)),
             zeros-below (p .places) (bounds s .places-most),
           ),
-          rw (length-set (now (s .args .waiting)) 0 (c .before .before .before .pack .result))
+          rw (length-set (now (s .args .waiting)) 0 (c .before .before .before .before .pack .result))
               (omega (arith, room s, stars-loaded p g (file s) (s .args .number) (s .args .page) (e .ready .homing .valid) (e .ready .sized) (e .number) (e .unheld) (e .here) (room s) (l .result) (l .ensures), fits s (s .pre .1 .0 .1))),
         ),
       ),
@@ -103,7 +103,7 @@ reach-most c =
     fill-reach (s .args .geometry .parameters) (s .args .geometry .growth) (file s) (s .args .number) (s .args .page) (e .ready .homing .valid) (e .ready .sized) (e .number) (e .unheld) (e .here) (room s) (l .result) (l .ensures) (c .append .result) (c .append .ensures .0)
 
 waiting-kept : (c : tie.After-append) → length (c .append .last .0) ≡ length (now (start c .args .waiting))
-waiting-kept c = c .append .kept .0 ∙ length-set (now (start c .args .waiting)) 0 (c .before .before .before .before .pack .result)
+waiting-kept c = c .append .kept .0 ∙ length-set (now (start c .args .waiting)) 0 (c .before .before .before .before .before .pack .result)
 
 keep-all-requires : tie.Need-keep-all-requires
 keep-all-requires c κs =
@@ -145,9 +145,9 @@ returns c =
     let g = s .args .geometry .growth in
     let l = c .before .before .before .before .before .before .before .before .before .before .before .before .before .before .before .before .before .load in
     plans-fill p g (file s) (s .args .number) (s .args .page) (e .ready .homing .valid) (e .ready .sized) (e .number) (e .unheld) (e .here) (room s) (l .result) (l .ensures)
-    (now (s .args .pool)) (now (s .args .planned)) (c .before .before .store-sources .last .0) (now (s .args .waiting)) (x .append .last .0) (c .before .before .before .before .before .before .keep-all .last .1 .1 .1 .0) (c .before .before .before .before .before .before .before .before .before .before .before .before .before .before .before .pack .result) (x .append .result)
+    (now (s .args .pool)) (now (s .args .planned)) (c .before .before .store-sources .last .0) (now (s .args .waiting)) (x .append .last .0) (c .before .before .before .before .before .before .keep-all .last .1 .1 .1 .0) (c .before .before .before .before .before .before .before .before .before .before .before .before .before .before .before .before .pack .result) (x .append .result)
     (s .pre .1 .0 .0) (s .pre .1 .1 .0) (items s)
-    (c .before .before .before .before .before .before .before .before .before .before .before .before .before .before .before .pack .ensures ∙ new-packed p g (file s) (s .args .number) (s .args .page) (e .ready .homing .valid) (e .ready .sized) (e .number) (e .unheld) (e .here) (s .args .home) (e .homed))
+    (c .before .before .before .before .before .before .before .before .before .before .before .before .before .before .before .before .pack .ensures ∙ new-packed p g (file s) (s .args .number) (s .args .page) (e .ready .homing .valid) (e .ready .sized) (e .number) (e .unheld) (e .here) (s .args .home) (e .homed))
     (x .append .ensures .1) (c .before .before .before .before .before .before .keep-all .ensures .1) (c .before .before .store-sources .ensures)
 
 pub fill-page-spec : {M : Type 1} → statement M

@@ -49,7 +49,7 @@ shared-slice-read-if1 c = let s = c .before .before .before .before .before .bef
 fill-page-requires : tie.Need-fill-page-requires
 fill-page-requires c κs =
     let s = c .before .before .before .before .before .before .before .before .before .before .before .before .before in
-    (s .pre .0, (s .pre .1 .0, (s .pre .1 .1, c .before .before .before .if1 .taken)))
+    (s .pre .0, (s .pre .1 .0, (s .pre .1 .1 .0, c .before .before .before .if1 .taken)))
 
 same-length : tie.Need-same-length
 same-length c = search needs

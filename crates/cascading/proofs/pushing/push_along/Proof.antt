@@ -1,6 +1,7 @@
 -- Page after page as `Rolling` says.
 use mathlib.Core.Path.{_≡_, refl, _∙_, subst}
 use Prim.Native.Nat.{ℕ, _-_, _*_, _≤_, _<_}
+use native.Mathlib.Nat.{le-refl}
 use native.Mathlib.Omega.{arith}
 use lib.ListN.{length, length-set}
 use denote.Ref.{now}
@@ -14,21 +15,22 @@ use Rattle.placement.specs.Hash.{lent}
 use Rattle.entering.proofs.Reached.{some-items}
 use Rattle.cascading.specs.declared.arriving.Taken.{Taken}
 use Rattle.cascading.specs.declared.arriving.Taken.the-variants.{Joined, Unsound, Crowded}
-use Rattle.cascading.specs.Arriving.{TakenIn, Joins}
+use Rattle.cascading.specs.Arriving.{TakenIn, Joins, KnownTo}
 use Rattle.cascading.proofs.Pushed.{small, few, new-packed}
-use Rattle.cascading.proofs.Rolling.{Rolling, rolling-none, rolling-unsound, rolling-crowded, rolling-probing, rolling-ends, rolling-next, rolling-overflow}
+use Rattle.cascading.proofs.Rolling.{Rolling, rolling-none, rolling-unsound, rolling-crowded, rolling-probing, rolling-ends, rolling-next, rolling-known, rolling-overflow}
 use Rattle.cascading.proofs.pushing.push_along.Statement.{statement}
 use Rattle.cascading.proofs.pushing.push_along.Tie as tie
 
 abbrev Inv-loop : tie.InvT-loop
-Inv-loop table signs geometry separators numbers words owners pool₀ waiting₀ planned₀ number home page parameters pages at₀ from₀ end₀ pool waiting planned at from end =
+Inv-loop table signs geometry separators numbers words owners pool₀ waiting₀ planned₀ number home page tested parameters pages at₀ from₀ end₀ pool waiting planned at from end =
     (length pool ≡ length pool₀)
     × ((length waiting ≡ length waiting₀)
     × ((length planned ≡ length planned₀)
-    × Rolling (geometry .parameters) (geometry .growth) (lent separators numbers words owners) number page pool planned waiting at from end))
+    × (KnownTo (geometry .parameters) (geometry .growth) (lent separators numbers words owners) pool at tested
+    × Rolling (geometry .parameters) (geometry .growth) (lent separators numbers words owners) number page pool planned waiting at from end)))
 
 abbrev μ-loop : tie.MeasureT-loop
-μ-loop table signs geometry separators numbers words owners pool₀ waiting₀ planned₀ number home page parameters pages at₀ from₀ end₀ pool waiting planned at from end =
+μ-loop table signs geometry separators numbers words owners pool₀ waiting₀ planned₀ number home page tested parameters pages at₀ from₀ end₀ pool waiting planned at from end =
     geometry .parameters .pages - at
 
 abbrev Start : Type 0
@@ -51,7 +53,7 @@ abbrev begun : Head → Start
 begun h = h .before .before .before .before .before .before .before .before .before .before .before
 
 rolls : (h : Head) → Rolling (begun h .args .geometry .parameters) (begun h .args .geometry .growth) (file (begun h)) (begun h .args .number) (begun h .args .page) (h .loop .pool) (h .loop .planned) (h .loop .waiting) (h .loop .at) (h .loop .from) (h .loop .end)
-rolls h = h .loop .inv .1 .1 .1
+rolls h = h .loop .inv .1 .1 .1 .1
 
 pool-long : (h : Head) → length (h .loop .pool) ≡ begun h .args .geometry .parameters .pages * begun h .args .geometry .parameters .places
 pool-long h = h .loop .inv .0 ∙ begun h .pre .1 .1 .0 .0
@@ -63,33 +65,33 @@ waiting-long : (h : Head) → length (h .loop .waiting) ≡ begun h .args .geome
 waiting-long h = waiting-same h ∙ begun h .pre .1 .1 .0 .1
 
 planned-long : (h : Head) → begun h .args .geometry .parameters .pages ≤ length (h .loop .planned)
-planned-long h = omega (arith, h .loop .inv .1 .1 .0, begun h .pre .1 .1 .1)
+planned-long h = omega (arith, h .loop .inv .1 .1 .0, begun h .pre .1 .1 .1 .0)
 
 -- from the page's stars on
 abbrev Place : Type 0
 Place = tie.After-take-in Inv-loop μ-loop
 
 abbrev head : Place → Head
-head x = x .before .before .before
+head x = x .before .before .before .before
 
 abbrev start : Place → Start
-start x = x .before .before .before .before .before .before .before .before .before .before .before .before .before .before
+start x = x .before .before .before .before .before .before .before .before .before .before .before .before .before .before .before
 
 inside : (x : Place) → head x .loop .at < start x .args .geometry .parameters .pages
-inside x = x .before .before .loop-test .taken
+inside x = x .before .before .before .loop-test .taken
 
 known : (x : Place) (t : Taken) → x .take-in .result ≡ t
-    → TakenIn (start x .args .geometry .parameters) (start x .args .geometry .growth) (file (start x)) (head x .loop .at) (head x .loop .end) (head x .loop .waiting) (x .take-in .last .1 .1 .1 .1 .1 .1 .0) t
+    → TakenIn (start x .args .geometry .parameters) (start x .args .geometry .growth) (file (start x)) (head x .loop .at) (head x .loop .end) (head x .loop .waiting) (x .take-in .last .1 .1 .1 .1 .1 .1 .1 .0) t
 known x t e =
-    subst (λ (t : Taken). TakenIn (start x .args .geometry .parameters) (start x .args .geometry .growth) (file (start x)) (head x .loop .at) (head x .loop .end) (head x .loop .waiting) (x .take-in .last .1 .1 .1 .1 .1 .1 .0) t) e
+    subst (λ (t : Taken). TakenIn (start x .args .geometry .parameters) (start x .args .geometry .growth) (file (start x)) (head x .loop .at) (head x .loop .end) (head x .loop .waiting) (x .take-in .last .1 .1 .1 .1 .1 .1 .1 .0) t) e
     (x .take-in .ensures)
 
 joins : (x : Place) (reach : ℕ) → x .take-in .result ≡ Joined reach
-    → Joins (start x .args .geometry .parameters) (start x .args .geometry .growth) (file (start x)) (head x .loop .at) (head x .loop .end) (head x .loop .waiting) (x .take-in .last .1 .1 .1 .1 .1 .1 .0) reach
+    → Joins (start x .args .geometry .parameters) (start x .args .geometry .growth) (file (start x)) (head x .loop .at) (head x .loop .end) (head x .loop .waiting) (x .take-in .last .1 .1 .1 .1 .1 .1 .1 .0) reach
 joins x reach e = known x (Joined reach) e
 
-waiting-kept : (x : Place) → length (x .take-in .last .1 .1 .1 .1 .1 .1 .0) ≡ length (now (start x .args .waiting))
-waiting-kept x = x .take-in .kept .1 .1 .1 .1 .1 .1 .0 ∙ waiting-same (head x)
+waiting-kept : (x : Place) → length (x .take-in .last .1 .1 .1 .1 .1 .1 .1 .0) ≡ length (now (start x .args .waiting))
+waiting-kept x = x .take-in .kept .1 .1 .1 .1 .1 .1 .1 .0 ∙ waiting-same (head x)
 
 cast-pages : tie.Need-cast-pages Inv-loop μ-loop
 cast-pages c = search needs
@@ -121,16 +123,19 @@ loop-holds c =
         refl,
         (
           refl,
-          rw (c .pack .ensures ∙ new-packed p g (file s) (s .args .number) (s .args .page) (e .ready .homing .valid) (e .ready .sized) (e .number) (e .unheld) (e .here) (s .args .home) (e .homed))
-              (rolling-none p g (file s) (s .args .number) (s .args .page) (e .ready .homing .valid) (e .ready .sized) (e .number) (e .unheld) (e .here) (now (s .args .pool)) (now (s .args .planned)) (now (s .args .waiting)) (items s)),
+          (
+            s .pre .1 .1 .1 .1,
+            rw (c .pack .ensures ∙ new-packed p g (file s) (s .args .number) (s .args .page) (e .ready .homing .valid) (e .ready .sized) (e .number) (e .unheld) (e .here) (s .args .home) (e .homed))
+                (rolling-none p g (file s) (s .args .number) (s .args .page) (e .ready .homing .valid) (e .ready .sized) (e .number) (e .unheld) (e .here) (now (s .args .pool)) (now (s .args .planned)) (now (s .args .waiting)) (items s)),
+          ),
         ),
       ),
     )
 
 take-in-requires : tie.Need-take-in-requires Inv-loop μ-loop
 take-in-requires c κs =
-    let h = c .before .before in
-    (begun h .pre .0 .ready, (waiting-long h, (c .before .loop-test .taken, rolls h .within)))
+    let h = c .before .before .before in
+    (begun h .pre .0 .ready, ((waiting-long h, pool-long h), ((c .before .before .loop-test .taken, rolls h .within), λ t. h .loop .inv .1 .1 .1 .0 (h .loop .at) (le-refl _) t)))
 
 enum-told : tie.Need-enum-told Inv-loop μ-loop
 enum-told c = search needs
@@ -193,7 +198,7 @@ settle-page-requires c κs =
       s .pre .1 .0,
       (
         rolling-probing (s .args .geometry .parameters) (s .args .geometry .growth) (file s) (s .args .number) (s .args .page) (e .ready .homing .valid) (e .ready .sized) (e .number) (e .unheld) (e .here)
-            (h .loop .pool) (h .loop .planned) (h .loop .waiting) (h .loop .at) (h .loop .from) (h .loop .end) (rolls h) (inside x) (x .take-in .last .1 .1 .1 .1 .1 .1 .0) (v .0 .0) (joins x (v .0 .0) (v .1)) (waiting-kept x ∙ s .pre .1 .1 .0 .1),
+            (h .loop .pool) (h .loop .planned) (h .loop .waiting) (h .loop .at) (h .loop .from) (h .loop .end) (rolls h) (inside x) (x .take-in .last .1 .1 .1 .1 .1 .1 .1 .0) (v .0 .0) (joins x (v .0 .0) (v .1)) (waiting-kept x ∙ s .pre .1 .1 .0 .1),
         (
           omega (arith, c .before .before .before .shared-slice-known5 .given (h .loop .at)),
           (omega (arith, inside x, planned-long h), page-fits _ _ _ (inside x) (pool-long h)),
@@ -228,7 +233,7 @@ returns-3 c =
     let s = start x in
     let e = s .pre .0 in
     rolling-ends (s .args .geometry .parameters) (s .args .geometry .growth) (file s) (s .args .number) (s .args .page) (e .ready .homing .valid) (e .ready .sized) (e .number) (e .unheld) (e .here)
-    (h .loop .pool) (h .loop .planned) (h .loop .waiting) (h .loop .at) (h .loop .from) (h .loop .end) (rolls h) (inside x) (x .take-in .last .1 .1 .1 .1 .1 .1 .0) (value y) (joins x (value y) (y .before .before .before .before .before .before .reach .given .1)) (pool-long h) (planned-long h)
+    (h .loop .pool) (h .loop .planned) (h .loop .waiting) (h .loop .at) (h .loop .from) (h .loop .end) (rolls h) (inside x) (x .take-in .last .1 .1 .1 .1 .1 .1 .1 .0) (value y) (joins x (value y) (y .before .before .before .before .before .before .reach .given .1)) (pool-long h) (planned-long h)
     (y .settle-page .last .1 .1 .1 .0) (y .settle-page .last .1 .1 .1 .1 .1 .0) (y .settle-page .last .1 .1 .1 .1 .0) (y .settle-page .result) (y .settle-page .ensures) (y .settle-page .kept .1 .1 .1 .1 .0) (c .if1 .taken)
 
 add-at : tie.Need-add-at Inv-loop μ-loop
@@ -246,12 +251,17 @@ loop-again c =
     let e = s .pre .0 in (
       y .settle-page .kept .1 .1 .1 .0 ∙ h .loop .inv .0,
       (
-        y .settle-page .kept .1 .1 .1 .1 .0 ∙ (x .take-in .kept .1 .1 .1 .1 .1 .1 .0 ∙ h .loop .inv .1 .0),
+        y .settle-page .kept .1 .1 .1 .1 .0 ∙ (x .take-in .kept .1 .1 .1 .1 .1 .1 .1 .0 ∙ h .loop .inv .1 .0),
         (
           y .settle-page .kept .1 .1 .1 .1 .1 .0 ∙ h .loop .inv .1 .1 .0,
-          rolling-next (s .args .geometry .parameters) (s .args .geometry .growth) (file s) (s .args .number) (s .args .page) (e .ready .homing .valid) (e .ready .sized) (e .number) (e .unheld) (e .here)
-              (h .loop .pool) (h .loop .planned) (h .loop .waiting) (h .loop .at) (h .loop .from) (h .loop .end) (rolls h) (inside x) (x .take-in .last .1 .1 .1 .1 .1 .1 .0) (value y) (joins x (value y) (y .before .before .before .before .before .before .reach .given .1)) (pool-long h) (planned-long h)
-              (y .settle-page .last .1 .1 .1 .0) (y .settle-page .last .1 .1 .1 .1 .1 .0) (y .settle-page .last .1 .1 .1 .1 .0) (y .settle-page .result) (y .settle-page .ensures) (y .settle-page .kept .1 .1 .1 .1 .0) (c .if1 .left),
+          (
+            rolling-known (s .args .geometry .parameters) (s .args .geometry .growth) (file s) (s .args .number) (s .args .page) (e .ready .homing .valid) (e .ready .sized) (e .number) (e .unheld) (e .here)
+                (h .loop .pool) (h .loop .planned) (h .loop .waiting) (h .loop .at) (h .loop .from) (h .loop .end) (rolls h) (inside x) (x .take-in .last .1 .1 .1 .1 .1 .1 .1 .0) (value y) (joins x (value y) (y .before .before .before .before .before .before .reach .given .1)) (pool-long h) (planned-long h)
+                (y .settle-page .last .1 .1 .1 .0) (y .settle-page .last .1 .1 .1 .1 .1 .0) (y .settle-page .last .1 .1 .1 .1 .0) (y .settle-page .result) (y .settle-page .ensures) (s .args .tested) (h .loop .inv .1 .1 .1 .0),
+            rolling-next (s .args .geometry .parameters) (s .args .geometry .growth) (file s) (s .args .number) (s .args .page) (e .ready .homing .valid) (e .ready .sized) (e .number) (e .unheld) (e .here)
+                (h .loop .pool) (h .loop .planned) (h .loop .waiting) (h .loop .at) (h .loop .from) (h .loop .end) (rolls h) (inside x) (x .take-in .last .1 .1 .1 .1 .1 .1 .1 .0) (value y) (joins x (value y) (y .before .before .before .before .before .before .reach .given .1)) (pool-long h) (planned-long h)
+                (y .settle-page .last .1 .1 .1 .0) (y .settle-page .last .1 .1 .1 .1 .1 .0) (y .settle-page .last .1 .1 .1 .1 .0) (y .settle-page .result) (y .settle-page .ensures) (y .settle-page .kept .1 .1 .1 .1 .0) (c .if1 .left),
+          ),
         ),
       ),
     )

@@ -73,7 +73,7 @@ survey-pages-requires : tie.Need-survey-pages-requires
 survey-pages-requires c κs =
     let e = c .before in
     let s = entry e in
-    (s .pre .0, (s .pre .1 .0 .0, (omega (arith, low e), omega (arith, high e))))
+    (s .pre .0, (s .pre .1 .0 .0, (omega (arith, low e), (omega (arith, high e), s .pre .1 .1 .1 .1))))
 
 same-length : tie.Need-same-length
 same-length c = search needs
@@ -87,7 +87,7 @@ returns c =
 
 sub-if2 : tie.Need-sub-if2
 sub-if2 c =
-    omega (arith, from c .pre .1 .1 .1 .0)
+    omega (arith, from c .pre .1 .1 .1 .0 .0)
 
 mul-count-stars : tie.Need-mul-count-stars
 mul-count-stars c =
@@ -129,13 +129,13 @@ returns-2 c =
     let s = from d in
     block-crowded (s .args .geometry .parameters) (s .args .geometry .growth) (file s) (s .pre .0 .homing .valid) (s .pre .0 .sized) (s .args .lo) (s .pre .1 .1 .0 .1)
     (ended d .stretch-end .result) (block-end (ended d)) (clear d) (take (s .args .incoming) (now (s .args .waiting))) (s .args .incoming)
-    (length-take-le (s .args .incoming) (now (s .args .waiting)) (s .pre .1 .1 .1 .0))
+    (length-take-le (s .args .incoming) (now (s .args .waiting)) (s .pre .1 .1 .1 .0 .0))
     (omega (
       arith,
       c .if2 .taken,
       c .before .count-stars .ensures,
       s .pre .1 .0 .1,
-      s .pre .1 .1 .1 .0,
+      s .pre .1 .1 .1 .0 .0,
       found-count (s .args .geometry .parameters) (s .args .geometry .growth) (file s) (s .pre .0 .homing .valid) (s .pre .0 .sized) (s .args .lo) (s .pre .1 .1 .0 .1) (ended d .stretch-end .result) (block-end (ended d)) (clear d),
     ))
 
@@ -162,10 +162,10 @@ plan-requires c κs =
               found-below (s .args .geometry .parameters) (s .args .geometry .growth) (file s) (s .pre .0 .homing .valid) (s .pre .0 .sized) (s .args .lo) (s .pre .1 .1 .0 .1) (e .stretch-end .result) (block-end e) (clear d) (now (s .args .pool)) (y .last .1 .1 .1 .1 .1 .1 .0) (s .pre .1 .0 .0) (homes d),
               (
                 (
-                  omega (arith, c .before .before .before .if2 .left, c .before .before .before .before .count-stars .ensures, s .pre .1 .1 .1 .0, found-count (s .args .geometry .parameters) (s .args .geometry .growth) (file s) (s .pre .0 .homing .valid) (s .pre .0 .sized) (s .args .lo) (s .pre .1 .1 .0 .1) (e .stretch-end .result) (block-end e) (clear d)),
+                  omega (arith, c .before .before .before .if2 .left, c .before .before .before .before .count-stars .ensures, s .pre .1 .1 .1 .0 .0, found-count (s .args .geometry .parameters) (s .args .geometry .growth) (file s) (s .pre .0 .homing .valid) (s .pre .0 .sized) (s .args .lo) (s .pre .1 .1 .0 .1) (e .stretch-end .result) (block-end e) (clear d)),
                   omega (arith, few s, s .pre .1 .0 .1),
                 ),
-                s .pre .1 .1 .1 .1,
+                s .pre .1 .1 .1 .0 .1,
               ),
             ),
           ),

@@ -11,6 +11,8 @@ use Rattle.hashing.proofs.Bounds.{Limits, limits}
 use Rattle.hashing.proofs.Homes.{home-pages}
 use Rattle.placement.specs.File.{File}
 use Rattle.placement.specs.Hash.{lent}
+use Rattle.reach.specs.Known.{Known}
+use Rattle.reach.proofs.Surveyed.{known-none}
 use Rattle.entering.specs.declared.blocks.Block.{Block}
 use Rattle.entering.specs.declared.blocks.Block.the-variants.{Planned as block·Planned, Unsound as block·Unsound, Crowded}
 use Rattle.entering.specs.Entry.{entryStart, BlockPlanned, PlannedBlock}
@@ -20,14 +22,15 @@ use Rattle.entering.proofs.blocks.plan_entry.Statement.{statement}
 use Rattle.entering.proofs.blocks.plan_entry.Tie as tie
 
 abbrev Inv-loop : tie.InvT-loop
-Inv-loop table geometry separators numbers words owners pool₀ waiting₀ planned₀ number home pages lo₀ carried₀ pool waiting planned lo carried =
+Inv-loop table geometry separators numbers words owners pool₀ waiting₀ planned₀ number home known pages lo₀ carried₀ tested₀ pool waiting planned lo carried tested =
     (length pool ≡ length pool₀)
     × ((length waiting ≡ length waiting₀)
     × ((length planned ≡ length planned₀)
-    × Reached (geometry .parameters) (geometry .growth) (lent separators numbers words owners) number pool planned waiting lo carried))
+    × (Reached (geometry .parameters) (geometry .growth) (lent separators numbers words owners) number pool planned waiting lo carried
+    × Known (geometry .parameters) (geometry .growth) (lent separators numbers words owners) pool tested)))
 
 abbrev μ-loop : tie.MeasureT-loop
-μ-loop table geometry separators numbers words owners pool₀ waiting₀ planned₀ number home pages lo₀ carried₀ pool waiting planned lo carried =
+μ-loop table geometry separators numbers words owners pool₀ waiting₀ planned₀ number home known pages lo₀ carried₀ tested₀ pool waiting planned lo carried tested =
     geometry .parameters .pages - lo
 
 abbrev Start : Type 0
@@ -57,12 +60,12 @@ head x = x .before .before .before .before
 
 reached : (x : Place) → Reached (start x .args .geometry .parameters) (start x .args .geometry .growth) (file (start x)) (start x .args .number)
     (head x .loop .pool) (head x .loop .planned) (head x .loop .waiting) (head x .loop .lo) (head x .loop .carried)
-reached x = head x .loop .inv .1 .1 .1
+reached x = head x .loop .inv .1 .1 .1 .0
 
-known : (x : Place) (b : Block) → x .plan-block .result ≡ b
+told : (x : Place) (b : Block) → x .plan-block .result ≡ b
     → BlockPlanned (start x .args .geometry .parameters) (start x .args .geometry .growth) (file (start x)) (head x .loop .lo) (take (head x .loop .carried) (head x .loop .waiting))
     (head x .loop .pool) (x .plan-block .last .1 .1 .1 .1 .1 .1 .0) (head x .loop .planned) (x .plan-block .last .1 .1 .1 .1 .1 .1 .1 .1 .0) (x .plan-block .last .1 .1 .1 .1 .1 .1 .1 .0) b
-known x b e =
+told x b e =
     subst (λ (b : Block). BlockPlanned (start x .args .geometry .parameters) (start x .args .geometry .growth) (file (start x)) (head x .loop .lo) (take (head x .loop .carried) (head x .loop .waiting))
     (head x .loop .pool) (x .plan-block .last .1 .1 .1 .1 .1 .1 .0) (head x .loop .planned) (x .plan-block .last .1 .1 .1 .1 .1 .1 .1 .1 .0) (x .plan-block .last .1 .1 .1 .1 .1 .1 .1 .0) b) e (x .plan-block .ensures)
 
@@ -79,7 +82,7 @@ waiting-kept x = x .plan-block .kept .1 .1 .1 .1 .1 .1 .1 .0 ∙ waiting-long (h
 planned : (x : Place) (last left : ℕ) → x .plan-block .result ≡ block·Planned last left
     → PlannedBlock (start x .args .geometry .parameters) (start x .args .geometry .growth) (file (start x)) (head x .loop .lo) (take (head x .loop .carried) (head x .loop .waiting))
     (head x .loop .pool) (x .plan-block .last .1 .1 .1 .1 .1 .1 .0) (head x .loop .planned) (x .plan-block .last .1 .1 .1 .1 .1 .1 .1 .1 .0) (x .plan-block .last .1 .1 .1 .1 .1 .1 .1 .0) last left
-planned x last left e = known x (block·Planned last left) e
+planned x last left e = told x (block·Planned last left) e
 
 cast-pages : tie.Need-cast-pages Inv-loop μ-loop
 cast-pages c = search needs
@@ -90,7 +93,7 @@ add-pack c = search needs
 pack-requires : tie.Need-pack-requires Inv-loop μ-loop
 pack-requires c κs =
     let s = c .before .before .before .before .before .before .before .before in (
-      omega (arith, s .pre .1 .1 .1 .1 .1, home-pages (multiplierOf (s .args .geometry .parameters)) (s .args .geometry .parameters) (s .args .geometry .growth) (s .args .number) (s .pre .0 .homing .valid) (s .pre .0 .homing .growth), bounds s .pages-most),
+      omega (arith, s .pre .1 .1 .1 .1 .1 .0, home-pages (multiplierOf (s .args .geometry .parameters)) (s .args .geometry .parameters) (s .args .geometry .growth) (s .args .number) (s .pre .0 .homing .valid) (s .pre .0 .homing .growth), bounds s .pages-most),
       (omega (arith, valid-most (s .args .number) (s .pre .1 .1 .1 .0)), omega (arith, few s, s .pre .0 .sized .ofNumbers)),
     )
 
@@ -102,17 +105,20 @@ slice-write-waiting c =
 loop-holds : tie.Need-loop-holds Inv-loop μ-loop
 loop-holds c =
     let s = c .before .before .before .before .before .before .before .before .before in
-    let from : s .args .home ≡ entryStart (s .args .geometry .parameters) (s .args .geometry .growth) (s .args .number) = s .pre .1 .1 .1 .1 .1 ∙ home-starts (s .args .geometry .parameters) (s .args .geometry .growth) (s .args .number) in
+    let from : s .args .home ≡ entryStart (s .args .geometry .parameters) (s .args .geometry .growth) (s .args .number) = s .pre .1 .1 .1 .1 .1 .0 ∙ home-starts (s .args .geometry .parameters) (s .args .geometry .growth) (s .args .number) in
     let packed : c .pack .result ≡ newWord (s .args .geometry .parameters) (s .args .geometry .growth) (file s) (s .args .number) = c .pack .ensures ∙ rw from in (
       refl,
       (
         refl,
         (
           refl,
-          rw (packed, from)
-              (reached-none (s .args .geometry .parameters) (s .args .geometry .growth) (file s) (s .args .number) (s .pre .0 .homing .valid) (s .pre .0 .sized) (s .pre .1 .1 .1 .0) (s .pre .1 .1 .1 .1 .0) (now (s .args .pool)) (now (s .args .planned)) (now (s .args .waiting))
-              (omega (arith, home-starts (s .args .geometry .parameters) (s .args .geometry .growth) (s .args .number), home-pages (multiplierOf (s .args .geometry .parameters)) (s .args .geometry .parameters) (s .args .geometry .growth) (s .args .number) (s .pre .0 .homing .valid) (s .pre .0 .homing .growth)))
-              (omega (arith, s .pre .1 .0 .1, some-items (s .args .geometry .parameters) (s .args .geometry .growth) (s .pre .0 .homing .valid) (s .pre .0 .homing .growth) (s .args .number)))),
+          (
+            rw (packed, from)
+                (reached-none (s .args .geometry .parameters) (s .args .geometry .growth) (file s) (s .args .number) (s .pre .0 .homing .valid) (s .pre .0 .sized) (s .pre .1 .1 .1 .0) (s .pre .1 .1 .1 .1 .0) (now (s .args .pool)) (now (s .args .planned)) (now (s .args .waiting))
+                (omega (arith, home-starts (s .args .geometry .parameters) (s .args .geometry .growth) (s .args .number), home-pages (multiplierOf (s .args .geometry .parameters)) (s .args .geometry .parameters) (s .args .geometry .growth) (s .args .number) (s .pre .0 .homing .valid) (s .pre .0 .homing .growth)))
+                (omega (arith, s .pre .1 .0 .1, some-items (s .args .geometry .parameters) (s .args .geometry .growth) (s .pre .0 .homing .valid) (s .pre .0 .homing .growth) (s .args .number)))),
+            s .pre .1 .1 .1 .1 .1 .1,
+          ),
         ),
       ),
     )
@@ -121,15 +127,18 @@ plan-block-requires : tie.Need-plan-block-requires Inv-loop μ-loop
 plan-block-requires c κs =
     let s = c .before .before .before .before .before .before .before .before .before .before .before .before .before in
     let l = c .before .before .before .loop in
-    let r = l .inv .1 .1 .1 in (
+    let r = l .inv .1 .1 .1 .0 in (
       s .pre .0,
       (
         (l .inv .0 ∙ s .pre .1 .0 .0, waiting-long (c .before .before .before) ∙ s .pre .1 .0 .1),
         (
           (omega (arith, l .inv .1 .1 .0, s .pre .1 .1 .0), r .inside),
           (
-            spanned-few (s .args .geometry .parameters) (s .args .geometry .growth) (file s) (s .args .number) (s .pre .0 .homing .valid) (s .pre .0 .sized) (s .pre .1 .1 .1 .0) (s .pre .1 .1 .1 .1 .0) (l .pool) (l .planned) (l .waiting) (r .done) (l .carried) (r .spanned),
-            rw (r .at) (spanned-near (s .args .geometry .parameters) (s .args .geometry .growth) (file s) (s .args .number) (s .pre .0 .homing .valid) (s .pre .0 .sized) (s .pre .1 .1 .1 .0) (s .pre .1 .1 .1 .1 .0) (l .pool) (l .planned) (l .waiting) (r .done) (l .carried) (r .spanned)),
+            (
+              spanned-few (s .args .geometry .parameters) (s .args .geometry .growth) (file s) (s .args .number) (s .pre .0 .homing .valid) (s .pre .0 .sized) (s .pre .1 .1 .1 .0) (s .pre .1 .1 .1 .1 .0) (l .pool) (l .planned) (l .waiting) (r .done) (l .carried) (r .spanned),
+              rw (r .at) (spanned-near (s .args .geometry .parameters) (s .args .geometry .growth) (file s) (s .args .number) (s .pre .0 .homing .valid) (s .pre .0 .sized) (s .pre .1 .1 .1 .0) (s .pre .1 .1 .1 .1 .0) (l .pool) (l .planned) (l .waiting) (r .done) (l .carried) (r .spanned)),
+            ),
+            l .inv .1 .1 .1 .1,
           ),
         ),
       ),
@@ -153,7 +162,7 @@ returns c =
     let x = c .before .before .before .before .before .before .before .before .before in
     let s = start x in
     let page = c .before .page .given .0 .0 in (
-      (λ word owner. reached-unsound (s .args .geometry .parameters) (s .args .geometry .growth) (file s) (s .args .number) (s .pre .0 .homing .valid) (s .pre .0 .sized) (s .pre .1 .1 .1 .0) (s .pre .1 .1 .1 .1 .0) (head x .loop .pool) (head x .loop .planned) (head x .loop .waiting) (head x .loop .lo) (head x .loop .carried) (reached x) page (known x (block·Unsound page) (c .before .page .given .1)) word owner),
+      (λ word owner. reached-unsound (s .args .geometry .parameters) (s .args .geometry .growth) (file s) (s .args .number) (s .pre .0 .homing .valid) (s .pre .0 .sized) (s .pre .1 .1 .1 .0) (s .pre .1 .1 .1 .1 .0) (head x .loop .pool) (head x .loop .planned) (head x .loop .waiting) (head x .loop .lo) (head x .loop .carried) (reached x) page (told x (block·Unsound page) (c .before .page .given .1)) word owner),
       (λ word owner last e. absurd (unsound-ends page last e)),
     )
 
@@ -174,7 +183,7 @@ returns-2 : tie.Need-returns-2 Inv-loop μ-loop
 returns-2 c =
     let x = c .before .before .before .before .before .before .before .before in
     let s = start x in (
-      (λ word owner. reached-crowded (s .args .geometry .parameters) (s .args .geometry .growth) (file s) (s .args .number) (s .pre .0 .homing .valid) (s .pre .0 .sized) (s .pre .1 .1 .1 .0) (s .pre .1 .1 .1 .1 .0) (head x .loop .pool) (head x .loop .planned) (head x .loop .waiting) (head x .loop .lo) (head x .loop .carried) (reached x) (known x Crowded (c .enum-told .given .1)) word owner),
+      (λ word owner. reached-crowded (s .args .geometry .parameters) (s .args .geometry .growth) (file s) (s .args .number) (s .pre .0 .homing .valid) (s .pre .0 .sized) (s .pre .1 .1 .1 .0) (s .pre .1 .1 .1 .1 .0) (head x .loop .pool) (head x .loop .planned) (head x .loop .waiting) (head x .loop .lo) (head x .loop .carried) (reached x) (told x Crowded (c .enum-told .given .1)) word owner),
       (λ word owner last e. absurd (overflows-ends last e)),
     )
 
@@ -243,8 +252,11 @@ loop-again c =
         x .plan-block .kept .1 .1 .1 .1 .1 .1 .1 .0 ∙ head x .loop .inv .1 .0,
         (
           x .plan-block .kept .1 .1 .1 .1 .1 .1 .1 .1 .0 ∙ head x .loop .inv .1 .1 .0,
-          rw (add-one (v .0 .0))
-              (reached-next (s .args .geometry .parameters) (s .args .geometry .growth) (file s) (s .args .number) (s .pre .0 .homing .valid) (s .pre .0 .sized) (s .pre .1 .1 .1 .0) (s .pre .1 .1 .1 .1 .0) (head x .loop .pool) (head x .loop .planned) (head x .loop .waiting) (head x .loop .lo) (head x .loop .carried) (reached x) (x .plan-block .last .1 .1 .1 .1 .1 .1 .0) (x .plan-block .last .1 .1 .1 .1 .1 .1 .1 .1 .0) (x .plan-block .last .1 .1 .1 .1 .1 .1 .1 .0) (v .0 .0) (v .0 .1 .0) (pool-long x) (planned-long x) (planned x (v .0 .0) (v .0 .1 .0) (v .1)) (c .before .if1 .left) (omega (arith, c .if2 .left, planned x (v .0 .0) (v .0 .1 .0) (v .1) .is, block-most (s .args .geometry .parameters) (s .args .geometry .growth) (file s) (head x .loop .lo) (reached x .inside)))),
+          (
+            rw (add-one (v .0 .0))
+                (reached-next (s .args .geometry .parameters) (s .args .geometry .growth) (file s) (s .args .number) (s .pre .0 .homing .valid) (s .pre .0 .sized) (s .pre .1 .1 .1 .0) (s .pre .1 .1 .1 .1 .0) (head x .loop .pool) (head x .loop .planned) (head x .loop .waiting) (head x .loop .lo) (head x .loop .carried) (reached x) (x .plan-block .last .1 .1 .1 .1 .1 .1 .0) (x .plan-block .last .1 .1 .1 .1 .1 .1 .1 .1 .0) (x .plan-block .last .1 .1 .1 .1 .1 .1 .1 .0) (v .0 .0) (v .0 .1 .0) (pool-long x) (planned-long x) (planned x (v .0 .0) (v .0 .1 .0) (v .1)) (c .before .if1 .left) (omega (arith, c .if2 .left, planned x (v .0 .0) (v .0 .1 .0) (v .1) .is, block-most (s .args .geometry .parameters) (s .args .geometry .growth) (file s) (head x .loop .lo) (reached x .inside)))),
+            known-none (s .args .geometry .parameters) (s .args .geometry .growth) (file s) _ _ (omega arith),
+          ),
         ),
       ),
     )

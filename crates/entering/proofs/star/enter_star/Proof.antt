@@ -11,8 +11,8 @@ use Rattle.pages.proofs.Parts.{page-fits}
 use Rattle.placement.specs.File.{File}
 use Rattle.placement.specs.Hash.{lent}
 use Rattle.shifting.proofs.OnePage.{home-start}
-use Rattle.shifting.specs.Shift.{Vacant}
-use Rattle.entering.specs.Entry.{entryStart, takesAlone}
+use Rattle.shifting.specs.Shift.{Vacant, takesAlone}
+use Rattle.entering.specs.Entry.{entryStart}
 use Rattle.entering.proofs.OnePage.{vacant-home, alone-lists}
 use Rattle.entering.proofs.star.enter_star.Statement.{statement}
 use Rattle.entering.proofs.star.enter_star.Tie as tie
@@ -46,7 +46,7 @@ alone c =
 enter-stretch-requires : tie.Need-enter-stretch-requires
 enter-stretch-requires c κs =
     let pre = c .before .before .before .before .before .before .before .before .before .before .before .before .before .before .before .before .before .before .before .pre in
-    (pre .0, (pre .1 .0, (pre .1 .1 .0, (pre .1 .1 .1 .0, pre .1 .1 .1 .1 .0))))
+    (pre .0, (pre .1 .0, (pre .1 .1 .0, (pre .1 .1 .1 .0, (pre .1 .1 .1 .1 .0, pre .1 .1 .1 .1 .1 .1)))))
 
 same-length : tie.Need-same-length
 same-length c = search needs
@@ -80,7 +80,7 @@ put-star-requires c κs =
     let d = c .before .before .before .before in
     let s = begun d in
     subst (λ (page : ℕ). Vacant (s .args .geometry .parameters .places) page (s .args .place) (s .args .number) (now (s .args .numbers)) (now (s .args .words)) (now (s .args .owners))) (sym (home-is s))
-    (vacant-home (s .args .geometry .parameters) (s .args .geometry .growth) (file s) (s .args .number) (s .pre .0 .homing .valid) (s .pre .0 .homing .growth) (s .pre .0 .sized) (s .pre .1 .1 .1 .0) (alone d) (s .args .place) (s .pre .1 .1 .1 .1 .1))
+    (vacant-home (s .args .geometry .parameters) (s .args .geometry .growth) (file s) (s .args .number) (s .pre .0 .homing .valid) (s .pre .0 .homing .growth) (s .pre .0 .sized) (s .pre .1 .1 .1 .0) (alone d) (s .args .place) (s .pre .1 .1 .1 .1 .1 .0))
 
 same-length-8 : tie.Need-same-length-8
 same-length-8 c = search needs

@@ -28,7 +28,7 @@ abbrev start : Place → tie.Start
 start x = x .before .before .before .before .before .before .before .before .before .before .before .before .before .before .before .before
 
 home-is : (x : Place) → start x .args .home ≡ entryStart (start x .args .geometry .parameters) (start x .args .geometry .growth) (start x .args .number)
-home-is x = start x .pre .1 .1 .1 .1 ∙ home-starts (start x .args .geometry .parameters) (start x .args .geometry .growth) (start x .args .number)
+home-is x = start x .pre .1 .1 .1 .1 .0 ∙ home-starts (start x .args .geometry .parameters) (start x .args .geometry .growth) (start x .args .number)
 
 -- where the reach ends at `last`
 module _ (x : Place) (last : ℕ) (v : x .plan-entry .result ≡ Ends last) where
@@ -105,7 +105,7 @@ named-from-requires : tie.Need-named-from-requires
 named-from-requires c κs =
     let x = c .before .before .before .before .before .before .before .before .before .before .before .before .before .before .before .before .before .before .before .before .before .before .before .before .before .before .before .before .before .before .before .before in
     let s = start x in
-    (s .pre .0 .homing, (c .before .before .before .before .before .before .before .before .before .before .before .before .before .before .before .apply .kept .0 ∙ s .pre .0 .sized .ofSeparators, s .pre .1 .1 .1 .1))
+    (s .pre .0 .homing, (c .before .before .before .before .before .before .before .before .before .before .before .before .before .before .before .apply .kept .0 ∙ s .pre .0 .sized .ofSeparators, s .pre .1 .1 .1 .1 .0))
 
 same-length : tie.Need-same-length
 same-length c = search needs
@@ -187,7 +187,7 @@ returns-3 c =
     let whole : lent (y .last .0) (y .last .1 .0) (y .last .1 .1 .0) (y .last .1 .1 .1 .0) ≡ entryFile (s .args .geometry .parameters) (s .args .geometry .growth) (file s) (newStar (s .args .number) (s .args .word) (s .args .owner)) =
     entry-file (s .args .geometry .parameters) (s .args .geometry .growth) (file s) (s .args .number) (s .args .word) (s .args .owner) (x .plan-entry .last .1 .1 .1 .1 .1 .1 .0) (x .plan-entry .last .1 .1 .1 .1 .1 .1 .1 .1 .0) last (answer x last (v .1))
     (λ word owner l e. x .plan-entry .ensures .1 word owner l (v .1 ∙ e)) (y .last .0) (y .last .1 .0) (y .last .1 .1 .0) (y .last .1 .1 .1 .0)
-    (rw (home-is x) at (y .ensures .0)) (rw (home-is x) at (y .ensures .1 .0)) (rw (home-is x) at (y .ensures .1 .1 .0)) (rw (home-is x) at (y .ensures .1 .1 .1)) in (
+    (rw (home-is x) at (y .ensures .0)) (rw (home-is x) at (y .ensures .1 .0)) (rw (home-is x) at (y .ensures .1 .1 .0)) (rw (home-is x) at (y .ensures .1 .1 .1 .0)) in (
       ends-answer (s .args .geometry .parameters) (s .args .geometry .growth) (file s) (s .args .number) (s .args .word) (s .args .owner) last (answer x last (v .1)) (c .named-from .result)
           (c .named-from .ensures
           ∙ ap (λ (f : File). namedPage (s .args .geometry .parameters) (s .args .geometry .growth) (f .separators) (s .args .number)) whole

@@ -1,5 +1,5 @@
--- `starfile::look_up` meets its contract.
-use mathlib.Core.Path.{_≡_, sym, ap, _∙_}
+-- `lookup::reading::look_up` meets its contract.
+use mathlib.Core.Path.{_≡_, refl, sym, ap, _∙_}
 use mathlib.Core.Bool.{true}
 use native.Mathlib.Omega.{arith}
 use borrow.Author.Tests.{not-true, not-false}
@@ -69,37 +69,37 @@ first-multipliers-requires c κs = tabled (lent-well (told c))
 
 find-requires : tie.Need-find-requires
 find-requires c κs =
-    let d = c .before .before in
-    (prepared (c .before .first-multipliers .ensures) (lent-well (told d)), numbered d)
+    let d = c .before .before .before in
+    (prepared (c .before .before .first-multipliers .ensures) (lent-well (told d)), (numbered d, refl))
 
 cast-page : tie.Need-cast-page
-cast-page c = omega (arith, c .before .find .ensures .pageMost, limits _ (lent-well (told (c .before .before .before .before)) .homing .valid) .pages-most)
+cast-page c = omega (arith, c .before .find .ensures .0 .pageMost, limits _ (lent-well (told (c .before .before .before .before .before)) .homing .valid) .pages-most)
 
 returns-3 : tie.Need-returns-3
 unfolding lookUpOf lookedUp sought refusedBy
 returns-3 c =
-    let found = c .before .before .before .find .ensures in
-    let d = c .before .before .before .before .before .before in
+    let found = c .before .before .before .find .ensures .0 in
+    let d = c .before .before .before .before .before .before .before in
     rw (none (told d), numbered d, sym (found .readableIs) ∙ not-true _ (c .if2 .taken), found .pageIs)
 
 returns-4 : tie.Need-returns-4
 unfolding lookUpOf lookedUp sought
 returns-4 c =
-    let found = c .before .before .before .before .before .find .ensures in
+    let found = c .before .before .before .before .before .find .ensures .0 in
     let read = not-false _ (c .before .before .if2 .left) in
-    let d = c .before .before .before .before .before .before .before .before in
+    let d = c .before .before .before .before .before .before .before .before .before in
     rw (none (told d), numbered d, sym (found .readableIs) ∙ read, sym (found .heldIs read) ∙ not-true _ (c .if3 .taken), ← found .placeIs read, found .pageIs)
 
 unpack-requires : tie.Need-unpack-requires
-unpack-requires c κs = c .before .before .before .before .before .find .ensures .wordValid (not-false _ (c .if3 .left))
+unpack-requires c κs = c .before .before .before .before .before .find .ensures .0 .wordValid (not-false _ (c .if3 .left))
 
 returns-5 : tie.Need-returns-5
 unfolding lookUpOf lookedUp sought
 returns-5 c =
-    let found = c .before .before .before .before .before .before .find .ensures in
+    let found = c .before .before .before .before .before .before .find .ensures .0 in
     let read = not-false _ (c .before .before .before .if2 .left) in
     let held = not-false _ (c .before .if3 .left) in
-    let d = c .before .before .before .before .before .before .before .before .before in
+    let d = c .before .before .before .before .before .before .before .before .before .before in
     rw (none (told d), numbered d, sym (found .readableIs) ∙ read, sym (found .heldIs read) ∙ held, c .unpack .ensures, found .wordIs held, ← found .placeIs read, found .pageIs)
 
 pub look-up-spec : {M : Type 1} → statement M

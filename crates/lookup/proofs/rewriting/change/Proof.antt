@@ -1,5 +1,5 @@
--- `starfile::change` meets its contract.
-use mathlib.Core.Path.{_≡_, sym, _∙_}
+-- `lookup::rewriting::change` meets its contract.
+use mathlib.Core.Path.{_≡_, refl, sym, _∙_}
 use mathlib.Core.Bool.{true}
 use Prim.Native.Nat.{_*_, _<_}
 use native.Mathlib.Omega.{arith}
@@ -88,11 +88,11 @@ first-multipliers-requires c κs = tabled (lent-well (told c))
 
 find-requires : tie.Need-find-requires
 find-requires c κs =
-    let d = c .before .before .before in
-    (prepared (c .before .before .first-multipliers .ensures) (lent-well (told d)), numbered d)
+    let d = c .before .before .before .before in
+    (prepared (c .before .before .before .first-multipliers .ensures) (lent-well (told d)), (numbered d, refl))
 
 cast-page : tie.Need-cast-page
-cast-page c = omega (arith, c .before .find .ensures .pageMost, limits _ (lent-well (told (c .before .before .before .before .before)) .homing .valid) .pages-most)
+cast-page c = omega (arith, c .before .find .ensures .0 .pageMost, limits _ (lent-well (told (c .before .before .before .before .before .before)) .homing .valid) .pages-most)
 
 same-length : tie.Need-same-length
 same-length c = search needs
@@ -100,9 +100,9 @@ same-length c = search needs
 returns-4 : tie.Need-returns-4
 unfolding changeOf placed refusedBy changeOn
 returns-4 c =
-    let found = c .before .before .before .find .ensures in
-    let d = c .before .before .before .before .before .before .before in
-    leaves _ _ (c .before .before .before .before .before .before .before .before .before .before .before .before .before .before .before .before .before .before .before .args .growth) _ _
+    let found = c .before .before .before .find .ensures .0 in
+    let d = c .before .before .before .before .before .before .before .before in
+    leaves _ _ (c .before .before .before .before .before .before .before .before .before .before .before .before .before .before .before .before .before .before .before .before .args .growth) _ _
     (rw (none (told d), numbered d, positioned d, sym (found .readableIs) ∙ not-true _ (c .if3 .taken), found .pageIs))
 
 same-length-2 : tie.Need-same-length-2
@@ -111,10 +111,10 @@ same-length-2 c = search needs
 returns-5 : tie.Need-returns-5
 unfolding changeOf placed refusedBy changeOn
 returns-5 c =
-    let found = c .before .before .before .before .before .find .ensures in
+    let found = c .before .before .before .before .before .find .ensures .0 in
     let read = not-false _ (c .before .before .if3 .left) in
-    let d = c .before .before .before .before .before .before .before .before .before in
-    leaves _ _ (c .before .before .before .before .before .before .before .before .before .before .before .before .before .before .before .before .before .before .before .before .before .args .growth) _ _
+    let d = c .before .before .before .before .before .before .before .before .before .before in
+    leaves _ _ (c .before .before .before .before .before .before .before .before .before .before .before .before .before .before .before .before .before .before .before .before .before .before .args .growth) _ _
     (rw (none (told d), numbered d, positioned d, sym (found .readableIs) ∙ read, sym (found .heldIs read) ∙ not-true _ (c .if4 .taken), ← found .placeIs read))
 
 may-alter-requires : tie.Need-may-alter-requires
@@ -126,25 +126,25 @@ same-length-3 c = search needs
 returns-6 : tie.Need-returns-6
 unfolding changeOf placed refusedBy changeOn allowed
 returns-6 c =
-    let found = c .before .before .before .before .before .before .before .find .ensures in
+    let found = c .before .before .before .before .before .before .before .find .ensures .0 in
     let read = not-false _ (c .before .before .before .before .if3 .left) in
     let there = not-false _ (c .before .before .if4 .left) in
     let may = altered _ _ _ _ _ (found .ownerIs there) (c .before .may-alter .ensures) (not-true _ (c .if5 .taken)) in
-    let d = c .before .before .before .before .before .before .before .before .before .before .before in
+    let d = c .before .before .before .before .before .before .before .before .before .before .before .before in
     leaves _ _ (begun (told d) .args .growth) _ _
     (rw (none (told d), numbered d, positioned d, sym (found .readableIs) ∙ read, sym (found .heldIs read) ∙ there, may, ← found .placeIs read))
 
 pack-requires : tie.Need-pack-requires
-pack-requires c κs = positioned (c .before .before .before .before .before .before .before .before .before .before .before)
+pack-requires c κs = positioned (c .before .before .before .before .before .before .before .before .before .before .before .before)
 
-held : (c : tie.After-pack) → c .before .before .before .before .before .before .before .before .find .result .item < begun (told (c .before .before .before .before .before .before .before .before .before .before .before .before)) .args .parameters .pages * begun (told (c .before .before .before .before .before .before .before .before .before .before .before .before)) .args .parameters .places
-held c = c .before .before .before .before .before .before .before .before .find .ensures .itemBelow (not-false _ (c .before .before .before .if4 .left))
+held : (c : tie.After-pack) → c .before .before .before .before .before .before .before .before .find .result .item < begun (told (c .before .before .before .before .before .before .before .before .before .before .before .before .before)) .args .parameters .pages * begun (told (c .before .before .before .before .before .before .before .before .before .before .before .before .before)) .args .parameters .places
+held c = c .before .before .before .before .before .before .before .before .find .ensures .0 .itemBelow (not-false _ (c .before .before .before .if4 .left))
 
 mul-words : tie.Need-mul-words
-mul-words c = omega (arith, held c, items-most _ (lent-well (told (c .before .before .before .before .before .before .before .before .before .before .before .before)) .homing .valid))
+mul-words c = omega (arith, held c, items-most _ (lent-well (told (c .before .before .before .before .before .before .before .before .before .before .before .before .before)) .homing .valid))
 
 slice-write-words : tie.Need-slice-write-words
-slice-write-words c = omega (arith, held c, lent-well (told (c .before .before .before .before .before .before .before .before .before .before .before .before)) .sized .ofWords)
+slice-write-words c = omega (arith, held c, lent-well (told (c .before .before .before .before .before .before .before .before .before .before .before .before .before)) .sized .ofWords)
 
 same-length-4 : tie.Need-same-length-4
 same-length-4 c = search needs
@@ -152,11 +152,11 @@ same-length-4 c = search needs
 returns-7 : tie.Need-returns-7
 unfolding changeOf changeOn allowed placed
 returns-7 c =
-    let found = c .before .before .before .before .before .before .before .before .find .ensures in
+    let found = c .before .before .before .before .before .before .before .before .find .ensures .0 in
     let read = not-false _ (c .before .before .before .before .before .if3 .left) in
     let there = not-false _ (c .before .before .before .if4 .left) in
     let may = altered _ _ _ _ _ (found .ownerIs there) (c .before .before .may-alter .ensures) (not-false _ (c .before .if5 .left)) in
-    let d = c .before .before .before .before .before .before .before .before .before .before .before .before in
+    let d = c .before .before .before .before .before .before .before .before .before .before .before .before .before in
     leaves _ _ (begun (told d) .args .growth) _ _
     (rw (none (told d), numbered d, positioned d, sym (found .readableIs) ∙ read, sym (found .heldIs read) ∙ there, may, ← found .placeIs read, found .pageIs, found .itemIs there, c .pack .ensures))
 

@@ -6,21 +6,18 @@ use Prim.Native.Nat.{_-_, _≤_}
 use native.Mathlib.Omega.{arith}
 use borrow.Author.Needs.{needs}
 use borrow.Author.Tests.{eq-eqb, ne-eqb}
-use lib.ListN.{length}
 use Rattle.pages.proofs.Places.{Passed, passed-none, passed-more, passed-found, passed-all}
 use Rattle.pages.proofs.page.search.Statement.{statement}
 use Rattle.pages.proofs.page.search.Tie as tie
 
 abbrev Inv-loop : tie.InvT-loop
-Inv-loop places number value i₀ i = (i ≤ places) × Passed places number (value .numbers) i
+Inv-loop numbers places number i₀ i = (i ≤ places) × Passed places number numbers i
 
 abbrev μ-loop : tie.MeasureT-loop
-μ-loop places number value i₀ i = places - i
+μ-loop numbers places number i₀ i = places - i
 
 loop-holds : tie.Need-loop-holds Inv-loop μ-loop
-loop-holds c =
-    let whole : length (c .args .t1 .numbers) ≡ 32 = search needs in
-    (search needs, passed-none _ _ _ (omega arith))
+loop-holds c = (search needs, passed-none _ _ _ (omega (arith, c .pre)))
 
 mul-there : tie.Need-mul-there Inv-loop μ-loop
 mul-there c = search needs

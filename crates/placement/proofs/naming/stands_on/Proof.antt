@@ -23,30 +23,30 @@ top-of-requires c κs = search needs
 shared-slice-read-if2 : tie.Need-shared-slice-read-if2
 shared-slice-read-if2 c = search needs
 
-probe-requires : tie.Need-probe-requires
-probe-requires c κs =
+passes-requires : tie.Need-passes-requires
+passes-requires c κs =
     let s = c .before .before .before .before .before .before in
     ((s .pre .0 .table, s .pre .0 .valid), (omega (arith, pages-most s), omega arith))
 
 returns-2 : tie.Need-returns-2
 returns-2 c =
     let s = c .before .before .before .before .before .before .before in
-    rw (c .probe .ensures)
+    rw (c .passes .ensures)
     (named-before-top _ _ _ _ _ (s .pre .1 .1 .1) (s .pre .0 .valid) (s .args .page) (omega arith) (omega arith)
     (rw (c .before .before .before .top-of .ensures) at (c .before .if2 .taken)))
 
 add-probe : tie.Need-add-probe
 add-probe c = search needs
 
-probe-requires-2 : tie.Need-probe-requires-2
-probe-requires-2 c κs =
+probe-requires : tie.Need-probe-requires
+probe-requires c κs =
     let s = c .before .before .before .before .before .before in
     ((s .pre .0 .table, s .pre .0 .valid), (omega (arith, pages-most s), omega arith))
 
 returns-3 : tie.Need-returns-3
 returns-3 c =
     let s = c .before .before .before .before .before .before .before in
-    rw (c .probe2 .ensures) (named-here _ _ _ _ _ (s .pre .1 .1 .1) (s .args .page) (omega arith))
+    rw (c .probe .ensures) (named-here _ _ _ _ _ (s .pre .1 .1 .1) (s .args .page) (omega arith))
 
 pub stands-on-spec : {M : Type 1} → statement M
 stands-on-spec =
@@ -55,8 +55,8 @@ stands-on-spec =
     returns
     top-of-requires
     shared-slice-read-if2
-    probe-requires
+    passes-requires
     returns-2
     add-probe
-    probe-requires-2
+    probe-requires
     returns-3)

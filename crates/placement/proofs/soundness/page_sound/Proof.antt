@@ -1,24 +1,25 @@
 -- `placement::soundness::page_sound` meets its contract. The invariant: the first i items are admitted, and their homes kept.
 -- Assumes nothing.
-use mathlib.Core.Path.{_≡_, sym, _∙_}
+use mathlib.Core.Path.{_≡_, refl, sym, _∙_}
 use mathlib.Core.Bool.{false≢true, and-false}
 use Prim.Native.Nat.{_-_, _≤_}
 use native.Mathlib.Omega.{arith}
 use borrow.Author.Needs.{needs}
 use borrow.Author.Tests.{not-false, lt-leb, le-leb}
 use lib.ListN.{length}
+use denote.Ref.{now}
 use Rattle.hashing.proofs.Bounds.{limits, failed}
 use Rattle.placement.specs.Survey.{soundIn}
-use Rattle.placement.proofs.Items.{Surveyed, surveyed-none, surveyed-refused, surveyed-more, surveyed-all, item-at}
+use Rattle.placement.proofs.Items.{Surveyed, surveyed-none, surveyed-refused, surveyed-more, surveyed-all, found-count, item-at}
 use Rattle.placement.proofs.soundness.page_sound.Statement.{statement}
 use Rattle.placement.proofs.soundness.page_sound.Tie as tie
 
 abbrev Inv-loop : tie.InvT-loop
-Inv-loop table geometry separators page value places homes₀ found last₀ i₀ homes last i =
-    (i ≤ places) × (places ≤ 32) × Surveyed (geometry .parameters) (geometry .growth) separators page (value .numbers) (value .words) (value .owners) places i last homes
+Inv-loop table geometry separators numbers words owners page homes₀ places found last₀ i₀ homes last i =
+    (i ≤ places) × ((places ≤ 32) × (places ≤ length found)) × Surveyed (geometry .parameters) (geometry .growth) separators page numbers words owners places i last homes
 
 abbrev μ-loop : tie.MeasureT-loop
-μ-loop table geometry separators page value places homes₀ found last₀ i₀ homes last i = places - i
+μ-loop table geometry separators numbers words owners page homes₀ places found last₀ i₀ homes last i = places - i
 
 cast-places : tie.Need-cast-places Inv-loop μ-loop
 cast-places c = search needs
@@ -34,22 +35,24 @@ unfolding soundIn
 returns c =
     record {
       sound = rw (lt-leb _ _ (rw (c .before .before .top-of .ensures) at (c .if1 .taken)));
-      homes = λ e. absurd (false≢true e);
+      long = c .before .before .before .before .before .pre .1 .1 .1 .1;
+      homed = λ e. absurd (false≢true e);
     }
 
-homes-of-requires : tie.Need-homes-of-requires Inv-loop μ-loop
-homes-of-requires c κs = let ready = c .before .before .before .before .before .pre .0 in (ready .table, (ready .valid, ready .growth))
+of-page-requires : tie.Need-of-page-requires Inv-loop μ-loop
+of-page-requires c κs =
+    let s = c .before .before .before .before .before .before in
+    let ready = s .pre .0 in
+    (ready .table, (ready .valid, (ready .growth, (limits (s .args .geometry .parameters) (ready .valid) .places-most, (s .pre .1 .1 .1 .0 .0, refl)))))
 
 loop-holds : tie.Need-loop-holds Inv-loop μ-loop
 loop-holds c =
-    let s = c .before .before .before .before .before .before in
+    let s = c .before .before .before .before .before .before .before in
     let l = limits (s .args .geometry .parameters) (s .pre .0 .valid) in
-    let ns : length (s .args .t4 .numbers) ≡ 32 = search needs in
-    let ws : length (s .args .t4 .words) ≡ 32 = search (needs, s .good .1 .1 .1 .0) in
-    let os : length (s .args .t4 .owners) ≡ 32 = search (needs, s .good .1 .1 .1 .0) in (
+    let whole = s .pre .1 .1 .1 in (
       search needs,
-      l .places-most,
-      surveyed-none _ _ _ _ _ _ _ _ (omega (arith, l .places-most)) (omega (arith, l .places-most)) (omega (arith, l .places-most)),
+      (l .places-most, found-count _ _ _ _ (omega (arith, l .places-most, whole)) (c .of-page .ensures)),
+      surveyed-none _ _ _ _ _ _ _ _ _ (omega (arith, l .places-most, whole)) (omega (arith, l .places-most, whole)) (omega (arith, l .places-most, whole)) (whole .1),
     )
 
 mul-admitted : tie.Need-mul-admitted Inv-loop μ-loop
@@ -75,25 +78,26 @@ array-read-admitted c = search needs
 
 admitted-requires : tie.Need-admitted-requires Inv-loop μ-loop
 admitted-requires c κs =
-    let s = c .before .before .before .before .before .before .before .before .before .before .before in
+    let s = c .before .before .before .before .before .before .before .before .before .before .before .before in
     let loop = c .before .before .before .before .loop in
-    let homes = c .before .before .before .before .before .homes-of .ensures in
-    let home = item-at _ (s .args .t4 .numbers) _ _ (loop .i) (loop .inv .2 .numbered) (c .before .before .before .loop-test .taken) homes in
-    (s .pre .0, (s .pre .1 .0, (s .pre .1 .1, home)))
+    let homes = c .before .before .before .before .before .of-page .ensures in
+    let home = item-at _ (now (s .args .numbers)) _ _ (loop .i) (loop .inv .2 .numbered) (c .before .before .before .loop-test .taken) homes in
+    (s .pre .0, (s .pre .1 .0, (s .pre .1 .1 .0, home)))
 
 returns-2 : tie.Need-returns-2 Inv-loop μ-loop
 unfolding soundIn
 returns-2 c =
     let item = c .before .before .admitted .ensures in
     let inside = c .before .before .before .before .before .before .loop-test .taken in
-    let refused = surveyed-refused _ _ _ _ (c .before .before .before .before .before .before .before .loop .inv .2) inside (failed _ _ (item .sound) (c .if2 .taken)) in
-    record { sound = simp (refused, and-false); homes = λ e. absurd (false≢true e) }
+    let done = c .before .before .before .before .before .before .before .loop .inv .2 in
+    let refused = surveyed-refused _ _ _ _ done inside (failed _ _ (item .sound) (c .if2 .taken)) in
+    record { sound = simp (refused, and-false); long = done .long; homed = λ e. absurd (false≢true e) }
 
 mul-homes : tie.Need-mul-homes Inv-loop μ-loop
 mul-homes c = search needs
 
-array-write-homes : tie.Need-array-write-homes Inv-loop μ-loop
-array-write-homes c = search needs
+element-write-homes : tie.Need-element-write-homes Inv-loop μ-loop
+element-write-homes c = search needs
 
 add-i : tie.Need-add-i Inv-loop μ-loop
 add-i c = search needs
@@ -114,11 +118,12 @@ returns-3 : tie.Need-returns-3 Inv-loop μ-loop
 unfolding soundIn
 returns-3 c =
     let done = c .before .loop .inv .2 in
-    let places = c .before .before .before .before .before .before .before .before .args .geometry .parameters .places in
+    let places = c .before .before .before .before .before .before .before .before .before .args .geometry .parameters .places in
     let e : c .before .loop .i ≡ places = omega arith in
     record {
-      sound = rw (le-leb _ _ (rw (c .before .before .before .before .before .top-of .ensures) at (c .before .before .before .if1 .left))) (sym (surveyed-all _ _ _ _ done e));
-      homes = λ t. rw e at (done .homed);
+      sound = rw (le-leb _ _ (rw (c .before .before .before .before .before .before .top-of .ensures) at (c .before .before .before .before .if1 .left))) (sym (surveyed-all _ _ _ _ done e));
+      long = done .long;
+      homed = λ t. rw e at (done .homed);
     }
 
 pub page-sound-spec : {M : Type 1} → statement M
@@ -131,7 +136,7 @@ page-sound-spec =
     top-of-requires
     shared-slice-read-if1
     returns
-    homes-of-requires
+    of-page-requires
     loop-holds
     mul-admitted
     element-copy-out-admitted
@@ -143,7 +148,7 @@ page-sound-spec =
     admitted-requires
     returns-2
     mul-homes
-    array-write-homes
+    element-write-homes
     add-i
     loop-less
     loop-again

@@ -1,6 +1,6 @@
 -- `placement::soundness::survey` meets its contract.
 -- Assumes nothing.
-use mathlib.Core.Path.{_≡_, sym, _∙_}
+use mathlib.Core.Path.{_≡_, refl, sym, _∙_}
 use mathlib.Core.Bool.{false≢true}
 use Prim.Native.Nat.{ℕ, _+_, _*_, _≤_}
 use native.Mathlib.Omega.{arith}
@@ -32,49 +32,53 @@ load-requires c κs =
 
 page-sound-requires : tie.Need-page-sound-requires
 page-sound-requires c κs =
-    let pre = c .before .before .before .before .before .before .before .pre in
-    (pre .0 .homing, (pre .0 .sized .ofSeparators, pre .1 .1))
+    let pre = c .before .before .before .before .before .before .before .before .before .before .before .before .pre in
+    let page = c .before .before .before .before .before .load .ok in
+    (pre .0 .homing, (pre .0 .sized .ofSeparators, (pre .1 .1, ((search (needs, page), (search (needs, page), search (needs, page))), refl))))
+
+abbrev start : tie.After-page-sound → tie.Start
+start c = c .before .before .before .before .before .before .before .before .before .before .before .before .before
 
 -- the value tested is the page's
 told : (c : tie.After-page-sound) →
-    let s = c .before .before .before .before .before .before .before .before .args in
-    c .page-sound .result .sound ≡ soundAt (s .geometry .parameters) (s .geometry .growth) (lent (s .separators .now) (s .numbers .now) (s .words .now) (s .owners .now)) (s .page)
+    let s = start c .args in
+    c .page-sound .result ≡ soundAt (s .geometry .parameters) (s .geometry .growth) (lent (s .separators .now) (s .numbers .now) (s .words .now) (s .owners .now)) (s .page)
 told c =
-    let s = c .before .before .before .before .before .before .before .before in
+    let s = start c in
     c .page-sound .ensures .sound
     ∙ sound-loaded _ _ (lent (s .args .separators .now) (s .args .numbers .now) (s .args .words .now) (s .args .owners .now)) _ _
     (inside s (s .pre .0 .sized .ofNumbers))
     (inside s (s .pre .0 .sized .ofWords))
     (inside s (s .pre .0 .sized .ofOwners))
-    (c .before .load .ensures)
+    (c .before .before .before .before .before .before .load .ensures)
 
 returns : tie.Need-returns
-returns c = (sym (sym (told (c .before .before)) ∙ not-true _ (c .if1 .taken)), λ e. absurd (false≢true e))
+returns c = (sym (sym (told (c .before)) ∙ not-true _ (c .if1 .taken)), λ e. absurd (false≢true e))
 
 mul-copy-32 : tie.Need-mul-copy-32
-mul-copy-32 c = let s = c .before .before .before .before .before .before .before .before .before .before .before .before in omega (arith, inside s (s .pre .1 .0))
+mul-copy-32 c = let s = start (c .before .before) in omega (arith, inside s (s .pre .1 .0))
 
 slice-aggregate-copy-32 : tie.Need-slice-aggregate-copy-32
-slice-aggregate-copy-32 c = search needs
+slice-aggregate-copy-32 c = sym (c .before .before .before .page-sound .ensures .long)
 
 copy-32-requires : tie.Need-copy-32-requires
 copy-32-requires c κs =
-    let s = c .before .before .before .before .before .before .before .before .before .before .before .before .before in
-    (inside s (s .pre .1 .0), omega (arith, places-most s, slice-aggregate-copy-32 c))
+    let s = start (c .before .before .before) in
+    (inside s (s .pre .1 .0), omega (arith, places-most s, c .before .before .before .page-sound .ensures .long))
 
 same-length : tie.Need-same-length
 same-length c = search needs
 
 returns-2 : tie.Need-returns-2
 returns-2 c =
-    let tested = c .before .before .before .before .before .before .before .before in
-    let s = tested .before .before .before .before .before .before .before .before in
-    let yes = not-false _ (c .before .before .before .before .before .before .if1 .left) in (
+    let tested = c .before .before .before .before .before .before in
+    let s = start tested in
+    let yes = not-false _ (c .before .before .before .before .before .if1 .left) in (
       sym (sym (told tested) ∙ yes),
       λ e.
           c .before .before .copy-32 .ensures
-          ∙ paste-front (s .args .homes .now) (tested .page-sound .result .homes) _ (s .args .page * s .args .geometry .parameters .places) (s .args .geometry .parameters .places)
-          (tested .page-sound .ensures .homes yes ∙ homes-loaded _ _ _ _ _ _ _ (inside s (s .pre .0 .sized .ofNumbers)) (tested .before .load .ensures)),
+          ∙ paste-front (s .args .homes .now) _ _ (s .args .page * s .args .geometry .parameters .places) (s .args .geometry .parameters .places)
+          (tested .page-sound .ensures .homed yes ∙ homes-loaded _ _ _ _ _ _ _ (inside s (s .pre .0 .sized .ofNumbers)) (tested .before .before .before .before .before .before .load .ensures)),
     )
 
 pub survey-spec : {M : Type 1} → statement M

@@ -3,7 +3,7 @@ use Prim.Native.Nat.{_-_, _≤_}
 use native.Mathlib.Omega.{arith}
 use lib.ListN.{drop}
 use native.Mathlib.Nat.{le-antisymm}
-use Rattle.planning.proofs.Copies.{Copied, none}
+use Rattle.buffers.proofs.Copies.{Copied, none}
 use Rattle.planning.proofs.Slots.{down, moved-down}
 use Rattle.planning.proofs.layout.close_up.Statement.{statement}
 use Rattle.planning.proofs.layout.close_up.Tie as tie

@@ -11,7 +11,7 @@ use Rattle.placement.specs.File.{File}
 use Rattle.placement.specs.Hash.{lent}
 use Rattle.shifting.proofs.OnePage.{home-start}
 use Rattle.shifting.specs.Shift.{numberAt, Occupied}
-use Rattle.replacing.specs.Calls.{removalStart}
+use Rattle.replacing.specs.Removal.{removalStart}
 use Rattle.replacing.proofs.OnePage.{taken-is, occupied-home, alone-lists}
 use Rattle.replacing.proofs.held.remove_held.Statement.{statement}
 use Rattle.replacing.proofs.held.remove_held.Tie as tie
@@ -46,7 +46,7 @@ top-of-requires c κs = search needs
 remove-star-requires : tie.Need-remove-star-requires
 remove-star-requires c κs =
     let pre = c .before .before .before .before .before .before .before .before .before .before .before .before .before .before .before .before .before .before .pre in
-    (pre .0, (pre .1 .0, pre .1 .1 .1 .1 .0))
+    (pre .0, (pre .1 .0, (pre .1 .1 .1 .1 .0, pre .1 .1 .1 .1 .1 .1)))
 
 same-length : tie.Need-same-length
 same-length c = search needs
@@ -80,7 +80,7 @@ take-star-requires c κs =
     let d = c .before .before .before .before in
     let s = begun d in
     subst (λ (page : ℕ). Occupied (s .args .geometry .parameters .places) page (s .args .place) (now (s .args .numbers)) (now (s .args .words)) (now (s .args .owners))) (sym (home-is s))
-    (occupied-home (s .args .geometry .parameters) (s .args .geometry .growth) (file s) (s .args .number) (s .pre .0 .homing .valid) (s .pre .0 .homing .growth) (s .pre .0 .sized) (s .pre .1 .1 .0) (s .pre .1 .1 .1 .0) (stored d) (s .args .place) (s .pre .1 .1 .1 .1 .1))
+    (occupied-home (s .args .geometry .parameters) (s .args .geometry .growth) (file s) (s .args .number) (s .pre .0 .homing .valid) (s .pre .0 .homing .growth) (s .pre .0 .sized) (s .pre .1 .1 .0) (s .pre .1 .1 .1 .0) (stored d) (s .args .place) (s .pre .1 .1 .1 .1 .1 .0))
 
 same-length-8 : tie.Need-same-length-8
 same-length-8 c = search needs
@@ -99,7 +99,7 @@ returns-2 c =
     alone-lists (s .args .geometry .parameters) (s .args .geometry .growth) (file s) (s .args .number) (s .pre .0 .homing .valid) (s .pre .0 .homing .growth) (s .pre .0 .sized) (s .pre .1 .1 .0) (s .pre .1 .1 .1 .0) (stored d)
     (s .args .page) (s .args .home) (numberAt (s .args .geometry .parameters .places) (s .args .home) (s .args .place) (now (s .args .numbers))) (home-is s)
     (ap (λ (q : ℕ). numberAt (s .args .geometry .parameters .places) q (s .args .place) (now (s .args .numbers))) (home-is s)
-    ∙ taken-is (s .args .geometry .parameters) (s .args .geometry .growth) (file s) (s .args .number) (s .pre .0 .homing .valid) (s .pre .0 .homing .growth) (s .pre .0 .sized) (s .pre .1 .1 .0) (s .pre .1 .1 .1 .0) (stored d) (s .args .place) (s .pre .1 .1 .1 .1 .1))
+    ∙ taken-is (s .args .geometry .parameters) (s .args .geometry .growth) (file s) (s .args .number) (s .pre .0 .homing .valid) (s .pre .0 .homing .growth) (s .pre .0 .sized) (s .pre .1 .1 .0) (s .pre .1 .1 .1 .0) (stored d) (s .args .place) (s .pre .1 .1 .1 .1 .1 .0))
     _ _ _ (left .ofNumbers) (left .ofWords) (left .ofOwners)
 
 pub remove-held-spec : {M : Type 1} → statement M

@@ -19,7 +19,7 @@ reach : (c : tie.After-stretch-end)
 unfolding hashOf
 reach c =
     let pre = start c .pre in
-    reached _ _ _ _ (pre .0 .homing .valid) (pre .0 .homing .growth) (pre .0 .sized) _ _ _ (pre .1 .1) (c .before .top-of .ensures) (c .stretch-end .ensures)
+    reached _ _ _ _ (pre .0 .homing .valid) (pre .0 .homing .growth) (pre .0 .sized) _ _ _ (pre .1 .1 .0) (c .before .top-of .ensures) (c .stretch-end .ensures)
 
 top-of-requires : tie.Need-top-of-requires
 top-of-requires c κs = search needs
@@ -30,7 +30,7 @@ stretch-end-requires c κs =
     let p = s .args .geometry .parameters in
     let ready = s .pre .0 in
     let low = home-pages (multiplierOf p) p (s .args .geometry .growth) (s .args .number) (ready .homing .valid) (ready .homing .growth) in
-    omega (arith, s .pre .1 .1, low, ready .sized .ofSeparators)
+    omega (arith, s .pre .1 .1 .0, low, ready .sized .ofSeparators)
 
 add-stop : tie.Need-add-stop
 add-stop c = omega (arith, reach c .inside, limits _ (start c .pre .0 .homing .valid) .pages-most)
@@ -40,7 +40,7 @@ survey-pages-requires c κs =
     let end = c .before .before .before .before .before in
     let pre = start end .pre in
     let R = reach end in
-    (pre .0, (pre .1 .0 .ofNumbers, (omega (arith, R .order), omega (arith, R .inside))))
+    (pre .0, (pre .1 .0 .ofNumbers, (omega (arith, R .order), (omega (arith, R .inside), pre .1 .1 .1))))
 
 same-length : tie.Need-same-length
 same-length c = search needs
@@ -109,7 +109,7 @@ returns-2 c =
     let done =
     removal-done _ _ _ _ _ _ (reach end) (pre .0 .homing .valid) (pre .0 .sized) _ (surveyed .survey-pages .ensures .0) (sound .if1 .left) _ _ (lengths .ofNumbers)
     (surveyed .survey-pages .kept .1 .1 .1 .1 .1 .1 .0 ∙ lengths .ofNumbers) (surveyed .survey-pages .ensures .1) (start end .args .page) in
-    (done .0, placed .replace-stretch .ensures .1 ∙ done .1)
+    (done .0, placed .replace-stretch .ensures .1 .0 ∙ done .1)
 
 pub remove-star-spec : {M : Type 1} → statement M
 remove-star-spec =

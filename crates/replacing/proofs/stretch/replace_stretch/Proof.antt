@@ -1,7 +1,7 @@
 use mathlib.Core.Path.{refl, _∙_}
 use borrow.Author.Needs.{needs}
 use Rattle.waiting.specs.Lists.{all}
-use Rattle.replacing.proofs.Ruled.{stars-fit, stretch-kept, stretch-placed, applied-lists}
+use Rattle.replacing.proofs.Ruled.{stars-fit, stretch-kept, stretch-behind, stretch-placed, applied-lists}
 use Rattle.replacing.proofs.stretch.replace_stretch.Statement.{statement}
 use Rattle.replacing.proofs.stretch.replace_stretch.Tie as tie
 
@@ -34,7 +34,9 @@ same-length-3 c = search needs
 returns : tie.Need-returns
 returns c =
     let planned = c .before .before .before .before .before .before in
-    stretch-kept _ _ _ _ _ _ _ (start (planned .before) .pre .1) _ _ _ _ _ _ (planned .plan .ensures) (c .if1 .taken)
+    let L = start (planned .before) .pre .1 in
+    let kept = stretch-kept _ _ _ _ _ _ _ L _ _ _ _ _ _ (planned .plan .ensures) (c .if1 .taken) in
+    (kept .0, (kept .1, stretch-behind _ _ _ _ _ _ _ L _ _ _ _ _ _ (planned .plan .ensures)))
 
 slice-aggregate-apply : tie.Need-slice-aggregate-apply
 slice-aggregate-apply c = search needs
@@ -74,7 +76,8 @@ returns-2 c =
     let L = start (planned .before) .pre .1 in
     let placed = stretch-placed _ _ _ _ _ _ _ L _ _ _ _ _ _ (planned .plan .ensures) (chosen .if1 .left) (L .pages-most) in
     let left = applying .apply .ensures in
-    (placed .0, applied-lists _ _ _ _ _ _ _ _ _ _ _ _ _ (left .0) (left .1 .0) (left .1 .1 .0) (left .1 .1 .1) ∙ placed .1)
+    let behind = stretch-behind _ _ _ _ _ _ _ L _ _ _ _ _ _ (planned .plan .ensures) in
+    (placed .0, (applied-lists _ _ _ _ _ _ _ _ _ _ _ _ _ (left .0) (left .1 .0) (left .1 .1 .0) (left .1 .1 .1 .0) ∙ placed .1, left .1 .1 .1 .1 ∙ behind))
 
 pub replace-stretch-spec : {M : Type 1} → statement M
 replace-stretch-spec =

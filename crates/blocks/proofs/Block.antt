@@ -1,0 +1,88 @@
+-- One block: a plan over it can be made, and what the code leaves of it is the rule over its stars.
+use mathlib.Core.Path.{_≡_, sym, ap, _∙_}
+use mathlib.Core.Bool.{true}
+use mathlib.Core.List.{List, [], map}
+use Prim.Native.Nat.{ℕ, _+_, _*_, _^_, _<_}
+use native.Mathlib.Omega.{arith}
+use lib.ListN.{getD, take}
+use Rattle.hashing.specs.declared.Parameters.{Parameters}
+use Rattle.hashing.specs.declared.Geometry.{Geometry}
+use Rattle.generator.specs.Generator.{topOf}
+use Rattle.pages.specs.Page.{stretch}
+use Rattle.pages.specs.Position.{validWord}
+use Rattle.placement.specs.Rule.{Hash, pages, left, without}
+use Rattle.placement.specs.File.{File, pagesAt, gathered, replaced}
+use Rattle.placement.specs.Hash.{hashOf}
+use Rattle.placement.proofs.Files.{length-pagesAt}
+use Rattle.placement.proofs.Sound.{AllSound, replaced-same}
+use Rattle.placement.proofs.Probing.{bounded-real}
+use Rattle.waiting.specs.Lists.{allBelow}
+use Rattle.planning.proofs.Sourcing.{itemHome}
+use Rattle.planning.proofs.Placed.{probes-real, homes-real}
+use Rattle.replacing.specs.Stretch.{StretchReady, restretched}
+use Rattle.replacing.proofs.Items.{real-sound, all-numbered, numbers-below, homes-below, plannable-stretch, ready-stretch}
+use Rattle.replacing.proofs.Ruled.{restretched-is}
+use Rattle.blocks.specs.Blocks.{SoundBlock}
+use Rattle.blocks.proofs.Joining.{nothing-left}
+use Rattle.blocks.proofs.Alike.{gathered-alike, separator-alike, replaced-still, roomy-alone, ruled-alone}
+
+module _ (g : Geometry) (lo n : ℕ) (f : File) (pool waiting poolowners : List ℕ) (B : SoundBlock g lo n f pool waiting poolowners) where
+  abbrev p : Parameters
+  p = g .parameters
+
+  abbrev H : Hash
+  H = hashOf (g .parameters) (g .growth)
+
+  same-numbers : stretch (p .places) lo n (f .numbers) ≡ stretch (p .places) lo n (B .stored .numbers)
+  same-numbers = ap (take (n * p .places)) (B .alike .numbers)
+
+  true-homes : stretch (p .places) lo n pool ≡ map (itemHome H) (stretch (p .places) lo n (f .numbers))
+  true-homes = B .homes ∙ homes-real p (g .growth) (stretch (p .places) lo n (f .numbers))
+
+  below : allBelow (2 ^ 31) (stretch (p .places) lo n (f .numbers)) ≡ true
+  below = rw same-numbers (numbers-below p (B .stored) (B .ready .valid) (B .sized) lo n (B .inside) (g .growth) (B .sound))
+
+  within : allBelow (lo + n) (stretch (p .places) lo n pool) ≡ true
+  within = rw (true-homes, same-numbers) (homes-below p (B .stored) (B .ready .valid) (B .sized) lo n (B .inside) (g .growth) (B .sound))
+
+  pub block-ready : StretchReady p lo n f pool waiting poolowners
+  block-ready =
+      let sizes = B .ready .pooled in
+      plannable-stretch p f (B .ready .valid) (B .ready .sized) lo n (B .inside) (B .some) pool (sizes .ofNumbers) below within waiting poolowners (sizes .ofWords) (sizes .ofOwners)
+
+  same-stars : gathered (p .places) f lo n ≡ gathered (p .places) (B .stored) lo n
+  same-stars = gathered-alike (p .places) lo n f (B .stored) (B .alike)
+
+  numbered : without 0 (gathered (p .places) f lo n) ≡ gathered (p .places) f lo n
+  numbered = rw same-stars (all-numbered p (g .growth) (B .stored) lo n (B .sound))
+
+  fits : left H lo n (gathered (p .places) f lo n) ≡ []
+  unfolding hashOf
+  fits = rw same-stars (nothing-left validWord H (B .stored) (p .pages) lo n (B .sized) (B .inside) (real-sound p (g .growth) (B .stored) lo n (B .sound)))
+
+  pub block-placed : restretched p lo n 0 f pool ≡ replaced (p .places) f lo (pages H lo n (gathered (p .places) f lo n))
+  block-placed =
+      restretched-is H p (probes-real p (g .growth)) lo n f pool
+      (ready-stretch p f (B .ready .valid) (B .ready .sized) lo n (B .inside) (B .some) pool (B .ready .pooled .ofNumbers) below within H true-homes) 0
+      ∙ rw (numbered, fits)
+
+  one-sound : AllSound validWord H (B .stored) lo 1
+  one-sound = real-sound p (g .growth) (B .stored) lo 1 (λ q a b. B .sound q a (omega (arith, B .some)))
+
+  -- a block of one page whose separator is 2^k − 1
+  pub block-stays : n ≡ 1 → getD (f .separators) lo 0 ≡ topOf (p .bits) → f ≡ replaced (p .places) f lo (pages H lo n (gathered (p .places) f lo n))
+  unfolding hashOf
+  block-stays one top =
+      let inside : lo < p .pages = omega (arith, B .inside) in
+      let here = one-sound lo (omega arith) (omega arith) in
+      let bounded = bounded-real p (g .growth) (B .ready .valid) in
+      let stored-top : getD (B .stored .separators) lo 0 ≡ topOf (p .bits) = sym (separator-alike (p .places) lo lo f (B .stored) (B .alike) (omega arith)) ∙ top in
+      let ruled : pages H lo 1 (gathered (p .places) (B .stored) lo 1) ≡ pagesAt (p .places) (B .stored) lo 1
+      = ruled-alone validWord H bounded (B .stored) (p .pages) lo (B .sized) inside here stored-top in
+      let same : gathered (p .places) f lo 1 ≡ gathered (p .places) (B .stored) lo 1 = gathered-alike (p .places) lo 1 f (B .stored) (B .alike) in
+      let kept : replaced (p .places) f lo (pagesAt (p .places) (B .stored) lo 1) ≡ f
+      = replaced-still (p .places) (p .pages) lo f (B .stored) (pagesAt (p .places) (B .stored) lo 1) (B .ready .sized) (B .sized) (B .alike)
+      (roomy-alone validWord H bounded (B .stored) (p .pages) lo (B .sized) inside here)
+      (omega (arith, length-pagesAt (p .places) (B .stored) lo 1))
+      (replaced-same validWord H (B .stored) (p .pages) lo 1 (B .sized) (omega arith) one-sound) in
+      rw (one, same, ruled) (sym kept)

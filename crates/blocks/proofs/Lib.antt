@@ -1,0 +1,4 @@
+pub mod Joining
+pub mod Alike
+pub mod Block
+pub mod Renewed

@@ -1,0 +1,67 @@
+use mathlib.Core.Path.{refl, _∙_}
+use native.Mathlib.Omega.{arith}
+use borrow.Author.Needs.{needs}
+use borrow.Author.Tests.{eqb-true}
+use Rattle.blocks.proofs.Block.{block-ready, block-placed, block-stays}
+use Rattle.blocks.proofs.renewing.replace_block.Statement.{statement}
+use Rattle.blocks.proofs.renewing.replace_block.Tie as tie
+
+slice-read-if2 : tie.Need-slice-read-if2
+slice-read-if2 c = search needs
+
+top-of-requires : tie.Need-top-of-requires
+top-of-requires c κs = search needs
+
+returns : tie.Need-returns
+returns c =
+    let block = c .before .before .before .before .before .before .before .before .before .before .before .before .pre in
+    (block-stays _ _ _ _ _ _ _ block (omega arith) (omega (arith, eqb-true, c .if2 .taken, c .before .top-of .ensures)), refl)
+
+replace-stretch-requires : tie.Need-replace-stretch-requires
+replace-stretch-requires c κs =
+    let block = c .before .before .before .before .before .before .before .before .before .before .before .before .before .before .before .before .pre in
+    (block .ready .valid, block-ready _ _ _ _ _ _ _ block)
+
+same-length : tie.Need-same-length
+same-length c = search needs
+
+same-length-2 : tie.Need-same-length-2
+same-length-2 c = search needs
+
+same-length-3 : tie.Need-same-length-3
+same-length-3 c = search needs
+
+same-length-4 : tie.Need-same-length-4
+same-length-4 c = search needs
+
+same-length-5 : tie.Need-same-length-5
+same-length-5 c = search needs
+
+same-length-6 : tie.Need-same-length-6
+same-length-6 c = search needs
+
+same-length-7 : tie.Need-same-length-7
+same-length-7 c = search needs
+
+returns-2 : tie.Need-returns-2
+returns-2 c =
+    let placed = c .before .before .before .before .before .before .before .before .before .before .before .before .before .before in
+    let left = placed .replace-stretch .ensures .1 in
+    (left .0 ∙ block-placed _ _ _ _ _ _ _ (placed .before .before .before .before .before .before .before .before .before .before .before .before .before .before .before .before .before .pre), left .1)
+
+pub replace-block-spec : {M : Type 1} → statement M
+replace-block-spec =
+    tie.close
+    (tie.spec
+    slice-read-if2
+    top-of-requires
+    returns
+    replace-stretch-requires
+    same-length
+    same-length-2
+    same-length-3
+    same-length-4
+    same-length-5
+    same-length-6
+    same-length-7
+    returns-2)

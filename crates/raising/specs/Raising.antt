@@ -1,0 +1,85 @@
+-- A local test for pages that are the rule's: no separator could be one greater. It gives code its shape; what clean means is in placement's File.antt.
+use mathlib.Core.Path.{_≡_}
+use mathlib.Core.Bool.{Bool, not, cond, _&&_, _||_}
+use mathlib.Core.List.{List}
+use Prim.Native.Nat.{ℕ, zero, suc, _+_, _-_, _*_, _≤_, _<_}
+use lib.Dec.{leb, ltb, eqb}
+use lib.ListN.{length, getD}
+use denote.Ref.{now}
+use Rattle.hashing.specs.declared.Parameters.{Parameters}
+use Rattle.hashing.specs.declared.Geometry.{Geometry}
+use Rattle.generator.specs.Generator.{topOf}
+use Rattle.pages.specs.Page.{part}
+use Rattle.placement.specs.Rule.{Hash, filter}
+use Rattle.placement.specs.Hash.{hashOf, homesOf}
+use Rattle.placement.specs.Lent.{Lent}
+use Rattle.reach.specs.Reach.{firstSuch}
+
+-- the number k, of page q, passed page p with its separator as signature
+unfoldable pub passed : Hash → List ℕ → ℕ → ℕ → ℕ → Bool
+passed H vs p q k = leb (H .home k) p && (ltb p q && eqb (H .signature k p) (getD vs p 0))
+
+-- it counts on page p: it stands there, or would if the separator were one greater
+unfoldable pub countsOn : Hash → List ℕ → ℕ → ℕ → ℕ → Bool
+countsOn H vs p q k = eqb q p || passed H vs p q k
+
+-- "0 marks an empty place"
+abbrev pub countedItem : Hash → List ℕ → ℕ → ℕ → ℕ → Bool
+countedItem H vs p q n = not (eqb n 0) && countsOn H vs p q n
+
+-- how many of the numbers ns of page q count on page p
+unfoldable pub countOn : Hash → List ℕ → List ℕ → ℕ → ℕ → ℕ
+countOn H vs ns p q = length (filter (countedItem H vs p q) (part (H .room) q ns))
+
+-- how many of the numbers of the n pages from `from` on
+unfoldable pub countFrom : Hash → List ℕ → List ℕ → ℕ → ℕ → ℕ → ℕ
+countFrom H vs ns from p zero = zero
+countFrom H vs ns from p (suc n) = countFrom H vs ns from p n + countOn H vs ns p (from + n)
+
+-- a separator v is below top, and with one greater at most room would stay
+abbrev pub mayRise : ℕ → ℕ → ℕ → ℕ → Bool
+mayRise top room v count = ltb v top && leb count room
+
+-- so it is with page p's, by the stars of the n pages from `from` on
+unfoldable pub raisableFrom : Hash → ℕ → ℕ → List ℕ → List ℕ → ℕ → Bool
+raisableFrom H from n vs ns p = mayRise (H .top) (H .room) (getD vs p 0) (countFrom H vs ns from p n)
+
+-- by those of M pages
+abbrev pub raisable : Hash → ℕ → List ℕ → List ℕ → ℕ → Bool
+raisable H M vs ns p = raisableFrom H 0 M vs ns p
+
+abbrev pub hashUnder : Geometry → Hash
+hashUnder g = hashOf (g .parameters) (g .growth)
+
+-- the first such page of those from `from` up to the one before `stop`, by their own stars; `stop` if there is none
+abbrev pub firstRaisable : Geometry → List ℕ → List ℕ → ℕ → ℕ → ℕ
+firstRaisable g vs ns from stop = firstSuch (raisableFrom (hashUnder g) from (stop - from) vs ns) from (stop - from)
+
+-- the same by counters
+abbrev pub firstRising : Parameters → List ℕ → List ℕ → ℕ → ℕ → ℕ
+firstRising q vs counts from stop =
+    firstSuch (λ (p : ℕ). mayRise (topOf (q .bits)) (q .places) (getD vs p 0) (getD counts p 0)) from (stop - from)
+
+abbrev pub one : Bool → ℕ
+one t = cond t 1 0
+
+-- the counters from page `from` on are at most so much
+abbrev pub Counts : ℕ → ℕ → List ℕ → Type 0
+Counts from most l = (length l ≡ 1024) × ((p : ℕ) → from ≤ p → p < 1024 → getD l p 0 ≤ most)
+
+-- what each of these was, and so much more
+pub record Added (from : ℕ) (more : ℕ → ℕ) (entry exit : List ℕ) : Type 0 where
+  pub size : length exit ≡ 1024
+  pub each : (p : ℕ) → from ≤ p → p < 1024 → getD exit p 0 ≡ getD entry p 0 + more p
+
+abbrev pub Adds : ℕ → (ℕ → ℕ) → Lent → Type 0
+Adds from more counts = Added from more (now (counts .entry)) (now (counts .exit))
+
+-- the separators and numbers of a file, and the homes of the items of the pages from `from` up to the one before `stop`
+pub record Homed (g : Geometry) (vs ns hs : List ℕ) (from stop : ℕ) : Type 0 where
+  pub separators : length vs ≡ g .parameters .pages
+  pub numbers : length ns ≡ g .parameters .pages * g .parameters .places
+  pub homes : length hs ≡ g .parameters .pages * g .parameters .places
+  pub low : from ≤ stop
+  pub high : stop ≤ g .parameters .pages
+  pub kept : (q : ℕ) → from ≤ q → q < stop → part (g .parameters .places) q hs ≡ homesOf (g .parameters) (g .growth) (part (g .parameters .places) q ns)
