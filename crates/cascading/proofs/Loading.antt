@@ -20,8 +20,8 @@ use Rattle.pages.specs.Page.{part, pageAt, stretch}
 use Rattle.pages.proofs.Parts.{page-fits, take-filled, filled-length}
 use Rattle.placement.specs.File.{File, Sized}
 use Rattle.placement.specs.Hash.{soundAt, homesOf, homeIn}
-use Rattle.placement.specs.Survey.{Tested}
-use Rattle.placement.proofs.Items.{sound-loaded, homes-loaded}
+use Rattle.soundness.specs.Survey.{Tested}
+use Rattle.soundness.proofs.Items.{sound-loaded, homes-loaded}
 use Rattle.reach.specs.Known.{Known}
 use Rattle.waiting.specs.Lists.{allBelow}
 use Rattle.waiting.specs.Gather.{wordsFrom, starsIn}

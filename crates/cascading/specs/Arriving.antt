@@ -11,8 +11,8 @@ use Rattle.hashing.specs.declared.Geometry.{Geometry}
 use Rattle.placement.specs.File.{File}
 use Rattle.pages.specs.Page.{part}
 use Rattle.placement.specs.Hash.{soundAt, homesOf}
-use Rattle.placement.specs.Survey.{soundIn}
 use Rattle.placement.specs.Lent.{Lent}
+use Rattle.soundness.specs.Survey.{soundIn}
 use Rattle.reach.specs.Known.{Known}
 use Rattle.entering.specs.Entry.{blockWords}
 use Rattle.cascading.specs.declared.arriving.Taken.{Taken}

@@ -8,7 +8,7 @@ ghost use lib.ListN.{length, take, drop};
 ghost use lib.Seq.{paste, slice};
 ghost use Rattle.placement.specs.Lent.{held, before};
 ghost use Rattle.placement.specs.Ready.{Homing, Ready};
-ghost use Rattle.placement.specs.Survey.{Tested};
+ghost use Rattle.soundness.specs.Survey.{Tested};
 ghost use Rattle.reach.specs.Known.{Known};
 ghost use Rattle.waiting.specs.Lists.{allBelow};
 ghost use Rattle.waiting.specs.Gather.{wordsFrom, starsIn};
@@ -76,7 +76,7 @@ fn load_homes(pool: &[u32], homes: &mut [u32; 32], places: usize, at: usize)
     }
 }
 
-// As `placement::page_sound`, but a page below `tested` is known: it is not tested again.
+// As `soundness::page_sound`, but a page below `tested` is known: it is not tested again.
 fn test_page<'a>(
     table: &[u32; 90],
     geometry: Geometry,
@@ -102,7 +102,7 @@ fn test_page<'a>(
         load_homes(pool, homes, places, page * places);
         return true;
     }
-    placement::page_sound(
+    soundness::page_sound(
         table,
         geometry,
         separators,

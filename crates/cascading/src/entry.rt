@@ -70,7 +70,7 @@ pub fn cascade(
                 word,
                 owner,
             );
-            let on = placement::named_from(table, geometry, separators, number, home);
+            let on = soundness::named_from(table, geometry, separators, number, home);
             Outcome::On(on)
         }
     }

@@ -74,7 +74,7 @@ pub fn enter_stretch(
                 word,
                 owner,
             );
-            let page = placement::named_from(table, geometry, separators, number, home);
+            let page = soundness::named_from(table, geometry, separators, number, home);
             Outcome::On(page)
         }
     }

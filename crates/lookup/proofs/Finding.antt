@@ -22,7 +22,7 @@ use Rattle.pages.proofs.Places.{place-le, held-there}
 use Rattle.placement.specs.Rule.{starWith}
 use Rattle.placement.specs.File.{File, Sized, starsAt}
 use Rattle.placement.specs.Hash.{hashOf, soundAt, namedPage, homesOf}
-use Rattle.placement.proofs.Items.{paste-front}
+use Rattle.soundness.proofs.Items.{paste-front}
 use Rattle.placement.proofs.Standing.{first-le}
 use Rattle.placement.proofs.Search.{held-star}
 use Rattle.placement.proofs.Sound.{sound-facts, sound-proper}

@@ -44,12 +44,12 @@ pub fn find(
 {
     let places = geometry.parameters.places as usize;
     let home = hashing::home(table, geometry, number);
-    let page = placement::named_from(table, geometry, separators, number, home);
+    let page = soundness::named_from(table, geometry, separators, number, home);
     if page == geometry.parameters.pages as usize {
         return unread(home, page);
     }
     let value = pages::page::load(numbers, words, owners, places, page);
-    if !placement::page_sound(
+    if !soundness::page_sound(
         table,
         geometry,
         separators,

@@ -16,6 +16,5 @@ pub mod Entry
 pub mod Search
 pub mod Change
 pub mod Probing
-pub mod Items
 pub mod Tested
 pub mod Prepared

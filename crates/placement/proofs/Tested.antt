@@ -20,14 +20,18 @@ use Rattle.pages.proofs.Parts.{page-fits, part-length, part-item}
 use Rattle.placement.specs.Rule.{Star}
 use Rattle.placement.specs.File.{File, Sized, starsAt, greatest, orderly}
 use Rattle.placement.specs.Hash.{hashOf, soundAt, namedPage, homeIn, homesOf}
-use Rattle.placement.specs.Survey.{lastAfter}
 use Rattle.placement.proofs.Separator.{below-home, below-signature}
 use Rattle.placement.proofs.Standing.{first-below}
 use Rattle.placement.proofs.Search.{starAt, at-star}
 use Rattle.placement.proofs.Sound.{Sound, sound-facts, facts-sound, sound-proper}
 
+-- An item and those after it, whose numbers are above `next`: none where the item is an empty place.
 record Ordered (ok : ℕ → Bool) (last n w o : ℕ) (ns ws os : List ℕ) : Type 0 where
-  rest : orderly ok (lastAfter n) ns ws os ≡ true
+  next : ℕ
+  rest : orderly ok next ns ws os ≡ true
+  low : last ≤ greatest → last ≤ next
+  high : next ≤ greatest
+  star : next < greatest → (0 < n) × (n ≡ next)
   empty : n ≡ 0 → (w ≡ 0) × (o ≡ 0)
   above : (n ≡ 0 → ⊥) → last < n
   most : n ≤ greatest
@@ -43,20 +47,33 @@ ordered ok last n w o ns ws os e = go (eqb n 0) refl e
         let c = and-true (eqb w 0) (eqb o 0 && orderly ok greatest ns ws os) e in
         let d = and-true (eqb o 0) (orderly ok greatest ns ws os) (c .1) in
         let none : n ≡ 0 = eqb-true n 0 z in
-        record { rest = rw z (d .1); empty = λ h. (eqb-true w 0 (c .0), eqb-true o 0 (d .0)); above = λ h. absurd (h none); most = omega arith }
+        record {
+          next = greatest;
+          rest = d .1;
+          low = λ h. h;
+          high = omega arith;
+          star = λ h. absurd (omega (arith, h));
+          empty = λ h. (eqb-true w 0 (c .0), eqb-true o 0 (d .0));
+          above = λ h. absurd (h none);
+          most = omega arith;
+        }
     go false z e =
         let b = and-true (ltb last n) (leb n greatest && (ok w && orderly ok n ns ws os)) e in
         let c = and-true (leb n greatest) (ok w && orderly ok n ns ws os) (b .1) in
         let d = and-true (ok w) (orderly ok n ns ws os) (c .1) in
-        record { rest = rw z (d .1); empty = λ h. absurd (eqb-false n 0 z h); above = λ h. ltb-true last n (b .0); most = leb-true n greatest (c .0) }
-
--- after an item the bound does not fall
-after-most : (n : ℕ) → n ≤ greatest → lastAfter n ≤ greatest
-after-most n h = go (eqb n 0)
-  where
-    go : (t : Bool) → cond t greatest n ≤ greatest
-    go true = omega arith
-    go false = h
+        let over : last < n = ltb-true last n (b .0) in
+        let within : n ≤ greatest = leb-true n greatest (c .0) in
+        let some : (n ≡ 0 → ⊥) = eqb-false n 0 z in
+        record {
+          next = n;
+          rest = d .1;
+          low = λ h. omega arith;
+          high = within;
+          star = λ h. (omega arith, refl);
+          empty = λ h. absurd (some h);
+          above = λ h. over;
+          most = within;
+        }
 
 module _ (ok : ℕ → Bool) where
   item-most : (last : ℕ) (ns ws os : List ℕ) → orderly ok last ns ws os ≡ true → (i : ℕ) → getD ns i 0 ≤ greatest
@@ -65,7 +82,7 @@ module _ (ok : ℕ → Bool) where
   item-most last (n ∷ ns) [] os e i = absurd (false≢true e)
   item-most last (n ∷ ns) (w ∷ ws) [] e i = absurd (false≢true e)
   item-most last (n ∷ ns) (w ∷ ws) (o ∷ os) e zero = ordered ok last n w o ns ws os e .most
-  item-most last (n ∷ ns) (w ∷ ws) (o ∷ os) e (suc i) = item-most (lastAfter n) ns ws os (ordered ok last n w o ns ws os e .rest) i
+  item-most last (n ∷ ns) (w ∷ ws) (o ∷ os) e (suc i) = let r = ordered ok last n w o ns ws os e in item-most (r .next) ns ws os (r .rest) i
 
   item-empty : (last : ℕ) (ns ws os : List ℕ) → orderly ok last ns ws os ≡ true → (i : ℕ) → i < length ns → getD ns i 0 ≡ 0 → (getD ws i 0 ≡ 0) × (getD os i 0 ≡ 0)
   unfolding orderly
@@ -73,7 +90,7 @@ module _ (ok : ℕ → Bool) where
   item-empty last (n ∷ ns) [] os e i h z = absurd (false≢true e)
   item-empty last (n ∷ ns) (w ∷ ws) [] e i h z = absurd (false≢true e)
   item-empty last (n ∷ ns) (w ∷ ws) (o ∷ os) e zero h z = ordered ok last n w o ns ws os e .empty z
-  item-empty last (n ∷ ns) (w ∷ ws) (o ∷ os) e (suc i) h z = item-empty (lastAfter n) ns ws os (ordered ok last n w o ns ws os e .rest) i (omega arith) z
+  item-empty last (n ∷ ns) (w ∷ ws) (o ∷ os) e (suc i) h z = let r = ordered ok last n w o ns ws os e in item-empty (r .next) ns ws os (r .rest) i (omega arith) z
 
   item-above : (last : ℕ) (ns ws os : List ℕ) → orderly ok last ns ws os ≡ true → last ≤ greatest → (i : ℕ) → (getD ns i 0 ≡ 0 → ⊥) → last < getD ns i 0
   unfolding orderly
@@ -82,14 +99,8 @@ module _ (ok : ℕ → Bool) where
   item-above last (n ∷ ns) (w ∷ ws) [] e l i s = absurd (false≢true e)
   item-above last (n ∷ ns) (w ∷ ws) (o ∷ os) e l zero s = ordered ok last n w o ns ws os e .above s
   item-above last (n ∷ ns) (w ∷ ws) (o ∷ os) e l (suc i) s =
-      go (eqb n 0) refl (item-above (lastAfter n) ns ws os (r .rest) (after-most n (r .most)) i s)
-    where
-      r : Ordered ok last n w o ns ws os
-      r = ordered ok last n w o ns ws os e
-
-      go : (t : Bool) → eqb n 0 ≡ t → cond t greatest n < getD ns i 0 → last < getD ns i 0
-      go true z h = omega arith
-      go false z h = omega (arith, r .above (eqb-false n 0 z))
+      let r = ordered ok last n w o ns ws os e in
+      omega (arith, r .low l, item-above (r .next) ns ws os (r .rest) (r .high) i s)
 
   -- a star has only smaller stars before it
   items-rise : (last : ℕ) (ns ws os : List ℕ) → orderly ok last ns ws os ≡ true → (i j : ℕ) → i < j → (getD ns j 0 ≡ 0 → ⊥) → (0 < getD ns i 0) × (getD ns i 0 < getD ns j 0)
@@ -99,15 +110,11 @@ module _ (ok : ℕ → Bool) where
   items-rise last (n ∷ ns) (w ∷ ws) [] e i j h s = absurd (false≢true e)
   items-rise last (n ∷ ns) (w ∷ ws) (o ∷ os) e i zero h s = absurd (omega arith)
   items-rise last (n ∷ ns) (w ∷ ws) (o ∷ os) e zero (suc j) h s =
-      go (eqb n 0) refl (item-above (lastAfter n) ns ws os (r .rest) (after-most n (r .most)) j s)
-    where
-      r : Ordered ok last n w o ns ws os
-      r = ordered ok last n w o ns ws os e
-
-      go : (t : Bool) → eqb n 0 ≡ t → cond t greatest n < getD ns j 0 → (0 < n) × (n < getD ns j 0)
-      go true z h = absurd (omega (arith, item-most (lastAfter n) ns ws os (r .rest) j))
-      go false z h = let star : (n ≡ 0 → ⊥) = eqb-false n 0 z in (omega (arith, star), h)
-  items-rise last (n ∷ ns) (w ∷ ws) (o ∷ os) e (suc i) (suc j) h s = items-rise (lastAfter n) ns ws os (ordered ok last n w o ns ws os e .rest) i j (omega arith) s
+      let r = ordered ok last n w o ns ws os e in
+      let over : r .next < getD ns j 0 = item-above (r .next) ns ws os (r .rest) (r .high) j s in
+      let here = r .star (omega (arith, item-most (r .next) ns ws os (r .rest) j)) in
+      (here .0, omega (arith, here .1))
+  items-rise last (n ∷ ns) (w ∷ ws) (o ∷ os) e (suc i) (suc j) h s = let r = ordered ok last n w o ns ws os e in items-rise (r .next) ns ws os (r .rest) i j (omega arith) s
 
 -- What holds of a star that stands on a sound page.
 pub record StarOn (p : Parameters) (g : Growth) (f : File) (page n w : ℕ) : Type 0 where

@@ -6,12 +6,12 @@ ghost use lib.ListN.{length};
 ghost use Rattle.placement.specs.Hash.{soundAt};
 ghost use Rattle.placement.specs.Lent.{held, before};
 ghost use Rattle.placement.specs.Ready.{Ready};
-ghost use Rattle.placement.specs.Survey.{surveyed};
+ghost use Rattle.soundness.specs.Survey.{surveyed};
 ghost use Rattle.reach.specs.Known.{Known};
 ghost use Rattle.reach.specs.Reach.{firstUnsound, homesKept};
 use hashing::Geometry;
 
-// As `placement::survey`, but the known page is not tested again.
+// As `soundness::survey`, but the known page is not tested again.
 fn survey_page(
     table: &[u32; 90],
     geometry: Geometry,
@@ -33,7 +33,7 @@ fn survey_page(
     if page == known {
         return true;
     }
-    placement::survey(
+    soundness::survey(
         table,
         geometry,
         separators,

@@ -109,7 +109,7 @@ fn enter_clean(
         word,
         owner,
     );
-    let on = placement::named_from(table, geometry, separators, number, home);
+    let on = soundness::named_from(table, geometry, separators, number, home);
     Outcome::On(on)
 }
 

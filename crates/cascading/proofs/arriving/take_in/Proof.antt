@@ -13,7 +13,7 @@ use Rattle.hashing.proofs.Bounds.{limits}
 use Rattle.pages.proofs.Parts.{page-fits}
 use Rattle.placement.specs.File.{File}
 use Rattle.placement.specs.Hash.{lent, soundAt}
-use Rattle.placement.proofs.Items.{sound-loaded}
+use Rattle.soundness.proofs.Items.{sound-loaded}
 use Rattle.waiting.specs.Gather.{starsIn}
 use Rattle.cascading.specs.Arriving.{pageWords}
 use Rattle.cascading.proofs.Loading.{slice-page, stars-count, page-few, loaded-numbers, loaded-long, loaded-below, homes-long, homes-small, loaded-words, known-value}

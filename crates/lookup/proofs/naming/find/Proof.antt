@@ -11,7 +11,7 @@ use Rattle.pages.specs.Page.{part}
 use Rattle.pages.proofs.Parts.{page-fits}
 use Rattle.placement.specs.File.{File}
 use Rattle.placement.specs.Hash.{lent, soundAt, homesOf}
-use Rattle.placement.proofs.Items.{sound-loaded, homes-loaded}
+use Rattle.soundness.proofs.Items.{sound-loaded, homes-loaded}
 use Rattle.calls.proofs.Refusals.{items-most}
 use Rattle.lookup.proofs.Finding.{named-most, past-file, in-file, unread-as, absent-as, held-as, held-is, place-is, place-most, at-is, at-below, word-is, owner-is, item-below, word-valid, one-least}
 use borrow.Author.Needs.{needs}

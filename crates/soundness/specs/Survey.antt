@@ -1,0 +1,55 @@
+-- The soundness of a page by its items, as it is tested: each item after the one before.
+use mathlib.Core.Path.{_≡_}
+use mathlib.Core.Bool.{Bool, true, cond, _&&_}
+use mathlib.Core.List.{List}
+use Prim.Native.Nat.{ℕ, _*_}
+use lib.Dec.{leb, ltb, eqb}
+use lib.ListN.{length, getD, take}
+use lib.Seq.{paste}
+use Rattle.hashing.specs.declared.Parameters.{Parameters}
+use Rattle.hashing.specs.declared.Growth.{Growth}
+use Rattle.hashing.specs.declared.Geometry.{Geometry}
+use Rattle.generator.specs.Generator.{topOf}
+use Rattle.pages.specs.Page.{part}
+use Rattle.pages.specs.Position.{validWord}
+use Rattle.placement.specs.Rule.{Star}
+use Rattle.placement.specs.File.{starsOf, greatest, orderly, every}
+use Rattle.placement.specs.Hash.{namedPage, homeIn, homesOf}
+use Rattle.soundness.specs.declared.testing.Item.{Item}
+
+-- The items after the number `last` are in order, and each star stands on this page.
+unfoldable pub admits : Parameters → Growth → List ℕ → ℕ → ℕ → List ℕ → List ℕ → List ℕ → Bool
+admits p g seps page last ns ws os =
+    orderly validWord last ns ws os && every (λ (s : Star). eqb (namedPage p g seps (s .number)) page) (starsOf ns ws os)
+
+-- A page is sound, by its numbers, words and owners.
+unfoldable pub soundIn : Parameters → Growth → List ℕ → ℕ → List ℕ → List ℕ → List ℕ → Bool
+soundIn p g seps page ns ws os = leb (getD seps page 0) (topOf (p .bits)) && admits p g seps page 0 ns ws os
+
+-- The same of one item: an empty place has word and owner 0; a star's number is above `last` and in range, its word is valid.
+unfoldable pub admitsItem : Parameters → Growth → List ℕ → ℕ → ℕ → ℕ → ℕ → ℕ → Bool
+admitsItem p g seps page last n w o =
+    cond (eqb n 0)
+    (eqb w 0 && eqb o 0)
+    (ltb last n && (leb n greatest && (validWord w && eqb (namedPage p g seps n) page)))
+
+-- What the next number must exceed: after an empty place no number is taken.
+abbrev pub lastAfter : ℕ → ℕ
+lastAfter n = cond (eqb n 0) greatest n
+
+-- What is told of an item.
+pub record TestedItem (p : Parameters) (g : Growth) (seps : List ℕ) (page low n w o : ℕ) (r : Item) : Type 0 where
+  pub sound : r .sound ≡ admitsItem p g seps page low n w o
+  pub home : r .sound ≡ true → r .home ≡ homeIn p g n
+  pub last : r .sound ≡ true → r .last ≡ lastAfter n
+
+-- What is told of a page, by the values of its places.
+pub record Tested (g : Geometry) (seps : List ℕ) (page : ℕ) (ns ws os homes : List ℕ) (r : Bool) : Type 0 where
+  pub sound : r ≡ soundIn (g .parameters) (g .growth) seps page (take (g .parameters .places) ns) (take (g .parameters .places) ws) (take (g .parameters .places) os)
+  pub long : length homes ≡ 32
+  pub homed : r ≡ true → take (g .parameters .places) homes ≡ homesOf (g .parameters) (g .growth) (take (g .parameters .places) ns)
+
+-- The list hs with the homes of a page's numbers at its items.
+abbrev pub surveyed : Geometry → ℕ → List ℕ → List ℕ → List ℕ
+surveyed g page ns hs =
+    paste hs (page * g .parameters .places) (homesOf (g .parameters) (g .growth) (part (g .parameters .places) page ns)) (g .parameters .places)

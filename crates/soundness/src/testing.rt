@@ -1,0 +1,170 @@
+// The soundness of a page. Its stars' homes are computed once and at once, for the test, and kept.
+ghost use mathlib.Core.Path.{_≡_};
+ghost use mathlib.Core.Bool.{true, _&&_};
+ghost use Prim.Native.Nat.{_*_, _<_};
+ghost use lib.Dec.{eqb, leb, ltb};
+ghost use lib.ListN.{length};
+ghost use Rattle.hashing.specs.Geometry.{multiplierOf};
+ghost use Rattle.hashing.specs.Home.{home as Home·home};
+ghost use Rattle.pages.specs.Position.{validWord};
+ghost use Rattle.placement.specs.File.{greatest};
+ghost use Rattle.placement.specs.Hash.{soundAt};
+ghost use Rattle.placement.specs.Lent.{held, before};
+ghost use Rattle.placement.specs.Ready.{Homing, Ready};
+ghost use Rattle.soundness.specs.Survey.{TestedItem, Tested, surveyed};
+use crate::probing::stands_on;
+use hashing::Geometry;
+use placement::top_of;
+
+const LAST_NUMBER: u32 = 2147483646;
+
+// Whether an item is sound, and if so its star's home, 0 for an empty place, and the number that the next one must exceed.
+pub struct Item {
+    pub sound: bool,
+    pub home: u32,
+    pub last: u32,
+}
+
+// Whether a page is sound, by the value of its places as loaded; if so, `homes` has its stars' homes, 0 for an empty place.
+pub fn page_sound<'a>(
+    table: &[u32; 90],
+    geometry: Geometry,
+    separators: &[u8],
+    numbers: &'a [u32; 32],
+    words: &'a [u64; 32],
+    owners: &'a [u8; 32],
+    page: usize,
+    homes: &mut [u32; 32],
+) -> bool
+    requires { ⌜ Homing geometry (now table) ⌝ }
+    requires { ⌜ length (now separators) ≡ geometry .parameters .pages ⌝ }
+    requires { ⌜ page < geometry .parameters .pages ⌝ }
+    requires { ⌜ (length (now numbers) ≡ 32) × ((length (now words) ≡ 32) × (length (now owners) ≡ 32)) ⌝ }
+    requires { ⌜ length (now homes) ≡ 32 ⌝ }
+    ensures { λ r. ⌜ Tested geometry (now (separators .entry)) page (now (numbers .entry)) (now (words .entry)) (now (owners .entry)) (now (homes .exit)) r ⌝ }
+{
+    let places = geometry.parameters.places as usize;
+    if top_of(geometry.parameters) < separators[page] {
+        return false;
+    }
+    let mut found = [0u16; 32];
+    homes::of_page(table, geometry, numbers, places, &mut found);
+    let mut last: u32 = 0;
+    let mut i = 0;
+    while i < places {
+        let item = admitted(
+            table,
+            geometry,
+            separators,
+            page,
+            last,
+            numbers[i],
+            words[i],
+            owners[i],
+            found[i],
+        );
+        if !item.sound {
+            return false;
+        }
+        homes[i] = item.home;
+        last = item.last;
+        i += 1;
+    }
+    true
+}
+
+fn admitted(
+    table: &[u32; 90],
+    geometry: Geometry,
+    separators: &[u8],
+    page: usize,
+    last: u32,
+    number: u32,
+    word: u64,
+    owner: u8,
+    home: u16,
+) -> Item
+    requires { ⌜ Homing geometry (now table) ⌝ }
+    requires { ⌜ length (now separators) ≡ geometry .parameters .pages ⌝ }
+    requires { ⌜ page < geometry .parameters .pages ⌝ }
+    requires { ⌜ home ≡ Home·home (multiplierOf (geometry .parameters)) (geometry .parameters) (geometry .growth) number ⌝ }
+    ensures { λ r. ⌜ TestedItem (geometry .parameters) (geometry .growth) (now (separators .entry)) page last number word owner r ⌝ }
+{
+    if number == 0 {
+        return Item {
+            sound: unused(word, owner),
+            home: 0,
+            last: LAST_NUMBER,
+        };
+    }
+    if !ordered(last, number, word) {
+        return Item {
+            sound: false,
+            home: 0,
+            last,
+        };
+    }
+    Item {
+        sound: stands_on(table, geometry, separators, number, home as usize, page),
+        home: home as u32,
+        last: number,
+    }
+}
+
+// What an empty place must hold.
+fn unused(word: u64, owner: u8) -> bool
+    ensures { λ r. ⌜ r ≡ (eqb word 0 && eqb owner 0) ⌝ }
+{
+    if word != 0 {
+        return false;
+    }
+    owner == 0
+}
+
+fn ordered(last: u32, number: u32, word: u64) -> bool
+    ensures { λ r. ⌜ r ≡ (ltb last number && (leb number greatest && validWord word)) ⌝ }
+{
+    if number <= last {
+        return false;
+    }
+    if LAST_NUMBER < number {
+        return false;
+    }
+    pages::position::word_valid(word)
+}
+
+// Loads a page and tests it. If it is sound, its homes stand at its items of `homes`.
+pub fn survey(
+    table: &[u32; 90],
+    geometry: Geometry,
+    separators: &[u8],
+    numbers: &[u32],
+    words: &[u64],
+    owners: &[u8],
+    homes: &mut [u32],
+    page: usize,
+) -> bool
+    requires { ⌜ Ready geometry (now table) (held separators numbers words owners) ⌝ }
+    requires { ⌜ length (now homes) ≡ geometry .parameters .pages * geometry .parameters .places ⌝ }
+    requires { ⌜ page < geometry .parameters .pages ⌝ }
+    ensures { λ r. ⌜ r ≡ soundAt (geometry .parameters) (geometry .growth) (before separators numbers words owners) page ⌝ }
+    ensures { λ r. ⌜ (r ≡ true → now (homes .exit) ≡ surveyed geometry page (now (numbers .entry)) (now (homes .entry))) ⌝ }
+{
+    let places = geometry.parameters.places as usize;
+    let value = pages::page::load(numbers, words, owners, places, page);
+    let mut found = [0u32; 32];
+    if !page_sound(
+        table,
+        geometry,
+        separators,
+        &value.numbers,
+        &value.words,
+        &value.owners,
+        page,
+        &mut found,
+    ) {
+        return false;
+    }
+    buffers::copy_32(homes, page * places, &found, 0, places);
+    true
+}
