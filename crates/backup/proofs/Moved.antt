@@ -14,10 +14,10 @@ use Rattle.hashing.specs.declared.Growth.{Growth}
 use Rattle.hashing.specs.Geometry.{multiplierOf, pageCount, grown}
 use Rattle.hashing.specs.Limits.{validParameters, validGrowth}
 use Rattle.hashing.proofs.Bounds.{both}
-use Rattle.hashing.proofs.Homes.{home-moves}
 use Rattle.placement.specs.Rule.{Star, Hash, pages, separators, blank}
 use Rattle.placement.specs.Hash.{hashOf}
 use Rattle.placement.proofs.Probing.{bounded-real}
+use Rattle.rehoming.proofs.Rehomed.{home-moves}
 use Rattle.backup.specs.Stretches.{expands, topAt, topTwice, inStretch, nearGroup, mayChange}
 use Rattle.backup.proofs.Agreeing.{Alike}
 use Rattle.backup.proofs.Settled.{Settled, Outside, Unmoved, settled-zero, settled-top, settled-fewer, same-page}

@@ -19,7 +19,7 @@ use Rattle.hashing.specs.declared.Growth.{Growth}
 use Rattle.hashing.specs.Geometry.{multiplierOf, pageCount, grown, expands}
 use Rattle.hashing.specs.Limits.{validParameters, validGrowth}
 use Rattle.hashing.specs.Home.{home}
-use Rattle.hashing.proofs.Homes.{home-below, home-grown, home-moves}
+use Rattle.hashing.proofs.Homes.{home-below}
 use Rattle.generator.specs.Generator.{topOf}
 use Rattle.pages.specs.Page.{part}
 use Rattle.pages.specs.Position.{validWord}
@@ -35,6 +35,7 @@ use Rattle.placement.proofs.Standing.{first-home, past-top}
 use Rattle.placement.proofs.Sound.{Sound, gathered-member, member-gathered, gathered-rising, sound-proper}
 use Rattle.placement.proofs.Tested.{real-facts, facts-real}
 use Rattle.placement.proofs.Probing.{bounded-real, first-from}
+use Rattle.rehoming.proofs.Rehomed.{home-grown, home-moves}
 use Rattle.reach.specs.Reach.{firstUnsound, allStars}
 use Rattle.reach.proofs.Search.{such}
 use Rattle.reach.proofs.Surveyed.{unsound}

@@ -1,6 +1,6 @@
 // Which stars' home becomes the new page.
 ghost use mathlib.Core.Path.{_≡_};
-ghost use Rattle.hashing.specs.Geometry.{pageCount, grown};
+ghost use Rattle.hashing.specs.Geometry.{pageCount};
 ghost use Rattle.placement.specs.Hash.{homeIn};
 ghost use Rattle.placement.specs.Ready.{Homing};
 ghost use Rattle.expanding.specs.Expansion.{joinsAt};
@@ -16,17 +16,5 @@ pub fn joins(table: &[u32; 90], geometry: Geometry, number: u32, home: u32, adde
     if number == 0 {
         return false;
     }
-    hashing::home_grown(table, geometry, number, home) == added
-}
-
-// An item's home under the next growth state, from its home under this one; 0 for an empty place.
-pub fn next_home(table: &[u32; 90], geometry: Geometry, number: u32, old: u32) -> u32
-    requires { ⌜ Homing geometry (now table) ⌝ }
-    requires { ⌜ old ≡ homeIn (geometry .parameters) (geometry .growth) number ⌝ }
-    ensures { λ r. ⌜ r ≡ homeIn (geometry .parameters) (grown (geometry .parameters) (geometry .growth)) number ⌝ }
-{
-    if number == 0 {
-        return 0;
-    }
-    hashing::home_grown(table, geometry, number, old)
+    rehoming::home_grown(table, geometry, number, home) == added
 }

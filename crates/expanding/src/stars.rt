@@ -13,11 +13,11 @@ ghost use Rattle.expanding.specs.Expansion.{Underway, Stepped, NoneJoins
 use crate::counting::count_stars;
 use crate::counting::has_room;
 use crate::joining::joins;
-use crate::joining::next_home;
 use crate::moving::move_star;
 use crate::walking::near;
 use crate::walking::runs_on;
 use hashing::Geometry;
+use rehoming::item_grown;
 
 // The homes of the new page's stars under the next growth state.
 fn rehome_page(
@@ -39,7 +39,7 @@ fn rehome_page(
     let mut i = 0;
     while i < places {
         let old = homes[first + i];
-        let next = next_home(table, geometry, numbers[first + i], old);
+        let next = item_grown(table, geometry, numbers[first + i], old);
         homes[first + i] = next;
         i += 1;
     }

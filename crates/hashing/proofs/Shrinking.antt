@@ -1,7 +1,6 @@
--- Shrinking undoes a growth: states, page counts and homes.
+-- Shrinking undoes a growth: states and page counts.
 use mathlib.Core.Path.{_≡_, _∙_, refl, sym, ap}
 use mathlib.Core.Bool.{Bool, true, false, _&&_, and-false, and-true}
-use mathlib.Core.Logic.{_⊎_, inl, inr}
 use Prim.Native.Nat.{ℕ, suc, _+_, _-_, _≤_, _<_}
 use native.Mathlib.Numerals.{add-one}
 use native.Mathlib.Omega.{arith}
@@ -11,9 +10,8 @@ use Rattle.hashing.specs.declared.Parameters.{Parameters}
 use Rattle.hashing.specs.declared.Growth.{Growth}
 use Rattle.hashing.specs.Geometry.{countAt, groupCount, pageCount, highest, grown, grownBy, ungrown, isUngrown, shrunk, shrunkBy}
 use Rattle.hashing.specs.Limits.{validParameters, validGrowth}
-use Rattle.hashing.specs.Home.{home}
 use Rattle.hashing.proofs.Bounds.{both, limits, growth-within, within-valid, count-least}
-use Rattle.hashing.proofs.Homes.{grown-count, home-grown}
+use Rattle.hashing.proofs.Homes.{grown-count}
 
 abbrev state : ℕ → ℕ → Growth
 state e x = record { expansions = e; expanded = x }
@@ -94,16 +92,3 @@ module _ (p : Parameters) (g : Growth) (valid : validParameters p ≡ true) (old
         go : (t : Bool) → eqb (g .expanded) 0 ≡ t → shrunkBy t p g .expanded < groupCount p (shrunkBy t p g)
         go true e = omega (arith, some)
         go false e = omega (arith, eqb-false (g .expanded) 0 e, growth-within p g grows .expanded-below)
-
-    -- a star that is not homed at the page given back keeps its home
-    pub home-shrunk : (a k : ℕ) → (home a p g k ≡ highest p g → ⊥) → home a p (shrunk p g) k ≡ home a p g k
-    home-shrunk a k away = go (home-grown a p (shrunk p g) k valid shrunk-valid)
-      where
-        now : home a p (grown p (shrunk p g)) k ≡ home a p g k
-        now = ap (λ (s : Growth). home a p s k) grown-shrunk
-
-        go :
-            (home a p (grown p (shrunk p g)) k ≡ home a p (shrunk p g) k) ⊎ (home a p (grown p (shrunk p g)) k ≡ pageCount p (shrunk p g)) →
-            home a p (shrunk p g) k ≡ home a p g k
-        go (inl e) = sym e ∙ now
-        go (inr e) = absurd (away (sym now ∙ e ∙ sym shrunk-page))

@@ -3,20 +3,18 @@ ghost use mathlib.Core.Path.{_≡_};
 ghost use mathlib.Core.Bool.{true};
 ghost use Prim.Native.Nat.{_*_, _/_, _%_, _<_, _≤_};
 ghost use Rattle.generator.specs.Generator.{modulus, firstMultipliers, scrambled};
-ghost use Rattle.hashing.specs.Geometry.{multiplierOf, grown};
+ghost use Rattle.hashing.specs.Geometry.{multiplierOf};
 ghost use Rattle.hashing.specs.Limits.{validParameters, validGrowth};
-ghost use Rattle.hashing.specs.Home.{rankAt, stepFrom, chosen as Home·chosen, home as Home·home};
+ghost use Rattle.hashing.specs.Home.{stepFrom, chosen as Home·chosen, home as Home·home};
 ghost use Rattle.hashing.specs.Moves.{codeAt, codePage, inverseOf, Landed};
 use crate::Geometry;
 use crate::Parameters;
 use crate::moves::Landing;
 use crate::moves::choose;
 use crate::moves::chosen;
-use crate::moves::count_of;
 use crate::moves::follow;
 use crate::moves::moved;
 use crate::moves::page_of;
-use crate::moves::ranked;
 use generator::residue;
 
 pub fn home(table: &[u32; 90], geometry: Geometry, number: u32) -> u32
@@ -41,7 +39,7 @@ pub fn home(table: &[u32; 90], geometry: Geometry, number: u32) -> u32
     last_step(table, geometry, inverse, key, choice.last, landing) as u32
 }
 
-fn inverse_of(parameters: Parameters) -> u32
+pub fn inverse_of(parameters: Parameters) -> u32
     requires { ⌜ validParameters parameters ≡ true ⌝ }
     ensures { λ r. ⌜ r ≡ inverseOf (parameters .step) ⌝ }
 {
@@ -59,7 +57,7 @@ fn first_page(table: &[u32; 90], parameters: Parameters, key: u32) -> u16
 }
 
 // Whether the last step, of that code, chooses the number.
-fn chosen_last(table: &[u32; 90], geometry: Geometry, key: u32, last: u16) -> bool
+pub fn chosen_last(table: &[u32; 90], geometry: Geometry, key: u32, last: u16) -> bool
     requires { ⌜ now table ≡ firstMultipliers (multiplierOf (geometry .parameters)) ⌝ }
     requires { ⌜ validParameters (geometry .parameters) ≡ true ⌝ }
     requires { ⌜ validGrowth (geometry .parameters) (geometry .growth) ≡ true ⌝ }
@@ -101,52 +99,4 @@ fn last_step(
         return page;
     }
     page_of(parameters, last, order)
-}
-
-// The code of the last step.
-fn last_code(geometry: Geometry) -> u16
-    requires { ⌜ validParameters (geometry .parameters) ≡ true ⌝ }
-    requires { ⌜ validGrowth (geometry .parameters) (geometry .growth) ≡ true ⌝ }
-    ensures { λ r. ⌜ r ≡ codeAt (geometry .parameters) (geometry .growth .expansions) ⌝ }
-{
-    let expansions = geometry.growth.expansions;
-    let width = geometry.parameters.width;
-    (expansions / width * 8 + (width + expansions % width)) as u16
-}
-
-// The rank of a page's group in the last step.
-fn last_rank(geometry: Geometry, last: u16, page: u16) -> u16
-    requires { ⌜ validParameters (geometry .parameters) ≡ true ⌝ }
-    requires { ⌜ validGrowth (geometry .parameters) (geometry .growth) ≡ true ⌝ }
-    requires { ⌜ last ≡ codeAt (geometry .parameters) (geometry .growth .expansions) ⌝ }
-    ensures { λ r. ⌜ r ≡ rankAt (geometry .parameters) (geometry .growth .expansions) page ⌝ }
-{
-    let parameters = geometry.parameters;
-    let group = page % count_of(parameters, last);
-    let order = ranked(parameters, inverse_of(parameters), last, group);
-    order
-}
-
-// The home under the next growth state, from the home under this one.
-pub fn home_grown(table: &[u32; 90], geometry: Geometry, number: u32, old: u32) -> u32
-    requires { ⌜ now table ≡ firstMultipliers (multiplierOf (geometry .parameters)) ⌝ }
-    requires { ⌜ validParameters (geometry .parameters) ≡ true ⌝ }
-    requires { ⌜ validGrowth (geometry .parameters) (geometry .growth) ≡ true ⌝ }
-    requires { ⌜ old ≡ Home·home (multiplierOf (geometry .parameters)) (geometry .parameters) (geometry .growth) number ⌝ }
-    ensures { λ r. ⌜ r ≡ Home·home (multiplierOf (geometry .parameters)) (geometry .parameters) (grown (geometry .parameters) (geometry .growth)) number ⌝ }
-{
-    let last = last_code(geometry);
-    let page = old as u16;
-    let expanded = geometry.growth.expanded as u16;
-    let first = page_of(geometry.parameters, last, 0);
-    if first <= page {
-        return old;
-    }
-    if !chosen_last(table, geometry, number % 2147483647, last) {
-        return old;
-    }
-    if last_rank(geometry, last, page) == expanded {
-        return (first + expanded) as u32;
-    }
-    old
 }

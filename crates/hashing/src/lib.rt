@@ -6,14 +6,17 @@ mod moves;
 mod ranks;
 mod undoing;
 
+pub use address::chosen_last;
 pub use address::home;
-pub use address::home_grown;
+pub use address::inverse_of;
 pub use groups::expands;
 pub use groups::grown;
 pub use limits::growth_valid;
 pub use limits::parameters_valid;
+pub use moves::count_of;
+pub use moves::page_of;
+pub use moves::ranked;
 pub use ranks::rank;
-pub use undoing::home_shrunk;
 pub use undoing::shrunk;
 pub use undoing::ungrown;
 

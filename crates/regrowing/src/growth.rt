@@ -17,13 +17,10 @@ fn next_home(table: &[u32; 90], geometry: Geometry, back: bool, number: u32, old
     requires { ⌜ old ≡ homeIn (geometry .parameters) (geometry .growth) number ⌝ }
     ensures { λ r. ⌜ r ≡ homeIn (geometry .parameters) (nextOf back (geometry .parameters) (geometry .growth)) number ⌝ }
 {
-    if number == 0 {
-        return 0;
-    }
     if back {
-        return hashing::home_shrunk(table, geometry, number, old);
+        return rehoming::item_shrunk(table, geometry, number, old);
     }
-    hashing::home_grown(table, geometry, number, old)
+    rehoming::item_grown(table, geometry, number, old)
 }
 
 fn rehome(table: &[u32; 90], geometry: Geometry, back: bool, numbers: &[u32], homes: &mut [u32])

@@ -49,17 +49,17 @@ mul-old c = search needs
 slice-read-old : tie.Need-slice-read-old Inv-loop μ-loop
 slice-read-old c = omega (arith, c .before .before .before .before .before .before .pre .1 .0, long (c .before .before .before .before .before .before), c .before .before .loop .inv .1 .kept)
 
-add-next-home : tie.Need-add-next-home Inv-loop μ-loop
-add-next-home c = omega (arith, c .before .before .before .before .before .before .pre .1 .0)
+add-item-grown : tie.Need-add-item-grown Inv-loop μ-loop
+add-item-grown c = omega (arith, c .before .before .before .before .before .before .pre .1 .0)
 
-mul-next-home : tie.Need-mul-next-home Inv-loop μ-loop
-mul-next-home c = search needs
+mul-item-grown : tie.Need-mul-item-grown Inv-loop μ-loop
+mul-item-grown c = search needs
 
-shared-slice-read-next-home : tie.Need-shared-slice-read-next-home Inv-loop μ-loop
-shared-slice-read-next-home c = omega (arith, c .before .before .before .before .before .before .before .pre .1 .0)
+shared-slice-read-item-grown : tie.Need-shared-slice-read-item-grown Inv-loop μ-loop
+shared-slice-read-item-grown c = omega (arith, c .before .before .before .before .before .before .before .pre .1 .0)
 
-next-home-requires : tie.Need-next-home-requires Inv-loop μ-loop
-next-home-requires c κs =
+item-grown-requires : tie.Need-item-grown-requires Inv-loop μ-loop
+item-grown-requires c κs =
     let s = c .before .before .before .before .before .before .before in
     let at = s .args .page * s .args .geometry .parameters .places in (
       s .pre .0,
@@ -91,7 +91,7 @@ loop-again c =
     let i = c .before .before .before .before .loop .i in (
       omega arith,
       turn _ at _ _ i _ (omega (arith, s .pre .1 .0, long s)) (omega (arith, s .pre .1 .0, next-long s))
-          (c .next-home .ensures ∙ sym (getD-drop at (homesOf p (grown p (s .args .geometry .growth)) ns) i 0 ∙ home-item p (grown p (s .args .geometry .growth)) _ ns (at + i) refl))
+          (c .item-grown .ensures ∙ sym (getD-drop at (homesOf p (grown p (s .args .geometry .growth)) ns) i 0 ∙ home-item p (grown p (s .args .geometry .growth)) _ ns (at + i) refl))
           (c .before .before .before .before .loop .inv .1),
     )
 
@@ -113,10 +113,10 @@ rehome-page-spec =
     add-old
     mul-old
     slice-read-old
-    add-next-home
-    mul-next-home
-    shared-slice-read-next-home
-    next-home-requires
+    add-item-grown
+    mul-item-grown
+    shared-slice-read-item-grown
+    item-grown-requires
     add-homes
     mul-homes
     slice-write-homes

@@ -1,6 +1,6 @@
 use borrow.Author.Tests.{eq-eqb, ne-eqb}
-use Rattle.expanding.proofs.joining.next_home.Statement.{statement}
-use Rattle.expanding.proofs.joining.next_home.Tie as tie
+use Rattle.rehoming.proofs.items.item_grown.Statement.{statement}
+use Rattle.rehoming.proofs.items.item_grown.Tie as tie
 
 returns : tie.Need-returns
 returns c = rw (eq-eqb _ _ (c .if1 .taken))
@@ -13,5 +13,5 @@ home-grown-requires c κs =
 returns-2 : tie.Need-returns-2
 returns-2 c = rw (ne-eqb _ _ (c .before .if1 .left)) (c .home-grown .ensures)
 
-pub next-home-spec : {M : Type 1} → statement M
-next-home-spec = tie.close (tie.spec returns home-grown-requires returns-2)
+pub item-grown-spec : {M : Type 1} → statement M
+item-grown-spec = tie.close (tie.spec returns home-grown-requires returns-2)

@@ -1,14 +1,14 @@
--- `hashing::last_rank` meets its contract.
+-- `rehoming::last_rank` meets its contract.
 use mathlib.Core.Path.{_∙_}
 use Prim.Native.Nat.{_≤_}
 use native.Mathlib.Nat.{mod-lt, le-refl}
 use borrow.Author.Needs.{needs}
 use Rattle.hashing.specs.Home.{rankAt}
 use Rattle.hashing.specs.Moves.{Narrow}
 use Rattle.hashing.proofs.Bounds.{limits, growth-within}
 use Rattle.hashing.proofs.Codes.{code-count, code-narrow, count-of-least}
-use Rattle.hashing.proofs.address.last_rank.Statement.{statement}
-use Rattle.hashing.proofs.address.last_rank.Tie as tie
+use Rattle.rehoming.proofs.growing.last_rank.Statement.{statement}
+use Rattle.rehoming.proofs.growing.last_rank.Tie as tie
 
 narrow : (c : tie.Start) → Narrow (c .args .geometry .parameters) (c .args .last)
 narrow c = rw (c .pre .1 .1) (code-narrow _ _ _ (limits _ (c .pre .0)) (growth-within _ _ (c .pre .1 .0)) (le-refl (c .args .geometry .growth .expansions)))

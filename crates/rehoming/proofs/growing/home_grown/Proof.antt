@@ -1,4 +1,4 @@
--- `hashing::home_grown` meets its contract, by the law of a home after one growth.
+-- `rehoming::home_grown` meets its contract, by the law of a home after one growth.
 use mathlib.Core.Path.{_≡_, _∙_, sym}
 use mathlib.Core.Bool.{false, cond, _&&_}
 use Prim.Native.Nat.{ℕ, _+_, _*_}
@@ -7,14 +7,15 @@ use native.Mathlib.Omega.{arith}
 use borrow.Author.Needs.{needs}
 use borrow.Author.Tests.{le-leb, lt-leb, eq-eqb, ne-eqb, not-true, not-false}
 use lib.Dec.{leb, eqb}
 use Rattle.hashing.specs.Geometry.{multiplierOf, pageCount, groupSize, groupCount, grown}
 use Rattle.hashing.specs.Home.{home, chosen, rankAt}
 use Rattle.hashing.specs.Moves.{codePage}
 use Rattle.hashing.proofs.Bounds.{Limits, Within, limits, growth-within, spread}
-use Rattle.hashing.proofs.Homes.{home-pages, home-regrown}
+use Rattle.hashing.proofs.Homes.{home-pages}
 use Rattle.hashing.proofs.Codes.{chosen-key, code-size, code-count, code-narrow, count-of-least}
-use Rattle.hashing.proofs.address.home_grown.Statement.{statement}
-use Rattle.hashing.proofs.address.home_grown.Tie as tie
+use Rattle.rehoming.proofs.Rehomed.{home-regrown}
+use Rattle.rehoming.proofs.growing.home_grown.Statement.{statement}
+use Rattle.rehoming.proofs.growing.home_grown.Tie as tie
 
 abbrev span : tie.Start → ℕ
 span c = groupSize (c .args .geometry .parameters) (c .args .geometry .growth) * groupCount (c .args .geometry .parameters) (c .args .geometry .growth)

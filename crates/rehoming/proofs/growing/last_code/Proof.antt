@@ -1,13 +1,13 @@
--- `hashing::last_code` meets its contract.
+-- `rehoming::last_code` meets its contract.
 use mathlib.Core.Path.{refl}
 use Prim.Native.Nat.{_+_, _/_, _%_, _≤_}
 use native.Mathlib.Nat.{mod-lt, div-le-self}
 use native.Mathlib.Omega.{arith}
 use Rattle.hashing.specs.Geometry.{sizeAt}
 use Rattle.hashing.specs.Moves.{codeAt}
 use Rattle.hashing.proofs.Bounds.{Limits, limits, growth-within, spread}
-use Rattle.hashing.proofs.address.last_code.Statement.{statement}
-use Rattle.hashing.proofs.address.last_code.Tie as tie
+use Rattle.rehoming.proofs.growing.last_code.Statement.{statement}
+use Rattle.rehoming.proofs.growing.last_code.Tie as tie
 
 bounds : (c : tie.Start) → Limits (c .args .geometry .parameters)
 bounds c = limits _ (c .pre .0)

@@ -1,9 +1,10 @@
--- `hashing::home_shrunk` meets its contract, by the law of a home before the latest growth.
+-- `rehoming::home_shrunk` meets its contract, by the law of a home before the latest growth.
 use mathlib.Core.Path.{_∙_, sym}
 use borrow.Author.Needs.{needs}
-use Rattle.hashing.proofs.Shrinking.{shrunk-valid, home-shrunk}
-use Rattle.hashing.proofs.undoing.home_shrunk.Statement.{statement}
-use Rattle.hashing.proofs.undoing.home_shrunk.Tie as tie
+use Rattle.hashing.proofs.Shrinking.{shrunk-valid}
+use Rattle.rehoming.proofs.Rehomed.{home-shrunk}
+use Rattle.rehoming.proofs.shrinking.home_shrunk.Statement.{statement}
+use Rattle.rehoming.proofs.shrinking.home_shrunk.Tie as tie
 
 highest-address-requires : tie.Need-highest-address-requires
 highest-address-requires c κs = search needs
