@@ -18,7 +18,7 @@ use guarding::may_alter;
 use hashing::Geometry;
 use hashing::Growth;
 use hashing::Parameters;
-use lookup::find_kept;
+use naming::find_kept;
 
 // The answer of an accepted removal is the page where the star stood.
 pub fn remove(
