@@ -1,5 +1,4 @@
 // The change of a position.
-ghost use mathlib.Core.Path.{_≡_};
 ghost use Rattle.placement.specs.Lent.{held, before};
 ghost use Rattle.calls.specs.Answers.{Leaves, unpooled, placed};
 ghost use Rattle.calls.specs.Calls.{changeOf};
