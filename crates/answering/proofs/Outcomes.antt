@@ -1,4 +1,4 @@
--- The answers and files of an entry and of a removal are those of the calls' definitions, and their pages are small.
+-- The answers and files of entry, removal and growth are those of the calls' definitions, and their pages are small.
 use mathlib.Core.Path.{_≡_, refl}
 use mathlib.Core.Bool.{Bool, true, false, not, cond}
 use mathlib.Core.List.{List, [], _∷_}
@@ -14,9 +14,9 @@ use Rattle.placement.specs.Hash.{hashOf, soundAt}
 use Rattle.reach.specs.Reach.{firstSuch, storedTop, pagesTo, removalEnd, firstUnsound, hasNumber, holding}
 use Rattle.reach.proofs.Search.{such}
 use Rattle.planning.specs.declared.outcome.Outcome.the-variants.{On, Unsound, Overflows}
-use Rattle.calls.specs.Answers.{Pool, placed, refusedBy, acceptedAt, refusedAt}
+use Rattle.calls.specs.Answers.{Pool, placed, refusedBy, accepted, refused, acceptedAt, refusedAt}
 use Rattle.calls.specs.Calls.{unchanged}
-use Rattle.answering.specs.Outcomes.{OutcomeSmall, outcomePlaced}
+use Rattle.answering.specs.Outcomes.{OutcomeSmall, outcomePlaced, outcomeGrown}
 
 pub holding-most : (k from : ℕ) (cs : List Contents) → holding k from cs ≤ from + length cs
 unfolding holding
@@ -57,3 +57,16 @@ module _ (g : Growth) (f : File) (pool : Pool) where
   outcome-cases true u bad page place next = (refl, refl)
   outcome-cases false true bad page place next = (refl, refl)
   outcome-cases false false bad page place next = (refl, refl)
+
+  -- .. and the growth state that is left
+  pub grown-cases : (t u : Bool) (bad page : ℕ) (next : Growth) (to : File)
+      → (placed (outcomeGrown (cond t (Unsound bad) (cond u (On page) Overflows)) g next .answer)
+      ≡ cond t (unchanged g f pool (refused 5 bad)) (cond u (record { answer = accepted page; growth = next; file = to; pool = pool }) (unchanged g f pool (refused 8 0))) .answer)
+      × (cond t f (cond u to f)
+      ≡ cond t (unchanged g f pool (refused 5 bad)) (cond u (record { answer = accepted page; growth = next; file = to; pool = pool }) (unchanged g f pool (refused 8 0))) .file)
+      × (outcomeGrown (cond t (Unsound bad) (cond u (On page) Overflows)) g next .growth
+      ≡ cond t (unchanged g f pool (refused 5 bad)) (cond u (record { answer = accepted page; growth = next; file = to; pool = pool }) (unchanged g f pool (refused 8 0))) .growth)
+  unfolding placed refusedBy
+  grown-cases true u bad page next to = (refl, refl, refl)
+  grown-cases false true bad page next to = (refl, refl, refl)
+  grown-cases false false bad page next to = (refl, refl, refl)

@@ -77,6 +77,10 @@ leaves after a g f pool e =
       pools = sym (ap (λ (x : After). x .pool) e);
     }
 
+-- .. and the growth state g
+pub made-by : (after : After) (a : Answer) (g : Growth) (f : File) (pool : Pool) → after ≡ record { answer = a; growth = g; file = f; pool = pool } → Leaves after a f pool × (g ≡ after .growth)
+made-by after a g f pool e = (leaves after a g f pool e, sym (ap (λ (x : After). x .growth) e))
+
 -- Refusals 1 and 2 by the guard that the calls begin with
 
 unlent-most : (p : Parameters) (g : Growth) (lengths : Bool) → unlent p g lengths ≤ 2

@@ -4,8 +4,8 @@ ghost use mathlib.Core.Bool.{true};
 ghost use mathlib.Core.List.{_++_};
 ghost use Prim.Native.Nat.{_+_, _*_, _^_, _≤_, _<_};
 ghost use lib.Dec.{ltb};
-ghost use lib.ListN.{length, take, drop};
-ghost use lib.Seq.{paste, slice};
+ghost use lib.ListN.{length, take};
+ghost use lib.Seq.{slice};
 ghost use Rattle.placement.specs.Lent.{held, before};
 ghost use Rattle.placement.specs.Ready.{Homing, Ready};
 ghost use Rattle.soundness.specs.Survey.{Tested};
@@ -63,19 +63,6 @@ fn exceeds(numbers: &[u32], at: usize, places: usize, room: usize) -> bool
     room < waiting::count_stars(numbers, at, at + places, 0)
 }
 
-// The homes that the pool holds from item `at` on.
-fn load_homes(pool: &[u32], homes: &mut [u32; 32], places: usize, at: usize)
-    requires { ⌜ (places ≤ 32) × (length (now homes) ≡ 32) ⌝ }
-    requires { ⌜ at + places ≤ length (now pool) ⌝ }
-    ensures { λ _. ⌜ now (homes .exit) ≡ paste (now (homes .entry)) 0 (drop at (now (pool .entry))) places ⌝ }
-{
-    let mut i = 0;
-    while i < places {
-        homes[i] = pool[at + i];
-        i += 1;
-    }
-}
-
 // As `soundness::page_sound`, but a page below `tested` is known: it is not tested again.
 fn test_page<'a>(
     table: &[u32; 90],
@@ -99,7 +86,7 @@ fn test_page<'a>(
 {
     if page < tested {
         let places = geometry.parameters.places as usize;
-        load_homes(pool, homes, places, page * places);
+        buffers::copy_32(homes, 0, pool, page * places, places);
         return true;
     }
     soundness::page_sound(

@@ -1,5 +1,4 @@
 // What a page keeps: the sources of its stars in the pool, its separator in `planned`.
-ghost use mathlib.Core.Path.{_≡_};
 ghost use Prim.Native.Nat.{_+_, _*_, _≤_, _<_};
 ghost use lib.ListN.{length};
 ghost use lib.Seq.{slice};

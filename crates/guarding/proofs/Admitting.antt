@@ -1,6 +1,6 @@
 -- What a call that passed its guard has.
-use mathlib.Core.Path.{_≡_}
-use mathlib.Core.Bool.{true}
+use mathlib.Core.Path.{_≡_, sym, ap, _∙_}
+use mathlib.Core.Bool.{Bool, true}
 use mathlib.Core.List.{List}
 use Prim.Native.Nat.{ℕ, _<_}
 use borrow.Author.Tests.{ltb-true}
@@ -15,7 +15,7 @@ use Rattle.placement.specs.Hash.{soundAt}
 use Rattle.placement.specs.Ready.{Ready}
 use Rattle.placement.proofs.Prepared.{ready}
 use Rattle.calls.specs.Lent.{Admitted}
-use Rattle.calls.specs.Calls.{readable}
+use Rattle.calls.specs.Calls.{readable, mayAlter}
 
 -- what the calls below need, with the table that the call made
 pub prepared : {g : Geometry} {t : List ℕ} {f : File} → t ≡ firstMultipliers (multiplierOf (g .parameters)) → Admitted (g .parameters) (g .growth) f → Ready g t f
@@ -30,3 +30,7 @@ unfolding readable
 readable-facts p g f page e =
     let t = both _ _ e in
     (ltb-true _ _ (t .0), t .1)
+
+-- whether the caller may alter the star, said of the lent owners
+pub altered : (caller owner owned : ℕ) (r t : Bool) → owner ≡ owned → r ≡ mayAlter caller owner → r ≡ t → mayAlter caller owned ≡ t
+altered caller owner owned r t e a b = ap (mayAlter caller) (sym e) ∙ (sym a ∙ b)

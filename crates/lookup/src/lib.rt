@@ -1,11 +1,7 @@
-// The named page, which calls about a star begin with, and those that place no star. Each contract gives the answer and every lent
-// item at exit, refusals too, by the definitions of crate calls.
-mod naming;
+// The calls about one star that place none. Each contract gives the answer and every lent item at exit, refusals too, by the definitions of
+// crate calls.
 mod reading;
 mod rewriting;
 
-pub use naming::Named;
-pub use naming::find;
-pub use naming::find_kept;
 pub use reading::look_up;
 pub use rewriting::change;

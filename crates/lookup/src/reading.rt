@@ -3,7 +3,6 @@ ghost use mathlib.Core.Path.{_≡_};
 ghost use Rattle.placement.specs.Lent.{before};
 ghost use Rattle.calls.specs.Answers.{unpooled, sought};
 ghost use Rattle.calls.specs.Calls.{lookUpOf};
-use crate::naming::find;
 use calls::answers::Admission;
 use calls::answers::Found;
 use calls::answers::Refusal;
@@ -12,6 +11,7 @@ use guarding::guard;
 use hashing::Geometry;
 use hashing::Growth;
 use hashing::Parameters;
+use naming::find;
 
 // Reads the separators and the one page that they name.
 pub fn look_up(

@@ -1,9 +1,7 @@
 // The change of a position.
-ghost use mathlib.Core.Path.{_≡_};
 ghost use Rattle.placement.specs.Lent.{held, before};
 ghost use Rattle.calls.specs.Answers.{Leaves, unpooled, placed};
 ghost use Rattle.calls.specs.Calls.{changeOf};
-use crate::naming::find;
 use calls::answers::Admission;
 use calls::answers::Placed;
 use calls::answers::Refusal;
@@ -13,6 +11,7 @@ use guarding::may_alter;
 use hashing::Geometry;
 use hashing::Growth;
 use hashing::Parameters;
+use naming::find;
 use pages::position::Position;
 
 // Writes one word. The owner stays.

@@ -1,11 +1,10 @@
 -- Making an empty file, by the definitions.
-use mathlib.Core.Path.{_≡_, refl, sym, ap}
+use mathlib.Core.Path.{_≡_, refl}
 use mathlib.Core.Bool.{Bool, true, false, _&&_}
 use mathlib.Core.List.{List}
 use Prim.Native.Nat.{ℕ}
 use lib.ListN.{length, replicate}
 use Rattle.hashing.specs.declared.Parameters.{Parameters}
-use Rattle.hashing.specs.declared.Growth.{Growth}
 use Rattle.generator.specs.Generator.{topOf}
 use Rattle.hashing.specs.Geometry.{ungrown}
 use Rattle.hashing.specs.Limits.{validParameters, validGrowth}
@@ -13,13 +12,9 @@ use Rattle.hashing.proofs.Homes.{start-valid}
 use Rattle.placement.specs.File.{File}
 use Rattle.placement.specs.Hash.{lent}
 use Rattle.calls.specs.declared.answers.Refusal.{Refusal}
-use Rattle.calls.specs.declared.answers.Answer.{Answer}
-use Rattle.calls.specs.Answers.{After, Pool, Leaves, accepted, refusalNumber, refusedBy}
+use Rattle.calls.specs.Answers.{Pool, Leaves, accepted, refusalNumber, refusedBy}
 use Rattle.calls.specs.Calls.{unless, orElse, unlent, makeOf, fileFits, emptyFile}
-use Rattle.calls.proofs.Refusals.{leaves, sized, turned-away}
-
-pub made-by : (after : After) (a : Answer) (g : Growth) (f : File) (pool : Pool) → after ≡ record { answer = a; growth = g; file = f; pool = pool } → Leaves after a f pool × (g ≡ after .growth)
-made-by after a g f pool e = (leaves after a g f pool e, sym (ap (λ (x : After). x .growth) e))
+use Rattle.calls.proofs.Refusals.{made-by, sized, turned-away}
 
 -- a new file's growth state is valid, so the guard of the other calls is make's too
 new-guard : (p : Parameters) (lengths : Bool) → orElse (unless (validParameters p) 1) (unless lengths 2) ≡ unlent p ungrown lengths

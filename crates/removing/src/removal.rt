@@ -1,7 +1,6 @@
 // The removal of a star.
 ghost use mathlib.Core.Path.{_≡_};
 ghost use mathlib.Core.Bool.{true};
-ghost use Prim.Native.Nat.{_≤_};
 ghost use Rattle.pages.specs.Position.{validNumber};
 ghost use Rattle.placement.specs.Lent.{held, before, after};
 ghost use Rattle.placement.specs.Ready.{Pooled};
@@ -18,7 +17,7 @@ use guarding::may_alter;
 use hashing::Geometry;
 use hashing::Growth;
 use hashing::Parameters;
-use lookup::find_kept;
+use naming::find_kept;
 
 // The answer of an accepted removal is the page where the star stood.
 pub fn remove(

@@ -1,7 +1,6 @@
 -- The answers and files of growth and check are those of the calls' definitions, and their pages are small.
 use mathlib.Core.Path.{_≡_, refl}
 use mathlib.Core.Bool.{Bool, true, false, cond}
-use mathlib.Core.List.{[]}
 use Prim.Native.Nat.{ℕ, suc, _-_, _*_, _^_, _/_, _%_, _<_}
 use native.Mathlib.Nat.{mod-lt, div-lt-iff-lt-mul}
 use native.Mathlib.Omega.{arith}
@@ -15,15 +14,14 @@ use Rattle.hashing.proofs.Bounds.{limits}
 use Rattle.placement.specs.Rule.{pages, left}
 use Rattle.placement.specs.File.{File, replaced}
 use Rattle.reach.specs.Reach.{firstUnsound, isEmpty, allStars}
-use Rattle.planning.specs.declared.outcome.Outcome.the-variants.{On, Unsound, Overflows}
 use Rattle.regrowing.specs.Growth.{growthAnswer, growthFile}
 use Rattle.checking.specs.declared.checking.Verdict.the-variants.{Clean, Differs, Unsound as verdict·Unsound}
 use Rattle.checking.specs.Verdicts.{verdictOf}
-use Rattle.calls.specs.Answers.{Pool, placed, checked, refusedBy, accepted, refused, spotted}
-use Rattle.calls.specs.Calls.{unchanged, regrowTo, checkedAt}
-use Rattle.answering.specs.Outcomes.{OutcomeSmall}
-use Rattle.answering.proofs.Outcomes.{unsound-most, cases-small}
-use Rattle.whole_file.specs.Outcomes.{outcomeGrown, VerdictSmall, verdictChecked}
+use Rattle.calls.specs.Answers.{Pool, placed, checked, refusedBy, accepted, spotted}
+use Rattle.calls.specs.Calls.{regrowTo, checkedAt}
+use Rattle.answering.specs.Outcomes.{OutcomeSmall, outcomeGrown}
+use Rattle.answering.proofs.Outcomes.{unsound-most, cases-small, grown-cases}
+use Rattle.whole_file.specs.Outcomes.{VerdictSmall, verdictChecked}
 
 module _ (p : Parameters) (g : Growth) (f : File) (v : validParameters p ≡ true) where
   pub growth-small : (next : Growth) (page : ℕ) → page < 2 ^ 32 → OutcomeSmall (growthAnswer p g f next page)
@@ -39,25 +37,13 @@ module _ (p : Parameters) (g : Growth) (f : File) (v : validParameters p ≡ tru
 
 -- the answers and files are those of the definitions
 module _ (p : Parameters) (g : Growth) (f : File) (pool : Pool) where
-  grown-cases : (t u : Bool) (bad page : ℕ) (next : Growth) (to : File)
-      → (placed (outcomeGrown (cond t (Unsound bad) (cond u (On page) Overflows)) g next .answer)
-      ≡ cond t (unchanged g f pool (refused 5 bad)) (cond u (record { answer = accepted page; growth = next; file = to; pool = pool }) (unchanged g f pool (refused 8 0))) .answer)
-      × (cond t f (cond u to f)
-      ≡ cond t (unchanged g f pool (refused 5 bad)) (cond u (record { answer = accepted page; growth = next; file = to; pool = pool }) (unchanged g f pool (refused 8 0))) .file)
-      × (outcomeGrown (cond t (Unsound bad) (cond u (On page) Overflows)) g next .growth
-      ≡ cond t (unchanged g f pool (refused 5 bad)) (cond u (record { answer = accepted page; growth = next; file = to; pool = pool }) (unchanged g f pool (refused 8 0))) .growth)
-  unfolding placed refusedBy
-  grown-cases true u bad page next to = (refl, refl, refl)
-  grown-cases false true bad page next to = (refl, refl, refl)
-  grown-cases false false bad page next to = (refl, refl, refl)
-
   pub regrown-is : (next : Growth) (page : ℕ)
       → (placed (outcomeGrown (growthAnswer p g f next page) g next .answer) ≡ regrowTo p g f pool next page .answer)
       × (growthFile p g f next ≡ regrowTo p g f pool next page .file)
       × (outcomeGrown (growthAnswer p g f next page) g next .growth ≡ regrowTo p g f pool next page .growth)
   unfolding growthAnswer growthFile regrowTo
   regrown-is next page =
-      grown-cases
+      grown-cases g f pool
       (ltb (firstUnsound p g f 0 (p .pages)) (p .pages))
       (isEmpty (left (hashOf p next) 0 (p .pages) (allStars p f)))
       (firstUnsound p g f 0 (p .pages))

@@ -20,7 +20,8 @@ use Rattle.whole_file.specs.declared.growth.Step.{Step}
 use Rattle.whole_file.specs.declared.growth.Step.the-variants.{To, Not}
 use Rattle.calls.specs.Answers.{After, Pool, Stores, placed, refusedBy, refused, cleared}
 use Rattle.calls.specs.Calls.{unlent, guarded, unchanged, fileFits, poolFits, growOf, shrinkOf, regrowTo}
-use Rattle.whole_file.specs.Outcomes.{outcomeGrown, unmovedBy, stepOf, regrowOn, regrowOf}
+use Rattle.answering.specs.Outcomes.{outcomeGrown, unmovedBy}
+use Rattle.whole_file.specs.Outcomes.{stepOf, regrowOn, regrowOf}
 use Rattle.whole_file.proofs.Outcomes.{regrown-is}
 use Rattle.answering.proofs.Pools.{cases-pool}
 use Rattle.placement.specs.Rule.{left}

@@ -1,4 +1,4 @@
--- The answers of growth and check below, as answers of the calls. Their pages are small enough for 32 bits.
+-- Growth and shrinking as one call, by its step; and what comes of the check as its answer, with pages small enough for 32 bits.
 use mathlib.Core.Bool.{Bool, true, false, cond}
 use Prim.Native.Nat.{ℕ, _-_, _^_, _<_}
 use lib.Dec.{eqb}
@@ -6,33 +6,15 @@ use Rattle.hashing.specs.declared.Parameters.{Parameters}
 use Rattle.hashing.specs.declared.Growth.{Growth}
 use Rattle.hashing.specs.Geometry.{pageCount, highest, grown, isUngrown, shrunk}
 use Rattle.placement.specs.File.{File}
-use Rattle.planning.specs.declared.outcome.Outcome.{Outcome}
 use Rattle.checking.specs.declared.checking.Verdict.{Verdict}
 use Rattle.checking.specs.declared.checking.Verdict.the-variants.{Clean, Differs, Unsound as verdict·Unsound}
-use Rattle.calls.specs.declared.answers.Refusal.{Refusal}
 use Rattle.calls.specs.declared.answers.Refusal.the-variants.{Damaged, Full, Ungrown}
-use Rattle.calls.specs.declared.answers.Placed.{Placed}
-use Rattle.calls.specs.declared.answers.Placed.the-variants.{On as placed·On, Refused}
-use Rattle.calls.specs.declared.answers.Grown.{Grown}
 use Rattle.whole_file.specs.declared.growth.Step.{Step}
 use Rattle.whole_file.specs.declared.growth.Step.the-variants.{To, Not}
 use Rattle.calls.specs.declared.answers.Checked.{Checked}
 use Rattle.calls.specs.declared.answers.Checked.the-variants.{Clean as checked·Clean, Refused as checked·Refused}
 use Rattle.calls.specs.Answers.{Pool, After}
 use Rattle.calls.specs.Calls.{growOn, growOf, shrinkOn, shrinkOf}
-use Rattle.answering.specs.Outcomes.{outcomePlaced}
-
--- refused, with the growth state as it was
-abbrev pub unmovedBy : Growth → Refusal → Grown
-unmovedBy growth refusal = record { answer = Refused refusal 0; growth = growth }
-
--- accepted, with the growth state that it goes to
-abbrev pub placedGrown : Placed → Growth → Growth → Grown
-placedGrown (placed·On page place) growth next = record { answer = placed·On page place; growth = next }
-placedGrown (Refused refusal place) growth next = unmovedBy growth refusal
-
-abbrev pub outcomeGrown : Outcome → Growth → Growth → Grown
-outcomeGrown outcome growth next = placedGrown (outcomePlaced outcome 0) growth next
 
 -- the growth state that growth goes to, or that it came from, with the page that comes or goes; or what refuses it
 unfoldable pub stepOf : Bool → Parameters → Growth → Step

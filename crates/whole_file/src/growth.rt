@@ -6,20 +6,18 @@ ghost use Rattle.placement.specs.Lent.{held, before, after};
 ghost use Rattle.placement.specs.Ready.{Pooled};
 ghost use Rattle.calls.specs.Answers.{Leaves, Stores, cleared, placed};
 ghost use Rattle.calls.specs.Calls.{growOf, shrinkOf};
-ghost use Rattle.answering.specs.Outcomes.{OutcomeSmall};
-ghost use Rattle.whole_file.specs.Outcomes.{outcomeGrown, unmovedBy, stepOf, regrowOn, regrowOf};
+ghost use Rattle.whole_file.specs.Outcomes.{stepOf, regrowOn, regrowOf};
 ghost use Rattle.calls.specs.Lent.{Admitted, poolBefore, poolAfter};
-use answering::placed_from;
+use answering::grown_by;
+use answering::unmoved;
 use calls::answers::Admission;
 use calls::answers::Grown;
-use calls::answers::Placed;
 use calls::answers::Refusal;
 use guarding::all_fit;
 use guarding::guard;
 use hashing::Geometry;
 use hashing::Growth;
 use hashing::Parameters;
-use planning::Outcome;
 
 // The answer of an accepted growth is the new page, with the new growth state.
 pub fn grow(
@@ -191,28 +189,5 @@ fn regrow_file(
             );
             grown_by(outcome, growth, next)
         }
-    }
-}
-
-// The new state only if the stars were placed anew.
-fn grown_by(outcome: Outcome, growth: Growth, next: Growth) -> Grown
-    requires { ⌜ OutcomeSmall outcome ⌝ }
-    ensures { λ r. ⌜ r ≡ outcomeGrown outcome growth next ⌝ }
-{
-    match placed_from(outcome, 0) {
-        Placed::On(page, place) => Grown {
-            answer: Placed::On(page, place),
-            growth: next,
-        },
-        Placed::Refused(refusal, _) => unmoved(growth, refusal),
-    }
-}
-
-fn unmoved(growth: Growth, refusal: Refusal) -> Grown
-    ensures { λ r. ⌜ r ≡ unmovedBy growth refusal ⌝ }
-{
-    Grown {
-        answer: Placed::Refused(refusal, 0),
-        growth,
     }
 }

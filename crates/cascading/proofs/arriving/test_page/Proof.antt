@@ -17,21 +17,21 @@ inside s = page-fits _ _ _ (s .pre .1 .1 .0) (s .pre .1 .0 .1)
 cast-places : tie.Need-cast-places
 cast-places c = search needs
 
-mul-load-homes : tie.Need-mul-load-homes
-mul-load-homes c =
+mul-copy-32 : tie.Need-mul-copy-32
+mul-copy-32 c =
     let s = c .before .before .before .before .before in
     let l = limits _ (s .pre .0 .valid) in
     record { fits = omega (arith, inside s, s .pre .1 .0 .1, mul-le-mul (l .pages-most) (l .places-most)) }
 
-load-homes-requires : tie.Need-load-homes-requires
-load-homes-requires c κs =
+copy-32-requires : tie.Need-copy-32-requires
+copy-32-requires c κs =
     let s = c .before .before .before .before .before in
-    ((limits _ (s .pre .0 .valid) .places-most, s .pre .1 .1 .1 .1 .0), inside s)
+    (omega (arith, limits _ (s .pre .0 .valid) .places-most, s .pre .1 .1 .1 .1 .0), inside s)
 
 returns : tie.Need-returns
 returns c =
     let s = c .before .before .before .before .before .before in
-    rw (c .load-homes .ensures)
+    rw (c .copy-32 .ensures)
     (known-tested (s .args .geometry) (now (s .args .separators)) (s .args .page) (now (s .args .numbers)) (now (s .args .words)) (now (s .args .owners)) (now (s .args .pool)) (now (s .args .homes))
     (s .pre .1 .1 .1 .1 .1 (c .before .before .before .if1 .taken)) (s .pre .1 .1 .1 .1 .0) (limits _ (s .pre .0 .valid) .places-most) (inside s))
 
@@ -46,4 +46,4 @@ returns-2 c = search needs
 pub test-page-spec : {M : Type 1} → statement M
 test-page-spec =
     tie.close
-    (tie.spec cast-places mul-load-homes load-homes-requires returns page-sound-requires returns-2)
+    (tie.spec cast-places mul-copy-32 copy-32-requires returns page-sound-requires returns-2)

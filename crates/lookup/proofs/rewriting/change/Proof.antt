@@ -13,8 +13,7 @@ use Rattle.calls.specs.Answers.{placed, refusedBy}
 use Rattle.calls.specs.Lent.{Admitted}
 use Rattle.calls.specs.Calls.{unlent, changeOf, changeOn, allowed, fileFits}
 use Rattle.calls.proofs.Refusals.{turned-away-first, refusal-is, none-is, admitted, items-most, leaves}
-use Rattle.lookup.proofs.Finding.{altered}
-use Rattle.guarding.proofs.Admitting.{prepared, tabled}
+use Rattle.guarding.proofs.Admitting.{prepared, tabled, altered}
 use borrow.Author.Needs.{needs}
 use Rattle.lookup.proofs.rewriting.change.Statement.{statement}
 use Rattle.lookup.proofs.rewriting.change.Tie as tie

@@ -1,6 +1,5 @@
 -- `pages::page::search` meets its contract. The invariant: the search has passed i places.
 -- Assumes nothing.
-use mathlib.Core.Path.{_≡_}
 use mathlib.Core.Logic.{⊎-elim}
 use Prim.Native.Nat.{_-_, _≤_}
 use native.Mathlib.Omega.{arith}

@@ -8,9 +8,8 @@ use Rattle.placement.specs.File.{File}
 use Rattle.placement.specs.Hash.{lent}
 use Rattle.calls.specs.Answers.{Pool, placed, refusedBy, pooled, cleared}
 use Rattle.calls.specs.Calls.{removeOn, allowed, named, placeFor}
-use Rattle.lookup.proofs.Finding.{altered}
 use Rattle.removing.proofs.Outcomes.{removal-small, removed-is}
-use Rattle.guarding.proofs.Admitting.{prepared, tabled}
+use Rattle.guarding.proofs.Admitting.{prepared, tabled, altered}
 use Rattle.removing.proofs.Pools.{held-star}
 use borrow.Author.Needs.{needs}
 use Rattle.removing.proofs.removal.remove_held.Statement.{statement}

@@ -8,8 +8,7 @@ use Rattle.placement.specs.Ready.{Pooled}
 use Rattle.calls.specs.Answers.{Pool, placed, pooled, cleared}
 use Rattle.calls.specs.Lent.{Admitted}
 use Rattle.calls.specs.Calls.{unlent, fileFits, poolFits}
-use Rattle.making.proofs.Making.{made-by}
-use Rattle.calls.proofs.Refusals.{turned-away, refusal-is, none-is, admitted-pool}
+use Rattle.calls.proofs.Refusals.{turned-away, refusal-is, none-is, admitted-pool, made-by}
 use Rattle.answering.proofs.Pools.{cleared-is, leaves-cleared}
 use Rattle.whole_file.proofs.Stepping.{regrow-guarded, regrown-pool}
 use borrow.Author.Needs.{needs}

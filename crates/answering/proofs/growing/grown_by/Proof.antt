@@ -1,7 +1,7 @@
--- `whole_file::growth::grown_by` meets its contract.
+-- `answering::grown_by` meets its contract.
 use borrow.Author.Needs.{needs}
-use Rattle.whole_file.proofs.growth.grown_by.Statement.{statement}
-use Rattle.whole_file.proofs.growth.grown_by.Tie as tie
+use Rattle.answering.proofs.growing.grown_by.Statement.{statement}
+use Rattle.answering.proofs.growing.grown_by.Tie as tie
 
 placed-from-requires : tie.Need-placed-from-requires
 placed-from-requires c κs = search needs

@@ -28,10 +28,10 @@ use Rattle.placement.proofs.Search.{held-star}
 use Rattle.placement.proofs.Sound.{sound-facts, sound-proper}
 use Rattle.reach.specs.Known.{Known}
 use Rattle.reach.proofs.Surveyed.{surveyed-known}
-use Rattle.calls.specs.Calls.{named, readable, holds, placeFor, itemOf, ownerFor, mayAlter}
+use Rattle.calls.specs.Calls.{named, readable, holds, placeFor, itemOf, ownerFor}
 use Rattle.guarding.proofs.Admitting.{readable-facts}
-use Rattle.lookup.specs.declared.naming.Named.{Named}
-use Rattle.lookup.specs.Named.{NamedAs, HomedAs}
+use Rattle.naming.specs.declared.finding.Named.{Named}
+use Rattle.naming.specs.Named.{NamedAs, HomedAs}
 
 pub named-most : (p : Parameters) (g : Growth) (f : File) (k : ℕ) → Sized (p .places) (p .pages) f → named p g f k ≤ p .pages
 unfolding namedPage
@@ -143,10 +143,6 @@ module _ (p : Parameters) (f : File) (k page : ℕ) (v : Page) (place : Place) (
 
   pub item-below : place .held ≡ true → p .pages * p .places ≡ length (f .numbers) → page * p .places + place .at < p .pages * p .places
   item-below h e = omega (arith, at-below h)
-
--- whether the caller may alter the star, said of the lent owners
-pub altered : (caller owner owned : ℕ) (r t : Bool) → owner ≡ owned → r ≡ mayAlter caller owner → r ≡ t → mayAlter caller owned ≡ t
-altered caller owner owned r t e a b = ap (mayAlter caller) (sym e) ∙ (sym a ∙ b)
 
 -- a star that a sound page holds has a valid word
 pub word-valid : (p : Parameters) (g : Growth) (f : File) (page k : ℕ) → Sized (p .places) (p .pages) f → page < p .pages → 1 ≤ k → soundAt p g f page ≡ true

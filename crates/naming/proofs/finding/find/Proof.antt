@@ -1,4 +1,4 @@
--- `lookup::naming::find` meets its contract.
+-- `naming::find` meets its contract.
 use mathlib.Core.Path.{_≡_, sym, _∙_}
 use mathlib.Core.Bool.{true, false≢true}
 use Prim.Native.Nat.{_+_, _*_, _≤_, _<_}
@@ -13,10 +13,10 @@ use Rattle.placement.specs.File.{File}
 use Rattle.placement.specs.Hash.{lent, soundAt, homesOf}
 use Rattle.soundness.proofs.Items.{sound-loaded, homes-loaded}
 use Rattle.calls.proofs.Refusals.{items-most}
-use Rattle.lookup.proofs.Finding.{named-most, past-file, in-file, unread-as, absent-as, held-as, held-is, place-is, place-most, at-is, at-below, word-is, owner-is, item-below, word-valid, one-least}
+use Rattle.naming.proofs.Found.{named-most, past-file, in-file, unread-as, absent-as, held-as, held-is, place-is, place-most, at-is, at-below, word-is, owner-is, item-below, word-valid, one-least}
 use borrow.Author.Needs.{needs}
-use Rattle.lookup.proofs.naming.find.Statement.{statement}
-use Rattle.lookup.proofs.naming.find.Tie as tie
+use Rattle.naming.proofs.finding.find.Statement.{statement}
+use Rattle.naming.proofs.finding.find.Tie as tie
 
 abbrev fileOf : tie.Start → File
 fileOf s = lent (now (s .args .separators)) (now (s .args .numbers)) (now (s .args .words)) (now (s .args .owners))

@@ -7,7 +7,7 @@ ghost use Rattle.pages.specs.Position.{validNumber};
 ghost use Rattle.placement.specs.Lent.{held, before};
 ghost use Rattle.placement.specs.Ready.{Ready};
 ghost use Rattle.reach.specs.Known.{Known};
-ghost use Rattle.lookup.specs.Named.{NamedAs, HomedAs};
+ghost use Rattle.naming.specs.Named.{NamedAs, HomedAs};
 use hashing::Geometry;
 
 pub struct Named {

@@ -13,7 +13,7 @@ use Rattle.pages.specs.Position.{validWord}
 use Rattle.placement.specs.File.{File}
 use Rattle.placement.specs.Hash.{homesOf}
 use Rattle.calls.specs.Calls.{named, readable, holds, placeFor, itemOf, ownerFor}
-use Rattle.lookup.specs.declared.naming.Named.{Named}
+use Rattle.naming.specs.declared.finding.Named.{Named}
 
 pub record NamedAs (p : Parameters) (g : Growth) (f : File) (k : ℕ) (r : Named) : Type 0 where
   pub homeIs : r .home ≡ home (multiplierOf p) p g k

@@ -1,4 +1,4 @@
--- `lookup::naming::find_kept` meets its contract.
+-- `naming::find_kept` meets its contract.
 use mathlib.Core.Path.{_≡_, refl, sym, _∙_}
 use mathlib.Core.Bool.{true, false≢true}
 use Prim.Native.Nat.{ℕ, _+_, _*_, _≤_}
@@ -8,9 +8,9 @@ use borrow.Author.Tests.{not-true, not-false}
 use Rattle.hashing.proofs.Bounds.{limits}
 use Rattle.pages.proofs.Parts.{page-fits}
 use Rattle.calls.proofs.Refusals.{items-most}
-use Rattle.lookup.proofs.Finding.{named-inside, named-known}
-use Rattle.lookup.proofs.naming.find_kept.Statement.{statement}
-use Rattle.lookup.proofs.naming.find_kept.Tie as tie
+use Rattle.naming.proofs.Found.{named-inside, named-known}
+use Rattle.naming.proofs.finding.find_kept.Statement.{statement}
+use Rattle.naming.proofs.finding.find_kept.Tie as tie
 
 find-requires : tie.Need-find-requires
 find-requires c κs = let pre = c .before .before .before .before .before .before .pre in (pre .0, (pre .1 .1, refl))
