@@ -1,16 +1,18 @@
 -- Files whose pages from lo on are the same: what stands there, and pages written there as they stand.
 use mathlib.Core.Path.{_≡_, refl, sym, ap, _∙_}
-use mathlib.Core.Bool.{Bool}
-use mathlib.Core.List.{List, [], _∷_, List·Memᴰ}
+use mathlib.Core.Bool.{Bool, not, _&&_, _||_}
+use mathlib.Core.List.{List, [], _∷_, List·Memᴰ, map}
 use Prim.Native.Nat.{ℕ, zero, suc, _+_, _-_, _*_, _≤_, _<_}
 use native.Mathlib.Nat.{zero-add, zero-mul, suc-mul, add-mul, mul-le-mul-right}
 use native.Mathlib.Omega.{arith}
+use lib.Dec.{leb, ltb, eqb}
 use lib.ListN.{length, take, drop, getD}
-use lib.Seq.{getD-drop}
+use lib.Seq.{getD-drop, drop-drop, take-take}
 use Rattle.buffers.specs.Lists.{written}
+use Rattle.buffers.proofs.Lists.{drop-take, map-take, map-drop}
 use Rattle.buffers.proofs.Written.{written-same, taken-written, written-behind, alike-later}
-use Rattle.pages.specs.Page.{part}
-use Rattle.placement.specs.Rule.{Star, Hash, Contents, separators, pages}
+use Rattle.pages.specs.Page.{part, stretch}
+use Rattle.placement.specs.Rule.{Star, Hash, Contents, separators, pages, filter}
 use Rattle.placement.specs.File.{File, Sized, starsAt, contentsAt, pagesAt, gathered, column, replaced}
 use Rattle.placement.proofs.Order.{rising-sorted, pour-nil}
 use Rattle.placement.proofs.Separator.{Bounded}
@@ -19,6 +21,7 @@ use Rattle.placement.proofs.Writing.{Roomy, length-column}
 use Rattle.placement.proofs.Files.{numberOf, wordOf, ownerOf}
 use Rattle.placement.proofs.Sound.{Sound, sound-rising, length-starsAt}
 use Rattle.shifting.proofs.OnePage.{pages-alone}
+use Rattle.raising.specs.Raising.{passed, countsOn, countOn, countFrom, raisableFrom}
 use Rattle.blocks.specs.Blocks.{AlikeFrom}
 
 module _ (b : ℕ) where
@@ -41,6 +44,21 @@ module _ (b : ℕ) where
   separator-alike lo q f g a h =
       let sum : lo + (q - lo) ≡ q = omega arith in
       rw (← sum, ← getD-drop lo (f .separators) (q - lo) 0, ← getD-drop lo (g .separators) (q - lo) 0, a .separators)
+
+  -- the items of a page from lo on
+  part-alike : (lo q : ℕ) (l m : List ℕ) → drop (lo * b) l ≡ drop (lo * b) m → lo ≤ q → part b q l ≡ part b q m
+  unfolding part
+  part-alike lo q l m e h = ap (take b) (alike-later (lo * b) (q * b) l m (mul-le-mul-right b h) e)
+
+  -- of n pages from lo on
+  pub part-within : (lo n q : ℕ) (l : List ℕ) → lo ≤ q → q < lo + n → part b q l ≡ part b (q - lo) (stretch b lo n l)
+  unfolding part
+  part-within lo n q l h k =
+      let sum : lo * b + (q - lo) * b ≡ q * b = sym (add-mul lo (q - lo) b) ∙ ap (λ (j : ℕ). j * b) (omega arith) in
+      let more : suc (q - lo) * b ≤ n * b = mul-le-mul-right b (omega arith) in
+      sym (ap (take b) (drop-take ((q - lo) * b) (n * b) (drop (lo * b) l))
+      ∙ take-take b (n * b - (q - lo) * b) (drop ((q - lo) * b) (drop (lo * b) l)) (omega (arith, more, suc-mul (q - lo) b))
+      ∙ ap (take b) (drop-drop ((q - lo) * b) (lo * b) l ∙ ap (λ (j : ℕ). drop j l) sum))
 
   -- pages replaced below lo
   pub replaced-alike : (M lo : ℕ) (f : File) (cs : List Contents) → Sized b M f → Roomy b cs → length cs ≡ lo → AlikeFrom b lo (replaced b f 0 cs) f
@@ -84,6 +102,28 @@ module _ (b : ℕ) where
           → written (lo * b) (column b h cs) l ≡ l → written (lo * b) (column b h cs) m ≡ m
       other h l m el em d w = still (lo * b) (length cs * b) (column b h cs) l m (length-column b h cs r) (omega (arith, long)) (omega (arith, long)) d w
 
+pub map-part : (h : ℕ → ℕ) (b q : ℕ) (l : List ℕ) → part b q (map h l) ≡ map h (part b q l)
+unfolding part
+map-part h b q l = ap (take b) (map-drop h (q * b) l) ∙ map-take h b (drop (q * b) l)
+
+-- whether a separator from lo on could be one greater
+module _ (H : Hash) (lo : ℕ) (f g : File) (a : AlikeFrom (H .room) lo f g) where
+  count-on-alike : (p q : ℕ) → lo ≤ p → lo ≤ q → countOn H (f .separators) (f .numbers) p q ≡ countOn H (g .separators) (g .numbers) p q
+  unfolding countOn countsOn passed
+  count-on-alike p q h k =
+      λ i. length
+      (filter (λ (n : ℕ). not (eqb n 0) && (eqb q p || (leb (H .home n) p && (ltb p q && eqb (H .signature n p) (separator-alike (H .room) lo p f g a h i)))))
+      (part-alike (H .room) lo q (f .numbers) (g .numbers) (a .numbers) k i))
+
+  count-alike : (p n : ℕ) → lo ≤ p → countFrom H (f .separators) (f .numbers) lo p n ≡ countFrom H (g .separators) (g .numbers) lo p n
+  unfolding countFrom
+  count-alike p zero h = refl
+  count-alike p (suc n) h = rw (count-alike p n h, count-on-alike p (lo + n) h (omega arith))
+
+  pub raisable-alike : (n p : ℕ) → lo ≤ p → raisableFrom H lo n (f .separators) (f .numbers) p ≡ raisableFrom H lo n (g .separators) (g .numbers) p
+  unfolding raisableFrom
+  raisable-alike n p h = rw (separator-alike (H .room) lo p f g a h, count-alike p n h)
+
 -- a sound page whose separator is 2^k − 1
 module _ (ok : ℕ → Bool) (H : Hash) (bounded : Bounded H) (f : File) (M lo : ℕ) (sized : Sized (H .room) M f) (inside : lo < M) (sound : Sound ok H f lo) where
   homed-alone : (s : Star) → List·Memᴰ s (starsAt (H .room) f lo) → H .home (s .number) ≤ lo
@@ -97,10 +137,6 @@ module _ (ok : ℕ → Bool) (H : Hash) (bounded : Bounded H) (f : File) (M lo :
 
   few : length (starsAt (H .room) f lo) ≤ H .room
   few = length-starsAt ok H f M lo sized inside
-
-  pub roomy-alone : Roomy (H .room) (pagesAt (H .room) f lo 1)
-  unfolding pagesAt contentsAt
-  roomy-alone = (few, tt)
 
   -- is what the rule gives its stars
   pub ruled-alone : getD (f .separators) lo 0 ≡ H .top → pages H lo 1 (gathered (H .room) f lo 1) ≡ pagesAt (H .room) f lo 1

@@ -1,15 +1,39 @@
 // The stars of sound pages placed anew, block by block. A block ends at a page whose stored separator is 2^k − 1: the rule carries nothing past it,
 // and the stars that stand above it are homed above it.
 ghost use mathlib.Core.Path.{_≡_};
+ghost use mathlib.Core.Bool.{true};
 ghost use Prim.Native.Nat.{_+_, _*_};
 ghost use lib.ListN.{drop};
+ghost use Rattle.hashing.specs.Limits.{validParameters};
 ghost use Rattle.placement.specs.Rule.{pages};
 ghost use Rattle.placement.specs.File.{gathered, replaced};
 ghost use Rattle.placement.specs.Hash.{hashOf, homesOf};
 ghost use Rattle.placement.specs.Lent.{held, before, after};
 ghost use Rattle.reach.specs.Reach.{firstUnsound, allStars};
+ghost use Rattle.raising.specs.Raising.{Homed, firstRaisable};
 ghost use Rattle.blocks.specs.Blocks.{Placeable, SoundBlock};
 use hashing::Geometry;
+
+// Whether a block stays as it is: none of its separators could be one greater. A long block is not asked, as each of its stars may have passed
+// many pages.
+fn stays(
+    geometry: Geometry,
+    separators: &[u8],
+    numbers: &[u32],
+    homes: &[u32],
+    lo: usize,
+    count: usize,
+) -> bool
+    requires { ⌜ validParameters (geometry .parameters) ≡ true ⌝ }
+    requires { ⌜ Homed geometry (now separators) (now numbers) (now homes) lo (lo + count) ⌝ }
+    ensures { λ r. ⌜ (r ≡ true → firstRaisable geometry (now (separators .entry)) (now (numbers .entry)) lo (lo + count) ≡ lo + count) ⌝ }
+{
+    if 64 < count {
+        return false;
+    }
+    let stop = lo + count;
+    raising::first_raisable(geometry, separators, numbers, homes, lo, stop) == stop
+}
 
 // The block of `count` pages from page lo. A page by itself whose separator is 2^k − 1 stays: all its stars are homed there, and fit.
 fn replace_block(
@@ -31,6 +55,9 @@ fn replace_block(
 {
     let parameters = geometry.parameters;
     if count == 1 && separators[lo] == placement::top_of(parameters) {
+        return;
+    }
+    if stays(geometry, separators, numbers, pool, lo, count) {
         return;
     }
     replacing::replace_stretch(
