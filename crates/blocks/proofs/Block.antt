@@ -16,7 +16,7 @@ use Rattle.placement.specs.Hash.{hashOf}
 use Rattle.placement.proofs.Files.{length-pagesAt}
 use Rattle.placement.proofs.Sound.{AllSound, replaced-same}
 use Rattle.placement.proofs.Probing.{bounded-real}
-use Rattle.waiting.specs.Lists.{allBelow}
+use Rattle.signing.specs.Lists.{allBelow}
 use Rattle.planning.proofs.Sourcing.{itemHome}
 use Rattle.planning.proofs.Placed.{probes-real, homes-real}
 use Rattle.replacing.specs.Stretch.{StretchReady, restretched}

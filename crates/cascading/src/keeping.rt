@@ -3,7 +3,7 @@ ghost use mathlib.Core.Path.{_≡_};
 ghost use Prim.Native.Nat.{_+_, _*_, _≤_, _<_};
 ghost use lib.ListN.{length};
 ghost use lib.Seq.{slice};
-ghost use Rattle.waiting.specs.Settle.{Signers, Probing};
+ghost use Rattle.signing.specs.Probes.{Signers, Probing};
 ghost use Rattle.cascading.specs.Cascade.{Lowered};
 use hashing::Parameters;
 use waiting::settle_under;
