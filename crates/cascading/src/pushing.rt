@@ -3,7 +3,7 @@ ghost use mathlib.Core.Path.{_≡_};
 ghost use Prim.Native.Nat.{_*_, _≤_};
 ghost use lib.ListN.{length};
 ghost use Rattle.placement.specs.Lent.{held, before};
-ghost use Rattle.signing.specs.Probes.{Signers};
+ghost use Rattle.placement.specs.Ready.{Signers};
 ghost use Rattle.cascading.specs.Arriving.{KnownTo};
 ghost use Rattle.cascading.specs.Cascade.{Enters, Plans};
 use crate::arriving::Taken;
