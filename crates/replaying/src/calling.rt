@@ -42,11 +42,11 @@ fn run_call(
         r (after separators numbers words owners) (poolAfter poolnumbers poolwords poolowners) ⌝ }
 {
     if kind == 0 {
-        let found = starfile::look_up(parameters, growth, separators, numbers, words, owners, star);
+        let found = lookup::look_up(parameters, growth, separators, numbers, words, owners, star);
         return unmoved(sought_answer(found), growth);
     }
     if kind == 2 {
-        let changed = starfile::change(
+        let changed = lookup::change(
             parameters,
             growth,
             separators,
@@ -60,7 +60,7 @@ fn run_call(
         return unmoved(placed_answer(changed), growth);
     }
     if kind == 5 {
-        let due = starfile::due(parameters, growth, separators, numbers, words, owners);
+        let due = counting::due(parameters, growth, separators, numbers, words, owners);
         return unmoved(due_answer(due), growth);
     }
     run_pooled(
@@ -117,7 +117,7 @@ fn run_pooled(
         );
     }
     if kind == 3 {
-        let removed = starfile::remove(
+        let removed = removing::remove(
             parameters,
             growth,
             separators,
@@ -166,7 +166,7 @@ fn run_entry(
         r (after separators numbers words owners) (poolAfter poolnumbers poolwords poolowners) ⌝ }
 {
     if kind == 8 {
-        let cascaded = starfile::cascade(
+        let cascaded = adding::cascade(
             parameters,
             growth,
             separators,
@@ -182,7 +182,7 @@ fn run_entry(
         );
         return unmoved(placed_answer(cascaded), growth);
     }
-    let entered = starfile::enter(
+    let entered = adding::enter(
         parameters,
         growth,
         separators,
@@ -216,7 +216,7 @@ fn run_whole(
         r (after separators numbers words owners) (poolAfter poolnumbers poolwords poolowners) ⌝ }
 {
     if kind == 4 {
-        let grown = starfile::grow(
+        let grown = whole_file::grow(
             parameters,
             growth,
             separators,
@@ -231,7 +231,7 @@ fn run_whole(
         return unmoved(placed_answer(answer), grown.growth);
     }
     if kind == 7 {
-        let shrunk = starfile::shrink(
+        let shrunk = whole_file::shrink(
             parameters,
             growth,
             separators,
@@ -245,7 +245,7 @@ fn run_whole(
         let answer = shrunk.answer;
         return unmoved(placed_answer(answer), shrunk.growth);
     }
-    let checked = starfile::check(
+    let checked = whole_file::check(
         parameters,
         growth,
         separators,

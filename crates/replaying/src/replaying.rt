@@ -1,4 +1,4 @@
-// A lent history, run through the calls of starfile from a file made for it.
+// A lent history, run through the calls from a file made for it.
 ghost use mathlib.Core.Path.{_≡_};
 ghost use mathlib.Core.List.{[]};
 ghost use Rattle.placement.specs.Lent.{before, after};
@@ -68,7 +68,7 @@ pub fn replay(
     if !kinds_known(kinds) {
         return Replayed::BadKind;
     }
-    let made = starfile::make(parameters, separators, numbers, words, owners);
+    let made = making::make(parameters, separators, numbers, words, owners);
     let answer = made.answer;
     match answer {
         Placed::On(_, _) => Replayed::Done(run(
