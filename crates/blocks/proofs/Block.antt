@@ -20,7 +20,7 @@ use Rattle.placement.proofs.Probing.{bounded-real}
 use Rattle.reach.proofs.Search.{such}
 use Rattle.raising.specs.Raising.{Homed, raisableFrom, firstRaisable}
 use Rattle.raising.proofs.Raising.{none-ruled}
-use Rattle.waiting.specs.Lists.{allBelow}
+use Rattle.signing.specs.Lists.{allBelow}
 use Rattle.planning.proofs.Sourcing.{itemHome}
 use Rattle.planning.proofs.Placed.{probes-real, homes-real}
 use Rattle.replacing.specs.Stretch.{StretchReady, restretched}

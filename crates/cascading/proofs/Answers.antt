@@ -18,8 +18,8 @@ use Rattle.placement.specs.Hash.{soundAt, namedPage, hashOf}
 use Rattle.placement.proofs.Mapping.{mapped}
 use Rattle.reach.specs.Reach.{isEmpty, pagesTo, firstUnsound}
 use Rattle.reach.specs.Cascade.{cascaded, carriedPast}
-use Rattle.waiting.proofs.Cutting.{separator-fits}
-use Rattle.waiting.specs.Settle.{wordsSeparatorFrom}
+use Rattle.signing.proofs.Cutting.{separator-fits}
+use Rattle.signing.specs.Probes.{wordsSeparatorFrom}
 use Rattle.planning.specs.Sources.{renamed}
 use Rattle.planning.proofs.Applying.{applied, applied-is}
 use Rattle.entering.specs.declared.blocks.Reach.the-variants.{Ends}

@@ -10,12 +10,12 @@ use lib.Dec.{ltb, eqb}
 use lib.ListN.{length, getD, take, set, length-append, length-set}
 use lib.Seq.{slice, slice-cons, slice-empty, take-suc-set, append-snoc, length-take-le}
 use borrow.Author.Tests.{eq-eqb, ne-eqb, ltb-true}
-use Rattle.waiting.specs.Lists.{allBelow}
-use Rattle.waiting.specs.Words.{pack, lowOf}
+use Rattle.signing.specs.Lists.{allBelow}
+use Rattle.signing.specs.Words.{pack, lowOf}
 use Rattle.waiting.specs.Gather.{skipped, wordsFrom, starsIn}
-use Rattle.waiting.proofs.Lists.{all-head, all-tail}
-use Rattle.waiting.proofs.Items.{slice-all, stars-next}
-use Rattle.waiting.proofs.Packing.{low-pack}
+use Rattle.signing.proofs.Lists.{all-head, all-tail, slice-all}
+use Rattle.waiting.proofs.Items.{stars-next}
+use Rattle.signing.proofs.Packing.{low-pack}
 
 unskipped : (n : ℕ) (t : Bool) → eqb n 0 ≡ t → skipped 0 n ≡ t
 unfolding skipped

@@ -22,14 +22,15 @@ use Rattle.placement.specs.File.{File, Sized, padded, column, written}
 use Rattle.placement.specs.Hash.{hashOf, soundAt, namedPage, homesOf, homeIn}
 use Rattle.placement.proofs.Standing.{first-below}
 use Rattle.placement.proofs.Separator.{below-signature}
-use Rattle.waiting.specs.Lists.{all}
-use Rattle.waiting.specs.Words.{homeOf, numberIn, sourceOf, lowOf}
+use Rattle.signing.specs.Lists.{all}
+use Rattle.signing.specs.Words.{homeOf, numberIn, sourceOf, lowOf}
 use Rattle.waiting.specs.Gather.{wordsFrom, starsIn}
-use Rattle.waiting.specs.Settle.{signatureOf, under, stayingWords, passingWords, wordsSeparatorFrom, slotsOf}
-use Rattle.waiting.proofs.Lists.{all-head, all-tail, all-cons, filter-all}
-use Rattle.waiting.proofs.Cutting.{separator-found}
+use Rattle.signing.specs.Probes.{signatureOf, under, stayingWords, passingWords, wordsSeparatorFrom}
+use Rattle.waiting.specs.Settle.{slotsOf}
+use Rattle.signing.proofs.Lists.{all-head, all-tail, all-cons, filter-all}
+use Rattle.signing.proofs.Cutting.{separator-found}
 use Rattle.waiting.proofs.Items.{words-count}
-use Rattle.waiting.proofs.Packing.{number-pack}
+use Rattle.signing.proofs.Packing.{number-pack}
 use Rattle.planning.specs.Plans.{waits, homed}
 use Rattle.planning.proofs.RuleOverWords.{homed-append}
 use Rattle.planning.proofs.Stretch.{sources-column}

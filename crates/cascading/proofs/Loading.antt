@@ -23,9 +23,9 @@ use Rattle.placement.specs.Hash.{soundAt, homesOf, homeIn}
 use Rattle.soundness.specs.Survey.{Tested}
 use Rattle.soundness.proofs.Items.{sound-loaded, homes-loaded}
 use Rattle.reach.specs.Known.{Known}
-use Rattle.waiting.specs.Lists.{allBelow}
+use Rattle.signing.specs.Lists.{allBelow}
 use Rattle.waiting.specs.Gather.{wordsFrom, starsIn}
-use Rattle.waiting.proofs.Lists.{all-mono, all-items}
+use Rattle.signing.proofs.Lists.{all-mono, all-items}
 use Rattle.waiting.proofs.Items.{words-count, words-length}
 use Rattle.entering.specs.Entry.{blockNumbers, blockWords}
 use Rattle.entering.proofs.Items.{numbers-count, stretch-homes, homes-below}

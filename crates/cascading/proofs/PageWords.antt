@@ -24,12 +24,12 @@ use Rattle.placement.proofs.Order.{pour-nil, rising-sorted}
 use Rattle.placement.proofs.Sound.{sound-rising, sound-proper}
 use Rattle.placement.proofs.Tested.{item-on, real-facts}
 use Rattle.reach.specs.Cascade.{meeting}
-use Rattle.waiting.specs.Lists.{all, allBelow}
-use Rattle.waiting.specs.Words.{pack, homeOf, numberIn}
+use Rattle.signing.specs.Lists.{all, allBelow}
+use Rattle.signing.specs.Words.{pack, homeOf, numberIn}
 use Rattle.waiting.specs.Gather.{skipped, wordsFrom, groupOf}
-use Rattle.waiting.specs.Settle.{homesUpTo}
-use Rattle.waiting.proofs.Lists.{all-head, all-tail, all-cons, all-append, all-mono}
-use Rattle.waiting.proofs.Packing.{number-pack}
+use Rattle.signing.specs.Probes.{homesUpTo}
+use Rattle.signing.proofs.Lists.{all-head, all-tail, all-cons, all-append, all-mono}
+use Rattle.signing.proofs.Packing.{number-pack}
 use Rattle.planning.specs.Plans.{waits, homed}
 use Rattle.planning.specs.Sources.{renamed, sourced}
 use Rattle.planning.proofs.Applying.{renamed-keeps}

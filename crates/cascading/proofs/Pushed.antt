@@ -24,11 +24,12 @@ use Rattle.placement.proofs.Mapping.{mapped}
 use Rattle.placement.proofs.Standing.{first-home}
 use Rattle.placement.proofs.Writing.{column-append, separators-append}
 use Rattle.reach.specs.Cascade.{cascaded, carriedPast}
-use Rattle.waiting.specs.Lists.{all}
-use Rattle.waiting.specs.Words.{pack, homeOf, numberIn}
-use Rattle.waiting.specs.Settle.{under, stayingWords, passingWords, wordsSeparatorFrom, homesUpTo, slotsOf, pourLow}
-use Rattle.waiting.proofs.Lists.{all-filter, all-mono}
-use Rattle.waiting.proofs.Packing.{number-pack}
+use Rattle.signing.specs.Lists.{all}
+use Rattle.signing.specs.Words.{pack, homeOf, numberIn}
+use Rattle.signing.specs.Probes.{under, stayingWords, passingWords, wordsSeparatorFrom, homesUpTo}
+use Rattle.waiting.specs.Settle.{slotsOf, pourLow}
+use Rattle.signing.proofs.Lists.{all-filter, all-mono}
+use Rattle.signing.proofs.Packing.{number-pack}
 use Rattle.planning.specs.Plans.{waits, homed}
 use Rattle.planning.specs.Sources.{namedItem, renamed, sourced}
 use Rattle.planning.proofs.Applying.{Sourced, sourced-waits, sourced-append, sourced-filter}

@@ -20,10 +20,10 @@ use Rattle.placement.proofs.Writing.{part-back, length-column}
 use Rattle.buffers.proofs.Written.{around}
 use Rattle.pages.proofs.Parts.{page-fits}
 use Rattle.placement.specs.Hash.{soundAt, namedPage}
-use Rattle.waiting.specs.Words.{homeOf}
-use Rattle.waiting.specs.Settle.{Probing, wordsSeparatorFrom}
-use Rattle.waiting.proofs.Lists.{all-append}
-use Rattle.waiting.proofs.Cutting.{separator-fits}
+use Rattle.signing.specs.Words.{homeOf}
+use Rattle.signing.specs.Probes.{Probing, wordsSeparatorFrom}
+use Rattle.signing.proofs.Lists.{all-append}
+use Rattle.signing.proofs.Cutting.{separator-fits}
 use Rattle.entering.specs.declared.blocks.Reach.the-variants.{Ends}
 use Rattle.entering.specs.Entry.{Unheld, newStar}
 use Rattle.entering.proofs.Joined.{newWord}

@@ -16,11 +16,12 @@ use Rattle.placement.specs.Hash.{soundAt, hashOf}
 use Rattle.placement.proofs.Mapping.{mapped}
 use Rattle.placement.proofs.Writing.{length-column}
 use Rattle.reach.specs.Cascade.{lowered, pushedTo, pushedOn}
-use Rattle.waiting.specs.Words.{sourceOf, homeOf}
+use Rattle.signing.specs.Words.{sourceOf, homeOf}
 use Rattle.waiting.specs.declared.settling.Settled.{Settled}
-use Rattle.waiting.specs.Settle.{Settlement, stayingWords, wordsSeparatorFrom, homesUpTo}
-use Rattle.waiting.proofs.Lists.{all-append}
-use Rattle.waiting.proofs.Cutting.{separator-fits}
+use Rattle.signing.specs.Probes.{stayingWords, wordsSeparatorFrom, homesUpTo}
+use Rattle.waiting.specs.Settle.{Settlement}
+use Rattle.signing.proofs.Lists.{all-append}
+use Rattle.signing.proofs.Cutting.{separator-fits}
 use Rattle.planning.specs.Plans.{waits, homed}
 use Rattle.planning.specs.Sources.{renamed}
 use Rattle.planning.proofs.Applying.{renamed-keeps}

@@ -11,10 +11,11 @@ use Rattle.placement.specs.Rule.{Star, Hash, below, insert, pour}
 use Rattle.placement.specs.Rule.{staying as rule·staying, passing as rule·passing, separatorFrom as rule·separatorFrom}
 use Rattle.placement.proofs.Mapping.{Keeps, filter-map, staying-map}
 use Rattle.placement.proofs.Order.{pour-pour}
-use Rattle.waiting.specs.Lists.{selected, all}
-use Rattle.waiting.specs.Words.{lowOf}
-use Rattle.waiting.specs.Settle.{under, stayingWords, passingWords, wordsSeparatorFrom, homesUpTo, pourLow, slotsOf, insertLow}
-use Rattle.waiting.proofs.Lists.{all-head, all-tail, all-append}
+use Rattle.signing.specs.Lists.{selected, all}
+use Rattle.signing.specs.Words.{lowOf}
+use Rattle.signing.specs.Probes.{under, stayingWords, passingWords, wordsSeparatorFrom, homesUpTo}
+use Rattle.waiting.specs.Settle.{pourLow, slotsOf, insertLow}
+use Rattle.signing.proofs.Lists.{all-head, all-tail, all-append}
 use Rattle.waiting.proofs.Order.{pour-append}
 use Rattle.planning.specs.Plans.{starOf, waits, homed}
 use Rattle.planning.proofs.Pouring.{pour-cons, length-waits}

@@ -16,7 +16,7 @@ use Rattle.placement.specs.Hash.{namedPage, homeUnder, hashOf}
 use Rattle.placement.specs.Ready.{Ready}
 use Rattle.reach.specs.Reach.{isEmpty, pagesTo, firstUnsound, holding}
 use Rattle.reach.specs.Cascade.{cascaded, carriedPast}
-use Rattle.waiting.specs.Settle.{stayingWords, passingWords, wordsSeparatorFrom}
+use Rattle.signing.specs.Probes.{stayingWords, passingWords, wordsSeparatorFrom}
 use Rattle.planning.specs.Plans.{waits}
 use Rattle.planning.proofs.Applying.{applied}
 use Rattle.entering.specs.declared.blocks.Reach.{Reach}

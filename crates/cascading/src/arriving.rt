@@ -10,7 +10,7 @@ ghost use Rattle.placement.specs.Lent.{held, before};
 ghost use Rattle.placement.specs.Ready.{Homing, Ready};
 ghost use Rattle.soundness.specs.Survey.{Tested};
 ghost use Rattle.reach.specs.Known.{Known};
-ghost use Rattle.waiting.specs.Lists.{allBelow};
+ghost use Rattle.signing.specs.Lists.{allBelow};
 ghost use Rattle.waiting.specs.Gather.{wordsFrom, starsIn};
 ghost use Rattle.cascading.specs.Arriving.{TakesIn, KnownValue};
 use hashing::Geometry;
@@ -45,7 +45,7 @@ pub fn append(
         let home = homes[i];
         i += 1;
         if number != 0 {
-            waiting[reach] = waiting::pack(home, number, at + i);
+            waiting[reach] = signing::pack(home, number, at + i);
             reach += 1;
         }
     }

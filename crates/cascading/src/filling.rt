@@ -34,7 +34,7 @@ pub fn fill_page(
     let value = pages::page::load(numbers, words, owners, places, page);
     let homes = [0u32; 32];
     let mut slots = [0u64; 32];
-    waiting[0] = waiting::pack(home, number, numbers.len() + 1);
+    waiting[0] = signing::pack(home, number, numbers.len() + 1);
     let reach = append(waiting, &value.numbers, &homes, places, at, 1);
     waiting::keep_all(waiting, 0, reach, &mut slots);
     planned[page] = separators[page];

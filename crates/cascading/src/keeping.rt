@@ -2,7 +2,8 @@
 ghost use Prim.Native.Nat.{_+_, _*_, _≤_, _<_};
 ghost use lib.ListN.{length};
 ghost use lib.Seq.{slice};
-ghost use Rattle.waiting.specs.Settle.{Signers, Probing};
+ghost use Rattle.placement.specs.Ready.{Signers};
+ghost use Rattle.signing.specs.Probes.{Probing};
 ghost use Rattle.cascading.specs.Cascade.{Lowered};
 use hashing::Parameters;
 use waiting::settle_under;

@@ -3,7 +3,7 @@ ghost use mathlib.Core.Path.{_≡_};
 ghost use Prim.Native.Nat.{_*_, _≤_};
 ghost use lib.ListN.{length};
 ghost use Rattle.placement.specs.Lent.{held, before};
-ghost use Rattle.waiting.specs.Settle.{Signers};
+ghost use Rattle.placement.specs.Ready.{Signers};
 ghost use Rattle.cascading.specs.Arriving.{KnownTo};
 ghost use Rattle.cascading.specs.Cascade.{Enters, Plans};
 use crate::arriving::Taken;
@@ -40,7 +40,7 @@ fn push_along(
 {
     let parameters = geometry.parameters;
     let pages = parameters.pages as usize;
-    waiting[0] = waiting::pack(home, number, numbers.len() + 1);
+    waiting[0] = signing::pack(home, number, numbers.len() + 1);
     let mut at = page;
     let mut from = 0;
     let mut end = 1;

@@ -25,9 +25,9 @@ use Rattle.placement.specs.Hash.{hashOf, homeIn, homesOf, lent}
 use Rattle.placement.proofs.Filters.{filter-all-on}
 use Rattle.placement.proofs.Sound.{gathered-proper}
 use Rattle.placement.proofs.Tested.{item-on, real-facts}
-use Rattle.waiting.specs.Lists.{all, allBelow}
+use Rattle.signing.specs.Lists.{all, allBelow}
 use Rattle.waiting.specs.Gather.{starsIn, stretchWords}
-use Rattle.waiting.proofs.Lists.{all-cons, all-items}
+use Rattle.signing.proofs.Lists.{all-cons, all-items}
 use Rattle.planning.specs.Sources.{namedItem, sourced}
 use Rattle.planning.specs.Plans.{Planned}
 use Rattle.planning.proofs.Applying.{applied}

@@ -25,11 +25,11 @@ use Rattle.placement.proofs.Standing.{past-top}
 use Rattle.placement.proofs.Search.{orderly-numbers}
 use Rattle.placement.proofs.Probing.{bounded-real}
 use Rattle.placement.proofs.Tested.{ItemOn, item-on, real-facts}
-use Rattle.waiting.specs.Lists.{all, allBelow}
-use Rattle.waiting.specs.Words.{pack, homeOf, numberIn}
+use Rattle.signing.specs.Lists.{all, allBelow}
+use Rattle.signing.specs.Words.{pack, homeOf, numberIn}
 use Rattle.waiting.specs.Gather.{skipped, groupOf, groupsBelow}
-use Rattle.waiting.proofs.Lists.{all-items}
-use Rattle.waiting.proofs.Packing.{home-pack, number-pack}
+use Rattle.signing.proofs.Lists.{all-items}
+use Rattle.signing.proofs.Packing.{home-pack, number-pack}
 use Rattle.buffers.proofs.Lists.{map-take, map-drop}
 use Rattle.planning.specs.Plans.{homed}
 use Rattle.planning.specs.Sources.{sourced}

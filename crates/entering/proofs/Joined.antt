@@ -22,9 +22,9 @@ use Rattle.placement.proofs.Standing.{standsAt, left-first}
 use Rattle.placement.proofs.Mapping.{mapped, pages-map, left-map}
 use Rattle.placement.proofs.Sound.{AllSound, gathered-proper}
 use Rattle.placement.proofs.Tested.{real-facts}
-use Rattle.waiting.specs.Words.{pack}
+use Rattle.signing.specs.Words.{pack}
 use Rattle.waiting.specs.Gather.{starsIn}
-use Rattle.waiting.specs.Settle.{homesUpTo}
+use Rattle.signing.specs.Probes.{homesUpTo}
 use Rattle.waiting.proofs.Items.{words-count, words-length}
 use Rattle.planning.specs.Plans.{plans, remains, waits}
 use Rattle.planning.specs.Sources.{namedItem, renamed, sourced}

@@ -24,7 +24,7 @@ use Rattle.placement.proofs.Mapping.{mapped}
 use Rattle.placement.proofs.Probing.{homed-real}
 use Rattle.placement.proofs.Composition.{crowded}
 use Rattle.waiting.specs.Gather.{starsIn}
-use Rattle.waiting.specs.Settle.{homesUpTo}
+use Rattle.signing.specs.Probes.{homesUpTo}
 use Rattle.planning.specs.Plans.{plans, remains, waits, Planned}
 use Rattle.planning.specs.Sources.{renamed}
 use Rattle.planning.proofs.Pouring.{length-waits}

@@ -17,7 +17,7 @@ use Rattle.placement.specs.Rule.{Star}
 use Rattle.placement.specs.File.{File, Sized, column}
 use Rattle.placement.specs.Hash.{hashOf, soundAt, homesOf, homeIn}
 use Rattle.placement.proofs.Writing.{length-column}
-use Rattle.waiting.specs.Lists.{allBelow}
+use Rattle.signing.specs.Lists.{allBelow}
 use Rattle.waiting.specs.Gather.{starsIn, stretchWords}
 use Rattle.waiting.proofs.Gathered.{stretch-slice}
 use Rattle.planning.specs.Plans.{plans, Planned}

@@ -8,7 +8,7 @@ ghost use Rattle.placement.specs.Hash.{homeUnder};
 ghost use Rattle.placement.specs.Lent.{held, before};
 ghost use Rattle.placement.specs.Ready.{Ready};
 ghost use Rattle.reach.specs.Known.{Known};
-ghost use Rattle.waiting.specs.Settle.{homesUpTo};
+ghost use Rattle.signing.specs.Probes.{homesUpTo};
 ghost use Rattle.entering.specs.Entry.{Unheld, newStar, reachAnswer, Applies, PlansBlock};
 use hashing::Geometry;
 
@@ -111,7 +111,7 @@ pub fn plan_entry(
     ensures { λ r. ⌜ Applies (geometry .parameters) (geometry .growth) (before separators numbers words owners) number (now (pool .exit)) (now (planned .exit)) r ⌝ }
 {
     let pages = geometry.parameters.pages as usize;
-    waiting[0] = waiting::pack(home, number, numbers.len() + 1);
+    waiting[0] = signing::pack(home, number, numbers.len() + 1);
     let mut lo = home as usize;
     let mut carried = 1;
     let mut tested = known;

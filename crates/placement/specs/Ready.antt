@@ -6,14 +6,14 @@ use Prim.Native.Nat.{ℕ, _*_}
 use lib.ListN.{length}
 use Rattle.hashing.specs.declared.Parameters.{Parameters}
 use Rattle.hashing.specs.declared.Geometry.{Geometry}
-use Rattle.generator.specs.Generator.{multipliers, firstMultipliers}
+use Rattle.generator.specs.Generator.{firstMultipliers, probeMultipliers}
 use Rattle.hashing.specs.Geometry.{multiplierOf}
 use Rattle.hashing.specs.Limits.{validParameters, validGrowth}
 use Rattle.placement.specs.File.{File, Sized}
 
--- for signatures: the table is the parameters' own, and these are valid
-pub record Signing (p : Parameters) (t : List ℕ) : Type 0 where
-  pub table : t ≡ multipliers (multiplierOf p)
+-- for signatures: the table is that of the parameters' own multiplier, and these are valid
+pub record Signers (p : Parameters) (t : List ℕ) : Type 0 where
+  pub table : t ≡ probeMultipliers (multiplierOf p)
   pub valid : validParameters p ≡ true
 
 -- for homes and the naming of pages, which need the table's first ninety: the growth state is valid too

@@ -13,11 +13,12 @@ use Rattle.hashing.specs.declared.Parameters.{Parameters}
 use Rattle.placement.specs.Rule.{Star, Contents, separators}
 use Rattle.placement.specs.File.{File, every, column, replaced}
 use Rattle.placement.proofs.Mapping.{Keeps, mapped}
-use Rattle.waiting.specs.Lists.{selected, all}
-use Rattle.waiting.specs.Words.{lowOf, numberIn, sourceOf}
+use Rattle.signing.specs.Lists.{selected, all}
+use Rattle.signing.specs.Words.{lowOf, numberIn, sourceOf}
 use Rattle.waiting.specs.Gather.{group, groupOf}
-use Rattle.waiting.specs.Settle.{insertLow, pourLow, slotsOf, stayingWords, passingWords, under, wordsSeparator}
-use Rattle.waiting.proofs.Lists.{all-head, all-tail, all-append, all-filter, all-mono}
+use Rattle.signing.specs.Probes.{stayingWords, passingWords, under, wordsSeparator}
+use Rattle.waiting.specs.Settle.{insertLow, pourLow, slotsOf}
+use Rattle.signing.proofs.Lists.{all-head, all-tail, all-append, all-filter, all-mono}
 use Rattle.planning.specs.Sources.{namedItem, renamed, sourced}
 use Rattle.planning.specs.Plans.{starOf, waits, settled, carriedOn, plans}
 use Rattle.planning.proofs.Pouring.{pour-cons}

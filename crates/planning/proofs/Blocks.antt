@@ -9,10 +9,10 @@ use lib.Dec.{leb, ltb, eqb}
 use borrow.Author.Tests.{leb-true, ltb-true, ne-eqb, eq-eqb, eqb-true, eqb-false}
 use Rattle.hashing.specs.declared.Parameters.{Parameters}
 use Rattle.placement.specs.Rule.{Contents}
-use Rattle.waiting.specs.Lists.{all}
-use Rattle.waiting.specs.Words.{homeOf}
+use Rattle.signing.specs.Lists.{all}
+use Rattle.signing.specs.Words.{homeOf}
 use Rattle.waiting.specs.Gather.{group, groupOf, groupsBelow}
-use Rattle.waiting.proofs.Lists.{filter-append}
+use Rattle.signing.proofs.Lists.{filter-append}
 use Rattle.planning.specs.Plans.{carriedOn, plans, remains}
 use Rattle.planning.proofs.RuleOverWords.{filter-agree, filter-none}
 

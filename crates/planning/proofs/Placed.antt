@@ -21,11 +21,11 @@ use Rattle.placement.specs.Hash.{hashOf, homesOf}
 use Rattle.placement.proofs.Mapping.{mapped, pages-map, left-map}
 use Rattle.placement.proofs.Standing.{length-separators}
 use Rattle.placement.proofs.Writing.{length-column, column-append, separators-append}
-use Rattle.waiting.specs.Lists.{all, allBelow}
-use Rattle.waiting.specs.Words.{pack}
+use Rattle.signing.specs.Lists.{all, allBelow}
+use Rattle.signing.specs.Words.{pack}
 use Rattle.waiting.specs.Gather.{wordsFrom, group, grouped, groupsBelow, stretchWords}
-use Rattle.waiting.specs.Settle.{homesUpTo}
-use Rattle.waiting.proofs.Packing.{home-pack, number-pack, source-pack}
+use Rattle.signing.specs.Probes.{homesUpTo}
+use Rattle.signing.proofs.Packing.{home-pack, number-pack, source-pack}
 use Rattle.planning.specs.Sources.{renamed, sourced}
 use Rattle.planning.specs.Plans.{waits, homed, carriedOn, plans, remains, Planned}
 use Rattle.planning.proofs.Pouring.{waits-grouped, length-waits}

@@ -13,11 +13,11 @@ use Rattle.generator.specs.Generator.{signature, topOf}
 use Rattle.hashing.specs.Geometry.{multiplierOf}
 use Rattle.placement.specs.Rule.{Star, Hash, below, onward, contentsOf, pages, left}
 use Rattle.placement.specs.Rule.{staying as rule·staying, passing as rule·passing, separatorFrom as rule·separatorFrom, separatorOf as rule·separatorOf}
-use Rattle.waiting.specs.Lists.{selected, all}
-use Rattle.waiting.specs.Words.{homeOf, numberIn, lowOf}
+use Rattle.signing.specs.Lists.{selected, all}
+use Rattle.signing.specs.Words.{homeOf, numberIn, lowOf}
 use Rattle.waiting.specs.Gather.{groupOf, group, grouped}
-use Rattle.waiting.specs.Settle.{signatureOf, under, stayingWords, passingWords, wordsSeparatorFrom, wordsSeparator, homesUpTo}
-use Rattle.waiting.proofs.Lists.{filter-append, all-head, all-tail, all-append, all-filter, all-filtered, all-mono}
+use Rattle.signing.specs.Probes.{signatureOf, under, stayingWords, passingWords, wordsSeparatorFrom, wordsSeparator, homesUpTo}
+use Rattle.signing.proofs.Lists.{filter-append, all-head, all-tail, all-append, all-filter, all-filtered, all-mono}
 use Rattle.planning.specs.Plans.{starOf, waits, homed, settled, carriedOn, plans, remains}
 use Rattle.planning.proofs.Pouring.{select-waits, length-waits}
 

@@ -13,7 +13,7 @@ use Rattle.buffers.specs.Lists.{padded}
 use Rattle.buffers.proofs.Copies.{Copied, turn}
 use Rattle.buffers.proofs.Lists.{drop-take, padded-item, length-padded}
 pub use Rattle.buffers.proofs.Written.{all-written}
-use Rattle.waiting.specs.Words.{sourceOf}
+use Rattle.signing.specs.Words.{sourceOf}
 use Rattle.planning.specs.Plans.{slotSource}
 
 pub slot-item : (slots : List ℕ) (kept places i : ℕ) → kept ≤ length slots

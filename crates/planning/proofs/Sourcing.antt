@@ -22,12 +22,12 @@ use Rattle.placement.proofs.Search.{starsOf-append}
 use Rattle.placement.proofs.Order.{pour-append}
 use Rattle.placement.proofs.Order.{filter-pour as select-pour}
 use Rattle.placement.proofs.Mapping.{pour-map, insert-map}
-use Rattle.waiting.specs.Lists.{all, allBelow}
-use Rattle.waiting.specs.Words.{pack, homeOf, numberIn, sourceOf, lowOf}
+use Rattle.signing.specs.Lists.{all, allBelow}
+use Rattle.signing.specs.Words.{pack, homeOf, numberIn, sourceOf, lowOf}
 use Rattle.waiting.specs.Gather.{skipped, wordsFrom, groupOf, groupsBelow}
 use Rattle.waiting.specs.Settle.{insertLow, pourLow, slotsOf}
-use Rattle.waiting.proofs.Lists.{all-head, all-tail, all-cons, all-getD, all-mono}
-use Rattle.waiting.proofs.Packing.{home-pack, number-pack, source-pack}
+use Rattle.signing.proofs.Lists.{all-head, all-tail, all-cons, all-getD, all-mono}
+use Rattle.signing.proofs.Packing.{home-pack, number-pack, source-pack}
 use Rattle.planning.specs.Sources.{namedItem, renamed, sourced}
 use Rattle.planning.specs.Plans.{starOf, waits, homed}
 use Rattle.planning.proofs.Pouring.{pour-cons}

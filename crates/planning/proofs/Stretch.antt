@@ -18,12 +18,13 @@ use Rattle.placement.specs.Rule.{Star, Contents, separators}
 use Rattle.placement.specs.File.{column}
 use Rattle.placement.proofs.Standing.{length-separators}
 use Rattle.placement.proofs.Writing.{Roomy, column-append, length-column, separators-append}
-use Rattle.waiting.specs.Words.{sourceOf}
+use Rattle.signing.specs.Words.{sourceOf}
 use Rattle.waiting.specs.Gather.{group, grouped, Scattered}
 use Rattle.waiting.specs.declared.settling.Settled.{Settled}
-use Rattle.waiting.specs.Settle.{Settlement, homesUpTo, stayingWords, wordsSeparator, slotsOf}
+use Rattle.signing.specs.Probes.{homesUpTo, stayingWords, wordsSeparator}
+use Rattle.waiting.specs.Settle.{Settlement, slotsOf}
 use Rattle.waiting.proofs.Grouping.{grouped-next, grouped-add}
-use Rattle.waiting.proofs.Cutting.{separator-fits, separator-most}
+use Rattle.signing.proofs.Cutting.{separator-fits, separator-most}
 use Rattle.planning.specs.Plans.{starOf, waits, settled, carriedOn, plans, remains, PagePlanned, Planned}
 use Rattle.planning.proofs.Pouring.{length-waits}
 use Rattle.planning.proofs.RuleOverWords.{near-probing, near-onward}

@@ -13,10 +13,11 @@ use Rattle.hashing.specs.Limits.{validParameters}
 use Rattle.placement.specs.Rule.{Star, Hash, Contents, separators, starWith}
 use Rattle.placement.specs.File.{column, written}
 use Rattle.placement.specs.Lent.{Lent}
-use Rattle.waiting.specs.Lists.{all, allBelow}
-use Rattle.waiting.specs.Words.{homeOf, numberIn, sourceOf}
+use Rattle.signing.specs.Lists.{all, allBelow}
+use Rattle.signing.specs.Words.{homeOf, numberIn, sourceOf}
 use Rattle.waiting.specs.Gather.{group, stretchWords, starsIn}
-use Rattle.waiting.specs.Settle.{homesUpTo, stayingWords, passingWords, wordsSeparator, slotsOf}
+use Rattle.signing.specs.Probes.{homesUpTo, stayingWords, passingWords, wordsSeparator}
+use Rattle.waiting.specs.Settle.{slotsOf}
 
 -- the star that a word's low part stands for: its number, and its source in place of position word and owner
 unfoldable pub starOf : ℕ → Star

@@ -5,8 +5,8 @@ use Prim.Native.Nat.{ℕ}
 use lib.Dec.{eqb}
 unfoldable pub use Rattle.applying.specs.Sources.{namedItem}
 use Rattle.placement.specs.Rule.{Star, starWith}
-use Rattle.waiting.specs.Lists.{all}
-use Rattle.waiting.specs.Words.{numberIn, sourceOf}
+use Rattle.signing.specs.Lists.{all}
+use Rattle.signing.specs.Words.{numberIn, sourceOf}
 
 -- a planned star with the position word and the owner that its source names
 unfoldable pub renamed : List ℕ → List ℕ → ℕ → ℕ → Star → Star

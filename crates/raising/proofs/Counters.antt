@@ -17,11 +17,15 @@ use Rattle.pages.specs.Page.{part}
 use Rattle.placement.specs.Rule.{Hash, keep, filter}
 use Rattle.placement.specs.Hash.{hashOf, homesOf, homeUnder}
 use Rattle.reach.specs.Reach.{firstSuch}
-use Rattle.raising.specs.Raising.{passed, countsOn, countedItem, countOn, countFrom, mayRise, raisableFrom, hashUnder, firstRaisable, firstRising, one, Counts, Added, Homed}
+use Rattle.raising.specs.Raising.{passed, passedFrom, countsOn, countedItem, countOn, countFrom, mayRise, raisableFrom, hashUnder, firstRaisable, firstRising, one, Counts, Added, Homed}
 
 one-most : (t : Bool) → one t ≤ 1
 one-most true = omega arith
 one-most false = omega arith
+
+none : (s : Bool) → one (s && false) ≡ 0
+none true = refl
+none false = refl
 
 module _ (from : ℕ) where
   pub added-none : (more : ℕ → ℕ) (l : List ℕ) → length l ≡ 1024 → ((p : ℕ) → from ≤ p → more p ≡ 0) → Added from more l l
@@ -57,6 +61,10 @@ module _ (H : Hash) (vs : List ℕ) (k : ℕ) where
   unfolding passed
   passed-here p h = rw (le-leb (H .home k) p h, lt-ltb p (p + 1) (omega arith))
 
+  passed-below : (p q r : ℕ) → p < q → q ≤ r → passed H vs p r k ≡ passed H vs p q k
+  unfolding passed
+  passed-below p q r h l = rw (lt-ltb p r (omega arith), lt-ltb p q h)
+
   passed-other : (p q : ℕ) → (q ≡ p → ⊥) → passed H vs p (q + 1) k ≡ passed H vs p q k
   unfolding passed
   passed-other p q h = ap (λ (t : Bool). leb (H .home k) p && (t && eqb (H .signature k p) (getD vs p 0))) (go (decLe q p))
@@ -70,10 +78,6 @@ module _ (H : Hash) (vs : List ℕ) (k : ℕ) where
       → (p : ℕ) → one (passed H vs p (q + 1) k) ≡ one (passed H vs p q k) + one (t && eqb q p)
   passed-next q h t e p = go (eqb q p) refl
     where
-      none : (s : Bool) → one (s && false) ≡ 0
-      none true = refl
-      none false = refl
-
       all-of : (s : Bool) → one (s && true) ≡ one s
       all-of true = refl
       all-of false = refl
@@ -85,6 +89,77 @@ module _ (H : Hash) (vs : List ℕ) (k : ℕ) where
           let before : passed H vs p q k ≡ false = passed-high p q (omega arith) in
           rw (now, before, all-of t) (omega arith)
       go false r = rw (passed-other p q (eqb-false q p r), none t) (omega arith)
+
+  -- of the pages from `first` on, those below it are none
+  from-low : (first p q : ℕ) → p < first → passedFrom H vs first p q k ≡ false
+  unfolding passedFrom
+  from-low first p q h = rw (lt-leb first p h)
+
+  from-here : (first p q : ℕ) → first ≤ p → passedFrom H vs first p q k ≡ passed H vs p q k
+  unfolding passedFrom
+  from-here first p q h = rw (le-leb first p h)
+
+  from-next : (first q : ℕ) → first ≤ q → H .home k ≤ q → (t : Bool) → eqb (H .signature k q) (getD vs q 0) ≡ t
+      → (p : ℕ) → one (passedFrom H vs first p (q + 1) k) ≡ one (passedFrom H vs first p q k) + one (t && eqb q p)
+  from-next first q f h t e p = go (decLe first p)
+    where
+      go : Dec (first ≤ p) → one (passedFrom H vs first p (q + 1) k) ≡ one (passedFrom H vs first p q k) + one (t && eqb q p)
+      go (yes d) = rw (from-here first p (q + 1) d, from-here first p q d) (passed-next q h t e p)
+      go (no d) = rw (from-low first p (q + 1) (omega arith), from-low first p q (omega arith), ne-eqb q p (λ r. omega arith), none t) (omega arith)
+
+  -- up to `first`, then from there on
+  from-then : (first last p : ℕ) → first ≤ last → one (passed H vs p last k) ≡ one (passed H vs p first k) + one (passedFrom H vs first p last k)
+  from-then first last p h = go (decLe first p)
+    where
+      go : Dec (first ≤ p) → one (passed H vs p last k) ≡ one (passed H vs p first k) + one (passedFrom H vs first p last k)
+      go (yes d) = rw (passed-high p first d, from-here first p last d) (omega arith)
+      go (no d) = rw (passed-below p first last (omega arith) h, from-low first p last (omega arith)) (omega arith)
+
+  -- the pages from `first` up to the one before `next` are counted
+  pub record BlockCounted (first next : ℕ) (entry exit : List ℕ) : Type 0 where
+    pub low : H .home k ≤ next
+    pub begun : first ≤ next
+    pub added : Added 0 (λ p. one (passedFrom H vs first p next k)) entry exit
+
+  pub block-none : (first : ℕ) (l : List ℕ) → H .home k ≤ first → length l ≡ 1024 → BlockCounted first first l l
+  block-none first l h size =
+      record {
+        low = h;
+        begun = omega arith;
+        added = added-none 0 _ l size (λ p o. go p (decLe first p));
+      }
+    where
+      go : (p : ℕ) → Dec (first ≤ p) → one (passedFrom H vs first p first k) ≡ 0
+      go p (yes d) = rw (from-here first p first d, passed-high p first d)
+      go p (no d) = rw (from-low first p first (omega arith))
+
+  module _ (first next : ℕ) (entry exit : List ℕ) (c : BlockCounted first next entry exit) where
+    pub block-counted : next < 1024 → H .signature k next ≡ getD vs next 0 → BlockCounted first (next + 1) entry (set exit next (getD exit next 0 + 1))
+    block-counted h e =
+        record {
+          low = omega (arith, c .low);
+          begun = omega (arith, c .begun);
+          added =
+              added-then 0 (λ p. one (passedFrom H vs first p next k)) (λ p. one (eqb next p)) (λ p. one (passedFrom H vs first p (next + 1) k)) entry exit (set exit next (getD exit next 0 + 1))
+              (c .added) (added-one 0 exit next (c .added .size) h)
+              (from-next first next (c .begun) (c .low) true (eq-eqb (H .signature k next) (getD vs next 0) e));
+        }
+
+    pub block-skipped : (H .signature k next ≡ getD vs next 0 → ⊥) → BlockCounted first (next + 1) entry exit
+    block-skipped e =
+        record {
+          low = omega (arith, c .low);
+          begun = omega (arith, c .begun);
+          added =
+              added-same 0 (λ p. one (passedFrom H vs first p next k)) (λ p. one (passedFrom H vs first p (next + 1) k)) entry exit (c .added)
+              (λ p _. from-next first next (c .begun) (c .low) false (ne-eqb (H .signature k next) (getD vs next 0) e) p ∙ add-zero (one (passedFrom H vs first p next k)));
+        }
+
+    pub block-fits : (n : ℕ) → ((p : ℕ) → first ≤ p → p < 1024 → getD entry p 0 ≤ n) → (p : ℕ) → first ≤ p → p < 1024 → getD exit p 0 ≤ n + 1
+    block-fits n most p o h = omega (arith, c .added .each p (omega arith) h, most p o h, one-most (passedFrom H vs first p next k))
+
+    pub block-all : (last : ℕ) → next ≡ last → Added 0 (λ p. one (passedFrom H vs first p last k)) entry exit
+    block-all last e = rw e at (c .added)
 
   -- the pages from home and `from` up to the one before `next` are counted; none is where the later of them is not below `page`
   pub record ProbesCounted (from page next : ℕ) (entry exit : List ℕ) : Type 0 where
@@ -106,25 +181,16 @@ module _ (H : Hash) (vs : List ℕ) (k : ℕ) where
       go p o (no d) = rw (passed-low p start (omega (arith, e, m (omega arith))))
 
   module _ (from page next : ℕ) (entry exit : List ℕ) (c : ProbesCounted from page next entry exit) where
-    pub probes-counted : next < page → page ≤ 1024 → H .signature k next ≡ getD vs next 0 → ProbesCounted from page (next + 1) entry (set exit next (getD exit next 0 + 1))
-    probes-counted h m e =
+    -- the pages of the next block are counted too
+    pub probes-block : (last : ℕ) (after : List ℕ) → next < last → last ≤ page → Added 0 (λ p. one (passedFrom H vs next p last k)) exit after → ProbesCounted from page last entry after
+    probes-block last after h m a =
         record {
           low = omega (arith, c .low);
           high = λ g _. absurd (omega arith);
           added =
-              added-then from (λ p. one (passed H vs p next k)) (λ p. one (eqb next p)) (λ p. one (passed H vs p (next + 1) k)) entry exit (set exit next (getD exit next 0 + 1))
-              (c .added) (added-one from exit next (c .added .size) (omega arith))
-              (passed-next next (c .low) true (eq-eqb (H .signature k next) (getD vs next 0) e));
-        }
-
-    pub probes-skipped : next < page → (H .signature k next ≡ getD vs next 0 → ⊥) → ProbesCounted from page (next + 1) entry exit
-    probes-skipped h e =
-        record {
-          low = omega (arith, c .low);
-          high = λ g _. absurd (omega arith);
-          added =
-              added-same from (λ p. one (passed H vs p next k)) (λ p. one (passed H vs p (next + 1) k)) entry exit (c .added)
-              (λ p _. passed-next next (c .low) false (ne-eqb (H .signature k next) (getD vs next 0) e) p ∙ add-zero (one (passed H vs p next k)));
+              added-then from (λ p. one (passed H vs p next k)) (λ p. one (passedFrom H vs next p last k)) (λ p. one (passed H vs p last k)) entry exit after
+              (c .added) (record { size = a .size; each = λ p o. a .each p (omega arith) })
+              (λ p. from-then next last p (omega arith));
         }
 
     pub probes-fits : (n : ℕ) → ((p : ℕ) → from ≤ p → p < 1024 → getD entry p 0 ≤ n) → (p : ℕ) → from ≤ p → p < 1024 → getD exit p 0 ≤ n + 1

@@ -19,6 +19,10 @@ use Rattle.reach.specs.Reach.{firstSuch}
 unfoldable pub passed : Hash → List ℕ → ℕ → ℕ → ℕ → Bool
 passed H vs p q k = leb (H .home k) p && (ltb p q && eqb (H .signature k p) (getD vs p 0))
 
+-- the same of a page from `first` on
+unfoldable pub passedFrom : Hash → List ℕ → ℕ → ℕ → ℕ → ℕ → Bool
+passedFrom H vs first p q k = leb first p && passed H vs p q k
+
 -- it counts on page p: it stands there, or would if the separator were one greater
 unfoldable pub countsOn : Hash → List ℕ → ℕ → ℕ → ℕ → Bool
 countsOn H vs p q k = eqb q p || passed H vs p q k

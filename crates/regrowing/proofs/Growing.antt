@@ -20,7 +20,7 @@ use Rattle.placement.specs.Rule.{Hash, left, without}
 use Rattle.placement.specs.File.{File, Sized, gathered}
 use Rattle.placement.specs.Hash.{hashOf, homeIn, homesOf}
 use Rattle.placement.proofs.Probing.{homed-real}
-use Rattle.waiting.specs.Lists.{allBelow}
+use Rattle.signing.specs.Lists.{allBelow}
 use Rattle.reach.specs.Reach.{isEmpty, firstUnsound}
 use Rattle.reach.proofs.Search.{such}
 use Rattle.reach.proofs.Surveyed.{unsound}

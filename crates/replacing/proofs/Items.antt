@@ -21,8 +21,8 @@ use Rattle.placement.specs.Hash.{hashOf, soundAt, homeIn, homesOf}
 use Rattle.placement.proofs.Filters.{filter-all-on}
 use Rattle.placement.proofs.Sound.{AllSound, gathered-proper}
 use Rattle.placement.proofs.Tested.{item-on, real-facts}
-use Rattle.waiting.specs.Lists.{all, allBelow}
-use Rattle.waiting.proofs.Lists.{all-cons}
+use Rattle.signing.specs.Lists.{all, allBelow}
+use Rattle.signing.proofs.Lists.{all-cons}
 use Rattle.reach.specs.Reach.{firstUnsound}
 use Rattle.reach.proofs.Search.{such}
 use Rattle.reach.proofs.Surveyed.{unsound}

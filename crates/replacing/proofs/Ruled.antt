@@ -58,7 +58,7 @@ module _ (q : Parameters) (lo n : ℕ) (f : File) (pool waiting poolowners : Lis
       let l : List ℕ = stretchWords (q .places) lo n k (f .numbers) pool in
       applied-layout q lo n 0 0 0 f [] l pool′ planned′ W′ r
       (layout q lo n [] l pool pool′ planned planned′ W′ r P (L .pool-long) long)
-      (unfold sourced Rattle.waiting.specs.Lists.all in refl) stretch-sourced
+      (unfold sourced Rattle.signing.specs.Lists.all in refl) stretch-sourced
 
   -- what the answer of the plan decides
   module _ (pool′ planned planned′ W′ : List ℕ) (r : ℕ) (P : Planned q lo n [] (stretchWords (q .places) lo n k (f .numbers) pool) pool pool′ planned planned′ W′ r) where

@@ -10,7 +10,7 @@ use Rattle.hashing.specs.declared.Parameters.{Parameters}
 use Rattle.placement.specs.Rule.{Contents}
 use Rattle.placement.specs.File.{File, replaced}
 use Rattle.placement.proofs.Mapping.{mapped}
-use Rattle.waiting.specs.Lists.{allBelow}
+use Rattle.signing.specs.Lists.{allBelow}
 use Rattle.waiting.specs.Gather.{stretchWords}
 use Rattle.planning.specs.Sources.{renamed}
 use Rattle.planning.specs.Plans.{plans, remains}

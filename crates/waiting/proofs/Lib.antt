@@ -1,13 +1,8 @@
-pub mod Lists
-pub mod Packing
-pub mod Counting
 pub mod Items
 pub mod Order
 pub mod Grouping
 pub mod Placing
 pub mod Scattering
-pub mod Factors
 pub mod Gathered
 pub mod Inserting
-pub mod Cutting
 pub mod Sifting

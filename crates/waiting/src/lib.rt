@@ -1,10 +1,7 @@
 // The stars that wait for a page, each as one word of a lent list: gathered from a stretch of pages and grouped by home, and settled
 // page by page.
 mod gathering;
-mod separating;
 mod settling;
-mod signing;
-mod words;
 
 pub use gathering::count_stars;
 pub use gathering::gather;
@@ -13,7 +10,3 @@ pub use settling::insert;
 pub use settling::keep_all;
 pub use settling::settle;
 pub use settling::settle_under;
-pub use words::home_of;
-pub use words::low_of;
-pub use words::number_of;
-pub use words::pack;

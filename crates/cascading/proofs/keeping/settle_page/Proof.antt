@@ -4,7 +4,7 @@ use lib.Seq.{slice}
 use denote.Ref.{now}
 use borrow.Author.Needs.{needs}
 use Rattle.hashing.proofs.Bounds.{limits}
-use Rattle.waiting.proofs.Cutting.{separator-most}
+use Rattle.signing.proofs.Cutting.{separator-most}
 use Rattle.cascading.proofs.Settled.{page-lowered}
 use Rattle.cascading.proofs.keeping.settle_page.Statement.{statement}
 use Rattle.cascading.proofs.keeping.settle_page.Tie as tie

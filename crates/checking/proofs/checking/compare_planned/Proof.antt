@@ -6,7 +6,7 @@ use denote.Ref.{now}
 use Rattle.hashing.proofs.Bounds.{limits}
 use Rattle.placement.specs.File.{File}
 use Rattle.placement.specs.Hash.{hashOf, lent}
-use Rattle.waiting.specs.Lists.{all}
+use Rattle.signing.specs.Lists.{all}
 use Rattle.planning.proofs.Placed.{Gatherable}
 use Rattle.checking.proofs.Planned.{homes-long, stars-inside, ready, planned-ruled, spot-ruled}
 use borrow.Author.Needs.{needs}

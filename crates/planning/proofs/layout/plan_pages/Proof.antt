@@ -11,7 +11,7 @@ use denote.Ref.{now}
 use Rattle.pages.specs.Page.{stretch}
 use Rattle.hashing.proofs.Bounds.{limits}
 use Rattle.waiting.specs.Gather.{stretchWords}
-use Rattle.waiting.specs.Settle.{homesUpTo}
+use Rattle.signing.specs.Probes.{homesUpTo}
 use Rattle.waiting.proofs.Items.{words-count}
 use Rattle.planning.specs.Plans.{Planned}
 use Rattle.planning.proofs.Sourcing.{length-stretch}

@@ -1,6 +1,6 @@
 use borrow.Author.Needs.{needs}
 use borrow.Author.Tests.{le-leb, lt-leb}
-use Rattle.waiting.specs.Words.{sourceOf}
+use Rattle.signing.specs.Words.{sourceOf}
 use Rattle.planning.specs.Plans.{slotSource}
 use Rattle.planning.proofs.layout.source_at.Statement.{statement}
 use Rattle.planning.proofs.layout.source_at.Tie as tie

@@ -4,7 +4,7 @@ use Prim.Native.Nat.{_-_, _≤_}
 use native.Mathlib.Omega.{arith}
 use lib.ListN.{take}
 use Rattle.placement.specs.File.{padded}
-use Rattle.waiting.specs.Words.{sourceOf}
+use Rattle.signing.specs.Words.{sourceOf}
 use Rattle.buffers.proofs.Copies.{Copied, none, turn, done}
 use Rattle.planning.proofs.Slots.{slot-item, length-page, all-written}
 use Rattle.planning.proofs.layout.store_sources.Statement.{statement}

@@ -1,6 +1,6 @@
 use mathlib.Core.Path.{refl, _∙_}
 use borrow.Author.Needs.{needs}
-use Rattle.waiting.specs.Lists.{all}
+use Rattle.signing.specs.Lists.{all}
 use Rattle.replacing.proofs.Ruled.{stars-fit, stretch-kept, stretch-behind, stretch-placed, applied-lists}
 use Rattle.replacing.proofs.stretch.replace_stretch.Statement.{statement}
 use Rattle.replacing.proofs.stretch.replace_stretch.Tie as tie

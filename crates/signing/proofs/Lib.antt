@@ -1,0 +1,5 @@
+pub mod Lists
+pub mod Packing
+pub mod Counting
+pub mod Factors
+pub mod Cutting
