@@ -16,7 +16,7 @@ use Rattle.placement.proofs.Sound.{clean-laid}
 use Rattle.calls.specs.declared.answers.Answer.{Answer}
 use Rattle.calls.specs.declared.records.GrowthRecord.{GrowthRecord}
 use Rattle.calls.specs.Answers.{Pool, After, spotted, acceptedAt, accepted, refused, refusedAt, cleared}
-use Rattle.calls.specs.Calls.{fileFits, poolFits, unless, unlent, unchanged, emptyFile, lookUpOf, enterOf, cascadeOf, changeOf, removeOf, growOn, growOf, shrinkOf, checkOf}
+use Rattle.calls.specs.Calls.{fileFits, poolFits, unlent, unchanged, emptyFile, lookUpOf, enterOf, cascadeOf, changeOf, removeOf, growOn, growOf, shrinkOf, checkOf}
 use Rattle.calls.specs.Records.{
   validSteps,
   opened,
@@ -63,7 +63,7 @@ use Rattle.histories.specs.Model.{
 use Rattle.histories.specs.Call.{Call, callOf, isAccepted, finishes, Outcome, onFile, onOpening, onStep, step}
 use Rattle.histories.specs.Run.{HistoryState, Event, initial, outcome, countsAs, next, end}
 use Rattle.histories.specs.Theorem.{EveryHistory}
-use Rattle.histories.specs.Corollaries.{NotOwner, AcceptedAt, OutOfTurn, writes, AtRest, WhileOpen, InHistory, EachState, SameContents, SameState, HistoryIndependence}
+use Rattle.histories.specs.Corollaries.{NotOwner, AcceptedAt, OutOfTurn, writes, AtRest, InHistory, EachState, SameContents, SameState, HistoryIndependence}
 use Rattle.histories.proofs.Entries.{determined, position-valid}
 use Rattle.histories.proofs.Fitting.{Fitting, hashFor, starsFor, rising-from, proper, in-range}
 use Rattle.histories.proofs.Guards.{lent, lent-pool}
@@ -392,8 +392,8 @@ same-state a b s t c =
     }
 
 pub history-independence : HistoryIndependence
-history-independence p q f g second two pool other accepted also history another same =
-    same-state (end (initial p f second pool) history) (end (initial q g two other) another)
+history-independence p q f g second spare pool other accepted also history another same =
+    same-state (end (initial p f second pool) history) (end (initial q g spare other) another)
     (end-agrees conforming (initial p f second pool) (initial-agrees p f second pool accepted) history)
-    (end-agrees conforming (initial q g two other) (initial-agrees q g two other also) another)
+    (end-agrees conforming (initial q g spare other) (initial-agrees q g spare other also) another)
     same

@@ -3,9 +3,9 @@ use mathlib.Core.Path.{_≡_}
 use Prim.Native.Nat.{ℕ}
 use lib.ListN.{length}
 use Rattle.hashing.specs.declared.Parameters.{Parameters}
-use Rattle.calls.specs.declared.records.GrowthRecord.{GrowthRecord}
 use Rattle.pages.specs.Page.{part}
 use Rattle.placement.specs.File.{File}
+use Rattle.calls.specs.declared.records.GrowthRecord.{GrowthRecord}
 use Rattle.calls.specs.Answers.{Pool}
 use Rattle.calls.specs.Calls.{named}
 use Rattle.calls.specs.Records.{lookUpUnder}

@@ -154,8 +154,8 @@ pub record SameState (a b : HistoryState) : Type 0 where
 -- two histories that end with the same parameters and contents end alike, however they came there
 abbrev pub HistoryIndependence : Type 0
 HistoryIndependence =
-    (p q : Parameters) (f g second two : File) (pool other : Pool)
+    (p q : Parameters) (f g second spare : File) (pool other : Pool)
     → makeOf p f pool .answer .refusal ≡ 0 → makeOf q g other .answer .refusal ≡ 0
     → (history another : List Call)
-    → SameContents (end (initial p f second pool) history) (end (initial q g two other) another)
-    → SameState (end (initial p f second pool) history) (end (initial q g two other) another)
+    → SameContents (end (initial p f second pool) history) (end (initial q g spare other) another)
+    → SameState (end (initial p f second pool) history) (end (initial q g spare other) another)
