@@ -25,10 +25,10 @@ impl History {
     /// From the empty file that making one leaves in buffers with anything in them.
     pub fn new(tester: &mut Tester, parameters: Parameters) -> History {
         let mut lent = Buffers::zeros(&parameters);
-        lent.separators.iter_mut().for_each(|separator| *separator = tester.random.draw() as u8);
-        lent.numbers.iter_mut().for_each(|number| *number = tester.random.draw() as u32);
-        lent.words.iter_mut().for_each(|word| *word = tester.random.draw());
-        lent.owners.iter_mut().for_each(|owner| *owner = tester.random.draw() as u8);
+        lent.file.separators.iter_mut().for_each(|separator| *separator = tester.random.draw() as u8);
+        lent.file.numbers.iter_mut().for_each(|number| *number = tester.random.draw() as u32);
+        lent.file.words.iter_mut().for_each(|word| *word = tester.random.draw());
+        lent.file.owners.iter_mut().for_each(|owner| *owner = tester.random.draw() as u8);
         let growth = Growth::default();
         let call = Call { kind: Kind::Make, parameters, growth, caller: 0, number: 0, ra: 0, dec: 0 };
         let (_, lent) = tester.compare(&call, &lent);
@@ -37,7 +37,7 @@ impl History {
 
     /// From a file that the check accepts.
     pub fn from(tester: &mut Tester, parameters: Parameters, growth: Growth, lent: Buffers) -> History {
-        let book: BTreeMap<u32, Star> = lent.stars().map(|star| (star.number, star)).collect();
+        let book: BTreeMap<u32, Star> = lent.file.stars().map(|star| (star.number, star)).collect();
         let mut numbers: Vec<u32> = book.keys().copied().collect();
         numbers.extend([1, 2, 2_147_483_645, 2_147_483_646]);
         numbers.extend((0..parameters.items() / 2 + 4).map(|_| tester.random.star_number()));
@@ -190,7 +190,7 @@ impl History {
     /// Whether the book's stars are more than A per cent of the places on pages in use.
     fn due(&self) -> bool {
         let Parameters { places, load, .. } = self.parameters;
-        let last_star = self.lent.numbers.iter().rposition(|&number| number != 0).unwrap_or(0) as u64;
+        let last_star = self.lent.file.numbers.iter().rposition(|&number| number != 0).unwrap_or(0) as u64;
         let last_page = highest_address(&self.parameters, &self.growth).max(last_star / u64::from(places));
         100 * self.book.len() as u64 > u64::from(load * places) * (last_page + 1)
     }
@@ -199,14 +199,14 @@ impl History {
     fn first_page(&self, number: u32) -> u64 {
         let home = home(&self.parameters, &self.growth, number.into());
         let signature = |page: u64| signature(&self.parameters, number.into(), page - home + 1);
-        (home..).find(|&page| u64::from(self.lent.separators[page as usize]) > signature(page)).unwrap()
+        (home..).find(|&page| u64::from(self.lent.file.separators[page as usize]) > signature(page)).unwrap()
     }
 
     /// How many lower numbers stand on that page.
     fn first_place(&self, number: u32) -> usize {
         let places = self.parameters.places as usize;
         let first = self.first_page(number) as usize * places;
-        self.lent.numbers[first..first + places].iter().filter(|&&other| other != 0 && other < number).count()
+        self.lent.file.numbers[first..first + places].iter().filter(|&&other| other != 0 && other < number).count()
     }
 
     /// The book's stars by the rule under a growth state.
@@ -241,7 +241,7 @@ impl History {
     /// cascade those from the named one to the first past which nothing is carried.
     fn pages_read(&self, call: &Call, after: &Buffers) -> Option<RangeInclusive<usize>> {
         let named = || self.first_page(call.number) as usize;
-        let (places, before) = (self.parameters.places as usize, &self.lent.numbers);
+        let (places, before) = (self.parameters.places as usize, &self.lent.file.numbers);
         match call.kind {
             Kind::LookUp => Some(named()..=named()),
             kind if kind.enters() && self.book.contains_key(&call.number) => Some(named()..=named()),
@@ -258,18 +258,18 @@ impl History {
         };
         let places = self.parameters.places as usize;
         let (mut lent, mut expected) = (self.lent.clone(), after.clone());
-        for item in (0..lent.numbers.len()).filter(|item| !read.contains(&(item / places))) {
-            lent.numbers[item] = tester.random.draw() as u32;
-            lent.words[item] = tester.random.draw();
-            lent.owners[item] = tester.random.draw() as u8;
-            expected.numbers[item] = lent.numbers[item];
-            expected.words[item] = lent.words[item];
-            expected.owners[item] = lent.owners[item];
+        for item in (0..lent.file.numbers.len()).filter(|item| !read.contains(&(item / places))) {
+            lent.file.numbers[item] = tester.random.draw() as u32;
+            lent.file.words[item] = tester.random.draw();
+            lent.file.owners[item] = tester.random.draw() as u8;
+            expected.numbers[item] = lent.file.numbers[item];
+            expected.words[item] = lent.file.words[item];
+            expected.owners[item] = lent.file.owners[item];
         }
         let other = tester.compare(call, &lent);
         tester.expect(other == (*outcome, expected), "a call depends on a page that it does not read");
         let damaged = tester.random.pick(&Vec::from_iter(read));
-        lent.words[damaged * places] = u64::MAX;
+        lent.file.words[damaged * places] = u64::MAX;
         let (refused, _) = tester.compare(call, &lent);
         let met = (refused.refusal, refused.page as usize) == (5, damaged);
         tester.expect(met, "a call does not meet the damage on a page that it reads");

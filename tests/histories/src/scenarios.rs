@@ -21,12 +21,12 @@ pub fn tiny_files(tester: &mut Tester) {
         let page = |choice: usize| (separators[choice % 5], numbers[choice / 5 % 4], words[choice / 20]);
         let (lower, upper) = (page(choice % sets), page(choice / sets));
         let mut lent = Buffers::zeros(&parameters);
-        (lent.separators, lent.numbers) = (vec![lower.0, upper.0], vec![lower.1, upper.1]);
-        (lent.words, lent.pool_words) = (vec![lower.2, upper.2], vec![7, 7]);
+        (lent.file.separators, lent.file.numbers) = (vec![lower.0, upper.0], vec![lower.1, upper.1]);
+        (lent.file.words, lent.pool_words) = (vec![lower.2, upper.2], vec![7, 7]);
         for item in 0..2 {
             // An empty place seldom has an owner, as that hides all else.
-            if lent.numbers[item] != 0 || tester.random.once_in(8) {
-                lent.owners[item] = random_caller(&mut tester.random);
+            if lent.file.numbers[item] != 0 || tester.random.once_in(8) {
+                lent.file.owners[item] = random_caller(&mut tester.random);
             }
         }
         let growth = Growth { expansions: tester.random.below(2) as u32, expanded: 0 };
@@ -142,7 +142,7 @@ fn small_file(tester: &mut Tester) -> (Parameters, Growth, Buffers) {
 
 /// Some held numbers and some others.
 fn some_numbers(tester: &mut Tester, lent: &Buffers, count: usize) -> Vec<u32> {
-    let mut numbers: Vec<u32> = lent.numbers.iter().copied().filter(|&number| number != 0).collect();
+    let mut numbers: Vec<u32> = lent.file.numbers.iter().copied().filter(|&number| number != 0).collect();
     tester.random.shuffle(&mut numbers);
     numbers.truncate(count);
     numbers.extend((0..count).map(|_| tester.random.star_number()));

@@ -146,10 +146,10 @@ impl Tester {
             7 => p.multiplier = random.pick(&[16_806, 16_807, 16_808, 48_270, 48_271, 48_272, value]),
             8 => call.growth.expansions = value,
             9 => call.growth.expanded = value,
-            10 => resize(random, &mut lent.separators),
-            11 => resize(random, &mut lent.numbers),
-            12 => resize(random, &mut lent.words),
-            13 => resize(random, &mut lent.owners),
+            10 => resize(random, &mut lent.file.separators),
+            11 => resize(random, &mut lent.file.numbers),
+            12 => resize(random, &mut lent.file.words),
+            13 => resize(random, &mut lent.file.owners),
             14 => resize(random, &mut lent.pool_numbers),
             15 => resize(random, &mut lent.pool_words),
             16 => resize(random, &mut lent.pool_owners),
@@ -170,15 +170,15 @@ fn clean(call: &Call, lent: &Buffers) -> bool {
 
 /// The stars of all but one owner, in rising order.
 fn others(owner: u8, lent: &Buffers) -> Vec<Star> {
-    let mut stars: Vec<Star> = lent.stars().filter(|star| star.owner != owner).collect();
+    let mut stars: Vec<Star> = lent.file.stars().filter(|star| star.owner != owner).collect();
     stars.sort();
     stars
 }
 
 /// The position that the file holds for a number, if it holds one.
 pub fn stored(lent: &Buffers, number: u32) -> Option<(u32, i32)> {
-    let item = lent.numbers.iter().position(|&other| other == number)?;
-    lent.words.get(item).map(|&word| unpack(word))
+    let item = lent.file.numbers.iter().position(|&other| other == number)?;
+    lent.file.words.get(item).map(|&word| unpack(word))
 }
 
 fn resize<T: Clone + Default>(random: &mut Random, list: &mut Vec<T>) {

@@ -113,7 +113,7 @@ pub fn sound_file(random: &mut Random, parameters: &Parameters, growth: &Growth)
         }
     }
     let mut lent = Buffers::zeros(parameters);
-    write(parameters, &mut lent, 0, &pages);
+    write(parameters, &mut lent.file, 0, &pages);
     lent
 }
 
@@ -144,25 +144,25 @@ pub fn random_pool(random: &mut Random, lent: &mut Buffers) {
 
 /// How many bits the file has.
 pub fn bits(lent: &Buffers) -> usize {
-    8 * lent.separators.len() + (32 + 64 + 8) * lent.numbers.len()
+    8 * lent.file.separators.len() + (32 + 64 + 8) * lent.file.numbers.len()
 }
 
 /// Changes one bit, counted over the separators, then the numbers, then the words, then the owners.
 pub fn flip(lent: &mut Buffers, mut bit: usize) {
-    if bit < 8 * lent.separators.len() {
-        lent.separators[bit / 8] ^= 1 << (bit % 8);
+    if bit < 8 * lent.file.separators.len() {
+        lent.file.separators[bit / 8] ^= 1 << (bit % 8);
         return;
     }
-    bit -= 8 * lent.separators.len();
-    if bit < 32 * lent.numbers.len() {
-        lent.numbers[bit / 32] ^= 1 << (bit % 32);
+    bit -= 8 * lent.file.separators.len();
+    if bit < 32 * lent.file.numbers.len() {
+        lent.file.numbers[bit / 32] ^= 1 << (bit % 32);
         return;
     }
-    bit -= 32 * lent.numbers.len();
-    if bit < 64 * lent.words.len() {
-        lent.words[bit / 64] ^= 1 << (bit % 64);
+    bit -= 32 * lent.file.numbers.len();
+    if bit < 64 * lent.file.words.len() {
+        lent.file.words[bit / 64] ^= 1 << (bit % 64);
         return;
     }
-    bit -= 64 * lent.words.len();
-    lent.owners[bit / 8] ^= 1 << (bit % 8);
+    bit -= 64 * lent.file.words.len();
+    lent.file.owners[bit / 8] ^= 1 << (bit % 8);
 }
