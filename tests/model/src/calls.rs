@@ -59,7 +59,7 @@ fn attempt(call: &Call, lent: &mut Buffers) -> Result<Outcome, Refusal> {
     if !lengths_right(call, lent) {
         return refuse(2);
     }
-    if if call.record.open { call.kind.waits() } else { call.kind == Kind::Step } {
+    if call.out_of_turn() {
         return refuse(16);
     }
     if call.kind.takes_number() && !(1..=HIGHEST_NUMBER).contains(&call.number) {

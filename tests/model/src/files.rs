@@ -3,7 +3,7 @@
 use crate::hashing::{grown, highest_address, home, signature, MULTIPLIERS};
 use crate::placement::{lay_out, pack, write, Page, Star};
 use crate::random::Random;
-use crate::{Buffers, Growth, Kind, Parameters};
+use crate::{Buffers, Growth, Kind, Pages, Parameters, Record};
 
 /// One of the two multipliers.
 pub fn random_multiplier(random: &mut Random) -> u32 {
@@ -140,6 +140,34 @@ pub fn random_pool(random: &mut Random, lent: &mut Buffers) {
     lent.pool_numbers.iter_mut().for_each(|number| *number = if zeros { 0 } else { random.draw() as u32 });
     lent.pool_words.iter_mut().for_each(|word| *word = if zeros { 0 } else { random.draw() });
     lent.pool_owners.iter_mut().for_each(|owner| *owner = if zeros { 0 } else { random.draw() as u8 });
+}
+
+/// A second set of pages of the right lengths with anything in it.
+pub fn random_second(random: &mut Random, lent: &mut Buffers) {
+    let Pages { separators, numbers, words, owners } = &mut lent.second;
+    separators.iter_mut().for_each(|separator| *separator = random.draw() as u8);
+    numbers.iter_mut().for_each(|number| *number = random.draw() as u32);
+    words.iter_mut().for_each(|word| *word = random.draw());
+    owners.iter_mut().for_each(|owner| *owner = random.draw() as u8);
+}
+
+/// The second set after so many steps of a growth that leaves these pages.
+pub fn second_after(parameters: &Parameters, grown: &Pages, steps: u32) -> Pages {
+    let mut second = Pages::empty(parameters);
+    let (pages, items) = (steps as usize, (steps * parameters.places) as usize);
+    second.separators[..pages].copy_from_slice(&grown.separators[..pages]);
+    second.numbers[..items].copy_from_slice(&grown.numbers[..items]);
+    second.words[..items].copy_from_slice(&grown.words[..items]);
+    second.owners[..items].copy_from_slice(&grown.owners[..items]);
+    second
+}
+
+/// A record that now and then says that a growth is open.
+pub fn random_record(random: &mut Random, parameters: &Parameters, growth: Growth) -> Record {
+    let (any, last) = (random.below(parameters.pages.into()) as u32, parameters.pages - 1);
+    let open = Record { growth, open: true, steps: random.pick(&[any, last]) };
+    let closed = Record::closed(growth);
+    random.pick(&[open, closed, closed, closed])
 }
 
 /// How many bits the file has.

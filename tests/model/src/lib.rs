@@ -206,6 +206,15 @@ impl Record {
 }
 
 impl Call {
+    /// Whether a growth is open that the call has to wait for, or none for a step.
+    pub fn out_of_turn(&self) -> bool {
+        if self.record.open {
+            self.kind.waits()
+        } else {
+            self.kind == Kind::Step
+        }
+    }
+
     /// The caller's growth record after the call: a refused make has none to give.
     pub fn record_after(&self, outcome: &Outcome) -> Record {
         if self.kind == Kind::Make && outcome.refusal != 0 {

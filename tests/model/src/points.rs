@@ -1,5 +1,6 @@
 //! Points of the documents that the model and every other implementation must meet. Each panics where one fails.
 
+use crate::files::second_after;
 use crate::hashing::{MODULUS, MULTIPLIERS};
 use crate::placement::{lay_out, pack, Star};
 use crate::session::Session;
@@ -648,42 +649,29 @@ pub fn growth_in_steps(run: Run) {
             session.caller = number as u8;
             session.enter(number);
         }
-        let mut grown = session.clone();
-        let new = grown.grow();
-        assert_eq!(new.refusal, 0);
-        let (pages, places) = (list[6] as usize, list[0] as usize);
-        let mut expected = session.clone();
+        let (mut old, mut grown) = (session.clone(), session.clone());
+        let at_once = grown.grow();
+        assert_eq!(at_once.refusal, 0);
         session.lent.second.separators.fill(1);
         session.lent.second.words.fill(7);
-        fill_pool(&mut session);
-        assert_eq!(spot(session.open_growth()), (0, 0, 0));
-        expected.lent.second = Pages::empty(&session.parameters);
-        for page in 0..pages {
-            expected.record = Record { open: true, steps: page as u32, ..expected.record };
-            assert!(session.lent == expected.lent && session.record == expected.record);
-            let answers =
-                |session: &mut Session| (1..stars + 3).map(|number| session.look_up(number)).collect::<Vec<_>>();
-            let (mut old, before) = (session.clone(), session.clone());
-            old.record = Record::closed(session.record.growth);
-            let unrecorded = |outcome: Outcome| Outcome { record: Record::default(), ..outcome };
-            for (here, there) in answers(&mut session).into_iter().zip(answers(&mut old)) {
-                assert_eq!(unrecorded(here), unrecorded(there));
-            }
-            assert_eq!(unrecorded(session.due()), unrecorded(old.due()));
-            assert_eq!(unrecorded(session.check()), unrecorded(old.check()));
-            assert!(session.lent == before.lent && session.record == before.record);
+        for steps in 0..=list[6] {
             fill_pool(&mut session);
-            let answer = if page + 1 == pages { (0, new.page, 0) } else { (0, 0, 0) };
-            assert_eq!(spot(session.step_growth()), answer);
-            let (second, grown, items) =
-                (&mut expected.lent.second, &grown.lent.file, page * places..(page + 1) * places);
-            second.separators[page] = grown.separators[page];
-            second.numbers[items.clone()].copy_from_slice(&grown.numbers[items.clone()]);
-            second.words[items.clone()].copy_from_slice(&grown.words[items.clone()]);
-            second.owners[items.clone()].copy_from_slice(&grown.owners[items]);
+            let outcome = if steps == 0 { session.open_growth() } else { session.step_growth() };
+            old.lent.second = second_after(&session.parameters, &grown.lent.file, steps);
+            assert!(session.lent == old.lent);
+            if steps == list[6] {
+                assert_eq!(outcome, at_once);
+                break;
+            }
+            let record = Record { open: true, steps, ..old.record };
+            assert_eq!(outcome, Outcome { record, ..Outcome::default() });
+            for number in 1..stars + 3 {
+                assert_eq!(session.look_up(number), Outcome { record, ..old.look_up(number) });
+            }
+            assert_eq!(session.due(), Outcome { record, ..old.due() });
+            assert_eq!(session.check(), Outcome { record, ..old.check() });
         }
-        assert!(session.lent == expected.lent && session.lent.second == grown.lent.file);
-        assert_eq!(session.record, grown.record);
+        assert!(session.lent.second == grown.lent.file && session.record == grown.record);
         assert_eq!(answers(session.step_growth()), (16, 0));
     }
 }
