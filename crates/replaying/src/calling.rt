@@ -3,10 +3,9 @@ ghost use mathlib.Core.Path.{_≡_};
 ghost use Prim.Native.Nat.{_+_, _≤_};
 ghost use lib.ListN.{length};
 ghost use Rattle.placement.specs.Lent.{before, after};
-ghost use Rattle.histories.specs.Call.{step};
 ghost use Rattle.calls.specs.Lent.{poolBefore, poolAfter};
 ghost use Rattle.replaying.specs.Replay.{requestOf};
-ghost use Rattle.replaying.specs.Steps.{pooledRequest, wholeRequest, entryRequest, Steps, Recorded};
+ghost use Rattle.replaying.specs.Steps.{callAt, pooledRequest, wholeRequest, entryRequest, Steps, Recorded};
 use calls::answers::Answer;
 use calls::answers::checked_answer;
 use calls::answers::due_answer;
@@ -38,7 +37,7 @@ fn run_call(
     star: u32,
     position: Position,
 ) -> Stepped
-    ensures { λ r. ⌜ Steps (step parameters growth (before separators numbers words owners) (poolBefore poolnumbers poolwords poolowners) (requestOf kind caller star position))
+    ensures { λ r. ⌜ Steps (callAt parameters growth (before separators numbers words owners) (poolBefore poolnumbers poolwords poolowners) (requestOf kind caller star position))
         r (after separators numbers words owners) (poolAfter poolnumbers poolwords poolowners) ⌝ }
 {
     if kind == 0 {
@@ -96,7 +95,7 @@ fn run_pooled(
     star: u32,
     position: Position,
 ) -> Stepped
-    ensures { λ r. ⌜ Steps (step parameters growth (before separators numbers words owners) (poolBefore poolnumbers poolwords poolowners) (pooledRequest kind caller star position))
+    ensures { λ r. ⌜ Steps (callAt parameters growth (before separators numbers words owners) (poolBefore poolnumbers poolwords poolowners) (pooledRequest kind caller star position))
         r (after separators numbers words owners) (poolAfter poolnumbers poolwords poolowners) ⌝ }
 {
     if kind == 1 || kind == 8 {
@@ -162,7 +161,7 @@ fn run_entry(
     star: u32,
     position: Position,
 ) -> Stepped
-    ensures { λ r. ⌜ Steps (step parameters growth (before separators numbers words owners) (poolBefore poolnumbers poolwords poolowners) (entryRequest kind caller star position))
+    ensures { λ r. ⌜ Steps (callAt parameters growth (before separators numbers words owners) (poolBefore poolnumbers poolwords poolowners) (entryRequest kind caller star position))
         r (after separators numbers words owners) (poolAfter poolnumbers poolwords poolowners) ⌝ }
 {
     if kind == 8 {
@@ -212,7 +211,7 @@ fn run_whole(
     poolowners: &mut [u8],
     kind: u8,
 ) -> Stepped
-    ensures { λ r. ⌜ Steps (step parameters growth (before separators numbers words owners) (poolBefore poolnumbers poolwords poolowners) (wholeRequest kind))
+    ensures { λ r. ⌜ Steps (callAt parameters growth (before separators numbers words owners) (poolBefore poolnumbers poolwords poolowners) (wholeRequest kind))
         r (after separators numbers words owners) (poolAfter poolnumbers poolwords poolowners) ⌝ }
 {
     if kind == 4 {
@@ -284,7 +283,7 @@ pub fn replay_step(
     at: usize,
 ) -> Growth
     requires { ⌜ at + 8 ≤ length (now answers) ⌝ }
-    ensures { λ r. ⌜ Recorded (step parameters growth (before separators numbers words owners) (poolBefore poolnumbers poolwords poolowners) (requestOf kind caller star position))
+    ensures { λ r. ⌜ Recorded (callAt parameters growth (before separators numbers words owners) (poolBefore poolnumbers poolwords poolowners) (requestOf kind caller star position))
         (now (answers .entry)) at r (now (answers .exit)) (after separators numbers words owners) (poolAfter poolnumbers poolwords poolowners) ⌝ }
 {
     let stepped = run_call(
