@@ -115,7 +115,7 @@ pub fn shrink(
 }
 
 // The record after a call with nothing open.
-fn at_rest_after(grown: Grown) -> Recorded
+pub fn at_rest_after(grown: Grown) -> Recorded
     ensures { λ r. ⌜ r ≡ restored grown ⌝ }
 {
     let answer = grown.answer;

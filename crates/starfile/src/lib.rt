@@ -7,5 +7,7 @@ pub use records::enter;
 pub use records::grow;
 pub use records::look_up;
 pub use records::make;
+pub use records::open_growth;
 pub use records::remove;
 pub use records::shrink;
+pub use records::step_growth;
