@@ -5,13 +5,12 @@ ghost use Rattle.calls.specs.Answers.{Leaves, unpooled, placed};
 ghost use Rattle.calls.specs.Calls.{makeOf};
 ghost use Rattle.calls.specs.Lent.{poolBefore, poolAfter};
 ghost use Rattle.calls.specs.Records.{growUnder, shrinkUnder, recordAfter, closed};
-ghost use Rattle.records.specs.Turn.{restored};
-use crate::turns::at_rest;
-use crate::turns::turn_away;
-use calls::answers::Grown;
 use calls::records::GrowthRecord;
 use calls::records::Recorded;
 use hashing::Parameters;
+use turns::at_rest;
+use turns::at_rest_after;
+use turns::turn_away;
 
 // The file is left as document 01's empty file. "a new file has none open"
 pub fn make(
@@ -112,18 +111,4 @@ pub fn shrink(
         poolwords,
         poolowners,
     ))
-}
-
-// The record after a call with nothing open.
-pub fn at_rest_after(grown: Grown) -> Recorded
-    ensures { λ r. ⌜ r ≡ restored grown ⌝ }
-{
-    let answer = grown.answer;
-    let state = grown.growth;
-    let growth = GrowthRecord {
-        state,
-        growing: false,
-        steps: 0,
-    };
-    Recorded { answer, growth }
 }

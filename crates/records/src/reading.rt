@@ -4,13 +4,13 @@ ghost use Rattle.placement.specs.Lent.{before};
 ghost use Rattle.calls.specs.Answers.{Leaves, unpooled, sought, dueSaid, checked};
 ghost use Rattle.calls.specs.Lent.{poolBefore, poolAfter};
 ghost use Rattle.calls.specs.Records.{lookUpUnder, dueUnder, checkUnder};
-use crate::turns::steps_valid;
 use calls::answers::Checked;
 use calls::answers::Due;
 use calls::answers::Found;
 use calls::answers::Refusal;
 use calls::records::GrowthRecord;
 use hashing::Parameters;
+use turns::steps_valid;
 
 // Reads the separators and the one page that they name.
 pub fn look_up(

@@ -3,14 +3,14 @@ ghost use Rattle.placement.specs.Lent.{held, before, after};
 ghost use Rattle.calls.specs.Answers.{Leaves, unpooled, placed};
 ghost use Rattle.calls.specs.Lent.{poolBefore, poolAfter};
 ghost use Rattle.calls.specs.Records.{enterUnder, cascadeUnder, changeUnder, removeUnder};
-use crate::turns::at_rest;
-use crate::turns::out_of_turn;
-use crate::turns::turn_away;
 use calls::answers::Placed;
 use calls::records::GrowthRecord;
 use guarding::file_fits;
 use hashing::Parameters;
 use pages::position::Position;
+use turns::at_rest;
+use turns::out_of_turn;
+use turns::turn_away;
 
 // The answer of an accepted entry is the page where the star now stands, its caller's. Entering a held star with its own position changes nothing.
 pub fn enter(

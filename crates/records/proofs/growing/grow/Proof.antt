@@ -1,7 +1,7 @@
 -- `records::growing::grow` meets its contract.
 use Rattle.hashing.proofs.Bounds.{passed, failed}
 use Rattle.calls.specs.Records.{growUnder}
-use Rattle.records.proofs.Turned.{record-stays, moved-by}
+use Rattle.turns.proofs.Turned.{record-stays, moved-by}
 use borrow.Author.Needs.{needs}
 use Rattle.records.proofs.growing.grow.Statement.{statement}
 use Rattle.records.proofs.growing.grow.Tie as tie

@@ -1,5 +1,5 @@
 -- `records::growing::make` meets its contract.
-use Rattle.records.proofs.Turned.{restored-by}
+use Rattle.turns.proofs.Turned.{restored-by}
 use borrow.Author.Needs.{needs}
 use Rattle.records.proofs.growing.make.Statement.{statement}
 use Rattle.records.proofs.growing.make.Tie as tie

@@ -1,7 +1,7 @@
 -- `records::growing::shrink` meets its contract.
 use Rattle.hashing.proofs.Bounds.{passed, failed}
 use Rattle.calls.specs.Records.{shrinkUnder}
-use Rattle.records.proofs.Turned.{record-stays, moved-by}
+use Rattle.turns.proofs.Turned.{record-stays, moved-by}
 use borrow.Author.Needs.{needs}
 use Rattle.records.proofs.growing.shrink.Statement.{statement}
 use Rattle.records.proofs.growing.shrink.Tie as tie

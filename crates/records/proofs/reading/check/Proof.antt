@@ -3,7 +3,7 @@ use Rattle.hashing.proofs.Bounds.{passed, failed}
 use Rattle.calls.specs.Answers.{checked, refusedBy}
 use Rattle.calls.specs.Records.{checkUnder}
 use Rattle.calls.proofs.Refusals.{leaves}
-use Rattle.records.proofs.Turned.{misrecorded}
+use Rattle.turns.proofs.Turned.{misrecorded}
 use borrow.Author.Needs.{needs}
 use Rattle.records.proofs.reading.check.Statement.{statement}
 use Rattle.records.proofs.reading.check.Tie as tie

@@ -1,7 +1,7 @@
 -- `records::writing::cascade` meets its contract.
 use Rattle.hashing.proofs.Bounds.{passed, failed}
 use Rattle.calls.specs.Records.{cascadeUnder}
-use Rattle.records.proofs.Turned.{in-turn}
+use Rattle.turns.proofs.Turned.{in-turn}
 use borrow.Author.Needs.{needs}
 use Rattle.records.proofs.writing.cascade.Statement.{statement}
 use Rattle.records.proofs.writing.cascade.Tie as tie

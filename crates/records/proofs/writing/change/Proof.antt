@@ -5,7 +5,7 @@ use Rattle.hashing.proofs.Bounds.{passed, failed}
 use Rattle.calls.specs.Answers.{placed}
 use Rattle.calls.specs.Calls.{fileFits}
 use Rattle.calls.specs.Records.{changeUnder}
-use Rattle.records.proofs.Turned.{measured, in-turn}
+use Rattle.turns.proofs.Turned.{measured, in-turn}
 use borrow.Author.Needs.{needs}
 use Rattle.records.proofs.writing.change.Statement.{statement}
 use Rattle.records.proofs.writing.change.Tie as tie
