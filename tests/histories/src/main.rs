@@ -28,7 +28,7 @@ const SCENARIOS: [Scenario; 16] = [
     ("same stars", 1_200, 400, scenarios::same_stars),
     ("large histories", 24, 10, scenarios::large_history),
     ("largest histories", 6, 4, scenarios::largest_history),
-    ("large growths in steps", 8, 4, scenarios::large_steps),
+    ("large growths in steps", 24, 10, scenarios::large_steps),
     ("long cascades", 1, 1, scenarios::long_cascade),
 ];
 

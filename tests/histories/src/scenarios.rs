@@ -124,8 +124,12 @@ pub fn growths_in_steps(tester: &mut Tester) {
 pub fn large_steps(tester: &mut Tester) {
     let list = tester.random.pick(&LARGE);
     let parameters = Parameters::new(list).under(random_multiplier(&mut tester.random));
-    let growth = random_growth(&mut tester.random, &parameters);
-    let mut lent = clean_file(&mut tester.random, &parameters, &growth, 60);
+    // Often the last growth that there can be.
+    let growths = u64::from(parameters.pages - parameters.width * parameters.groups).saturating_sub(1);
+    let fewer = tester.random.below(growths + 1);
+    let growth = growth_after(&parameters, tester.random.pick(&[fewer, growths, growths]));
+    let percent = tester.random.pick(&[60, 90]);
+    let mut lent = clean_file(&mut tester.random, &parameters, &growth, percent);
     random_second(&mut tester.random, &mut lent);
     random_pool(&mut tester.random, &mut lent);
     let record = Record::closed(growth);
