@@ -36,12 +36,12 @@ unfoldable pub validSteps : Parameters → GrowthRecord → Bool
 validSteps p r = cond (r .growing) (ltb (r .steps) (p .pages)) (eqb (r .steps) 0)
 
 -- a record with nothing open; "a new file has none open"
-abbrev pub closed : Growth → GrowthRecord
-closed g = record { state = g; growing = false; steps = 0 }
+abbrev pub closedRecord : Growth → GrowthRecord
+closedRecord g = record { state = g; growing = false; steps = 0 }
 
 -- a record with a growth open, of which so many steps are done
-abbrev pub opened : Growth → ℕ → GrowthRecord
-opened g steps = record { state = g; growing = true; steps = steps }
+abbrev pub openRecord : Growth → ℕ → GrowthRecord
+openRecord g steps = record { state = g; growing = true; steps = steps }
 
 -- Calls under a record
 
@@ -121,7 +121,7 @@ growthAccepted p r f pool = eqb (wholeGrowth p r f pool .answer .refusal) 0
 unfoldable pub openOn : Parameters → GrowthRecord → File → File → Pool → AfterStep
 openOn p r f second pool =
     cond (growthAccepted p r f pool)
-    (record { answer = accepted 0; growth = opened (r .state) 0; second = emptyFile p; pool = pool })
+    (record { answer = accepted 0; growth = openRecord (r .state) 0; second = emptyFile p; pool = pool })
     (notStepped r second pool (wholeGrowth p r f pool .answer))
 
 -- 16 if one is open already
@@ -142,13 +142,13 @@ stepOn p r f second pool =
     (cond (eqb (suc (r .steps)) (p .pages))
     (record {
       answer = wholeGrowth p r f pool .answer;
-      growth = closed (wholeGrowth p r f pool .growth);
+      growth = closedRecord (wholeGrowth p r f pool .growth);
       second = withPage p r f second pool (r .steps);
       pool = pool;
     })
     (record {
       answer = accepted 0;
-      growth = opened (r .state) (suc (r .steps));
+      growth = openRecord (r .state) (suc (r .steps));
       second = withPage p r f second pool (r .steps);
       pool = pool;
     }))

@@ -19,7 +19,7 @@ use Rattle.calls.specs.Answers.{Pool, After, spotted, acceptedAt, accepted, ref
 use Rattle.calls.specs.Calls.{fileFits, poolFits, unlent, unchanged, emptyFile, lookUpOf, enterOf, cascadeOf, changeOf, removeOf, growOn, growOf, shrinkOf, checkOf}
 use Rattle.calls.specs.Records.{
   validSteps,
-  opened,
+  openRecord,
   unlessOpen,
   lookUpUnder,
   enterUnder,
@@ -125,7 +125,7 @@ module _ (p : Parameters) (r : GrowthRecord) (f : File) (pool : Pool) (v : valid
       where
         go : (whole : After) (b : Bool) → eqb (whole .answer .refusal) 0 ≡ b
             → cond b
-            (record { answer = accepted 0; growth = opened (r .state) 0; second = emptyFile p; pool = cleared pool })
+            (record { answer = accepted 0; growth = openRecord (r .state) 0; second = emptyFile p; pool = cleared pool })
             (notStepped r second (cleared pool) (whole .answer)) .answer .refusal
             ≡ whole .answer .refusal
         go whole true d = sym (eqb-true (whole .answer .refusal) 0 d)

@@ -17,8 +17,8 @@ use Rattle.calls.specs.Answers.{Pool, After, spotted, accepted, refused, cleare
 use Rattle.calls.specs.Calls.{fileFits, poolFits, unless, guarded, unchanged, emptyFile, growOn}
 use Rattle.calls.specs.Records.{
   validSteps,
-  closed,
-  opened,
+  closedRecord,
+  openRecord,
   lookUpUnder,
   enterUnder,
   cascadeUnder,
@@ -56,11 +56,11 @@ use Rattle.histories.proofs.Check.{check-conforms}
 use Rattle.histories.proofs.Unfinished.{none-done, one-more, all-done, unfinished-fits}
 
 -- Valid records.
-closed-valid : (p : Parameters) (g : Growth) → validSteps p (closed g) ≡ true
+closed-valid : (p : Parameters) (g : Growth) → validSteps p (closedRecord g) ≡ true
 unfolding validSteps
 closed-valid p g = refl
 
-opened-valid : (p : Parameters) (g : Growth) (j : ℕ) → j < p .pages → validSteps p (opened g j) ≡ true
+opened-valid : (p : Parameters) (g : Growth) (j : ℕ) → j < p .pages → validSteps p (openRecord g j) ≡ true
 unfolding validSteps
 opened-valid p g j h = lt-ltb j (p .pages) h
 
@@ -85,7 +85,7 @@ module _ (p : Parameters) (m : Model) (t : Fitting p m) (second : File) where
   grows pool = rw (regrows p m t pool (grown p g) (pageCount p g))
 
   -- With no growth open a call on the file is the call under the growth state.
-  at-rest : (q : Request) (a : After) → Conforms p m q a → ConformsUnder p m (closed g) q (onFile (closed g) second a)
+  at-rest : (q : Request) (a : After) → Conforms p m q a → ConformsUnder p m (closedRecord g) q (onFile (closedRecord g) second a)
   unfolding finishes
   at-rest q a c =
       record {
@@ -95,25 +95,25 @@ module _ (p : Parameters) (m : Model) (t : Fitting p m) (second : File) where
       }
 
   rest-refused : (q : Request) (pool : Pool) (a : Answer) → (a .refusal ≡ 0 → ⊥) → (a .refusal ≡ 5 → ⊥)
-      → ConformsUnder p m (closed g) q (record { answer = a; growth = closed g; file = f; second = second; pool = pool })
+      → ConformsUnder p m (closedRecord g) q (record { answer = a; growth = closedRecord g; file = f; second = second; pool = pool })
   rest-refused q pool a z d = at-rest q (unchanged g f pool a) (refused-conforms p m t q pool a z d)
 
   -- an opening, by what the growth would answer
   abbrev openedBy : File → Pool → After → AfterStep
   openedBy set pool whole =
       cond (eqb (whole .answer .refusal) 0)
-      (record { answer = accepted 0; growth = opened g 0; second = emptyFile p; pool = pool })
-      (notStepped (closed g) set pool (whole .answer))
+      (record { answer = accepted 0; growth = openRecord g 0; second = emptyFile p; pool = pool })
+      (notStepped (closedRecord g) set pool (whole .answer))
 
-  opens : (set : File) (pool : Pool) → ConformsUnder p m (closed g) openGrowth (onOpening f second (openUnder p (closed g) f set pool))
+  opens : (set : File) (pool : Pool) → ConformsUnder p m (closedRecord g) openGrowth (onOpening f second (openUnder p (closedRecord g) f set pool))
   unfolding openUnder stepRefusal openOn spotted isAccepted finishes fed updated
   opens set pool =
       rw (closed-valid p g, lent-pool p m t (fileFits p set && poolFits p pool), grows (cleared pool))
       (go (fileFits p set && poolFits p pool) (eqb (highest p g) (p .pages - 1)) refl (carried p m (grown p g)) refl)
     where
       go : (fits none : Bool) → eqb (highest p g) (p .pages - 1) ≡ none → (l : List Star) → carried p m (grown p g) ≡ l
-          → ConformsUnder p m (closed g) openGrowth
-          (onOpening f second (guardedStep (closed g) set pool (unless fits 2) (openedBy set (cleared pool) (grew (cleared pool) none l))))
+          → ConformsUnder p m (closedRecord g) openGrowth
+          (onOpening f second (guardedStep (closedRecord g) set pool (unless fits 2) (openedBy set (cleared pool) (grew (cleared pool) none l))))
       go false none e l d = rest-refused openGrowth pool (refused 2 0) (λ z. omega arith) (λ z. omega arith)
       go true true e l d = rest-refused openGrowth (cleared pool) (refused 8 0) (λ z. omega arith) (λ z. omega arith)
       go true false e (s ∷ l) d = rest-refused openGrowth (cleared pool) (refused 8 0) (λ z. omega arith) (λ z. omega arith)
@@ -132,17 +132,17 @@ module _ (p : Parameters) (m : Model) (t : Fitting p m) (second : File) where
             found = λ k z _. cc;
           }
 
-  not-stepped : (pool : Pool) → ConformsUnder p m (closed g) stepGrowth (onStep (closed g) f (stepUnder p (closed g) f second pool))
+  not-stepped : (pool : Pool) → ConformsUnder p m (closedRecord g) stepGrowth (onStep (closedRecord g) f (stepUnder p (closedRecord g) f second pool))
   unfolding stepUnder stepRefusal spotted finishes
   not-stepped pool = rw (closed-valid p g, lent-pool p m t (fileFits p second && poolFits p pool)) (go (fileFits p second && poolFits p pool))
     where
       go : (fits : Bool)
-          → ConformsUnder p m (closed g) stepGrowth
-          (onStep (closed g) f (guardedStep (closed g) second pool (unless fits 2) (notStepped (closed g) second (cleared pool) (refused 16 0))))
+          → ConformsUnder p m (closedRecord g) stepGrowth
+          (onStep (closedRecord g) f (guardedStep (closedRecord g) second pool (unless fits 2) (notStepped (closedRecord g) second (cleared pool) (refused 16 0))))
       go false = rest-refused stepGrowth pool (refused 2 0) (λ z. omega arith) (λ z. omega arith)
       go true = rest-refused stepGrowth (cleared pool) (refused 16 0) (λ z. omega arith) (λ z. omega arith)
 
-  pub rest-conforms : (set : File) (pool : Pool) (q : Request) → ConformsUnder p m (closed g) q (step p (closed g) f second set pool q)
+  pub rest-conforms : (set : File) (pool : Pool) (q : Request) → ConformsUnder p m (closedRecord g) q (step p (closedRecord g) f second set pool q)
   unfolding step lookUpUnder enterUnder cascadeUnder changeUnder removeUnder growUnder shrinkUnder dueUnder checkUnder
   rest-conforms set pool (lookUp k) = rw (closed-valid p g) (at-rest (lookUp k) _ (look-up-conforms p m t pool k))
   rest-conforms set pool (enter caller k q) = rw (closed-valid p g) (at-rest (enter caller k q) _ (enter-conforms p m t caller k q pool))
@@ -159,7 +159,7 @@ module _ (p : Parameters) (m : Model) (t : Fitting p m) (second : File) where
   -- While a growth is open.
   module _ (j : ℕ) (u : Unfinished p m j second) where
     abbrev r : GrowthRecord
-    r = opened g j
+    r = openRecord g j
 
     valid : validSteps p r ≡ true
     valid = opened-valid p g j (u .inside)
@@ -207,8 +207,8 @@ module _ (p : Parameters) (m : Model) (t : Fitting p m) (second : File) where
     abbrev steppedTo : Pool → Bool → AfterStep
     steppedTo pool last =
         cond last
-        (record { answer = accepted (pageCount p g); growth = closed (grown p g); second = unfinishedFile p m (suc j); pool = pool })
-        (record { answer = accepted 0; growth = opened g (suc j); second = unfinishedFile p m (suc j); pool = pool })
+        (record { answer = accepted (pageCount p g); growth = closedRecord (grown p g); second = unfinishedFile p m (suc j); pool = pool })
+        (record { answer = accepted 0; growth = openRecord g (suc j); second = unfinishedFile p m (suc j); pool = pool })
 
     steps-to : (pool : Pool) → stepOn p r f second pool ≡ steppedTo pool (eqb (suc j) (p .pages))
     unfolding stepOn withPage spotted
@@ -282,10 +282,10 @@ module _ (p : Parameters) (m : Model) (r : GrowthRecord) (f second : File) (x : 
   unfolding validSteps
   none-done-yet e = eqb-true (r .steps) 0 (rw e at (x .steps))
 
-  pub is-closed : r .growing ≡ false → r ≡ closed (m .growth)
+  pub is-closed : r .growing ≡ false → r ≡ closedRecord (m .growth)
   is-closed e = let z = none-done-yet e in λ i. record { state = x .growth i; growing = e i; steps = z i }
 
-  pub is-opened : r .growing ≡ true → r ≡ opened (m .growth) (r .steps)
+  pub is-opened : r .growing ≡ true → r ≡ openRecord (m .growth) (r .steps)
   is-opened e = λ i. record { state = x .growth i; growing = e i; steps = r .steps }
 
 -- one law for every call

@@ -8,7 +8,7 @@ use Rattle.calls.specs.declared.answers.Answer.{Answer}
 use Rattle.calls.specs.declared.records.GrowthRecord.{GrowthRecord}
 use Rattle.calls.specs.Answers.{Pool}
 use Rattle.calls.specs.Calls.{makeOf}
-use Rattle.calls.specs.Records.{closed}
+use Rattle.calls.specs.Records.{closedRecord}
 use Rattle.histories.specs.Model.{Model, Request, grow, emptyModel, fed}
 use Rattle.histories.specs.Call.{Call, Outcome, step, finishes, isAccepted}
 
@@ -23,7 +23,7 @@ pub record HistoryState : Type 0 where
 
 -- a state whose model is still empty; "a new file has none open"
 abbrev pub fresh : Parameters → Growth → File → File → HistoryState
-fresh p g f second = record { parameters = p; growth = closed g; file = f; second = second; model = emptyModel }
+fresh p g f second = record { parameters = p; growth = closedRecord g; file = f; second = second; model = emptyModel }
 
 -- "from the empty file that making one left"; the second set may be any
 unfoldable pub initial : Parameters → File → File → Pool → HistoryState

@@ -4,7 +4,7 @@ ghost use Rattle.placement.specs.Lent.{before, after};
 ghost use Rattle.calls.specs.Answers.{Leaves, unpooled, placed};
 ghost use Rattle.calls.specs.Calls.{makeOf};
 ghost use Rattle.calls.specs.Lent.{poolBefore, poolAfter};
-ghost use Rattle.calls.specs.Records.{growUnder, shrinkUnder, recordAfter, closed};
+ghost use Rattle.calls.specs.Records.{growUnder, shrinkUnder, recordAfter, closedRecord};
 use calls::records::GrowthRecord;
 use calls::records::Recorded;
 use hashing::Parameters;
@@ -22,7 +22,7 @@ pub fn make(
 ) -> Recorded
     ensures { λ r. ⌜ Leaves (makeOf parameters (before separators numbers words owners) unpooled)
         (placed (r .answer)) (after separators numbers words owners) unpooled ⌝ }
-    ensures { λ r. ⌜ r .growth ≡ closed (makeOf parameters (before separators numbers words owners) unpooled .growth) ⌝ }
+    ensures { λ r. ⌜ r .growth ≡ closedRecord (makeOf parameters (before separators numbers words owners) unpooled .growth) ⌝ }
 {
     at_rest_after(making::make(parameters, separators, numbers, words, owners))
 }

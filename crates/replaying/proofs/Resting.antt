@@ -11,7 +11,7 @@ use Rattle.calls.specs.declared.records.GrowthRecord.{GrowthRecord}
 use Rattle.calls.specs.Answers.{Pool}
 use Rattle.calls.specs.Records.{
   validSteps,
-  closed,
+  closedRecord,
   lookUpUnder,
   enterUnder,
   cascadeUnder,
@@ -40,8 +40,8 @@ module _ (p : Parameters) (f second set : File) (pool : Pool) (kind caller k : �
       (cond is2 (change caller k q) (cond is3 (remove caller k) (cond is4 grow (cond is5 due (cond is7 shrink check)))))))
 
   each-kind : (g : Growth) (is0 is1 is8 is2 is3 is4 is5 is7 : Bool)
-      → step p (closed g) f second set pool (by is0 is1 is8 is2 is3 is4 is5 is7)
-      ≡ onFile (closed g) second (callAt p g f pool (by is0 is1 is8 is2 is3 is4 is5 is7))
+      → step p (closedRecord g) f second set pool (by is0 is1 is8 is2 is3 is4 is5 is7)
+      ≡ onFile (closedRecord g) second (callAt p g f pool (by is0 is1 is8 is2 is3 is4 is5 is7))
   unfolding step callAt lookUpUnder enterUnder cascadeUnder changeUnder removeUnder growUnder shrinkUnder dueUnder checkUnder validSteps
   each-kind g true is1 is8 is2 is3 is4 is5 is7 = refl
   each-kind g false true is8 is2 is3 is4 is5 is7 = refl
@@ -54,15 +54,15 @@ module _ (p : Parameters) (f second set : File) (pool : Pool) (kind caller k : �
   each-kind g false false false false false false false false = refl
 
   pub at-rest : (g : Growth)
-      → step p (closed g) f second set pool (requestOf kind caller k q) ≡ onFile (closed g) second (callAt p g f pool (requestOf kind caller k q))
+      → step p (closedRecord g) f second set pool (requestOf kind caller k q) ≡ onFile (closedRecord g) second (callAt p g f pool (requestOf kind caller k q))
   unfolding requestOf
   at-rest g = each-kind g (eqb kind 0) (eqb kind 1) (eqb kind 8) (eqb kind 2) (eqb kind 3) (eqb kind 4) (eqb kind 5) (eqb kind 7)
 
   -- so a closed record is closed after it
-  pub closed-after : (r : GrowthRecord) → r ≡ closed (r .state)
-      → step p r f second set pool (requestOf kind caller k q) .growth ≡ closed (step p r f second set pool (requestOf kind caller k q) .growth .state)
+  pub closed-after : (r : GrowthRecord) → r ≡ closedRecord (r .state)
+      → step p r f second set pool (requestOf kind caller k q) .growth ≡ closedRecord (step p r f second set pool (requestOf kind caller k q) .growth .state)
   closed-after r e =
-      let a : step p r f second set pool (requestOf kind caller k q) .growth ≡ closed (callAt p (r .state) f pool (requestOf kind caller k q) .growth) =
+      let a : step p r f second set pool (requestOf kind caller k q) .growth ≡ closedRecord (callAt p (r .state) f pool (requestOf kind caller k q) .growth) =
       ap (λ (s : GrowthRecord). step p s f second set pool (requestOf kind caller k q) .growth) e
       ∙ ap (λ (o : Outcome). o .growth) (at-rest (r .state)) in
-      a ∙ ap (λ (s : GrowthRecord). closed (s .state)) (sym a)
+      a ∙ ap (λ (s : GrowthRecord). closedRecord (s .state)) (sym a)

@@ -12,7 +12,7 @@ use Rattle.hashing.specs.declared.Growth.{Growth}
 use Rattle.placement.specs.File.{File}
 use Rattle.calls.specs.declared.answers.Answer.{Answer}
 use Rattle.calls.specs.Answers.{Pool, After}
-use Rattle.calls.specs.Records.{closed}
+use Rattle.calls.specs.Records.{closedRecord}
 use Rattle.histories.specs.Model.{Request}
 use Rattle.histories.specs.Call.{Call, callOf, Outcome, onFile}
 use Rattle.histories.specs.Run.{HistoryState, fresh, outcome, next, events, end}
@@ -53,8 +53,8 @@ answers-snoc s pool (x ∷ rs) r =
     (sym (append-assoc (encoded (outcome s (callOf pool (s .second) x) .answer)) _ _))
 
 -- No growth is open after requests of a lent history.
-pub none-open : (s : HistoryState) (pool : Pool) (h : LentHistory) (i : ℕ) → s .growth ≡ closed (s .growth .state)
-    → after s pool (requestsTo h i) .growth ≡ closed (after s pool (requestsTo h i) .growth .state)
+pub none-open : (s : HistoryState) (pool : Pool) (h : LentHistory) (i : ℕ) → s .growth ≡ closedRecord (s .growth .state)
+    → after s pool (requestsTo h i) .growth ≡ closedRecord (after s pool (requestsTo h i) .growth .state)
 unfolding requestsTo historyFrom end next outcome
 none-open s pool h zero e = e
 none-open s pool h (suc i) e =
@@ -130,7 +130,7 @@ module _ (p : Parameters) (h : LentHistory) (growth₀ : Growth) (file₀ : File
     abbrev called : After
     called = callAt p growth file pool (requestAt h i)
 
-    same-step : onFile (closed growth) (state .second) called ≡ this
+    same-step : onFile (closedRecord growth) (state .second) called ≡ this
     unfolding outcome
     same-step =
         rw (end-keeps (fresh p growth₀ file₀ noSecond) (historyFrom (fresh p growth₀ file₀ noSecond) pool₀ (requestsTo h i)), ← t .runs .growths, ← t .runs .files, ← t .runs .pools)
@@ -159,7 +159,7 @@ module _ (p : Parameters) (h : LentHistory) (growth₀ : Growth) (file₀ : File
                     ∙ written-behind (so-far i) answers₀ answers (encoded (this .answer)) (i * 8) (t .counted) (t .runs .answersAre)
                     ∙ rw (eight (this .answer), answers-snoc s pool₀ rs r, suc-mul i 8);
                 growths =
-                    ap closed (w .growths) ∙ ap (λ (o : Outcome). o .growth) same-step
+                    ap closedRecord (w .growths) ∙ ap (λ (o : Outcome). o .growth) same-step
                     ∙ sym (ap (λ (x : HistoryState). x .growth) (end-snoc s pool₀ rs r));
                 files =
                     w .files ∙ ap (λ (o : Outcome). o .file) same-step

@@ -13,7 +13,7 @@ use Rattle.pages.specs.declared.position.Position.{Position}
 use Rattle.placement.specs.File.{File}
 use Rattle.calls.specs.Answers.{Pool, refusalNumber, lent, unpooled}
 use Rattle.calls.specs.Calls.{unless, orElse, makeOf}
-use Rattle.calls.specs.Records.{closed}
+use Rattle.calls.specs.Records.{closedRecord}
 unfoldable pub use Rattle.recording.specs.Rows.{encoded}
 use Rattle.replaying.specs.declared.replaying.Replayed.{Replayed}
 use Rattle.replaying.specs.declared.replaying.Replayed.the-variants.{Done, BadKind, Refused}
@@ -167,7 +167,7 @@ pub record AsReplayed (p : Parameters) (f : File) (pool : Pool) (h : LentHistory
   pub asModel : AsModel (startOf p f) (historyOf p f pool h)
   pub fileIs : replayOf p f pool h answers .file ≡ modelFile p (end (startOf p f) (historyOf p f pool h) .model)
   pub growthIs : replayOf p f pool h answers .growth ≡ end (startOf p f) (historyOf p f pool h) .model .growth
-  pub noneOpen : end (startOf p f) (historyOf p f pool h) .growth ≡ closed (replayOf p f pool h answers .growth)
+  pub noneOpen : end (startOf p f) (historyOf p f pool h) .growth ≡ closedRecord (replayOf p f pool h answers .growth)
 
 abbrev pub EveryReplay : Type 0
 EveryReplay =

@@ -12,7 +12,7 @@ use Rattle.pages.specs.declared.position.Position.{Position}
 use Rattle.placement.specs.File.{File}
 use Rattle.calls.specs.Answers.{Pool, After, refused}
 use Rattle.calls.specs.Calls.{unchanged, lookUpOf, enterOf, cascadeOf, changeOf, removeOf, growOf, shrinkOf, dueOf, checkOf}
-use Rattle.calls.specs.Records.{closed}
+use Rattle.calls.specs.Records.{closedRecord}
 use Rattle.replaying.specs.declared.calling.Stepped.{Stepped}
 use Rattle.histories.specs.Model.{Request, lookUp, enter, cascade, change, remove, grow, shrink, due, check, openGrowth, stepGrowth}
 use Rattle.histories.specs.Run.{HistoryState, events, end}
@@ -72,6 +72,6 @@ pub record Even (h : LentHistory) (answers : List ℕ) : Type 0 where
 pub record Runs (s : HistoryState) (before : Pool) (rs : List Request) (later : List ℕ)
     (growth : Growth) (answers : List ℕ) (file : File) (pool : Pool) : Type 0 where
   pub answersAre : answers ≡ eventAnswers (events s (historyFrom s before rs)) ++ later
-  pub growths : closed growth ≡ end s (historyFrom s before rs) .growth
+  pub growths : closedRecord growth ≡ end s (historyFrom s before rs) .growth
   pub files : file ≡ end s (historyFrom s before rs) .file
   pub pools : pool ≡ lastPool s before rs

@@ -45,7 +45,7 @@ use Rattle.calls.specs.declared.records.Recorded.{Recorded}
 use Rattle.calls.specs.Answers.{Pool, admissionNumber, refusalNumber, refusedBy, spotted, placed, cleared}
 use Rattle.calls.specs.Calls.{unless, orElse, unlent, fileFits, poolFits, emptyFile, growOn}
 use Rattle.calls.specs.Lent.{Admitted}
-use Rattle.calls.specs.Records.{validSteps, closed, opened, AfterStep, guardedStep, stepRefusal, growthAccepted, openOn, stepOn, withPage, LeavesStep}
+use Rattle.calls.specs.Records.{validSteps, closedRecord, openRecord, AfterStep, guardedStep, stepRefusal, growthAccepted, openOn, stepOn, withPage, LeavesStep}
 use Rattle.calls.proofs.Numbers.{numbered}
 use Rattle.calls.proofs.Refusals.{unlent-facts, sized, pool-sized}
 use Rattle.answering.specs.Outcomes.{outcomeGrown, unmovedBy}
@@ -151,7 +151,7 @@ module _ (p : Parameters) (r : GrowthRecord) (f second : File) where
   open-refused a e grows fails pool = rw (e, accepts p (r .state) f a grows fails pool) (record { answers = grows pool .0; growths = refl; seconds = refl })
 
   pub open-accepted : (a : Grown) {left : File} → r .growing ≡ false → GrowsAs p (r .state) f a → acceptedBy (a .answer) ≡ true → left ≡ emptyFile p → (pool : Pool)
-      → StoresStep (openAdmitted p r f second pool) (record { answer = On 0 0; growth = opened (r .state) 0 }) left
+      → StoresStep (openAdmitted p r f second pool) (record { answer = On 0 0; growth = openRecord (r .state) 0 }) left
   unfolding openOn placed
   open-accepted a e grows took is pool = rw (e, accepts p (r .state) f a grows took pool) (record { answers = refl; growths = refl; seconds = is })
 
@@ -172,7 +172,7 @@ module _ (p : Parameters) (r : GrowthRecord) (f second : File) where
       go true took true last =
           let is = accepts p (r .state) f a grows took pool in
           let paged = rw (is) at (steps pool) in
-          rw (told, e, is, took, last) (record { answers = grows pool .0; growths = ap (λ (g : Growth). closed g) (grows pool .1); seconds = paged })
+          rw (told, e, is, took, last) (record { answers = grows pool .0; growths = ap (λ (g : Growth). closedRecord g) (grows pool .1); seconds = paged })
       go true took false last =
           let is = accepts p (r .state) f a grows took pool in
           let paged = rw (is) at (steps pool) in

@@ -13,7 +13,7 @@ use Rattle.calls.specs.declared.records.GrowthRecord.{GrowthRecord}
 use Rattle.calls.specs.declared.records.Recorded.{Recorded}
 use Rattle.calls.specs.Answers.{Pool, placed, refused}
 use Rattle.calls.specs.Calls.{growOn}
-use Rattle.calls.specs.Records.{AfterStep, notStepped, openOn, stepOn, opened}
+use Rattle.calls.specs.Records.{AfterStep, notStepped, openOn, stepOn, openRecord}
 use Rattle.turns.specs.Turn.{restored}
 
 abbrev pub openAdmitted : Parameters → GrowthRecord → File → File → Pool → AfterStep
@@ -46,5 +46,5 @@ acceptedBy answer = eqb (placed answer .refusal) 0
 unfoldable pub advancedBy : Parameters → GrowthRecord → Grown → Recorded
 advancedBy p r grown =
     cond (acceptedBy (grown .answer))
-    (cond (eqb (suc (r .steps)) (p .pages)) (restored grown) (record { answer = On 0 0; growth = opened (r .state) (suc (r .steps)) }))
+    (cond (eqb (suc (r .steps)) (p .pages)) (restored grown) (record { answer = On 0 0; growth = openRecord (r .state) (suc (r .steps)) }))
     (record { answer = grown .answer; growth = r })

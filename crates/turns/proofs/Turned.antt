@@ -12,7 +12,6 @@ use Rattle.calls.specs.declared.answers.Admission.{Admission}
 use Rattle.calls.specs.declared.answers.Admission.the-variants.{Passed, Refused}
 use Rattle.calls.specs.declared.answers.Answer.{Answer}
 use Rattle.calls.specs.declared.answers.Grown.{Grown}
-use Rattle.calls.specs.declared.answers.Placed.{Placed}
 use Rattle.calls.specs.declared.answers.Refusal.{Refusal}
 use Rattle.calls.specs.declared.answers.Refusal.the-variants.{
   BadParameters,
@@ -29,9 +28,9 @@ use Rattle.calls.specs.declared.answers.Refusal.the-variants.{
 }
 use Rattle.calls.specs.declared.records.GrowthRecord.{GrowthRecord}
 use Rattle.calls.specs.declared.records.Recorded.{Recorded}
-use Rattle.calls.specs.Answers.{After, Pool, Leaves, admissionNumber, refusalNumber, refusedBy, refused, cleared, placed, unpooled}
+use Rattle.calls.specs.Answers.{After, Pool, Leaves, admissionNumber, refusalNumber, refusedBy, refused, cleared, placed}
 use Rattle.calls.specs.Calls.{unless, orElse, unlent, guarded, unchanged}
-use Rattle.calls.specs.Records.{validSteps, recorded, unlessOpen, recordAfter, closed}
+use Rattle.calls.specs.Records.{validSteps, recorded, unlessOpen, recordAfter, closedRecord}
 use Rattle.calls.proofs.Refusals.{leaves, turned-away}
 use Rattle.turns.specs.Turn.{atRest, recordRefusal, TurnedAway, restored}
 
@@ -107,8 +106,8 @@ module _ (p : Parameters) (r : GrowthRecord) (f : File) (pool : Pool) (after : A
 -- The growth state after a call with nothing open
 
 pub restored-by : {after : After} {grown : Grown} {made : Recorded} {file : File} {left : Pool} → made ≡ restored grown → Leaves after (placed (grown .answer)) file left → grown .growth ≡ after .growth
-    → Leaves after (placed (made .answer)) file left × (made .growth ≡ closed (after .growth))
-restored-by e l g = rw e (l, ap (λ (x : Growth). closed x) g)
+    → Leaves after (placed (made .answer)) file left × (made .growth ≡ closedRecord (after .growth))
+restored-by e l g = rw e (l, ap (λ (x : Growth). closedRecord x) g)
 
 -- Calls that write
 
@@ -162,7 +161,7 @@ module _ (p : Parameters) (r : GrowthRecord) (lengths : Bool) (f : File) (pool :
   record-stays rest = ap (λ (g : Growth). recordAfter r (unchanged g f pool (refused 1 0))) (sym (state-stays rest))
 
   -- else it holds the growth state that the call leaves
-  pub record-moves : atRest r ≡ true → closed (after .growth) ≡ recordAfter r (unlessOpen p r lengths f pool after)
+  pub record-moves : atRest r ≡ true → closedRecord (after .growth) ≡ recordAfter r (unlessOpen p r lengths f pool after)
   record-moves rest = rw (in-turn rest, rest-closed r rest .0, rest-closed r rest .1)
 
   pub moved-by : {grown : Grown} {made : Recorded} {file : File} {left : Pool} → atRest r ≡ true → made ≡ restored grown → Leaves after (placed (grown .answer)) file left → grown .growth ≡ after .growth

@@ -10,7 +10,7 @@ use Rattle.calls.specs.declared.records.GrowthRecord.{GrowthRecord}
 use Rattle.calls.specs.declared.records.Recorded.{Recorded}
 use Rattle.calls.specs.Answers.{After, Pool, Leaves}
 use Rattle.calls.specs.Calls.{unless, orElse, unlent}
-use Rattle.calls.specs.Records.{validSteps, closed, unlessOpen}
+use Rattle.calls.specs.Records.{validSteps, closedRecord, unlessOpen}
 
 -- nothing is open, and the record is valid
 unfoldable pub atRest : GrowthRecord → Bool
@@ -26,4 +26,4 @@ TurnedAway p r lengths f pool answer left = (after : After) → Leaves (unlessOp
 
 -- the answer and growth state of a call with nothing open
 abbrev pub restored : Grown → Recorded
-restored grown = record { answer = grown .answer; growth = closed (grown .growth) }
+restored grown = record { answer = grown .answer; growth = closedRecord (grown .growth) }

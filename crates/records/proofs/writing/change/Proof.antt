@@ -1,6 +1,4 @@
 -- `records::writing::change` meets its contract.
-use denote.Ref.{now}
-use Rattle.placement.specs.Hash.{lent}
 use Rattle.hashing.proofs.Bounds.{passed, failed}
 use Rattle.calls.specs.Answers.{placed}
 use Rattle.calls.specs.Calls.{fileFits}

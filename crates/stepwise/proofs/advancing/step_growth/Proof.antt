@@ -1,9 +1,9 @@
 -- `stepwise::advancing::step_growth` meets its contract.
-use mathlib.Core.Path.{_≡_, refl}
+use mathlib.Core.Path.{_≡_}
 use denote.Ref.{now}
 use Rattle.placement.specs.File.{File}
 use Rattle.placement.specs.Hash.{lent}
-use Rattle.calls.specs.Answers.{Pool, placed, pooled, cleared}
+use Rattle.calls.specs.Answers.{Pool, pooled, cleared}
 use Rattle.calls.specs.Calls.{fileFits, poolFits}
 use Rattle.calls.specs.Records.{stepRefusal, stepUnder}
 use Rattle.answering.proofs.Pools.{cleared-is}

@@ -3,7 +3,7 @@ use mathlib.Core.Path.{_≡_, refl}
 use denote.Ref.{now}
 use Rattle.placement.specs.File.{File}
 use Rattle.placement.specs.Hash.{lent}
-use Rattle.calls.specs.Answers.{Pool, placed, pooled, cleared}
+use Rattle.calls.specs.Answers.{Pool, pooled, cleared}
 use Rattle.calls.specs.Calls.{fileFits, poolFits}
 use Rattle.calls.specs.Records.{stepRefusal, openUnder}
 use Rattle.answering.proofs.Pools.{cleared-is}

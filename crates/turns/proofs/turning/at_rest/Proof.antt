@@ -1,6 +1,5 @@
 -- `turns::turning::at_rest` meets its contract.
 use Rattle.turns.specs.Turn.{atRest}
-use borrow.Author.Needs.{needs}
 use Rattle.turns.proofs.turning.at_rest.Statement.{statement}
 use Rattle.turns.proofs.turning.at_rest.Tie as tie
 

@@ -1,6 +1,5 @@
 -- `turns::turning::steps_valid` meets its contract.
 use Rattle.calls.specs.Records.{validSteps}
-use borrow.Author.Needs.{needs}
 use Rattle.turns.proofs.turning.steps_valid.Statement.{statement}
 use Rattle.turns.proofs.turning.steps_valid.Tie as tie
 
