@@ -24,7 +24,8 @@ pub fn grow(
 ) -> Placed
     ensures { λ r. ⌜ Leaves (growUnder parameters (now (growth .entry)) (before separators numbers words owners) (poolBefore poolnumbers poolwords poolowners))
         (placed r) (after separators numbers words owners) (poolAfter poolnumbers poolwords poolowners) ⌝ }
-    ensures { λ _. ⌜ now (growth .exit) ≡ recordAfter (now (growth .entry)) (growUnder parameters (now (growth .entry)) (before separators numbers words owners) (poolBefore poolnumbers poolwords poolowners)) ⌝ }
+    ensures { λ _. ⌜ now (growth .exit) ≡ recordAfter (now (growth .entry))
+        (growUnder parameters (now (growth .entry)) (before separators numbers words owners) (poolBefore poolnumbers poolwords poolowners)) ⌝ }
 {
     let old = *growth;
     let grown = starfile::grow(
@@ -56,7 +57,8 @@ pub fn shrink(
 ) -> Placed
     ensures { λ r. ⌜ Leaves (shrinkUnder parameters (now (growth .entry)) (before separators numbers words owners) (poolBefore poolnumbers poolwords poolowners))
         (placed r) (after separators numbers words owners) (poolAfter poolnumbers poolwords poolowners) ⌝ }
-    ensures { λ _. ⌜ now (growth .exit) ≡ recordAfter (now (growth .entry)) (shrinkUnder parameters (now (growth .entry)) (before separators numbers words owners) (poolBefore poolnumbers poolwords poolowners)) ⌝ }
+    ensures { λ _. ⌜ now (growth .exit) ≡ recordAfter (now (growth .entry))
+        (shrinkUnder parameters (now (growth .entry)) (before separators numbers words owners) (poolBefore poolnumbers poolwords poolowners)) ⌝ }
 {
     let old = *growth;
     let shrunk = starfile::shrink(
