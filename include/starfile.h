@@ -1,7 +1,7 @@
 /* The look-up, the two entries and the removal of a star file, for C and C++ programs.
  *
  * A star file maps star numbers to positions. The caller lends all of its memory and passes it, with the file's parameters and
- * growth state, to each call. Nothing is kept between calls. Calls may run at once in several threads on files that share no buffer;
+ * growth record, to each call. Nothing is kept between calls. Calls may run at once in several threads on files that share no buffer;
  * look-ups on one file may too, as they only read, while nothing else writes it.
  *
  * A file of M pages with b places each has four buffers, and entries and removal need a pool besides:
@@ -14,10 +14,10 @@
  *     pool_words      M * b words, with any contents
  *     pool_owners     M * b owners, with any contents
  *
- * Place i of page p is item p * b + i. An empty file has every separator 2^bits - 1, all numbers, words and owners 0 and the
- * growth state (0, 0).
+ * Place i of page p is item p * b + i. An empty file has every separator 2^bits - 1, all numbers, words and owners 0, the growth
+ * state (0, 0) and no growth open.
  *
- * Buffers, parameters and growth state belong together: keep them together between runs. Others that are valid by themselves, but
+ * Buffers, parameters and growth record belong together: keep them together between runs. Others that are valid by themselves, but
  * not this file's own, are accepted, and then a star that is held may be answered as not found (docs/DAMAGE.md). A checksum of your
  * own over all of them finds that; no call here can.
  *
@@ -39,7 +39,7 @@ extern "C" {
 /* Why a call was refused. Of several reasons the first that the call's comment lists is told. */
 enum heatherplane_refusal {
     HEATHERPLANE_ACCEPTED = 0,
-    HEATHERPLANE_BAD_PARAMETERS = 1, /* a parameter, the multiplier among them, or the growth state */
+    HEATHERPLANE_BAD_PARAMETERS = 1, /* a parameter, the multiplier among them, or the growth record */
     HEATHERPLANE_BAD_LENGTH = 2,     /* the length of a buffer */
     HEATHERPLANE_BAD_NUMBER = 3,     /* the star number: 1 to 2147483646 */
     HEATHERPLANE_BAD_POSITION = 4,   /* ra: 0 to 1295999999, dec: -324000000 to 324000000, in milliarcseconds */
@@ -47,7 +47,8 @@ enum heatherplane_refusal {
     HEATHERPLANE_HELD = 6,           /* the star is in the file already, with another position */
     HEATHERPLANE_NOT_HELD = 7,       /* the star is not in the file */
     HEATHERPLANE_FULL = 8,           /* a star would be carried past the last page */
-    HEATHERPLANE_NOT_OWNER = 13      /* the caller is neither the star's owner nor the institute */
+    HEATHERPLANE_NOT_OWNER = 13,     /* the caller is neither the star's owner nor the institute */
+    HEATHERPLANE_OUT_OF_TURN = 16    /* a growth is open, and the call writes the file */
 };
 
 /* What a call answers. A value that a call does not name is 0 or false.
@@ -55,8 +56,8 @@ enum heatherplane_refusal {
  * place is where the number was sought: on the page that the separators named before the call changed anything, the first place
  * that is empty or holds a number not below it, or b if there is none. The lower numbers of that page stand before the place; at
  * the place stands the number itself, if it is held, or else the next higher one, if there is any. Each call that came to this
- * search tells the place, refused afterwards or not; it is 0 with BAD_PARAMETERS, BAD_LENGTH, BAD_NUMBER, BAD_POSITION and where
- * the named page itself is DAMAGED.
+ * search tells the place, refused afterwards or not; it is 0 with BAD_PARAMETERS, BAD_LENGTH, OUT_OF_TURN, BAD_NUMBER, BAD_POSITION
+ * and where the named page itself is DAMAGED.
  *
  * page and place may be of different things. After an accepted entry page is where the star now stands, and place is where it was
  * sought, not where it ends: with one place a page (b=1 N=1 n0=1 s=1 k=8 A=50 M=2) and star 32 held, entering star 170 answers
@@ -84,6 +85,7 @@ static inline const char *heatherplane_refusal_name(uint32_t refusal)
     case HEATHERPLANE_NOT_HELD: return "not held";
     case HEATHERPLANE_FULL: return "full";
     case HEATHERPLANE_NOT_OWNER: return "not owner";
+    case HEATHERPLANE_OUT_OF_TURN: return "out of turn";
     default: return "unknown";
     }
 }
@@ -108,28 +110,35 @@ struct heatherplane_parameters {
 };
 
 /* How many pages are addressed: with n = width + expansions % width and G = groups * 2^(expansions / width), n * G + expanded of
- * them, at most pages; expanded is below G. Pages above hold overflow only. The calls below read this state and leave it as it is.
+ * them, at most pages; expanded is below G. Pages above hold overflow only. The calls below read this record and leave it as it is.
  *
  * An empty file may begin with any valid state, and then keeps it. A host that never grows its file addresses most pages from the
  * start: width * groups near pages with the state (0, 0), or a state for the stars expected, at places * load / 100 of them a page.
  * With places=32 groups=8 width=2 pages=1024 the state (0, 0) addresses 16 pages: the file is FULL at a third of its places, and
  * entries near that take long. On FULL, look at the load: far from full, too few pages are addressed; make a new file with a
- * later state and enter the stars again, or grow the file by the Rattle call. */
+ * later state and enter the stars again, or grow the file by the Rattle call.
+ *
+ * The Rattle calls can also open a growth into a second set of pages and do it in as many steps as the file has pages. A program that
+ * never opens one passes false and 0. While another program's growth is open, pass the record that it keeps: look-ups answer from the
+ * old file, which no step touches, and entries and removals, resent ones too, are OUT_OF_TURN. After the last step pass the second set
+ * and its record. If such a growth is given up, the file is as it was: pass it with false and 0. */
 struct heatherplane_growth {
     uint32_t expansions; /* e, partial expansions finished */
     uint32_t expanded;   /* x, groups expanded in the present one */
+    bool open;           /* whether a growth is open */
+    uint32_t steps;      /* how many of its steps are done: below pages, and 0 if none is open */
 };
 
 /* Looks a star up.
  *
  * Buffers: the file's four, which are only read. Their lengths are pages for the separators and pages * places for the others.
- * Refused: BAD_PARAMETERS, BAD_LENGTH, BAD_NUMBER, DAMAGED (the page that the separators name).
+ * Refused: BAD_PARAMETERS, BAD_LENGTH, BAD_NUMBER, DAMAGED (the page that the separators name); never OUT_OF_TURN.
  * Accepted: found tells whether the star is held, page is the page that the separators name for it, place its place there or
  * the one where it would stand, and ra and dec are its position if it is held.
  * Afterwards: nothing was written. */
 struct heatherplane_reply heatherplane_look_up(
     uint32_t places, uint32_t groups, uint32_t width, uint32_t step, uint32_t bits, uint32_t load, uint32_t pages,
-    uint32_t multiplier, uint32_t expansions, uint32_t expanded,
+    uint32_t multiplier, uint32_t expansions, uint32_t expanded, bool open, uint32_t steps,
     const uint8_t *separators, size_t separators_length,
     const uint32_t *numbers, size_t numbers_length,
     const uint64_t *words, size_t words_length,
@@ -140,16 +149,16 @@ struct heatherplane_reply heatherplane_look_up(
  * exactly this position is accepted again, and the file stays as it was.
  *
  * Buffers: the file's four and the pool's three. Their lengths are pages for the separators and pages * places for the others.
- * Refused: BAD_PARAMETERS, BAD_LENGTH, BAD_NUMBER, BAD_POSITION, DAMAGED (the page that the separators name), HELD (with another
- * position), DAMAGED (the lowest unsound page of those that would be placed anew), FULL.
+ * Refused: BAD_PARAMETERS, BAD_LENGTH, OUT_OF_TURN, BAD_NUMBER, BAD_POSITION, DAMAGED (the page that the separators name), HELD (with
+ * another position), DAMAGED (the lowest unsound page of those that would be placed anew), FULL.
  * Accepted: page is the page where the star now stands, and a star that was not held is the caller's: 0 for the institute, 1 to 255
  * for an observer. Entered again, a star keeps its owner.
  * Afterwards: accepted, the file holds the star, and the pages from its home to the end of its reach are placed anew; refused or
  * entered again, the file is as it was. The pool is untouched with BAD_PARAMETERS, BAD_LENGTH, BAD_NUMBER and BAD_POSITION, and
- * else holds zeros. */
+ * else, also with OUT_OF_TURN, holds zeros. */
 struct heatherplane_reply heatherplane_enter(
     uint32_t places, uint32_t groups, uint32_t width, uint32_t step, uint32_t bits, uint32_t load, uint32_t pages,
-    uint32_t multiplier, uint32_t expansions, uint32_t expanded,
+    uint32_t multiplier, uint32_t expansions, uint32_t expanded, bool open, uint32_t steps,
     uint8_t *separators, size_t separators_length,
     uint32_t *numbers, size_t numbers_length,
     uint64_t *words, size_t words_length,
@@ -165,16 +174,16 @@ struct heatherplane_reply heatherplane_enter(
  * On other files they may not be, as it reads fewer pages.
  *
  * Buffers: the file's four and the pool's three. Their lengths are pages for the separators and pages * places for the others.
- * Refused: BAD_PARAMETERS, BAD_LENGTH, BAD_NUMBER, BAD_POSITION, DAMAGED (the page that the separators name), HELD (with another
- * position), DAMAGED (the first unsound page that a star is pushed to), FULL.
+ * Refused: BAD_PARAMETERS, BAD_LENGTH, OUT_OF_TURN, BAD_NUMBER, BAD_POSITION, DAMAGED (the page that the separators name), HELD (with
+ * another position), DAMAGED (the first unsound page that a star is pushed to), FULL.
  * Accepted: page is the page where the star now stands, and a star that was not held is the caller's. Entered again with exactly its
  * position, a star keeps its owner, and the file stays as it was.
  * Afterwards: accepted, the file holds the star, and the pages from the one that the separators named to the last one that a star
  * was pushed to are written; refused or entered again, the file is as it was. The pool is untouched with BAD_PARAMETERS, BAD_LENGTH,
- * BAD_NUMBER and BAD_POSITION, and else holds zeros. */
+ * BAD_NUMBER and BAD_POSITION, and else, also with OUT_OF_TURN, holds zeros. */
 struct heatherplane_reply heatherplane_cascade(
     uint32_t places, uint32_t groups, uint32_t width, uint32_t step, uint32_t bits, uint32_t load, uint32_t pages,
-    uint32_t multiplier, uint32_t expansions, uint32_t expanded,
+    uint32_t multiplier, uint32_t expansions, uint32_t expanded, bool open, uint32_t steps,
     uint8_t *separators, size_t separators_length,
     uint32_t *numbers, size_t numbers_length,
     uint64_t *words, size_t words_length,
@@ -187,14 +196,15 @@ struct heatherplane_reply heatherplane_cascade(
 /* Removes a star that the file holds.
  *
  * Buffers: the file's four and the pool's three. Their lengths are pages for the separators and pages * places for the others.
- * Refused: BAD_PARAMETERS, BAD_LENGTH, BAD_NUMBER, DAMAGED (the page that the separators name), NOT_HELD, NOT_OWNER (the caller is
- * neither 0 nor the owner), DAMAGED (the lowest unsound page of those that would be placed anew).
+ * Refused: BAD_PARAMETERS, BAD_LENGTH, OUT_OF_TURN, BAD_NUMBER, DAMAGED (the page that the separators name), NOT_HELD, NOT_OWNER (the
+ * caller is neither 0 nor the owner), DAMAGED (the lowest unsound page of those that would be placed anew).
  * Accepted: page is the page where the star stood.
  * Afterwards: accepted, the file no longer holds the star, and the pages from its home to the end of its reach are placed anew;
- * refused, the file is as it was. The pool is untouched with BAD_PARAMETERS, BAD_LENGTH and BAD_NUMBER, and else holds zeros. */
+ * refused, the file is as it was. The pool is untouched with BAD_PARAMETERS, BAD_LENGTH and BAD_NUMBER, and else, also with
+ * OUT_OF_TURN, holds zeros. */
 struct heatherplane_reply heatherplane_remove(
     uint32_t places, uint32_t groups, uint32_t width, uint32_t step, uint32_t bits, uint32_t load, uint32_t pages,
-    uint32_t multiplier, uint32_t expansions, uint32_t expanded,
+    uint32_t multiplier, uint32_t expansions, uint32_t expanded, bool open, uint32_t steps,
     uint8_t *separators, size_t separators_length,
     uint32_t *numbers, size_t numbers_length,
     uint64_t *words, size_t words_length,
@@ -204,7 +214,7 @@ struct heatherplane_reply heatherplane_remove(
     uint8_t *pool_owners, size_t pool_owners_length,
     uint8_t caller, uint32_t number);
 
-/* A file as one value: its parameters, its growth state and the buffers lent to it. */
+/* A file as one value: its parameters, its growth record and the buffers lent to it. */
 struct heatherplane_file {
     struct heatherplane_parameters parameters;
     struct heatherplane_growth growth;
@@ -259,7 +269,7 @@ static inline struct heatherplane_reply heatherplane_look_up_in(const struct hea
     const struct heatherplane_parameters *p = &file->parameters;
     return heatherplane_look_up(
         p->places, p->groups, p->width, p->step, p->bits, p->load, p->pages, p->multiplier,
-        file->growth.expansions, file->growth.expanded,
+        file->growth.expansions, file->growth.expanded, file->growth.open, file->growth.steps,
         file->separators, file->separators_length, file->numbers, file->numbers_length, file->words, file->words_length,
         file->owners, file->owners_length, number);
 }
@@ -270,7 +280,7 @@ static inline struct heatherplane_reply heatherplane_enter_in(
     const struct heatherplane_parameters *p = &file->parameters;
     return heatherplane_enter(
         p->places, p->groups, p->width, p->step, p->bits, p->load, p->pages, p->multiplier,
-        file->growth.expansions, file->growth.expanded,
+        file->growth.expansions, file->growth.expanded, file->growth.open, file->growth.steps,
         file->separators, file->separators_length, file->numbers, file->numbers_length, file->words, file->words_length,
         file->owners, file->owners_length, file->pool_numbers, file->pool_numbers_length, file->pool_words, file->pool_words_length,
         file->pool_owners, file->pool_owners_length, caller, number, ra, dec);
@@ -282,7 +292,7 @@ static inline struct heatherplane_reply heatherplane_cascade_in(
     const struct heatherplane_parameters *p = &file->parameters;
     return heatherplane_cascade(
         p->places, p->groups, p->width, p->step, p->bits, p->load, p->pages, p->multiplier,
-        file->growth.expansions, file->growth.expanded,
+        file->growth.expansions, file->growth.expanded, file->growth.open, file->growth.steps,
         file->separators, file->separators_length, file->numbers, file->numbers_length, file->words, file->words_length,
         file->owners, file->owners_length, file->pool_numbers, file->pool_numbers_length, file->pool_words, file->pool_words_length,
         file->pool_owners, file->pool_owners_length, caller, number, ra, dec);
@@ -293,7 +303,7 @@ static inline struct heatherplane_reply heatherplane_remove_in(const struct heat
     const struct heatherplane_parameters *p = &file->parameters;
     return heatherplane_remove(
         p->places, p->groups, p->width, p->step, p->bits, p->load, p->pages, p->multiplier,
-        file->growth.expansions, file->growth.expanded,
+        file->growth.expansions, file->growth.expanded, file->growth.open, file->growth.steps,
         file->separators, file->separators_length, file->numbers, file->numbers_length, file->words, file->words_length,
         file->owners, file->owners_length, file->pool_numbers, file->pool_numbers_length, file->pool_words, file->pool_words_length,
         file->pool_owners, file->pool_owners_length, caller, number);

@@ -61,6 +61,15 @@ pub trait Library {
         self.call(Kind::Shrink, 0, 0, 0)
     }
 
+    /// Of today's library alone, as are its steps.
+    fn open_growth(&mut self) -> Answer {
+        self.call(Kind::Open, 0, 0, 0)
+    }
+
+    fn step_growth(&mut self) -> Answer {
+        self.call(Kind::Step, 0, 0, 0)
+    }
+
     fn due(&mut self) -> Answer {
         self.call(Kind::Due, 0, 0, 0)
     }

@@ -3,11 +3,11 @@
 use crate::files::File;
 use crate::{Answer, Library};
 use model::placement::{lay_out, pack, Star};
-use model::{Buffers, Call, Growth, Kind, Parameters};
+use model::{Buffers, Call, Growth, Kind, Pages, Parameters, Record};
 
 #[derive(Clone)]
 struct Present {
-    /// The last call; the next one has its parameters and growth state.
+    /// The last call; the next one has its parameters and the growth record after it.
     call: Call,
     lent: Buffers,
 }
@@ -19,14 +19,15 @@ fn parameters_and_growth(file: &File) -> (Parameters, Growth) {
 
 pub fn library(file: &File) -> Box<dyn Library> {
     let (parameters, growth) = parameters_and_growth(file);
-    let call = Call { kind: Kind::Due, parameters, growth, caller: 0, number: 0, ra: 0, dec: 0 };
-    let lent = Buffers {
+    let record = Record::closed(growth);
+    let call = Call { kind: Kind::Due, parameters, record, caller: 0, number: 0, ra: 0, dec: 0 };
+    let pages = Pages {
         separators: file.separators.clone(),
         numbers: file.numbers.clone(),
         words: file.words.clone(),
         owners: file.owners.clone(),
-        ..Buffers::zeros(&parameters)
     };
+    let lent = Buffers { file: pages, ..Buffers::zeros(&parameters) };
     Box::new(Present { call, lent })
 }
 
@@ -34,7 +35,7 @@ pub fn library(file: &File) -> Box<dyn Library> {
 pub fn laid_out(parameters: [u32; 7], stars: &[u32]) -> Option<File> {
     let stars = stars.iter().map(|&number| Star { number, word: pack(1, 0), owner: 0 }).collect();
     let lent = lay_out(&Parameters::new(parameters), &Growth::default(), stars)?;
-    let Buffers { separators, numbers, words, owners, .. } = lent;
+    let Pages { separators, numbers, words, owners } = lent.file;
     Some(File { separators, numbers, words, owners, ..File::empty(parameters) })
 }
 
@@ -51,7 +52,7 @@ impl Library for Present {
     fn call(&mut self, kind: Kind, number: u32, ra: u32, dec: i32) -> Answer {
         self.call = Call { kind, number, ra, dec, ..self.call };
         let outcome = interface::run(&self.call, &mut self.lent);
-        self.call.growth = outcome.growth();
+        self.call.record = outcome.record;
         Answer {
             refusal: outcome.refusal,
             page: outcome.page,
@@ -64,7 +65,8 @@ impl Library for Present {
     }
 
     fn growth(&self) -> [u32; 2] {
-        [self.call.growth.expansions, self.call.growth.expanded]
+        let Growth { expansions, expanded } = self.call.record.growth;
+        [expansions, expanded]
     }
 
     fn file(&self) -> File {
@@ -73,10 +75,10 @@ impl Library for Present {
             parameters,
             multiplier,
             growth: self.growth(),
-            separators: self.lent.separators.clone(),
-            numbers: self.lent.numbers.clone(),
-            words: self.lent.words.clone(),
-            owners: self.lent.owners.clone(),
+            separators: self.lent.file.separators.clone(),
+            numbers: self.lent.file.numbers.clone(),
+            words: self.lent.file.words.clone(),
+            owners: self.lent.file.owners.clone(),
         }
     }
 

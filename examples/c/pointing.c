@@ -32,7 +32,7 @@ static struct heatherplane_file empty_file(enum heatherplane_multiplier multipli
     const struct heatherplane_parameters parameters = {
         .places = PLACES, .groups = 2, .width = 2, .step = 1, .bits = BITS, .load = 80, .pages = PAGES,
         .multiplier = multiplier};
-    const struct heatherplane_growth growth = {.expansions = 1, .expanded = 1};
+    const struct heatherplane_growth growth = {.expansions = 1, .expanded = 1, .open = false, .steps = 0};
     return heatherplane_file_of(parameters, growth, separators, numbers, words, owners, pool_numbers, pool_words, pool_owners);
 }
 
@@ -158,6 +158,21 @@ int main(void)
     cascade(&file, INSTITUTE, 5, 50, 8);
     cascade(&file, INSTITUTE, 6, 60, 9);
     look_up(&file, 3);
+
+    /* while another program's growth is open, look-ups answer from the old file, and nothing may be entered or removed */
+    file.growth.open = true;
+    file.growth.steps = 2;
+    look_up(&file, 3);
+    enter(&file, INSTITUTE, 7, 70, 10);
+    cascade(&file, INSTITUTE, 3, 30, 6);
+    remove_star(&file, INSTITUTE, 3);
+    /* an open growth has fewer steps done than the file has pages */
+    file.growth.steps = PAGES;
+    look_up(&file, 3);
+    /* the growth was given up: the file is as it was */
+    file.growth.open = false;
+    file.growth.steps = 0;
+    remove_star(&file, INSTITUTE, 3);
 
     /* damage is found on the page that a star leads to, and told by its page */
     words[heatherplane_look_up_in(&file, 2).page * PLACES] = UINT64_MAX;

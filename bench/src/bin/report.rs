@@ -78,9 +78,9 @@ fn stars(numbers: &[u32], page: usize) -> &[u32] {
 /// Enters a star by a cascade: how many pages it visits, and how many of them hold other stars after it.
 fn enter(session: &mut Session, number: u32) -> (usize, usize) {
     let named = session.look_up(number).page as usize;
-    let before = session.lent.numbers.clone();
+    let before = session.lent.file.numbers.clone();
     assert_eq!(session.cascade(number).refusal, 0, "a star is entered");
-    let after = &session.lent.numbers;
+    let after = &session.lent.file.numbers;
     let visited = entered_stretch(PLACES, named, &before, after, |_| true);
     let changed = visited.clone().filter(|&page| stars(&before, page) != stars(after, page)).count();
     (visited.count(), changed)
@@ -88,8 +88,9 @@ fn enter(session: &mut Session, number: u32) -> (usize, usize) {
 
 /// Whether the procedures have left the library's file.
 fn same_file(session: &Session, procedures: &Procedures) -> bool {
-    let page = |page: usize| (session.lent.separators[page].into(), stars(&session.lent.numbers, page).to_vec());
-    (0..session.lent.separators.len()).all(|number| page(number) == procedures.page(number))
+    let page =
+        |page: usize| (session.lent.file.separators[page].into(), stars(&session.lent.file.numbers, page).to_vec());
+    (0..session.lent.file.separators.len()).all(|number| page(number) == procedures.page(number))
 }
 
 /// The stars entered over a full expansion, from the first growth on.
@@ -104,12 +105,12 @@ fn by_library(step: u32, random: &mut Random) -> Vec<Entered> {
     let mut session = Session::with(interface::run, parameters(step));
     let mut procedures = Procedures::new(parameters(step), Cut::SectionTwo);
     let mut list = Vec::new();
-    while session.growth != FULL {
+    while session.record.growth != FULL {
         let number = random.star_number();
         if !procedures.insert(number) {
             continue;
         }
-        let addressed = highest_address(&session.parameters, &session.growth) + 1;
+        let addressed = highest_address(&session.parameters, &session.record.growth) + 1;
         let (visited, changed) = enter(&mut session, number);
         let insertion = take(&mut procedures.accesses);
         assert_eq!(insertion, Accesses { read: visited, written: visited }, "the procedures visit the same pages");
@@ -151,10 +152,10 @@ fn loadings(step: u32, load: fn(u32, &mut Random) -> Vec<Entered>) -> Vec<Entere
 fn pages_met(session: &Session, kind: Kind, number: u32) -> usize {
     let met = |page: &usize| {
         let mut copy = session.clone();
-        copy.lent.words[page * PLACES] = u64::MAX;
+        copy.lent.file.words[page * PLACES] = u64::MAX;
         copy.call(kind, number, 1, 0).refusal == 5
     };
-    (0..session.lent.separators.len()).filter(met).count()
+    (0..session.lent.file.separators.len()).filter(met).count()
 }
 
 /// In a file as it is loaded: whether each of some look-ups meets damage on one page, and each of some cascades on as many as
@@ -162,7 +163,7 @@ fn pages_met(session: &Session, kind: Kind, number: u32) -> usize {
 fn print_pages_met(random: &mut Random) {
     let mut session = Session::with(interface::run, parameters(5));
     let (mut held, mut look_ups, mut cascades) = (Vec::new(), 0, 0);
-    while session.growth != FULL {
+    while session.record.growth != FULL {
         let number = random.star_number();
         if session.look_up(number).found == 1 {
             continue;

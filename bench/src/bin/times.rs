@@ -146,6 +146,36 @@ fn shrink_row(report: &mut Report, table: &Table, runs: usize, name: &str, file:
     ));
 }
 
+/// Growths, openings of the same growth and its steps in the middle in turn, each on a copy of its own.
+fn growths_and_steps(file: &File) -> [Runs; 3] {
+    let mut middle = today(file).remove(0);
+    assert_eq!(middle.open_growth().refusal, 0);
+    for _ in 0..file.pages() / 2 {
+        assert_eq!(middle.step_growth().refusal, 0);
+    }
+    in_turn(RUNS, &mut today(file), |library| {
+        let [mut grown, mut opened, mut stepped] = [library.copy(), library.copy(), middle.copy()];
+        [
+            nanoseconds(|| _ = black_box(grown.grow())),
+            nanoseconds(|| _ = black_box(opened.open_growth())),
+            nanoseconds(|| _ = black_box(stepped.step_growth())),
+        ]
+    })
+}
+
+/// Rows for opening a growth and for a step in its middle, and a note that compares them with the growth at once.
+fn step_rows(report: &mut Report, table: &Table, file: &File) {
+    let [growths, openings, steps] = growths_and_steps(file);
+    table.row("open", &openings);
+    table.row("step, in the middle", &steps);
+    report.note(format!(
+        "{}: open / grow {:.3}, step / grow {:.3}",
+        file.size(),
+        openings.by(&growths),
+        steps.by(&growths)
+    ));
+}
+
 /// Some of the stars that can be entered one after the other.
 fn entered(libraries: &Libraries, stars: &[u32], count: usize) -> Vec<u32> {
     let mut library = libraries[0].copy();
@@ -192,6 +222,7 @@ fn calls(report: &mut Report, random: &mut Random, empty: File) {
     cascade_row(report, &table, "", &file, &entered, entries_and_cascades(&file, &entered));
     table.row("remove", &removals);
     table.row("grow", &restored(RUNS, &mut libraries, |library| library.grow().refusal));
+    step_rows(report, &table, &file);
     shrink_row(report, &table, RUNS, "shrink", &file);
     table.row("check", &many(&mut libraries, 1, |library, _| _ = black_box(library.check())));
     table.row("due", &many(&mut libraries, 100, |library, _| _ = black_box(library.due())));

@@ -19,6 +19,7 @@ use Rattle.calls.specs.declared.answers.Refusal.the-variants.{
   Full,
   Ungrown,
   NotOwner,
+  OutOfTurn,
 }
 use Rattle.calls.specs.declared.answers.Checked.{Checked}
 use Rattle.calls.specs.declared.answers.Checked.the-variants.{Clean, Refused}
@@ -27,7 +28,7 @@ use Rattle.calls.specs.Answers.{refusalNumber, refusalPage, refusedBy, s
 
 refusalAt : ℕ → ℕ → Refusal
 refusalAt n page =
-    getD (BadParameters ∷ BadLength ∷ BadNumber ∷ BadPosition ∷ Damaged page ∷ Held ∷ NotHeld ∷ Full ∷ Ungrown ∷ []) (n - 1) NotOwner
+    getD (BadParameters ∷ BadLength ∷ BadNumber ∷ BadPosition ∷ Damaged page ∷ Held ∷ NotHeld ∷ Full ∷ Ungrown ∷ []) (n - 1) (cond (eqb n 13) NotOwner OutOfTurn)
 
 told-back : (r : Refusal) → refusalAt (refusalNumber r) (refusalPage r) ≡ r
 unfolding refusalAt
@@ -41,6 +42,7 @@ told-back NotHeld = refl
 told-back Full = refl
 told-back Ungrown = refl
 told-back NotOwner = refl
+told-back OutOfTurn = refl
 
 pub numbered : (r : Refusal) → 1 ≤ refusalNumber r
 numbered BadParameters = omega arith
@@ -53,6 +55,7 @@ numbered NotHeld = omega arith
 numbered Full = omega arith
 numbered Ungrown = omega arith
 numbered NotOwner = omega arith
+numbered OutOfTurn = omega arith
 
 checkedAs : Answer → Checked
 checkedAs a = cond (eqb (a .refusal) 0) Clean (Refused (refusalAt (a .refusal) (a .page)) (a .place))

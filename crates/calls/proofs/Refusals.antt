@@ -25,6 +25,7 @@ use Rattle.calls.specs.declared.answers.Refusal.the-variants.{
   Full,
   Ungrown,
   NotOwner,
+  OutOfTurn,
 }
 use Rattle.calls.specs.declared.answers.Admission.{Admission}
 use Rattle.calls.specs.declared.answers.Admission.the-variants.{Passed, Refused}
@@ -121,6 +122,7 @@ module _ (g : Growth) (f : File) (pool : Pool) (after : After) where
   away Full m h = absurd (omega arith)
   away Ungrown m h = absurd (omega arith)
   away NotOwner m h = absurd (omega arith)
+  away OutOfTurn m h = absurd (omega arith)
 
   pub turned-away : (p : Parameters) (lengths : Bool) (r : Refusal) → refusalNumber r ≡ unlent p g lengths → guarded g f pool (unlent p g lengths) after ≡ unchanged g f pool (refusedBy r 0)
   turned-away p lengths r e = rw (← e) (away r 0 (rw e (unlent-most p g lengths)) .0)

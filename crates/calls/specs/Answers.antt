@@ -22,6 +22,7 @@ use Rattle.calls.specs.declared.answers.Refusal.the-variants.{
   Full,
   Ungrown,
   NotOwner,
+  OutOfTurn,
 }
 use Rattle.calls.specs.declared.answers.Admission.{Admission}
 use Rattle.calls.specs.declared.answers.Admission.the-variants.{Passed, Refused as TurnedAway}
@@ -85,6 +86,7 @@ refusalNumber NotHeld = 7
 refusalNumber Full = 8
 refusalNumber Ungrown = 9
 refusalNumber NotOwner = 13
+refusalNumber OutOfTurn = 16
 
 -- the page that goes with it
 abbrev pub refusalPage : Refusal → ℕ
@@ -98,6 +100,7 @@ refusalPage NotHeld = 0
 refusalPage Full = 0
 refusalPage Ungrown = 0
 refusalPage NotOwner = 0
+refusalPage OutOfTurn = 0
 
 -- 0 if the test that a call begins with is passed
 abbrev pub admissionNumber : Admission → ℕ

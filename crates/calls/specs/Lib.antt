@@ -4,4 +4,5 @@ pub mod Reach
 pub mod Spots
 pub mod Due
 pub mod Calls
+pub mod Records
 pub mod Points

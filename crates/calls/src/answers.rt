@@ -15,6 +15,8 @@ pub enum Refusal {
     Full,
     Ungrown,
     NotOwner,
+    // a growth is open and the call writes the file, or none is open and the call is a step
+    OutOfTurn,
 }
 
 // What the test of refusals 1 and 2 says, with which every call begins.
@@ -132,6 +134,10 @@ fn number_of(refusal: Refusal) -> Numbered
         Refusal::Ungrown => Numbered { number: 9, page: 0 },
         Refusal::NotOwner => Numbered {
             number: 13,
+            page: 0,
+        },
+        Refusal::OutOfTurn => Numbered {
+            number: 16,
             page: 0,
         },
     }

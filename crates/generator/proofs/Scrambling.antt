@@ -4,8 +4,8 @@ use Prim.Native.Nat.{ℕ, _+_, _-_, _*_, _%_, _^_, _≤_, _<_}
 use native.Mathlib.Nat.{mod-lt}
 use native.Mathlib.Omega.{arith}
 use lib.Pow.{pow-mono}
-use Rattle.generator.specs.Generator.{modulus, scrambled, topOf, signature}
-use Rattle.generator.proofs.Numbers.{mul-mod-right, shifted}
+use Rattle.generator.specs.Generator.{modulus, power, scrambled, topOf, signature}
+use Rattle.generator.proofs.Numbers.{mul-mod, mul-mod-right, shifted}
 
 pub top-least : (bits : ℕ) → 1 ≤ bits → 1 ≤ topOf bits
 unfolding topOf
@@ -24,6 +24,11 @@ top-shifted bits h = rw (shifted bits 32 (omega arith))
 pub top-at : (n bits k : ℕ) → bits ≡ k → n % (2 ^ k - 1) ≡ n % topOf bits
 unfolding topOf
 top-at n bits k e = rw e
+
+-- a number times a power of the multiplier, which may be reduced
+pub scrambled-by : (a j k : ℕ) → power a j * k % modulus ≡ scrambled a j k
+unfolding power scrambled
+scrambled-by a j k = mul-mod (a ^ j) modulus k
 
 pub signature-below : (a bits k t : ℕ) → 1 ≤ bits → signature a bits k t < topOf bits
 unfolding signature

@@ -7,11 +7,9 @@ mod table;
 
 pub use copies::first_multipliers;
 pub use copies::multiplier_valid;
-pub use copies::multipliers;
 pub use copies::probe_multipliers;
 pub use signatures::below_top;
 pub use signatures::probe_multiplier;
 pub use signatures::residue;
 pub use signatures::scrambled;
-pub use signatures::signature;
 pub use signatures::signature_by;

@@ -2,8 +2,8 @@
 ghost use mathlib.Core.Path.{_≡_};
 ghost use mathlib.Core.Bool.{true};
 ghost use Prim.Native.Nat.{_+_, _*_, _%_, _≤_, _<_};
-ghost use Rattle.generator.specs.Generator.{validMultiplier, modulus, power, topOf, multipliers, probeMultipliers};
-ghost use Rattle.generator.specs.Generator.{scrambled as Generator·scrambled, signature as Generator·signature};
+ghost use Rattle.generator.specs.Generator.{validMultiplier, modulus, power, topOf, probeMultipliers};
+ghost use Rattle.generator.specs.Generator.{scrambled as Generator·scrambled};
 
 // A product mod m. As 2^31 is 1 mod m, the product's two halves are added in place of a division.
 pub fn residue(factor: u32, key: u32) -> u32
@@ -55,17 +55,6 @@ pub fn below_top(number: u32, bits: u32) -> u32
         return number % 3;
     }
     0
-}
-
-// The signature of a number on the probe-th page probed.
-pub fn signature(table: &[u32; 2049], multiplier: u32, bits: u32, number: u32, probe: usize) -> u32
-    requires { ⌜ now table ≡ multipliers multiplier ⌝ }
-    requires { ⌜ (1 ≤ bits) × (bits ≤ 8) ⌝ }
-    requires { ⌜ (1 ≤ probe) × (probe ≤ 1024) ⌝ }
-    ensures { λ r. ⌜ r ≡ Generator·signature multiplier bits number probe ⌝ }
-{
-    let x = residue(table[2 * probe], number % 2147483647);
-    below_top(x, bits)
 }
 
 // The multiplier of a number's signature on the probe-th page probed. Past page 32 it is a product of two entries.

@@ -43,21 +43,22 @@ use denote.Triple.Call.{calls-at}
 use denote.Triple.Clauses.{Clauses, ensured, closing, lasts}
 use denote.Triple.Walked.{says, Stays, stay-ref, stay-none, walkOf, AllGo, goes-ref, goes-none, Walks, ends-at, walked, walk-meets}
 use Rattle.hashing.specs.declared.Parameters.{Parameters}
-use Rattle.hashing.specs.declared.Growth.{Growth}
 use Rattle.hashing.proofs.Parameters as P
 use Rattle.hashing.proofs.Parameters.Laws as P′
-use Rattle.hashing.proofs.Growth as G
-use Rattle.hashing.proofs.Growth.Laws as G′
 use Rattle.placement.specs.File.{File}
 use Rattle.placement.specs.Hash.{lent}
-use Rattle.calls.specs.declared.answers.Grown.{Grown}
+use Rattle.calls.specs.declared.records.GrowthRecord.{GrowthRecord}
+use Rattle.calls.specs.declared.records.Recorded.{Recorded}
 use Rattle.calls.specs.declared.answers.Placed.{Placed}
 use Rattle.calls.specs.Answers.{After, Pool, Leaves, pooled, placed}
-use Rattle.calls.proofs.answers.Grown as R
-use Rattle.calls.proofs.answers.Grown.Laws as R′
+use Rattle.calls.specs.Records.{recordAfter}
+use Rattle.calls.proofs.records.GrowthRecord as G
+use Rattle.calls.proofs.records.GrowthRecord.Laws as G′
+use Rattle.calls.proofs.records.Recorded as R
+use Rattle.calls.proofs.records.Recorded.Laws as R′
 use Rattle.calls.proofs.answers.Placed as Q
 use Rattle.calls.proofs.answers.Placed.Laws as Q′
-use Rattle.whole_file.proofs.grow as grow
+use Rattle.records.proofs.grow as grow
 use Rattle.growth_record.specs.Record.{keptBy}
 use Rattle.growth_record.proofs.Keeping.{Keeps, keeps}
 use Rattle.growth_record.proofs.kept as kept
@@ -167,9 +168,9 @@ functionAt callee =
           (Mir.seq (Mir.assign (Mir.place 0 []) (Mir.rvOpd (part 11 0))) Mir.return)))))))))));
     }
 
-module _ (call : Parameters → Growth → File → Pool → After) (stays : (p : Parameters) (g : Growth) (f : File) (pool : Pool) → Keeps g (call p g f pool)) (callee : Mir.Name) where
+module _ (call : Parameters → GrowthRecord → File → Pool → After) (stays : (p : Parameters) (g : GrowthRecord) (f : File) (pool : Pool) → Keeps (g .state) (call p g f pool)) (callee : Mir.Name) where
   -- what the call leaves, and what the callee ensures of its result and the last lists
-  abbrev after : Parameters → Growth → Slices → After
+  abbrev after : Parameters → GrowthRecord → Slices → After
   after p g xs = call p g (lent (now (xs .0)) (now (xs .1 .0)) (now (xs .1 .1 .0)) (now (xs .1 .1 .1 .0)))
       (pooled (now (xs .1 .1 .1 .1 .0)) (now (xs .1 .1 .1 .1 .1 .0)) (now (xs .1 .1 .1 .1 .1 .1 .0)))
 
@@ -188,7 +189,7 @@ module _ (call : Parameters → Growth → File → Pool → After) (stays : (p 
         ensures =
             λ _ r e.
             sep 𝓤 (fact 𝓤 (Left (after (a .0) (a .1 .0) (a .1 .1)) (r .answer) (lists (e .1 .1))))
-            (fact 𝓤 (r .growth ≡ after (a .0) (a .1 .0) (a .1 .1) .growth));
+            (fact 𝓤 (r .growth ≡ recordAfter (a .1 .0) (after (a .0) (a .1 .0) (a .1 .1))));
       }
 
   abbrev pub said : {M : Type 1} (𝓤 : URA M) → Clauses 𝓤 f.ended
@@ -199,7 +200,7 @@ module _ (call : Parameters → Growth → File → Pool → After) (stays : (p 
         ensures =
             λ _ r e.
             sep 𝓤 (fact 𝓤 (Left (after (a .0) (now (a .1 .0)) (a .1 .1)) r (lists (e .1 .1))))
-            (fact 𝓤 (now (e .1 .0) ≡ after (a .0) (now (a .1 .0)) (a .1 .1) .growth));
+            (fact 𝓤 (now (e .1 .0) ≡ recordAfter (now (a .1 .0)) (after (a .0) (now (a .1 .0)) (a .1 .1))));
       }
 
   module _ {M : Type 1} (𝓤 : URA M) (H : Heap 𝓤) (A : Atoms 𝓤) (at-mem : Memory → SProp 𝓤) (run : Routine → Fun 𝓤) where
@@ -211,27 +212,27 @@ module _ (call : Parameters → Growth → File → Pool → After) (stays : (p 
     Kept = tripleOf 𝓤 H A kept.signature (kept.spec 𝓤 H A at-mem run)
 
     -- of `kept`'s `ensured`, the clause alone
-    kept-of : (h : Growth) (r : Grown) (g : Growth) → ent 𝓤 (ensured 𝓤 H A kept.ended (kept.clauses 𝓤 H A at-mem run) tt (h, (r, tt)) tt g) (fact 𝓤 (g ≡ keptBy (r .answer) h (r .growth)))
+    kept-of : (h : GrowthRecord) (r : Recorded) (g : GrowthRecord) → ent 𝓤 (ensured 𝓤 H A kept.ended (kept.clauses 𝓤 H A at-mem run) tt (h, (r, tt)) tt g) (fact 𝓤 (g ≡ keptBy (r .answer) h (r .growth)))
     kept-of h r g = exE 𝓤 _ (λ ws. snd∗ 𝓤 (sem 𝓤 H A (lasts kept.ended tt (h, (r, tt)) ws)) (fact 𝓤 (g ≡ keptBy (r .answer) h (r .growth))))
 
-  module _ {M : Type 1} (𝓤 : URA M) (H : Heap 𝓤) (A : Atoms 𝓤) (W : Given 𝓤 H A) (at-mem : Memory → SProp 𝓤) (run : Routine → Fun 𝓤) (κ : Lft) (κs : Lfts 7) (q : Share) (qs : Shares 7) (p : Parameters) (x : RefT Growth) (xs : Slices) where
+  module _ {M : Type 1} (𝓤 : URA M) (H : Heap 𝓤) (A : Atoms 𝓤) (W : Given 𝓤 H A) (at-mem : Memory → SProp 𝓤) (run : Routine → Fun 𝓤) (κ : Lft) (κs : Lfts 7) (q : Share) (qs : Shares 7) (p : Parameters) (x : RefT GrowthRecord) (xs : Slices) where
     abbrev b : ℕ
     b = ptr x .0
 
     abbrev o : ℕ
     o = ptr x .1
 
-    abbrev h : Growth
+    abbrev h : GrowthRecord
     h = now x
 
     -- the machine values
     abbrev mp : Val
     mp = LL.val P.the-type P′.the-laws p
 
-    abbrev mg : Growth → Val
+    abbrev mg : GrowthRecord → Val
     mg g = LL.val G.the-type G′.the-laws g
 
-    abbrev mr : Grown → Val
+    abbrev mr : Recorded → Val
     mr r = LL.val R.the-type R′.the-laws r
 
     abbrev s : RefT (List ℕ) → Val
@@ -259,15 +260,15 @@ module _ (call : Parameters → Growth → File → Pool → After) (stays : (p 
         owned ! G.the-row (Is G.the-row) (LL.makes G.the-type G′.the-plain 𝓤 H A) h _ is-h $ fjoin ! $ owned ! P.the-row (Is P.the-row) (LL.makes P.the-type P′.the-plain 𝓤 H A) p _ is-p $ fjoin ! $
         move ! (1 ∷ 0 ∷ []) $ join ! $ frame ! $ done !
 
-    abbrev to-kept : Grown → Kept 𝓤 H A at-mem run .Ghost
+    abbrev to-kept : Recorded → Kept 𝓤 H A at-mem run .Ghost
     to-kept r = ((tt, tt, tt, (h, (r, tt)), (mg h ∷ [], (mr r ∷ [], tt))), tt)
 
-    goes-kept : (r : Grown) → Is G.the-row h (mg h ∷ []) → Is R.the-row r (mr r ∷ []) → ent 𝓤 (emp 𝓤) (Kept 𝓤 H A at-mem run .pre (to-kept r))
+    goes-kept : (r : Recorded) → Is G.the-row h (mg h ∷ []) → Is R.the-row r (mr r ∷ []) → ent 𝓤 (emp 𝓤) (Kept 𝓤 H A at-mem run .pre (to-kept r))
     goes-kept r is-h is-r =
         qed W [] ∵ nothing ! $ owned ! R.the-row (Is R.the-row) (LL.makes R.the-type R′.the-plain 𝓤 H A) r _ is-r $ fjoin ! $
         owned ! G.the-row (Is G.the-row) (LL.makes G.the-type G′.the-plain 𝓤 H A) h _ is-h $ fjoin ! $ nothing ! $ join ! $ frame ! $ done !
 
-    exits : (r : Grown) (g : Growth) (ws : Lists) → Is P.the-row p (mp ∷ []) → Is Q.the-row (r .answer) (EL.vals Q.the-type Q′.the-laws (r .answer)) → Left (after p h xs) (r .answer) ws → g ≡ after p h xs .growth
+    exits : (r : Recorded) (g : GrowthRecord) (ws : Lists) → Is P.the-row p (mp ∷ []) → Is Q.the-row (r .answer) (EL.vals Q.the-type Q′.the-laws (r .answer)) → Left (after p h xs) (r .answer) ws → g ≡ recordAfter h (after p h xs)
         → ent 𝓤 (⋆ 𝓤 H A (‵ (fobs (name x) (G.the-row .coded .code g)) ∷ ‵ (fbor κ (Body (mem G.the-row) b o (name x))) ∷ ‵ (flft κ q) ∷ raw (alive 𝓤 H A grow.signature κs qs) ∷ ‵ (lastsOf κs slots (all yes slots) xs ws) ∷ []))
         (Post (EL.val Q.the-type Q′.the-laws (r .answer)))
     exits r g ws is-p is-a leaves grew =
@@ -319,10 +320,10 @@ module _ (call : Parameters → Growth → File → Pool → After) (stays : (p 
           (and-then ! (load ! (from ! (stop !)) (look ! 56 refl)) (and-then ! (load ! (from ! (stop !)) (look ! 38 refl)) (and-then ! (load ! (from ! (stop !)) (look ! 32 refl)) (and-then ! (load ! (from ! (stop !)) (look ! 28 refl))
           (and-then ! (load ! (from ! (stop !)) (look ! 24 refl)) (and-then ! (load ! (from ! (stop !)) (look ! 20 refl)) (and-then ! (load ! (from ! (stop !)) (look ! 16 refl)) (and-then ! (load ! (from ! (stop !)) (look ! 12 refl))
           (and-then ! (load ! (from ! (stop !)) (look ! 8 refl)) (no-more !)))))))))) (λ v.
-          use1 W (later (some (λ (r : Grown). (raw (alive 𝓤 H A grow.signature κs qs) ⊛ ‵ (R.the-row .own r (v ∷ []))) ⊛ raw (ensured 𝓤 H A grow.ended (asked 𝓤) κs (p, (h, xs)) tt r)))) (id⊢ 𝓤 _) $ await ! tt $ pick ! (λ r.
+          use1 W (later (some (λ (r : Recorded). (raw (alive 𝓤 H A grow.signature κs qs) ⊛ ‵ (R.the-row .own r (v ∷ []))) ⊛ raw (ensured 𝓤 H A grow.ended (asked 𝓤) κs (p, (h, xs)) tt r)))) (id⊢ 𝓤 _) $ await ! tt $ pick ! (λ r.
           -- what it ensures, at some last lists
-          split ! $ move ! (1 ∷ []) $ use1 W (some (λ (ws : Unit {0} × (Unit {0} × Lists)). ‵ (lasts grow.ended κs (p, (h, xs)) ws) ⊛ raw (fact 𝓤 (Left (after p h xs) (r .answer) (ws .1 .1))) ⊛ raw (fact 𝓤 (r .growth ≡ after p h xs .growth)))) (id⊢ 𝓤 _) $ pick ! (λ ws.
-          split ! $ move ! (1 ∷ []) $ split ! $ heard ! (Left (after p h xs) (r .answer) (ws .1 .1)) (λ leaves. heard ! (r .growth ≡ after p h xs .growth) (λ grew. fsplit ! $ drop ! $ fsplit ! $ drop ! $
+          split ! $ move ! (1 ∷ []) $ use1 W (some (λ (ws : Unit {0} × (Unit {0} × Lists)). ‵ (lasts grow.ended κs (p, (h, xs)) ws) ⊛ raw (fact 𝓤 (Left (after p h xs) (r .answer) (ws .1 .1))) ⊛ raw (fact 𝓤 (r .growth ≡ recordAfter h (after p h xs))))) (id⊢ 𝓤 _) $ pick ! (λ ws.
+          split ! $ move ! (1 ∷ []) $ split ! $ heard ! (Left (after p h xs) (r .answer) (ws .1 .1)) (λ leaves. heard ! (r .growth ≡ recordAfter h (after p h xs)) (λ grew. fsplit ! $ drop ! $ fsplit ! $ drop ! $
           -- [the last lists; the tokens and the result; the record's cell; …]
           move ! (1 ∷ []) $ split ! $ move ! (1 ∷ []) $ peeks ! R.the-row (Is R.the-row) (shows 𝓤 H A R.the-row) r (v ∷ []) (λ is-v. drop ! $
           land ! (from ! (stop !)) (init ! 37 refl (LL.lawful R.the-type R′.the-laws 𝓤 H A W .typed r _ is-v .0)) $
@@ -330,7 +331,7 @@ module _ (call : Parameters → Growth → File → Pool → After) (stays : (p 
           -- `kept`. [what it asks; the slices' tokens; the last lists; the record's cell; what it owns; the open borrow; obs; auth; _26; …]: local i stands at 60 − 2·i
           use0 W (raw (Kept 𝓤 H A at-mem run .pre (to-kept r))) (goes-kept r is-h (LL.owes R.the-type R′.the-laws r (LL.owed R.the-type R′.the-laws r _ is-v))) $
           calls-at ! fm (Kept 𝓤 H A at-mem run) known-kept (to-kept r) (and-then ! (load ! (from ! (stop !)) (look ! 40 refl)) (and-then ! (load ! (from ! (stop !)) (look ! 38 refl)) (no-more !))) (λ u.
-          use1 W (later (some (λ (g : Growth). (‵ ftrue ⊛ ‵ (G.the-row .own g (u ∷ []))) ⊛ raw (ensured 𝓤 H A kept.ended (kept.clauses 𝓤 H A at-mem run) tt (h, (r, tt)) tt g)))) (id⊢ 𝓤 _) $ await ! tt $ pick ! (λ g.
+          use1 W (later (some (λ (g : GrowthRecord). (‵ ftrue ⊛ ‵ (G.the-row .own g (u ∷ []))) ⊛ raw (ensured 𝓤 H A kept.ended (kept.clauses 𝓤 H A at-mem run) tt (h, (r, tt)) tt g)))) (id⊢ 𝓤 _) $ await ! tt $ pick ! (λ g.
           split ! $ move ! (1 ∷ []) $ use1 W (raw (fact 𝓤 (g ≡ keptBy (r .answer) h (r .growth)))) (kept-of 𝓤 H A at-mem run h r g) $ heard ! (g ≡ keptBy (r .answer) h (r .growth)) (λ chose. split ! $ drop ! $
           peeks ! G.the-row (Is G.the-row) (shows 𝓤 H A G.the-row) g (u ∷ []) (λ is-u.
           land ! (from ! (stop !)) (init ! 8 refl (LL.lawful G.the-type G′.the-laws 𝓤 H A W .typed g _ is-u .0)) $

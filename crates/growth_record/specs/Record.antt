@@ -1,9 +1,9 @@
--- The growth state that a caller keeps after growth or shrinking.
-use Rattle.hashing.specs.declared.Growth.{Growth}
+-- The growth record that a caller keeps after growth or shrinking.
+use Rattle.calls.specs.declared.records.GrowthRecord.{GrowthRecord}
 use Rattle.calls.specs.declared.answers.Placed.{Placed}
 use Rattle.calls.specs.declared.answers.Placed.the-variants.{On, Refused}
 
 -- "File buffers and (e, x) keep their contents" after a refusal
-abbrev pub keptBy : Placed → Growth → Growth → Growth
+abbrev pub keptBy : Placed → GrowthRecord → GrowthRecord → GrowthRecord
 keptBy (On page place) old new = new
 keptBy (Refused r place) old new = old

@@ -2,18 +2,18 @@
 ghost use mathlib.Core.Path.{_≡_};
 ghost use Rattle.placement.specs.Lent.{before, after};
 ghost use Rattle.calls.specs.Answers.{Leaves, placed};
-ghost use Rattle.calls.specs.Calls.{growOf, shrinkOf};
 ghost use Rattle.calls.specs.Lent.{poolBefore, poolAfter};
+ghost use Rattle.calls.specs.Records.{growUnder, shrinkUnder, recordAfter};
 ghost use Rattle.growth_record.specs.Record.{keptBy};
-use calls::answers::Grown;
 use calls::answers::Placed;
-use hashing::Growth;
+use calls::records::GrowthRecord;
+use calls::records::Recorded;
 use hashing::Parameters;
 
 // "The pair (e, x) is one record that growth updates for its caller": stored if growth was accepted.
 pub fn grow(
     parameters: Parameters,
-    growth: &mut Growth,
+    growth: &mut GrowthRecord,
     separators: &mut [u8],
     numbers: &mut [u32],
     words: &mut [u64],
@@ -22,9 +22,10 @@ pub fn grow(
     poolwords: &mut [u64],
     poolowners: &mut [u8],
 ) -> Placed
-    ensures { λ r. ⌜ Leaves (growOf parameters (now (growth .entry)) (before separators numbers words owners) (poolBefore poolnumbers poolwords poolowners))
+    ensures { λ r. ⌜ Leaves (growUnder parameters (now (growth .entry)) (before separators numbers words owners) (poolBefore poolnumbers poolwords poolowners))
         (placed r) (after separators numbers words owners) (poolAfter poolnumbers poolwords poolowners) ⌝ }
-    ensures { λ _. ⌜ now (growth .exit) ≡ growOf parameters (now (growth .entry)) (before separators numbers words owners) (poolBefore poolnumbers poolwords poolowners) .growth ⌝ }
+    ensures { λ _. ⌜ now (growth .exit) ≡ recordAfter (now (growth .entry))
+        (growUnder parameters (now (growth .entry)) (before separators numbers words owners) (poolBefore poolnumbers poolwords poolowners)) ⌝ }
 {
     let old = *growth;
     let grown = starfile::grow(
@@ -45,7 +46,7 @@ pub fn grow(
 // The same of shrinking.
 pub fn shrink(
     parameters: Parameters,
-    growth: &mut Growth,
+    growth: &mut GrowthRecord,
     separators: &mut [u8],
     numbers: &mut [u32],
     words: &mut [u64],
@@ -54,9 +55,10 @@ pub fn shrink(
     poolwords: &mut [u64],
     poolowners: &mut [u8],
 ) -> Placed
-    ensures { λ r. ⌜ Leaves (shrinkOf parameters (now (growth .entry)) (before separators numbers words owners) (poolBefore poolnumbers poolwords poolowners))
+    ensures { λ r. ⌜ Leaves (shrinkUnder parameters (now (growth .entry)) (before separators numbers words owners) (poolBefore poolnumbers poolwords poolowners))
         (placed r) (after separators numbers words owners) (poolAfter poolnumbers poolwords poolowners) ⌝ }
-    ensures { λ _. ⌜ now (growth .exit) ≡ shrinkOf parameters (now (growth .entry)) (before separators numbers words owners) (poolBefore poolnumbers poolwords poolowners) .growth ⌝ }
+    ensures { λ _. ⌜ now (growth .exit) ≡ recordAfter (now (growth .entry))
+        (shrinkUnder parameters (now (growth .entry)) (before separators numbers words owners) (poolBefore poolnumbers poolwords poolowners)) ⌝ }
 {
     let old = *growth;
     let shrunk = starfile::shrink(
@@ -74,8 +76,8 @@ pub fn shrink(
     shrunk.answer
 }
 
-// The growth state after the call: the new one if it was accepted, the old one if it was refused.
-fn kept(old: Growth, grown: Grown) -> Growth
+// The record after the call: the new one if it was accepted, the old one if it was refused.
+fn kept(old: GrowthRecord, grown: Recorded) -> GrowthRecord
     ensures { λ r. ⌜ r ≡ keptBy (grown .answer) old (grown .growth) ⌝ }
 {
     let answer = grown.answer;

@@ -14,8 +14,10 @@ use Rattle.pages.proofs.Places.{held-there}
 use Rattle.placement.specs.File.{File, starsAt, sound}
 use Rattle.placement.specs.Hash.{hashOf, soundAt, namedPage}
 use Rattle.calls.specs.declared.answers.Answer.{Answer}
+use Rattle.calls.specs.declared.records.GrowthRecord.{GrowthRecord}
 use Rattle.calls.specs.Answers.{Pool, After, acceptedAt, refused, foundAt}
 use Rattle.calls.specs.Calls.{named, fileFits, unless, orElse, unlent, unchanged, guarded, readable, holds, itemOf, lookedUp, lookUpOf}
+use Rattle.calls.specs.Records.{validSteps, lookUpUnder}
 use Rattle.histories.specs.Alike.{Alike, LookUpsAlike}
 
 -- an item of a page, by the page's items
@@ -55,21 +57,29 @@ module _ (p : Parameters) (g : Growth) (f h : File) (page : ℕ) (seps : f .sepa
       go true e = rw (item-alike (p .places) page place (f .words) (h .words) (place-below (p .places) page k (h .numbers) e) ws)
       go false e = refl
 
-fits-alike : (p : Parameters) (g : Growth) (k : ℕ) (f h : File) → Alike p g k f h → fileFits p f ≡ fileFits p h
+fits-alike : (p : Parameters) (r : GrowthRecord) (k : ℕ) (f h : File) → Alike p r k f h → fileFits p f ≡ fileFits p h
 unfolding fileFits
-fits-alike p g k f h a = rw (a .separators, a .numbersLength, a .wordsLength, a .ownersLength)
+fits-alike p r k f h a = rw (a .separators, a .numbersLength, a .wordsLength, a .ownersLength)
 
-named-alike : (p : Parameters) (g : Growth) (k : ℕ) (f h : File) → Alike p g k f h
-    → lookedUp p g f (named p g f k) k ≡ lookedUp p g h (named p g h k) k
-named-alike p g k f h a =
-    looked-up-alike p g f h (named p g f k) (a .separators) (a .numbers) (a .words) (a .owners) k
-    ∙ ap (λ (vs : List ℕ). lookedUp p g h (namedPage p g vs k) k) (a .separators)
+named-alike : (p : Parameters) (r : GrowthRecord) (k : ℕ) (f h : File) → Alike p r k f h
+    → lookedUp p (r .state) f (named p (r .state) f k) k ≡ lookedUp p (r .state) h (named p (r .state) h k) k
+named-alike p r k f h a =
+    looked-up-alike p (r .state) f h (named p (r .state) f k) (a .separators) (a .numbers) (a .words) (a .owners) k
+    ∙ ap (λ (vs : List ℕ). lookedUp p (r .state) h (namedPage p (r .state) vs k) k) (a .separators)
 
-pub look-ups-alike : LookUpsAlike
+under-state : (p : Parameters) (r : GrowthRecord) (k : ℕ) (f h : File) (pool other : Pool) → Alike p r k f h
+    → lookUpOf p (r .state) f pool k .answer ≡ lookUpOf p (r .state) h other k .answer
 unfolding lookUpOf
-look-ups-alike p g k f h pool other a =
-    ap (λ (t : Bool). guarded g f pool (orElse (unlent p g t) (unless (validNumber k) 3)) (unchanged g f pool (lookedUp p g f (named p g f k) k)) .answer) (fits-alike p g k f h a)
+under-state p r k f h pool other a =
+    let g = r .state in
+    ap (λ (t : Bool). guarded g f pool (orElse (unlent p g t) (unless (validNumber k) 3)) (unchanged g f pool (lookedUp p g f (named p g f k) k)) .answer) (fits-alike p r k f h a)
     ∙ guarded-alike g f h pool other (orElse (unlent p g (fileFits p h)) (unless (validNumber k) 3))
     (unchanged g f pool (lookedUp p g f (named p g f k) k))
     (unchanged g h other (lookedUp p g h (named p g h k) k))
-    (named-alike p g k f h a)
+    (named-alike p r k f h a)
+
+pub look-ups-alike : LookUpsAlike
+unfolding lookUpUnder
+look-ups-alike p r k f h pool other a =
+    guarded-alike (r .state) f h pool other (unless (validSteps p r) 1) (lookUpOf p (r .state) f pool k) (lookUpOf p (r .state) h other k)
+    (under-state p r k f h pool other a)

@@ -1,54 +1,86 @@
 -- Demand 3 and its corollaries.
-use mathlib.Core.Path.{_≡_, refl, sym, ap, _∙_}
-use Prim.Native.Nat.{ℕ}
-use Rattle.hashing.specs.declared.Parameters.{Parameters}
-use mathlib.Core.Bool.{true}
+use mathlib.Core.Path.{_≡_, refl, sym, ap, subst, _∙_}
+use mathlib.Core.Bool.{Bool, true, false, not, cond, _&&_, true≢false}
 use mathlib.Core.Logic.{_⊎_}
 use mathlib.Core.Option.{some}
+use Prim.Native.Nat.{ℕ}
 use native.Mathlib.Omega.{arith}
+use lib.Dec.{eqb}
+use borrow.Author.Tests.{eqb-true}
+use Rattle.hashing.specs.declared.Parameters.{Parameters}
 use Rattle.pages.specs.declared.position.Position.{Position}
 use Rattle.pages.specs.Position.{validNumber, validPosition, validWord}
 use Rattle.placement.specs.File.{File, Clean}
 use Rattle.placement.specs.Hash.{hashOf, namedPage}
 use Rattle.placement.proofs.Sound.{clean-laid}
 use Rattle.calls.specs.declared.answers.Answer.{Answer}
-use Rattle.calls.specs.Answers.{Pool, After, spotted, acceptedAt, refusedAt, cleared}
-use Rattle.calls.specs.Calls.{poolFits, unchanged, lookUpOf, enterOf, checkOf}
-use Rattle.histories.specs.Model.{Model, lookUp, enter, cascade, change, remove, grow, shrink, due, check, fed, heldPosition, heldOwner, heldEntry, modelFile, pageFor, placeOn, answered}
-use Rattle.histories.specs.Call.{Call, callOf, step, isAccepted}
-use Rattle.histories.specs.Run.{HistoryState, Event, initial, outcome, next, end}
+use Rattle.calls.specs.declared.records.GrowthRecord.{GrowthRecord}
+use Rattle.calls.specs.Answers.{Pool, After, spotted, acceptedAt, accepted, refused, refusedAt, cleared}
+use Rattle.calls.specs.Calls.{fileFits, poolFits, unlent, unchanged, emptyFile, lookUpOf, enterOf, cascadeOf, changeOf, removeOf, growOn, growOf, shrinkOf, checkOf}
+use Rattle.calls.specs.Records.{
+  validSteps,
+  openRecord,
+  unlessOpen,
+  lookUpUnder,
+  enterUnder,
+  cascadeUnder,
+  changeUnder,
+  removeUnder,
+  growUnder,
+  shrinkUnder,
+  checkUnder,
+  AfterStep,
+  notStepped,
+  stepRefusal,
+  openOn,
+  openUnder,
+  stepUnder,
+}
+use Rattle.histories.specs.Model.{
+  Model,
+  Request,
+  lookUp,
+  enter,
+  cascade,
+  change,
+  remove,
+  grow,
+  shrink,
+  due,
+  check,
+  openGrowth,
+  stepGrowth,
+  fed,
+  heldPosition,
+  heldOwner,
+  heldEntry,
+  modelFile,
+  unfinishedFile,
+  pageFor,
+  placeOn,
+  answered,
+}
+use Rattle.histories.specs.Call.{Call, callOf, isAccepted, finishes, Outcome, onFile, onOpening, onStep, step}
+use Rattle.histories.specs.Run.{HistoryState, Event, initial, outcome, countsAs, next, end}
 use Rattle.histories.specs.Theorem.{EveryHistory}
-use Rattle.histories.specs.Corollaries.{NotOwner, AcceptedAt, InHistory, EachState, SameContents, SameState, HistoryIndependence}
+use Rattle.histories.specs.Corollaries.{NotOwner, AcceptedAt, OutOfTurn, writes, AtRest, InHistory, EachState, SameContents, SameState, HistoryIndependence}
 use Rattle.histories.proofs.Entries.{determined, position-valid}
 use Rattle.histories.proofs.Fitting.{Fitting, hashFor, starsFor, rising-from, proper, in-range}
 use Rattle.histories.proofs.Guards.{lent, lent-pool}
-use Rattle.histories.proofs.LookUp.{looks-up, look-up-conforms}
-use Rattle.histories.proofs.Enter.{enter-conforms, fed-own, resent, other, full}
-use Rattle.histories.proofs.Cascade.{cascade-is, cascade-conforms, fed-alike}
-use Rattle.histories.proofs.Change.{change-conforms, change-refused, change-accepted}
-use Rattle.histories.proofs.Remove.{remove-conforms, removal-refused, removal-accepted}
-use Rattle.histories.proofs.Grow.{grow-conforms, shrink-conforms, shrink-first, shrink-full}
-use Rattle.histories.proofs.Due.{due-conforms}
-use Rattle.histories.proofs.Check.{check-conforms, finds-nothing}
+use Rattle.histories.proofs.LookUp.{looks-up}
+use Rattle.histories.proofs.Enter.{fed-own, resent, other, full}
+use Rattle.histories.proofs.Cascade.{cascade-is, fed-alike}
+use Rattle.histories.proofs.Change.{change-refused, change-accepted}
+use Rattle.histories.proofs.Remove.{removal-refused, removal-accepted}
+use Rattle.histories.proofs.Grow.{shrink-first, shrink-full}
+use Rattle.histories.proofs.Check.{finds-nothing}
 use Rattle.histories.proofs.Conforms.{fedWith, fed-refused}
-use Rattle.histories.proofs.Histories.{Agrees, Conforming, each-event, end-agrees, as-model}
+use Rattle.histories.proofs.Histories.{Agrees, each-event, end-agrees, as-model}
 use Rattle.histories.proofs.Make.{initial-agrees}
-
--- one law for each kind of call
-pub conforming : Conforming
-unfolding step
-conforming p m t pool (lookUp k) = look-up-conforms p m t pool k
-conforming p m t pool (enter caller k q) = enter-conforms p m t caller k q pool
-conforming p m t pool (cascade caller k q) = cascade-conforms p m t caller k q pool
-conforming p m t pool (change caller k q) = change-conforms p m t caller k q pool
-conforming p m t pool (remove caller k) = remove-conforms p m t caller k pool
-conforming p m t pool grow = grow-conforms p m t pool
-conforming p m t pool shrink = shrink-conforms p m t pool
-conforming p m t pool due = due-conforms p m t pool
-conforming p m t pool check = check-conforms p m t pool
+use Rattle.histories.proofs.Under.{step-accepted, is-opened, conforming}
 
 pub every-history : EveryHistory
-every-history p f pool accepted history = as-model conforming (initial p f pool) (initial-agrees p f pool accepted) history
+every-history p f second pool accepted history = as-model conforming (initial p f second pool) (initial-agrees p f second pool accepted) history
 
 -- The corollaries.
 clean-file : (p : Parameters) (m : Model) → Fitting p m → Clean validWord (hashFor p m) (p .pages) (modelFile p m)
@@ -64,99 +96,279 @@ look-up-accepts : (p : Parameters) (m : Model) → Fitting p m → (pool : Pool)
 unfolding lookUpOf pageFor namedPage
 look-up-accepts p m t pool k e = rw (lent p m t, e) (looks-up p m t k (in-range k e .0))
 
--- A call that is answered so and leaves the file, and leaves the model when fed, is no step.
-no-step : (s : HistoryState) (c : Call) (pool : Pool) (a : Answer) → outcome s c ≡ unchanged (s .growth) (s .file) pool a
-    → fedWith (s .parameters) (c .request) a (s .model) ≡ s .model → next s c ≡ s
-unfolding next
-no-step s c pool a e d =
-    let m = ap (λ (x : After). fedWith (s .parameters) (c .request) (x .answer) (s .model)) e ∙ d in
-    λ i. record { parameters = s .parameters; growth = e i .growth; file = e i .file; model = m i }
+-- The calls under a record: at rest those under its growth state, while a growth is open refused with 16.
+module _ (p : Parameters) (r : GrowthRecord) (f : File) (pool : Pool) (v : validSteps p r ≡ true) where
+  rests : r .growing ≡ false → (lengths : Bool) (a : After) → unlessOpen p r lengths f pool a ≡ a
+  rests e lengths a = rw (v, e)
 
-refused-stays : (s : HistoryState) → Agrees s → (c : Call) (pool : Pool) (a : Answer) → (a .refusal ≡ 0 → ⊥) → outcome s c ≡ unchanged (s .growth) (s .file) pool a
+  turned-away : r .growing ≡ true → (lengths : Bool) (a : After) → unlent p (r .state) lengths ≡ 0
+      → unlessOpen p r lengths f pool a ≡ unchanged (r .state) f (cleared pool) (refused 16 0)
+  turned-away e lengths a l = rw (v, e, l)
+
+  module _ (second : File) (l : unlent p (r .state) (fileFits p f && (fileFits p second && poolFits p pool)) ≡ 0) where
+    not-opened : r .growing ≡ true → openUnder p r f second pool ≡ notStepped r second (cleared pool) (refused 16 0)
+    unfolding openUnder stepRefusal
+    not-opened e = rw (v, l, e)
+
+    not-stepped : r .growing ≡ false → stepUnder p r f second pool ≡ notStepped r second (cleared pool) (refused 16 0)
+    unfolding stepUnder stepRefusal
+    not-stepped e = rw (v, l, e)
+
+    -- an opening is refused as the growth
+    opens : r .growing ≡ false → openUnder p r f second pool ≡ openOn p r f second (cleared pool)
+    unfolding openUnder stepRefusal
+    opens e = rw (v, l, e)
+
+    opens-as : openOn p r f second (cleared pool) .answer .refusal ≡ growOn p (r .state) f (cleared pool) .answer .refusal
+    unfolding openOn spotted
+    opens-as = go (growOn p (r .state) f (cleared pool)) (eqb (growOn p (r .state) f (cleared pool) .answer .refusal) 0) refl
+      where
+        go : (whole : After) (b : Bool) → eqb (whole .answer .refusal) 0 ≡ b
+            → cond b
+            (record { answer = accepted 0; growth = openRecord (r .state) 0; second = emptyFile p; pool = cleared pool })
+            (notStepped r second (cleared pool) (whole .answer)) .answer .refusal
+            ≡ whole .answer .refusal
+        go whole true d = sym (eqb-true (whole .answer .refusal) 0 d)
+        go whole false d = refl
+
+-- a call that leaves the record finishes nothing
+goes-on : (b : Bool) → b && not b ≡ false
+goes-on true = refl
+goes-on false = refl
+
+-- what a call leaves that changes nothing
+abbrev same : HistoryState → Pool → Answer → Outcome
+same s pool a = record { answer = a; growth = s .growth; file = s .file; second = s .second; pool = pool }
+
+-- A call that is answered so and changes nothing, and leaves the model when fed, is no step.
+no-step : (s : HistoryState) (c : Call) (pool : Pool) (a : Answer) → outcome s c ≡ same s pool a
+    → fedWith (s .parameters) (c .request) a (s .model) ≡ s .model → next s c ≡ s
+unfolding next countsAs finishes
+no-step s c pool a e d =
+    let m : fed (s .parameters) (cond (s .growth .growing && not (outcome s c .growth .growing)) grow (c .request)) (isAccepted (outcome s c .answer)) (s .model) ≡ s .model =
+    ap (λ (x : Outcome). fedWith (s .parameters) (cond (s .growth .growing && not (x .growth .growing)) grow (c .request)) (x .answer) (s .model)) e
+    ∙ ap (λ (b : Bool). fedWith (s .parameters) (cond b grow (c .request)) a (s .model)) (goes-on (s .growth .growing))
+    ∙ d in
+    λ i. record { parameters = s .parameters; growth = e i .growth; file = e i .file; second = e i .second; model = m i }
+
+refused-stays : (s : HistoryState) → Agrees s → (c : Call) (pool : Pool) (a : Answer) → (a .refusal ≡ 0 → ⊥) → outcome s c ≡ same s pool a
     → (outcome s c .answer ≡ a) × (next s c ≡ s)
 refused-stays s agrees c pool a h e = (
-  ap (λ (x : After). x .answer) e,
+  ap (λ (x : Outcome). x .answer) e,
   no-step s c pool a e (fed-refused (s .parameters) (s .model) (agrees .fitting) (c .request) a h),
 )
 
-module _ (s : HistoryState) (agrees : Agrees s) (pool : Pool) (fit : poolFits (s .parameters) pool ≡ true) (caller k : ℕ) where
-  module _ (q : Position) (e : heldPosition k (s .model .entries) ≡ some q) where
-    leaves : enterOf (s .parameters) (s .growth) (s .file) pool caller k q
-        ≡ unchanged (s .growth) (s .file) (cleared pool) (acceptedAt (pageFor (s .parameters) (s .model) k) (placeOn (s .parameters) (s .model) k))
-    leaves =
-        rw (agrees .growth, agrees .file)
-        (resent (s .parameters) (s .model) (agrees .fitting) caller k q pool fit q e (position-valid 1 k q (s .model .entries) (agrees .fitting .ordered) e .position) refl)
+module _ (s : HistoryState) (agrees : Agrees s) (second : File) (pool : Pool) where
+  abbrev p : Parameters
+  p = s .parameters
 
-    stays : next s (callOf pool (enter caller k q)) ≡ s
-    unfolding outcome step fed isAccepted spotted
-    stays =
-        no-step s (callOf pool (enter caller k q)) (cleared pool) (acceptedAt (pageFor (s .parameters) (s .model) k) (placeOn (s .parameters) (s .model) k)) leaves
-        (fed-own (s .parameters) (s .model) (agrees .fitting) caller k q e)
+  abbrev t : Fitting p (s .model)
+  t = agrees .fitting
 
-  refuses : (q r : Position) → validPosition q ≡ true → heldPosition k (s .model .entries) ≡ some r → (r ≡ q → ⊥)
-      → enterOf (s .parameters) (s .growth) (s .file) pool caller k q .answer ≡ refusedAt 6 0 (placeOn (s .parameters) (s .model) k)
-  refuses q r v e d = rw (agrees .growth, agrees .file, other (s .parameters) (s .model) (agrees .fitting) caller k q pool fit r e v d)
+  fits : unlent p (s .growth .state) (fileFits p (s .file)) ≡ 0
+  fits = rw (agrees .growth, agrees .file) (lent p (s .model) t)
 
--- A cascade.
-module _ (s : HistoryState) (agrees : Agrees s) (pool : Pool) (caller k : ℕ) (q : Position) where
-  does-as-entry : outcome s (callOf pool (cascade caller k q)) ≡ outcome s (callOf pool (enter caller k q))
-  unfolding outcome step
-  does-as-entry = rw (agrees .growth, agrees .file) (cascade-is (s .parameters) (s .model) (agrees .fitting) caller k q pool)
+  fits-with : (b : Bool) → b ≡ true → unlent p (s .growth .state) (fileFits p (s .file) && b) ≡ 0
+  fits-with b e = rw (agrees .growth, agrees .file, lent-pool p (s .model) t b, e)
 
-  counts-as-entry : next s (callOf pool (cascade caller k q)) ≡ next s (callOf pool (enter caller k q))
-  unfolding next
-  counts-as-entry =
-      rw does-as-entry
-      (ap (λ (m : Model). record { parameters = s .parameters; growth = outcome s (callOf pool (enter caller k q)) .growth; file = outcome s (callOf pool (enter caller k q)) .file; model = m })
-      (fed-alike (s .parameters) (s .model) caller k q (isAccepted (outcome s (callOf pool (enter caller k q)) .answer))))
+  fits-both : poolFits p pool ≡ true → (set : File) → fileFits p set ≡ true → unlent p (s .growth .state) (fileFits p (s .file) && (fileFits p set && poolFits p pool)) ≡ 0
+  fits-both e set d = fits-with (fileFits p set && poolFits p pool) (rw (d, e))
 
--- Changes and removals of a held star.
-module _ (s : HistoryState) (agrees : Agrees s) (pool : Pool) (caller k : ℕ) (r : Position) (e : heldPosition k (s .model .entries) ≡ some r) where
-  module _ (h : caller ≡ 0 → ⊥) (d : caller ≡ heldOwner k (s .model .entries) → ⊥) where
-    no-change : (q : Position) → validPosition q ≡ true → NotOwner s (callOf pool (change caller k q)) k
-    unfolding outcome step spotted
-    no-change q v =
-        refused-stays s agrees (callOf pool (change caller k q)) pool (refusedAt 13 0 (placeOn (s .parameters) (s .model) k)) (λ z. omega arith)
-        (rw (agrees .growth, agrees .file) (change-refused (s .parameters) (s .model) (agrees .fitting) caller k q pool r e v h d))
+  -- A cascade.
+  module _ (caller k : ℕ) (q : Position) where
+    does-as-entry : outcome s (callOf pool second (cascade caller k q)) ≡ outcome s (callOf pool second (enter caller k q))
+    unfolding outcome step cascadeUnder enterUnder
+    does-as-entry =
+        ap (λ (a : After). onFile (s .growth) (s .second) (unlessOpen p (s .growth) (fileFits p (s .file) && poolFits p pool) (s .file) pool a)) inner
+      where
+        inner : cascadeOf p (s .growth .state) (s .file) pool caller k q ≡ enterOf p (s .growth .state) (s .file) pool caller k q
+        inner = rw (agrees .growth, agrees .file) (cascade-is p (s .model) t caller k q pool)
 
-    no-removal : poolFits (s .parameters) pool ≡ true → NotOwner s (callOf pool (remove caller k)) k
-    unfolding outcome step spotted
-    no-removal fit =
-        refused-stays s agrees (callOf pool (remove caller k)) (cleared pool) (refusedAt 13 0 (placeOn (s .parameters) (s .model) k)) (λ z. omega arith)
-        (rw (agrees .growth, agrees .file) (removal-refused (s .parameters) (s .model) (agrees .fitting) caller k pool fit r e h d))
+    counts-alike : (b accepted : Bool) → fed p (cond b grow (cascade caller k q)) accepted (s .model) ≡ fed p (cond b grow (enter caller k q)) accepted (s .model)
+    counts-alike true accepted = refl
+    counts-alike false accepted = fed-alike p (s .model) caller k q accepted
 
-  module _ (h : (caller ≡ 0) ⊎ (caller ≡ heldOwner k (s .model .entries))) where
-    own-change : (q : Position) → validPosition q ≡ true → AcceptedAt s (callOf pool (change caller k q)) k
+    counts-as-entry : next s (callOf pool second (cascade caller k q)) ≡ next s (callOf pool second (enter caller k q))
+    unfolding next countsAs
+    counts-as-entry =
+        let o = outcome s (callOf pool second (enter caller k q)) in
+        rw does-as-entry
+        (ap (λ (m : Model). record { parameters = p; growth = o .growth; file = o .file; second = o .second; model = m })
+        (counts-alike (finishes (s .growth) (o .growth)) (isAccepted (o .answer))))
+
+  -- With no growth open.
+  module _ (rest : s .growth .growing ≡ false) where
+    abbrev free : (lengths : Bool) (a : After) → unlessOpen p (s .growth) lengths (s .file) pool a ≡ a
+    free = rests p (s .growth) (s .file) pool (agrees .steps) rest
+
+    abbrev leaving : After → Outcome
+    leaving a = onFile (s .growth) (s .second) a
+
+    enters : (caller k : ℕ) (q : Position) → outcome s (callOf pool second (enter caller k q)) ≡ leaving (enterOf p (s .growth .state) (s .file) pool caller k q)
+    unfolding outcome step enterUnder
+    enters caller k q = ap leaving (free (fileFits p (s .file) && poolFits p pool) (enterOf p (s .growth .state) (s .file) pool caller k q))
+
+    changes : (caller k : ℕ) (q : Position) → outcome s (callOf pool second (change caller k q)) ≡ leaving (changeOf p (s .growth .state) (s .file) pool caller k q)
+    unfolding outcome step changeUnder
+    changes caller k q = ap leaving (free (fileFits p (s .file)) (changeOf p (s .growth .state) (s .file) pool caller k q))
+
+    removes : (caller k : ℕ) → outcome s (callOf pool second (remove caller k)) ≡ leaving (removeOf p (s .growth .state) (s .file) pool caller k)
+    unfolding outcome step removeUnder
+    removes caller k = ap leaving (free (fileFits p (s .file) && poolFits p pool) (removeOf p (s .growth .state) (s .file) pool caller k))
+
+    shrinks : outcome s (callOf pool second shrink) ≡ leaving (shrinkOf p (s .growth .state) (s .file) pool)
+    unfolding outcome step shrinkUnder
+    shrinks = ap leaving (free (fileFits p (s .file) && poolFits p pool) (shrinkOf p (s .growth .state) (s .file) pool))
+
+    grows : outcome s (callOf pool second grow) ≡ leaving (growOf p (s .growth .state) (s .file) pool)
+    unfolding outcome step growUnder
+    grows = ap leaving (free (fileFits p (s .file) && poolFits p pool) (growOf p (s .growth .state) (s .file) pool))
+
+    module _ (fit : poolFits p pool ≡ true) (caller k : ℕ) where
+      module _ (q : Position) (e : heldPosition k (s .model .entries) ≡ some q) where
+        leaves : outcome s (callOf pool second (enter caller k q)) ≡ same s (cleared pool) (acceptedAt (pageFor p (s .model) k) (placeOn p (s .model) k))
+        leaves = enters caller k q ∙ ap leaving inner
+          where
+            inner : enterOf p (s .growth .state) (s .file) pool caller k q
+                ≡ unchanged (s .growth .state) (s .file) (cleared pool) (acceptedAt (pageFor p (s .model) k) (placeOn p (s .model) k))
+            inner =
+                rw (agrees .growth, agrees .file)
+                (resent p (s .model) t caller k q pool fit q e (position-valid 1 k q (s .model .entries) (t .ordered) e .position) refl)
+
+        stays : next s (callOf pool second (enter caller k q)) ≡ s
+        unfolding fed isAccepted spotted
+        stays =
+            no-step s (callOf pool second (enter caller k q)) (cleared pool) (acceptedAt (pageFor p (s .model) k) (placeOn p (s .model) k)) leaves
+            (fed-own p (s .model) t caller k q e)
+
+      refuses : (q r : Position) → validPosition q ≡ true → heldPosition k (s .model .entries) ≡ some r → (r ≡ q → ⊥)
+          → outcome s (callOf pool second (enter caller k q)) .answer ≡ refusedAt 6 0 (placeOn p (s .model) k)
+      refuses q r v e d = rw (enters caller k q, agrees .growth, agrees .file, other p (s .model) t caller k q pool fit r e v d)
+
+    -- Changes and removals of a held star.
+    module _ (caller k : ℕ) (r : Position) (e : heldPosition k (s .model .entries) ≡ some r) where
+      module _ (h : caller ≡ 0 → ⊥) (d : caller ≡ heldOwner k (s .model .entries) → ⊥) where
+        no-change : (q : Position) → validPosition q ≡ true → NotOwner s (callOf pool second (change caller k q)) k
+        unfolding spotted
+        no-change q v =
+            refused-stays s agrees (callOf pool second (change caller k q)) pool (refusedAt 13 0 (placeOn p (s .model) k)) (λ z. omega arith)
+            (changes caller k q ∙ ap leaving inner)
+          where
+            inner : changeOf p (s .growth .state) (s .file) pool caller k q ≡ unchanged (s .growth .state) (s .file) pool (refusedAt 13 0 (placeOn p (s .model) k))
+            inner = rw (agrees .growth, agrees .file) (change-refused p (s .model) t caller k q pool r e v h d)
+
+        no-removal : poolFits p pool ≡ true → NotOwner s (callOf pool second (remove caller k)) k
+        unfolding spotted
+        no-removal fit =
+            refused-stays s agrees (callOf pool second (remove caller k)) (cleared pool) (refusedAt 13 0 (placeOn p (s .model) k)) (λ z. omega arith)
+            (removes caller k ∙ ap leaving inner)
+          where
+            inner : removeOf p (s .growth .state) (s .file) pool caller k ≡ unchanged (s .growth .state) (s .file) (cleared pool) (refusedAt 13 0 (placeOn p (s .model) k))
+            inner = rw (agrees .growth, agrees .file) (removal-refused p (s .model) t caller k pool fit r e h d)
+
+      module _ (h : (caller ≡ 0) ⊎ (caller ≡ heldOwner k (s .model .entries))) where
+        own-change : (q : Position) → validPosition q ≡ true → AcceptedAt s (callOf pool second (change caller k q)) k
+        own-change q v = rw (changes caller k q, agrees .growth, agrees .file) (change-accepted p (s .model) t caller k q pool r e v h)
+
+        own-removal : poolFits p pool ≡ true → AcceptedAt s (callOf pool second (remove caller k)) k
+        own-removal fit = rw (removes caller k, agrees .growth, agrees .file) (removal-accepted p (s .model) t caller k pool fit r e h)
+
+    -- Opening is refused as the growth, and a step is out of turn.
+    opening : poolFits p pool ≡ true → fileFits p second ≡ true
+        → outcome s (callOf pool second openGrowth) .answer .refusal ≡ outcome s (callOf pool second grow) .answer .refusal
+    unfolding outcome step growOf
+    opening fit set =
+        ap (λ (a : AfterStep). a .answer .refusal) (opens p (s .growth) (s .file) pool (agrees .steps) second (fits-both fit second set) rest)
+        ∙ opens-as p (s .growth) (s .file) pool (agrees .steps) second (fits-both fit second set)
+        ∙ sym growing
+      where
+        growing : outcome s (callOf pool second grow) .answer .refusal ≡ growOn p (s .growth .state) (s .file) (cleared pool) .answer .refusal
+        growing = ap (λ (o : Outcome). o .answer .refusal) grows ∙ rw (fits-with (poolFits p pool) fit)
+
+    no-stepping : poolFits p pool ≡ true → fileFits p (s .second) ≡ true → outcome s (callOf pool second stepGrowth) ≡ same s (cleared pool) (refused 16 0)
+    unfolding outcome step finishes
+    no-stepping fit set =
+        ap (onStep (s .growth) (s .file)) (not-stepped p (s .growth) (s .file) pool (agrees .steps) (s .second) (fits-both fit (s .second) set) rest)
+        ∙ ap (λ (b : Bool). record { answer = refused 16 0; growth = s .growth; file = cond b (s .second) (s .file); second = cond b (s .file) (s .second); pool = cleared pool })
+        (goes-on (s .growth .growing))
+
+    stepping : poolFits p pool ≡ true → fileFits p (s .second) ≡ true → OutOfTurn s (callOf pool second stepGrowth)
+    unfolding spotted
+    stepping fit set = refused-stays s agrees (callOf pool second stepGrowth) (cleared pool) (refused 16 0) (λ z. omega arith) (no-stepping fit set)
+
+  -- While one is open.
+  module _ (growing : s .growth .growing ≡ true) where
+    writing : (r : Request) → writes r ≡ true → poolFits p pool ≡ true → outcome s (callOf pool second r) ≡ same s (cleared pool) (refused 16 0)
+    unfolding writes outcome step enterUnder cascadeUnder changeUnder removeUnder growUnder shrinkUnder
+    writing (lookUp k) w fit = absurd (true≢false (sym w))
+    writing (enter caller k q) w fit = ap (onFile (s .growth) (s .second)) (turned-away p (s .growth) (s .file) pool (agrees .steps) growing _ _ (fits-with (poolFits p pool) fit))
+    writing (cascade caller k q) w fit = ap (onFile (s .growth) (s .second)) (turned-away p (s .growth) (s .file) pool (agrees .steps) growing _ _ (fits-with (poolFits p pool) fit))
+    writing (change caller k q) w fit = ap (onFile (s .growth) (s .second)) (turned-away p (s .growth) (s .file) pool (agrees .steps) growing _ _ fits)
+    writing (remove caller k) w fit = ap (onFile (s .growth) (s .second)) (turned-away p (s .growth) (s .file) pool (agrees .steps) growing _ _ (fits-with (poolFits p pool) fit))
+    writing grow w fit = ap (onFile (s .growth) (s .second)) (turned-away p (s .growth) (s .file) pool (agrees .steps) growing _ _ (fits-with (poolFits p pool) fit))
+    writing shrink w fit = ap (onFile (s .growth) (s .second)) (turned-away p (s .growth) (s .file) pool (agrees .steps) growing _ _ (fits-with (poolFits p pool) fit))
+    writing due w fit = absurd (true≢false (sym w))
+    writing check w fit = absurd (true≢false (sym w))
+    writing openGrowth w fit = absurd (true≢false (sym w))
+    writing stepGrowth w fit = absurd (true≢false (sym w))
+
+    written : (r : Request) → writes r ≡ true → poolFits p pool ≡ true → OutOfTurn s (callOf pool second r)
+    unfolding spotted
+    written r w fit = refused-stays s agrees (callOf pool second r) (cleared pool) (refused 16 0) (λ z. omega arith) (writing r w fit)
+
+    no-opening : poolFits p pool ≡ true → fileFits p second ≡ true → outcome s (callOf pool second openGrowth) ≡ same s (cleared pool) (refused 16 0)
+    unfolding outcome step isAccepted spotted
+    no-opening fit set = ap (onOpening (s .file) (s .second)) (not-opened p (s .growth) (s .file) pool (agrees .steps) second (fits-both fit second set) growing)
+
+    reopened : poolFits p pool ≡ true → fileFits p second ≡ true → OutOfTurn s (callOf pool second openGrowth)
+    unfolding spotted
+    reopened fit set = refused-stays s agrees (callOf pool second openGrowth) (cleared pool) (refused 16 0) (λ z. omega arith) (no-opening fit set)
+
+    steps-on : poolFits p pool ≡ true → outcome s (callOf pool second stepGrowth) .answer .refusal ≡ 0
     unfolding outcome step
-    own-change q v = rw (agrees .growth, agrees .file) (change-accepted (s .parameters) (s .model) (agrees .fitting) caller k q pool r e v h)
+    steps-on fit =
+        rw (agrees .file)
+        (subst (λ (r : GrowthRecord). stepUnder p r (modelFile p (s .model)) (s .second) pool .answer .refusal ≡ 0)
+        (sym (is-opened p (s .model) (s .growth) (s .file) (s .second) agrees growing))
+        (step-accepted p (s .model) t (s .second) (s .growth .steps) (agrees .unfinished growing) pool fit))
 
-    own-removal : poolFits (s .parameters) pool ≡ true → AcceptedAt s (callOf pool (remove caller k)) k
-    unfolding outcome step
-    own-removal fit = rw (agrees .growth, agrees .file) (removal-accepted (s .parameters) (s .model) (agrees .fitting) caller k pool fit r e h)
+at-rest : (s : HistoryState) → Agrees s → (second : File) → s .growth .growing ≡ false → AtRest s second
+at-rest s agrees second rest =
+    record {
+      full = λ pool caller k q l v w e. rw (enters s agrees second pool rest caller k q, agrees .growth, agrees .file) (full (s .parameters) (s .model) (agrees .fitting) caller k q pool l (record { number = v; position = w }) e);
+      resent = λ pool caller k q l e. (ap (λ (x : Outcome). x .answer) (leaves s agrees second pool rest l caller k q e), stays s agrees second pool rest l caller k q e);
+      held = λ pool caller k q r l v e d. refuses s agrees second pool rest l caller k q r v e d;
+      notOwner = λ pool caller k r e h d. (no-change s agrees second pool rest caller k r e h d, no-removal s agrees second pool rest caller k r e h d);
+      owner = λ pool caller k r e h. (own-change s agrees second pool rest caller k r e h, own-removal s agrees second pool rest caller k r e h);
+      shrinkFirst = λ pool l. rw (shrinks s agrees second pool rest, agrees .growth, agrees .file) (shrink-first (s .parameters) (s .model) (agrees .fitting) pool l);
+      shrinkFull = λ pool l d. rw (shrinks s agrees second pool rest, agrees .growth, agrees .file) (shrink-full (s .parameters) (s .model) (agrees .fitting) pool l d);
+      opening = λ pool. opening s agrees second pool rest;
+      stepping = λ pool. stepping s agrees second pool rest;
+    }
 
-in-history : (s : HistoryState) → Agrees s → InHistory s
-unfolding outcome step
-in-history s agrees =
+in-history : (s : HistoryState) → Agrees s → (second : File) → InHistory s second
+unfolding outcome step checkUnder lookUpUnder
+in-history s agrees second =
     record {
       clean = rw (agrees .growth, agrees .file) (clean-file (s .parameters) (s .model) (agrees .fitting));
-      checked = λ pool e. rw (agrees .growth, agrees .file) (check-accepts (s .parameters) (s .model) (agrees .fitting) pool e);
-      sought = λ pool k e. rw (agrees .growth, agrees .file) (look-up-accepts (s .parameters) (s .model) (agrees .fitting) pool k e);
-      full = λ pool caller k q l v w e. rw (agrees .growth, agrees .file) (full (s .parameters) (s .model) (agrees .fitting) caller k q pool l (record { number = v; position = w }) e);
-      resent = λ pool caller k q l e. (ap (λ (x : After). x .answer) (leaves s agrees pool l caller k q e), stays s agrees pool l caller k q e);
-      held = λ pool caller k q r l v e d. refuses s agrees pool l caller k q r v e d;
-      cascades = λ pool caller k q. (does-as-entry s agrees pool caller k q, counts-as-entry s agrees pool caller k q);
-      notOwner = λ pool caller k r e h d. (no-change s agrees pool caller k r e h d, no-removal s agrees pool caller k r e h d);
-      owner = λ pool caller k r e h. (own-change s agrees pool caller k r e h, own-removal s agrees pool caller k r e h);
-      shrinkFirst = λ pool l. rw (agrees .growth, agrees .file) (shrink-first (s .parameters) (s .model) (agrees .fitting) pool l);
-      shrinkFull = λ pool l d. rw (agrees .growth, agrees .file) (shrink-full (s .parameters) (s .model) (agrees .fitting) pool l d);
+      checked = λ pool e. rw (agrees .steps, agrees .growth, agrees .file) (check-accepts (s .parameters) (s .model) (agrees .fitting) pool e);
+      sought = λ pool k e. rw (agrees .steps, agrees .growth, agrees .file) (look-up-accepts (s .parameters) (s .model) (agrees .fitting) pool k e);
+      cascades = λ pool caller k q. (does-as-entry s agrees second pool caller k q, counts-as-entry s agrees second pool caller k q);
+      steps = agrees .steps;
+      atRest = at-rest s agrees second;
+      whileOpen = λ e. record {
+        writing = λ pool. written s agrees second pool e;
+        opening = λ pool. reopened s agrees second pool e;
+        stepping = λ pool. steps-on s agrees second pool e;
+      };
     }
 
 pub each-state : EachState
-each-state p f pool accepted history =
-    let start = initial-agrees p f pool accepted in
+each-state p f second pool accepted history =
+    let start = initial-agrees p f second pool accepted in
     record {
-      before = each-event conforming (λ (t : Event). InHistory (t .before)) (λ s agrees c. in-history s agrees) (initial p f pool) start history;
-      after = in-history (end (initial p f pool) history) (end-agrees conforming (initial p f pool) start history);
+      before = each-event conforming (λ (t : Event). (set : File) → InHistory (t .before) set) (λ s agrees c. in-history s agrees) (initial p f second pool) start history;
+      after = in-history (end (initial p f second pool) history) (end-agrees conforming (initial p f second pool) start history);
     }
 
 same-model : (p q : Parameters) (a b : Model) → Fitting p a → Fitting q b → ((k : ℕ) → heldEntry k (a .entries) ≡ heldEntry k (b .entries)) → a .growth ≡ b .growth → a ≡ b
@@ -176,11 +388,12 @@ same-state a b s t c =
       words = ap (λ (h : File). h .words) f;
       owners = ap (λ (h : File). h .owners) f;
       growth = s .growth ∙ c .growth ∙ sym (t .growth);
+      unfinished = λ d e j. s .unfinished d .pagesDone ∙ (λ i. unfinishedFile (c .parameters i) (m i) (j i)) ∙ sym (t .unfinished e .pagesDone);
     }
 
 pub history-independence : HistoryIndependence
-history-independence p q f g pool other accepted also history another same =
-    same-state (end (initial p f pool) history) (end (initial q g other) another)
-    (end-agrees conforming (initial p f pool) (initial-agrees p f pool accepted) history)
-    (end-agrees conforming (initial q g other) (initial-agrees q g other also) another)
+history-independence p q f g second spare pool other accepted also history another same =
+    same-state (end (initial p f second pool) history) (end (initial q g spare other) another)
+    (end-agrees conforming (initial p f second pool) (initial-agrees p f second pool accepted) history)
+    (end-agrees conforming (initial q g spare other) (initial-agrees q g spare other also) another)
     same

@@ -91,7 +91,7 @@ module _ (p : Parameters) (m : Model) (t : Fitting p m) where
     regrowing-conforms pool true false n page z f v = regrow-conforms (cleared pool) page (v refl)
 
   -- Growth: there is a next state unless the highest address is M − 1.
-  more-pages : eqb (highest p (m .growth)) (p .pages - 1) ≡ false → pageCount p (m .growth) < p .pages
+  pub more-pages : eqb (highest p (m .growth)) (p .pages - 1) ≡ false → pageCount p (m .growth) < p .pages
   unfolding highest
   more-pages e = omega (arith, eqb-false (pageCount p (m .growth) - 1) (p .pages - 1) e, growth-within p (m .growth) (t .growth) .pages-fit)
 

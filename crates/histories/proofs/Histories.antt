@@ -5,13 +5,13 @@ use mathlib.Core.Logic.{⊎-elim}
 use Prim.Native.Nat.{ℕ}
 use Rattle.hashing.specs.declared.Parameters.{Parameters}
 use Rattle.placement.specs.File.{File}
+use Rattle.calls.specs.declared.records.GrowthRecord.{GrowthRecord}
 use Rattle.calls.specs.Answers.{Pool}
-use Rattle.histories.specs.Model.{Model, Request, lookUp, modelFile, answered}
+use Rattle.histories.specs.Model.{Model, Request, lookUp, answered}
 use Rattle.histories.specs.Call.{Call, step}
-use Rattle.histories.specs.Run.{HistoryState, Event, outcome, next, events, end}
+use Rattle.histories.specs.Run.{HistoryState, Event, outcome, countsAs, next, events, end}
 use Rattle.histories.specs.Theorem.{AsModel}
-use Rattle.histories.proofs.Fitting.{Fitting}
-use Rattle.histories.proofs.Conforms.{Conforms}
+use Rattle.histories.proofs.Matching.{Matches, ConformsUnder}
 
 -- No call changes the parameters.
 pub next-keeps : (t : HistoryState) (c : Call) → next t c .parameters ≡ t .parameters
@@ -23,26 +23,24 @@ unfolding end
 end-keeps t [] = refl
 end-keeps t (c ∷ cs) = end-keeps (next t c) cs ∙ next-keeps t c
 
--- Between two calls growth state and file are the model's.
-pub record Agrees (t : HistoryState) : Type 0 where
-  pub growth : t .growth ≡ t .model .growth
-  pub file : t .file ≡ modelFile (t .parameters) (t .model)
-  pub fitting : Fitting (t .parameters) (t .model)
+-- Between two calls growth record, file and second set are the model's.
+abbrev pub Agrees : HistoryState → Type 0
+Agrees t = Matches (t .parameters) (t .model) (t .growth) (t .file) (t .second)
 
--- Every request to a fitting model's own file is answered rightly.
+-- Every request is answered rightly.
 abbrev pub Conforming : Type 0
-Conforming = (p : Parameters) (m : Model) → Fitting p m → (pool : Pool) (r : Request) → Conforms p m r (step p (m .growth) (modelFile p m) pool r)
+Conforming =
+    (p : Parameters) (m : Model) (r : GrowthRecord) (f second : File) → Matches p m r f second
+    → (lent : File) (pool : Pool) (q : Request) → ConformsUnder p m r q (step p r f second lent pool q)
 
 module _ (conforming : Conforming) where
-  pub call-conforms : (t : HistoryState) → Agrees t → (c : Call) → Conforms (t .parameters) (t .model) (c .request) (outcome t c)
+  pub call-conforms : (t : HistoryState) → Agrees t → (c : Call) → ConformsUnder (t .parameters) (t .model) (t .growth) (c .request) (outcome t c)
   unfolding outcome
-  call-conforms t agrees c = rw (agrees .growth, agrees .file) (conforming (t .parameters) (t .model) (agrees .fitting) (c .pool) (c .request))
+  call-conforms t agrees c = conforming (t .parameters) (t .model) (t .growth) (t .file) (t .second) agrees (c .second) (c .pool) (c .request)
 
   pub next-agrees : (t : HistoryState) → Agrees t → (c : Call) → Agrees (next t c)
-  unfolding next
-  next-agrees t agrees c =
-      let right = call-conforms t agrees c in
-      record { growth = right .growth; file = right .file; fitting = right .fitting }
+  unfolding next countsAs
+  next-agrees t agrees c = call-conforms t agrees c .matches
 
   pub end-agrees : (t : HistoryState) → Agrees t → (cs : List Call) → Agrees (end t cs)
   unfolding end
@@ -72,4 +70,5 @@ module _ (conforming : Conforming) where
         words = ap (λ (f : File). f .words) (end-agrees t agrees cs .file);
         owners = ap (λ (f : File). f .owners) (end-agrees t agrees cs .file);
         growth = end-agrees t agrees cs .growth;
+        unfinished = λ e. end-agrees t agrees cs .unfinished e .pagesDone;
       }

@@ -6,6 +6,7 @@ pub mod Alike
 pub mod Naming
 pub mod Fitting
 pub mod Conforms
+pub mod Matching
 pub mod Histories
 pub mod Make
 pub mod Held
@@ -19,6 +20,8 @@ pub mod Grow
 pub mod Remove
 pub mod Enter
 pub mod Change
+pub mod Unfinished
+pub mod Under
 pub mod Every
 pub mod Demand3
 pub mod Cleaned

@@ -1,6 +1,6 @@
 -- The file that an accepted make leaves is the empty model's.
 use mathlib.Core.Path.{_≡_, refl, sym}
-use mathlib.Core.Bool.{Bool, true, false}
+use mathlib.Core.Bool.{Bool, true, false, true≢false}
 use mathlib.Core.List.{[]}
 use Prim.Native.Nat.{ℕ, zero, suc, _*_}
 use native.Mathlib.Nat.{suc-mul, zero-mul, sub-zero, add-comm}
@@ -18,6 +18,7 @@ use Rattle.placement.specs.Hash.{hashOf}
 use Rattle.placement.proofs.Separator.{Bounded, probing-top}
 use Rattle.calls.specs.Answers.{Pool, spotted}
 use Rattle.calls.specs.Calls.{fileFits, unless, orElse, guarded, emptyFile, makeOf}
+use Rattle.calls.specs.Records.{validSteps}
 use Rattle.histories.specs.Model.{emptyModel, entryStars, modelFile}
 use Rattle.histories.specs.Run.{initial}
 use Rattle.histories.proofs.Histories.{Agrees}
@@ -73,13 +74,15 @@ make-accepts p f pool e = go (validParameters p) (fileFits p f) refl refl e
     go false true v l e = absurd (omega arith)
     go false false v l e = absurd (omega arith)
 
-pub initial-agrees : (p : Parameters) (f : File) (pool : Pool) → makeOf p f pool .answer .refusal ≡ 0 → Agrees (initial p f pool)
-unfolding initial makeOf emptyModel entryStars
-initial-agrees p f pool e =
+pub initial-agrees : (p : Parameters) (f second : File) (pool : Pool) → makeOf p f pool .answer .refusal ≡ 0 → Agrees (initial p f second pool)
+unfolding initial makeOf emptyModel entryStars validSteps
+initial-agrees p f second pool e =
     let a = make-accepts p f pool e in
     rw (a .parameters, a .lengths)
     (record {
       growth = refl;
       file = empty-is p (a .parameters);
       fitting = record { parameters = a .parameters; growth = start-valid p (a .parameters); ordered = tt; fits = left-none (hashOf p ungrown) 0 (p .pages) };
+      steps = refl;
+      unfinished = λ z. absurd (true≢false (sym z));
     })

@@ -31,8 +31,10 @@ use Rattle.reach.specs.Cascade.{cascaded, carriedPast}
 use Rattle.reach.proofs.Reaching.{is-empty, entry-reach, removal-reach}
 use Rattle.calls.specs.Answers.{Pool, After, cleared}
 use Rattle.calls.specs.Calls.{fileFits, poolFits, unless, orElse, unlent, guarded, readable, named, holds, placeFor, itemOf, ownerFor, mayAlter, allowed, enterTo, unlessHeld, enterOn, entryRefusal, entered, enterOf, cascadeFrom, cascadeOn, cascadeOf, changeOn, changeOf, removeTo, removeOn, removeOf}
+use Rattle.calls.specs.declared.records.GrowthRecord.{GrowthRecord}
+use Rattle.calls.specs.Records.{validSteps, unlessOpen, enterUnder, cascadeUnder, changeUnder, removeUnder}
 use Rattle.calls.proofs.Refusals.{unlent-facts, sized}
-use Rattle.histories.specs.Model.{lookUp, enter, cascade, change, remove, grow, shrink, due, check, callerOf}
+use Rattle.histories.specs.Model.{lookUp, enter, cascade, change, remove, grow, shrink, due, check, openGrowth, stepGrowth, callerOf}
 use Rattle.histories.specs.Call.{step}
 use Rattle.histories.specs.Others.{copies, OthersUntouched}
 use Rattle.histories.proofs.Copies.{count, same-owner, even, count-insert, count-kept, count-other, count-set, ruled-copies, cascaded-copies}
@@ -249,22 +251,35 @@ module _ (p : Parameters) (g : Growth) (f : File) (caller : ℕ) (observer : cal
 no-caller : (caller : ℕ) → none ≡ some caller → ⊥
 no-caller caller e = let z : _≡_ {A = ℕ} 0 1 = cc in omega arith
 
+-- Under a growth record: refused, or the call under its growth state.
+module _ (p : Parameters) (r : GrowthRecord) (f : File) (caller : ℕ) (observer : caller ≡ 0 → ⊥) (s : Star) (other : s .payload .owner ≡ caller → ⊥) where
+  under-kept : (lengths : Bool) (pool : Pool) (a : After)
+      → Kept p (r .state) f caller observer s other a → Kept p (r .state) f caller observer s other (unlessOpen p r lengths f pool a)
+  under-kept lengths pool a h =
+      past p (r .state) f caller observer s other pool (unless (validSteps p r) 1) _
+      (λ _.
+      either p (r .state) f caller observer s other (r .growing) _ _
+      (λ _. past p (r .state) f caller observer s other pool (unlent p (r .state) lengths) _ (λ _. record { same = refl }))
+      (λ _. h))
+
 pub others-untouched : OthersUntouched
-unfolding step callerOf
-others-untouched p g f pool (lookUp k) caller e observer s other = absurd (no-caller caller e)
-others-untouched p g f pool (enter c k q) caller e observer s other =
+unfolding step callerOf enterUnder cascadeUnder changeUnder removeUnder
+others-untouched p r f second lent pool (lookUp k) caller e observer s other = absurd (no-caller caller e)
+others-untouched p r f second lent pool (enter c k q) caller e observer s other =
     let by : c ≡ caller = cc in
-    rw by (enter-kept p g f caller observer s other pool k q .same)
-others-untouched p g f pool (cascade c k q) caller e observer s other =
+    rw by (under-kept p r f caller observer s other _ pool _ (enter-kept p (r .state) f caller observer s other pool k q) .same)
+others-untouched p r f second lent pool (cascade c k q) caller e observer s other =
     let by : c ≡ caller = cc in
-    rw by (cascade-kept p g f caller observer s other pool k q .same)
-others-untouched p g f pool (change c k q) caller e observer s other =
+    rw by (under-kept p r f caller observer s other _ pool _ (cascade-kept p (r .state) f caller observer s other pool k q) .same)
+others-untouched p r f second lent pool (change c k q) caller e observer s other =
     let by : c ≡ caller = cc in
-    rw by (change-kept p g f caller observer s other pool k q .same)
-others-untouched p g f pool (remove c k) caller e observer s other =
+    rw by (under-kept p r f caller observer s other _ pool _ (change-kept p (r .state) f caller observer s other pool k q) .same)
+others-untouched p r f second lent pool (remove c k) caller e observer s other =
     let by : c ≡ caller = cc in
-    rw by (remove-kept p g f caller observer s other pool k .same)
-others-untouched p g f pool grow caller e observer s other = absurd (no-caller caller e)
-others-untouched p g f pool shrink caller e observer s other = absurd (no-caller caller e)
-others-untouched p g f pool due caller e observer s other = absurd (no-caller caller e)
-others-untouched p g f pool check caller e observer s other = absurd (no-caller caller e)
+    rw by (under-kept p r f caller observer s other _ pool _ (remove-kept p (r .state) f caller observer s other pool k) .same)
+others-untouched p r f second lent pool grow caller e observer s other = absurd (no-caller caller e)
+others-untouched p r f second lent pool shrink caller e observer s other = absurd (no-caller caller e)
+others-untouched p r f second lent pool due caller e observer s other = absurd (no-caller caller e)
+others-untouched p r f second lent pool check caller e observer s other = absurd (no-caller caller e)
+others-untouched p r f second lent pool openGrowth caller e observer s other = absurd (no-caller caller e)
+others-untouched p r f second lent pool stepGrowth caller e observer s other = absurd (no-caller caller e)

@@ -11,10 +11,10 @@ use Rattle.hashing.specs.Geometry.{grown, ungrown, shrunk}
 use Rattle.pages.specs.declared.position.Position.{Position}
 use Rattle.pages.specs.Position.{packed}
 use Rattle.placement.specs.Rule.{Star, first, filter, starWith}
-use Rattle.placement.specs.File.{File, laid}
+use Rattle.placement.specs.File.{File, laid, pagesAt, replaced}
 use Rattle.calls.specs.declared.answers.Answer.{Answer}
 use Rattle.calls.specs.Answers.{acceptedAt, foundAt}
-use Rattle.calls.specs.Calls.{placeFor}
+use Rattle.calls.specs.Calls.{placeFor, emptyFile}
 
 pub record Entry : Type 0 where
   pub number : ℕ
@@ -61,13 +61,13 @@ heldEntry k [] = none
 heldEntry k (e ∷ es) = cond (eqb (e .number) k) (some e) (heldEntry k es)
 
 -- A call's kind, number and position, and the caller of an entry, a change or a removal before them. A cascade "runs beside the present entry":
--- document 02 (ix).
+-- document 02 (ix). A growth may be opened and done in steps: document 02 (xiii).
 pub data Request : Type 0 where
   lookUp : ℕ → Request
   enter cascade : ℕ → ℕ → Position → Request
   change : ℕ → ℕ → Position → Request
   remove : ℕ → ℕ → Request
-  grow shrink due check : Request
+  grow shrink due check openGrowth stepGrowth : Request
 
 -- who calls, of those that alter stars
 unfoldable pub callerOf : Request → Option ℕ
@@ -80,9 +80,12 @@ callerOf grow = none
 callerOf shrink = none
 callerOf due = none
 callerOf check = none
+callerOf openGrowth = none
+callerOf stepGrowth = none
 
 -- what an accepted call makes of the model; "Any other call leaves it as it is"; a shrink is "taking the book's (e, x) back": document 02 (i);
--- of a cascade "histories count it as one", an entry: document 02 (ix)
+-- of a cascade "histories count it as one", an entry: document 02 (ix); "Histories read an unfinished growth as not begun", and step M counts as a growth
+-- (`countsAs` in Run): document 02 (xiii)
 unfoldable pub updated : Parameters → Request → Model → Model
 updated p (lookUp k) m = m
 updated p (enter caller k q) m = record { entries = setPosition caller k q (m .entries); growth = m .growth }
@@ -93,6 +96,8 @@ updated p grow m = record { entries = m .entries; growth = grown p (m .growth) }
 updated p shrink m = record { entries = m .entries; growth = shrunk p (m .growth) }
 updated p due m = m
 updated p check m = m
+updated p openGrowth m = m
+updated p stepGrowth m = m
 
 -- "fed each call's kind, number and position and whether it was accepted", and "the caller"; "and so does each refused one"
 unfoldable pub fed : Parameters → Request → Bool → Model → Model
@@ -106,6 +111,12 @@ entryStars es = map (λ (e : Entry). starWith (e .number) (packed (e .position))
 -- "Its separators and pages are what the rule over pages 0 to M−1 gives its stars, homes being taken under its (e, x)"
 unfoldable pub modelFile : Parameters → Model → File
 modelFile p m = laid (p .places) (hashOf p (m .growth)) (p .pages) (entryStars (m .entries))
+
+-- the second set of an open growth: "after step j (opening is step 0) its pages 0 to j − 1 and their separators are the finished ones, the others empty
+-- with separator 2^k − 1", the finished file being that of the model after the growth
+unfoldable pub unfinishedFile : Parameters → Model → ℕ → File
+unfinishedFile p m steps =
+    replaced (p .places) (emptyFile p) 0 (pagesAt (p .places) (modelFile p (updated p grow m)) 0 steps)
 
 -- "as page the first from home whose separator, of these, is above the number's signature there"
 unfoldable pub pageFor : Parameters → Model → ℕ → ℕ

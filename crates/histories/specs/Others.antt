@@ -6,9 +6,9 @@ use Prim.Native.Nat.{ℕ}
 use lib.Dec.{eqb}
 use lib.ListN.{length}
 use Rattle.hashing.specs.declared.Parameters.{Parameters}
-use Rattle.hashing.specs.declared.Growth.{Growth}
 use Rattle.placement.specs.Rule.{Star, filter}
 use Rattle.placement.specs.File.{File, starsOf}
+use Rattle.calls.specs.declared.records.GrowthRecord.{GrowthRecord}
 use Rattle.calls.specs.Answers.{Pool}
 use Rattle.histories.specs.Model.{Request, callerOf}
 use Rattle.histories.specs.Call.{step}
@@ -25,5 +25,5 @@ copies s f = length (filter (isStar s) (starsOf (f .numbers) (f .words) (f .owne
 -- or refused, on every file, damaged ones included
 abbrev pub OthersUntouched : Type 0
 OthersUntouched =
-    (p : Parameters) (g : Growth) (f : File) (pool : Pool) (r : Request) (caller : ℕ) → callerOf r ≡ some caller → (caller ≡ 0 → ⊥)
-    → (s : Star) → (s .payload .owner ≡ caller → ⊥) → copies s (step p g f pool r .file) ≡ copies s f
+    (p : Parameters) (growth : GrowthRecord) (f second lent : File) (pool : Pool) (r : Request) (caller : ℕ) → callerOf r ≡ some caller → (caller ≡ 0 → ⊥)
+    → (s : Star) → (s .payload .owner ≡ caller → ⊥) → copies s (step p growth f second lent pool r .file) ≡ copies s f

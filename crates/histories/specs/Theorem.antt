@@ -1,12 +1,13 @@
 -- Demand 3: what holds of every history.
 use mathlib.Core.Path.{_≡_}
+use mathlib.Core.Bool.{true}
 use mathlib.Core.List.{List, List·Memᴰ}
 use Prim.Native.Nat.{ℕ}
 use Rattle.hashing.specs.declared.Parameters.{Parameters}
 use Rattle.placement.specs.File.{File}
 use Rattle.calls.specs.Answers.{Pool}
 use Rattle.calls.specs.Calls.{makeOf}
-use Rattle.histories.specs.Model.{lookUp, modelFile, answered}
+use Rattle.histories.specs.Model.{lookUp, modelFile, unfinishedFile, answered}
 use Rattle.histories.specs.Call.{Call}
 use Rattle.histories.specs.Run.{HistoryState, Event, initial, events, end}
 
@@ -23,10 +24,14 @@ pub record AsModel (start : HistoryState) (history : List Call) : Type 0 where
   pub numbers : end start history .file .numbers ≡ modelFile (end start history .parameters) (end start history .model) .numbers
   pub words : end start history .file .words ≡ modelFile (end start history .parameters) (end start history .model) .words
   pub owners : end start history .file .owners ≡ modelFile (end start history .parameters) (end start history .model) .owners
-  pub growth : end start history .growth ≡ end start history .model .growth
+  pub growth : end start history .growth .state ≡ end start history .model .growth
+  -- while a growth is open, the second set is so far the one of the model after it
+  pub unfinished :
+      end start history .growth .growing ≡ true
+      → end start history .second ≡ unfinishedFile (end start history .parameters) (end start history .model) (end start history .growth .steps)
 
--- for all parameters and buffers that make accepts, and every history
+-- for all parameters and buffers that make accepts, any second set, and every history
 abbrev pub EveryHistory : Type 0
 EveryHistory =
-    (p : Parameters) (f : File) (pool : Pool) → makeOf p f pool .answer .refusal ≡ 0
-    → (history : List Call) → AsModel (initial p f pool) history
+    (p : Parameters) (f second : File) (pool : Pool) → makeOf p f pool .answer .refusal ≡ 0
+    → (history : List Call) → AsModel (initial p f second pool) history

@@ -14,7 +14,8 @@ use Rattle.hashing.specs.declared.Growth.{Growth}
 use Rattle.generator.specs.Generator.{modulus, power, scrambled}
 use Rattle.hashing.specs.Geometry.{sizeAt, countAt, rank}
 use Rattle.hashing.specs.Home.{rankAt, chosen, expandedAt, stepFrom, afterSteps, home}
-use Rattle.generator.proofs.Numbers.{mul-mod, mul-mod-right, halves}
+use Rattle.generator.proofs.Numbers.{mul-mod-right, halves}
+use Rattle.generator.proofs.Scrambling.{scrambled-by}
 use Rattle.hashing.proofs.Bounds.{Limits}
 use Rattle.hashing.proofs.Homes.{rank-below, rank-at-below, steps-one, steps-below}
 use Rattle.homes.specs.declared.stages.Stage.{Stage}
@@ -34,10 +35,6 @@ quotient-leb x n = go (decLe x (modulus / (n + 1)))
     go (no f) =
         let over : modulus / (n + 1) < x = omega arith in
         rw (lt-leb x (modulus / (n + 1)) over, lt-leb (x * (n + 1)) modulus (quotient-over x n over))
-
-scrambled-by : (a j k : ℕ) → power a j * k % modulus ≡ scrambled a j k
-unfolding power scrambled
-scrambled-by a j k = mul-mod (a ^ j) modulus k
 
 hit-is : (a : ℕ) (p : Parameters) (k i : ℕ) → hitOf (power a (2 * suc i)) (modulus / (sizeAt p i + 1)) k ≡ cond (chosen a p k i) 1 0
 unfolding hitOf chosen

@@ -9,12 +9,12 @@ use Rattle.generator.specs.Generator.{topOf}
 use Rattle.hashing.specs.Geometry.{ungrown}
 use Rattle.hashing.specs.Limits.{validParameters, validGrowth}
 use Rattle.hashing.proofs.Homes.{start-valid}
-use Rattle.placement.specs.File.{File}
+use Rattle.placement.specs.File.{File, Sized}
 use Rattle.placement.specs.Hash.{lent}
 use Rattle.calls.specs.declared.answers.Refusal.{Refusal}
 use Rattle.calls.specs.Answers.{Pool, Leaves, accepted, refusalNumber, refusedBy}
 use Rattle.calls.specs.Calls.{unless, orElse, unlent, makeOf, fileFits, emptyFile}
-use Rattle.calls.proofs.Refusals.{made-by, sized, turned-away}
+use Rattle.calls.proofs.Refusals.{made-by, turned-away}
 
 -- a new file's growth state is valid, so the guard of the other calls is make's too
 new-guard : (p : Parameters) (lengths : Bool) → orElse (unless (validParameters p) 1) (unless lengths 2) ≡ unlent p ungrown lengths
@@ -32,10 +32,13 @@ module _ (p : Parameters) (f : File) (pool : Pool) where
       made-by (makeOf p f pool) (refusedBy r 0) ungrown f pool
       (rw (new-guard p (fileFits p f)) (turned-away ungrown f pool _ p (fileFits p f) r e))
 
-  pub make-empty : (separators numbers words owners : List ℕ) → validParameters p ≡ true → fileFits p f ≡ true → separators ≡ replicate (length (f .separators)) (topOf (p .bits))
-      → numbers ≡ replicate (length (f .numbers)) 0 → words ≡ replicate (length (f .words)) 0 → owners ≡ replicate (length (f .owners)) 0
-      → Leaves (makeOf p f pool) (accepted 0) (lent separators numbers words owners) pool × (ungrown ≡ makeOf p f pool .growth)
-  unfolding makeOf emptyFile
-  make-empty separators numbers words owners e l es en ew eo =
-      made-by (makeOf p f pool) (accepted 0) ungrown (lent separators numbers words owners) pool
-      (rw (e, l, es, en, ew, eo, sized p f l .ofSeparators, sized p f l .ofNumbers, sized p f l .ofWords, sized p f l .ofOwners))
+  pub make-empty : (f′ : File) → validParameters p ≡ true → fileFits p f ≡ true → f′ ≡ emptyFile p
+      → Leaves (makeOf p f pool) (accepted 0) f′ pool × (ungrown ≡ makeOf p f pool .growth)
+  unfolding makeOf
+  make-empty f′ e l is = made-by (makeOf p f pool) (accepted 0) ungrown f′ pool (rw (e, l, is))
+
+-- every buffer filled at its length
+pub emptied : (p : Parameters) (f : File) (separators numbers words owners : List ℕ) → Sized (p .places) (p .pages) f → separators ≡ replicate (length (f .separators)) (topOf (p .bits))
+    → numbers ≡ replicate (length (f .numbers)) 0 → words ≡ replicate (length (f .words)) 0 → owners ≡ replicate (length (f .owners)) 0 → lent separators numbers words owners ≡ emptyFile p
+unfolding emptyFile
+emptied p f separators numbers words owners z es en ew eo = rw (es, en, ew, eo, z .ofSeparators, z .ofNumbers, z .ofWords, z .ofOwners)

@@ -1,8 +1,11 @@
 // Making an empty file.
 ghost use mathlib.Core.Path.{_≡_};
-ghost use Rattle.placement.specs.Lent.{before, after};
+ghost use mathlib.Core.Bool.{true};
+ghost use Rattle.hashing.specs.Limits.{validParameters};
+ghost use Rattle.placement.specs.File.{Sized};
+ghost use Rattle.placement.specs.Lent.{held, before, after};
 ghost use Rattle.calls.specs.Answers.{Leaves, unpooled, placed};
-ghost use Rattle.calls.specs.Calls.{makeOf};
+ghost use Rattle.calls.specs.Calls.{makeOf, emptyFile};
 use calls::answers::Admission;
 use calls::answers::Grown;
 use calls::answers::Placed;
@@ -40,11 +43,26 @@ pub fn make(
             growth,
         };
     }
-    let top = placement::top_of(parameters);
-    buffers::fill_8(separators, top);
-    applying::clear(numbers, words, owners);
+    empty(parameters, separators, numbers, words, owners);
     Grown {
         answer: Placed::On(0, 0),
         growth,
     }
+}
+
+// "An empty file is separators 2^k − 1, all else 0"
+pub fn empty(
+    parameters: Parameters,
+    separators: &mut [u8],
+    numbers: &mut [u32],
+    words: &mut [u64],
+    owners: &mut [u8],
+)
+    requires { ⌜ validParameters parameters ≡ true ⌝ }
+    requires { ⌜ Sized (parameters .places) (parameters .pages) (held separators numbers words owners) ⌝ }
+    ensures { λ _. ⌜ after separators numbers words owners ≡ emptyFile parameters ⌝ }
+{
+    let top = placement::top_of(parameters);
+    buffers::fill_8(separators, top);
+    applying::clear(numbers, words, owners);
 }

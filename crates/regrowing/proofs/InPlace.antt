@@ -26,7 +26,7 @@ use Rattle.expanding.specs.Expansion.{Moved}
 use Rattle.regrowing.specs.Growth.{growthAnswer, growthFile}
 
 -- all pages replaced: nothing of the file is left
-replaced-whole : (b M : ℕ) (f : File) (cs : List Contents) → Sized b M f → Roomy b cs → length cs ≡ M → replaced b f 0 cs ≡ fileOf b cs
+pub replaced-whole : (b M : ℕ) (f : File) (cs : List Contents) → Sized b M f → Roomy b cs → length cs ≡ M → replaced b f 0 cs ≡ fileOf b cs
 unfolding replaced fileOf
 replaced-whole b M f cs z r e =
     λ i. record { separators = whole-list i; numbers = whole numberOf (f .numbers) (z .ofNumbers) i; words = whole wordOf (f .words) (z .ofWords) i; owners = whole ownerOf (f .owners) (z .ofOwners) i }

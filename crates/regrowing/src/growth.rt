@@ -23,7 +23,8 @@ fn next_home(table: &[u32; 90], geometry: Geometry, back: bool, number: u32, old
     rehoming::item_grown(table, geometry, number, old)
 }
 
-fn rehome(table: &[u32; 90], geometry: Geometry, back: bool, numbers: &[u32], homes: &mut [u32])
+// The homes of all items under that growth state, from those under this one.
+pub fn rehome(table: &[u32; 90], geometry: Geometry, back: bool, numbers: &[u32], homes: &mut [u32])
     requires { ⌜ Homing geometry (now table) ⌝ }
     requires { ⌜ Movable back (geometry .parameters) (geometry .growth) ⌝ }
     requires { ⌜ now homes ≡ homesOf (geometry .parameters) (geometry .growth) (now numbers) ⌝ }

@@ -2,3 +2,4 @@
 mod growth;
 
 pub use growth::regrow;
+pub use growth::rehome;

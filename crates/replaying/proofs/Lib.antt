@@ -1,4 +1,5 @@
 pub mod Known
 pub mod Stepping
+pub mod Resting
 pub mod Running
 pub mod Replays

@@ -16,6 +16,7 @@ use Rattle.calls.specs.declared.answers.Placed.{Placed}
 use Rattle.calls.specs.declared.answers.Placed.the-variants.{On, Refused as NotPlaced}
 use Rattle.calls.proofs.Numbers.{numbered}
 use Rattle.calls.specs.declared.answers.Answer.{Answer}
+use Rattle.calls.specs.declared.records.GrowthRecord.{GrowthRecord}
 use Rattle.calls.specs.Answers.{Pool, After, Leaves, unpooled, refusalNumber, placed, refusedBy, spotted}
 use Rattle.calls.specs.Calls.{fileFits, unless, orElse, guarded, emptyFile, makeOf}
 use Rattle.replaying.specs.declared.replaying.Replayed.{Replayed}
@@ -31,6 +32,8 @@ use Rattle.replaying.specs.Replay.{
   agreeing,
   unknownKind,
   refusalOf,
+  noSecond,
+  startOf,
   historyOf,
   replayedWith,
   replayOf,
@@ -42,7 +45,9 @@ use Rattle.replaying.specs.Replay.{
 use Rattle.replaying.specs.Steps.{Runs}
 use Rattle.histories.proofs.Histories.{end-keeps, end-agrees}
 use Rattle.histories.proofs.Make.{initial-agrees}
-use Rattle.histories.proofs.Every.{conforming, every-history}
+use Rattle.histories.proofs.Under.{conforming}
+use Rattle.histories.proofs.Every.{every-history}
+use Rattle.replaying.proofs.Running.{none-open}
 
 refusal-number : (r : Refusal) → refusalNumber r ≡ suc (refusalNumber r - 1)
 refusal-number r = omega (arith, numbered r)
@@ -105,16 +110,16 @@ module _ (p : Parameters) (f : File) (pool : Pool) (h : LentHistory) (answers : 
 
         pub make-done : (page place : ℕ) → a ≡ On page place → (growth : Growth) → growth ≡ makeOf p f unpooled .growth
             → (last : Growth) (answers′ : List ℕ) (file′ : File) (pool′ : Pool)
-            → Runs (fresh p growth file) pool (requestsOf h) [] last answers′ file′ pool′
+            → Runs (fresh p growth file noSecond) pool (requestsOf h) [] last answers′ file′ pool′
             → Replays (replayOf p f pool h answers) (Done last) answers′ file′ pool′
         unfolding placed spotted replayOf replayedWith initial refusalSaid growthSaid
         make-done page place e growth g last answers′ file′ pool′ t =
             let n : refusalOf p f pool h answers ≡ 0 = as-made ∙ rw e in
-            let u : Runs (initial p f unpooled) pool (requestsOf h) [] last answers′ file′ pool′ = rw (g, made .files) at t in
+            let u : Runs (startOf p f) pool (requestsOf h) [] last answers′ file′ pool′ = rw (g, made .files) at t in
             rw n
             (record {
               refusals = refl;
-              growths = u .growths;
+              growths = ap (λ (r : GrowthRecord). r .state) (u .growths);
               answersAre = u .answersAre ∙ append-nil _;
               files = u .files;
               pools = u .pools;
@@ -137,10 +142,11 @@ every-replay p f pool h answers e =
     let n : refusalOf p f pool h answers ≡ 0 = accepted-run (refusalOf p f pool h answers) p f pool h answers e in
     let rest = either-none (unless (agreeing f pool h answers) 2) _ n in
     let made : makeOf p f unpooled .answer .refusal ≡ 0 = either-none (unless (allKinds (h .kinds)) unknownKind) _ rest in
-    let keeps : end (initial p f unpooled) (historyOf p f pool h) .parameters ≡ p = end-keeps (initial p f unpooled) (historyOf p f pool h) in
-    let agrees = end-agrees conforming (initial p f unpooled) (initial-agrees p f unpooled made) (historyOf p f pool h) in
+    let keeps : end (startOf p f) (historyOf p f pool h) .parameters ≡ p = end-keeps (startOf p f) (historyOf p f pool h) in
+    let agrees = end-agrees conforming (startOf p f) (initial-agrees p f noSecond unpooled made) (historyOf p f pool h) in
     record {
-      asModel = every-history p f unpooled made (historyOf p f pool h);
-      fileIs = rw n (agrees .file ∙ ap (λ (q : Parameters). modelFile q (end (initial p f unpooled) (historyOf p f pool h) .model)) keeps);
+      asModel = every-history p f noSecond unpooled made (historyOf p f pool h);
+      fileIs = rw n (agrees .file ∙ ap (λ (q : Parameters). modelFile q (end (startOf p f) (historyOf p f pool h) .model)) keeps);
       growthIs = rw n (agrees .growth);
+      noneOpen = rw n (none-open (startOf p f) pool h (length (h .kinds)) refl);
     }

@@ -20,9 +20,8 @@ use Rattle.calls.specs.declared.answers.Answer.{Answer}
 use Rattle.calls.specs.Answers.{Pool, After, Leaves, unpooled}
 use Rattle.calls.specs.Calls.{fileFits, poolFits, unless, orElse, unlent, unchanged, guarded, readable, named, holds, ownerFor, mayAlter, allowed, lookedUp, lookUpOf, enterTo, enterOn, enterOf, cascadeFrom, cascadeOn, cascadeOf, changeOn, changeOf, removeTo, removeOn, removeOf, growOf, shrinkOf, dueOf, checkOf}
 use Rattle.replaying.specs.declared.calling.Stepped.{Stepped}
-use Rattle.histories.specs.Call.{step}
 use Rattle.replaying.specs.Replay.{requestOf, encoded}
-use Rattle.replaying.specs.Steps.{pooledRequest, wholeRequest, entryRequest, Steps, Recorded}
+use Rattle.replaying.specs.Steps.{callAt, pooledRequest, wholeRequest, entryRequest, Steps, Recorded}
 
 -- A call that only answers leaves every pool as it was.
 only-answers : (g : Growth) (f : File) (pool : Pool) (n : ℕ) (a : Answer)
@@ -124,81 +123,81 @@ module _ (p : Parameters) (g : Growth) (f : File) (pool : Pool) where
   -- The step of each kind, from what its call ensures.
   module _ (kind caller k : ℕ) (q : Position) (a : Answer) where
     pub look-up-steps : kind ≡ 0 → a ≡ lookUpOf p g f unpooled k .answer
-        → Steps (step p g f pool (requestOf kind caller k q)) (record { answer = a; growth = g }) f pool
-    unfolding step requestOf
+        → Steps (callAt p g f pool (requestOf kind caller k q)) (record { answer = a; growth = g }) f pool
+    unfolding callAt requestOf
     look-up-steps e h = rw (e, look-up-over k) (record { answers = h; growths = refl; files = refl; pools = refl })
 
     pub due-steps : kind ≡ 5 → a ≡ dueOf p g f unpooled .answer
-        → Steps (step p g f pool (requestOf kind caller k q)) (record { answer = a; growth = g }) f pool
-    unfolding step requestOf
+        → Steps (callAt p g f pool (requestOf kind caller k q)) (record { answer = a; growth = g }) f pool
+    unfolding callAt requestOf
     due-steps e h = rw (e, due-over) (record { answers = h; growths = refl; files = refl; pools = refl })
 
     module _ (said-so : Answer) (h : a ≡ said-so) where
       pub change-steps : (file : File) → kind ≡ 2 → Leaves (changeOf p g f unpooled caller k q) said-so file unpooled
-          → Steps (step p g f pool (requestOf kind caller k q)) (record { answer = a; growth = g }) file pool
-      unfolding step requestOf
+          → Steps (callAt p g f pool (requestOf kind caller k q)) (record { answer = a; growth = g }) file pool
+      unfolding callAt requestOf
       change-steps file e l = rw (e, change-over caller k q) (record { answers = h ∙ l .answers; growths = refl; files = l .files; pools = refl })
 
       pub enter-steps : (file : File) (left : Pool) → (kind ≡ 8 → ⊥) → Leaves (enterOf p g f pool caller k q) said-so file left
-          → Steps (step p g f pool (entryRequest kind caller k q)) (record { answer = a; growth = g }) file left
-      unfolding step entryRequest
+          → Steps (callAt p g f pool (entryRequest kind caller k q)) (record { answer = a; growth = g }) file left
+      unfolding callAt entryRequest
       enter-steps file left e l =
           rw (ne-eqb _ _ e) (record { answers = h ∙ l .answers; growths = sym (enter-growth caller k q); files = l .files; pools = l .pools })
 
       pub cascade-steps : (file : File) (left : Pool) → kind ≡ 8 → Leaves (cascadeOf p g f pool caller k q) said-so file left
-          → Steps (step p g f pool (entryRequest kind caller k q)) (record { answer = a; growth = g }) file left
-      unfolding step entryRequest
+          → Steps (callAt p g f pool (entryRequest kind caller k q)) (record { answer = a; growth = g }) file left
+      unfolding callAt entryRequest
       cascade-steps file left e l = rw e (record { answers = h ∙ l .answers; growths = sym (cascade-growth caller k q); files = l .files; pools = l .pools })
 
       pub remove-steps : (file : File) (left : Pool) → kind ≡ 3 → Leaves (removeOf p g f pool caller k) said-so file left
-          → Steps (step p g f pool (pooledRequest kind caller k q)) (record { answer = a; growth = g }) file left
-      unfolding step pooledRequest
+          → Steps (callAt p g f pool (pooledRequest kind caller k q)) (record { answer = a; growth = g }) file left
+      unfolding callAt pooledRequest
       remove-steps file left e l = rw e (record { answers = h ∙ l .answers; growths = sym (remove-growth caller k); files = l .files; pools = l .pools })
 
   -- The kinds left over, by the requests of those that are lent the pool.
   module _ (kind caller k : ℕ) (q : Position) (r : Stepped) (file : File) (left : Pool) where
     pub pooled-steps : (kind ≡ 0 → ⊥) → (kind ≡ 2 → ⊥) → (kind ≡ 5 → ⊥)
-        → Steps (step p g f pool (pooledRequest kind caller k q)) r file left → Steps (step p g f pool (requestOf kind caller k q)) r file left
+        → Steps (callAt p g f pool (pooledRequest kind caller k q)) r file left → Steps (callAt p g f pool (requestOf kind caller k q)) r file left
     unfolding requestOf pooledRequest wholeRequest
     pooled-steps e0 e2 e5 s = rw (ne-eqb _ _ e0, ne-eqb _ _ e2, ne-eqb _ _ e5) s
 
     -- either entry
-    module _ (s : Steps (step p g f pool (entryRequest kind caller k q)) r file left) where
-      pub entered-steps : kind ≡ 1 → Steps (step p g f pool (pooledRequest kind caller k q)) r file left
+    module _ (s : Steps (callAt p g f pool (entryRequest kind caller k q)) r file left) where
+      pub entered-steps : kind ≡ 1 → Steps (callAt p g f pool (pooledRequest kind caller k q)) r file left
       unfolding entryRequest pooledRequest
       entered-steps e = rw e (rw e at s)
 
-      pub cascaded-steps : eqb kind 8 ≡ true → Steps (step p g f pool (pooledRequest kind caller k q)) r file left
+      pub cascaded-steps : eqb kind 8 ≡ true → Steps (callAt p g f pool (pooledRequest kind caller k q)) r file left
       unfolding entryRequest pooledRequest
       cascaded-steps e = let eight : kind ≡ 8 = eqb-true kind 8 e in rw eight (rw eight at s)
 
     pub whole-steps : (kind ≡ 1 → ⊥) → eqb kind 8 ≡ false → (kind ≡ 3 → ⊥)
-        → Steps (step p g f pool (wholeRequest kind)) r file left → Steps (step p g f pool (pooledRequest kind caller k q)) r file left
+        → Steps (callAt p g f pool (wholeRequest kind)) r file left → Steps (callAt p g f pool (pooledRequest kind caller k q)) r file left
     unfolding pooledRequest
     whole-steps e1 e8 e3 s = rw (ne-eqb _ _ e1, e8, ne-eqb _ _ e3) s
 
   -- a call that may move the growth state
   module _ (kind : ℕ) (a said-so : Answer) (h : a ≡ said-so) (file : File) (left : Pool) where
-    moving-steps : (after : After) → step p g f pool (wholeRequest kind) ≡ after → (next : Growth) → next ≡ after .growth
+    moving-steps : (after : After) → callAt p g f pool (wholeRequest kind) ≡ after → (next : Growth) → next ≡ after .growth
         → Leaves after said-so file left
-        → Steps (step p g f pool (wholeRequest kind)) (record { answer = a; growth = next }) file left
+        → Steps (callAt p g f pool (wholeRequest kind)) (record { answer = a; growth = next }) file left
     moving-steps after e next n l = rw e (record { answers = h ∙ l .answers; growths = n; files = l .files; pools = l .pools })
 
     pub grow-steps : kind ≡ 4 → (next : Growth) → next ≡ growOf p g f pool .growth
         → Leaves (growOf p g f pool) said-so file left
-        → Steps (step p g f pool (wholeRequest kind)) (record { answer = a; growth = next }) file left
-    unfolding step wholeRequest
+        → Steps (callAt p g f pool (wholeRequest kind)) (record { answer = a; growth = next }) file left
+    unfolding callAt wholeRequest
     grow-steps e = moving-steps (growOf p g f pool) (rw e)
 
     pub shrink-steps : kind ≡ 7 → (next : Growth) → next ≡ shrinkOf p g f pool .growth
         → Leaves (shrinkOf p g f pool) said-so file left
-        → Steps (step p g f pool (wholeRequest kind)) (record { answer = a; growth = next }) file left
-    unfolding step wholeRequest
+        → Steps (callAt p g f pool (wholeRequest kind)) (record { answer = a; growth = next }) file left
+    unfolding callAt wholeRequest
     shrink-steps e = moving-steps (shrinkOf p g f pool) (rw e)
 
     pub check-steps : (kind ≡ 4 → ⊥) → (kind ≡ 7 → ⊥) → Leaves (checkOf p g f pool) said-so file left
-        → Steps (step p g f pool (wholeRequest kind)) (record { answer = a; growth = g }) file left
-    unfolding step wholeRequest
+        → Steps (callAt p g f pool (wholeRequest kind)) (record { answer = a; growth = g }) file left
+    unfolding callAt wholeRequest
     check-steps e4 e7 = moving-steps (checkOf p g f pool) (rw (ne-eqb _ _ e4, ne-eqb _ _ e7)) g (sym check-growth)
 
 -- the answers of a step, recorded

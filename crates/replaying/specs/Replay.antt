@@ -11,8 +11,9 @@ use Rattle.hashing.specs.declared.Growth.{Growth}
 use Rattle.hashing.specs.Geometry.{ungrown}
 use Rattle.pages.specs.declared.position.Position.{Position}
 use Rattle.placement.specs.File.{File}
-use Rattle.calls.specs.Answers.{Pool, refusalNumber, unpooled}
+use Rattle.calls.specs.Answers.{Pool, refusalNumber, lent, unpooled}
 use Rattle.calls.specs.Calls.{unless, orElse, makeOf}
+use Rattle.calls.specs.Records.{closedRecord}
 unfoldable pub use Rattle.recording.specs.Rows.{encoded}
 use Rattle.replaying.specs.declared.replaying.Replayed.{Replayed}
 use Rattle.replaying.specs.declared.replaying.Replayed.the-variants.{Done, BadKind, Refused}
@@ -63,16 +64,17 @@ requestsTo h (suc i) = requestsTo h i ++ requestAt h i ∷ []
 abbrev pub requestsOf : LentHistory → List Request
 requestsOf h = requestsTo h (length (h .kinds))
 
--- The calls: each has the pool as the call before left it.
+-- The calls: each has the pool as the call before left it. None opens a growth, so the second set that it is lent counts for nothing.
 
 unfoldable pub historyFrom : HistoryState → Pool → List Request → List Call
 historyFrom s pool [] = []
-historyFrom s pool (r ∷ rs) = callOf pool r ∷ historyFrom (next s (callOf pool r)) (outcome s (callOf pool r) .pool) rs
+historyFrom s pool (r ∷ rs) =
+    callOf pool (s .second) r ∷ historyFrom (next s (callOf pool (s .second) r)) (outcome s (callOf pool (s .second) r) .pool) rs
 
 -- the pool after the last call
 unfoldable pub lastPool : HistoryState → Pool → List Request → Pool
 lastPool s pool [] = pool
-lastPool s pool (r ∷ rs) = lastPool (next s (callOf pool r)) (outcome s (callOf pool r) .pool) rs
+lastPool s pool (r ∷ rs) = lastPool (next s (callOf pool (s .second) r)) (outcome s (callOf pool (s .second) r) .pool) rs
 
 -- eight numbers for each answer
 unfoldable pub eventAnswers : List Event → List ℕ
@@ -114,9 +116,17 @@ refusalOf p f pool h answers =
     orElse (unless (agreeing f pool h answers) 2)
     (orElse (unless (allKinds (h .kinds)) unknownKind) (makeOf p f unpooled .answer .refusal))
 
--- the history of a replay, from the file that make left
+-- a replay is lent no second set of pages
+abbrev pub noSecond : File
+noSecond = lent [] [] [] []
+
+-- the state that make left
+abbrev pub startOf : Parameters → File → HistoryState
+startOf p f = initial p f noSecond unpooled
+
+-- the history of a replay from there
 abbrev pub historyOf : Parameters → File → Pool → LentHistory → List Call
-historyOf p f pool h = historyFrom (initial p f unpooled) pool (requestsOf h)
+historyOf p f pool h = historyFrom (startOf p f) pool (requestsOf h)
 
 -- refused, with everything as it was, or run
 unfoldable pub replayedWith : ℕ → Parameters → File → Pool → LentHistory → List ℕ → Replay
@@ -124,10 +134,10 @@ replayedWith (suc n) p f pool h answers = record { refusal = suc n; growth = ung
 replayedWith zero p f pool h answers =
     record {
       refusal = 0;
-      growth = end (initial p f unpooled) (historyOf p f pool h) .growth;
-      answers = eventAnswers (events (initial p f unpooled) (historyOf p f pool h));
-      file = end (initial p f unpooled) (historyOf p f pool h) .file;
-      pool = lastPool (initial p f unpooled) pool (requestsOf h);
+      growth = end (startOf p f) (historyOf p f pool h) .growth .state;
+      answers = eventAnswers (events (startOf p f) (historyOf p f pool h));
+      file = end (startOf p f) (historyOf p f pool h) .file;
+      pool = lastPool (startOf p f) pool (requestsOf h);
     }
 
 unfoldable pub replayOf : Parameters → File → Pool → LentHistory → List ℕ → Replay
@@ -152,11 +162,12 @@ pub record Replays (replay : Replay) (r : Replayed) (answers : List ℕ) (file :
   pub files : file ≡ replay .file
   pub pools : pool ≡ replay .pool
 
--- An accepted replay leaves the model's file: every history, said of the one that the slices hold.
+-- An accepted replay leaves the model's file and growth state, and no growth open: every history, said of the one that the slices hold.
 pub record AsReplayed (p : Parameters) (f : File) (pool : Pool) (h : LentHistory) (answers : List ℕ) : Type 0 where
-  pub asModel : AsModel (initial p f unpooled) (historyOf p f pool h)
-  pub fileIs : replayOf p f pool h answers .file ≡ modelFile p (end (initial p f unpooled) (historyOf p f pool h) .model)
-  pub growthIs : replayOf p f pool h answers .growth ≡ end (initial p f unpooled) (historyOf p f pool h) .model .growth
+  pub asModel : AsModel (startOf p f) (historyOf p f pool h)
+  pub fileIs : replayOf p f pool h answers .file ≡ modelFile p (end (startOf p f) (historyOf p f pool h) .model)
+  pub growthIs : replayOf p f pool h answers .growth ≡ end (startOf p f) (historyOf p f pool h) .model .growth
+  pub noneOpen : end (startOf p f) (historyOf p f pool h) .growth ≡ closedRecord (replayOf p f pool h answers .growth)
 
 abbrev pub EveryReplay : Type 0
 EveryReplay =

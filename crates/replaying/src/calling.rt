@@ -3,10 +3,9 @@ ghost use mathlib.Core.Path.{_≡_};
 ghost use Prim.Native.Nat.{_+_, _≤_};
 ghost use lib.ListN.{length};
 ghost use Rattle.placement.specs.Lent.{before, after};
-ghost use Rattle.histories.specs.Call.{step};
 ghost use Rattle.calls.specs.Lent.{poolBefore, poolAfter};
 ghost use Rattle.replaying.specs.Replay.{requestOf};
-ghost use Rattle.replaying.specs.Steps.{pooledRequest, wholeRequest, entryRequest, Steps, Recorded};
+ghost use Rattle.replaying.specs.Steps.{callAt, pooledRequest, wholeRequest, entryRequest, Steps, Recorded};
 use calls::answers::Answer;
 use calls::answers::checked_answer;
 use calls::answers::due_answer;
@@ -38,15 +37,15 @@ fn run_call(
     star: u32,
     position: Position,
 ) -> Stepped
-    ensures { λ r. ⌜ Steps (step parameters growth (before separators numbers words owners) (poolBefore poolnumbers poolwords poolowners) (requestOf kind caller star position))
+    ensures { λ r. ⌜ Steps (callAt parameters growth (before separators numbers words owners) (poolBefore poolnumbers poolwords poolowners) (requestOf kind caller star position))
         r (after separators numbers words owners) (poolAfter poolnumbers poolwords poolowners) ⌝ }
 {
     if kind == 0 {
-        let found = starfile::look_up(parameters, growth, separators, numbers, words, owners, star);
+        let found = lookup::look_up(parameters, growth, separators, numbers, words, owners, star);
         return unmoved(sought_answer(found), growth);
     }
     if kind == 2 {
-        let changed = starfile::change(
+        let changed = lookup::change(
             parameters,
             growth,
             separators,
@@ -60,7 +59,7 @@ fn run_call(
         return unmoved(placed_answer(changed), growth);
     }
     if kind == 5 {
-        let due = starfile::due(parameters, growth, separators, numbers, words, owners);
+        let due = counting::due(parameters, growth, separators, numbers, words, owners);
         return unmoved(due_answer(due), growth);
     }
     run_pooled(
@@ -96,7 +95,7 @@ fn run_pooled(
     star: u32,
     position: Position,
 ) -> Stepped
-    ensures { λ r. ⌜ Steps (step parameters growth (before separators numbers words owners) (poolBefore poolnumbers poolwords poolowners) (pooledRequest kind caller star position))
+    ensures { λ r. ⌜ Steps (callAt parameters growth (before separators numbers words owners) (poolBefore poolnumbers poolwords poolowners) (pooledRequest kind caller star position))
         r (after separators numbers words owners) (poolAfter poolnumbers poolwords poolowners) ⌝ }
 {
     if kind == 1 || kind == 8 {
@@ -117,7 +116,7 @@ fn run_pooled(
         );
     }
     if kind == 3 {
-        let removed = starfile::remove(
+        let removed = removing::remove(
             parameters,
             growth,
             separators,
@@ -162,11 +161,11 @@ fn run_entry(
     star: u32,
     position: Position,
 ) -> Stepped
-    ensures { λ r. ⌜ Steps (step parameters growth (before separators numbers words owners) (poolBefore poolnumbers poolwords poolowners) (entryRequest kind caller star position))
+    ensures { λ r. ⌜ Steps (callAt parameters growth (before separators numbers words owners) (poolBefore poolnumbers poolwords poolowners) (entryRequest kind caller star position))
         r (after separators numbers words owners) (poolAfter poolnumbers poolwords poolowners) ⌝ }
 {
     if kind == 8 {
-        let cascaded = starfile::cascade(
+        let cascaded = adding::cascade(
             parameters,
             growth,
             separators,
@@ -182,7 +181,7 @@ fn run_entry(
         );
         return unmoved(placed_answer(cascaded), growth);
     }
-    let entered = starfile::enter(
+    let entered = adding::enter(
         parameters,
         growth,
         separators,
@@ -212,11 +211,11 @@ fn run_whole(
     poolowners: &mut [u8],
     kind: u8,
 ) -> Stepped
-    ensures { λ r. ⌜ Steps (step parameters growth (before separators numbers words owners) (poolBefore poolnumbers poolwords poolowners) (wholeRequest kind))
+    ensures { λ r. ⌜ Steps (callAt parameters growth (before separators numbers words owners) (poolBefore poolnumbers poolwords poolowners) (wholeRequest kind))
         r (after separators numbers words owners) (poolAfter poolnumbers poolwords poolowners) ⌝ }
 {
     if kind == 4 {
-        let grown = starfile::grow(
+        let grown = whole_file::grow(
             parameters,
             growth,
             separators,
@@ -231,7 +230,7 @@ fn run_whole(
         return unmoved(placed_answer(answer), grown.growth);
     }
     if kind == 7 {
-        let shrunk = starfile::shrink(
+        let shrunk = whole_file::shrink(
             parameters,
             growth,
             separators,
@@ -245,7 +244,7 @@ fn run_whole(
         let answer = shrunk.answer;
         return unmoved(placed_answer(answer), shrunk.growth);
     }
-    let checked = starfile::check(
+    let checked = whole_file::check(
         parameters,
         growth,
         separators,
@@ -284,7 +283,7 @@ pub fn replay_step(
     at: usize,
 ) -> Growth
     requires { ⌜ at + 8 ≤ length (now answers) ⌝ }
-    ensures { λ r. ⌜ Recorded (step parameters growth (before separators numbers words owners) (poolBefore poolnumbers poolwords poolowners) (requestOf kind caller star position))
+    ensures { λ r. ⌜ Recorded (callAt parameters growth (before separators numbers words owners) (poolBefore poolnumbers poolwords poolowners) (requestOf kind caller star position))
         (now (answers .entry)) at r (now (answers .exit)) (after separators numbers words owners) (poolAfter poolnumbers poolwords poolowners) ⌝ }
 {
     let stepped = run_call(

@@ -1,11 +1,11 @@
-// A lent history, run through the calls of starfile from a file made for it.
+// A lent history, run through the calls from a file made for it.
 ghost use mathlib.Core.Path.{_≡_};
 ghost use mathlib.Core.List.{[]};
 ghost use Rattle.placement.specs.Lent.{before, after};
 ghost use Rattle.histories.specs.Run.{fresh};
 ghost use Rattle.calls.specs.Lent.{poolBefore, poolAfter};
 ghost use Rattle.replaying.specs.Lent.{historyBefore};
-ghost use Rattle.replaying.specs.Replay.{lentHistory, allKinds, evenLengths, evenPool, requestsOf, replayOf, Replays};
+ghost use Rattle.replaying.specs.Replay.{lentHistory, allKinds, evenLengths, evenPool, requestsOf, noSecond, replayOf, Replays};
 ghost use Rattle.replaying.specs.Steps.{Even, Runs};
 use crate::calling::replay_step;
 use calls::answers::Placed;
@@ -68,7 +68,7 @@ pub fn replay(
     if !kinds_known(kinds) {
         return Replayed::BadKind;
     }
-    let made = starfile::make(parameters, separators, numbers, words, owners);
+    let made = making::make(parameters, separators, numbers, words, owners);
     let answer = made.answer;
     match answer {
         Placed::On(_, _) => Replayed::Done(run(
@@ -176,7 +176,7 @@ fn run(
     answers: &mut [u32],
 ) -> Growth
     requires { ⌜ Even (lentHistory (now kinds) (now callers) (now stars) (now ras) (now decs)) (now answers) ⌝ }
-    ensures { λ r. ⌜ Runs (fresh parameters growth (before separators numbers words owners)) (poolBefore poolnumbers poolwords poolowners)
+    ensures { λ r. ⌜ Runs (fresh parameters growth (before separators numbers words owners) noSecond) (poolBefore poolnumbers poolwords poolowners)
         (requestsOf (historyBefore kinds callers stars ras decs)) []
         r (now (answers .exit)) (after separators numbers words owners) (poolAfter poolnumbers poolwords poolowners) ⌝ }
 {

@@ -1,12 +1,13 @@
 -- What the numbers that C programs pass and get stand for.
 use mathlib.Core.Path.{_≡_}
+use mathlib.Core.Bool.{Bool}
 use Prim.Native.Nat.{ℕ}
 use lib.IntN.{ℤ}
 use Rattle.hashing.specs.declared.Parameters.{Parameters}
-use Rattle.hashing.specs.declared.Growth.{Growth}
 use Rattle.pages.specs.declared.position.Position.{Position}
 use Rattle.placement.specs.File.{File}
 use Rattle.calls.specs.declared.answers.Answer.{Answer}
+use Rattle.calls.specs.declared.records.GrowthRecord.{GrowthRecord}
 use Rattle.calls.specs.Answers.{Pool, After}
 use Rattle.starfile_c.specs.declared.Reply.{Reply}
 
@@ -24,9 +25,10 @@ parametersOf places groups width step bits load pages multiplier =
       multiplier = multiplier;
     }
 
--- e, x
-abbrev pub growthOf : ℕ → ℕ → Growth
-growthOf expansions expanded = record { expansions = expansions; expanded = expanded }
+-- e, x, whether a growth is open, the steps done
+abbrev pub recordOf : ℕ → ℕ → Bool → ℕ → GrowthRecord
+recordOf expansions expanded growing steps =
+    record { state = record { expansions = expansions; expanded = expanded }; growing = growing; steps = steps }
 
 abbrev pub positionOf : ℕ → ℤ → Position
 positionOf ra dec = record { ra = ra; dec = dec }

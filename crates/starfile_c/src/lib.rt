@@ -3,17 +3,18 @@
 ghost use mathlib.Core.Path.{_≡_};
 ghost use Rattle.placement.specs.Lent.{before, after};
 ghost use Rattle.calls.specs.Answers.{unpooled};
-ghost use Rattle.calls.specs.Calls.{lookUpOf, enterOf, cascadeOf, removeOf};
+ghost use Rattle.calls.specs.Records.{lookUpUnder, enterUnder, cascadeUnder, removeUnder};
 ghost use Rattle.calls.specs.Lent.{poolBefore, poolAfter};
-ghost use Rattle.starfile_c.specs.Reply.{Replies, replyOf, parametersOf, growthOf, positionOf};
+ghost use Rattle.starfile_c.specs.Reply.{Replies, replyOf, parametersOf, recordOf, positionOf};
 use calls::answers::Answer;
 use calls::answers::placed_answer;
 use calls::answers::sought_answer;
+use calls::records::GrowthRecord;
 use hashing::Growth;
 use hashing::Parameters;
 use pages::position::Position;
 
-// Document 01's refusal number, 0 if accepted, and its values; a value that a call does not name is 0 or false.
+// The papers' refusal number, 0 if accepted, and their values; a value that a call does not name is 0 or false.
 #[repr(C)]
 pub struct Reply {
     pub refusal: u32,
@@ -36,14 +37,16 @@ pub extern "C" fn heatherplane_look_up(
     multiplier: u32,
     expansions: u32,
     expanded: u32,
+    growing: bool,
+    steps: u32,
     separators: &[u8],
     numbers: &[u32],
     words: &[u64],
     owners: &[u8],
     number: u32,
 ) -> Reply
-    ensures { λ r. ⌜ r ≡ replyOf (lookUpOf (parametersOf places groups width step bits load pages multiplier) (growthOf expansions expanded)
-        (before separators numbers words owners) unpooled number .answer) ⌝ }
+    ensures { λ r. ⌜ r ≡ replyOf (lookUpUnder (parametersOf places groups width step bits load pages multiplier)
+        (recordOf expansions expanded growing steps) (before separators numbers words owners) unpooled number .answer) ⌝ }
 {
     let parameters = Parameters {
         places,
@@ -55,9 +58,14 @@ pub extern "C" fn heatherplane_look_up(
         pages,
         multiplier,
     };
-    let growth = Growth {
+    let state = Growth {
         expansions,
         expanded,
+    };
+    let growth = GrowthRecord {
+        state,
+        growing,
+        steps,
     };
     let found = starfile::look_up(
         parameters,
@@ -83,6 +91,8 @@ pub extern "C" fn heatherplane_enter(
     multiplier: u32,
     expansions: u32,
     expanded: u32,
+    growing: bool,
+    steps: u32,
     separators: &mut [u8],
     numbers: &mut [u32],
     words: &mut [u64],
@@ -95,8 +105,8 @@ pub extern "C" fn heatherplane_enter(
     ra: u32,
     dec: i32,
 ) -> Reply
-    ensures { λ r. ⌜ Replies (enterOf (parametersOf places groups width step bits load pages multiplier) (growthOf expansions expanded)
-        (before separators numbers words owners) (poolBefore poolnumbers poolwords poolowners) caller number (positionOf ra dec))
+    ensures { λ r. ⌜ Replies (enterUnder (parametersOf places groups width step bits load pages multiplier)
+        (recordOf expansions expanded growing steps) (before separators numbers words owners) (poolBefore poolnumbers poolwords poolowners) caller number (positionOf ra dec))
         r (after separators numbers words owners) (poolAfter poolnumbers poolwords poolowners) ⌝ }
 {
     let parameters = Parameters {
@@ -109,9 +119,14 @@ pub extern "C" fn heatherplane_enter(
         pages,
         multiplier,
     };
-    let growth = Growth {
+    let state = Growth {
         expansions,
         expanded,
+    };
+    let growth = GrowthRecord {
+        state,
+        growing,
+        steps,
     };
     let answer = starfile::enter(
         parameters,
@@ -142,6 +157,8 @@ pub extern "C" fn heatherplane_cascade(
     multiplier: u32,
     expansions: u32,
     expanded: u32,
+    growing: bool,
+    steps: u32,
     separators: &mut [u8],
     numbers: &mut [u32],
     words: &mut [u64],
@@ -154,8 +171,8 @@ pub extern "C" fn heatherplane_cascade(
     ra: u32,
     dec: i32,
 ) -> Reply
-    ensures { λ r. ⌜ Replies (cascadeOf (parametersOf places groups width step bits load pages multiplier) (growthOf expansions expanded)
-        (before separators numbers words owners) (poolBefore poolnumbers poolwords poolowners) caller number (positionOf ra dec))
+    ensures { λ r. ⌜ Replies (cascadeUnder (parametersOf places groups width step bits load pages multiplier)
+        (recordOf expansions expanded growing steps) (before separators numbers words owners) (poolBefore poolnumbers poolwords poolowners) caller number (positionOf ra dec))
         r (after separators numbers words owners) (poolAfter poolnumbers poolwords poolowners) ⌝ }
 {
     let parameters = Parameters {
@@ -168,9 +185,14 @@ pub extern "C" fn heatherplane_cascade(
         pages,
         multiplier,
     };
-    let growth = Growth {
+    let state = Growth {
         expansions,
         expanded,
+    };
+    let growth = GrowthRecord {
+        state,
+        growing,
+        steps,
     };
     let answer = starfile::cascade(
         parameters,
@@ -201,6 +223,8 @@ pub extern "C" fn heatherplane_remove(
     multiplier: u32,
     expansions: u32,
     expanded: u32,
+    growing: bool,
+    steps: u32,
     separators: &mut [u8],
     numbers: &mut [u32],
     words: &mut [u64],
@@ -211,8 +235,8 @@ pub extern "C" fn heatherplane_remove(
     caller: u8,
     number: u32,
 ) -> Reply
-    ensures { λ r. ⌜ Replies (removeOf (parametersOf places groups width step bits load pages multiplier) (growthOf expansions expanded)
-        (before separators numbers words owners) (poolBefore poolnumbers poolwords poolowners) caller number)
+    ensures { λ r. ⌜ Replies (removeUnder (parametersOf places groups width step bits load pages multiplier)
+        (recordOf expansions expanded growing steps) (before separators numbers words owners) (poolBefore poolnumbers poolwords poolowners) caller number)
         r (after separators numbers words owners) (poolAfter poolnumbers poolwords poolowners) ⌝ }
 {
     let parameters = Parameters {
@@ -225,9 +249,14 @@ pub extern "C" fn heatherplane_remove(
         pages,
         multiplier,
     };
-    let growth = Growth {
+    let state = Growth {
         expansions,
         expanded,
+    };
+    let growth = GrowthRecord {
+        state,
+        growing,
+        steps,
     };
     let answer = starfile::remove(
         parameters,

@@ -1,10 +1,11 @@
-// The calls as exported functions, backup's and two of hashing's, for the Rust tests alone. C programs have the three of starfile_c.
+// The calls as exported functions, backup's and two of hashing's, for the Rust tests alone. C programs have the four of starfile_c.
 use calls::answers::Answer;
-use calls::answers::Grown;
 use calls::answers::checked_answer;
 use calls::answers::due_answer;
 use calls::answers::placed_answer;
 use calls::answers::sought_answer;
+use calls::records;
+use calls::records::Recorded;
 use pages::position::Position;
 
 #[repr(C)]
@@ -25,7 +26,14 @@ pub struct Growth {
     pub expanded: u32,
 }
 
-// The numbers and values of calls' specs/Answers.antt, with the growth state after the call.
+#[repr(C)]
+pub struct GrowthRecord {
+    pub state: Growth,
+    pub growing: bool,
+    pub steps: u32,
+}
+
+// The numbers and values of calls' specs/Answers.antt, with the growth record after the call.
 #[repr(C)]
 pub struct Outcome {
     pub refusal: u32,
@@ -36,8 +44,7 @@ pub struct Outcome {
     pub dec: i32,
     pub due: u32,
     pub stars: u32,
-    pub expansions: u32,
-    pub expanded: u32,
+    pub growth: GrowthRecord,
 }
 
 fn parameters_from(given: Parameters) -> hashing::Parameters {
@@ -60,11 +67,31 @@ fn growth_from(given: Growth) -> hashing::Growth {
     }
 }
 
+fn record_from(given: GrowthRecord) -> records::GrowthRecord {
+    records::GrowthRecord {
+        state: growth_from(given.state),
+        growing: given.growing,
+        steps: given.steps,
+    }
+}
+
+fn record_to(kept: records::GrowthRecord) -> GrowthRecord {
+    let state = kept.state;
+    GrowthRecord {
+        state: Growth {
+            expansions: state.expansions,
+            expanded: state.expanded,
+        },
+        growing: kept.growing,
+        steps: kept.steps,
+    }
+}
+
 fn bit(flag: bool) -> u32 {
     if flag { 1 } else { 0 }
 }
 
-fn outcome_of(answer: Answer, growth: hashing::Growth) -> Outcome {
+fn outcome_of(answer: Answer, growth: records::GrowthRecord) -> Outcome {
     let position = answer.position;
     Outcome {
         refusal: answer.refusal,
@@ -75,12 +102,11 @@ fn outcome_of(answer: Answer, growth: hashing::Growth) -> Outcome {
         dec: position.dec,
         due: bit(answer.due),
         stars: answer.stars,
-        expansions: growth.expansions,
-        expanded: growth.expanded,
+        growth: record_to(growth),
     }
 }
 
-fn grown(answer: Grown) -> Outcome {
+fn recorded(answer: Recorded) -> Outcome {
     let said = answer.answer;
     outcome_of(placed_answer(said), answer.growth)
 }
@@ -93,7 +119,7 @@ pub extern "C" fn sft_make(
     words: &mut [u64],
     owners: &mut [u8],
 ) -> Outcome {
-    grown(starfile::make(
+    recorded(starfile::make(
         parameters_from(parameters),
         separators,
         numbers,
@@ -105,30 +131,30 @@ pub extern "C" fn sft_make(
 #[no_mangle]
 pub extern "C" fn sft_look_up(
     parameters: Parameters,
-    growth: Growth,
+    growth: GrowthRecord,
     separators: &[u8],
     numbers: &[u32],
     words: &[u64],
     owners: &[u8],
     number: u32,
 ) -> Outcome {
-    let state = growth_from(growth);
+    let kept = record_from(growth);
     let answer = starfile::look_up(
         parameters_from(parameters),
-        state,
+        kept,
         separators,
         numbers,
         words,
         owners,
         number,
     );
-    outcome_of(sought_answer(answer), state)
+    outcome_of(sought_answer(answer), kept)
 }
 
 #[no_mangle]
 pub extern "C" fn sft_enter(
     parameters: Parameters,
-    growth: Growth,
+    growth: GrowthRecord,
     separators: &mut [u8],
     numbers: &mut [u32],
     words: &mut [u64],
@@ -141,10 +167,10 @@ pub extern "C" fn sft_enter(
     ra: u32,
     dec: i32,
 ) -> Outcome {
-    let state = growth_from(growth);
+    let kept = record_from(growth);
     let answer = starfile::enter(
         parameters_from(parameters),
-        state,
+        kept,
         separators,
         numbers,
         words,
@@ -156,13 +182,13 @@ pub extern "C" fn sft_enter(
         number,
         Position { ra, dec },
     );
-    outcome_of(placed_answer(answer), state)
+    outcome_of(placed_answer(answer), kept)
 }
 
 #[no_mangle]
 pub extern "C" fn sft_cascade(
     parameters: Parameters,
-    growth: Growth,
+    growth: GrowthRecord,
     separators: &mut [u8],
     numbers: &mut [u32],
     words: &mut [u64],
@@ -175,10 +201,10 @@ pub extern "C" fn sft_cascade(
     ra: u32,
     dec: i32,
 ) -> Outcome {
-    let state = growth_from(growth);
+    let kept = record_from(growth);
     let answer = starfile::cascade(
         parameters_from(parameters),
-        state,
+        kept,
         separators,
         numbers,
         words,
@@ -190,13 +216,13 @@ pub extern "C" fn sft_cascade(
         number,
         Position { ra, dec },
     );
-    outcome_of(placed_answer(answer), state)
+    outcome_of(placed_answer(answer), kept)
 }
 
 #[no_mangle]
 pub extern "C" fn sft_change(
     parameters: Parameters,
-    growth: Growth,
+    growth: GrowthRecord,
     separators: &[u8],
     numbers: &[u32],
     words: &mut [u64],
@@ -206,10 +232,10 @@ pub extern "C" fn sft_change(
     ra: u32,
     dec: i32,
 ) -> Outcome {
-    let state = growth_from(growth);
+    let kept = record_from(growth);
     let answer = starfile::change(
         parameters_from(parameters),
-        state,
+        kept,
         separators,
         numbers,
         words,
@@ -218,13 +244,13 @@ pub extern "C" fn sft_change(
         number,
         Position { ra, dec },
     );
-    outcome_of(placed_answer(answer), state)
+    outcome_of(placed_answer(answer), kept)
 }
 
 #[no_mangle]
 pub extern "C" fn sft_remove(
     parameters: Parameters,
-    growth: Growth,
+    growth: GrowthRecord,
     separators: &mut [u8],
     numbers: &mut [u32],
     words: &mut [u64],
@@ -235,10 +261,10 @@ pub extern "C" fn sft_remove(
     caller: u8,
     number: u32,
 ) -> Outcome {
-    let state = growth_from(growth);
+    let kept = record_from(growth);
     let answer = starfile::remove(
         parameters_from(parameters),
-        state,
+        kept,
         separators,
         numbers,
         words,
@@ -249,13 +275,13 @@ pub extern "C" fn sft_remove(
         caller,
         number,
     );
-    outcome_of(placed_answer(answer), state)
+    outcome_of(placed_answer(answer), kept)
 }
 
 #[no_mangle]
 pub extern "C" fn sft_grow(
     parameters: Parameters,
-    growth: Growth,
+    growth: GrowthRecord,
     separators: &mut [u8],
     numbers: &mut [u32],
     words: &mut [u64],
@@ -264,9 +290,9 @@ pub extern "C" fn sft_grow(
     poolwords: &mut [u64],
     poolowners: &mut [u8],
 ) -> Outcome {
-    grown(starfile::grow(
+    recorded(starfile::grow(
         parameters_from(parameters),
-        growth_from(growth),
+        record_from(growth),
         separators,
         numbers,
         words,
@@ -280,7 +306,7 @@ pub extern "C" fn sft_grow(
 #[no_mangle]
 pub extern "C" fn sft_shrink(
     parameters: Parameters,
-    growth: Growth,
+    growth: GrowthRecord,
     separators: &mut [u8],
     numbers: &mut [u32],
     words: &mut [u64],
@@ -289,9 +315,9 @@ pub extern "C" fn sft_shrink(
     poolwords: &mut [u64],
     poolowners: &mut [u8],
 ) -> Outcome {
-    grown(starfile::shrink(
+    recorded(starfile::shrink(
         parameters_from(parameters),
-        growth_from(growth),
+        record_from(growth),
         separators,
         numbers,
         words,
@@ -305,28 +331,28 @@ pub extern "C" fn sft_shrink(
 #[no_mangle]
 pub extern "C" fn sft_due(
     parameters: Parameters,
-    growth: Growth,
+    growth: GrowthRecord,
     separators: &[u8],
     numbers: &[u32],
     words: &[u64],
     owners: &[u8],
 ) -> Outcome {
-    let state = growth_from(growth);
+    let kept = record_from(growth);
     let answer = starfile::due(
         parameters_from(parameters),
-        state,
+        kept,
         separators,
         numbers,
         words,
         owners,
     );
-    outcome_of(due_answer(answer), state)
+    outcome_of(due_answer(answer), kept)
 }
 
 #[no_mangle]
 pub extern "C" fn sft_check(
     parameters: Parameters,
-    growth: Growth,
+    growth: GrowthRecord,
     separators: &[u8],
     numbers: &[u32],
     words: &[u64],
@@ -335,10 +361,10 @@ pub extern "C" fn sft_check(
     poolwords: &mut [u64],
     poolowners: &mut [u8],
 ) -> Outcome {
-    let state = growth_from(growth);
+    let kept = record_from(growth);
     let answer = starfile::check(
         parameters_from(parameters),
-        state,
+        kept,
         separators,
         numbers,
         words,
@@ -347,7 +373,75 @@ pub extern "C" fn sft_check(
         poolwords,
         poolowners,
     );
-    outcome_of(checked_answer(answer), state)
+    outcome_of(checked_answer(answer), kept)
+}
+
+// Opens a growth into a second set of pages; the file itself is only read.
+#[no_mangle]
+pub extern "C" fn sft_open(
+    parameters: Parameters,
+    growth: GrowthRecord,
+    separators: &[u8],
+    numbers: &[u32],
+    words: &[u64],
+    owners: &[u8],
+    secondseparators: &mut [u8],
+    secondnumbers: &mut [u32],
+    secondwords: &mut [u64],
+    secondowners: &mut [u8],
+    poolnumbers: &mut [u32],
+    poolwords: &mut [u64],
+    poolowners: &mut [u8],
+) -> Outcome {
+    recorded(starfile::open_growth(
+        parameters_from(parameters),
+        record_from(growth),
+        separators,
+        numbers,
+        words,
+        owners,
+        secondseparators,
+        secondnumbers,
+        secondwords,
+        secondowners,
+        poolnumbers,
+        poolwords,
+        poolowners,
+    ))
+}
+
+// One of its M steps.
+#[no_mangle]
+pub extern "C" fn sft_step(
+    parameters: Parameters,
+    growth: GrowthRecord,
+    separators: &[u8],
+    numbers: &[u32],
+    words: &[u64],
+    owners: &[u8],
+    secondseparators: &mut [u8],
+    secondnumbers: &mut [u32],
+    secondwords: &mut [u64],
+    secondowners: &mut [u8],
+    poolnumbers: &mut [u32],
+    poolwords: &mut [u64],
+    poolowners: &mut [u8],
+) -> Outcome {
+    recorded(starfile::step_growth(
+        parameters_from(parameters),
+        record_from(growth),
+        separators,
+        numbers,
+        words,
+        owners,
+        secondseparators,
+        secondnumbers,
+        secondwords,
+        secondowners,
+        poolnumbers,
+        poolwords,
+        poolowners,
+    ))
 }
 
 // backup's marks, with its refusal number; from the growth state before the growth.

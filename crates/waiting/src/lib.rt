@@ -6,7 +6,6 @@ mod settling;
 pub use gathering::count_stars;
 pub use gathering::gather;
 pub use settling::Settled;
-pub use settling::insert;
 pub use settling::keep_all;
 pub use settling::settle;
 pub use settling::settle_under;

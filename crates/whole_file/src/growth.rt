@@ -126,12 +126,12 @@ fn regrow(
 }
 
 // The growth state to go to, and the page that comes or goes; or why there is none.
-enum Step {
+pub enum Step {
     To(Growth, u32),
     Not(Refusal),
 }
 
-fn step_of(geometry: Geometry, back: bool) -> Step
+pub fn step_of(geometry: Geometry, back: bool) -> Step
     requires { ⌜ validParameters (geometry .parameters) ≡ true ⌝ }
     requires { ⌜ validGrowth (geometry .parameters) (geometry .growth) ≡ true ⌝ }
     ensures { λ r. ⌜ r ≡ stepOf back (geometry .parameters) (geometry .growth) ⌝ }

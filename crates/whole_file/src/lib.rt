@@ -3,6 +3,8 @@
 mod growth;
 mod verdicts;
 
+pub use growth::Step;
 pub use growth::grow;
 pub use growth::shrink;
+pub use growth::step_of;
 pub use verdicts::check;

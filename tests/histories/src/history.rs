@@ -1,16 +1,16 @@
 //! A history with the plain book beside it.
 
 use crate::tester::Tester;
-use model::files::{random_caller, random_entry, random_pool, random_star};
+use model::files::{random_caller, random_entry, random_pool, random_second, random_star, second_after};
 use model::hashing::{grown, highest_address, home, shrunk, signature};
 use model::placement::{entered_stretch, lay_out, pack, unpack, Star};
-use model::{Buffers, Call, Growth, Kind, Outcome, Parameters};
+use model::{Buffers, Call, Growth, Kind, Outcome, Parameters, Record};
 use std::collections::BTreeMap;
 use std::ops::RangeInclusive;
 
 pub struct History {
     pub parameters: Parameters,
-    pub growth: Growth,
+    pub record: Record,
     pub lent: Buffers,
     /// The book: the stars by number, and its own (e, x). It is fed accepted calls and never sees the file.
     pub book: BTreeMap<u32, Star>,
@@ -25,30 +25,36 @@ impl History {
     /// From the empty file that making one leaves in buffers with anything in them.
     pub fn new(tester: &mut Tester, parameters: Parameters) -> History {
         let mut lent = Buffers::zeros(&parameters);
-        lent.separators.iter_mut().for_each(|separator| *separator = tester.random.draw() as u8);
-        lent.numbers.iter_mut().for_each(|number| *number = tester.random.draw() as u32);
-        lent.words.iter_mut().for_each(|word| *word = tester.random.draw());
-        lent.owners.iter_mut().for_each(|owner| *owner = tester.random.draw() as u8);
-        let growth = Growth::default();
-        let call = Call { kind: Kind::Make, parameters, growth, caller: 0, number: 0, ra: 0, dec: 0 };
+        lent.file.separators.iter_mut().for_each(|separator| *separator = tester.random.draw() as u8);
+        lent.file.numbers.iter_mut().for_each(|number| *number = tester.random.draw() as u32);
+        lent.file.words.iter_mut().for_each(|word| *word = tester.random.draw());
+        lent.file.owners.iter_mut().for_each(|owner| *owner = tester.random.draw() as u8);
+        let record = Record::default();
+        let call = Call { kind: Kind::Make, parameters, record, caller: 0, number: 0, ra: 0, dec: 0 };
         let (_, lent) = tester.compare(&call, &lent);
-        History::from(tester, parameters, growth, lent)
+        History::from(tester, parameters, record.growth, lent)
     }
 
     /// From a file that the check accepts.
-    pub fn from(tester: &mut Tester, parameters: Parameters, growth: Growth, lent: Buffers) -> History {
-        let book: BTreeMap<u32, Star> = lent.stars().map(|star| (star.number, star)).collect();
+    pub fn from(tester: &mut Tester, parameters: Parameters, growth: Growth, mut lent: Buffers) -> History {
+        random_second(&mut tester.random, &mut lent);
+        let book: BTreeMap<u32, Star> = lent.file.stars().map(|star| (star.number, star)).collect();
         let mut numbers: Vec<u32> = book.keys().copied().collect();
         numbers.extend([1, 2, 2_147_483_645, 2_147_483_646]);
         numbers.extend((0..parameters.items() / 2 + 4).map(|_| tester.random.star_number()));
-        History { parameters, growth, lent, book, book_growth: growth, numbers, rising: true }
+        let record = Record::closed(growth);
+        History { parameters, record, lent, book, book_growth: growth, numbers, rising: true }
     }
 
     /// One random call, now and then one with wrong values beside it.
     pub fn step(&mut self, tester: &mut Tester) {
         self.rising ^= tester.random.once_in(60);
         let seldom = tester.random.once_in(5);
+        if self.record.open && tester.random.once_in(40) {
+            self.give_up();
+        }
         let kind = match tester.random.below(100) {
+            _ if self.record.open && tester.random.once_in(2) => Kind::Step,
             0..=37 => random_entry(&mut tester.random),
             38..=57 => Kind::Remove,
             58..=75 => Kind::LookUp,
@@ -56,6 +62,8 @@ impl History {
             83..=92 if self.rising != seldom => Kind::Grow,
             83..=92 => Kind::Shrink,
             93..=95 => Kind::Due,
+            96 => Kind::Open,
+            97 => Kind::Step,
             _ => Kind::Check,
         };
         let number = tester.random.pick(&self.numbers);
@@ -70,15 +78,46 @@ impl History {
     /// A growth or a shrink, whichever leads to another growth state.
     pub fn towards(&mut self, tester: &mut Tester, wanted: Growth) -> Outcome {
         let order = |growth: Growth| (growth.expansions, growth.expanded);
-        let kind = if order(self.growth) < order(wanted) { Kind::Grow } else { Kind::Shrink };
-        self.call(tester, kind, 0)
+        if order(self.record.growth) < order(wanted) {
+            return self.grow(tester);
+        }
+        self.call(tester, Kind::Shrink, 0)
+    }
+
+    /// A growth, at once or in steps.
+    pub fn grow(&mut self, tester: &mut Tester) -> Outcome {
+        if tester.random.once_in(4) && self.parameters.pages < 64 {
+            return self.grow_in_steps(tester);
+        }
+        self.call(tester, Kind::Grow, 0)
+    }
+
+    /// Opens a growth and does all its steps, with other calls between them; the answer of the opening, if it is refused, or of
+    /// the last step.
+    pub fn grow_in_steps(&mut self, tester: &mut Tester) -> Outcome {
+        let mut outcome = self.call(tester, Kind::Open, 0);
+        while self.record.open {
+            if tester.random.once_in(3) {
+                let kind = tester.random.pick(&Kind::ALL[1..Kind::Step as usize]);
+                let kind = tester.random.pick(&[Kind::LookUp, kind]);
+                let number = tester.random.pick(&self.numbers);
+                self.call(tester, kind, number);
+            }
+            outcome = self.call(tester, Kind::Step, 0);
+        }
+        outcome
+    }
+
+    /// What a host does after a power loss: the record says that nothing is open.
+    pub fn give_up(&mut self) {
+        self.record = Record::closed(self.record.growth);
     }
 
     /// A call with the star's number and position, for its owner.
     fn make_call(&self, kind: Kind, star: Star) -> Call {
         let (ra, dec) = unpack(star.word);
-        let (parameters, growth) = (self.parameters, self.growth);
-        Call { kind, parameters, growth, caller: star.owner, number: star.number, ra, dec }
+        let (parameters, record) = (self.parameters, self.record);
+        Call { kind, parameters, record, caller: star.owner, number: star.number, ra, dec }
     }
 
     /// Runs a call for a random caller, or for the owner that the book has.
@@ -100,23 +139,28 @@ impl History {
         random_pool(&mut tester.random, &mut self.lent);
         let (call, number) = (self.make_call(kind, star), star.number);
         let (outcome, after) = tester.compare(&call, &self.lent);
-        if kind.takes_number() {
+        if kind.takes_number() && !call.out_of_turn() {
             tester.expect(self.first_place(number) == outcome.place as usize, "a call answers another place");
         }
         if outcome.refusal == 0 {
             self.check_pages_read(tester, &call, &outcome, &after);
             self.undo(tester, &call, &outcome, &after);
+            self.grow_at_once(tester, &call, &outcome, &after);
         }
-        (self.lent, self.growth) = (after, outcome.growth());
+        (self.lent, self.record) = (after, outcome.record);
+        if finishes(&call, &outcome) {
+            std::mem::swap(&mut self.lent.file, &mut self.lent.second);
+        }
         self.check_answer(tester, &call, &outcome);
         if outcome.refusal == 0 {
-            self.feed(&call);
+            self.feed(&call, &outcome);
         }
         self.check_file(tester);
         outcome
     }
 
-    fn feed(&mut self, call: &Call) {
+    /// An unfinished growth counts as not begun, a finished one as accepted at its last step.
+    fn feed(&mut self, call: &Call, outcome: &Outcome) {
         let word = pack(call.ra, call.dec);
         match call.kind {
             // A resend leaves the star as it is.
@@ -128,6 +172,7 @@ impl History {
                 self.book.remove(&call.number);
             }
             Kind::Grow => self.book_growth = grown(&self.parameters, &self.book_growth),
+            Kind::Step if finishes(call, outcome) => self.book_growth = grown(&self.parameters, &self.book_growth),
             Kind::Shrink => self.book_growth = shrunk(&self.parameters, &self.book_growth).unwrap(),
             _ => {}
         }
@@ -135,6 +180,13 @@ impl History {
 
     fn check_answer(&self, tester: &mut Tester, call: &Call, outcome: &Outcome) {
         tester.expect(outcome.refusal != 5, "a call of a history is refused with 5");
+        tester.expect(
+            (outcome.refusal == 16) == call.out_of_turn(),
+            "a call does not wait for its turn, or waits in vain",
+        );
+        if outcome.refusal == 16 {
+            return;
+        }
         let held = self.book.get(&call.number);
         match call.kind {
             Kind::LookUp => {
@@ -158,11 +210,12 @@ impl History {
                 };
                 tester.expect(outcome.refusal == refusal, "a change or removal differs from the book");
             }
-            Kind::Grow => {
+            Kind::Grow | Kind::Open | Kind::Step => {
                 let next = grown(&self.parameters, &self.book_growth);
                 let page = highest_address(&self.parameters, &next);
                 let fits = page < self.parameters.pages.into() && self.laid_out(&next).is_some();
-                self.check_placed(tester, outcome, if fits { 0 } else { 8 }, page);
+                let answers_page = call.kind == Kind::Grow || finishes(call, outcome);
+                self.check_placed(tester, outcome, if fits { 0 } else { 8 }, if answers_page { page } else { 0 });
             }
             Kind::Shrink => {
                 let page = highest_address(&self.parameters, &self.book_growth);
@@ -190,23 +243,23 @@ impl History {
     /// Whether the book's stars are more than A per cent of the places on pages in use.
     fn due(&self) -> bool {
         let Parameters { places, load, .. } = self.parameters;
-        let last_star = self.lent.numbers.iter().rposition(|&number| number != 0).unwrap_or(0) as u64;
-        let last_page = highest_address(&self.parameters, &self.growth).max(last_star / u64::from(places));
+        let last_star = self.lent.file.numbers.iter().rposition(|&number| number != 0).unwrap_or(0) as u64;
+        let last_page = highest_address(&self.parameters, &self.record.growth).max(last_star / u64::from(places));
         100 * self.book.len() as u64 > u64::from(load * places) * (last_page + 1)
     }
 
     /// The first page from home whose separator is above the signature there.
     fn first_page(&self, number: u32) -> u64 {
-        let home = home(&self.parameters, &self.growth, number.into());
+        let home = home(&self.parameters, &self.record.growth, number.into());
         let signature = |page: u64| signature(&self.parameters, number.into(), page - home + 1);
-        (home..).find(|&page| u64::from(self.lent.separators[page as usize]) > signature(page)).unwrap()
+        (home..).find(|&page| u64::from(self.lent.file.separators[page as usize]) > signature(page)).unwrap()
     }
 
     /// How many lower numbers stand on that page.
     fn first_place(&self, number: u32) -> usize {
         let places = self.parameters.places as usize;
         let first = self.first_page(number) as usize * places;
-        self.lent.numbers[first..first + places].iter().filter(|&&other| other != 0 && other < number).count()
+        self.lent.file.numbers[first..first + places].iter().filter(|&&other| other != 0 && other < number).count()
     }
 
     /// The book's stars by the rule under a growth state.
@@ -216,13 +269,31 @@ impl History {
 
     fn check_file(&self, tester: &mut Tester) {
         let same = self.laid_out(&self.book_growth).is_some_and(|expected| self.same_file(&expected));
-        tester.expect(same && self.growth == self.book_growth, "the file is not the book's");
+        tester.expect(same && self.record.growth == self.book_growth, "the file is not the book's");
+        if self.record.open {
+            let next = grown(&self.parameters, &self.book_growth);
+            let done = self.laid_out(&next).map(|grown| second_after(&self.parameters, &grown.file, self.record.steps));
+            tester.expect(
+                done.as_ref() == Some(&self.lent.second),
+                "an open growth has left other pages than the book's",
+            );
+        }
     }
 
     /// Whether other buffers hold the same separators and pages.
     pub fn same_file(&self, other: &Buffers) -> bool {
-        let Buffers { separators, numbers, words, owners, .. } = &self.lent;
-        (separators, numbers, words, owners) == (&other.separators, &other.numbers, &other.words, &other.owners)
+        self.lent.file == other.file
+    }
+
+    /// A growth done in steps leaves and answers what the growth at once does.
+    fn grow_at_once(&self, tester: &mut Tester, call: &Call, outcome: &Outcome, after: &Buffers) {
+        if !finishes(call, outcome) {
+            return;
+        }
+        let call = Call { kind: Kind::Grow, record: Record::closed(call.record.growth), ..*call };
+        let (grown, at_once) = tester.compare(&call, &self.lent);
+        let same = grown == *outcome && at_once.file == after.second;
+        tester.expect(same, "a growth in steps differs from the growth at once");
     }
 
     /// A shrink right after an accepted growth gives back the file from before it, and a growth after an accepted shrink.
@@ -232,8 +303,8 @@ impl History {
             Kind::Shrink => Kind::Grow,
             _ => return,
         };
-        let (back, restored) = tester.compare(&Call { kind, growth: outcome.growth(), ..*call }, after);
-        let same = back.refusal == 0 && back.page == outcome.page && back.growth() == self.growth;
+        let (back, restored) = tester.compare(&Call { kind, record: outcome.record, ..*call }, after);
+        let same = back.refusal == 0 && back.page == outcome.page && back.record == self.record;
         tester.expect(same && self.same_file(&restored), "a growth and a shrink do not undo each other");
     }
 
@@ -241,11 +312,11 @@ impl History {
     /// cascade those from the named one to the first past which nothing is carried.
     fn pages_read(&self, call: &Call, after: &Buffers) -> Option<RangeInclusive<usize>> {
         let named = || self.first_page(call.number) as usize;
-        let (places, before) = (self.parameters.places as usize, &self.lent.numbers);
+        let (places, before) = (self.parameters.places as usize, &self.lent.file.numbers);
         match call.kind {
             Kind::LookUp => Some(named()..=named()),
             kind if kind.enters() && self.book.contains_key(&call.number) => Some(named()..=named()),
-            Kind::Cascade => Some(entered_stretch(places, named(), before, &after.numbers, |_| true)),
+            Kind::Cascade => Some(entered_stretch(places, named(), before, &after.file.numbers, |_| true)),
             _ => None,
         }
     }
@@ -258,20 +329,25 @@ impl History {
         };
         let places = self.parameters.places as usize;
         let (mut lent, mut expected) = (self.lent.clone(), after.clone());
-        for item in (0..lent.numbers.len()).filter(|item| !read.contains(&(item / places))) {
-            lent.numbers[item] = tester.random.draw() as u32;
-            lent.words[item] = tester.random.draw();
-            lent.owners[item] = tester.random.draw() as u8;
-            expected.numbers[item] = lent.numbers[item];
-            expected.words[item] = lent.words[item];
-            expected.owners[item] = lent.owners[item];
+        for item in (0..lent.file.numbers.len()).filter(|item| !read.contains(&(item / places))) {
+            lent.file.numbers[item] = tester.random.draw() as u32;
+            lent.file.words[item] = tester.random.draw();
+            lent.file.owners[item] = tester.random.draw() as u8;
+            expected.file.numbers[item] = lent.file.numbers[item];
+            expected.file.words[item] = lent.file.words[item];
+            expected.file.owners[item] = lent.file.owners[item];
         }
         let other = tester.compare(call, &lent);
         tester.expect(other == (*outcome, expected), "a call depends on a page that it does not read");
         let damaged = tester.random.pick(&Vec::from_iter(read));
-        lent.words[damaged * places] = u64::MAX;
+        lent.file.words[damaged * places] = u64::MAX;
         let (refused, _) = tester.compare(call, &lent);
         let met = (refused.refusal, refused.page as usize) == (5, damaged);
         tester.expect(met, "a call does not meet the damage on a page that it reads");
     }
+}
+
+/// Whether this was the last step of a growth.
+pub fn finishes(call: &Call, outcome: &Outcome) -> bool {
+    call.kind == Kind::Step && outcome.refusal == 0 && !outcome.record.open
 }

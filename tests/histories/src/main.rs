@@ -13,12 +13,13 @@ use tester::Tester;
 /// A name, how often a quick run repeats it and a round of a soak, and what to do.
 type Scenario = (&'static str, u64, u64, fn(&mut Tester));
 
-const SCENARIOS: [Scenario; 14] = [
+const SCENARIOS: [Scenario; 16] = [
     ("tiny files", 12, 3, scenarios::tiny_files),
     ("edge histories", 20, 10, scenarios::edge_histories),
     ("small histories", 3_000, 1_000, scenarios::small_history),
     ("every size, edges", 3, 1, scenarios::every_edge_size),
     ("every size", 500, 150, scenarios::every_size),
+    ("growths in steps", 600, 200, scenarios::growths_in_steps),
     ("single-bit damage", 45, 20, scenarios::single_bit_damage),
     ("single-bit arguments", 40, 10, scenarios::single_bit_arguments),
     ("damaged sessions", 15_000, 4_000, scenarios::damaged_session),
@@ -27,11 +28,12 @@ const SCENARIOS: [Scenario; 14] = [
     ("same stars", 1_200, 400, scenarios::same_stars),
     ("large histories", 24, 10, scenarios::large_history),
     ("largest histories", 6, 4, scenarios::largest_history),
+    ("large growths in steps", 24, 10, scenarios::large_steps),
     ("long cascades", 1, 1, scenarios::long_cascade),
 ];
 
 /// The refusals that calls meet, after 0 for none.
-const REFUSALS: [usize; 11] = [0, 1, 2, 3, 4, 5, 6, 7, 8, 9, 13];
+const REFUSALS: [usize; 12] = [0, 1, 2, 3, 4, 5, 6, 7, 8, 9, 13, 16];
 
 struct Totals {
     tester: Tester,

@@ -1,11 +1,11 @@
 //! What is tested, each by random numbers of its own.
 
-use crate::history::History;
+use crate::history::{finishes, History};
 use crate::tester::{stored, Tester};
 use model::files::*;
 use model::hashing::home;
 use model::placement::Star;
-use model::{Buffers, Call, Growth, Kind, Parameters};
+use model::{Buffers, Call, Growth, Kind, Parameters, Record};
 
 /// Every file of two pages with a place each and a few values for each item, under every call.
 pub fn tiny_files(tester: &mut Tester) {
@@ -21,16 +21,18 @@ pub fn tiny_files(tester: &mut Tester) {
         let page = |choice: usize| (separators[choice % 5], numbers[choice / 5 % 4], words[choice / 20]);
         let (lower, upper) = (page(choice % sets), page(choice / sets));
         let mut lent = Buffers::zeros(&parameters);
-        (lent.separators, lent.numbers) = (vec![lower.0, upper.0], vec![lower.1, upper.1]);
-        (lent.words, lent.pool_words) = (vec![lower.2, upper.2], vec![7, 7]);
+        (lent.file.separators, lent.file.numbers) = (vec![lower.0, upper.0], vec![lower.1, upper.1]);
+        (lent.file.words, lent.pool_words) = (vec![lower.2, upper.2], vec![7, 7]);
         for item in 0..2 {
             // An empty place seldom has an owner, as that hides all else.
-            if lent.numbers[item] != 0 || tester.random.once_in(8) {
-                lent.owners[item] = random_caller(&mut tester.random);
+            if lent.file.numbers[item] != 0 || tester.random.once_in(8) {
+                lent.file.owners[item] = random_caller(&mut tester.random);
             }
         }
         let growth = Growth { expansions: tester.random.below(2) as u32, expanded: 0 };
-        tester.every_call(parameters, growth, &lent, &numbers[1..3]);
+        let record = random_record(&mut tester.random, &parameters, growth);
+        random_second(&mut tester.random, &mut lent);
+        tester.every_call(parameters, record, &lent, &numbers[1..3]);
     }
 }
 
@@ -87,7 +89,11 @@ fn through_sizes(tester: &mut Tester, parameters: Parameters, calls: u64) {
                 history.call(tester, at_this_size, number);
             }
             // Where the stars do not fit, with fewer of them; a call that fails may leave no way on.
-            while history.call(tester, kind, 0).refusal != 0 {
+            let resized = |history: &mut History, tester: &mut Tester| match kind {
+                Kind::Grow => history.grow(tester),
+                _ => history.call(tester, kind, 0),
+            };
+            while resized(&mut history, tester).refusal != 0 {
                 if !tester.failures.is_empty() {
                     return;
                 }
@@ -97,6 +103,49 @@ fn through_sizes(tester: &mut Tester, parameters: Parameters, calls: u64) {
         }
         let refusal = history.call(tester, kind, 0).refusal;
         tester.expect(refusal == end, "a file has another number of sizes");
+    }
+}
+
+/// Growths in steps alone, with entries between them.
+pub fn growths_in_steps(tester: &mut Tester) {
+    let parameters = small_parameters(&mut tester.random);
+    let mut history = History::new(tester, parameters);
+    for _ in 0..4 {
+        for _ in 0..tester.random.below(u64::from(parameters.places) * 4) {
+            let number = tester.random.pick(&history.numbers);
+            let entry = random_entry(&mut tester.random);
+            history.call(tester, entry, number);
+        }
+        history.grow_in_steps(tester);
+    }
+}
+
+/// The first, a middle and the last steps of a growth of a large file.
+pub fn large_steps(tester: &mut Tester) {
+    let list = tester.random.pick(&LARGE);
+    let parameters = Parameters::new(list).under(random_multiplier(&mut tester.random));
+    // Often the last growth that there can be.
+    let growths = u64::from(parameters.pages - parameters.width * parameters.groups).saturating_sub(1);
+    let fewer = tester.random.below(growths + 1);
+    let growth = growth_after(&parameters, tester.random.pick(&[fewer, growths, growths]));
+    let percent = tester.random.pick(&[60, 90]);
+    let mut lent = clean_file(&mut tester.random, &parameters, &growth, percent);
+    random_second(&mut tester.random, &mut lent);
+    random_pool(&mut tester.random, &mut lent);
+    let record = Record::closed(growth);
+    let grow = Call { kind: Kind::Grow, parameters, record, caller: 0, number: 0, ra: 0, dec: 0 };
+    let (outcome, grown) = tester.compare(&grow, &lent);
+    let (opened, _) = tester.compare(&Call { kind: Kind::Open, ..grow }, &lent);
+    tester.expect(opened.refusal == outcome.refusal, "opening is refused otherwise than growing");
+    if outcome.refusal != 0 {
+        return;
+    }
+    for steps in [0, parameters.pages / 2, parameters.pages - 2, parameters.pages - 1] {
+        lent.second = second_after(&parameters, &grown.file, steps);
+        let record = Record { growth, open: true, steps };
+        let (_, after) = tester.compare(&Call { kind: Kind::Step, record, ..grow }, &lent);
+        let expected = second_after(&parameters, &grown.file, steps + 1);
+        tester.expect(after.second == expected, "a step leaves another page than the growth at once");
     }
 }
 
@@ -142,7 +191,7 @@ fn small_file(tester: &mut Tester) -> (Parameters, Growth, Buffers) {
 
 /// Some held numbers and some others.
 fn some_numbers(tester: &mut Tester, lent: &Buffers, count: usize) -> Vec<u32> {
-    let mut numbers: Vec<u32> = lent.numbers.iter().copied().filter(|&number| number != 0).collect();
+    let mut numbers: Vec<u32> = lent.file.numbers.iter().copied().filter(|&number| number != 0).collect();
     tester.random.shuffle(&mut numbers);
     numbers.truncate(count);
     numbers.extend((0..count).map(|_| tester.random.star_number()));
@@ -157,23 +206,30 @@ pub fn single_bit_damage(tester: &mut Tester) {
         random_pool(&mut tester.random, &mut damaged);
         flip(&mut damaged, bit);
         let numbers = some_numbers(tester, &lent, 2);
-        tester.every_call(parameters, growth, &damaged, &numbers);
+        let record = random_record(&mut tester.random, &parameters, growth);
+        tester.every_call(parameters, record, &damaged, &numbers);
     }
 }
 
-/// Each bit of the parameters and of the growth state changed, one at a time, then every call.
+/// Each bit of the parameters and of the growth record changed, one at a time, then every call.
 pub fn single_bit_arguments(tester: &mut Tester) {
     let (parameters, growth, lent) = small_file(tester);
     let numbers = some_numbers(tester, &lent, 1);
+    let record = random_record(&mut tester.random, &parameters, growth);
     for bit in 0..8 * 32 {
         let mut list = parameters.list();
         list[bit / 32] ^= 1 << (bit % 32);
-        tester.every_call(Parameters::from_list(list), growth, &lent, &numbers);
+        tester.every_call(Parameters::from_list(list), record, &lent, &numbers);
     }
-    for bit in 0..32 {
-        let Growth { expansions, expanded } = growth;
-        tester.every_call(parameters, Growth { expansions: expansions ^ 1 << bit, expanded }, &lent, &numbers);
-        tester.every_call(parameters, Growth { expansions, expanded: expanded ^ 1 << bit }, &lent, &numbers);
+    tester.every_call(parameters, Record { open: !record.open, ..record }, &lent, &numbers);
+    for bit in (0..32).map(|bit| 1 << bit) {
+        let mut wrong = [record; 3];
+        wrong[0].growth.expansions ^= bit;
+        wrong[1].growth.expanded ^= bit;
+        wrong[2].steps ^= bit;
+        for record in wrong {
+            tester.every_call(parameters, record, &lent, &numbers);
+        }
     }
 }
 
@@ -201,18 +257,27 @@ pub fn sound_session(tester: &mut Tester) {
     session(tester, parameters, growth, lent, 20);
 }
 
-fn session(tester: &mut Tester, parameters: Parameters, mut growth: Growth, mut lent: Buffers, calls: u32) {
+fn session(tester: &mut Tester, parameters: Parameters, growth: Growth, mut lent: Buffers, calls: u32) {
+    let mut record = random_record(&mut tester.random, &parameters, growth);
+    random_second(&mut tester.random, &mut lent);
     for _ in 0..calls {
         random_pool(&mut tester.random, &mut lent);
         let kind = tester.random.pick(&Kind::ALL[1..]);
+        // While a growth is open most calls are refused.
+        if record.open && tester.random.once_in(4) {
+            record = Record::closed(record.growth);
+        }
         let numbers = some_numbers(tester, &lent, 1);
         let number = tester.random.pick(&numbers);
         let resent = stored(&lent, number).filter(|_| tester.random.once_in(2));
         let (ra, dec) = resent.unwrap_or_else(|| tester.random.position());
         let caller = random_caller(&mut tester.random);
-        let call = Call { kind, parameters, growth, caller, number, ra, dec };
+        let call = Call { kind, parameters, record, caller, number, ra, dec };
         let (outcome, after) = tester.compare(&call, &lent);
-        (lent, growth) = (after, outcome.growth());
+        (lent, record) = (after, outcome.record);
+        if finishes(&call, &outcome) {
+            std::mem::swap(&mut lent.file, &mut lent.second);
+        }
     }
 }
 
@@ -276,15 +341,16 @@ pub fn same_stars(tester: &mut Tester) {
             }
             second.call_as(tester, owner, entry, number);
             if tester.random.once_in(3) {
-                second.call(tester, Kind::Grow, 0);
+                second.grow(tester);
             }
         }
-        while second.growth != first.growth && second.towards(tester, first.growth).refusal == 0 {}
+        let wanted = first.record.growth;
+        while second.record.growth != wanted && second.towards(tester, wanted).refusal == 0 {}
     }
     for star in first.book.values() {
         second.call_with(tester, Kind::Change, *star);
     }
-    let ended_alike = (&first.book, first.growth) == (&second.book, second.growth);
+    let ended_alike = (&first.book, first.record.growth) == (&second.book, second.record.growth);
     if ended_alike {
         tester.alike += 1;
         tester.expect(first.same_file(&second.lent), "histories with the same stars leave different files");

@@ -4,7 +4,7 @@ use model::files::random_caller;
 use model::placement::{unpack, Star};
 use model::random::Random;
 use model::vectors::Vector;
-use model::{Buffers, Call, Growth, Kind, Outcome, Parameters};
+use model::{Buffers, Call, Kind, Outcome, Parameters, Record};
 use std::fs;
 use std::path::PathBuf;
 
@@ -15,7 +15,7 @@ pub struct Tester {
     pub random: Random,
     pub calls: u64,
     /// How often each kind of call got each refusal.
-    pub refusals: [[u64; 14]; Kind::ALL.len()],
+    pub refusals: [[u64; 17]; Kind::ALL.len()],
     /// How many pairs of histories ended in the same stars, positions, owners and growth state.
     pub alike: u64,
     pub failures: Vec<String>,
@@ -24,18 +24,17 @@ pub struct Tester {
 
 impl Tester {
     pub fn new() -> Tester {
-        let refusals = [[0; 14]; Kind::ALL.len()];
+        let refusals = [[0; 17]; Kind::ALL.len()];
         Tester { random: Random(0), calls: 0, refusals, alike: 0, failures: Vec::new(), saved: 0 }
     }
 
-    /// The outcome, with the growth state after the call, and the buffers that the model leaves.
+    /// The outcome, with the growth record after the call, and the buffers that the model leaves.
     pub fn compare(&mut self, call: &Call, before: &Buffers) -> (Outcome, Buffers) {
         self.calls += 1;
         let mut after = before.clone();
         let mut outcome = model::run(call, &mut after);
         self.refusals[call.kind as usize][outcome.refusal as usize] += 1;
-        let Growth { expansions, expanded } = call.growth_after(&outcome);
-        (outcome.expansions, outcome.expanded) = (expansions, expanded);
+        outcome.record = call.record_after(&outcome);
         let vector = Vector { call: *call, before: before.clone(), outcome, after };
         let differences = vector.differences(interface::run);
         if !differences.is_empty() {
@@ -66,7 +65,9 @@ impl Tester {
 
     /// The marks of the pages that a growth may alter; an accepted growth of a clean file leaves the others alone.
     fn compare_marks(&mut self, call: &Call, accepted: bool, before: &Buffers, after: &Buffers) {
-        let Call { parameters: p, growth, .. } = call;
+        let Call { parameters: p, record: Record { growth, .. }, .. } = call;
+        let tidy = accepted && clean(call, before);
+        let (before, after) = (&before.file, &after.file);
         let mut marks: Vec<u8> = before.separators.iter().map(|_| self.random.draw() as u8).collect();
         let top = u8::MAX >> 8u32.saturating_sub(p.bits).min(7);
         let random = after.separators.iter().map(|&old| self.random.pick(&[old, top, 0])).collect();
@@ -75,7 +76,7 @@ impl Tester {
             let refusal = model::backup::mark_changed(p, growth, &before.separators, new, &mut expected);
             let answer = interface::mark_changed(p, growth, &before.separators, new, &mut marks);
             self.expect((answer, &marks) == (refusal, &expected), "marks of altered pages differ");
-            if !accepted || new != &after.separators || !clean(call, before) {
+            if new != &after.separators || !tidy {
                 continue;
             }
             for page in (0..p.pages as usize).filter(|&page| marks[page] == 0) {
@@ -106,13 +107,13 @@ impl Tester {
     }
 
     /// Every call on copies of one file: those that take a number, for each of the numbers, and resends.
-    pub fn every_call(&mut self, parameters: Parameters, growth: Growth, lent: &Buffers, numbers: &[u32]) {
+    pub fn every_call(&mut self, parameters: Parameters, record: Record, lent: &Buffers, numbers: &[u32]) {
         for kind in Kind::ALL {
             let numbers = if kind.takes_number() { numbers } else { &[0] };
             for &number in numbers {
                 let (ra, dec) = self.random.position();
                 let caller = random_caller(&mut self.random);
-                let call = Call { kind, parameters, growth, caller, number, ra, dec };
+                let call = Call { kind, parameters, record, caller, number, ra, dec };
                 self.compare(&call, lent);
                 if let (true, Some((ra, dec))) = (kind.enters(), stored(lent, number)) {
                     self.compare(&Call { ra, dec, ..call }, lent);
@@ -135,7 +136,7 @@ impl Tester {
         let small = random.below(40) as u32;
         let value = random.pick(&[0, 1, 8, 9, 32, 33, 99, 100, 256, 257, 1_024, 1_025, u32::MAX, any, small, small]);
         let p = &mut call.parameters;
-        match random.below(20) {
+        match random.below(27) {
             0 => p.places = value,
             1 => p.groups = value,
             2 => p.width = value,
@@ -144,17 +145,24 @@ impl Tester {
             5 => p.load = value,
             6 => p.pages = value,
             7 => p.multiplier = random.pick(&[16_806, 16_807, 16_808, 48_270, 48_271, 48_272, value]),
-            8 => call.growth.expansions = value,
-            9 => call.growth.expanded = value,
-            10 => resize(random, &mut lent.separators),
-            11 => resize(random, &mut lent.numbers),
-            12 => resize(random, &mut lent.words),
-            13 => resize(random, &mut lent.owners),
+            8 => call.record.growth.expansions = value,
+            9 => call.record.growth.expanded = value,
+            10 => resize(random, &mut lent.file.separators),
+            11 => resize(random, &mut lent.file.numbers),
+            12 => resize(random, &mut lent.file.words),
+            13 => resize(random, &mut lent.file.owners),
             14 => resize(random, &mut lent.pool_numbers),
             15 => resize(random, &mut lent.pool_words),
             16 => resize(random, &mut lent.pool_owners),
             17 => call.caller = random.pick(&[0, 1, 128, 255, any as u8]),
             18 => call.number = random.pick(&[0, 2_147_483_646, 2_147_483_647, 2_147_483_648, u32::MAX]),
+            19 => call.record.open ^= true,
+            20 => call.record.steps = random.pick(&[0, 1, p.pages.wrapping_sub(1), p.pages, value]),
+            21 => (call.record.open, call.record.steps) = (true, random.pick(&[0, p.pages.wrapping_sub(1), p.pages])),
+            22 => resize(random, &mut lent.second.separators),
+            23 => resize(random, &mut lent.second.numbers),
+            24 => resize(random, &mut lent.second.words),
+            25 => resize(random, &mut lent.second.owners),
             _ => {
                 call.ra = random.pick(&[0, 1_295_999_999, 1_296_000_000, u32::MAX, any]);
                 call.dec = random.pick(&[-324_000_001, -324_000_000, 324_000_000, 324_000_001, i32::MIN, any as i32]);
@@ -170,15 +178,15 @@ fn clean(call: &Call, lent: &Buffers) -> bool {
 
 /// The stars of all but one owner, in rising order.
 fn others(owner: u8, lent: &Buffers) -> Vec<Star> {
-    let mut stars: Vec<Star> = lent.stars().filter(|star| star.owner != owner).collect();
+    let mut stars: Vec<Star> = lent.file.stars().filter(|star| star.owner != owner).collect();
     stars.sort();
     stars
 }
 
 /// The position that the file holds for a number, if it holds one.
 pub fn stored(lent: &Buffers, number: u32) -> Option<(u32, i32)> {
-    let item = lent.numbers.iter().position(|&other| other == number)?;
-    lent.words.get(item).map(|&word| unpack(word))
+    let item = lent.file.numbers.iter().position(|&other| other == number)?;
+    lent.file.words.get(item).map(|&word| unpack(word))
 }
 
 fn resize<T: Clone + Default>(random: &mut Random, list: &mut Vec<T>) {

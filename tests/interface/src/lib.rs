@@ -1,9 +1,9 @@
 //! The calls of the Rattle crate starfile_tests, linked from its static library.
 
-use model::{Buffers, Call, Growth, Kind, Outcome, Parameters};
+use model::{Buffers, Call, Growth, Kind, Outcome, Parameters, Record};
 
 /// The requests of document 02 that have landed in the library.
-pub const LANDED: &[u32] = &[1, 2, 3, 4, 5, 7, 9, 10, 14];
+pub const LANDED: &[u32] = &[1, 2, 3, 4, 5, 7, 9, 10, 13, 14];
 
 // Each slice is a pointer and a length in items.
 #[rustfmt::skip]
@@ -16,7 +16,7 @@ extern "C" {
         owners: *mut u8, owners_length: usize,
     ) -> Outcome;
     fn sft_look_up(
-        parameters: Parameters, growth: Growth,
+        parameters: Parameters, record: Record,
         separators: *const u8, separators_length: usize,
         numbers: *const u32, numbers_length: usize,
         words: *const u64, words_length: usize,
@@ -24,7 +24,7 @@ extern "C" {
         number: u32,
     ) -> Outcome;
     fn sft_enter(
-        parameters: Parameters, growth: Growth,
+        parameters: Parameters, record: Record,
         separators: *mut u8, separators_length: usize,
         numbers: *mut u32, numbers_length: usize,
         words: *mut u64, words_length: usize,
@@ -35,7 +35,7 @@ extern "C" {
         caller: u8, number: u32, ra: u32, dec: i32,
     ) -> Outcome;
     fn sft_cascade(
-        parameters: Parameters, growth: Growth,
+        parameters: Parameters, record: Record,
         separators: *mut u8, separators_length: usize,
         numbers: *mut u32, numbers_length: usize,
         words: *mut u64, words_length: usize,
@@ -46,7 +46,7 @@ extern "C" {
         caller: u8, number: u32, ra: u32, dec: i32,
     ) -> Outcome;
     fn sft_change(
-        parameters: Parameters, growth: Growth,
+        parameters: Parameters, record: Record,
         separators: *const u8, separators_length: usize,
         numbers: *const u32, numbers_length: usize,
         words: *mut u64, words_length: usize,
@@ -54,7 +54,7 @@ extern "C" {
         caller: u8, number: u32, ra: u32, dec: i32,
     ) -> Outcome;
     fn sft_remove(
-        parameters: Parameters, growth: Growth,
+        parameters: Parameters, record: Record,
         separators: *mut u8, separators_length: usize,
         numbers: *mut u32, numbers_length: usize,
         words: *mut u64, words_length: usize,
@@ -65,7 +65,7 @@ extern "C" {
         caller: u8, number: u32,
     ) -> Outcome;
     fn sft_grow(
-        parameters: Parameters, growth: Growth,
+        parameters: Parameters, record: Record,
         separators: *mut u8, separators_length: usize,
         numbers: *mut u32, numbers_length: usize,
         words: *mut u64, words_length: usize,
@@ -75,7 +75,7 @@ extern "C" {
         pool_owners: *mut u8, pool_owners_length: usize,
     ) -> Outcome;
     fn sft_shrink(
-        parameters: Parameters, growth: Growth,
+        parameters: Parameters, record: Record,
         separators: *mut u8, separators_length: usize,
         numbers: *mut u32, numbers_length: usize,
         words: *mut u64, words_length: usize,
@@ -85,18 +85,46 @@ extern "C" {
         pool_owners: *mut u8, pool_owners_length: usize,
     ) -> Outcome;
     fn sft_due(
-        parameters: Parameters, growth: Growth,
+        parameters: Parameters, record: Record,
         separators: *const u8, separators_length: usize,
         numbers: *const u32, numbers_length: usize,
         words: *const u64, words_length: usize,
         owners: *const u8, owners_length: usize,
     ) -> Outcome;
     fn sft_check(
-        parameters: Parameters, growth: Growth,
+        parameters: Parameters, record: Record,
         separators: *const u8, separators_length: usize,
         numbers: *const u32, numbers_length: usize,
         words: *const u64, words_length: usize,
         owners: *const u8, owners_length: usize,
+        pool_numbers: *mut u32, pool_numbers_length: usize,
+        pool_words: *mut u64, pool_words_length: usize,
+        pool_owners: *mut u8, pool_owners_length: usize,
+    ) -> Outcome;
+    fn sft_open(
+        parameters: Parameters, record: Record,
+        separators: *const u8, separators_length: usize,
+        numbers: *const u32, numbers_length: usize,
+        words: *const u64, words_length: usize,
+        owners: *const u8, owners_length: usize,
+        second_separators: *mut u8, second_separators_length: usize,
+        second_numbers: *mut u32, second_numbers_length: usize,
+        second_words: *mut u64, second_words_length: usize,
+        second_owners: *mut u8, second_owners_length: usize,
+        pool_numbers: *mut u32, pool_numbers_length: usize,
+        pool_words: *mut u64, pool_words_length: usize,
+        pool_owners: *mut u8, pool_owners_length: usize,
+    ) -> Outcome;
+    fn sft_step(
+        parameters: Parameters, record: Record,
+        separators: *const u8, separators_length: usize,
+        numbers: *const u32, numbers_length: usize,
+        words: *const u64, words_length: usize,
+        owners: *const u8, owners_length: usize,
+        second_separators: *mut u8, second_separators_length: usize,
+        second_numbers: *mut u32, second_numbers_length: usize,
+        second_words: *mut u64, second_words_length: usize,
+        second_owners: *mut u8, second_owners_length: usize,
         pool_numbers: *mut u32, pool_numbers_length: usize,
         pool_words: *mut u64, pool_words_length: usize,
         pool_owners: *mut u8, pool_owners_length: usize,
@@ -132,14 +160,19 @@ pub fn rank(step: u64, groups: u64, group: u64) -> u64 {
 
 /// Runs one call of the library.
 pub fn run(call: &Call, lent: &mut Buffers) -> Outcome {
-    let Call { kind, parameters: p, growth: g, caller: c, number, ra, dec } = *call;
-    let (s, sl) = (lent.separators.as_mut_ptr(), lent.separators.len());
-    let (n, nl) = (lent.numbers.as_mut_ptr(), lent.numbers.len());
-    let (w, wl) = (lent.words.as_mut_ptr(), lent.words.len());
-    let (o, ol) = (lent.owners.as_mut_ptr(), lent.owners.len());
+    let Call { kind, parameters: p, record: g, caller: c, number, ra, dec } = *call;
+    let Buffers { file, second, .. } = lent;
+    let (s, sl) = (file.separators.as_mut_ptr(), file.separators.len());
+    let (n, nl) = (file.numbers.as_mut_ptr(), file.numbers.len());
+    let (w, wl) = (file.words.as_mut_ptr(), file.words.len());
+    let (o, ol) = (file.owners.as_mut_ptr(), file.owners.len());
     let (pn, pnl) = (lent.pool_numbers.as_mut_ptr(), lent.pool_numbers.len());
     let (pw, pwl) = (lent.pool_words.as_mut_ptr(), lent.pool_words.len());
     let (po, pol) = (lent.pool_owners.as_mut_ptr(), lent.pool_owners.len());
+    let (ss, ssl) = (second.separators.as_mut_ptr(), second.separators.len());
+    let (sn, snl) = (second.numbers.as_mut_ptr(), second.numbers.len());
+    let (sw, swl) = (second.words.as_mut_ptr(), second.words.len());
+    let (so, sol) = (second.owners.as_mut_ptr(), second.owners.len());
     // SAFETY: each pointer and length is that of a vector of its own, which lives through the call.
     unsafe {
         match kind {
@@ -155,6 +188,12 @@ pub fn run(call: &Call, lent: &mut Buffers) -> Outcome {
             Kind::Cascade => {
                 sft_cascade(p, g, s, sl, n, nl, w, wl, o, ol, pn, pnl, pw, pwl, po, pol, c, number, ra, dec)
             }
+            Kind::Open => sft_open(
+                p, g, s, sl, n, nl, w, wl, o, ol, ss, ssl, sn, snl, sw, swl, so, sol, pn, pnl, pw, pwl, po, pol,
+            ),
+            Kind::Step => sft_step(
+                p, g, s, sl, n, nl, w, wl, o, ol, ss, ssl, sn, snl, sw, swl, so, sol, pn, pnl, pw, pwl, po, pol,
+            ),
         }
     }
 }

@@ -2,7 +2,7 @@
 
 use crate::hashing::{grown, highest_address, home, shape, shrunk, signature, MULTIPLIERS};
 use crate::placement::{cut, pack, position_valid, rule, unpack, with_homes, word_valid, write, Page, Star};
-use crate::{Buffers, Call, Growth, Kind, Outcome, Parameters};
+use crate::{Buffers, Call, Growth, Kind, Outcome, Pages, Parameters, Record};
 
 const HIGHEST_NUMBER: u32 = 2_147_483_646;
 
@@ -43,21 +43,24 @@ pub fn run(call: &Call, lent: &mut Buffers) -> Outcome {
     outcome
 }
 
-/// Zeros and the growth state as it was.
+/// Zeros and the growth record as it was.
 fn unchanged(call: &Call) -> Outcome {
     if call.kind == Kind::Make {
         return Outcome::default();
     }
-    Outcome { expansions: call.growth.expansions, expanded: call.growth.expanded, ..Outcome::default() }
+    Outcome { record: call.record, ..Outcome::default() }
 }
 
 fn attempt(call: &Call, lent: &mut Buffers) -> Result<Outcome, Refusal> {
     let valid = parameters_valid(&call.parameters);
-    if !valid || call.kind != Kind::Make && !growth_valid(&call.parameters, &call.growth) {
+    if !valid || call.kind != Kind::Make && !record_valid(&call.parameters, &call.record) {
         return refuse(1);
     }
     if !lengths_right(call, lent) {
         return refuse(2);
+    }
+    if call.out_of_turn() {
+        return refuse(16);
     }
     if call.kind.takes_number() && !(1..=HIGHEST_NUMBER).contains(&call.number) {
         return refuse(3);
@@ -65,11 +68,13 @@ fn attempt(call: &Call, lent: &mut Buffers) -> Result<Outcome, Refusal> {
     if call.kind.takes_position() && !position_valid(call.ra, call.dec) {
         return refuse(4);
     }
-    let mut file = File { parameters: call.parameters, growth: call.growth, lent };
+    let mut file = File { parameters: call.parameters, growth: call.record.growth, lent };
     match call.kind {
         Kind::Make => file.make(),
         Kind::Grow => return file.grow(),
         Kind::Shrink => return file.shrink(),
+        Kind::Open => return file.open(),
+        Kind::Step => return file.step(call.record),
         Kind::Due => return Ok(file.due(unchanged(call))),
         Kind::Check => file.check()?,
         Kind::LookUp | Kind::Enter | Kind::Change | Kind::Remove | Kind::Cascade => return on_a_star(call, &mut file),
@@ -118,12 +123,16 @@ pub(crate) fn growth_valid(p: &Parameters, growth: &Growth) -> bool {
     expanded < groups && n * groups + expanded <= p.pages.into()
 }
 
+fn record_valid(p: &Parameters, record: &Record) -> bool {
+    let steps_valid = if record.open { record.steps < p.pages } else { record.steps == 0 };
+    growth_valid(p, &record.growth) && steps_valid
+}
+
 fn lengths_right(call: &Call, lent: &Buffers) -> bool {
-    let items = call.parameters.items();
     let pool = [lent.pool_numbers.len(), lent.pool_words.len(), lent.pool_owners.len()];
-    lent.separators.len() == call.parameters.pages as usize
-        && [lent.numbers.len(), lent.words.len(), lent.owners.len()] == [items; 3]
-        && (!call.kind.takes_pool() || pool == [items; 3])
+    lent.file.fit(&call.parameters)
+        && (!call.kind.takes_second() || lent.second.fit(&call.parameters))
+        && (!call.kind.takes_pool() || pool == [call.parameters.items(); 3])
 }
 
 /// A file whose parameters, growth state and lengths are right; its contents may be anything.
@@ -148,30 +157,30 @@ impl File<'_> {
     }
 
     fn at_top(&self, page: usize) -> bool {
-        u64::from(self.lent.separators[page]) == self.parameters.top()
+        u64::from(self.lent.file.separators[page]) == self.parameters.top()
     }
 
     fn stars(&self, pages: std::ops::RangeInclusive<usize>) -> Vec<Star> {
         let items = self.items(*pages.start()).start..self.items(*pages.end()).end;
-        items.map(|item| self.lent.star(item)).filter(|star| star.number != 0).collect()
+        items.map(|item| self.lent.file.star(item)).filter(|star| star.number != 0).collect()
     }
 
     /// The first place of a page that is empty or holds a number not below the one sought, or b if there is none.
     fn place(&self, page: usize, number: u32) -> usize {
-        let numbers = &self.lent.numbers[self.items(page)];
+        let numbers = &self.lent.file.numbers[self.items(page)];
         numbers.iter().position(|&other| other == 0 || other >= number).unwrap_or(numbers.len())
     }
 
     /// The item at which a page holds the number.
     fn held(&self, page: usize, number: u32) -> Option<usize> {
-        self.items(page).find(|&item| self.lent.numbers[item] == number)
+        self.items(page).find(|&item| self.lent.file.numbers[item] == number)
     }
 
     /// The same for the star of a caller; the institute may alter every star.
     fn own(&self, page: usize, caller: u8, number: u32) -> Result<usize, Refusal> {
         match self.held(page, number) {
             None => refuse(7),
-            Some(item) if caller != 0 && caller != self.lent.owners[item] => refuse(13),
+            Some(item) if caller != 0 && caller != self.lent.file.owners[item] => refuse(13),
             Some(item) => Ok(item),
         }
     }
@@ -180,13 +189,13 @@ impl File<'_> {
     fn named(&self, number: u32) -> Option<usize> {
         let home = self.home(number);
         let signature = |page| signature(&self.parameters, number.into(), (page - home + 1) as u64);
-        (home..=self.last_page()).find(|&page| u64::from(self.lent.separators[page]) > signature(page))
+        (home..=self.last_page()).find(|&page| u64::from(self.lent.file.separators[page]) > signature(page))
     }
 
     fn sound(&self, page: usize) -> bool {
-        let numbers = &self.lent.numbers[self.items(page)];
-        let words = &self.lent.words[self.items(page)];
-        let owners = &self.lent.owners[self.items(page)];
+        let numbers = &self.lent.file.numbers[self.items(page)];
+        let words = &self.lent.file.words[self.items(page)];
+        let owners = &self.lent.file.owners[self.items(page)];
         let count = numbers.iter().take_while(|&&number| number != 0).count();
         numbers[..count].windows(2).all(|pair| pair[0] < pair[1])
             && numbers[..count].iter().all(|&number| number <= HIGHEST_NUMBER)
@@ -194,7 +203,7 @@ impl File<'_> {
             && words[..count].iter().all(|&word| word_valid(word))
             && words[count..].iter().all(|&word| word == 0)
             && owners[count..].iter().all(|&owner| owner == 0)
-            && u64::from(self.lent.separators[page]) <= self.parameters.top()
+            && u64::from(self.lent.file.separators[page]) <= self.parameters.top()
             && numbers[..count].iter().all(|&number| self.named(number) == Some(page))
     }
 
@@ -219,7 +228,7 @@ impl File<'_> {
     }
 
     fn write(&mut self, first: usize, pages: &[Page]) {
-        write(&self.parameters, self.lent, first, pages);
+        write(&self.parameters, &mut self.lent.file, first, pages);
     }
 
     /// The same, and the page on which a star stands after it.
@@ -229,24 +238,21 @@ impl File<'_> {
     }
 
     fn make(&mut self) {
-        self.lent.separators.fill(self.parameters.top() as u8);
-        self.lent.numbers.fill(0);
-        self.lent.words.fill(0);
-        self.lent.owners.fill(0);
+        self.lent.file = Pages::empty(&self.parameters);
     }
 
     fn look_up(&self, named: usize, number: u32, none: Outcome) -> Outcome {
         let Some(item) = self.held(named, number) else {
             return none;
         };
-        let (ra, dec) = unpack(self.lent.words[item]);
+        let (ra, dec) = unpack(self.lent.file.words[item]);
         Outcome { found: 1, ra, dec, ..none }
     }
 
     fn enter(&mut self, kind: Kind, named: usize, new: Star) -> Result<usize, Refusal> {
         match self.held(named, new.number) {
             // A resend of the stored position is accepted, whoever calls, and reads no other page.
-            Some(item) if self.lent.words[item] == new.word => Ok(named),
+            Some(item) if self.lent.file.words[item] == new.word => Ok(named),
             Some(_) => refuse(6),
             None if kind == Kind::Cascade => self.cascade(named, new),
             None => self.place_in_reach(new),
@@ -282,7 +288,7 @@ impl File<'_> {
             }
             waiting.extend(with_homes(self.stars(page..=page)));
             waiting.sort_by_key(|&(_, star)| star);
-            let (cut, carried) = cut(&self.parameters, page, self.lent.separators[page].into(), waiting);
+            let (cut, carried) = cut(&self.parameters, page, self.lent.file.separators[page].into(), waiting);
             pages.push(cut);
             if carried.is_empty() {
                 return Ok(self.write_with(named, &pages, new));
@@ -294,7 +300,7 @@ impl File<'_> {
 
     fn change(&mut self, named: usize, caller: u8, number: u32, word: u64) -> Result<usize, Refusal> {
         let item = self.own(named, caller, number)?;
-        self.lent.words[item] = word;
+        self.lent.file.words[item] = word;
         Ok(named)
     }
 
@@ -338,12 +344,39 @@ impl File<'_> {
             return refuse(8);
         }
         self.write(0, &pages);
-        let Growth { expansions, expanded } = growth;
-        Ok(Outcome { page: page as u32, expansions, expanded, ..Outcome::default() })
+        Ok(Outcome { page: page as u32, record: Record::closed(growth), ..Outcome::default() })
+    }
+
+    /// What growing would answer, and the pages that it would leave.
+    fn grown(&self) -> Result<(Outcome, Pages), Refusal> {
+        let mut copy = self.lent.clone();
+        let outcome = File { parameters: self.parameters, growth: self.growth, lent: &mut copy }.grow()?;
+        Ok((outcome, copy.file))
+    }
+
+    fn open(&mut self) -> Result<Outcome, Refusal> {
+        self.grown()?;
+        self.lent.second = Pages::empty(&self.parameters);
+        Ok(Outcome { record: Record { growth: self.growth, open: true, steps: 0 }, ..Outcome::default() })
+    }
+
+    /// Step j + 1 writes page j; the last one answers the new page.
+    fn step(&mut self, record: Record) -> Result<Outcome, Refusal> {
+        let (outcome, grown) = self.grown()?;
+        let page = record.steps as usize;
+        let (items, second) = (self.items(page), &mut self.lent.second);
+        second.separators[page] = grown.separators[page];
+        second.numbers[items.clone()].copy_from_slice(&grown.numbers[items.clone()]);
+        second.words[items.clone()].copy_from_slice(&grown.words[items.clone()]);
+        second.owners[items.clone()].copy_from_slice(&grown.owners[items]);
+        if page == self.last_page() {
+            return Ok(outcome);
+        }
+        Ok(Outcome { record: Record { steps: record.steps + 1, ..record }, ..Outcome::default() })
     }
 
     fn due(&self, no: Outcome) -> Outcome {
-        let stars = self.lent.numbers.iter().filter(|&&number| number != 0).count() as u64;
+        let stars = self.lent.file.numbers.iter().filter(|&&number| number != 0).count() as u64;
         let last = (0..=self.last_page()).rev().find(|&page| !self.stars(page..=page).is_empty());
         let pages_in_use = highest_address(&self.parameters, &self.growth).max(last.unwrap_or(0) as u64) + 1;
         let limit = u64::from(self.parameters.load * self.parameters.places) * pages_in_use;
@@ -356,13 +389,13 @@ impl File<'_> {
         let all = 0..=self.last_page();
         let (pages, carried) = self.rule(all.clone(), self.stars(all.clone()));
         assert!(carried.is_empty(), "over sound pages the rule carries nothing past the end");
-        let mut expected = self.lent.clone();
+        let mut expected = self.lent.file.clone();
         write(&self.parameters, &mut expected, 0, &pages);
         for page in all {
-            if let Some(item) = self.items(page).find(|&item| self.lent.star(item) != expected.star(item)) {
+            if let Some(item) = self.items(page).find(|&item| self.lent.file.star(item) != expected.star(item)) {
                 return damaged(page, item - page * places);
             }
-            if self.lent.separators[page] != expected.separators[page] {
+            if self.lent.file.separators[page] != expected.separators[page] {
                 return damaged(page, places);
             }
         }

@@ -3,7 +3,7 @@
 use crate::hashing::{grown, highest_address, home, signature, MULTIPLIERS};
 use crate::placement::{lay_out, pack, write, Page, Star};
 use crate::random::Random;
-use crate::{Buffers, Growth, Kind, Parameters};
+use crate::{Buffers, Growth, Kind, Pages, Parameters, Record};
 
 /// One of the two multipliers.
 pub fn random_multiplier(random: &mut Random) -> u32 {
@@ -113,7 +113,7 @@ pub fn sound_file(random: &mut Random, parameters: &Parameters, growth: &Growth)
         }
     }
     let mut lent = Buffers::zeros(parameters);
-    write(parameters, &mut lent, 0, &pages);
+    write(parameters, &mut lent.file, 0, &pages);
     lent
 }
 
@@ -142,27 +142,55 @@ pub fn random_pool(random: &mut Random, lent: &mut Buffers) {
     lent.pool_owners.iter_mut().for_each(|owner| *owner = if zeros { 0 } else { random.draw() as u8 });
 }
 
+/// A second set of pages of the right lengths with anything in it.
+pub fn random_second(random: &mut Random, lent: &mut Buffers) {
+    let Pages { separators, numbers, words, owners } = &mut lent.second;
+    separators.iter_mut().for_each(|separator| *separator = random.draw() as u8);
+    numbers.iter_mut().for_each(|number| *number = random.draw() as u32);
+    words.iter_mut().for_each(|word| *word = random.draw());
+    owners.iter_mut().for_each(|owner| *owner = random.draw() as u8);
+}
+
+/// The second set after so many steps of a growth that leaves these pages.
+pub fn second_after(parameters: &Parameters, grown: &Pages, steps: u32) -> Pages {
+    let mut second = Pages::empty(parameters);
+    let (pages, items) = (steps as usize, (steps * parameters.places) as usize);
+    second.separators[..pages].copy_from_slice(&grown.separators[..pages]);
+    second.numbers[..items].copy_from_slice(&grown.numbers[..items]);
+    second.words[..items].copy_from_slice(&grown.words[..items]);
+    second.owners[..items].copy_from_slice(&grown.owners[..items]);
+    second
+}
+
+/// A record that now and then says that a growth is open.
+pub fn random_record(random: &mut Random, parameters: &Parameters, growth: Growth) -> Record {
+    let (any, last) = (random.below(parameters.pages.into()) as u32, parameters.pages - 1);
+    let open = Record { growth, open: true, steps: random.pick(&[any, last]) };
+    let closed = Record::closed(growth);
+    random.pick(&[open, closed, closed, closed])
+}
+
 /// How many bits the file has.
 pub fn bits(lent: &Buffers) -> usize {
-    8 * lent.separators.len() + (32 + 64 + 8) * lent.numbers.len()
+    8 * lent.file.separators.len() + (32 + 64 + 8) * lent.file.numbers.len()
 }
 
 /// Changes one bit, counted over the separators, then the numbers, then the words, then the owners.
 pub fn flip(lent: &mut Buffers, mut bit: usize) {
-    if bit < 8 * lent.separators.len() {
-        lent.separators[bit / 8] ^= 1 << (bit % 8);
+    if bit < 8 * lent.file.separators.len() {
+        lent.file.separators[bit / 8] ^= 1 << (bit % 8);
         return;
     }
-    bit -= 8 * lent.separators.len();
-    if bit < 32 * lent.numbers.len() {
-        lent.numbers[bit / 32] ^= 1 << (bit % 32);
+    bit -= 8 * lent.file.separators.len();
+    if bit < 32 * lent.file.numbers.len() {
+        lent.file.numbers[bit / 32] ^= 1 << (bit % 32);
         return;
     }
-    bit -= 32 * lent.numbers.len();
-    if bit < 64 * lent.words.len() {
-        lent.words[bit / 64] ^= 1 << (bit % 64);
+    bit -= 32 * lent.file.numbers.len();
+    if bit < 64 * lent.file.words.len() {
+        lent.file.words[bit / 64] ^= 1 << (bit % 64);
         return;
     }
-    bit -= 64 * lent.words.len();
-    lent.owners[bit / 8] ^= 1 << (bit % 8);
+    bit -= 64 * lent.file.words.len();
+    lent.file.owners[bit / 8] ^= 1 << (bit % 8);
 }

@@ -16,7 +16,7 @@ use hashing::MULTIPLIERS;
 use placement::Star;
 
 /// The requests of document 02 that the model follows.
-pub const LANDED: &[u32] = &[1, 2, 3, 4, 5, 7, 9, 10, 14];
+pub const LANDED: &[u32] = &[1, 2, 3, 4, 5, 7, 9, 10, 13, 14];
 
 /// The documents' b, N, n0, s, k, A and M, and the generator's multiplier.
 #[repr(C)]
@@ -40,7 +40,16 @@ pub struct Growth {
     pub expanded: u32,
 }
 
-/// What a call answers; the last two fields are the growth state after it.
+/// The growth record that a caller keeps with a file: (e, x), whether a growth is open, and how many of its steps are done.
+#[repr(C)]
+#[derive(Clone, Copy, Debug, Default, PartialEq, Eq)]
+pub struct Record {
+    pub growth: Growth,
+    pub open: bool,
+    pub steps: u32,
+}
+
+/// What a call answers, and the growth record after it.
 #[repr(C)]
 #[derive(Clone, Copy, Debug, Default, PartialEq, Eq)]
 pub struct Outcome {
@@ -52,20 +61,26 @@ pub struct Outcome {
     pub dec: i32,
     pub due: u32,
     pub stars: u32,
-    pub expansions: u32,
-    pub expanded: u32,
+    pub record: Record,
 }
 
-/// The lent buffers: the file's four and the pool's three.
+/// A file's four buffers.
 #[derive(Clone, Debug, Default, PartialEq, Eq)]
-pub struct Buffers {
+pub struct Pages {
     pub separators: Vec<u8>,
     pub numbers: Vec<u32>,
     pub words: Vec<u64>,
     pub owners: Vec<u8>,
+}
+
+/// The lent buffers: the file's, the pool's three, and the second set of pages into which a growth is opened.
+#[derive(Clone, Debug, Default, PartialEq, Eq)]
+pub struct Buffers {
+    pub file: Pages,
     pub pool_numbers: Vec<u32>,
     pub pool_words: Vec<u64>,
     pub pool_owners: Vec<u8>,
+    pub second: Pages,
 }
 
 #[derive(Clone, Copy, Debug, PartialEq, Eq)]
@@ -80,10 +95,12 @@ pub enum Kind {
     Due,
     Check,
     Cascade,
+    Open,
+    Step,
 }
 
 impl Kind {
-    pub const ALL: [Kind; 10] = [
+    pub const ALL: [Kind; 12] = [
         Kind::Make,
         Kind::LookUp,
         Kind::Enter,
@@ -94,11 +111,16 @@ impl Kind {
         Kind::Due,
         Kind::Check,
         Kind::Cascade,
+        Kind::Open,
+        Kind::Step,
     ];
     pub const ENTRIES: [Kind; 2] = [Kind::Enter, Kind::Cascade];
 
     pub fn name(self) -> &'static str {
-        ["make", "look_up", "enter", "change", "remove", "grow", "shrink", "due", "check", "cascade"][self as usize]
+        let names = [
+            "make", "look_up", "enter", "change", "remove", "grow", "shrink", "due", "check", "cascade", "open", "step",
+        ];
+        names[self as usize]
     }
 
     pub fn enters(self) -> bool {
@@ -106,7 +128,16 @@ impl Kind {
     }
 
     pub fn takes_pool(self) -> bool {
-        self.enters() || matches!(self, Kind::Remove | Kind::Grow | Kind::Shrink | Kind::Check)
+        self.enters() || self.takes_second() || matches!(self, Kind::Remove | Kind::Grow | Kind::Shrink | Kind::Check)
+    }
+
+    pub fn takes_second(self) -> bool {
+        matches!(self, Kind::Open | Kind::Step)
+    }
+
+    /// Whether the kind writes the file or opens a growth, and so must wait while one is open; making a file need not.
+    pub fn waits(self) -> bool {
+        self.enters() || matches!(self, Kind::Change | Kind::Remove | Kind::Grow | Kind::Shrink | Kind::Open)
     }
 
     pub fn takes_number(self) -> bool {
@@ -123,7 +154,7 @@ impl Kind {
 pub struct Call {
     pub kind: Kind,
     pub parameters: Parameters,
-    pub growth: Growth,
+    pub record: Record,
     /// 0 for the institute, 1 to 255 for observers.
     pub caller: u8,
     pub number: u32,
@@ -167,19 +198,29 @@ impl Parameters {
     }
 }
 
-impl Outcome {
-    pub fn growth(&self) -> Growth {
-        Growth { expansions: self.expansions, expanded: self.expanded }
+impl Record {
+    /// With no growth open.
+    pub fn closed(growth: Growth) -> Record {
+        Record { growth, open: false, steps: 0 }
     }
 }
 
 impl Call {
-    /// The caller's growth state after the call: a refused make has none to give.
-    pub fn growth_after(&self, outcome: &Outcome) -> Growth {
-        if self.kind == Kind::Make && outcome.refusal != 0 {
-            self.growth
+    /// Whether a growth is open that the call has to wait for, or none for a step.
+    pub fn out_of_turn(&self) -> bool {
+        if self.record.open {
+            self.kind.waits()
         } else {
-            outcome.growth()
+            self.kind == Kind::Step
+        }
+    }
+
+    /// The caller's growth record after the call: a refused make has none to give.
+    pub fn record_after(&self, outcome: &Outcome) -> Record {
+        if self.kind == Kind::Make && outcome.refusal != 0 {
+            self.record
+        } else {
+            outcome.record
         }
     }
 }
@@ -189,14 +230,37 @@ impl Buffers {
     pub fn zeros(parameters: &Parameters) -> Buffers {
         let items = parameters.items();
         Buffers {
+            file: Pages::zeros(parameters),
+            pool_numbers: vec![0; items],
+            pool_words: vec![0; items],
+            pool_owners: vec![0; items],
+            second: Pages::zeros(parameters),
+        }
+    }
+}
+
+impl Pages {
+    /// Of the right lengths, all zeros.
+    pub fn zeros(parameters: &Parameters) -> Pages {
+        let items = parameters.items();
+        Pages {
             separators: vec![0; parameters.pages as usize],
             numbers: vec![0; items],
             words: vec![0; items],
             owners: vec![0; items],
-            pool_numbers: vec![0; items],
-            pool_words: vec![0; items],
-            pool_owners: vec![0; items],
         }
+    }
+
+    /// Empty pages with separator 2^k − 1.
+    pub fn empty(parameters: &Parameters) -> Pages {
+        let separators = vec![parameters.top() as u8; parameters.pages as usize];
+        Pages { separators, ..Pages::zeros(parameters) }
+    }
+
+    /// Whether they have the lengths that the parameters ask.
+    pub fn fit(&self, parameters: &Parameters) -> bool {
+        self.separators.len() == parameters.pages as usize
+            && [self.numbers.len(), self.words.len(), self.owners.len()] == [parameters.items(); 3]
     }
 
     /// What stands at an item; number 0 is an empty place.

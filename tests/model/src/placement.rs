@@ -1,7 +1,7 @@
 //! Position words, the cut, and the rule over a stretch of pages.
 
 use crate::hashing::{home, signature};
-use crate::{Buffers, Growth, Parameters};
+use crate::{Buffers, Growth, Pages, Parameters};
 
 #[derive(Clone, Copy, Debug, Default, PartialEq, Eq, PartialOrd, Ord)]
 pub struct Star {
@@ -97,22 +97,22 @@ pub fn entered_stretch(
 }
 
 /// Writes pages from `first` on, empty places last.
-pub fn write(parameters: &Parameters, lent: &mut Buffers, first: usize, pages: &[Page]) {
+pub fn write(parameters: &Parameters, file: &mut Pages, first: usize, pages: &[Page]) {
     let places = parameters.places as usize;
     for (page, new) in (first..).zip(pages) {
-        lent.separators[page] = new.separator as u8;
+        file.separators[page] = new.separator as u8;
         for place in 0..places {
             let Star { number, word, owner } = new.stars.get(place).copied().unwrap_or_default();
             let item = page * places + place;
-            (lent.numbers[item], lent.words[item], lent.owners[item]) = (number, word, owner);
+            (file.numbers[item], file.words[item], file.owners[item]) = (number, word, owner);
         }
     }
 }
 
-/// The file that the rule over all pages gives the stars, with a pool of zeros; none if a star is carried past the end.
+/// The file that the rule over all pages gives the stars, with all else zeros; none if a star is carried past the end.
 pub fn lay_out(parameters: &Parameters, growth: &Growth, stars: Vec<Star>) -> Option<Buffers> {
     let (pages, carried) = rule(parameters, growth, 0..=parameters.pages as usize - 1, stars);
     let mut lent = Buffers::zeros(parameters);
-    write(parameters, &mut lent, 0, &pages);
+    write(parameters, &mut lent.file, 0, &pages);
     carried.is_empty().then_some(lent)
 }

@@ -1,9 +1,10 @@
 //! Points of the documents that the model and every other implementation must meet. Each panics where one fails.
 
+use crate::files::second_after;
 use crate::hashing::{MODULUS, MULTIPLIERS};
 use crate::placement::{lay_out, pack, Star};
 use crate::session::Session;
-use crate::{Buffers, Growth, Kind, Outcome, Parameters, Run};
+use crate::{Buffers, Growth, Kind, Outcome, Pages, Parameters, Record, Run};
 
 /// One page at home, one above it, a place in each: star 32 has signatures 223 and 126, star 170 has 149 and 215.
 const TWO_PAGES: [u32; 7] = [1, 1, 1, 1, 8, 50, 2];
@@ -47,7 +48,7 @@ pub fn ranks(rank: fn(u64, u64, u64) -> u64) {
 /// An empty file, whatever the buffers held; making one takes no pool.
 pub fn empty_file(run: Run) {
     let mut session = Session::new(run, TWO_PAGES);
-    let Buffers { separators, numbers, words, owners, pool_owners, .. } = &mut session.lent;
+    let Buffers { file: Pages { separators, numbers, words, owners }, pool_owners, .. } = &mut session.lent;
     separators.fill(7);
     numbers.fill(7);
     words.fill(7);
@@ -55,7 +56,8 @@ pub fn empty_file(run: Run) {
     pool_owners.fill(7);
     assert_eq!(answers(session.call(Kind::Make, 0, 0, 0)), (0, 0));
     let zeros = Buffers::zeros(&session.parameters);
-    assert_eq!(session.lent, Buffers { separators: vec![255; 2], pool_owners: vec![7; 2], ..zeros });
+    let file = Pages { separators: vec![255; 2], ..zeros.file };
+    assert_eq!(session.lent, Buffers { file, pool_owners: vec![7; 2], ..zeros });
 }
 
 /// The homes of stars 1 and 2, seen by look-ups that find none.
@@ -123,7 +125,10 @@ pub fn multipliers(run: Run) {
         assert_eq!(answers(session.look_up(3)), (0, page));
         let mut session = Session::with(run, Parameters::new(TWO_PAGES).under(multiplier));
         assert_eq!((answers(session.enter(32)), answers(session.enter(170))), ((0, 0), (0, 0)));
-        assert_eq!((&session.lent.separators[..], &session.lent.numbers[..]), (&[separator, 255][..], &[170, 32][..]));
+        assert_eq!(
+            (&session.lent.file.separators[..], &session.lent.file.numbers[..]),
+            (&[separator, 255][..], &[170, 32][..])
+        );
         assert_eq!(answers(session.check()), (0, 0));
         let [first, second] = MULTIPLIERS;
         session.parameters.multiplier = first + second - multiplier;
@@ -143,8 +148,8 @@ pub fn multiplier_limits(run: Run) {
             session.lent.pool_words.fill(7);
             let before = session.clone();
             assert_eq!(answers(session.call(kind, 1, 0, 0)), (1, 0), "{} {multiplier}", kind.name());
-            assert!(session.lent == before.lent && session.growth == before.growth);
-            session.lent.words.pop();
+            assert!(session.lent == before.lent && session.record == before.record);
+            session.lent.file.words.pop();
             assert_eq!(answers(session.call(kind, 0, u32::MAX, 0)), (1, 0));
         }
         for multiplier in MULTIPLIERS {
@@ -159,8 +164,9 @@ fn on_empty_file(run: Run, kind: Kind, list: [u32; 7], growth: Growth) -> u32 {
     let mut sizes = Parameters::new(list);
     (sizes.places, sizes.pages) = (sizes.places.min(33), sizes.pages.min(1_025));
     let mut lent = Buffers::zeros(&sizes);
-    lent.separators.fill(((1_u32 << list[4].min(8)) - 1) as u8);
-    let mut session = Session { run, parameters: Parameters::new(list), growth, lent, caller: 0 };
+    lent.file.separators.fill(((1_u32 << list[4].min(8)) - 1) as u8);
+    let (parameters, record) = (Parameters::new(list), Record::closed(growth));
+    let mut session = Session { run, parameters, record, lent, caller: 0 };
     session.call(kind, 1, 0, 0).refusal
 }
 
@@ -206,10 +212,10 @@ pub fn growth_without_room(run: Run) {
     let mut session = Session::new(run, TWO_PAGES);
     assert_eq!(answers(session.enter(32)), (0, 0));
     assert_eq!(answers(session.enter(170)), (0, 0));
-    assert_eq!(session.lent.separators, [223, 255]);
+    assert_eq!(session.lent.file.separators, [223, 255]);
     let before = session.clone();
     assert_eq!(answers(session.grow()), (8, 0));
-    assert!(session.lent == before.lent && session.growth == before.growth);
+    assert!(session.lent == before.lent && session.record == before.record);
 }
 
 /// Shrinking answers the pages in falling order, and takes (e, x) back through the states that the growths left.
@@ -220,17 +226,17 @@ pub fn pages_given_back(run: Run) {
             let first = list[1] * list[2];
             let mut states = Vec::new();
             for page in first..list[6] {
-                states.push(session.growth);
+                states.push(session.record);
                 assert_eq!(answers(session.grow()), (0, page));
             }
             assert_eq!(session.enter(1).refusal, 0);
             for page in (first..list[6]).rev() {
                 assert_eq!(answers(session.shrink()), (0, page));
-                assert_eq!(Some(session.growth), states.pop());
+                assert_eq!(Some(session.record), states.pop());
                 assert_eq!((answers(session.check()), session.look_up(1).found), ((0, 0), 1));
             }
             assert_eq!(answers(session.shrink()), (9, 0));
-            assert_eq!(session.growth, Growth::default());
+            assert_eq!(session.record, Record::default());
         }
     }
 }
@@ -239,7 +245,7 @@ pub fn pages_given_back(run: Run) {
 pub fn there_and_back(run: Run) {
     let mut session = Session::new(run, [2, 2, 2, 1, 8, 80, 16]);
     let (mut grown, mut number) = (0, 0);
-    while session.growth != (Growth { expansions: 4, expanded: 0 }) {
+    while session.record.growth != (Growth { expansions: 4, expanded: 0 }) {
         for _ in 0..2 {
             number += 1;
             assert_eq!(session.enter(number).refusal, 0);
@@ -248,9 +254,9 @@ pub fn there_and_back(run: Run) {
         grown += u32::from(session.grow().refusal == 0);
         let after = session.clone();
         assert_eq!(answers(session.shrink()), (0, 3 + grown));
-        assert!(session.lent == before.lent && session.growth == before.growth);
+        assert!(session.lent == before.lent && session.record == before.record);
         assert_eq!(answers(session.grow()), (0, 3 + grown));
-        assert!(session.lent == after.lent && session.growth == after.growth);
+        assert!(session.lent == after.lent && session.record == after.record);
     }
     assert_eq!(grown, 12);
 }
@@ -259,25 +265,25 @@ pub fn there_and_back(run: Run) {
 pub fn shrinking_without_room(run: Run) {
     let mut session = Session::new(run, [1, 1, 1, 1, 1, 50, 2]);
     assert_eq!(answers(session.grow()), (0, 1));
-    assert_eq!(session.growth, Growth { expansions: 1, expanded: 0 });
+    assert_eq!(session.record.growth, Growth { expansions: 1, expanded: 0 });
     assert_eq!((session.enter(1).refusal, session.enter(4).refusal), (0, 0));
     assert_eq!(answers(session.check()), (0, 0));
     let before = session.clone();
     assert_eq!(answers(session.shrink()), (8, 0));
-    assert!(session.lent == before.lent && session.growth == before.growth);
+    assert!(session.lent == before.lent && session.record == before.record);
     // Damage is met before that, on the lowest page.
-    session.lent.words[1] = u64::MAX;
+    session.lent.file.words[1] = u64::MAX;
     assert_eq!(answers(session.shrink()), (5, 1));
-    session.lent.separators[0] = 2;
+    session.lent.file.separators[0] = 2;
     assert_eq!(answers(session.shrink()), (5, 0));
 }
 
 /// There is nothing to give back at (0, 0), whatever the pages hold; the pool is zeros after that.
 pub fn nothing_to_give_back(run: Run) {
     let mut session = Session::new(run, TWO_PAGES);
-    session.lent.words = vec![u64::MAX, 7];
-    session.lent.numbers = vec![u32::MAX, 0];
-    session.lent.owners = vec![0, 7];
+    session.lent.file.words = vec![u64::MAX, 7];
+    session.lent.file.numbers = vec![u32::MAX, 0];
+    session.lent.file.owners = vec![0, 7];
     session.lent.pool_numbers.fill(7);
     session.lent.pool_words.fill(7);
     session.lent.pool_owners.fill(7);
@@ -286,7 +292,7 @@ pub fn nothing_to_give_back(run: Run) {
     expected.lent.pool_numbers.fill(0);
     expected.lent.pool_words.fill(0);
     expected.lent.pool_owners.fill(0);
-    assert!(session.lent == expected.lent && session.growth == expected.growth);
+    assert!(session.lent == expected.lent && session.record == expected.record);
     session.lent.pool_words.push(0);
     assert_eq!(answers(session.shrink()), (2, 0));
     session.parameters.pages = 1_025;
@@ -296,24 +302,24 @@ pub fn nothing_to_give_back(run: Run) {
 /// Growth repairs a file that is all sound and that the check refuses, and so does shrinking.
 pub fn growth_repairs(run: Run) {
     let mut session = Session::new(run, TWO_PAGES);
-    session.lent.separators.fill(0);
+    session.lent.file.separators.fill(0);
     assert_eq!(spot(session.check()), (5, 0, 1));
     assert_eq!(answers(session.grow()), (0, 1));
-    assert_eq!(session.lent.separators, [255, 255]);
+    assert_eq!(session.lent.file.separators, [255, 255]);
     assert_eq!(answers(session.check()), (0, 0));
-    session.lent.separators.fill(0);
+    session.lent.file.separators.fill(0);
     assert_eq!(answers(session.shrink()), (0, 1));
-    assert_eq!(session.lent.separators, [255, 255]);
+    assert_eq!(session.lent.file.separators, [255, 255]);
     assert_eq!(answers(session.check()), (0, 0));
 }
 
 /// An entry into a file that is not clean stands below the page that was first named.
 pub fn entry_below_named_page(run: Run) {
     let mut session = Session::new(run, TWO_PAGES);
-    session.lent.separators[0] = 0;
+    session.lent.file.separators[0] = 0;
     assert_eq!(answers(session.look_up(32)), (0, 1));
     assert_eq!(answers(session.enter(32)), (0, 0));
-    assert_eq!((&session.lent.separators[..], &session.lent.numbers[..]), (&[255, 255][..], &[32, 0][..]));
+    assert_eq!((&session.lent.file.separators[..], &session.lent.file.numbers[..]), (&[255, 255][..], &[32, 0][..]));
 }
 
 /// A removal raises the separator of the home page, though the star stood above it.
@@ -321,9 +327,9 @@ pub fn removal_raises_separator(run: Run) {
     let mut session = Session::new(run, TWO_PAGES);
     session.enter(170);
     session.enter(32);
-    assert_eq!((&session.lent.separators[..], &session.lent.numbers[..]), (&[223, 255][..], &[170, 32][..]));
+    assert_eq!((&session.lent.file.separators[..], &session.lent.file.numbers[..]), (&[223, 255][..], &[170, 32][..]));
     assert_eq!(answers(session.remove(32)), (0, 1));
-    assert_eq!((&session.lent.separators[..], &session.lent.numbers[..]), (&[255, 255][..], &[170, 0][..]));
+    assert_eq!((&session.lent.file.separators[..], &session.lent.file.numbers[..]), (&[255, 255][..], &[170, 0][..]));
 }
 
 /// An entry into a file that is all sound and not clean is 8, though the rule over the whole file would fit.
@@ -331,30 +337,30 @@ pub fn entry_without_room_in_its_reach(run: Run) {
     let mut session = Session::new(run, [1, 2, 1, 1, 8, 50, 2]);
     let lower = (1..).find(|&number| session.home(number) == 0).unwrap();
     let upper = (1..).find(|&number| session.home(number) == 1).unwrap();
-    session.lent.separators = vec![0, 255];
-    session.lent.numbers = vec![0, lower];
-    session.lent.words = vec![0, pack(1, 0)];
+    session.lent.file.separators = vec![0, 255];
+    session.lent.file.numbers = vec![0, lower];
+    session.lent.file.words = vec![0, pack(1, 0)];
     assert_eq!(session.check().place, 0);
     assert_eq!(answers(session.enter(upper)), (8, 0));
     let stars = [lower, upper].map(|number| Star { number, word: pack(1, 0), owner: 0 });
-    assert!(lay_out(&session.parameters, &session.growth, stars.to_vec()).is_some());
+    assert!(lay_out(&session.parameters, &session.record.growth, stars.to_vec()).is_some());
 }
 
 /// All places full and one star more: 8, but only once every page of the reach was found sound.
 pub fn entry_into_full_file(run: Run) {
     let mut session = Session::new(run, [2, 4, 1, 2, 8, 99, 4]);
     let mut number = 0;
-    while session.lent.numbers.contains(&0) {
+    while session.lent.file.numbers.contains(&0) {
         number += 1;
         let home = session.home(number) as usize;
-        if session.lent.numbers[2 * home + 1] == 0 {
+        if session.lent.file.numbers[2 * home + 1] == 0 {
             assert_eq!(answers(session.enter(number)), (0, home as u32));
         }
     }
     let newcomer = (number + 1..).find(|&number| session.home(number) == 0).unwrap();
     assert_eq!(answers(session.check()), (0, 0));
-    for (word, refused) in [(session.lent.words[7], (8, 0)), (u64::MAX, (5, 3))] {
-        session.lent.words[7] = word;
+    for (word, refused) in [(session.lent.file.words[7], (8, 0)), (u64::MAX, (5, 3))] {
+        session.lent.file.words[7] = word;
         assert_eq!((answers(session.enter(newcomer)), answers(session.cascade(newcomer))), (refused, refused));
     }
 }
@@ -363,26 +369,26 @@ pub fn entry_into_full_file(run: Run) {
 pub fn check_order(run: Run) {
     let mut session = Session::new(run, TWO_PAGES);
     assert_eq!(spot(session.check()), (0, 0, 0));
-    session.lent.separators = vec![100, 255];
+    session.lent.file.separators = vec![100, 255];
     assert_eq!(spot(session.check()), (5, 0, 1));
-    session.lent.numbers[1] = 32;
+    session.lent.file.numbers[1] = 32;
     assert_eq!(spot(session.check()), (5, 0, 0));
-    session.lent.words[1] = u64::MAX;
+    session.lent.file.words[1] = u64::MAX;
     assert_eq!(spot(session.check()), (5, 1, 1));
 }
 
 /// Due counts every number that is not 0, and a separator above 2^k − 1 still names its page.
 pub fn damaged_values(run: Run) {
     let mut session = Session::new(run, [1, 1, 1, 1, 4, 50, 2]);
-    session.lent.numbers = vec![u32::MAX, 7];
+    session.lent.file.numbers = vec![u32::MAX, 7];
     let outcome = session.due();
     assert_eq!((outcome.refusal, outcome.due, outcome.stars), (0, 1, 2));
-    session.lent.numbers = vec![0, u32::MAX];
+    session.lent.file.numbers = vec![0, u32::MAX];
     assert_eq!((session.due().due, session.due().stars), (0, 1));
     let mut session = Session::new(run, [1, 1, 1, 1, 4, 50, 2]);
-    session.lent.separators = vec![0, 16];
+    session.lent.file.separators = vec![0, 16];
     assert_eq!(answers(session.look_up(1)), (5, 1));
-    session.lent.separators = vec![0, 0];
+    session.lent.file.separators = vec![0, 0];
     assert_eq!(answers(session.look_up(1)), (5, 2));
 }
 
@@ -411,13 +417,13 @@ pub fn places(run: Run) {
     assert_eq!(spot(session.check()), (0, 0, 0));
     // The lower page passes every star on and is damaged: the reach meets it after the search.
     let mut session = Session::new(run, [2, 1, 1, 1, 8, 50, 2]);
-    session.lent.separators[0] = 0;
-    session.lent.numbers = vec![0, 0, 5, 9];
-    session.lent.words = vec![7, 0, pack(1, 0), pack(1, 0)];
+    session.lent.file.separators[0] = 0;
+    session.lent.file.numbers = vec![0, 0, 5, 9];
+    session.lent.file.words = vec![7, 0, pack(1, 0), pack(1, 0)];
     assert_eq!(spot(session.enter(170)), (5, 0, 2));
     assert_eq!(spot(session.remove(9)), (5, 0, 1));
     assert_eq!(spot(session.look_up(7)), (0, 1, 1));
-    session.lent.words[2] = u64::MAX;
+    session.lent.file.words[2] = u64::MAX;
     assert_eq!(spot(session.look_up(7)), (5, 1, 0));
     assert_eq!(spot(session.enter(7)), (5, 1, 0));
 }
@@ -430,14 +436,14 @@ pub fn resends(run: Run) {
     session.enter(170);
     session.enter(32);
     for (damage, caller) in [(pack(1, 0), 0), (pack(1, 0), 9), (u64::MAX, 0), (u64::MAX, 9)] {
-        session.lent.words[0] = damage;
+        session.lent.file.words[0] = damage;
         session.caller = caller;
         for kind in Kind::ENTRIES {
             session.lent.pool_words.fill(7);
             let mut expected = session.clone();
             expected.lent.pool_words.fill(0);
             assert_eq!(spot(session.call(kind, 32, 1, 0)), (0, 1, 0));
-            assert!(session.lent == expected.lent && session.growth == expected.growth);
+            assert!(session.lent == expected.lent && session.record == expected.record);
             assert_eq!(answers(session.call(kind, 32, 1, 1)), (6, 0));
             assert_eq!(answers(session.call(kind, 32, 2, 0)), (6, 0));
             assert!(session.lent == expected.lent);
@@ -449,7 +455,7 @@ pub fn resends(run: Run) {
 /// A cascading entry is the entry on a clean file; on others it raises no separator and reads no page below the named one,
 /// nor above the first past which nothing is carried.
 pub fn cascades(run: Run) {
-    let file = |session: &Session| (session.lent.separators.clone(), session.lent.numbers.clone());
+    let file = |session: &Session| (session.lent.file.separators.clone(), session.lent.file.numbers.clone());
     for (first, second, page, place) in [(32, 170, 0, 1), (170, 32, 1, 0)] {
         let mut session = Session::new(run, TWO_PAGES);
         assert_eq!(spot(session.cascade(first)), (0, 0, 0));
@@ -458,23 +464,23 @@ pub fn cascades(run: Run) {
         let before = session.clone();
         assert_eq!(spot(session.cascade(1)), (8, 0, 0));
         assert!(session.lent == before.lent);
-        session.lent.words[1] = u64::MAX;
+        session.lent.file.words[1] = u64::MAX;
         assert_eq!(spot(session.cascade(1)), (5, 1, 0));
     }
     // Neither the page that passes every star on nor the one above the named page is read.
     let mut session = Session::new(run, [1, 1, 1, 1, 8, 50, 3]);
-    session.lent.separators = vec![0, 200, 255];
-    session.lent.words = vec![7, 0, 7];
+    session.lent.file.separators = vec![0, 200, 255];
+    session.lent.file.words = vec![7, 0, 7];
     assert_eq!((answers(session.enter(32)), spot(session.cascade(32))), ((5, 0), (0, 1, 0)));
     assert_eq!(file(&session), (vec![0, 200, 255], vec![0, 32, 0]));
-    assert_eq!(session.lent.words, [7, pack(1, 0), 7]);
+    assert_eq!(session.lent.file.words, [7, pack(1, 0), 7]);
     // Star 13 (signature 146) pushes 170 on, whose 215 passes page 1: that page is visited and keeps its separator.
     let mut session = Session::new(run, [1, 1, 1, 1, 8, 50, 3]);
     assert_eq!(spot(session.cascade(170)), (0, 0, 0));
-    session.lent.separators[1] = 200;
-    session.lent.words[1] = 7;
+    session.lent.file.separators[1] = 200;
+    session.lent.file.words[1] = 7;
     assert_eq!(spot(session.cascade(13)), (5, 1, 0));
-    session.lent.words[1] = 0;
+    session.lent.file.words[1] = 0;
     assert_eq!(spot(session.cascade(13)), (0, 0, 0));
     assert_eq!(file(&session), (vec![149, 200, 255], vec![13, 0, 170]));
 }
@@ -486,7 +492,7 @@ pub fn pages_in_use(run: Run) {
         assert_eq!(session.enter(number).refusal, 0);
         assert_eq!((session.due().due, session.due().stars), (due, number));
     }
-    assert!(session.lent.numbers[2] != 0 && session.lent.numbers[3..] == [0, 0, 0]);
+    assert!(session.lent.file.numbers[2] != 0 && session.lent.file.numbers[3..] == [0, 0, 0]);
 }
 
 /// A refusal 1 to 4 leaves the pool as it is; every other call that takes it leaves zeros.
@@ -519,7 +525,7 @@ pub fn strangers(run: Run) {
         session.caller = caller;
         assert_eq!(spot(session.enter(number)), (0, 0, number / 10 - 1));
     }
-    assert_eq!(session.lent.owners, [5, 255, 0, 0]);
+    assert_eq!(session.lent.file.owners, [5, 255, 0, 0]);
     let alter = |session: &mut Session, caller, kind, number| {
         session.caller = caller;
         spot(session.call(kind, number, 2, 0))
@@ -538,9 +544,15 @@ pub fn strangers(run: Run) {
         assert_eq!(alter(&mut session, caller, Kind::Change, number), (0, 0, place));
     }
     let word = pack(2, 0);
-    assert_eq!((&session.lent.words[..], &session.lent.owners[..]), (&[word, word, word, 0][..], &[5, 255, 0, 0][..]));
+    assert_eq!(
+        (&session.lent.file.words[..], &session.lent.file.owners[..]),
+        (&[word, word, word, 0][..], &[5, 255, 0, 0][..])
+    );
     assert_eq!(alter(&mut session, 0, Kind::Remove, 10), (0, 0, 0));
-    assert_eq!((&session.lent.numbers[..], &session.lent.owners[..]), (&[20, 30, 0, 0][..], &[255, 0, 0, 0][..]));
+    assert_eq!(
+        (&session.lent.file.numbers[..], &session.lent.file.owners[..]),
+        (&[20, 30, 0, 0][..], &[255, 0, 0, 0][..])
+    );
     assert_eq!(alter(&mut session, 255, Kind::Remove, 20), (0, 0, 0));
 }
 
@@ -549,7 +561,7 @@ pub fn strangers_before_reach(run: Run) {
     let mut session = Session::new(run, TWO_PAGES);
     session.caller = 5;
     assert_eq!((session.enter(170).refusal, session.enter(32).refusal), (0, 0));
-    session.lent.words[0] = u64::MAX;
+    session.lent.file.words[0] = u64::MAX;
     for (caller, refusal) in [(6, 13), (5, 5), (0, 5)] {
         session.caller = caller;
         assert_eq!(answers(session.remove(32)), (refusal, 0));
@@ -564,7 +576,7 @@ pub fn owners_travel(run: Run) {
         let mut after = |caller, kind, number| {
             session.caller = caller;
             assert_eq!(session.call(kind, number, 1, 0).refusal, 0);
-            (session.lent.numbers.clone(), session.lent.owners.clone())
+            (session.lent.file.numbers.clone(), session.lent.file.owners.clone())
         };
         assert_eq!(after(5, entry, 32), (vec![32, 0], vec![5, 0]));
         assert_eq!(after(7, entry, 170), (vec![170, 32], vec![7, 5]));
@@ -574,8 +586,8 @@ pub fn owners_travel(run: Run) {
     session.caller = 5;
     assert_eq!(answers(session.enter(1)), (0, 3));
     session.caller = 7;
-    assert_eq!((answers(session.grow()), &session.lent.owners[..]), ((0, 4), &[0, 0, 0, 0, 5][..]));
-    assert_eq!((answers(session.shrink()), &session.lent.owners[..]), ((0, 4), &[0, 0, 0, 5, 0][..]));
+    assert_eq!((answers(session.grow()), &session.lent.file.owners[..]), ((0, 4), &[0, 0, 0, 0, 5][..]));
+    assert_eq!((answers(session.shrink()), &session.lent.file.owners[..]), ((0, 4), &[0, 0, 0, 5, 0][..]));
 }
 
 /// An empty place that has an owner makes its page unsound, and no other does.
@@ -585,16 +597,16 @@ pub fn owner_of_an_empty_place(run: Run) {
     let other = (1..).find(|&number| session.home(number) == 0).unwrap();
     session.caller = 255;
     assert_eq!(spot(session.enter(number)), (0, 1, 0));
-    session.lent.owners[3] = 128;
+    session.lent.file.owners[3] = 128;
     assert_eq!(spot(session.check()), (5, 1, 2));
     for kind in Kind::ALL.into_iter().filter(|kind| kind.takes_number()) {
         assert_eq!(spot(session.call(kind, number, 1, 0)), (5, 1, 0));
     }
     assert_eq!(answers(session.grow()), (5, 1));
     assert_eq!((answers(session.look_up(other)), answers(session.enter(other))), ((0, 0), (0, 0)));
-    session.lent.owners[3] = 0;
+    session.lent.file.owners[3] = 0;
     for owner in 0..=255 {
-        session.lent.owners[2] = owner;
+        session.lent.file.owners[2] = owner;
         assert_eq!((answers(session.check()), answers(session.look_up(number))), ((0, 0), (0, 1)));
     }
 }
@@ -604,7 +616,7 @@ pub fn owner_lengths(run: Run) {
     for kind in Kind::ALL {
         for length in [0, 1, 3, 4] {
             let mut session = Session::new(run, TWO_PAGES);
-            session.lent.owners.resize(length, 0);
+            session.lent.file.owners.resize(length, 0);
             let before = session.clone();
             assert_eq!(answers(session.call(kind, 0, u32::MAX, 0)), (2, 0), "{}", kind.name());
             assert!(session.lent == before.lent);
@@ -617,6 +629,164 @@ pub fn owner_lengths(run: Run) {
     }
 }
 
+/// Leaves something in the pool, which calls need not find empty.
+fn fill_pool(session: &mut Session) {
+    session.lent.pool_numbers.fill(7);
+    session.lent.pool_words.fill(7);
+    session.lent.pool_owners.fill(7);
+}
+
+/// Opening empties the second set and step j + 1 writes page j of it; after M of them it is the file that growing leaves. Till
+/// then look-ups, Due and the check answer from the old file, which stays.
+pub fn growth_in_steps(run: Run) {
+    let files =
+        [([2, 2, 2, 1, 8, 80, 8], 12), ([1, 1, 1, 1, 8, 50, 2], 1), ([3, 2, 1, 2, 4, 80, 5], 6), (TWO_PAGES, 0)];
+    for ((list, stars), multiplier) in
+        files.into_iter().flat_map(|file| MULTIPLIERS.map(|multiplier| (file, multiplier)))
+    {
+        let mut session = Session::with(run, Parameters::new(list).under(multiplier));
+        for number in 1..=stars {
+            session.caller = number as u8;
+            session.enter(number);
+        }
+        let (mut old, mut grown) = (session.clone(), session.clone());
+        let at_once = grown.grow();
+        assert_eq!(at_once.refusal, 0);
+        session.lent.second.separators.fill(1);
+        session.lent.second.words.fill(7);
+        for steps in 0..=list[6] {
+            fill_pool(&mut session);
+            let outcome = if steps == 0 { session.open_growth() } else { session.step_growth() };
+            old.lent.second = second_after(&session.parameters, &grown.lent.file, steps);
+            assert!(session.lent == old.lent);
+            if steps == list[6] {
+                assert_eq!(outcome, at_once);
+                break;
+            }
+            let record = Record { open: true, steps, ..old.record };
+            assert_eq!(outcome, Outcome { record, ..Outcome::default() });
+            for number in 1..stars + 3 {
+                assert_eq!(session.look_up(number), Outcome { record, ..old.look_up(number) });
+            }
+            assert_eq!(session.due(), Outcome { record, ..old.due() });
+            assert_eq!(session.check(), Outcome { record, ..old.check() });
+        }
+        assert!(session.lent.second == grown.lent.file && session.record == grown.record);
+        assert_eq!(answers(session.step_growth()), (16, 0));
+    }
+}
+
+/// While a growth is open every kind that writes the file or opens a growth is 16, after 2 and before all else; a step is when
+/// none is open.
+pub fn out_of_turn(run: Run) {
+    for kind in Kind::ALL {
+        for open in [false, true] {
+            let mut session = Session::new(run, TWO_PAGES);
+            session.record.open = open;
+            // A resend waits too, and so does what would be refused with 3, 4, 5, 8, 9 or 13.
+            assert_eq!(session.clone().enter(170).refusal, if open { 16 } else { 0 });
+            session.lent.file.numbers = vec![170, 0];
+            session.lent.file.words = vec![pack(1, 0), if kind == Kind::Enter { 0 } else { 7 }];
+            session.caller = 9;
+            let waits = if open { kind.waits() } else { kind == Kind::Step };
+            for (number, ra) in [(170, 1), (0, 0), (1, u32::MAX)] {
+                let mut session = session.clone();
+                fill_pool(&mut session);
+                let mut expected = session.clone();
+                if kind.takes_pool() {
+                    expected.lent.pool_numbers.fill(0);
+                    expected.lent.pool_words.fill(0);
+                    expected.lent.pool_owners.fill(0);
+                }
+                let outcome = session.call(kind, number, ra, 0);
+                assert_eq!(outcome.refusal == 16, waits, "{} with {open}", kind.name());
+                if waits {
+                    assert_eq!(spot(outcome), (16, 0, 0));
+                    assert!(session.lent == expected.lent && session.record == expected.record);
+                }
+            }
+            session.lent.file.words.pop();
+            assert_eq!(answers(session.call(kind, 170, 1, 0)), (2, 0));
+        }
+    }
+}
+
+/// A record with M steps done or more, or with steps and none open, is 1 in every call but making a file, which ends a growth.
+pub fn record_limits(run: Run) {
+    for kind in Kind::ALL {
+        let records = [(true, 0, true), (true, 1, true), (true, 2, false), (true, u32::MAX, false), (false, 0, true)];
+        for (open, steps, valid) in records.into_iter().chain([(false, 1, false), (false, u32::MAX, false)]) {
+            let mut session = Session::new(run, TWO_PAGES);
+            (session.record.open, session.record.steps) = (open, steps);
+            fill_pool(&mut session);
+            let before = session.clone();
+            let refusal = session.call(kind, 1, 1, 0).refusal;
+            assert_eq!(refusal == 1, !valid && kind != Kind::Make, "{} with {open} {steps}", kind.name());
+            if refusal == 1 {
+                assert!(session.lent == before.lent && session.record == before.record);
+                session.lent.file.words.pop();
+                assert_eq!(answers(session.call(kind, 0, u32::MAX, 0)), (1, 0));
+            }
+            if kind == Kind::Make {
+                assert_eq!((refusal, session.record), (0, Record::default()));
+            }
+        }
+    }
+}
+
+/// Opening and steps are refused as growing is, with the second set left as it was; damage holds a growth up until it is made
+/// good, or until the record says that none is open.
+pub fn growth_refused_in_steps(run: Run) {
+    for kind in [Kind::Open, Kind::Step] {
+        let fresh = || {
+            let mut session = Session::new(run, TWO_PAGES);
+            session.record.open = kind == Kind::Step;
+            session.lent.second.words.fill(7);
+            session.lent.second.separators.fill(7);
+            session
+        };
+        let refused = |mut session: Session, answer: (u32, u32)| {
+            let before = session.clone();
+            assert_eq!(answers(session.call(kind, 0, 0, 0)), answer);
+            assert!(session.lent.second == before.lent.second && session.lent.file == before.lent.file);
+            assert_eq!(session.record, before.record);
+        };
+        // Each length of the second set, before all else but 1.
+        for wrong in 0..4 {
+            let mut session = fresh();
+            session.record.open ^= true;
+            let second = &mut session.lent.second;
+            match wrong {
+                0 => second.separators.push(0),
+                1 => second.numbers.push(0),
+                2 => second.words.clear(),
+                _ => second.owners.truncate(1),
+            }
+            refused(session, (2, 0));
+        }
+        // Growing meets 8 at the last page before it reads any page, then 5, then 8.
+        let mut session = fresh();
+        session.lent.file.numbers = vec![170, 32];
+        session.lent.file.words = vec![pack(1, 0), 7];
+        session.lent.file.separators[0] = 223;
+        refused(session.clone(), (8, 0));
+        session.lent.file.words[1] = u64::MAX;
+        refused(session.clone(), (5, 1));
+        session.record.growth = Growth { expansions: 1, expanded: 0 };
+        refused(session, (8, 0));
+    }
+    let mut session = Session::new(run, [2, 2, 2, 1, 8, 80, 8]);
+    assert_eq!((session.enter(1).refusal, session.open_growth().refusal, session.step_growth().refusal), (0, 0, 0));
+    let (before, page) = (session.clone(), session.look_up(1).page);
+    session.lent.file.words[2 * page as usize] = u64::MAX;
+    assert_eq!((answers(session.step_growth()), session.lent.second == before.lent.second), ((5, page), true));
+    assert_eq!((session.remove(1).refusal, session.record), (16, before.record));
+    session.lent.file.words[2 * page as usize] = pack(1, 0);
+    assert_eq!((session.clone().step_growth().refusal, session.remove(1).refusal), (0, 16));
+    session.record = Record::closed(session.record.growth);
+    assert_eq!(answers(session.remove(1)), (0, page));
+}
+
 /// A test of each point for an implementation.
 #[macro_export]
 macro_rules! point_tests {
@@ -625,7 +795,8 @@ macro_rules! point_tests {
             second_star_of_a_home growth_without_room pages_given_back there_and_back shrinking_without_room
             nothing_to_give_back growth_repairs entry_below_named_page removal_raises_separator
             entry_without_room_in_its_reach entry_into_full_file check_order damaged_values places resends cascades
-            pages_in_use pool_contents strangers strangers_before_reach owners_travel owner_of_an_empty_place owner_lengths);
+            pages_in_use pool_contents strangers strangers_before_reach owners_travel owner_of_an_empty_place owner_lengths
+            growth_in_steps out_of_turn record_limits growth_refused_in_steps);
     };
     ($run:path: $($name:ident)*) => {
         $(#[test] fn $name() { $crate::points::$name($run) })*

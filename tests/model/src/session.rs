@@ -1,12 +1,12 @@
-//! One file with its growth state, and the calls on it.
+//! One file with its growth record, and the calls on it.
 
-use crate::{Buffers, Call, Growth, Kind, Outcome, Parameters, Run};
+use crate::{Buffers, Call, Kind, Outcome, Parameters, Record, Run};
 
 #[derive(Clone)]
 pub struct Session {
     pub run: Run,
     pub parameters: Parameters,
-    pub growth: Growth,
+    pub record: Record,
     pub lent: Buffers,
     /// Whom the calls are for; the institute unless it is set.
     pub caller: u8,
@@ -21,16 +21,16 @@ impl Session {
     /// An empty file.
     pub fn with(run: Run, parameters: Parameters) -> Session {
         let lent = Buffers::zeros(&parameters);
-        let mut session = Session { run, parameters, growth: Growth::default(), lent, caller: 0 };
+        let mut session = Session { run, parameters, record: Record::default(), lent, caller: 0 };
         assert_eq!(session.call(Kind::Make, 0, 0, 0).refusal, 0, "making {parameters:?}");
         session
     }
 
     pub fn call(&mut self, kind: Kind, number: u32, ra: u32, dec: i32) -> Outcome {
-        let Session { parameters, growth, caller, .. } = *self;
-        let call = Call { kind, parameters, growth, caller, number, ra, dec };
+        let Session { parameters, record, caller, .. } = *self;
+        let call = Call { kind, parameters, record, caller, number, ra, dec };
         let outcome = (self.run)(&call, &mut self.lent);
-        self.growth = call.growth_after(&outcome);
+        self.record = call.record_after(&outcome);
         outcome
     }
 
@@ -58,6 +58,14 @@ impl Session {
         self.call(Kind::Shrink, 0, 0, 0)
     }
 
+    pub fn open_growth(&mut self) -> Outcome {
+        self.call(Kind::Open, 0, 0, 0)
+    }
+
+    pub fn step_growth(&mut self) -> Outcome {
+        self.call(Kind::Step, 0, 0, 0)
+    }
+
     pub fn due(&mut self) -> Outcome {
         self.call(Kind::Due, 0, 0, 0)
     }
@@ -67,6 +75,6 @@ impl Session {
     }
 
     pub fn home(&self, number: u32) -> u64 {
-        crate::hashing::home(&self.parameters, &self.growth, number.into())
+        crate::hashing::home(&self.parameters, &self.record.growth, number.into())
     }
 }

@@ -1,12 +1,12 @@
 //! The whole program starline, from the bytes it reads to those it writes.
 
-use crate::{run, Buffers, Call, Growth, Kind, Parameters};
+use crate::{run, Buffers, Call, Kind, Parameters, Record};
 
 pub fn starline(input: &[u8]) -> String {
     let parameters = Parameters::new([2, 2, 2, 1, 8, 80, 8]);
     let mut lent = Buffers::zeros(&parameters);
-    let growth = Growth::default();
-    let mut call = Call { kind: Kind::Make, parameters, growth, caller: 0, number: 0, ra: 0, dec: 0 };
+    let record = Record::default();
+    let mut call = Call { kind: Kind::Make, parameters, record, caller: 0, number: 0, ra: 0, dec: 0 };
     run(&call, &mut lent);
     let mut lines: Vec<&[u8]> = input.split(|&byte| byte == b'\n').collect();
     if lines.last().is_some_and(|line| line.is_empty()) {
@@ -28,7 +28,7 @@ pub fn starline(input: &[u8]) -> String {
 
 fn answer(call: &mut Call, lent: &mut Buffers) -> String {
     let outcome = run(call, lent);
-    call.growth = outcome.growth();
+    call.record = outcome.record;
     match (outcome.refusal, call.kind, outcome.found) {
         (0, Kind::LookUp, 0) => format!("none {}", outcome.page),
         (0, Kind::LookUp, _) => format!("at {} {} {}", outcome.page, outcome.ra, outcome.dec),

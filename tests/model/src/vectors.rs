@@ -1,10 +1,15 @@
 //! Files of single calls on explicit buffers with everything expected afterwards, in two forms: document 01's, and
 //! document 02's, whose vectors begin with the requests that have landed.
 
-use crate::{Buffers, Call, Growth, Kind, Outcome, Parameters, Run};
+use crate::{Buffers, Call, Growth, Kind, Outcome, Pages, Parameters, Record, Run};
 use std::fmt::{Display, Write};
 use std::fs;
 use std::str::FromStr;
+
+/// The labels of a file's buffers.
+const FILE: [&str; 4] = ["seps", "nums", "words", "owners"];
+/// Those of the second set of pages.
+const SECOND: [&str; 4] = ["seps2", "nums2", "words2", "owners2"];
 
 pub struct Vector {
     pub call: Call,
@@ -55,19 +60,21 @@ impl<'a> Reader<'a> {
         self.fields(label)?.into_iter().map(value).collect()
     }
 
-    fn parameters(&mut self) -> Result<Parameters, String> {
+    fn parameters(&mut self, label: &str) -> Result<Parameters, String> {
         // Document 01's form has no multiplier.
         let mut list = Parameters::new([0; 7]).list();
-        for (parameter, field) in list.iter_mut().zip(self.counted("params", 7, 8)?) {
+        for (parameter, field) in list.iter_mut().zip(self.counted(label, 7, 8)?) {
             *parameter = value(field)?;
         }
         Ok(Parameters::from_list(list))
     }
 
-    fn growth(&mut self) -> Result<Growth, String> {
-        let fields = self.counted(if self.later { "record" } else { "state" }, 2, 4)?;
-        unused(&fields[2..])?;
-        Ok(Growth { expansions: value(fields[0])?, expanded: value(fields[1])? })
+    /// Document 01's form has (e, x) alone.
+    fn record(&mut self, label: &str) -> Result<Record, String> {
+        let fields = self.counted(if self.later { label } else { "state" }, 2, 4)?;
+        let growth = Growth { expansions: value(fields[0])?, expanded: value(fields[1])? };
+        let (open, steps) = (fields.get(2).unwrap_or(&"0"), fields.get(3).unwrap_or(&"0"));
+        Ok(Record { growth, open: value::<u8>(open)? != 0, steps: value(steps)? })
     }
 
     /// The owners of so many numbers. Document 01's form has none.
@@ -76,16 +83,28 @@ impl<'a> Reader<'a> {
         Ok(if self.owned { owners } else { vec![0; numbers] })
     }
 
-    /// Document 02's form has a pool only where the call takes one.
-    fn buffers(&mut self, kind: Kind) -> Result<Buffers, String> {
-        let (separators, numbers, words) = (self.values("seps")?, self.values("nums")?, self.values("words")?);
-        let owners = self.owners("owners", numbers.len())?;
-        let mut lent = Buffers { separators, numbers, words, owners, ..Buffers::default() };
+    fn pages(&mut self, [separators, numbers, words, owners]: [&str; 4]) -> Result<Pages, String> {
+        let (separators, numbers, words) = (self.values(separators)?, self.values(numbers)?, self.values(words)?);
+        let owners = self.owners(owners, numbers.len())?;
+        Ok(Pages { separators, numbers, words, owners })
+    }
+
+    /// Parameters, record and buffers. Document 02's form has a pool only where the call takes one, and a second set of pages,
+    /// which has no parameters and record of its own, for opening and steps.
+    fn lent(&mut self, kind: Kind) -> Result<(Parameters, Record, Buffers), String> {
+        let (parameters, record) = (self.parameters("params")?, self.record("record")?);
+        let mut lent = Buffers { file: self.pages(FILE)?, ..Buffers::default() };
         if !self.later || kind.takes_pool() {
             (lent.pool_numbers, lent.pool_words) = (self.values("pnums")?, self.values("pwords")?);
             lent.pool_owners = self.owners("powners", lent.pool_numbers.len())?;
         }
-        Ok(lent)
+        if kind.takes_second() {
+            if (self.parameters("params2")?, self.record("record2")?) != (parameters, record) {
+                return Err("the second set has other parameters or another record".to_string());
+            }
+            lent.second = self.pages(SECOND)?;
+        }
+        Ok((parameters, record, lent))
     }
 
     fn vector(&mut self, landed: &[u32]) -> Result<Vector, String> {
@@ -99,17 +118,17 @@ impl<'a> Reader<'a> {
         let name = self.fields("call")?.concat();
         let kind = Kind::ALL.into_iter().find(|kind| kind.name() == name);
         let kind = kind.ok_or_else(|| format!("no call '{name}'"))?;
-        let (parameters, growth, before) = (self.parameters()?, self.growth()?, self.buffers(kind)?);
+        let (parameters, record, before) = self.lent(kind)?;
         let args = self.counted("args", 3, 6)?;
         let (number, ra, dec) = (value(args[0])?, value(args[1])?, value(args[2])?);
         let caller = if self.owned { value(args[3])? } else { 0 };
-        let call = Call { kind, parameters, growth, caller, number, ra, dec };
+        let call = Call { kind, parameters, record, caller, number, ra, dec };
         let answer = self.counted("answer", 8, 13)?;
         unused(&answer[8..])?;
-        if self.later && self.parameters()? != parameters {
+        let (parameters, record, after) = self.lent(kind)?;
+        if parameters != call.parameters {
             return Err("no call changes the parameters".to_string());
         }
-        let Growth { expansions, expanded } = self.growth()?;
         let outcome = Outcome {
             refusal: value(answer[0])?,
             page: value(answer[1])?,
@@ -119,10 +138,8 @@ impl<'a> Reader<'a> {
             dec: value(answer[5])?,
             due: value(answer[6])?,
             stars: value(answer[7])?,
-            expansions,
-            expanded,
+            record,
         };
-        let after = self.buffers(kind)?;
         self.counted("end", 0, 0)?;
         Ok(Vector { call, before, outcome, after })
     }
@@ -167,16 +184,17 @@ impl Vector {
     pub fn differences(&self, run: Run) -> Vec<String> {
         let mut lent = self.before.clone();
         let mut outcome = run(&self.call, &mut lent);
-        let Growth { expansions, expanded } = self.call.growth_after(&outcome);
-        (outcome.expansions, outcome.expanded) = (expansions, expanded);
+        outcome.record = self.call.record_after(&outcome);
         let mut list = Vec::new();
         if self.outcome != outcome {
             list.push(format!("{}: expected {:?}, got {outcome:?}", self.call.kind.name(), self.outcome));
         }
-        compare(&mut list, "separator", &self.after.separators, &lent.separators);
-        compare(&mut list, "number", &self.after.numbers, &lent.numbers);
-        compare(&mut list, "word", &self.after.words, &lent.words);
-        compare(&mut list, "owner", &self.after.owners, &lent.owners);
+        for (set, after, lent) in [("", &self.after.file, &lent.file), ("second ", &self.after.second, &lent.second)] {
+            compare(&mut list, &format!("{set}separator"), &after.separators, &lent.separators);
+            compare(&mut list, &format!("{set}number"), &after.numbers, &lent.numbers);
+            compare(&mut list, &format!("{set}word"), &after.words, &lent.words);
+            compare(&mut list, &format!("{set}owner"), &after.owners, &lent.owners);
+        }
         compare(&mut list, "pool number", &self.after.pool_numbers, &lent.pool_numbers);
         compare(&mut list, "pool word", &self.after.pool_words, &lent.pool_words);
         compare(&mut list, "pool owner", &self.after.pool_owners, &lent.pool_owners);
@@ -185,15 +203,15 @@ impl Vector {
 
     /// The vector in document 02's form, for an implementation with these requests.
     pub fn text(&self, landed: &[u32]) -> String {
-        let Call { kind, parameters, growth, caller, number, ra, dec } = self.call;
+        let Call { kind, parameters, record, caller, number, ra, dec } = self.call;
         let mut text = String::new();
         put(&mut text, "landed", landed);
         put(&mut text, "call", &[kind.name()]);
-        put_file(&mut text, kind, &parameters, growth, &self.before);
+        put_lent(&mut text, kind, &parameters, &record, &self.before);
         writeln!(text, "args {number} {ra} {dec} {caller} 0 0").unwrap();
-        let Outcome { refusal, page, place, found, ra, dec, due, stars, .. } = self.outcome;
+        let Outcome { refusal, page, place, found, ra, dec, due, stars, record } = self.outcome;
         writeln!(text, "answer {refusal} {page} {place} {found} {ra} {dec} {due} {stars} 0 0 0 0 0").unwrap();
-        put_file(&mut text, kind, &parameters, self.outcome.growth(), &self.after);
+        put_lent(&mut text, kind, &parameters, &record, &self.after);
         text + "end\n"
     }
 }
@@ -206,18 +224,29 @@ fn put<T: Display>(text: &mut String, label: &str, values: &[T]) {
     text.push('\n');
 }
 
-fn put_file(text: &mut String, kind: Kind, parameters: &Parameters, growth: Growth, lent: &Buffers) {
+fn put_lent(text: &mut String, kind: Kind, parameters: &Parameters, record: &Record, lent: &Buffers) {
+    let Record { growth: Growth { expansions, expanded }, open, steps } = *record;
+    let record = [expansions, expanded, open.into(), steps];
     put(text, "params", &parameters.list());
-    put(text, "record", &[growth.expansions, growth.expanded, 0, 0]);
-    put(text, "seps", &lent.separators);
-    put(text, "nums", &lent.numbers);
-    put(text, "words", &lent.words);
-    put(text, "owners", &lent.owners);
+    put(text, "record", &record);
+    put_pages(text, FILE, &lent.file);
     if kind.takes_pool() {
         put(text, "pnums", &lent.pool_numbers);
         put(text, "pwords", &lent.pool_words);
         put(text, "powners", &lent.pool_owners);
     }
+    if kind.takes_second() {
+        put(text, "params2", &parameters.list());
+        put(text, "record2", &record);
+        put_pages(text, SECOND, &lent.second);
+    }
+}
+
+fn put_pages(text: &mut String, [separators, numbers, words, owners]: [&str; 4], pages: &Pages) {
+    put(text, separators, &pages.separators);
+    put(text, numbers, &pages.numbers);
+    put(text, words, &pages.words);
+    put(text, owners, &pages.owners);
 }
 
 /// Names the buffer and the first item that differs.

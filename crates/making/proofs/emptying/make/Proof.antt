@@ -1,7 +1,5 @@
--- `making::make` meets its contract.
-use mathlib.Core.Path.{_≡_, _∙_, ap}
-use lib.ListN.{length, replicate}
-use Prim.Native.Nat.{ℕ}
+-- `making::emptying::make` meets its contract.
+use mathlib.Core.Path.{_≡_}
 use denote.Ref.{now}
 use Rattle.hashing.specs.Geometry.{ungrown}
 use Rattle.placement.specs.File.{File}
@@ -9,14 +7,25 @@ use Rattle.placement.specs.Hash.{lent}
 use Rattle.calls.specs.Answers.{placed, unpooled}
 use Rattle.calls.specs.Calls.{fileFits, unlent}
 use Rattle.calls.specs.Lent.{Admitted}
-use Rattle.making.proofs.Making.{make-refused, make-empty}
 use Rattle.calls.proofs.Refusals.{unlent-facts, refusal-is, none-is, admitted}
+use Rattle.making.proofs.Making.{make-refused, make-empty}
 use borrow.Author.Needs.{needs}
 use Rattle.making.proofs.emptying.make.Statement.{statement}
 use Rattle.making.proofs.emptying.make.Tie as tie
 
 abbrev fileOf : tie.Start → File
 fileOf s = lent (now (s .args .separators)) (now (s .args .numbers)) (now (s .args .words)) (now (s .args .owners))
+
+-- what is known past the guard
+abbrev begun : tie.After-enum-told → tie.Start
+begun c = c .before .before .before .before .before .before .before .before
+
+none : (c : tie.After-enum-told) → unlent (begun c .args .parameters) ungrown (fileFits (begun c .args .parameters) (fileOf (begun c))) ≡ 0
+unfolding fileFits
+none c = none-is _ _ (c .before .before .guard .ensures) (c .before .before .before .file-fits .ensures) (c .enum-told .given .1)
+
+lent-well : (c : tie.After-enum-told) → Admitted (begun c .args .parameters) ungrown (fileOf (begun c))
+lent-well c = admitted _ _ _ (none c)
 
 file-fits-requires : tie.Need-file-fits-requires
 file-fits-requires c κs = search needs
@@ -37,25 +46,8 @@ returns c =
 enum-told : tie.Need-enum-told
 enum-told c = search needs
 
--- what is known past the guard
-abbrev begun : tie.After-enum-told → tie.Start
-begun c = c .before .before .before .before .before .before .before .before
-
-none : (c : tie.After-enum-told) → unlent (begun c .args .parameters) ungrown (fileFits (begun c .args .parameters) (fileOf (begun c))) ≡ 0
-unfolding fileFits
-none c = none-is _ _ (c .before .before .guard .ensures) (c .before .before .before .file-fits .ensures) (c .enum-told .given .1)
-
-lent-well : (c : tie.After-enum-told) → Admitted (begun c .args .parameters) ungrown (fileOf (begun c))
-lent-well c = admitted _ _ _ (none c)
-
-top-of-requires : tie.Need-top-of-requires
-top-of-requires c κs = lent-well c .homing .valid
-
-fill-8-requires : tie.Need-fill-8-requires
-fill-8-requires c κs = search needs
-
-clear-requires : tie.Need-clear-requires
-clear-requires c κs = search needs
+empty-requires : tie.Need-empty-requires
+empty-requires c κs = (lent-well (c .before .before .before .before) .homing .valid, lent-well (c .before .before .before .before) .sized)
 
 same-length : tie.Need-same-length
 same-length c = search needs
@@ -72,15 +64,9 @@ same-length-4 c = search needs
 returns-2 : tie.Need-returns-2
 unfolding placed
 returns-2 c =
-    let d = c .before .before .before .before .before .before .before .before .before .before .before .before .before .before .before in
+    let d = c .before .before .before .before .before .before .before .before .before .before .before .before .before in
     let s = begun d in
-    make-empty (s .args .parameters) (fileOf s) unpooled _ _ _ _
-    (lent-well d .homing .valid)
-    (unlent-facts _ _ _ (none d) .1)
-    (c .before .before .before .before .before .before .before .before .before .before .before .before .fill-8 .ensures ∙ ap (replicate {A = ℕ} (length (now (s .args .separators)))) (c .before .before .before .before .before .before .before .before .before .before .before .before .before .before .top-of .ensures))
-    (c .before .before .before .before .before .before .clear .ensures .0)
-    (c .before .before .before .before .before .before .clear .ensures .1 .0)
-    (c .before .before .before .before .before .before .clear .ensures .1 .1)
+    make-empty (s .args .parameters) (fileOf s) unpooled _ (lent-well d .homing .valid) (unlent-facts _ _ _ (none d) .1) (c .before .before .before .before .before .before .before .before .empty .ensures)
 
 pub make-spec : {M : Type 1} → statement M
 make-spec =
@@ -91,9 +77,7 @@ make-spec =
     enum-known-refusal
     returns
     enum-told
-    top-of-requires
-    fill-8-requires
-    clear-requires
+    empty-requires
     same-length
     same-length-2
     same-length-3

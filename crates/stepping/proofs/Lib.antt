@@ -1,0 +1,2 @@
+pub mod PlannedGrowth
+pub mod Stepped
