@@ -18,7 +18,7 @@ static uint64_t words[PAGES * PLACES], pool_words[PAGES * PLACES];
 static uint8_t owners[PAGES * PLACES], pool_owners[PAGES * PLACES];
 
 static const struct heatherplane_file file = {
-    {PLACES, 2, 1, 1, 8, 80, PAGES, HEATHERPLANE_MULTIPLIER_1988}, {0, 0, false, 0},
+    {PLACES, 2, 1, 1, 8, 80, PAGES, HEATHERPLANE_MULTIPLIER_1988}, {0, 0, 0, 0},
     separators, PAGES, numbers, PAGES * PLACES, words, PAGES * PLACES, owners, PAGES * PLACES,
     pool_numbers, PAGES * PLACES, pool_words, PAGES * PLACES, pool_owners, PAGES * PLACES,
 };

@@ -119,13 +119,13 @@ struct heatherplane_parameters {
  * later state and enter the stars again, or grow the file by the Rattle call.
  *
  * The Rattle calls can also open a growth into a second set of pages and do it in as many steps as the file has pages. A program that
- * never opens one passes false and 0. While another program's growth is open, pass the record that it keeps: look-ups answer from the
+ * never opens one passes 0 and 0. While another program's growth is open, pass the record that it keeps: look-ups answer from the
  * old file, which no step touches, and entries and removals, resent ones too, are OUT_OF_TURN. After the last step pass the second set
- * and its record. If such a growth is given up, the file is as it was: pass it with false and 0. */
+ * and its record. If such a growth is given up, the file is as it was: pass it with 0 and 0. */
 struct heatherplane_growth {
     uint32_t expansions; /* e, partial expansions finished */
     uint32_t expanded;   /* x, groups expanded in the present one */
-    bool open;           /* whether a growth is open */
+    uint32_t open;       /* whether a growth is open: 1, or 0 if none is; any other number is BAD_PARAMETERS */
     uint32_t steps;      /* how many of its steps are done: below pages, and 0 if none is open */
 };
 
@@ -138,7 +138,7 @@ struct heatherplane_growth {
  * Afterwards: nothing was written. */
 struct heatherplane_reply heatherplane_look_up(
     uint32_t places, uint32_t groups, uint32_t width, uint32_t step, uint32_t bits, uint32_t load, uint32_t pages,
-    uint32_t multiplier, uint32_t expansions, uint32_t expanded, bool open, uint32_t steps,
+    uint32_t multiplier, uint32_t expansions, uint32_t expanded, uint32_t open, uint32_t steps,
     const uint8_t *separators, size_t separators_length,
     const uint32_t *numbers, size_t numbers_length,
     const uint64_t *words, size_t words_length,
@@ -158,7 +158,7 @@ struct heatherplane_reply heatherplane_look_up(
  * else, also with OUT_OF_TURN, holds zeros. */
 struct heatherplane_reply heatherplane_enter(
     uint32_t places, uint32_t groups, uint32_t width, uint32_t step, uint32_t bits, uint32_t load, uint32_t pages,
-    uint32_t multiplier, uint32_t expansions, uint32_t expanded, bool open, uint32_t steps,
+    uint32_t multiplier, uint32_t expansions, uint32_t expanded, uint32_t open, uint32_t steps,
     uint8_t *separators, size_t separators_length,
     uint32_t *numbers, size_t numbers_length,
     uint64_t *words, size_t words_length,
@@ -183,7 +183,7 @@ struct heatherplane_reply heatherplane_enter(
  * BAD_NUMBER and BAD_POSITION, and else, also with OUT_OF_TURN, holds zeros. */
 struct heatherplane_reply heatherplane_cascade(
     uint32_t places, uint32_t groups, uint32_t width, uint32_t step, uint32_t bits, uint32_t load, uint32_t pages,
-    uint32_t multiplier, uint32_t expansions, uint32_t expanded, bool open, uint32_t steps,
+    uint32_t multiplier, uint32_t expansions, uint32_t expanded, uint32_t open, uint32_t steps,
     uint8_t *separators, size_t separators_length,
     uint32_t *numbers, size_t numbers_length,
     uint64_t *words, size_t words_length,
@@ -204,7 +204,7 @@ struct heatherplane_reply heatherplane_cascade(
  * OUT_OF_TURN, holds zeros. */
 struct heatherplane_reply heatherplane_remove(
     uint32_t places, uint32_t groups, uint32_t width, uint32_t step, uint32_t bits, uint32_t load, uint32_t pages,
-    uint32_t multiplier, uint32_t expansions, uint32_t expanded, bool open, uint32_t steps,
+    uint32_t multiplier, uint32_t expansions, uint32_t expanded, uint32_t open, uint32_t steps,
     uint8_t *separators, size_t separators_length,
     uint32_t *numbers, size_t numbers_length,
     uint64_t *words, size_t words_length,

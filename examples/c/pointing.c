@@ -32,7 +32,7 @@ static struct heatherplane_file empty_file(enum heatherplane_multiplier multipli
     const struct heatherplane_parameters parameters = {
         .places = PLACES, .groups = 2, .width = 2, .step = 1, .bits = BITS, .load = 80, .pages = PAGES,
         .multiplier = multiplier};
-    const struct heatherplane_growth growth = {.expansions = 1, .expanded = 1, .open = false, .steps = 0};
+    const struct heatherplane_growth growth = {.expansions = 1, .expanded = 1, .open = 0, .steps = 0};
     return heatherplane_file_of(parameters, growth, separators, numbers, words, owners, pool_numbers, pool_words, pool_owners);
 }
 
@@ -160,7 +160,7 @@ int main(void)
     look_up(&file, 3);
 
     /* while another program's growth is open, look-ups answer from the old file, and nothing may be entered or removed */
-    file.growth.open = true;
+    file.growth.open = 1;
     file.growth.steps = 2;
     look_up(&file, 3);
     enter(&file, INSTITUTE, 7, 70, 10);
@@ -169,8 +169,12 @@ int main(void)
     /* an open growth has fewer steps done than the file has pages */
     file.growth.steps = PAGES;
     look_up(&file, 3);
+    /* and it is open or not */
+    file.growth.steps = 0;
+    file.growth.open = 2;
+    look_up(&file, 3);
     /* the growth was given up: the file is as it was */
-    file.growth.open = false;
+    file.growth.open = 0;
     file.growth.steps = 0;
     remove_star(&file, INSTITUTE, 3);
 

@@ -19,7 +19,7 @@ use Rattle.histories.specs.Run.{HistoryState, events, end}
 use Rattle.replaying.specs.Replay.{LentHistory, historyFrom, lastPool, encoded, eventAnswers}
 
 -- The call of a request on (e, x). A replay opens no growth, so each of its calls is this one under a closed record; no kind gives the last two requests,
--- which are out of turn.
+-- of which nothing is said.
 unfoldable pub callAt : Parameters → Growth → File → Pool → Request → After
 callAt p g f pool (lookUp k) = lookUpOf p g f pool k
 callAt p g f pool (enter caller k q) = enterOf p g f pool caller k q

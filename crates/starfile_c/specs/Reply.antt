@@ -1,7 +1,8 @@
 -- What the numbers that C programs pass and get stand for.
 use mathlib.Core.Path.{_≡_}
-use mathlib.Core.Bool.{Bool}
+use mathlib.Core.Bool.{cond}
 use Prim.Native.Nat.{ℕ}
+use lib.Dec.{eqb, ltb}
 use lib.IntN.{ℤ}
 use Rattle.hashing.specs.declared.Parameters.{Parameters}
 use Rattle.pages.specs.declared.position.Position.{Position}
@@ -25,15 +26,19 @@ parametersOf places groups width step bits load pages multiplier =
       multiplier = multiplier;
     }
 
--- e, x, whether a growth is open, the steps done
-abbrev pub recordOf : ℕ → ℕ → Bool → ℕ → GrowthRecord
+-- e, x, whether a growth is open (1) or not (0), the steps done; any number but these two makes a record that every call refuses with 1
+abbrev pub recordOf : ℕ → ℕ → ℕ → ℕ → GrowthRecord
 recordOf expansions expanded growing steps =
-    record { state = record { expansions = expansions; expanded = expanded }; growing = growing; steps = steps }
+    record {
+      state = record { expansions = expansions; expanded = expanded };
+      growing = eqb growing 1;
+      steps = cond (ltb 1 growing) 1 steps;
+    }
 
 abbrev pub positionOf : ℕ → ℤ → Position
 positionOf ra dec = record { ra = ra; dec = dec }
 
--- of an answer's number and values those that the three calls name
+-- of an answer's number and values those that the four calls name
 abbrev pub replyOf : Answer → Reply
 replyOf a =
     record {

@@ -37,7 +37,7 @@ pub extern "C" fn heatherplane_look_up(
     multiplier: u32,
     expansions: u32,
     expanded: u32,
-    growing: bool,
+    growing: u32,
     steps: u32,
     separators: &[u8],
     numbers: &[u32],
@@ -58,15 +58,7 @@ pub extern "C" fn heatherplane_look_up(
         pages,
         multiplier,
     };
-    let state = Growth {
-        expansions,
-        expanded,
-    };
-    let growth = GrowthRecord {
-        state,
-        growing,
-        steps,
-    };
+    let growth = record_of(expansions, expanded, growing, steps);
     let found = starfile::look_up(
         parameters,
         growth,
@@ -91,7 +83,7 @@ pub extern "C" fn heatherplane_enter(
     multiplier: u32,
     expansions: u32,
     expanded: u32,
-    growing: bool,
+    growing: u32,
     steps: u32,
     separators: &mut [u8],
     numbers: &mut [u32],
@@ -119,15 +111,7 @@ pub extern "C" fn heatherplane_enter(
         pages,
         multiplier,
     };
-    let state = Growth {
-        expansions,
-        expanded,
-    };
-    let growth = GrowthRecord {
-        state,
-        growing,
-        steps,
-    };
+    let growth = record_of(expansions, expanded, growing, steps);
     let answer = starfile::enter(
         parameters,
         growth,
@@ -157,7 +141,7 @@ pub extern "C" fn heatherplane_cascade(
     multiplier: u32,
     expansions: u32,
     expanded: u32,
-    growing: bool,
+    growing: u32,
     steps: u32,
     separators: &mut [u8],
     numbers: &mut [u32],
@@ -185,15 +169,7 @@ pub extern "C" fn heatherplane_cascade(
         pages,
         multiplier,
     };
-    let state = Growth {
-        expansions,
-        expanded,
-    };
-    let growth = GrowthRecord {
-        state,
-        growing,
-        steps,
-    };
+    let growth = record_of(expansions, expanded, growing, steps);
     let answer = starfile::cascade(
         parameters,
         growth,
@@ -223,7 +199,7 @@ pub extern "C" fn heatherplane_remove(
     multiplier: u32,
     expansions: u32,
     expanded: u32,
-    growing: bool,
+    growing: u32,
     steps: u32,
     separators: &mut [u8],
     numbers: &mut [u32],
@@ -249,15 +225,7 @@ pub extern "C" fn heatherplane_remove(
         pages,
         multiplier,
     };
-    let state = Growth {
-        expansions,
-        expanded,
-    };
-    let growth = GrowthRecord {
-        state,
-        growing,
-        steps,
-    };
+    let growth = record_of(expansions, expanded, growing, steps);
     let answer = starfile::remove(
         parameters,
         growth,
@@ -285,5 +253,27 @@ fn reply_of(answer: Answer) -> Reply
         ra: position.ra,
         dec: position.dec,
         found: answer.found,
+    }
+}
+
+// A number is no bool: of C's numbers only 0 and 1 say whether a growth is open.
+fn record_of(expansions: u32, expanded: u32, growing: u32, steps: u32) -> GrowthRecord
+    ensures { λ r. ⌜ r ≡ recordOf expansions expanded growing steps ⌝ }
+{
+    let state = Growth {
+        expansions,
+        expanded,
+    };
+    if 1 < growing {
+        return GrowthRecord {
+            state,
+            growing: false,
+            steps: 1,
+        };
+    }
+    GrowthRecord {
+        state,
+        growing: growing == 1,
+        steps,
     }
 }

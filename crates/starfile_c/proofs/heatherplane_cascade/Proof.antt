@@ -4,6 +4,9 @@ use mir.Facts.{toZ-ofZ}
 use Rattle.starfile_c.proofs.heatherplane_cascade.Statement.{statement}
 use Rattle.starfile_c.proofs.heatherplane_cascade.Tie as tie
 
+record-of-requires : tie.Need-record-of-requires
+record-of-requires c κs = search needs
+
 cascade-requires : tie.Need-cascade-requires
 cascade-requires c κs = search needs
 
@@ -37,13 +40,15 @@ same-length-7 c = search needs
 returns : tie.Need-returns
 returns c =
     let called = c .before .before .before .before .before .before .before .before .before .before .before .before .before .before .before .before in
-    let start = called .before .before .before .before .before .before .before .before .before .before .before .before .before .before .before in
-    told (c .reply-of .ensures) (c .before .placed-answer .ensures) (rw (toZ-ofZ (start .fits .dec)) at (called .cascade .ensures))
+    let made = called .before .before .before .before .before .before .before .before in
+    let start = made .before .before .before .before .before .before .before .before in
+    told (c .reply-of .ensures) (c .before .placed-answer .ensures) (rw (made .record-of .ensures, toZ-ofZ (start .fits .dec)) at (called .cascade .ensures))
 
 pub heatherplane-cascade-spec : {M : Type 1} → statement M
 heatherplane-cascade-spec =
     tie.close
     (tie.spec
+    record-of-requires
     cascade-requires
     placed-answer-requires
     reply-of-requires

@@ -4,6 +4,9 @@ use mir.Facts.{toZ-ofZ}
 use Rattle.starfile_c.proofs.heatherplane_enter.Statement.{statement}
 use Rattle.starfile_c.proofs.heatherplane_enter.Tie as tie
 
+record-of-requires : tie.Need-record-of-requires
+record-of-requires c κs = search needs
+
 enter-requires : tie.Need-enter-requires
 enter-requires c κs = search needs
 
@@ -37,13 +40,15 @@ same-length-7 c = search needs
 returns : tie.Need-returns
 returns c =
     let called = c .before .before .before .before .before .before .before .before .before .before .before .before .before .before .before .before in
-    let start = called .before .before .before .before .before .before .before .before .before .before .before .before .before .before .before in
-    told (c .reply-of .ensures) (c .before .placed-answer .ensures) (rw (toZ-ofZ (start .fits .dec)) at (called .enter .ensures))
+    let made = called .before .before .before .before .before .before .before .before in
+    let start = made .before .before .before .before .before .before .before .before in
+    told (c .reply-of .ensures) (c .before .placed-answer .ensures) (rw (made .record-of .ensures, toZ-ofZ (start .fits .dec)) at (called .enter .ensures))
 
 pub heatherplane-enter-spec : {M : Type 1} → statement M
 heatherplane-enter-spec =
     tie.close
     (tie.spec
+    record-of-requires
     enter-requires
     placed-answer-requires
     reply-of-requires

@@ -4,6 +4,9 @@ use Rattle.starfile_c.specs.Reply.{replyOf}
 use Rattle.starfile_c.proofs.heatherplane_look_up.Statement.{statement}
 use Rattle.starfile_c.proofs.heatherplane_look_up.Tie as tie
 
+record-of-requires : tie.Need-record-of-requires
+record-of-requires c κs = search needs
+
 look-up-requires : tie.Need-look-up-requires
 look-up-requires c κs = search needs
 
@@ -14,7 +17,7 @@ reply-of-requires : tie.Need-reply-of-requires
 reply-of-requires c κs = search needs
 
 returns : tie.Need-returns
-returns c = c .reply-of .ensures ∙ ap replyOf (c .before .sought-answer .ensures ∙ c .before .before .look-up .ensures)
+returns c = c .reply-of .ensures ∙ ap replyOf (c .before .sought-answer .ensures ∙ rw (c .before .before .before .record-of .ensures) at (c .before .before .look-up .ensures))
 
 pub heatherplane-look-up-spec : {M : Type 1} → statement M
-heatherplane-look-up-spec = tie.close (tie.spec look-up-requires sought-answer-requires reply-of-requires returns)
+heatherplane-look-up-spec = tie.close (tie.spec record-of-requires look-up-requires sought-answer-requires reply-of-requires returns)

@@ -3,6 +3,9 @@ use Rattle.starfile_c.proofs.Replies.{told}
 use Rattle.starfile_c.proofs.heatherplane_remove.Statement.{statement}
 use Rattle.starfile_c.proofs.heatherplane_remove.Tie as tie
 
+record-of-requires : tie.Need-record-of-requires
+record-of-requires c κs = search needs
+
 remove-requires : tie.Need-remove-requires
 remove-requires c κs = search needs
 
@@ -36,12 +39,14 @@ same-length-7 c = search needs
 returns : tie.Need-returns
 returns c =
     let called = c .before .before .before .before .before .before .before .before .before .before .before .before .before .before .before .before in
-    told (c .reply-of .ensures) (c .before .placed-answer .ensures) (called .remove .ensures)
+    let made = called .before .before .before .before .before .before .before .before in
+    told (c .reply-of .ensures) (c .before .placed-answer .ensures) (rw (made .record-of .ensures) at (called .remove .ensures))
 
 pub heatherplane-remove-spec : {M : Type 1} → statement M
 heatherplane-remove-spec =
     tie.close
     (tie.spec
+    record-of-requires
     remove-requires
     placed-answer-requires
     reply-of-requires
