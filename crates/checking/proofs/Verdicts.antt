@@ -11,7 +11,7 @@ use Rattle.placement.specs.File.{File}
 use Rattle.placement.specs.Hash.{soundAt}
 use Rattle.reach.specs.Reach.{firstUnsound}
 use Rattle.reach.proofs.Search.{such}
-use Rattle.checking.specs.declared.checking.Verdict.the-variants.{Clean, Differs, Unsound}
+use Rattle.checking.specs.declared.telling.Verdict.the-variants.{Clean, Differs, Unsound}
 use Rattle.checking.specs.Verdicts.{verdictOf}
 use Rattle.calls.proofs.Spots.{spot-page, spot-place, spot-within}
 

@@ -7,8 +7,8 @@ use Rattle.hashing.specs.declared.Growth.{Growth}
 use Rattle.placement.specs.File.{File}
 use Rattle.reach.specs.Reach.{firstUnsound}
 use Rattle.calls.specs.Spots.{spotOf}
-use Rattle.checking.specs.declared.checking.Verdict.{Verdict}
-use Rattle.checking.specs.declared.checking.Verdict.the-variants.{Clean, Differs, Unsound}
+use Rattle.checking.specs.declared.telling.Verdict.{Verdict}
+use Rattle.checking.specs.declared.telling.Verdict.the-variants.{Clean, Differs, Unsound}
 
 -- "Check tells of the lowest unsound page; if all are sound, the search stops at the first page and place that differ from the rule"
 unfoldable pub verdictOf : Parameters → ℕ → ℕ → Verdict

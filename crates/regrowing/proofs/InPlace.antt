@@ -21,7 +21,7 @@ use Rattle.placement.proofs.Writing.{Roomy, length-column}
 use Rattle.placement.proofs.Files.{numberOf, wordOf, ownerOf, roomy-pages}
 use Rattle.reach.specs.Reach.{firstUnsound, allStars}
 use Rattle.planning.specs.declared.outcome.Outcome.the-variants.{On}
-use Rattle.blocks.proofs.Renewed.{nothing-past}
+use Rattle.renewal.proofs.Renewed.{nothing-past}
 use Rattle.expanding.specs.Expansion.{Moved}
 use Rattle.regrowing.specs.Growth.{growthAnswer, growthFile}
 

@@ -108,7 +108,7 @@ fn grow_in_place(
     }
     let parameters = geometry.parameters;
     let growth = hashing::grown(geometry);
-    blocks::replace_blocks(
+    renewal::replace_blocks(
         Geometry { parameters, growth },
         separators,
         numbers,

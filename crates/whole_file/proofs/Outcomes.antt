@@ -15,7 +15,7 @@ use Rattle.placement.specs.Rule.{pages, left}
 use Rattle.placement.specs.File.{File, replaced}
 use Rattle.reach.specs.Reach.{firstUnsound, isEmpty, allStars}
 use Rattle.regrowing.specs.Growth.{growthAnswer, growthFile}
-use Rattle.checking.specs.declared.checking.Verdict.the-variants.{Clean, Differs, Unsound as verdict·Unsound}
+use Rattle.checking.specs.declared.telling.Verdict.the-variants.{Clean, Differs, Unsound as verdict·Unsound}
 use Rattle.checking.specs.Verdicts.{verdictOf}
 use Rattle.calls.specs.Answers.{Pool, placed, checked, refusedBy, accepted, spotted}
 use Rattle.calls.specs.Calls.{regrowTo, checkedAt}

@@ -6,8 +6,8 @@ use Rattle.hashing.specs.declared.Parameters.{Parameters}
 use Rattle.hashing.specs.declared.Growth.{Growth}
 use Rattle.hashing.specs.Geometry.{pageCount, highest, grown, isUngrown, shrunk}
 use Rattle.placement.specs.File.{File}
-use Rattle.checking.specs.declared.checking.Verdict.{Verdict}
-use Rattle.checking.specs.declared.checking.Verdict.the-variants.{Clean, Differs, Unsound as verdict·Unsound}
+use Rattle.checking.specs.declared.telling.Verdict.{Verdict}
+use Rattle.checking.specs.declared.telling.Verdict.the-variants.{Clean, Differs, Unsound as verdict·Unsound}
 use Rattle.calls.specs.declared.answers.Refusal.the-variants.{Damaged, Full, Ungrown}
 use Rattle.whole_file.specs.declared.growth.Step.{Step}
 use Rattle.whole_file.specs.declared.growth.Step.the-variants.{To, Not}

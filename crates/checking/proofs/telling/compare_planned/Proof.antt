@@ -10,8 +10,8 @@ use Rattle.signing.specs.Lists.{all}
 use Rattle.planning.proofs.Placed.{Gatherable}
 use Rattle.checking.proofs.Planned.{homes-long, stars-inside, ready, planned-ruled, spot-ruled}
 use borrow.Author.Needs.{needs}
-use Rattle.checking.proofs.checking.compare_planned.Statement.{statement}
-use Rattle.checking.proofs.checking.compare_planned.Tie as tie
+use Rattle.checking.proofs.telling.compare_planned.Statement.{statement}
+use Rattle.checking.proofs.telling.compare_planned.Tie as tie
 use Rattle.calls.proofs.Refusals.{items-most}
 
 abbrev file : tie.Start → File

@@ -27,9 +27,9 @@ use Rattle.placement.proofs.Probing.{bounded-real}
 use Rattle.reach.specs.Reach.{firstSuch, firstUnsound, storedTop, allStars}
 use Rattle.reach.proofs.Search.{Such, such}
 use Rattle.replacing.proofs.Items.{all-sound, real-sound}
-use Rattle.blocks.specs.Blocks.{Placeable, AlikeFrom, SoundBlock}
-use Rattle.blocks.proofs.Joining.{Starts, nothing-left, pages-joined}
-use Rattle.blocks.proofs.Alike.{gathered-alike, separator-alike, replaced-alike}
+use Rattle.renewal.specs.Blocks.{Placeable, AlikeFrom, SoundBlock}
+use Rattle.renewal.proofs.Joining.{Starts, nothing-left, pages-joined}
+use Rattle.renewal.proofs.Alike.{gathered-alike, separator-alike, replaced-alike}
 
 -- a file of sound pages
 module _ (p : Parameters) (g : Growth) (f : File) (sound : firstUnsound p g f 0 (p .pages) ≡ p .pages) where

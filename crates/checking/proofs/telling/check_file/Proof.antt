@@ -15,8 +15,8 @@ use Rattle.checking.proofs.Planned.{homes-whole}
 use Rattle.checking.proofs.Unraisable.{none-raisable}
 use Rattle.checking.proofs.Verdicts.{surveyed, surveyed-sound, told-unsound, told-differs, told-clean}
 use borrow.Author.Needs.{needs}
-use Rattle.checking.proofs.checking.check_file.Statement.{statement}
-use Rattle.checking.proofs.checking.check_file.Tie as tie
+use Rattle.checking.proofs.telling.check_file.Statement.{statement}
+use Rattle.checking.proofs.telling.check_file.Tie as tie
 
 abbrev file : tie.Start → File
 file s = lent (now (s .args .separators)) (now (s .args .numbers)) (now (s .args .words)) (now (s .args .owners))

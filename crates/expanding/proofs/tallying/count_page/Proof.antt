@@ -9,8 +9,8 @@ use Rattle.pages.specs.Page.{part}
 use Rattle.pages.proofs.Parts.{part-length, part-item}
 use Rattle.expanding.specs.Expansion.{joinsAt, joinersIn}
 use Rattle.expanding.proofs.Joiners.{oneIf, home-item, length-homes, joiners-none, joiners-next}
-use Rattle.expanding.proofs.counting.count_page.Statement.{statement}
-use Rattle.expanding.proofs.counting.count_page.Tie as tie
+use Rattle.expanding.proofs.tallying.count_page.Statement.{statement}
+use Rattle.expanding.proofs.tallying.count_page.Tie as tie
 
 abbrev Inv-loop : tie.InvT-loop
 Inv-loop table geometry numbers homes page added places first count₀ i₀ count i =

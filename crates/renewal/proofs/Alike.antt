@@ -22,7 +22,7 @@ use Rattle.placement.proofs.Files.{numberOf, wordOf, ownerOf}
 use Rattle.placement.proofs.Sound.{Sound, sound-rising, length-starsAt}
 use Rattle.shifting.proofs.OnePage.{pages-alone}
 use Rattle.raising.specs.Raising.{passed, countsOn, countOn, countFrom, raisableFrom}
-use Rattle.blocks.specs.Blocks.{AlikeFrom}
+use Rattle.renewal.specs.Blocks.{AlikeFrom}
 
 module _ (b : ℕ) where
   pub alike-next : (lo : ℕ) (f g : File) → AlikeFrom b lo f g → AlikeFrom b (suc lo) f g

@@ -5,9 +5,9 @@ use borrow.Author.Needs.{needs}
 use Rattle.hashing.proofs.Bounds.{limits}
 use Rattle.placement.specs.File.{Sized}
 use Rattle.placement.specs.Hash.{lent}
-use Rattle.blocks.proofs.Renewed.{Renewed, renewed-none, renewed-all, renewed-sized, ends-least, ends-most, renewed-block, renewed-next}
-use Rattle.blocks.proofs.renewing.replace_blocks.Statement.{statement}
-use Rattle.blocks.proofs.renewing.replace_blocks.Tie as tie
+use Rattle.renewal.proofs.Renewed.{Renewed, renewed-none, renewed-all, renewed-sized, ends-least, ends-most, renewed-block, renewed-next}
+use Rattle.renewal.proofs.renewing.replace_blocks.Statement.{statement}
+use Rattle.renewal.proofs.renewing.replace_blocks.Tie as tie
 
 abbrev Inv-loop : tie.InvT-loop
 Inv-loop geometry separators₀ numbers₀ words₀ owners₀ pool₀ waiting₀ poolowners₀ top pages lo₀ separators numbers words owners pool waiting poolowners lo =

@@ -2,8 +2,8 @@ use mathlib.Core.Path.{sym, _∙_}
 use mathlib.Core.Bool.{false≢true}
 use borrow.Author.Needs.{needs}
 use borrow.Author.Tests.{eqb-true}
-use Rattle.blocks.proofs.renewing.stays.Statement.{statement}
-use Rattle.blocks.proofs.renewing.stays.Tie as tie
+use Rattle.renewal.proofs.renewing.stays.Statement.{statement}
+use Rattle.renewal.proofs.renewing.stays.Tie as tie
 
 returns : tie.Need-returns
 returns c = λ e. absurd (false≢true e)

@@ -6,8 +6,8 @@ use native.Mathlib.Omega.{arith}
 use borrow.Author.Tests.{eqb-true}
 use Rattle.pages.proofs.Parts.{part-item}
 use borrow.Author.Needs.{needs}
-use Rattle.expanding.proofs.counting.has_room.Statement.{statement}
-use Rattle.expanding.proofs.counting.has_room.Tie as tie
+use Rattle.expanding.proofs.tallying.has_room.Statement.{statement}
+use Rattle.expanding.proofs.tallying.has_room.Tie as tie
 
 returns : tie.Need-returns
 returns c = λ e. inl (c .if1 .taken)

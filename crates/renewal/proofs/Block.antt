@@ -26,9 +26,9 @@ use Rattle.planning.proofs.Placed.{probes-real, homes-real}
 use Rattle.replacing.specs.Stretch.{StretchReady, restretched}
 use Rattle.replacing.proofs.Items.{real-sound, all-numbered, numbers-below, homes-below, plannable-stretch, ready-stretch}
 use Rattle.replacing.proofs.Ruled.{restretched-is}
-use Rattle.blocks.specs.Blocks.{SoundBlock}
-use Rattle.blocks.proofs.Joining.{nothing-left}
-use Rattle.blocks.proofs.Alike.{gathered-alike, separator-alike, raisable-alike, replaced-still, part-within, map-part, ruled-alone}
+use Rattle.renewal.specs.Blocks.{SoundBlock}
+use Rattle.renewal.proofs.Joining.{nothing-left}
+use Rattle.renewal.proofs.Alike.{gathered-alike, separator-alike, raisable-alike, replaced-still, part-within, map-part, ruled-alone}
 
 module _ (g : Geometry) (lo n : ℕ) (f : File) (pool waiting poolowners : List ℕ) (B : SoundBlock g lo n f pool waiting poolowners) where
   abbrev p : Parameters

@@ -2,9 +2,9 @@ use mathlib.Core.Path.{refl, _∙_}
 use native.Mathlib.Omega.{arith}
 use borrow.Author.Needs.{needs}
 use borrow.Author.Tests.{eqb-true}
-use Rattle.blocks.proofs.Block.{block-ready, block-placed, block-stays, block-homed, block-ruled}
-use Rattle.blocks.proofs.renewing.replace_block.Statement.{statement}
-use Rattle.blocks.proofs.renewing.replace_block.Tie as tie
+use Rattle.renewal.proofs.Block.{block-ready, block-placed, block-stays, block-homed, block-ruled}
+use Rattle.renewal.proofs.renewing.replace_block.Statement.{statement}
+use Rattle.renewal.proofs.renewing.replace_block.Tie as tie
 
 slice-read-if2 : tie.Need-slice-read-if2
 slice-read-if2 c = search needs

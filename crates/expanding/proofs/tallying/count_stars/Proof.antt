@@ -7,8 +7,8 @@ use Rattle.pages.proofs.Parts.{page-fits}
 use Rattle.expanding.specs.Expansion.{joinersBelow, runsTo, isNear}
 use Rattle.expanding.proofs.Joiners.{below-none, below-next, below-most}
 use Rattle.expanding.proofs.Walk.{runs-none, runs-next, near-is}
-use Rattle.expanding.proofs.counting.count_stars.Statement.{statement}
-use Rattle.expanding.proofs.counting.count_stars.Tie as tie
+use Rattle.expanding.proofs.tallying.count_stars.Statement.{statement}
+use Rattle.expanding.proofs.tallying.count_stars.Tie as tie
 
 abbrev Inv-loop : tie.InvT-loop
 Inv-loop table geometry separators numbers homes added parameters stop total₀ runs₀ page₀ total runs page =

@@ -11,7 +11,7 @@ ghost use Rattle.placement.specs.Hash.{hashOf, homesOf};
 ghost use Rattle.placement.specs.Lent.{held, before, after};
 ghost use Rattle.reach.specs.Reach.{firstUnsound, allStars};
 ghost use Rattle.raising.specs.Raising.{Homed, firstRaisable};
-ghost use Rattle.blocks.specs.Blocks.{Placeable, SoundBlock};
+ghost use Rattle.renewal.specs.Blocks.{Placeable, SoundBlock};
 use hashing::Geometry;
 
 // Whether a block stays as it is: none of its separators could be one greater. A long block is not asked, as each of its stars may have passed
