@@ -17,7 +17,7 @@ use Rattle.hashing.proofs.Bounds.{both}
 use Rattle.placement.specs.Rule.{Star, Hash, pages, separators, blank}
 use Rattle.placement.specs.Hash.{hashOf}
 use Rattle.placement.proofs.Probing.{bounded-real}
-use Rattle.rehoming.proofs.Rehomed.{home-moves}
+use Rattle.home_update.proofs.Rehomed.{home-moves}
 use Rattle.backup.specs.Stretches.{expands, topAt, topTwice, inStretch, nearGroup, mayChange}
 use Rattle.backup.proofs.Agreeing.{Alike}
 use Rattle.backup.proofs.Settled.{Settled, Outside, Unmoved, settled-zero, settled-top, settled-fewer, same-page}

@@ -50,7 +50,7 @@ pub fn empty_file() -> StarFile
     let mut numbers = [0u32; 16];
     let mut words = [0u64; 16];
     let mut owners = [0u8; 16];
-    let made = making::make(
+    let made = call_make::make(
         parameters(),
         &mut separators,
         &mut numbers,
@@ -96,7 +96,7 @@ fn enter(file: StarFile, number: u32, position: Position) -> Replied
     let mut poolnumbers = [0u32; 16];
     let mut poolwords = [0u64; 16];
     let mut poolowners = [0u8; 16];
-    let answer = adding::enter(
+    let answer = call_enter::enter(
         parameters(),
         growth,
         &mut separators,
@@ -130,7 +130,7 @@ fn look_up(file: StarFile, number: u32) -> Reply
     let numbers = file.numbers;
     let words = file.words;
     let owners = file.owners;
-    let found = lookup::look_up(
+    let found = call_look_up::look_up(
         parameters(),
         growth,
         &separators,
@@ -153,7 +153,7 @@ fn remove(file: StarFile, number: u32) -> Replied
     let mut poolnumbers = [0u32; 16];
     let mut poolwords = [0u64; 16];
     let mut poolowners = [0u8; 16];
-    let answer = removing::remove(
+    let answer = call_remove::remove(
         parameters(),
         growth,
         &mut separators,
@@ -189,7 +189,7 @@ fn grow(file: StarFile) -> Replied
     let mut poolnumbers = [0u32; 16];
     let mut poolwords = [0u64; 16];
     let mut poolowners = [0u8; 16];
-    let grown = whole_file::grow(
+    let grown = call_whole_file::grow(
         parameters(),
         growth,
         &mut separators,

@@ -1,13 +1,21 @@
-// The twelve calls on a lent star file, under one name.
-pub use records::cascade;
-pub use records::change;
-pub use records::check;
-pub use records::due;
-pub use records::enter;
-pub use records::grow;
-pub use records::look_up;
-pub use records::make;
-pub use records::remove;
-pub use records::shrink;
-pub use stepwise::open_growth;
-pub use stepwise::step_growth;
+// The calls on a lent star file under the growth record that a caller keeps. Each contract gives the answer, the record and every lent item
+// at exit, refusals too, by the definitions of crate calls.
+mod advancing;
+mod growing;
+mod opening;
+mod reading;
+mod whole;
+mod writing;
+
+pub use advancing::step_growth;
+pub use growing::grow;
+pub use growing::make;
+pub use growing::shrink;
+pub use opening::open_growth;
+pub use reading::check;
+pub use reading::due;
+pub use reading::look_up;
+pub use writing::cascade;
+pub use writing::change;
+pub use writing::enter;
+pub use writing::remove;

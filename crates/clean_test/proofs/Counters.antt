@@ -1,0 +1,404 @@
+-- One counter for each page: what the loops over pages, places and passed pages add to them.
+use mathlib.Core.Path.{_≡_, refl, sym, ap, _∙_}
+use mathlib.Core.Bool.{Bool, true, false, _&&_, _||_, and-false}
+use mathlib.Core.List.{List, [], _∷_}
+use Prim.Native.Nat.{ℕ, zero, suc, _+_, _-_, _*_, _≤_, _<_}
+use native.Mathlib.Nat.{add-zero, suc-mul, mul-le-mul-right}
+use native.Mathlib.Numerals.{add-one}
+use native.Mathlib.Decide.{decLe}
+use native.Mathlib.Omega.{arith}
+use lib.Dec.{leb, ltb, eqb}
+use lib.ListN.{length, getD, set, take, drop, length-set, length-drop}
+use lib.Seq.{getD-set-same, getD-set-other, getD-drop, getD-take}
+use borrow.Author.Tests.{le-leb, lt-leb, lt-ltb, le-ltb, eq-eqb, ne-eqb, eqb-true, eqb-false}
+use Rattle.hashing.specs.declared.Geometry.{Geometry}
+use Rattle.generator.specs.Generator.{topOf}
+use Rattle.pages.specs.Page.{part}
+use Rattle.placement.specs.Rule.{Hash, keep, filter}
+use Rattle.placement.specs.Hash.{hashOf, homesOf, homeUnder}
+use Rattle.reach.specs.Reach.{firstSuch}
+use Rattle.clean_test.specs.Raising.{passed, passedFrom, countsOn, countedItem, countOn, countFrom, mayRise, raisableFrom, hashUnder, firstRaisable, firstRising, one, Counts, Added, Homed}
+
+one-most : (t : Bool) → one t ≤ 1
+one-most true = omega arith
+one-most false = omega arith
+
+none : (s : Bool) → one (s && false) ≡ 0
+none true = refl
+none false = refl
+
+module _ (from : ℕ) where
+  pub added-none : (more : ℕ → ℕ) (l : List ℕ) → length l ≡ 1024 → ((p : ℕ) → from ≤ p → more p ≡ 0) → Added from more l l
+  added-none more l e h = record { size = e; each = λ p o k. omega (arith, h p o) }
+
+  pub added-same : (a b : ℕ → ℕ) (l m : List ℕ) → Added from a l m → ((p : ℕ) → from ≤ p → b p ≡ a p) → Added from b l m
+  added-same a b l m c h = record { size = c .size; each = λ p o k. omega (arith, c .each p o k, h p o) }
+
+  pub added-then : (a b d : ℕ → ℕ) (l m n : List ℕ) → Added from a l m → Added from b m n → ((p : ℕ) → d p ≡ a p + b p) → Added from d l n
+  added-then a b d l m n c e h = record { size = e .size; each = λ p o k. omega (arith, c .each p o k, e .each p o k, h p) }
+
+-- the counter of page g is one more
+pub added-one : (from : ℕ) (l : List ℕ) (g : ℕ) → length l ≡ 1024 → g < 1024 → Added from (λ p. one (eqb g p)) l (set l g (getD l g 0 + 1))
+added-one from l g e h = record { size = length-set l g (getD l g 0 + 1) ∙ e; each = λ p o k. go p k (eqb g p) refl }
+  where
+    go : (p : ℕ) → p < 1024 → (t : Bool) → eqb g p ≡ t → getD (set l g (getD l g 0 + 1)) p 0 ≡ getD l p 0 + one t
+    go p k true q =
+        let same : g ≡ p = eqb-true g p q in
+        rw same (getD-set-same l p (getD l p 0 + 1) 0 (omega (arith, e)))
+    go p k false q = getD-set-other l g p (getD l g 0 + 1) 0 (λ r. eqb-false g p q (sym r)) ∙ sym (add-zero (getD l p 0))
+
+module _ (H : Hash) (vs : List ℕ) (k : ℕ) where
+  -- those below home and from q on are none of them
+  passed-low : (p q : ℕ) → p < H .home k → passed H vs p q k ≡ false
+  unfolding passed
+  passed-low p q h = rw (lt-leb (H .home k) p h)
+
+  passed-high : (p q : ℕ) → q ≤ p → passed H vs p q k ≡ false
+  unfolding passed
+  passed-high p q h = rw (le-ltb p q h) (and-false (leb (H .home k) p))
+
+  passed-here : (p : ℕ) → H .home k ≤ p → passed H vs p (p + 1) k ≡ eqb (H .signature k p) (getD vs p 0)
+  unfolding passed
+  passed-here p h = rw (le-leb (H .home k) p h, lt-ltb p (p + 1) (omega arith))
+
+  passed-below : (p q r : ℕ) → p < q → q ≤ r → passed H vs p r k ≡ passed H vs p q k
+  unfolding passed
+  passed-below p q r h l = rw (lt-ltb p r (omega arith), lt-ltb p q h)
+
+  passed-other : (p q : ℕ) → (q ≡ p → ⊥) → passed H vs p (q + 1) k ≡ passed H vs p q k
+  unfolding passed
+  passed-other p q h = ap (λ (t : Bool). leb (H .home k) p && (t && eqb (H .signature k p) (getD vs p 0))) (go (decLe q p))
+    where
+      go : Dec (q ≤ p) → ltb p (q + 1) ≡ ltb p q
+      go (yes d) = le-ltb p (q + 1) (omega (arith, h)) ∙ sym (le-ltb p q d)
+      go (no d) = lt-ltb p (q + 1) (omega arith) ∙ sym (lt-ltb p q (omega arith))
+
+  -- one page more: it counts if its separator is the signature
+  passed-next : (q : ℕ) → H .home k ≤ q → (t : Bool) → eqb (H .signature k q) (getD vs q 0) ≡ t
+      → (p : ℕ) → one (passed H vs p (q + 1) k) ≡ one (passed H vs p q k) + one (t && eqb q p)
+  passed-next q h t e p = go (eqb q p) refl
+    where
+      all-of : (s : Bool) → one (s && true) ≡ one s
+      all-of true = refl
+      all-of false = refl
+
+      go : (s : Bool) → eqb q p ≡ s → one (passed H vs p (q + 1) k) ≡ one (passed H vs p q k) + one (t && s)
+      go true r =
+          let same : q ≡ p = eqb-true q p r in
+          let now : passed H vs p (q + 1) k ≡ t = rw (← same) (passed-here q h ∙ e) in
+          let before : passed H vs p q k ≡ false = passed-high p q (omega arith) in
+          rw (now, before, all-of t) (omega arith)
+      go false r = rw (passed-other p q (eqb-false q p r), none t) (omega arith)
+
+  -- of the pages from `first` on, those below it are none
+  from-low : (first p q : ℕ) → p < first → passedFrom H vs first p q k ≡ false
+  unfolding passedFrom
+  from-low first p q h = rw (lt-leb first p h)
+
+  from-here : (first p q : ℕ) → first ≤ p → passedFrom H vs first p q k ≡ passed H vs p q k
+  unfolding passedFrom
+  from-here first p q h = rw (le-leb first p h)
+
+  from-next : (first q : ℕ) → first ≤ q → H .home k ≤ q → (t : Bool) → eqb (H .signature k q) (getD vs q 0) ≡ t
+      → (p : ℕ) → one (passedFrom H vs first p (q + 1) k) ≡ one (passedFrom H vs first p q k) + one (t && eqb q p)
+  from-next first q f h t e p = go (decLe first p)
+    where
+      go : Dec (first ≤ p) → one (passedFrom H vs first p (q + 1) k) ≡ one (passedFrom H vs first p q k) + one (t && eqb q p)
+      go (yes d) = rw (from-here first p (q + 1) d, from-here first p q d) (passed-next q h t e p)
+      go (no d) = rw (from-low first p (q + 1) (omega arith), from-low first p q (omega arith), ne-eqb q p (λ r. omega arith), none t) (omega arith)
+
+  -- up to `first`, then from there on
+  from-then : (first last p : ℕ) → first ≤ last → one (passed H vs p last k) ≡ one (passed H vs p first k) + one (passedFrom H vs first p last k)
+  from-then first last p h = go (decLe first p)
+    where
+      go : Dec (first ≤ p) → one (passed H vs p last k) ≡ one (passed H vs p first k) + one (passedFrom H vs first p last k)
+      go (yes d) = rw (passed-high p first d, from-here first p last d) (omega arith)
+      go (no d) = rw (passed-below p first last (omega arith) h, from-low first p last (omega arith)) (omega arith)
+
+  -- the pages from `first` up to the one before `next` are counted
+  pub record BlockCounted (first next : ℕ) (entry exit : List ℕ) : Type 0 where
+    pub low : H .home k ≤ next
+    pub begun : first ≤ next
+    pub added : Added 0 (λ p. one (passedFrom H vs first p next k)) entry exit
+
+  pub block-none : (first : ℕ) (l : List ℕ) → H .home k ≤ first → length l ≡ 1024 → BlockCounted first first l l
+  block-none first l h size =
+      record {
+        low = h;
+        begun = omega arith;
+        added = added-none 0 _ l size (λ p o. go p (decLe first p));
+      }
+    where
+      go : (p : ℕ) → Dec (first ≤ p) → one (passedFrom H vs first p first k) ≡ 0
+      go p (yes d) = rw (from-here first p first d, passed-high p first d)
+      go p (no d) = rw (from-low first p first (omega arith))
+
+  module _ (first next : ℕ) (entry exit : List ℕ) (c : BlockCounted first next entry exit) where
+    pub block-counted : next < 1024 → H .signature k next ≡ getD vs next 0 → BlockCounted first (next + 1) entry (set exit next (getD exit next 0 + 1))
+    block-counted h e =
+        record {
+          low = omega (arith, c .low);
+          begun = omega (arith, c .begun);
+          added =
+              added-then 0 (λ p. one (passedFrom H vs first p next k)) (λ p. one (eqb next p)) (λ p. one (passedFrom H vs first p (next + 1) k)) entry exit (set exit next (getD exit next 0 + 1))
+              (c .added) (added-one 0 exit next (c .added .size) h)
+              (from-next first next (c .begun) (c .low) true (eq-eqb (H .signature k next) (getD vs next 0) e));
+        }
+
+    pub block-skipped : (H .signature k next ≡ getD vs next 0 → ⊥) → BlockCounted first (next + 1) entry exit
+    block-skipped e =
+        record {
+          low = omega (arith, c .low);
+          begun = omega (arith, c .begun);
+          added =
+              added-same 0 (λ p. one (passedFrom H vs first p next k)) (λ p. one (passedFrom H vs first p (next + 1) k)) entry exit (c .added)
+              (λ p _. from-next first next (c .begun) (c .low) false (ne-eqb (H .signature k next) (getD vs next 0) e) p ∙ add-zero (one (passedFrom H vs first p next k)));
+        }
+
+    pub block-fits : (n : ℕ) → ((p : ℕ) → first ≤ p → p < 1024 → getD entry p 0 ≤ n) → (p : ℕ) → first ≤ p → p < 1024 → getD exit p 0 ≤ n + 1
+    block-fits n most p o h = omega (arith, c .added .each p (omega arith) h, most p o h, one-most (passedFrom H vs first p next k))
+
+    pub block-all : (last : ℕ) → next ≡ last → Added 0 (λ p. one (passedFrom H vs first p last k)) entry exit
+    block-all last e = rw e at (c .added)
+
+  -- the pages from home and `from` up to the one before `next` are counted; none is where the later of them is not below `page`
+  pub record ProbesCounted (from page next : ℕ) (entry exit : List ℕ) : Type 0 where
+    pub low : H .home k ≤ next
+    pub high : page < next → from < next → next ≡ H .home k
+    pub added : Added from (λ p. one (passed H vs p next k)) entry exit
+
+  pub probes-none : (from page home start : ℕ) (l : List ℕ) → home ≡ H .home k → home ≤ start → (from < start → start ≡ home) → length l ≡ 1024
+      → ProbesCounted from page start l l
+  probes-none from page home start l e h m size =
+      record {
+        low = omega (arith, e);
+        high = λ a b. m b ∙ e;
+        added = added-none from _ l size (λ p o. go p o (decLe start p));
+      }
+    where
+      go : (p : ℕ) → from ≤ p → Dec (start ≤ p) → one (passed H vs p start k) ≡ 0
+      go p o (yes d) = rw (passed-high p start d)
+      go p o (no d) = rw (passed-low p start (omega (arith, e, m (omega arith))))
+
+  module _ (from page next : ℕ) (entry exit : List ℕ) (c : ProbesCounted from page next entry exit) where
+    -- the pages of the next block are counted too
+    pub probes-block : (last : ℕ) (after : List ℕ) → next < last → last ≤ page → Added 0 (λ p. one (passedFrom H vs next p last k)) exit after → ProbesCounted from page last entry after
+    probes-block last after h m a =
+        record {
+          low = omega (arith, c .low);
+          high = λ g _. absurd (omega arith);
+          added =
+              added-then from (λ p. one (passed H vs p next k)) (λ p. one (passedFrom H vs next p last k)) (λ p. one (passed H vs p last k)) entry exit after
+              (c .added) (record { size = a .size; each = λ p o. a .each p (omega arith) })
+              (λ p. from-then next last p (omega arith));
+        }
+
+    pub probes-fits : (n : ℕ) → ((p : ℕ) → from ≤ p → p < 1024 → getD entry p 0 ≤ n) → (p : ℕ) → from ≤ p → p < 1024 → getD exit p 0 ≤ n + 1
+    probes-fits n most p o h = omega (arith, c .added .each p o h, most p o h, one-most (passed H vs p next k))
+
+    pub probes-all : page ≤ next → Added from (λ p. one (passed H vs p page k)) entry exit
+    probes-all h =
+        added-same from (λ p. one (passed H vs p next k)) (λ p. one (passed H vs p page k)) entry exit (c .added)
+        (λ p o. go p o (decLe next page) (decLe page p) (decLe next p))
+      where
+        go : (p : ℕ) → from ≤ p → Dec (next ≤ page) → Dec (page ≤ p) → Dec (next ≤ p) → one (passed H vs p page k) ≡ one (passed H vs p next k)
+        go p o (yes d) g f = ap (λ (q : ℕ). one (passed H vs p q k)) (omega arith)
+        go p o (no d) (yes g) (yes f) = rw (passed-high p page g, passed-high p next f)
+        go p o (no d) (yes g) (no f) = rw (passed-high p page g, passed-low p next (omega (arith, c .high (omega arith) (omega arith))))
+        go p o (no d) (no g) f =
+            let low : p < H .home k = omega (arith, c .high (omega arith) (omega arith)) in
+            rw (passed-low p page low, passed-low p next low)
+
+-- the homes of one page's items
+pub homed-page : (g : Geometry) (vs ns hs : List ℕ) (from stop page : ℕ) → Homed g vs ns hs from stop → from ≤ page → page < stop → Homed g vs ns hs page (suc page)
+homed-page g vs ns hs from stop page h a b =
+    record {
+      separators = h .separators;
+      numbers = h .numbers;
+      homes = h .homes;
+      low = omega arith;
+      high = omega (arith, h .high);
+      kept = λ q c d. h .kept q (omega arith) (omega arith);
+    }
+
+home-among : (g : Geometry) (ns : List ℕ) (j : ℕ) → (getD ns j 0 ≡ 0 → ⊥) → getD (homesOf (g .parameters) (g .growth) ns) j 0 ≡ homeUnder g (getD ns j 0)
+unfolding homesOf
+home-among g [] j h = absurd (h refl)
+home-among g (n ∷ ns) zero h = rw (ne-eqb n 0 h)
+home-among g (n ∷ ns) (suc j) h = home-among g ns j h
+
+-- a star's home among them
+pub home-item : (g : Geometry) (vs ns hs : List ℕ) (page : ℕ) → Homed g vs ns hs page (suc page) → (i : ℕ) → i < g .parameters .places
+    → (getD ns (page * g .parameters .places + i) 0 ≡ 0 → ⊥) → getD hs (page * g .parameters .places + i) 0 ≡ homeUnder g (getD ns (page * g .parameters .places + i) 0)
+unfolding part
+home-item g vs ns hs page h i inside some =
+    sym (placed hs)
+    ∙ ap (λ (l : List ℕ). getD l i 0) (h .kept page (omega arith) (omega arith))
+    ∙ home-among g (part (g .parameters .places) page ns) i (λ e. some (sym (placed ns) ∙ e))
+    ∙ ap (homeUnder g) (placed ns)
+  where
+    placed : (l : List ℕ) → getD (part (g .parameters .places) page l) i 0 ≡ getD l (page * g .parameters .places + i) 0
+    placed l = getD-take (g .parameters .places) (drop (page * g .parameters .places) l) i 0 inside ∙ getD-drop (page * g .parameters .places) l i 0
+
+count-taken : (q : ℕ → Bool) (l : List ℕ) (i : ℕ) → i < length l → length (filter q (take (suc i) l)) ≡ length (filter q (take i l)) + one (q (getD l i 0))
+unfolding filter
+count-taken q [] i h = absurd (omega arith)
+count-taken q (x ∷ l) zero h = go (q x)
+  where
+    go : (t : Bool) → length (keep t x []) ≡ 0 + one t
+    go true = refl
+    go false = refl
+count-taken q (x ∷ l) (suc i) h = go (q x) (count-taken q l i (omega arith))
+  where
+    go : (t : Bool) → length (filter q (take (suc i) l)) ≡ length (filter q (take i l)) + one (q (getD l i 0))
+        → length (keep t x (filter q (take (suc i) l))) ≡ length (keep t x (filter q (take i l))) + one (q (getD l i 0))
+    go true ih = omega (arith, ih)
+    go false ih = ih
+
+taken-most : (q : ℕ → Bool) (l : List ℕ) (i : ℕ) → length (filter q (take i l)) ≤ i
+unfolding filter
+taken-most q l zero = omega arith
+taken-most q [] (suc i) = omega arith
+taken-most q (x ∷ l) (suc i) = go (q x) (taken-most q l i)
+  where
+    go : (t : Bool) → length (filter q (take i l)) ≤ i → length (keep t x (filter q (take i l))) ≤ suc i
+    go true ih = omega (arith, ih)
+    go false ih = omega (arith, ih)
+
+pub count-most : (H : Hash) (vs ns : List ℕ) (from p n : ℕ) → countFrom H vs ns from p n ≤ n * H .room
+unfolding countFrom countOn part
+count-most H vs ns from p zero = omega arith
+count-most H vs ns from p (suc n) =
+    omega (arith, suc-mul n (H .room), count-most H vs ns from p n, taken-most (countedItem H vs p (from + n)) (drop ((from + n) * H .room) ns) (H .room))
+
+module _ (H : Hash) (vs ns : List ℕ) (from page : ℕ) where
+  abbrev some : ℕ → ℕ → ℕ
+  some i p = length (filter (countedItem H vs p page) (take i (drop (page * H .room) ns)))
+
+  -- the first i numbers of the page are counted
+  pub record PlacesCounted (i : ℕ) (entry exit : List ℕ) : Type 0 where
+    pub upto : i ≤ H .room
+    pub added : Added from (some i) entry exit
+
+  pub places-none : (l : List ℕ) → length l ≡ 1024 → PlacesCounted 0 l l
+  unfolding filter
+  places-none l e = record { upto = omega arith; added = added-none from _ l e (λ p _. refl) }
+
+  item-counts : (p n : ℕ) → (n ≡ 0 → ⊥) → one (countedItem H vs p page n) ≡ one (eqb page p) + one (passed H vs p page n)
+  unfolding countsOn
+  item-counts p n h = rw (ne-eqb n 0 h) (go (eqb page p) refl)
+    where
+      go : (t : Bool) → eqb page p ≡ t → one (t || passed H vs p page n) ≡ one t + one (passed H vs p page n)
+      go true e = rw (passed-high H vs n p page (omega (arith, eqb-true page p e)))
+      go false e = omega arith
+
+  module _ (i : ℕ) (entry exit : List ℕ) (c : PlacesCounted i entry exit) (h : i < H .room) (long : page * H .room + i < length ns) where
+    some-next : (p : ℕ) → some (i + 1) p ≡ some i p + one (countedItem H vs p page (getD ns (page * H .room + i) 0))
+    some-next p =
+        rw (add-one i, ← getD-drop (page * H .room) ns i 0)
+        (count-taken (countedItem H vs p page) (drop (page * H .room) ns) i (omega (arith, length-drop (page * H .room) ns)))
+
+    pub places-empty : getD ns (page * H .room + i) 0 ≡ 0 → PlacesCounted (i + 1) entry exit
+    places-empty e =
+        record {
+          upto = omega arith;
+          added = added-same from (some i) (some (i + 1)) entry exit (c .added) (λ p _. some-next p ∙ rw e (add-zero (some i p)));
+        }
+
+    -- a star: it stands on the page, and counts where it passed
+    pub places-star : (n : ℕ) (after : List ℕ) → n ≡ getD ns (page * H .room + i) 0 → (n ≡ 0 → ⊥) → page < 1024
+        → Added from (λ p. one (passed H vs p page n)) (set exit page (getD exit page 0 + 1)) after → PlacesCounted (i + 1) entry after
+    places-star n after e some-number inside a =
+        record {
+          upto = omega arith;
+          added =
+              added-then from (some i) (λ p. one (countedItem H vs p page n)) (some (i + 1)) entry exit after (c .added)
+              (added-then from (λ p. one (eqb page p)) (λ p. one (passed H vs p page n)) (λ p. one (countedItem H vs p page n)) exit (set exit page (getD exit page 0 + 1)) after
+              (added-one from exit page (c .added .size) inside) a (λ p. item-counts p n some-number))
+              (λ p. some-next p ∙ rw e);
+        }
+
+    -- at home: it passed none
+    pub places-home : (n : ℕ) → n ≡ getD ns (page * H .room + i) 0 → (n ≡ 0 → ⊥) → page < 1024 → page ≤ H .home n → PlacesCounted (i + 1) entry (set exit page (getD exit page 0 + 1))
+    places-home n e some-number inside low =
+        places-star n (set exit page (getD exit page 0 + 1)) e some-number inside
+        (added-none from _ (set exit page (getD exit page 0 + 1)) (length-set exit page (getD exit page 0 + 1) ∙ c .added .size) (λ p _. go p (decLe page p)))
+      where
+        go : (p : ℕ) → Dec (page ≤ p) → one (passed H vs p page n) ≡ 0
+        go p (yes d) = rw (passed-high H vs n p page d)
+        go p (no d) = rw (passed-low H vs n p page (omega arith))
+
+  pub places-fits : (i n : ℕ) (entry exit : List ℕ) → PlacesCounted i entry exit → ((p : ℕ) → from ≤ p → p < 1024 → getD entry p 0 ≤ n) → (p : ℕ) → from ≤ p → p < 1024 → getD exit p 0 ≤ n + i
+  places-fits i n entry exit c most p o h =
+      omega (arith, c .added .each p o h, most p o h, taken-most (countedItem H vs p page) (drop (page * H .room) ns) i)
+
+  pub places-counts : (i n m : ℕ) (entry exit : List ℕ) → PlacesCounted i entry exit → Counts from n entry → page < 1024 → n + i < m → Counts from m (set exit page (getD exit page 0 + 1))
+  places-counts i n m entry exit c most inside h =
+      let a = added-one from exit page (c .added .size) inside in
+      (a .size, λ p o k. omega (arith, a .each p o k, one-most (eqb page p), places-fits i n entry exit c (most .1) p o k))
+
+  pub places-all : (i : ℕ) (entry exit : List ℕ) → PlacesCounted i entry exit → H .room ≤ i → Added from (λ p. countOn H vs ns p page) entry exit
+  unfolding countOn part
+  places-all i entry exit c h =
+      let e : H .room ≡ i = omega (arith, c .upto) in
+      added-same from (some i) (some (H .room)) entry exit (c .added) (λ p _. ap (λ (j : ℕ). some j p) e)
+
+-- the pages from `from` up to the one before `page` are counted
+pub record PagesCounted (H : Hash) (vs ns : List ℕ) (from stop page : ℕ) (entry exit : List ℕ) : Type 0 where
+  pub low : from ≤ page
+  pub high : page ≤ stop
+  pub added : Added from (λ p. countFrom H vs ns from p (page - from)) entry exit
+
+pub pages-none : (H : Hash) (vs ns : List ℕ) (from stop : ℕ) (l : List ℕ) → from ≤ stop → length l ≡ 1024 → PagesCounted H vs ns from stop from l l
+unfolding countFrom
+pages-none H vs ns from stop l h e =
+    let none : from - from ≡ 0 = omega arith in
+    record { low = omega arith; high = h; added = added-none from _ l e (λ p _. ap (countFrom H vs ns from p) none) }
+
+module _ (H : Hash) (vs ns : List ℕ) (from stop page : ℕ) (entry exit : List ℕ) (c : PagesCounted H vs ns from stop page entry exit) where
+  pub pages-next : page < stop → (after : List ℕ) → Added from (λ p. countOn H vs ns p page) exit after → PagesCounted H vs ns from stop (page + 1) entry after
+  unfolding countFrom
+  pages-next h after a =
+      let one-more : page + 1 - from ≡ suc (page - from) = omega (arith, c .low) in
+      let here : from + (page - from) ≡ page = omega (arith, c .low) in
+      record {
+        low = omega (arith, c .low);
+        high = omega arith;
+        added =
+            added-then from (λ p. countFrom H vs ns from p (page - from)) (λ p. countOn H vs ns p page) (λ p. countFrom H vs ns from p (page + 1 - from)) entry exit after (c .added) a
+            (λ p. ap (countFrom H vs ns from p) one-more ∙ ap (λ (q : ℕ). countFrom H vs ns from p (page - from) + countOn H vs ns p q) here);
+      }
+
+  pub pages-counts : (m : ℕ) → Counts from 0 entry → stop * H .room ≤ m → Counts from m exit
+  pages-counts m none h = (
+    c .added .size,
+    λ p o k. omega (
+      arith,
+      c .added .each p o k,
+      none .1 p o k,
+      count-most H vs ns from p (page - from),
+      mul-le-mul-right {m = page - from} {n = stop} (H .room) (omega (arith, c .high)),
+    ),
+  )
+
+  pub pages-all : stop ≤ page → Added from (λ p. countFrom H vs ns from p (stop - from)) entry exit
+  pages-all h =
+      let e : stop - from ≡ page - from = omega (arith, c .high) in
+      added-same from (λ p. countFrom H vs ns from p (page - from)) (λ p. countFrom H vs ns from p (stop - from)) entry exit (c .added) (λ p _. ap (countFrom H vs ns from p) e)
+
+-- a search goes by what the test says of the numbers from `from` on
+such-alike : (t u : ℕ → Bool) (from n : ℕ) → ((q : ℕ) → from ≤ q → q < from + n → t q ≡ u q) → firstSuch t from n ≡ firstSuch u from n
+unfolding firstSuch
+such-alike t u from zero h = refl
+such-alike t u from (suc n) h = rw (h from (omega arith) (omega arith), such-alike t u (suc from) n (λ q a k. h q (omega arith) (omega arith)))
+
+-- the counters tell which separators could be one greater
+pub rising-raisable : (g : Geometry) (vs ns entry counts : List ℕ) (from stop : ℕ) → from ≤ stop → stop ≤ 1024 → Counts from 0 entry
+    → Added from (λ p. countFrom (hashUnder g) vs ns from p (stop - from)) entry counts → firstRising (g .parameters) vs counts from stop ≡ firstRaisable g vs ns from stop
+unfolding raisableFrom hashOf
+rising-raisable g vs ns entry counts from stop low few none c =
+    such-alike _ (raisableFrom (hashUnder g) from (stop - from) vs ns) from (stop - from)
+    (λ q o h. ap (mayRise (topOf (g .parameters .bits)) (g .parameters .places) (getD vs q 0)) (counter q o (omega arith)))
+  where
+    counter : (q : ℕ) → from ≤ q → q < 1024 → getD counts q 0 ≡ countFrom (hashUnder g) vs ns from q (stop - from)
+    counter q o h = omega (arith, c .each q o h, none .1 q o h)

@@ -1,0 +1,103 @@
+-- The entry by a cascade, from the page that the separators name upward: document 02 (ix).
+use mathlib.Core.Path.{_≡_}
+use mathlib.Core.Bool.{true, false, cond}
+use mathlib.Core.List.{List, [], _∷_}
+use Prim.Native.Nat.{ℕ, _+_, _-_, _*_, _≤_, _<_}
+use lib.Dec.{ltb}
+use lib.ListN.{length}
+use lib.Seq.{slice}
+use Rattle.hashing.specs.declared.Parameters.{Parameters}
+use Rattle.hashing.specs.declared.Growth.{Growth}
+use Rattle.hashing.specs.declared.Geometry.{Geometry}
+use Rattle.pages.specs.Position.{validNumber}
+use Rattle.placement.specs.Rule.{Star, Contents, separators}
+use Rattle.placement.specs.File.{File, column, written, replaced}
+use Rattle.placement.specs.Hash.{namedPage, homeUnder, hashOf}
+use Rattle.placement.specs.Ready.{Ready}
+use Rattle.reach.specs.Reach.{isEmpty, pagesTo, firstUnsound, holding}
+use Rattle.reach.specs.Cascade.{cascaded, carriedPast}
+use Rattle.page_separator.specs.Probes.{stayingWords, passingWords, wordsSeparatorFrom}
+use Rattle.page_plan.specs.Plans.{waits}
+use Rattle.page_plan.proofs.Applying.{applied}
+use Rattle.entry_reach.specs.declared.blocks.Reach.{Reach}
+use Rattle.entry_reach.specs.declared.blocks.Reach.the-variants.{Ends, Unsound, Overflows}
+use Rattle.page_plan.specs.declared.outcome.Outcome.{Outcome}
+use Rattle.page_plan.specs.declared.outcome.Outcome.the-variants.{On, Unsound as outcome·Unsound, Overflows as outcome·Overflows}
+use Rattle.entry_reach.specs.Entry.{Unheld, newStar}
+
+-- a star that the file does not hold is to be entered, and `page` is the one that the separators name for it
+pub record Enters (g : Geometry) (t : List ℕ) (f : File) (k home page : ℕ) : Type 0 where
+  pub ready : Ready g t f
+  pub number : validNumber k ≡ true
+  pub unheld : Unheld (g .parameters) (g .growth) f k
+  pub homed : home ≡ homeUnder g k
+  pub here : page ≡ namedPage (g .parameters) (g .growth) (f .separators) k
+
+-- what the pages visited get, of the star s that comes to `page`, and what is carried past page M−1
+abbrev pub visited : Parameters → Growth → File → Star → ℕ → List Contents
+visited p g f s page = cascaded (hashOf p g) f page (p .pages - page) (s ∷ [])
+
+abbrev pub overflow : Parameters → Growth → File → Star → ℕ → List Star
+overflow p g f s page = carriedPast (hashOf p g) f page (p .pages - page) (s ∷ [])
+
+-- the page past those visited
+abbrev pub stopOf : Parameters → Growth → File → Star → ℕ → ℕ
+stopOf p g f s page = page + length (visited p g f s page)
+
+abbrev pub cascadeUnsound : Parameters → Growth → File → Star → ℕ → ℕ
+cascadeUnsound p g f s page = firstUnsound p g f page (length (visited p g f s page))
+
+-- one thing if a visited page is unsound, another if a star is carried past page M−1, a third if none is
+abbrev pub byCascade : {A : Type 0} → Parameters → Growth → File → Star → ℕ → A → A → A → A
+byCascade p g f s page unsound overflows enters =
+    cond (ltb (cascadeUnsound p g f s page) (stopOf p g f s page)) unsound (cond (isEmpty (overflow p g f s page)) enters overflows)
+
+-- "a visited page that is unsound is 5"; accepted, the answer is the star's page
+unfoldable pub cascadeAnswer : Parameters → Growth → File → Star → ℕ → Outcome
+cascadeAnswer p g f s page =
+    byCascade p g f s page
+    (outcome·Unsound (cascadeUnsound p g f s page))
+    outcome·Overflows
+    (On (holding (s .number) page (visited p g f s page)))
+
+-- "5 and 8 leave the file unchanged"
+unfoldable pub cascadeFile : Parameters → Growth → File → Star → ℕ → File
+cascadeFile p g f s page = byCascade p g f s page f f (replaced (p .places) f page (visited p g f s page))
+
+-- q is the first unsound page visited
+pub record Stopped (p : Parameters) (g : Growth) (f : File) (s : Star) (page q : ℕ) : Type 0 where
+  pub is : q ≡ cascadeUnsound p g f s page
+  pub inside : q < stopOf p g f s page
+
+-- the pages visited are sound, and a star is carried past page M−1
+pub record Spilled (p : Parameters) (g : Growth) (f : File) (s : Star) (page : ℕ) : Type 0 where
+  pub sound : cascadeUnsound p g f s page ≡ stopOf p g f s page
+  pub over : isEmpty (overflow p g f s page) ≡ false
+
+-- they are sound, none is, none is carried past page `last`, and the planned sources and separators of the pages up to it are theirs
+pub record Kept (p : Parameters) (g : Growth) (f : File) (k word owner page : ℕ) (pool planned : List ℕ) (last : ℕ) : Type 0 where
+  pub sound : cascadeUnsound p g f (newStar k word owner) page ≡ stopOf p g f (newStar k word owner) page
+  pub none : overflow p g f (newStar k word owner) page ≡ []
+  pub within : carriedPast (hashOf p g) f page (pagesTo page last) (newStar k word owner ∷ []) ≡ []
+  pub applies : applied (p .places) page (pagesTo page last) k word owner pool planned f ≡ replaced (p .places) f page (visited p g f (newStar k word owner) page)
+
+-- what planning the cascade of the star k answers and leaves, with any word and owner
+abbrev pub Plans : Parameters → Growth → File → ℕ → ℕ → List ℕ → List ℕ → Reach → Type 0
+Plans p g f k page pool planned (Unsound q) = (word owner : ℕ) → Stopped p g f (newStar k word owner) page q
+Plans p g f k page pool planned Overflows = (word owner : ℕ) → Spilled p g f (newStar k word owner) page
+Plans p g f k page pool planned (Ends last) =
+    (page ≤ last) × ((last < p .pages) × ((word owner : ℕ) → Kept p g f k word owner page pool planned last))
+
+-- what a page gets of the words l that probe it, under the greatest separator up to `most`, and what it carries on
+unfoldable pub loweredTo : Parameters → ℕ → ℕ → List ℕ → Contents
+loweredTo p q most l = record { separator = wordsSeparatorFrom p q l most; stars = waits (stayingWords p q (wordsSeparatorFrom p q l most) l) }
+
+unfoldable pub loweredOn : Parameters → ℕ → ℕ → List ℕ → List ℕ
+loweredOn p q most l = passingWords p q (wordsSeparatorFrom p q l most) l
+
+-- what settling page q leaves: its sources, its separator, and from r up to `reach` the words carried on
+pub record Lowered (p : Parameters) (q most : ℕ) (l : List ℕ) (reach : ℕ) (pool pool′ planned planned′ W′ : List ℕ) (r : ℕ) : Type 0 where
+  pub sources : pool′ ≡ written (q * p .places) (column (p .places) (λ (s : Star). s .payload .word) (loweredTo p q most l ∷ [])) pool
+  pub separator : planned′ ≡ written q (separators (loweredTo p q most l ∷ [])) planned
+  pub start : r ≡ reach - length (loweredOn p q most l)
+  pub passed : slice r reach W′ ≡ loweredOn p q most l

@@ -1,0 +1,149 @@
+// The reach of an entry, planned block after block: a block ends at the first page whose stored separator is 2^k − 1, or at the last page.
+ghost use mathlib.Core.Path.{_≡_};
+ghost use mathlib.Core.Bool.{true};
+ghost use Prim.Native.Nat.{ℕ, _*_, _≤_, _<_};
+ghost use lib.ListN.{length, take};
+ghost use Rattle.pages.specs.Position.{validNumber};
+ghost use Rattle.placement.specs.Hash.{homeUnder};
+ghost use Rattle.placement.specs.Lent.{held, before};
+ghost use Rattle.placement.specs.Ready.{Ready};
+ghost use Rattle.reach.specs.Known.{Known};
+ghost use Rattle.page_separator.specs.Probes.{homesUpTo};
+ghost use Rattle.entry_reach.specs.Entry.{Unheld, newStar, reachAnswer, Applies, PlansBlock};
+use hashing::Geometry;
+
+// The last page; the first unsound page; or a star is carried past the last page of all.
+pub enum Reach {
+    Ends(usize),
+    Unsound(usize),
+    Overflows,
+}
+
+// A block's last page and how many words are carried past it; its first unsound page; or its stars do not fit into the list of waiting stars.
+pub enum Block {
+    Planned(usize, usize),
+    Unsound(usize),
+    Crowded,
+}
+
+// The block from page lo on, with the `incoming` words at the front of `waiting`. The known page was tested before.
+fn plan_block(
+    table: &[u32; 90],
+    geometry: Geometry,
+    separators: &[u8],
+    numbers: &[u32],
+    words: &[u64],
+    owners: &[u8],
+    pool: &mut [u32],
+    waiting: &mut [u64],
+    planned: &mut [u8],
+    lo: usize,
+    incoming: usize,
+    known: usize,
+) -> Block
+    requires { ⌜ Ready geometry (now table) (held separators numbers words owners) ⌝ }
+    requires { ⌜ (length (now pool) ≡ geometry .parameters .pages * geometry .parameters .places) × (length (now waiting) ≡ geometry .parameters .pages * geometry .parameters .places) ⌝ }
+    requires { ⌜ (geometry .parameters .pages ≤ length (now planned)) × (lo < geometry .parameters .pages) ⌝ }
+    requires { ⌜ (incoming ≤ length (now waiting)) × (homesUpTo lo (take incoming (now waiting)) ≡ true) ⌝ }
+    requires { ⌜ Known (geometry .parameters) (geometry .growth) (held separators numbers words owners) (now pool) known ⌝ }
+    ensures { λ r. ⌜ PlansBlock geometry (before separators numbers words owners) lo incoming pool waiting planned r ⌝ }
+{
+    let parameters = geometry.parameters;
+    let places = parameters.places as usize;
+    let last = reach::stretch_end(separators, placement::top_of(parameters), lo);
+    let stop = last + 1;
+    let unsound = reach::survey_pages(
+        table,
+        geometry,
+        separators,
+        numbers,
+        words,
+        owners,
+        pool,
+        lo,
+        stop,
+        known,
+    );
+    if unsound < stop {
+        return Block::Unsound(unsound);
+    }
+    if waiting.len() - incoming < page_plan::count_stars(numbers, lo * places, stop * places, 0) {
+        return Block::Crowded;
+    }
+    let left = page_plan::plan(
+        parameters,
+        numbers,
+        pool,
+        waiting,
+        planned,
+        lo,
+        stop - lo,
+        0,
+        incoming,
+    );
+    Block::Planned(last, left)
+}
+
+// Plans the reach, from its home on, of the entry of a number that the file does not hold. The pool gets the sources of the reach's places and `planned` its separators;
+// the new star's source is the one past the items.
+pub fn plan_entry(
+    table: &[u32; 90],
+    geometry: Geometry,
+    separators: &[u8],
+    numbers: &[u32],
+    words: &[u64],
+    owners: &[u8],
+    pool: &mut [u32],
+    waiting: &mut [u64],
+    planned: &mut [u8],
+    number: u32,
+    home: u32,
+    known: usize,
+) -> Reach
+    requires { ⌜ Ready geometry (now table) (held separators numbers words owners) ⌝ }
+    requires { ⌜ (length (now pool) ≡ geometry .parameters .pages * geometry .parameters .places) × (length (now waiting) ≡ geometry .parameters .pages * geometry .parameters .places) ⌝ }
+    requires { ⌜ geometry .parameters .pages ≤ length (now planned) ⌝ }
+    requires { ⌜ validNumber number ≡ true ⌝ }
+    requires { ⌜ Unheld (geometry .parameters) (geometry .growth) (held separators numbers words owners) number ⌝ }
+    requires { ⌜ home ≡ homeUnder geometry number ⌝ }
+    requires { ⌜ Known (geometry .parameters) (geometry .growth) (held separators numbers words owners) (now pool) known ⌝ }
+    ensures { λ r. ⌜ ((word owner : ℕ) → r ≡ reachAnswer (geometry .parameters) (geometry .growth) (before separators numbers words owners) (newStar number word owner)) ⌝ }
+    ensures { λ r. ⌜ Applies (geometry .parameters) (geometry .growth) (before separators numbers words owners) number (now (pool .exit)) (now (planned .exit)) r ⌝ }
+{
+    let pages = geometry.parameters.pages as usize;
+    waiting[0] = page_separator::pack(home, number, numbers.len() + 1);
+    let mut lo = home as usize;
+    let mut carried = 1;
+    let mut tested = known;
+    loop {
+        match plan_block(
+            table,
+            geometry,
+            separators,
+            numbers,
+            words,
+            owners,
+            pool,
+            waiting,
+            planned,
+            lo,
+            carried,
+            tested,
+        ) {
+            Block::Unsound(page) => return Reach::Unsound(page),
+            Block::Crowded => return Reach::Overflows,
+            Block::Planned(last, left) => {
+                if left == 0 {
+                    return Reach::Ends(last);
+                }
+                lo = last + 1;
+                carried = left;
+                // a planned block's homes are written over
+                tested = pages;
+                if lo == pages {
+                    return Reach::Overflows;
+                }
+            }
+        }
+    }
+}

@@ -1,0 +1,11 @@
+pub mod Joiners
+pub mod TwoPages
+pub mod Fewer
+pub mod Step
+pub mod OnPage
+pub mod Whole
+pub mod Walk
+pub mod Joining
+pub mod Alike
+pub mod Block
+pub mod Renewed

@@ -1,0 +1,4 @@
+pub mod Growing
+pub mod InPlace
+pub mod PlannedGrowth
+pub mod Stepped

@@ -1,0 +1,8 @@
+// Growth by one page and its undoing: in place, or all pages planned anew; and a growth done in steps, a page at a time.
+mod growth;
+mod steps;
+
+pub use growth::regrow;
+pub use growth::rehome;
+pub use steps::plan_growth;
+pub use steps::step_page;

@@ -1,0 +1,16 @@
+pub mod Items
+pub mod Order
+pub mod Grouping
+pub mod Placing
+pub mod Scattering
+pub mod Gathered
+pub mod Inserting
+pub mod Sifting
+pub mod Pouring
+pub mod RuleOverWords
+pub mod Applying
+pub mod Sourcing
+pub mod Blocks
+pub mod Slots
+pub mod Stretch
+pub mod Placed

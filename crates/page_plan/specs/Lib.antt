@@ -1,0 +1,4 @@
+pub mod Gather
+pub mod Settle
+pub mod Sources
+pub mod Plans

@@ -1,0 +1,100 @@
+-- The plan of a stretch of pages, over the words of its waiting stars. Assumes nothing.
+use mathlib.Core.Path.{_≡_}
+use mathlib.Core.Bool.{Bool, true, cond}
+use mathlib.Core.List.{List, [], _∷_, _++_, map}
+use Prim.Native.Nat.{ℕ, zero, suc, _+_, _/_, _%_, _*_, _^_, _≤_, _<_}
+use lib.Dec.{eqb, leb}
+use lib.ListN.{length, getD, take, drop}
+use lib.Seq.{slice}
+use denote.Ref.{now}
+use Rattle.pages.specs.Page.{stretch}
+use Rattle.hashing.specs.declared.Parameters.{Parameters}
+use Rattle.hashing.specs.Limits.{validParameters}
+use Rattle.placement.specs.Rule.{Star, Hash, Contents, separators, starWith}
+use Rattle.placement.specs.File.{column, written}
+use Rattle.placement.specs.Lent.{Lent}
+use Rattle.page_separator.specs.Lists.{all, allBelow}
+use Rattle.page_separator.specs.Words.{homeOf, numberIn, sourceOf}
+use Rattle.page_plan.specs.Gather.{group, stretchWords, starsIn}
+use Rattle.page_separator.specs.Probes.{homesUpTo, stayingWords, passingWords, wordsSeparator}
+use Rattle.page_plan.specs.Settle.{slotsOf}
+
+-- the star that a word's low part stands for: its number, and its source in place of position word and owner
+unfoldable pub starOf : ℕ → Star
+starOf low = starWith (low / 2 ^ 16) (low % 2 ^ 16) 0
+
+-- the rule's waiting list, of the stars whose words wait in the pool
+unfoldable pub waits : List ℕ → List Star
+waits l = map starOf (slotsOf l)
+
+-- the source in slot i of a page that keeps so many, 0 for an empty place
+unfoldable pub slotSource : List ℕ → ℕ → ℕ → ℕ
+slotSource slots kept i = cond (leb kept i) 0 (sourceOf (getD slots i 0))
+
+-- every word carries the home of its number
+unfoldable pub homed : Hash → List ℕ → Bool
+homed H l = all (λ w. eqb (H .home (numberIn w)) (homeOf w)) l
+
+-- what settling leaves on page p of the words that probe it
+unfoldable pub settled : Parameters → ℕ → List ℕ → Contents
+settled q p l =
+    record { separator = wordsSeparator q p l; stars = waits (stayingWords q p (wordsSeparator q p l) l) }
+
+-- what it carries on
+unfoldable pub carriedOn : Parameters → ℕ → List ℕ → List ℕ
+carriedOn q p l = passingWords q p (wordsSeparator q p l) l
+
+-- what n pages from lo + v get: page lo + v is probed by the words w carried on to it and its own group of the stretch's words l
+unfoldable pub plans : Parameters → ℕ → ℕ → ℕ → List ℕ → List ℕ → List Contents
+plans q lo v zero w l = []
+plans q lo v (suc n) w l =
+    settled q (lo + v) (w ++ group lo v l)
+    ∷ plans q lo (suc v) n (carriedOn q (lo + v) (w ++ group lo v l)) l
+
+-- what is carried past them
+unfoldable pub remains : Parameters → ℕ → ℕ → ℕ → List ℕ → List ℕ → List ℕ
+remains q lo v zero w l = w
+remains q lo v (suc n) w l = remains q lo (suc v) n (carriedOn q (lo + v) (w ++ group lo v l)) l
+
+-- What planning page p leaves of the lists: the words l that probed it stand in W from some place up to `reach`.
+pub record PagePlanned (q : Parameters) (p : ℕ) (l : List ℕ) (reach : ℕ) (W W′ pool pool′ planned planned′ : List ℕ) (r : ℕ) : Type 0 where
+  pub sources : pool′ ≡ written (p * q .places) (column (q .places) (λ (s : Star). s .payload .word) (settled q p l ∷ [])) pool
+  pub separator : planned′ ≡ written p (separators (settled q p l ∷ [])) planned
+  pub order : r ≤ reach
+  pub passed : slice r reach W′ ≡ carriedOn q p l
+  pub behind : drop reach W′ ≡ drop reach W
+
+abbrev pub PlansPage : Parameters → ℕ → ℕ → ℕ → Lent → Lent → Lent → ℕ → Type 0
+PlansPage q p from reach waiting pool planned r =
+    PagePlanned q p (slice from reach (now (waiting .entry))) reach (now (waiting .entry)) (now (waiting .exit)) (now (pool .entry)) (now (pool .exit))
+    (now (planned .entry)) (now (planned .exit)) r
+
+-- What planning `count` pages from page lo needs of the lists, the star k left out: items of numbers and of homes in the stretch or below it,
+-- room for all words, and those carried in homed at page lo or lower.
+pub record Plannable (q : Parameters) (lo count k carried : ℕ) (numbers pool W planned : List ℕ) : Type 0 where
+  pub valid : validParameters q ≡ true
+  pub some : 0 < count
+  pub pages : lo + count ≤ 1024
+  pub ofPlanned : lo + count ≤ length planned
+  pub ofNumbers : (lo + count) * q .places ≤ length numbers
+  pub ofPool : (lo + count) * q .places ≤ length pool
+  pub numbered : allBelow (2 ^ 31) (stretch (q .places) lo count numbers) ≡ true
+  pub within : allBelow (lo + count) (stretch (q .places) lo count pool) ≡ true
+  pub room : carried + starsIn k (stretch (q .places) lo count numbers) ≤ length W
+  pub few : length W ≤ 32768
+  pub near : homesUpTo lo (take carried W) ≡ true
+
+-- What planning `count` pages from page lo leaves, of the words w carried in and the stretch's words l: the source of each place's star in
+-- the pool, the new separators, and at the front of W′ the r words that are carried past the stretch.
+pub record Planned (q : Parameters) (lo count : ℕ) (w l pool pool′ planned planned′ W′ : List ℕ) (r : ℕ) : Type 0 where
+  pub sources : pool′ ≡ written (lo * q .places) (column (q .places) (λ (s : Star). s .payload .word) (plans q lo 0 count w l)) pool
+  pub separators-are : planned′ ≡ written lo (separators (plans q lo 0 count w l)) planned
+  pub passed : take r W′ ≡ remains q lo 0 count w l
+  pub counted : r ≡ length (remains q lo 0 count w l)
+
+-- the words carried in stand at the front of `waiting`, the homes of the items in the pool; the star k is left out
+abbrev pub PlansStretch : Parameters → ℕ → ℕ → ℕ → ℕ → Lent → Lent → Lent → Lent → ℕ → Type 0
+PlansStretch q lo count k carried numbers pool waiting planned r =
+    Planned q lo count (take carried (now (waiting .entry)))
+    (stretchWords (q .places) lo count k (now (numbers .entry)) (now (pool .entry))) (now (pool .entry)) (now (pool .exit)) (now (planned .entry))
+    (now (planned .exit)) (now (waiting .exit)) r

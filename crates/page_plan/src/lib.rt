@@ -1,0 +1,15 @@
+// The plan of a stretch of pages: its stars as words of a lent list, gathered by home and settled page by page.
+mod gathering;
+mod layout;
+mod outcome;
+mod settling;
+
+pub use gathering::count_stars;
+pub use gathering::gather;
+pub use layout::plan;
+pub use layout::store_sources;
+pub use outcome::Outcome;
+pub use settling::Settled;
+pub use settling::keep_all;
+pub use settling::settle;
+pub use settling::settle_under;

@@ -1,0 +1,107 @@
+// The signatures of the words that probe a page, and their counts.
+ghost use mathlib.Core.Path.{_≡_};
+ghost use mathlib.Core.Bool.{true};
+ghost use Prim.Native.Nat.{ℕ, _+_, _-_, _%_, _≤_, _<_};
+ghost use lib.ListN.{length, getD};
+ghost use lib.Seq.{slice};
+ghost use Rattle.hashing.specs.Limits.{validParameters};
+ghost use Rattle.placement.specs.Ready.{Signers};
+ghost use Rattle.page_separator.specs.Lists.{alike};
+ghost use Rattle.page_separator.specs.Words.{homeOf};
+ghost use Rattle.page_separator.specs.Probes.{Probing, Signed, factorOf, signatureOf};
+use crate::words::home_of;
+use crate::words::number_of;
+use hashing::Parameters;
+
+// The multiplier of the signatures on the probe-th page probed.
+pub struct Factor {
+    pub probe: usize,
+    pub value: u32,
+}
+
+pub fn first_factor(table: &[u32; 63], parameters: Parameters) -> Factor
+    requires { ⌜ Signers parameters (now table) ⌝ }
+    ensures { λ r. ⌜ r ≡ factorOf parameters 1 ⌝ }
+{
+    Factor {
+        probe: 1,
+        value: generator::probe_multiplier(table, parameters.multiplier, 1),
+    }
+}
+
+// Words of one home mostly come one after the other, so that the last one's factor is the next one's.
+pub fn factor_for(
+    table: &[u32; 63],
+    parameters: Parameters,
+    last: Factor,
+    page: usize,
+    word: u64,
+) -> Factor
+    requires { ⌜ Signers parameters (now table) ⌝ }
+    requires { ⌜ last ≡ factorOf parameters (last .probe) ⌝ }
+    requires { ⌜ (homeOf word ≤ page) × (page < 1024) ⌝ }
+    ensures { λ r. ⌜ r ≡ factorOf parameters (page - homeOf word + 1) ⌝ }
+{
+    let probe = page - home_of(word) as usize + 1;
+    if probe == last.probe {
+        return last;
+    }
+    Factor {
+        probe,
+        value: generator::probe_multiplier(table, parameters.multiplier, probe),
+    }
+}
+
+pub fn signature_of(parameters: Parameters, factor: Factor, page: usize, word: u64) -> u32
+    requires { ⌜ validParameters parameters ≡ true ⌝ }
+    requires { ⌜ factor ≡ factorOf parameters (page - homeOf word + 1) ⌝ }
+    ensures { λ r. ⌜ r ≡ signatureOf parameters page word ⌝ }
+{
+    generator::signature_by(factor.value, parameters.bits, number_of(word))
+}
+
+// How many words have each signature; those of the last 256 words are kept.
+pub fn tally_signatures(
+    table: &[u32; 63],
+    parameters: Parameters,
+    waiting: &[u64],
+    from: usize,
+    reach: usize,
+    page: usize,
+    counts: &mut [u16; 256],
+    signatures: &mut [u8; 256],
+)
+    requires { ⌜ Signers parameters (now table) ⌝ }
+    requires { ⌜ Probing page from reach (now waiting) ⌝ }
+    requires { ⌜ (length (now counts) ≡ 256) × ((v : ℕ) → v < 256 → getD (now counts) v 0 ≡ 0) ⌝ }
+    requires { ⌜ length (now signatures) ≡ 256 ⌝ }
+    ensures { λ _. ⌜ length (now (counts .exit)) ≡ 256 ⌝ }
+    ensures { λ _. ⌜ ((v : ℕ) → v < 256 → getD (now (counts .exit)) v 0 ≡ length (alike (signatureOf parameters page) v (slice from reach (now (waiting .entry))))) ⌝ }
+    ensures { λ _. ⌜ Signed parameters page from reach (now (waiting .entry)) (now (signatures .exit)) ⌝ }
+{
+    let mut factor = first_factor(table, parameters);
+    let mut i = from;
+    while i < reach {
+        let word = waiting[i];
+        factor = factor_for(table, parameters, factor, page, word);
+        let signature = signature_of(parameters, factor, page, word);
+        counts[signature as usize] += 1;
+        signatures[i % 256] = signature as u8;
+        i += 1;
+    }
+}
+
+// The signature that is kept of word i.
+pub fn signature_kept(
+    parameters: Parameters,
+    signatures: &[u8; 256],
+    page: usize,
+    i: usize,
+    word: u64,
+) -> u32
+    requires { ⌜ validParameters parameters ≡ true ⌝ }
+    requires { ⌜ getD (now signatures) (i % 256) 0 ≡ signatureOf parameters page word ⌝ }
+    ensures { λ r. ⌜ r ≡ signatureOf parameters page word ⌝ }
+{
+    signatures[i % 256] as u32
+}

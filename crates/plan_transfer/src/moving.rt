@@ -1,0 +1,206 @@
+// Applying a plan: what the sources name is fetched through the pool, and the stretch is copied back to the file.
+ghost use mathlib.Core.Path.{_≡_};
+ghost use mathlib.Core.List.{map};
+ghost use Prim.Native.Nat.{_+_, _*_, _≤_};
+ghost use lib.ListN.{length, take, drop, replicate};
+ghost use lib.Seq.{paste};
+ghost use Rattle.pages.specs.Page.{stretch};
+ghost use Rattle.buffers.specs.Lists.{written};
+ghost use Rattle.plan_transfer.specs.Sources.{namedItem};
+
+fn word_named(words: &[u64], source: u32, newword: u64) -> u64
+    ensures { λ r. ⌜ r ≡ namedItem (now (words .entry)) newword source ⌝ }
+{
+    if source == 0 {
+        return 0;
+    }
+    let item = source as usize - 1;
+    if item < words.len() {
+        return words[item];
+    }
+    newword
+}
+
+fn number_named(numbers: &[u32], source: u32, newnumber: u32) -> u32
+    ensures { λ r. ⌜ r ≡ namedItem (now (numbers .entry)) newnumber source ⌝ }
+{
+    if source == 0 {
+        return 0;
+    }
+    let item = source as usize - 1;
+    if item < numbers.len() {
+        return numbers[item];
+    }
+    newnumber
+}
+
+fn owner_named(owners: &[u8], source: u32, newowner: u8) -> u8
+    ensures { λ r. ⌜ r ≡ namedItem (now (owners .entry)) newowner source ⌝ }
+{
+    if source == 0 {
+        return 0;
+    }
+    let item = source as usize - 1;
+    if item < owners.len() {
+        return owners[item];
+    }
+    newowner
+}
+
+fn fetch_words(
+    words: &[u64],
+    pool: &[u32],
+    waiting: &mut [u64],
+    at: usize,
+    items: usize,
+    newword: u64,
+)
+    requires { ⌜ at + items ≤ length (now pool) ⌝ }
+    requires { ⌜ at + items ≤ length (now waiting) ⌝ }
+    ensures { λ _. ⌜ now (waiting .exit) ≡ paste (now (waiting .entry)) at (map (namedItem (now (words .entry)) newword) (drop at (now (pool .entry)))) items ⌝ }
+{
+    let mut i = 0;
+    while i < items {
+        waiting[at + i] = word_named(words, pool[at + i], newword);
+        i += 1;
+    }
+}
+
+fn fetch_owners(
+    owners: &[u8],
+    pool: &[u32],
+    poolowners: &mut [u8],
+    at: usize,
+    items: usize,
+    newowner: u8,
+)
+    requires { ⌜ at + items ≤ length (now pool) ⌝ }
+    requires { ⌜ at + items ≤ length (now poolowners) ⌝ }
+    ensures { λ _. ⌜ now (poolowners .exit) ≡ paste (now (poolowners .entry)) at (map (namedItem (now (owners .entry)) newowner) (drop at (now (pool .entry)))) items ⌝ }
+{
+    let mut i = 0;
+    while i < items {
+        poolowners[at + i] = owner_named(owners, pool[at + i], newowner);
+        i += 1;
+    }
+}
+
+fn fetch_numbers(numbers: &[u32], pool: &mut [u32], at: usize, items: usize, newnumber: u32)
+    requires { ⌜ at + items ≤ length (now pool) ⌝ }
+    ensures { λ _. ⌜ now (pool .exit) ≡ paste (now (pool .entry)) at (map (namedItem (now (numbers .entry)) newnumber) (drop at (now (pool .entry)))) items ⌝ }
+{
+    let mut i = 0;
+    while i < items {
+        pool[at + i] = number_named(numbers, pool[at + i], newnumber);
+        i += 1;
+    }
+}
+
+// Words and owners first: the sources stand where the numbers go.
+pub fn fetch(
+    numbers: &[u32],
+    words: &[u64],
+    owners: &[u8],
+    pool: &mut [u32],
+    waiting: &mut [u64],
+    poolowners: &mut [u8],
+    at: usize,
+    items: usize,
+    newnumber: u32,
+    newword: u64,
+    newowner: u8,
+)
+    requires { ⌜ at + items ≤ length (now pool) ⌝ }
+    requires { ⌜ at + items ≤ length (now waiting) ⌝ }
+    requires { ⌜ at + items ≤ length (now poolowners) ⌝ }
+    ensures { λ _. ⌜ now (pool .exit) ≡ paste (now (pool .entry)) at (map (namedItem (now (numbers .entry)) newnumber) (drop at (now (pool .entry)))) items ⌝ }
+    ensures { λ _. ⌜ now (waiting .exit) ≡ paste (now (waiting .entry)) at (map (namedItem (now (words .entry)) newword) (drop at (now (pool .entry)))) items ⌝ }
+    ensures { λ _. ⌜ now (poolowners .exit) ≡ paste (now (poolowners .entry)) at (map (namedItem (now (owners .entry)) newowner) (drop at (now (pool .entry)))) items ⌝ }
+{
+    fetch_words(words, pool, waiting, at, items, newword);
+    fetch_owners(owners, pool, poolowners, at, items, newowner);
+    fetch_numbers(numbers, pool, at, items, newnumber);
+}
+
+fn put_back(
+    numbers: &mut [u32],
+    words: &mut [u64],
+    owners: &mut [u8],
+    pool: &[u32],
+    waiting: &[u64],
+    poolowners: &[u8],
+    at: usize,
+    items: usize,
+)
+    requires { ⌜ at + items ≤ length (now numbers) ⌝ }
+    requires { ⌜ at + items ≤ length (now words) ⌝ }
+    requires { ⌜ at + items ≤ length (now owners) ⌝ }
+    requires { ⌜ at + items ≤ length (now pool) ⌝ }
+    requires { ⌜ at + items ≤ length (now waiting) ⌝ }
+    requires { ⌜ at + items ≤ length (now poolowners) ⌝ }
+    ensures { λ _. ⌜ now (numbers .exit) ≡ paste (now (numbers .entry)) at (drop at (now (pool .entry))) items ⌝ }
+    ensures { λ _. ⌜ now (words .exit) ≡ paste (now (words .entry)) at (drop at (now (waiting .entry))) items ⌝ }
+    ensures { λ _. ⌜ now (owners .exit) ≡ paste (now (owners .entry)) at (drop at (now (poolowners .entry))) items ⌝ }
+{
+    buffers::copy_64(words, at, waiting, at, items);
+    buffers::copy_32(numbers, at, pool, at, items);
+    buffers::copy_8(owners, at, poolowners, at, items);
+}
+
+// The stretch of `count` pages from page lo becomes what the planned sources and separators say. The pool stays behind it.
+pub fn apply(
+    separators: &mut [u8],
+    numbers: &mut [u32],
+    words: &mut [u64],
+    owners: &mut [u8],
+    pool: &mut [u32],
+    waiting: &mut [u64],
+    poolowners: &mut [u8],
+    planned: &[u8],
+    places: usize,
+    lo: usize,
+    count: usize,
+    newnumber: u32,
+    newword: u64,
+    newowner: u8,
+)
+    requires { ⌜ (places ≤ 32) × (lo + count ≤ 1024) ⌝ }
+    requires { ⌜ (lo + count ≤ length (now separators)) × (lo + count ≤ length (now planned)) ⌝ }
+    requires { ⌜ ((lo + count) * places ≤ length (now numbers)) × ((lo + count) * places ≤ length (now words)) ⌝ }
+    requires { ⌜ ((lo + count) * places ≤ length (now pool)) × ((lo + count) * places ≤ length (now waiting)) ⌝ }
+    requires { ⌜ ((lo + count) * places ≤ length (now owners)) × ((lo + count) * places ≤ length (now poolowners)) ⌝ }
+    ensures { λ _. ⌜ now (separators .exit) ≡ written lo (take count (drop lo (now (planned .entry)))) (now (separators .entry)) ⌝ }
+    ensures { λ _. ⌜ now (numbers .exit) ≡ written (lo * places) (map (namedItem (now (numbers .entry)) newnumber) (stretch places lo count (now (pool .entry)))) (now (numbers .entry)) ⌝ }
+    ensures { λ _. ⌜ now (words .exit) ≡ written (lo * places) (map (namedItem (now (words .entry)) newword) (stretch places lo count (now (pool .entry)))) (now (words .entry)) ⌝ }
+    ensures { λ _. ⌜ now (owners .exit) ≡ written (lo * places) (map (namedItem (now (owners .entry)) newowner) (stretch places lo count (now (pool .entry)))) (now (owners .entry)) ⌝ }
+    ensures { λ _. ⌜ drop ((lo + count) * places) (now (pool .exit)) ≡ drop ((lo + count) * places) (now (pool .entry)) ⌝ }
+{
+    let at = lo * places;
+    let items = count * places;
+    fetch(
+        numbers,
+        words,
+        owners,
+        pool,
+        waiting,
+        poolowners,
+        at,
+        items,
+        newnumber,
+        newword,
+        newowner,
+    );
+    put_back(numbers, words, owners, pool, waiting, poolowners, at, items);
+    buffers::copy_8(separators, lo, planned, lo, count);
+}
+
+// Zeros in all three lists: the pool after a call that used it, and the places of an empty file.
+pub fn clear(pool: &mut [u32], waiting: &mut [u64], poolowners: &mut [u8])
+    ensures { λ _. ⌜ now (pool .exit) ≡ replicate (length (now (pool .entry))) 0 ⌝ }
+    ensures { λ _. ⌜ now (waiting .exit) ≡ replicate (length (now (waiting .entry))) 0 ⌝ }
+    ensures { λ _. ⌜ now (poolowners .exit) ≡ replicate (length (now (poolowners .entry))) 0 ⌝ }
+{
+    buffers::fill_32(pool, 0);
+    buffers::fill_64(waiting, 0);
+    buffers::fill_8(poolowners, 0);
+}

@@ -1,0 +1,44 @@
+-- What a removal makes of sound pages: document 01, "The cut" and "Where each refusal is met".
+use mathlib.Core.Path.{_≡_}
+use mathlib.Core.Bool.{true, cond}
+use Prim.Native.Nat.{ℕ, _+_}
+use lib.Dec.{ltb}
+use Rattle.hashing.specs.declared.Parameters.{Parameters}
+use Rattle.hashing.specs.declared.Growth.{Growth}
+use Rattle.pages.specs.Page.{part, heldAt}
+use Rattle.placement.specs.Rule.{pages, without}
+use Rattle.placement.specs.File.{File, gathered, replaced}
+use Rattle.placement.specs.Hash.{hashOf, soundAt, namedPage}
+use Rattle.reach.specs.Reach.{pagesTo, removalEnd, firstUnsound}
+use Rattle.page_plan.specs.declared.outcome.Outcome.{Outcome}
+use Rattle.page_plan.specs.declared.outcome.Outcome.the-variants.{On, Unsound}
+
+-- the page that the separators name for k is sound and holds it
+pub record Held (p : Parameters) (g : Growth) (f : File) (k : ℕ) : Type 0 where
+  pub sound : soundAt p g f (namedPage p g (f .separators) k) ≡ true
+  pub present : heldAt k (part (p .places) (namedPage p g (f .separators) k) (f .numbers)) ≡ true
+
+-- "The reach of a removal": its first page, how many pages it has, and the first unsound one of them
+abbrev pub removalStart : Parameters → Growth → ℕ → ℕ
+removalStart p g k = hashOf p g .home k
+
+abbrev pub removalCount : Parameters → Growth → File → ℕ → ℕ
+removalCount p g f k = pagesTo (removalStart p g k) (removalEnd (hashOf p g) (p .pages) f (removalStart p g k))
+
+abbrev pub removalUnsound : Parameters → Growth → File → ℕ → ℕ
+removalUnsound p g f k = firstUnsound p g f (removalStart p g k) (removalCount p g f k)
+
+-- one thing if a page of the reach is unsound, another if not
+abbrev pub byRemovalReach : {A : Type 0} → Parameters → Growth → File → ℕ → A → A → A
+byRemovalReach p g f k unsound removes = cond (ltb (removalUnsound p g f k) (removalStart p g k + removalCount p g f k)) unsound removes
+
+-- accepted, the answer is the page given
+unfoldable pub removalAnswer : Parameters → Growth → File → ℕ → ℕ → Outcome
+removalAnswer p g f k page = byRemovalReach p g f k (Unsound (removalUnsound p g f k)) (On page)
+
+-- "The rule is then applied to the reach .. Other pages stay."
+unfoldable pub removalFile : Parameters → Growth → File → ℕ → File
+removalFile p g f k =
+    byRemovalReach p g f k f
+    (replaced (p .places) f (removalStart p g k)
+    (pages (hashOf p g) (removalStart p g k) (removalCount p g f k) (without k (gathered (p .places) f (removalStart p g k) (removalCount p g f k)))))

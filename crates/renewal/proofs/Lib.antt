@@ -1,4 +1,0 @@
-pub mod Joining
-pub mod Alike
-pub mod Block
-pub mod Renewed

@@ -1,2 +1,0 @@
-pub mod PlannedGrowth
-pub mod Stepped
