@@ -1,4 +1,18 @@
-.PHONY: test run try bench report damage spread untouched stack soak
+.PHONY: help test run try bench report damage spread untouched stack soak clean
+
+# What can be made, and how long it takes. "Proving first": what the target needs is proved where it has changed, up to 10 minutes on two cores.
+help:
+	@echo "make try        starline's example without a proof: seconds"
+	@echo "make run        starline proved, built and run: 8 minutes the first time, then at once"
+	@echo "make test       every test from nothing, target/ removed first: 20 to 35 minutes; ends with 'N passed, 0 failed'"
+	@echo "make bench      times of the calls: a minute, proving first (OLD=lib.a: an older library beside them)"
+	@echo "make report     pages read and written for each star entered, beside the report's Table 1: 2 minutes, proving first"
+	@echo "make damage     which single wrong bits are noticed, and by what: half a minute, proving first"
+	@echo "make spread     which star numbers spread well, and how full a file gets: 3 minutes, proving first"
+	@echo "make untouched  how many pages a growth leaves untouched: 20 seconds, proving first"
+	@echo "make stack      the stack that each call from C needs, and the size of the code: seconds, proving first"
+	@echo "make soak       random histories for as long as you like, proving first"
+	@echo "make clean      remove everything that was made"
 
 # Every test; ends with 'N passed, 0 failed'.
 test:
@@ -38,3 +52,6 @@ stack:
 
 soak:
 	@tests/soak
+
+clean:
+	rm -rf target
