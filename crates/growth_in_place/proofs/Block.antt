@@ -27,7 +27,7 @@ use Rattle.removal_reach.specs.Stretch.{StretchReady, restretched}
 use Rattle.removal_reach.proofs.Items.{real-sound, all-numbered, numbers-below, homes-below, plannable-stretch, ready-stretch}
 use Rattle.removal_reach.proofs.Ruled.{restretched-is}
 use Rattle.growth_in_place.specs.Blocks.{SoundBlock}
-use Rattle.growth_in_place.proofs.Joining.{nothing-left}
+use Rattle.growth_in_place.proofs.JoinedBlocks.{nothing-left}
 use Rattle.growth_in_place.proofs.Alike.{gathered-alike, separator-alike, raisable-alike, replaced-still, part-within, map-part, ruled-alone}
 
 module _ (g : Geometry) (lo n : ℕ) (f : File) (pool waiting poolowners : List ℕ) (B : SoundBlock g lo n f pool waiting poolowners) where

@@ -5,7 +5,7 @@ pub mod Step
 pub mod OnPage
 pub mod Whole
 pub mod Walk
-pub mod Joining
+pub mod JoinedBlocks
 pub mod Alike
 pub mod Block
 pub mod Renewed

@@ -28,7 +28,7 @@ use Rattle.reach.specs.Reach.{firstSuch, firstUnsound, storedTop, allStars}
 use Rattle.reach.proofs.Search.{Such, such}
 use Rattle.removal_reach.proofs.Items.{all-sound, real-sound}
 use Rattle.growth_in_place.specs.Blocks.{Placeable, AlikeFrom, SoundBlock}
-use Rattle.growth_in_place.proofs.Joining.{Starts, nothing-left, pages-joined}
+use Rattle.growth_in_place.proofs.JoinedBlocks.{Starts, nothing-left, pages-joined}
 use Rattle.growth_in_place.proofs.Alike.{gathered-alike, separator-alike, replaced-alike}
 
 -- a file of sound pages
