@@ -1,4 +1,4 @@
-.PHONY: test run try bench report damage spread untouched stack soak
+.PHONY: test run try bench report neighbours damage spread untouched stack soak
 
 # Every test; ends with 'N passed, 0 failed'.
 test:
@@ -19,6 +19,10 @@ bench:
 # Pages read and written for each star entered by a cascade, beside the figures of the report's Table 1.
 report:
 	@bench/report
+
+# Other methods of dynamic hashing beside the library, on the same stars.
+neighbours:
+	@bench/neighbours
 
 # Which single wrong bits are noticed, and by what.
 damage:
