@@ -153,7 +153,7 @@ impl Figures {
             let Some(entered) = method.enter(star) else { return false };
             if i >= half {
                 self.count(entered, i >= stars.len() - half / 10);
-                if (i - half) % (half / LOOKS) == 0 {
+                if (i - half).is_multiple_of(half / LOOKS) {
                     self.look(method, &stars[..=i], others, random);
                 }
             }
@@ -307,6 +307,7 @@ fn main() {
     for kind in KINDS {
         let row = |method| progress.measure(method, LOAD, kind, FILES[0]);
         let rows: Vec<Figures> = METHODS.iter().map(row).collect();
+        assert!(rows.iter().all(Figures::all_taken), "every file takes all stars");
         println!(
             "Star numbers: {}. Pages of {PLACES} places, load {} % where it is set, {} files.\n",
             kind.0, LOAD.0, FILES[0]

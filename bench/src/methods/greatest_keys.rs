@@ -14,7 +14,7 @@ pub struct GreatestKeys {
 impl GreatestKeys {
     /// The number of pages is a prime, so that each probe sequence visits them all.
     pub fn new(places: usize, pages: usize) -> GreatestKeys {
-        assert!(pages > 2 && (2..pages).all(|divisor| pages % divisor != 0), "a prime number of pages");
+        assert!(pages > 2 && (2..pages).all(|divisor| !pages.is_multiple_of(divisor)), "a prime number of pages");
         GreatestKeys { places, greatest: vec![0; pages], pages: vec![Vec::new(); pages], stars: 0 }
     }
 
@@ -82,5 +82,31 @@ impl Method for GreatestKeys {
 
     fn directory(&self) -> usize {
         size_of::<u32>() * self.greatest.len()
+    }
+}
+
+#[cfg(test)]
+mod tests {
+    use super::*;
+    use model::random::Random;
+
+    /// The notes' claim, and why: what a probe passes by on its way to its page is full of lesser keys.
+    #[test]
+    fn one_access() {
+        let (mut file, mut random, mut held) = (GreatestKeys::new(10, 101), Random(1), Vec::new());
+        while held.len() < 1_000 {
+            let star = random.star_number();
+            if !file.look_up(star).found {
+                file.enter(star);
+                held.push(star);
+            }
+        }
+        for &star in &held {
+            assert_eq!(file.look_up(star), Sought { found: true, read: 1 });
+            let probes = (1..).map(|i| file.probed(star, i));
+            let mut passed = probes.take_while(|&page| !file.pages[page].contains(&star));
+            assert!(passed.all(|page| file.is_full(page) && file.greatest[page] < star));
+        }
+        assert!((0..10_000).all(|_| file.look_up(random.star_number()).read <= 1));
     }
 }
