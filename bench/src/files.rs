@@ -11,6 +11,17 @@ pub const SIZES: [[u32; 7]; 3] = [[8, 8, 2, 5, 8, 80, 64], [16, 8, 2, 5, 8, 80, 
 /// The same largest file, in which growth has one group and one page to begin with.
 pub const ONE_HOME: [u32; 7] = [32, 1, 1, 1, 8, 80, 1_024];
 
+/// A kind of star numbers: its name, and the i-th number from a beginning on.
+pub type Numbering = (&'static str, fn(u32, u32, &mut Random) -> u32);
+
+pub const CONSECUTIVE: Numbering = ("consecutive", |first, i, _| first + i);
+pub const EVEN: Numbering = ("even", |first, i, _| 2 * (first + i));
+pub const RANDOM: Numbering = ("random", |_, _, random| random.star_number());
+/// Catalogue-like.
+pub const ZONES: Numbering = ("zone·10^4 + 1 to 97", |first, i, _| (first % 10_000 + i / 97) * 10_000 + 1 + i % 97);
+pub const ZONES_IN_TURN: Numbering =
+    ("180 zones·10^6 + n", |first, i, _| (1 + i % 180) * 1_000_000 + first % 900_000 + i / 180);
+
 #[derive(Clone, Debug, PartialEq, Eq)]
 pub struct File {
     pub parameters: [u32; 7],

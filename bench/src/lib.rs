@@ -4,6 +4,7 @@
 mod base;
 pub mod files;
 pub mod floors;
+pub mod methods;
 mod present;
 pub mod procedures;
 pub mod timing;

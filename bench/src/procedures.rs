@@ -11,6 +11,19 @@ pub struct Accesses {
     pub written: usize,
 }
 
+impl Accesses {
+    pub fn total(&self) -> usize {
+        self.read + self.written
+    }
+}
+
+impl std::ops::AddAssign for Accesses {
+    fn add_assign(&mut self, other: Accesses) {
+        self.read += other.read;
+        self.written += other.written;
+    }
+}
+
 /// What a full page does.
 #[derive(Clone, Copy, PartialEq, Eq)]
 pub enum Cut {

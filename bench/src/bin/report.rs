@@ -2,9 +2,10 @@
 //! length. Beside its figures stand those of the library's cascading entry and growth, counted as the report counts, and
 //! those of the report's own procedures. Prints a plain table and two plots.
 
+use bench::methods::separators::Separators;
+use bench::methods::Method;
 use bench::procedures::{Accesses, Cut, Procedures};
 use model::hashing::highest_address;
-use model::placement::entered_stretch;
 use model::random::Random;
 use model::session::Session;
 use model::{Growth, Kind, Parameters};
@@ -69,57 +70,23 @@ impl Costs {
 
 const PLACES: usize = 20;
 
-/// What stands on a page.
-fn stars(numbers: &[u32], page: usize) -> &[u32] {
-    let numbers = &numbers[page * PLACES..][..PLACES];
-    &numbers[..numbers.iter().take_while(|&&number| number != 0).count()]
-}
-
-/// Enters a star by a cascade: how many pages it visits, and how many of them hold other stars after it.
-fn enter(session: &mut Session, number: u32) -> (usize, usize) {
-    let named = session.look_up(number).page as usize;
-    let before = session.lent.file.numbers.clone();
-    assert_eq!(session.cascade(number).refusal, 0, "a star is entered");
-    let after = &session.lent.file.numbers;
-    let visited = entered_stretch(PLACES, named, &before, after, |_| true);
-    let changed = visited.clone().filter(|&page| stars(&before, page) != stars(after, page)).count();
-    (visited.count(), changed)
-}
-
-/// Whether the procedures have left the library's file.
-fn same_file(session: &Session, procedures: &Procedures) -> bool {
-    let page =
-        |page: usize| (session.lent.file.separators[page].into(), stars(&session.lent.file.numbers, page).to_vec());
-    (0..session.lent.file.separators.len()).all(|number| page(number) == procedures.page(number))
-}
-
 /// The stars entered over a full expansion, from the first growth on.
 fn over_expansion(mut list: Vec<Entered>) -> Vec<Entered> {
     let first = list.iter().position(|entered| entered.expansion != Accesses::default()).unwrap();
     list.split_off(first)
 }
 
-/// The procedures run beside the library, with section 2's cut: they read and write the pages that its cascades visit, and
-/// leave the same file, so that what they read and write for an expansion is told of its growth.
 fn by_library(step: u32, random: &mut Random) -> Vec<Entered> {
-    let mut session = Session::with(interface::run, parameters(step));
-    let mut procedures = Procedures::new(parameters(step), Cut::SectionTwo);
+    let mut file = Separators::new(parameters(step));
     let mut list = Vec::new();
-    while session.record.growth != FULL {
+    while file.session.record.growth != FULL {
         let number = random.star_number();
-        if !procedures.insert(number) {
+        if file.session.look_up(number).found == 1 {
             continue;
         }
-        let addressed = highest_address(&session.parameters, &session.record.growth) + 1;
-        let (visited, changed) = enter(&mut session, number);
-        let insertion = take(&mut procedures.accesses);
-        assert_eq!(insertion, Accesses { read: visited, written: visited }, "the procedures visit the same pages");
-        if session.due().due == 1 {
-            assert_eq!(session.grow().refusal, 0, "a growth that is due has room");
-            procedures.expand();
-            assert!(same_file(&session, &procedures), "the procedures leave the same file");
-        }
-        list.push(Entered { addressed, insertion, changed, expansion: take(&mut procedures.accesses) });
+        let addressed = highest_address(&file.session.parameters, &file.session.record.growth) + 1;
+        let costs = file.enter(number).expect("a star is entered, and a growth that is due has room");
+        list.push(Entered { addressed, insertion: costs.entry, changed: file.changed, expansion: costs.growth });
     }
     over_expansion(list)
 }
@@ -161,29 +128,26 @@ fn pages_met(session: &Session, kind: Kind, number: u32) -> usize {
 /// In a file as it is loaded: whether each of some look-ups meets damage on one page, and each of some cascades on as many as
 /// were counted.
 fn print_pages_met(random: &mut Random) {
-    let mut session = Session::with(interface::run, parameters(5));
+    let mut file = Separators::new(parameters(5));
     let (mut held, mut look_ups, mut cascades) = (Vec::new(), 0, 0);
-    while session.record.growth != FULL {
+    while file.session.record.growth != FULL {
         let number = random.star_number();
-        if session.look_up(number).found == 1 {
+        if file.session.look_up(number).found == 1 {
             continue;
         }
         held.push(number);
         let sampled = random.once_in(100);
         if sampled {
             for number in [number, held[0], random.pick(&held)] {
-                assert_eq!(pages_met(&session, Kind::LookUp, number), 1, "a look-up reads one page");
+                assert_eq!(pages_met(&file.session, Kind::LookUp, number), 1, "a look-up reads one page");
                 look_ups += 1;
             }
         }
-        let met = sampled.then(|| pages_met(&session, Kind::Cascade, number));
-        let (visited, _) = enter(&mut session, number);
+        let met = sampled.then(|| pages_met(&file.session, Kind::Cascade, number));
+        let visited = file.enter(number).expect("a star is entered").entry.read;
         if let Some(met) = met {
             assert_eq!(met, visited, "a cascade reads the pages that are counted");
             cascades += 1;
-        }
-        if session.due().due == 1 {
-            assert_eq!(session.grow().refusal, 0);
         }
     }
     println!("Each of {look_ups} look-ups met damage on exactly 1 page, each of {cascades} cascades on as many as were counted.");

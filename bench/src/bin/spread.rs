@@ -1,21 +1,12 @@
 //! How star numbers of several kinds spread over the pages of a file that grows as Due says, up to M pages or a few less,
 //! and then fills until a call is refused with 8. Prints a plain table.
 
-use bench::files::{File, SIZES};
+use bench::files::{File, Numbering, CONSECUTIVE, EVEN, RANDOM, SIZES, ZONES, ZONES_IN_TURN};
 use bench::floors::Homes;
 use bench::libraries;
 use model::random::Random;
 
-/// A kind of star numbers: its name, and the i-th number from a beginning on.
-type Kind = (&'static str, fn(u32, u32, &mut Random) -> u32);
-
-const KINDS: [Kind; 5] = [
-    ("consecutive", |first, i, _| first + i),
-    ("even", |first, i, _| 2 * (first + i)),
-    ("random", |_, _, random| random.star_number()),
-    ("zone·10^4 + 1 to 97", |first, i, _| (first % 10_000 + i / 97) * 10_000 + 1 + i % 97),
-    ("180 zones·10^6 + n", |first, i, _| (1 + i % 180) * 1_000_000 + first % 900_000 + i / 180),
-];
+const KINDS: [Numbering; 5] = [CONSECUTIVE, EVEN, RANDOM, ZONES, ZONES_IN_TURN];
 
 /// How many beginnings are tried at each size.
 const TRIES: [usize; 3] = [25, 9, 3];
@@ -42,7 +33,7 @@ fn spread(file: &File) -> Spread {
 
 /// Fills a file whose growth ends `short` pages before M. Gives the file after the last growth and at the refusal with 8,
 /// and whether it was a growth that was refused.
-fn fill(parameters: [u32; 7], short: usize, kind: Kind, random: &mut Random) -> (File, File, bool) {
+fn fill(parameters: [u32; 7], short: usize, kind: Numbering, random: &mut Random) -> (File, File, bool) {
     let mut state = File::empty(parameters);
     let mut library = libraries(&state).remove(0);
     let last = state.pages() - short;
@@ -69,7 +60,7 @@ fn fill(parameters: [u32; 7], short: usize, kind: Kind, random: &mut Random) -> 
     unreachable!()
 }
 
-fn row(parameters: [u32; 7], short: usize, kind: Kind, tries: usize) {
+fn row(parameters: [u32; 7], short: usize, kind: Numbering, tries: usize) {
     let mut random = Random(1);
     let files: Vec<_> = (0..tries).map(|_| fill(parameters, short, kind, &mut random)).collect();
     let grown: Vec<Spread> = files.iter().map(|file| spread(&file.0)).collect();
