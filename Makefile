@@ -1,4 +1,4 @@
-.PHONY: test run try bench report damage spread untouched stack soak
+.PHONY: test run try bench report damage spread untouched stack soak library install uninstall
 
 # Every test; ends with 'N passed, 0 failed'.
 test:
@@ -38,3 +38,14 @@ stack:
 
 soak:
 	@tests/soak
+
+# The library for C, static and shared, proved and built where its sources changed.
+library:
+	@tools/shared
+
+# Library, header, program, man pages and examples below DESTDIR and PREFIX (/usr/local).
+install:
+	@PREFIX=$(PREFIX) DESTDIR=$(DESTDIR) tools/install
+
+uninstall:
+	@PREFIX=$(PREFIX) DESTDIR=$(DESTDIR) tools/install --remove
