@@ -95,7 +95,7 @@ static void measure(enum call call, uint32_t number)
 static void entries(void)
 {
     for (uint32_t number = 1; number <= STARS; number++) {
-        measure(number % 4 ? ENTER : CASCADE, number);
+        measure(ENTER, number);
         measure(LOOK_UP, 1 + number * 7 % STARS);
         if (number % 3 == 0)
             measure(REMOVE, 1 + number * 5 % STARS);
@@ -104,6 +104,9 @@ static void entries(void)
         if (number % 1000 == 0)
             fprintf(stderr, "%u of %d stars entered\n", (unsigned)number, STARS);
     }
+    /* those removed come back */
+    for (uint32_t number = 1; number <= STARS; number++)
+        measure(CASCADE, number);
     for (enum call call = STATE_FOR; call <= REMOVE; call++)
         measure(call, 0);
 }

@@ -14,7 +14,7 @@
  *     pool_words      M * b words, with any contents
  *     pool_owners     M * b owners, with any contents
  *
- * Place i of page p is item p * b + i. The largest file, M = 1024 and b = 32, has 426 kB and a pool of as much.
+ * Place i of page p is item p * b + i. The largest file, M = 1024 and b = 32, has 427 kB and a pool of as much.
  *
  * Each buffer is passed as a pointer to its first item and its length in items. The pointer is aligned for its type, that many
  * items can be read there and, where it is no pointer to const, written. No two buffers of a call overlap. With length 0 the
@@ -816,7 +816,7 @@ enum heatherplane_image_refusal {
     HEATHERPLANE_IMAGE_BAD_MAGIC = 2,   /* not an image, or one that was changed as if it were text */
     HEATHERPLANE_IMAGE_BAD_VERSION = 3, /* an image of another version, or with flags that this one does not know */
     HEATHERPLANE_IMAGE_BAD_CRC = 4,     /* something of it was altered */
-    HEATHERPLANE_IMAGE_UNALIGNED = 5,   /* its address, or that of the lent separators, does not fit */
+    HEATHERPLANE_IMAGE_UNALIGNED = 5,   /* its address is no multiple of 8 */
     HEATHERPLANE_IMAGE_TORN = 6         /* its pages were being written, or it has no separators: see heatherplane_image_file */
 };
 
