@@ -165,7 +165,8 @@ HEATHERPLANE_NODISCARD struct heatherplane_reply heatherplane_make(
  * else the last one that pages allows. An empty file may be used with it at once.
  *
  * Refused: BAD_PARAMETERS.
- * Accepted: growth is the state, with none open; due tells that even the last state has too few pages for the load; stars is the number given.
+ * Accepted: growth is the state, with none open; due tells that even the last state has too few pages for the load; stars is the
+ * number given.
  * Threads: touches no memory of the caller. */
 HEATHERPLANE_NODISCARD struct heatherplane_reply heatherplane_state_for(
     uint32_t places, uint32_t groups, uint32_t width, uint32_t step, uint32_t bits, uint32_t load, uint32_t pages,
