@@ -1,4 +1,4 @@
-.PHONY: help test run try bench report damage spread untouched neighbours stack soak clean
+.PHONY: help test run try bench report damage spread untouched neighbours stack soak library install uninstall clean
 
 # What can be made, and how long it takes. "Proving first": what the target needs is proved where it has changed, up to 10 minutes on two cores.
 help:
@@ -13,6 +13,8 @@ help:
 	@echo "make neighbours the other methods of the source documents on the same stars: a minute or two, proving first"
 	@echo "make stack      the stack that each call from C needs, and the size of the code: seconds, proving first"
 	@echo "make soak       random histories for as long as you like, proving first"
+	@echo "make library    the library for C, static and shared: seconds, proving first"
+	@echo "make install    library, header, starline, manual and examples below PREFIX (/usr/local); make uninstall removes them"
 	@echo "make clean      remove everything that was made"
 
 # Every test; ends with 'N passed, 0 failed'.
@@ -57,6 +59,17 @@ stack:
 
 soak:
 	@tests/soak
+
+# The library for C, static and shared, proved and built where its sources changed.
+library:
+	@tools/shared
+
+# Library, header, program, man pages and examples below DESTDIR and PREFIX (/usr/local).
+install:
+	@PREFIX=$(PREFIX) DESTDIR=$(DESTDIR) tools/install
+
+uninstall:
+	@PREFIX=$(PREFIX) DESTDIR=$(DESTDIR) tools/install --remove
 
 clean:
 	rm -rf target

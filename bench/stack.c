@@ -1,5 +1,6 @@
 /* How much stack each call from C needs: the call runs on a thread whose stack was painted, and the paint that is left tells.
- * The calls are those of a history on the largest file, without a growth, so that entries and removals have long reaches. */
+ * The calls are those of a history on the largest file: at first without a growth, so that entries and removals have long reaches,
+ * then growths, steps and shrinkings of what has come of it. */
 #define _POSIX_C_SOURCE 200809L
 
 #include <pthread.h>
@@ -7,24 +8,44 @@
 #include <stdlib.h>
 #include <string.h>
 
-#include "starfile.h"
+#include "heatherplane.h"
 
-enum { PAGES = 1024, PLACES = 32, STARS = 4000, PAINT = 0xA5, STACK = 256 * 1024 };
+enum { PAGES = 1024, PLACES = 32, ITEMS = PAGES * PLACES, STARS = 4000, GROWTHS = 64, PAINT = 0xA5, STACK = 256 * 1024 };
 
 static _Alignas(4096) unsigned char stack[STACK];
-static uint8_t separators[PAGES];
-static uint32_t numbers[PAGES * PLACES], pool_numbers[PAGES * PLACES];
-static uint64_t words[PAGES * PLACES], pool_words[PAGES * PLACES];
-static uint8_t owners[PAGES * PLACES], pool_owners[PAGES * PLACES];
+static uint8_t separators[PAGES], second_separators[PAGES], old_separators[PAGES], marks[PAGES];
+static uint32_t numbers[ITEMS], second_numbers[ITEMS], pool_numbers[ITEMS];
+static uint64_t words[ITEMS], second_words[ITEMS], pool_words[ITEMS];
+static uint8_t owners[ITEMS], second_owners[ITEMS], pool_owners[ITEMS];
 
-static const struct heatherplane_file file = {
-    {PLACES, 2, 1, 1, 8, 80, PAGES, HEATHERPLANE_MULTIPLIER_1988}, {0, 0, 0, 0},
-    separators, PAGES, numbers, PAGES * PLACES, words, PAGES * PLACES, owners, PAGES * PLACES,
-    pool_numbers, PAGES * PLACES, pool_words, PAGES * PLACES, pool_owners, PAGES * PLACES,
+static struct heatherplane_file file, second;
+static struct heatherplane_growth before;
+
+static uint32_t nothing(uint32_t number) { (void)number; return 0; }
+static uint32_t make(uint32_t number) { (void)number; return heatherplane_make_in(&file).refusal; }
+static uint32_t state_for(uint32_t number) { struct heatherplane_file f = second; return heatherplane_make_for(&f, number).refusal; }
+static uint32_t look_up(uint32_t number) { return heatherplane_look_up_in(&file, number).refusal; }
+static uint32_t enter(uint32_t number) { return heatherplane_enter_in(&file, 0, number, 1, 0).refusal; }
+static uint32_t cascade(uint32_t number) { return heatherplane_cascade_in(&file, 0, number, 1, 0).refusal; }
+static uint32_t change(uint32_t number) { return heatherplane_change_in(&file, 0, number, 2, 0).refusal; }
+static uint32_t take_out(uint32_t number) { return heatherplane_remove_in(&file, 0, number).refusal; }
+static uint32_t due(uint32_t number) { (void)number; return heatherplane_due_in(&file).refusal; }
+static uint32_t grow(uint32_t number) { (void)number; return heatherplane_grow_in(&file).refusal; }
+static uint32_t shrink(uint32_t number) { (void)number; return heatherplane_shrink_in(&file).refusal; }
+static uint32_t check(uint32_t number) { (void)number; return heatherplane_check_in(&file).refusal; }
+static uint32_t open_growth(uint32_t number) { (void)number; return heatherplane_open_growth_in(&file, &second).refusal; }
+static uint32_t step_growth(uint32_t number) { (void)number; return heatherplane_step_growth_in(&file, &second).refusal; }
+static uint32_t mark(uint32_t number) { (void)number; return heatherplane_mark_changed_in(&file, &before, old_separators, marks); }
+
+enum call { NOTHING, MAKE, STATE_FOR, LOOK_UP, ENTER, CASCADE, CHANGE, REMOVE, DUE, GROW, SHRINK, CHECK, OPEN, STEP, MARK, CALLS };
+static const struct {
+    const char *name;
+    uint32_t (*run)(uint32_t);
+} calls[CALLS] = {
+    {"no call", nothing}, {"make", make}, {"state_for", state_for}, {"look_up", look_up}, {"enter", enter}, {"cascade", cascade},
+    {"change", change}, {"remove", take_out}, {"due", due}, {"grow", grow}, {"shrink", shrink}, {"check", check},
+    {"open_growth", open_growth}, {"step_growth", step_growth}, {"mark_changed", mark},
 };
-
-enum call { NOTHING, LOOK_UP, ENTER, REMOVE, CALLS };
-static const char *const names[CALLS] = {"no call", "look_up", "enter", "remove"};
 
 struct job {
     enum call call;
@@ -37,10 +58,7 @@ static void *run(void *argument)
 {
     struct job *job = argument;
     job->frame = __builtin_frame_address(0);
-    job->refusal = job->call == LOOK_UP  ? heatherplane_look_up_in(&file, job->number).refusal
-                   : job->call == ENTER  ? heatherplane_enter_in(&file, 0, job->number, 1, 0).refusal
-                   : job->call == REMOVE ? heatherplane_remove_in(&file, 0, job->number).refusal
-                                         : 0;
+    job->refusal = calls[job->call].run(job->number);
     return NULL;
 }
 
@@ -62,7 +80,7 @@ static size_t used(enum call call, uint32_t number, uint32_t *refusal)
     return (size_t)(job.frame - lowest);
 }
 
-static size_t greatest[CALLS], calls[CALLS], refused[CALLS];
+static size_t greatest[CALLS], made[CALLS], refused[CALLS];
 
 static void measure(enum call call, uint32_t number)
 {
@@ -70,27 +88,59 @@ static void measure(enum call call, uint32_t number)
     size_t bytes = used(call, number, &refusal);
     if (bytes > greatest[call])
         greatest[call] = bytes;
-    calls[call]++;
+    made[call]++;
     refused[call] += refusal != 0;
 }
 
-int main(void)
+static void entries(void)
 {
-    memset(separators, 255, sizeof separators);
-    measure(NOTHING, 0);
     for (uint32_t number = 1; number <= STARS; number++) {
         measure(ENTER, number);
         measure(LOOK_UP, 1 + number * 7 % STARS);
         if (number % 3 == 0)
             measure(REMOVE, 1 + number * 5 % STARS);
+        if (number % 5 == 0)
+            measure(CHANGE, 1 + number * 11 % STARS);
         if (number % 1000 == 0)
             fprintf(stderr, "%u of %d stars entered\n", (unsigned)number, STARS);
     }
-    measure(LOOK_UP, 0);
-    measure(ENTER, 0);
-    measure(REMOVE, 0);
-    printf("%-8s %14s %8s %8s\n", "call", "bytes of stack", "calls", "refused");
+    /* those removed come back */
+    for (uint32_t number = 1; number <= STARS; number++)
+        measure(CASCADE, number);
+    for (enum call call = STATE_FOR; call <= REMOVE; call++)
+        measure(call, 0);
+}
+
+static void growths(void)
+{
+    for (int growth = 0; growth < GROWTHS; growth++) {
+        measure(DUE, 0);
+        before = file.growth;
+        memcpy(old_separators, separators, PAGES);
+        measure(GROW, 0);
+        measure(MARK, 0);
+        measure(CHECK, 0);
+    }
+    for (int growth = 0; growth < GROWTHS / 2; growth++)
+        measure(SHRINK, 0);
+    measure(OPEN, 0);
+    for (int step = 0; step < GROWTHS; step++)
+        measure(STEP, 0);
+}
+
+int main(void)
+{
+    const struct heatherplane_parameters parameters = {PLACES, 2, 1, 1, 8, 80, PAGES, HEATHERPLANE_MULTIPLIER_1988};
+    const struct heatherplane_growth none = {0, 0, 0, 0};
+    file = heatherplane_file_of(parameters, none, separators, numbers, words, owners, pool_numbers, pool_words, pool_owners);
+    second = heatherplane_file_of(parameters, none, second_separators, second_numbers, second_words, second_owners, NULL, NULL, NULL);
+    measure(NOTHING, 0);
+    measure(MAKE, 0);
+    measure(STATE_FOR, STARS);
+    entries();
+    growths();
+    printf("%-12s %14s %8s %8s\n", "call", "bytes of stack", "calls", "refused");
     for (int call = 0; call < CALLS; call++)
-        printf("%-8s %14zu %8zu %8zu\n", names[call], greatest[call], calls[call], refused[call]);
+        printf("%-12s %14zu %8zu %8zu\n", calls[call].name, greatest[call], made[call], refused[call]);
     return 0;
 }

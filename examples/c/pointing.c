@@ -1,9 +1,9 @@
 /* A pointing unit in small: it lends memory to a star file, enters stars, looks them up, removes one, and prints what each call
- * answers. */
+ * answers. It is C and C++. */
 #include <inttypes.h>
 #include <stdio.h>
 
-#include "starfile.h"
+#include <heatherplane.h>
 
 enum { PLACES = 2, PAGES = 8, BITS = 8 };
 
@@ -18,28 +18,24 @@ static uint32_t pool_numbers[PAGES * PLACES];
 static uint64_t pool_words[PAGES * PLACES];
 static uint8_t pool_owners[PAGES * PLACES];
 
-/* An empty file: every separator 2^k - 1, all else 0. As this unit never grows it, the growth state addresses 7 of its 8 pages from
- * the start, 3 pages for each of 2 groups and one more, and leaves the last page to overflow; include/starfile.h says how to choose. */
-static struct heatherplane_file empty_file(enum heatherplane_multiplier multiplier)
-{
-    for (size_t page = 0; page < PAGES; page++)
-        separators[page] = (1u << BITS) - 1;
-    for (size_t item = 0; item < PAGES * PLACES; item++) {
-        numbers[item] = 0;
-        words[item] = 0;
-        owners[item] = 0;
-    }
-    const struct heatherplane_parameters parameters = {
-        .places = PLACES, .groups = 2, .width = 2, .step = 1, .bits = BITS, .load = 80, .pages = PAGES,
-        .multiplier = multiplier};
-    const struct heatherplane_growth growth = {.expansions = 1, .expanded = 1, .open = 0, .steps = 0};
-    return heatherplane_file_of(parameters, growth, separators, numbers, words, owners, pool_numbers, pool_words, pool_owners);
-}
-
 static void tell_refusal(const char *call, uint32_t number, struct heatherplane_reply reply)
 {
     printf("%s %" PRIu32 ": refused with %" PRIu32 " (%s), page %" PRIu32 "\n",
            call, number, reply.refusal, heatherplane_refusal_name(reply.refusal), reply.page);
+}
+
+/* An empty file. As this unit never grows it, it begins with a state for eleven stars, which addresses 7 of its 8 pages and leaves the
+ * last one to overflow. */
+static struct heatherplane_file empty_file(enum heatherplane_multiplier multiplier)
+{
+    const struct heatherplane_parameters parameters = {PLACES, 2, 2, 1, BITS, 80, PAGES, multiplier};
+    const struct heatherplane_growth new_file = {0, 0, 0, 0};
+    struct heatherplane_file file =
+        heatherplane_file_of(parameters, new_file, separators, numbers, words, owners, pool_numbers, pool_words, pool_owners);
+    const struct heatherplane_reply reply = heatherplane_make_for(&file, 11);
+    if (reply.refusal)
+        tell_refusal("make", 0, reply);
+    return file;
 }
 
 static void enter(const struct heatherplane_file *file, enum caller caller, uint32_t number, uint32_t ra, int32_t dec)

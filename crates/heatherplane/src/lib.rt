@@ -1,0 +1,26 @@
+// Every call for C programs, on numbers and slices. include/heatherplane.h declares them.
+// Each refuses every bad length and value itself. A contract gives the reply and every lent item at exit by the definitions of crate calls.
+mod apart;
+mod growing;
+mod opened;
+mod reading;
+mod replies;
+mod writing;
+
+pub use apart::heatherplane_mark_changed;
+pub use apart::heatherplane_state_for;
+pub use apart::heatherplane_version;
+pub use growing::heatherplane_grow;
+pub use growing::heatherplane_make;
+pub use growing::heatherplane_shrink;
+pub use opened::heatherplane_open_growth;
+pub use opened::heatherplane_step_growth;
+pub use reading::heatherplane_check;
+pub use reading::heatherplane_due;
+pub use reading::heatherplane_look_up;
+pub use replies::Growth;
+pub use replies::Reply;
+pub use writing::heatherplane_cascade;
+pub use writing::heatherplane_change;
+pub use writing::heatherplane_enter;
+pub use writing::heatherplane_remove;

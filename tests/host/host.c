@@ -1,0 +1,374 @@
+/* host [STARS [IMAGE]]: a host's life with the library as it ships, on its largest file: fill with growths, check, change, shrink, grow in
+ * steps with look-ups between, save, reload, damage. Each group of tests prints a line; it ends with 'N passed, M failed'. With IMAGE it
+ * leaves the saved image there. */
+#include <inttypes.h>
+#include <stdio.h>
+#include <stdlib.h>
+
+#include "heatherplane.h"
+
+enum { PLACES = 32, PAGES = 1024, ITEMS = PLACES * PAGES, LENGTH = 80 + 13 * ITEMS + PAGES };
+
+struct buffers {
+    uint8_t separators[PAGES], owners[ITEMS];
+    uint32_t numbers[ITEMS];
+    uint64_t words[ITEMS];
+};
+
+static struct buffers first, other, copy;
+static uint32_t pool_numbers[ITEMS];
+static uint64_t pool_words[ITEMS];
+static uint8_t pool_owners[ITEMS];
+static _Alignas(8) unsigned char image[LENGTH + 8], pages_only[LENGTH];
+
+static unsigned passed, failed, seen;
+
+static void expect(int line, const char *what, bool holds)
+{
+    if (holds) {
+        passed++;
+    } else {
+        failed++;
+        printf("FAILED: line %d: %s\n", line, what);
+    }
+}
+#define EXPECT(test) expect(__LINE__, #test, test)
+
+static void group(const char *name)
+{
+    printf("%s: %u tests\n", name, passed + failed - seen);
+    seen = passed + failed;
+}
+
+static struct heatherplane_parameters parameters_of(uint32_t groups)
+{
+    const struct heatherplane_parameters parameters = {PLACES, groups, 2, 1, 8, 80, PAGES, HEATHERPLANE_MULTIPLIER_1993};
+    return parameters;
+}
+
+static const struct heatherplane_growth new_file = {0, 0, 0, 0};
+
+static struct heatherplane_file file_in(struct buffers *b, uint32_t groups)
+{
+    return heatherplane_file_of(parameters_of(groups), new_file, b->separators, b->numbers, b->words, b->owners, pool_numbers,
+                                pool_words, pool_owners);
+}
+
+/* star i of the test: its number, position and owner */
+static uint32_t number_of(uint32_t i) { return 1 + i * 7919u; }
+static uint32_t ra_of(uint32_t i) { return i * 64799u % 1296000000u; }
+static int32_t dec_of(uint32_t i) { return (int32_t)(i * 30011u % 648000001u) - 324000000; }
+static uint8_t owner_of(uint32_t i) { return (uint8_t)(i % 4); }
+
+static bool holds(const struct heatherplane_file *file, uint32_t i)
+{
+    const struct heatherplane_reply reply = heatherplane_look_up_in(file, number_of(i));
+    return !reply.refusal && reply.found && reply.ra == ra_of(i) && reply.dec == dec_of(i)
+           && file->owners[reply.page * PLACES + reply.place] == owner_of(i);
+}
+
+static bool pool_is_zero(void)
+{
+    for (size_t item = 0; item < ITEMS; item++)
+        if (pool_numbers[item] || pool_words[item] || pool_owners[item])
+            return false;
+    return true;
+}
+
+static bool same_record(struct heatherplane_growth a, struct heatherplane_growth b)
+{
+    return a.expansions == b.expansions && a.expanded == b.expanded && a.open == b.open && a.steps == b.steps;
+}
+
+/* What a careless host passes first: nothing, null buffers, a wrong length, a record that is none. */
+static void bad_handles(void)
+{
+    struct heatherplane_file nothing, null_buffers;
+    struct heatherplane_file file = file_in(&first, 8);
+    struct heatherplane_view view;
+    memset(&nothing, 0, sizeof nothing);
+    memset(&view, 0, sizeof view);
+    null_buffers = heatherplane_file_of(parameters_of(8), new_file, NULL, NULL, NULL, NULL, NULL, NULL, NULL);
+    for (uint32_t code = 1; code <= 2; code++) {
+        struct heatherplane_file *bad = code == 1 ? &nothing : &null_buffers;
+        EXPECT(heatherplane_make_in(bad).refusal == code);
+        EXPECT(heatherplane_look_up_in(bad, 1).refusal == code);
+        EXPECT(heatherplane_enter_in(bad, 0, 1, 0, 0).refusal == code);
+        EXPECT(heatherplane_cascade_in(bad, 0, 1, 0, 0).refusal == code);
+        EXPECT(heatherplane_change_in(bad, 0, 1, 0, 0).refusal == code);
+        EXPECT(heatherplane_remove_in(bad, 0, 1).refusal == code);
+        EXPECT(heatherplane_due_in(bad).refusal == code);
+        EXPECT(heatherplane_grow_in(bad).refusal == code);
+        EXPECT(heatherplane_shrink_in(bad).refusal == code);
+        EXPECT(heatherplane_check_in(bad).refusal == code);
+        EXPECT(heatherplane_open_growth_in(bad, &nothing).refusal == code);
+        EXPECT(heatherplane_step_growth_in(bad, &nothing).refusal == code);
+        EXPECT(heatherplane_mark_changed_in(bad, &new_file, NULL, NULL) == code);
+        EXPECT(same_record(bad->growth, new_file));
+    }
+    EXPECT(heatherplane_look_up_view(&view, 1).refusal == HEATHERPLANE_BAD_PARAMETERS);
+    EXPECT(heatherplane_due_view(&view).refusal == HEATHERPLANE_BAD_PARAMETERS);
+    EXPECT(heatherplane_check_view(&view, NULL, NULL, NULL).refusal == HEATHERPLANE_BAD_PARAMETERS);
+    EXPECT(heatherplane_make_for(&nothing, 1).refusal == HEATHERPLANE_BAD_PARAMETERS);
+    file.words_length--;
+    EXPECT(heatherplane_make_in(&file).refusal == HEATHERPLANE_BAD_LENGTH);
+    file.words_length++;
+    file.growth.open = 2;
+    EXPECT(heatherplane_look_up_in(&file, 1).refusal == HEATHERPLANE_BAD_PARAMETERS);
+    EXPECT(heatherplane_version() == HEATHERPLANE_VERSION);
+    EXPECT(strcmp(heatherplane_refusal_name(HEATHERPLANE_OUT_OF_TURN), "out of turn") == 0);
+    EXPECT(strcmp(heatherplane_refusal_name(17), "unknown") == 0);
+    group("bad handles");
+}
+
+/* Enters the stars, every third by a cascade, and grows whenever growth is due; asked at every sixteenth. */
+static void fill(struct heatherplane_file *file, uint32_t stars)
+{
+    uint32_t growths = 0;
+    EXPECT(heatherplane_make_in(file).refusal == 0);
+    for (uint32_t i = 0; i < stars; i++) {
+        const struct heatherplane_reply reply =
+            i % 3 == 0 ? heatherplane_cascade_in(file, owner_of(i), number_of(i), ra_of(i), dec_of(i))
+                       : heatherplane_enter_in(file, owner_of(i), number_of(i), ra_of(i), dec_of(i));
+        EXPECT(reply.refusal == 0);
+        while (i % 16 == 15 && heatherplane_due_in(file).due) {
+            EXPECT(heatherplane_grow_in(file).refusal == 0);
+            growths++;
+        }
+    }
+    EXPECT(heatherplane_due_in(file).stars == stars);
+    EXPECT(heatherplane_check_in(file).refusal == 0);
+    EXPECT(growths > 0);
+    printf("%" PRIu32 " stars, %" PRIu32 " growths to (%" PRIu32 ", %" PRIu32 ")\n", stars, growths, file->growth.expansions,
+           file->growth.expanded);
+    group("filling");
+}
+
+static void read_all(const struct heatherplane_file *file, uint32_t stars)
+{
+    const struct heatherplane_view view = heatherplane_view_in(file);
+    struct heatherplane_star star;
+    size_t item = 0, count = 0;
+    for (uint32_t i = 0; i < stars; i++)
+        EXPECT(holds(file, i));
+    EXPECT(!heatherplane_look_up_view(&view, number_of(stars)).found);
+    while (heatherplane_next_star(&view, &item, &star)) {
+        const uint32_t i = (star.number - 1) / 7919u;
+        EXPECT(number_of(i) == star.number && star.ra == ra_of(i) && star.dec == dec_of(i) && star.owner == owner_of(i));
+        EXPECT(heatherplane_word_of(star.ra, star.dec) == view.words[star.page * PLACES + star.place]);
+        EXPECT(heatherplane_word_valid(view.words[star.page * PLACES + star.place]));
+        count++;
+    }
+    EXPECT(count == stars);
+    EXPECT(!heatherplane_word_valid(UINT64_MAX) && !heatherplane_word_valid((uint64_t)1296000000 << 32));
+    group("look-ups and iteration");
+}
+
+static void change(const struct heatherplane_file *file)
+{
+    const uint32_t number = number_of(5); /* of owner 1 */
+    EXPECT(heatherplane_enter_in(file, 1, number, ra_of(5), dec_of(5)).refusal == 0);
+    EXPECT(heatherplane_enter_in(file, 1, number, 0, 0).refusal == HEATHERPLANE_HELD);
+    EXPECT(heatherplane_change_in(file, 2, number, 1, -1).refusal == HEATHERPLANE_NOT_OWNER);
+    EXPECT(heatherplane_change_in(file, 1, number, 1, -324000001).refusal == HEATHERPLANE_BAD_POSITION);
+    EXPECT(heatherplane_change_in(file, 1, 0, 1, -1).refusal == HEATHERPLANE_BAD_NUMBER);
+    EXPECT(heatherplane_change_in(file, 1, 2, 1, -1).refusal == HEATHERPLANE_NOT_HELD);
+    EXPECT(heatherplane_change_in(file, 1, number, 1, -1).refusal == 0);
+    EXPECT(heatherplane_look_up_in(file, number).ra == 1 && heatherplane_look_up_in(file, number).dec == -1);
+    EXPECT(heatherplane_remove_in(file, 2, number).refusal == HEATHERPLANE_NOT_OWNER);
+    EXPECT(heatherplane_change_in(file, 0, number, ra_of(5), dec_of(5)).refusal == 0);
+    EXPECT(holds(file, 5));
+    group("changing");
+}
+
+/* A growth and the marks of the pages that it may have altered: every other page is as it was. */
+static void marks(struct heatherplane_file *file)
+{
+    static uint8_t marked[PAGES];
+    const struct heatherplane_growth before = file->growth;
+    uint32_t unmarked = 0;
+    copy = first;
+    EXPECT(heatherplane_grow_in(file).refusal == 0);
+    EXPECT(heatherplane_mark_changed_in(file, &before, copy.separators, marked) == 0);
+    for (size_t page = 0; page < PAGES; page++)
+        if (!marked[page]) {
+            unmarked++;
+            EXPECT(memcmp(copy.numbers + page * PLACES, first.numbers + page * PLACES, 4 * PLACES) == 0);
+            EXPECT(memcmp(copy.words + page * PLACES, first.words + page * PLACES, 8 * PLACES) == 0);
+            EXPECT(memcmp(copy.owners + page * PLACES, first.owners + page * PLACES, PLACES) == 0);
+            EXPECT(copy.separators[page] == first.separators[page]);
+        }
+    EXPECT(unmarked > 0);
+    EXPECT(heatherplane_shrink_in(file).refusal == 0);
+    EXPECT(same_record(file->growth, before));
+    EXPECT(memcmp(&copy, &first, sizeof copy) == 0);
+    group("marks, growth and shrinking");
+}
+
+/* Removes a part of the stars, gives pages back, and takes them again. */
+static void shrink(struct heatherplane_file *file, uint32_t stars)
+{
+    struct heatherplane_growth before;
+    for (uint32_t i = stars - stars / 8; i < stars; i++)
+        EXPECT(heatherplane_remove_in(file, owner_of(i), number_of(i)).refusal == 0);
+    for (int page = 0; page < 20; page++)
+        EXPECT(heatherplane_shrink_in(file).refusal == 0);
+    EXPECT(pool_is_zero());
+    EXPECT(heatherplane_check_in(file).refusal == 0);
+    before = file->growth;
+    file->growth.open = 1;
+    EXPECT(heatherplane_shrink_in(file).refusal == HEATHERPLANE_OUT_OF_TURN);
+    file->growth = before;
+    EXPECT(heatherplane_due_in(file).stars == stars - stars / 8);
+    for (uint32_t i = stars - stars / 8; i < stars; i++)
+        EXPECT(heatherplane_enter_in(file, owner_of(i), number_of(i), ra_of(i), dec_of(i)).refusal == 0);
+    group("removing and shrinking");
+}
+
+/* A growth in steps, with look-ups between; the file's own pages stay as they are. */
+static void steps(struct heatherplane_file *file, struct heatherplane_file *second, uint32_t stars)
+{
+    const struct heatherplane_growth before = file->growth;
+    const uint8_t *const separators = file->separators;
+    struct heatherplane_reply reply;
+    EXPECT(heatherplane_step_growth_in(file, second).refusal == HEATHERPLANE_OUT_OF_TURN);
+    EXPECT(heatherplane_open_growth_in(file, second).refusal == 0);
+    EXPECT(file->growth.open == 1 && file->growth.steps == 0);
+    EXPECT(heatherplane_open_growth_in(file, second).refusal == HEATHERPLANE_OUT_OF_TURN);
+    copy = first;
+    for (uint32_t step = 0; step < PAGES; step++) {
+        reply = heatherplane_step_growth_in(file, second);
+        EXPECT(reply.refusal == 0);
+        if (step + 1 < PAGES) {
+            EXPECT(file->separators == separators && file->growth.steps == step + 1);
+            EXPECT(holds(file, step * 17 % stars));
+            EXPECT(step % 64 != 0 || heatherplane_enter_in(file, 0, number_of(0), ra_of(0), dec_of(0)).refusal == HEATHERPLANE_OUT_OF_TURN);
+        }
+    }
+    EXPECT(memcmp(&copy, &first, sizeof copy) == 0);
+    EXPECT(file->separators == other.separators && second->separators == separators);
+    EXPECT(file->growth.open == 0 && file->growth.steps == 0);
+    EXPECT(heatherplane_check_in(file).refusal == 0);
+    EXPECT(holds(file, stars - 1));
+    /* the growth at once is the same */
+    second->growth = before;
+    EXPECT(heatherplane_grow_in(second).page == reply.page);
+    EXPECT(same_record(second->growth, file->growth));
+    EXPECT(memcmp(&first, &other, sizeof first) == 0);
+    group("a growth in steps");
+}
+
+/* The state for a number of stars is the one that growing as they come leads to, and filling a file that begins with it is quick. */
+static void states(uint32_t stars)
+{
+    struct heatherplane_file file = file_in(&copy, 8);
+    struct heatherplane_reply reply;
+    uint32_t addressed = 16;
+    for (uint32_t n = 0; n < 2 * ITEMS; n += 509) {
+        EXPECT(heatherplane_make_for(&file, n).refusal == 0);
+        const uint32_t width = 2 + file.growth.expansions % 2, groups = 8u << file.growth.expansions / 2;
+        addressed = width * groups + file.growth.expanded;
+        EXPECT(addressed == PAGES || 100ull * n <= 80ull * PLACES * addressed);
+        EXPECT(addressed == 16 || 100ull * n > 80ull * PLACES * (addressed - 1));
+    }
+    EXPECT(addressed == PAGES);
+    EXPECT(heatherplane_make_for(&file, UINT32_MAX).due);
+    reply = heatherplane_make_for(&file, stars / 4);
+    EXPECT(reply.refusal == 0 && !reply.due && reply.stars == stars / 4);
+    for (uint32_t i = 0; i < stars / 4; i++)
+        EXPECT(heatherplane_enter_in(&file, owner_of(i), number_of(i), ra_of(i), dec_of(i)).refusal == 0);
+    EXPECT(!heatherplane_due_in(&file).due);
+    EXPECT(heatherplane_check_in(&file).refusal == 0);
+    group("states for a number of stars");
+}
+
+/* An image that is altered anywhere is refused before any call. */
+static void damaged_image(void)
+{
+    struct heatherplane_view view;
+    EXPECT(heatherplane_image_view(image, 79, &view) == HEATHERPLANE_IMAGE_BAD_LENGTH);
+    EXPECT(heatherplane_image_view(NULL, 0, &view) == HEATHERPLANE_IMAGE_BAD_LENGTH);
+    EXPECT(heatherplane_image_view(image, LENGTH - 1, &view) == HEATHERPLANE_IMAGE_BAD_LENGTH);
+    EXPECT(heatherplane_image_view(image, LENGTH + 1, &view) == HEATHERPLANE_IMAGE_BAD_LENGTH);
+    for (size_t bit = 0; bit < 8 * LENGTH; bit += bit < 8 * 96 ? 1 : 65537) {
+        image[bit / 8] ^= (unsigned char)(1u << bit % 8);
+        const uint32_t refusal = heatherplane_image_view(image, LENGTH, &view);
+        EXPECT(refusal != 0);
+        EXPECT(bit >= 64 || refusal == HEATHERPLANE_IMAGE_BAD_MAGIC);
+        EXPECT(bit < 64 || bit >= 96 || refusal == HEATHERPLANE_IMAGE_BAD_VERSION);
+        EXPECT(bit < 640 || refusal == HEATHERPLANE_IMAGE_BAD_CRC);
+        EXPECT(heatherplane_look_up_view(&view, 1).refusal == HEATHERPLANE_BAD_PARAMETERS);
+        image[bit / 8] ^= (unsigned char)(1u << bit % 8);
+    }
+    memmove(image + 4, image, LENGTH);
+    EXPECT(heatherplane_image_view(image + 4, LENGTH, &view) == HEATHERPLANE_IMAGE_UNALIGNED);
+    memmove(image, image + 4, LENGTH);
+    group("images that are damaged");
+}
+
+static void images(const struct heatherplane_file *file, uint32_t stars)
+{
+    const struct heatherplane_view saved = heatherplane_view_in(file);
+    struct heatherplane_view view;
+    struct heatherplane_file mapped;
+    EXPECT(heatherplane_crc32c(0, "123456789", 9) == 0xE3069283u);
+    EXPECT(sizeof(struct heatherplane_image_header) == HEATHERPLANE_IMAGE_HEADER);
+    EXPECT(heatherplane_image_length(&file->parameters, true) == LENGTH);
+    EXPECT(heatherplane_image_save(image, LENGTH - 1, &saved, true) == HEATHERPLANE_IMAGE_BAD_LENGTH);
+    EXPECT(heatherplane_image_save(image, LENGTH, &saved, true) == 0);
+    EXPECT(heatherplane_image_view(image, LENGTH, &view) == 0);
+    EXPECT(heatherplane_check_view(&view, pool_numbers, pool_words, pool_owners).refusal == 0);
+    for (uint32_t i = 0; i < stars; i += 7)
+        EXPECT(heatherplane_look_up_view(&view, number_of(i)).ra == ra_of(i));
+    damaged_image();
+
+    /* written in place: found open it is torn, sealed it is accepted again */
+    EXPECT(heatherplane_image_file(image, LENGTH, NULL, pool_numbers, pool_words, pool_owners, &mapped) == 0);
+    EXPECT(heatherplane_image_open(image, &mapped) == 0);
+    EXPECT(heatherplane_enter_in(&mapped, 0, number_of(stars), 1, 2).refusal == 0);
+    EXPECT(heatherplane_image_view(image, LENGTH, &view) == HEATHERPLANE_IMAGE_TORN && view.numbers_length == 0);
+    EXPECT(heatherplane_image_file(image, LENGTH, NULL, pool_numbers, pool_words, pool_owners, &mapped) == HEATHERPLANE_IMAGE_TORN);
+    EXPECT(heatherplane_check_in(&mapped).refusal == 0);
+    EXPECT(heatherplane_image_seal(image, &mapped) == 0);
+    EXPECT(heatherplane_image_view(image, LENGTH, &view) == 0);
+    EXPECT(heatherplane_look_up_view(&view, number_of(stars)).dec == 2);
+    EXPECT(heatherplane_image_seal(image, file) == HEATHERPLANE_IMAGE_BAD_LENGTH);
+
+    /* without separators: the host's own are lent, and until the file is placed anew it is torn */
+    EXPECT(heatherplane_image_save(pages_only, LENGTH - PAGES, &saved, false) == 0);
+    EXPECT(heatherplane_image_view(pages_only, LENGTH - PAGES, &view) == HEATHERPLANE_IMAGE_TORN);
+    memcpy(copy.separators, file->separators, PAGES);
+    EXPECT(heatherplane_image_file(pages_only, LENGTH - PAGES, copy.separators, pool_numbers, pool_words, pool_owners, &mapped)
+           == HEATHERPLANE_IMAGE_TORN);
+    EXPECT(heatherplane_check_in(&mapped).refusal == 0);
+    EXPECT(heatherplane_image_file(pages_only, LENGTH - PAGES, NULL, pool_numbers, pool_words, pool_owners, &mapped)
+           == HEATHERPLANE_IMAGE_TORN);
+    EXPECT(heatherplane_check_in(&mapped).refusal == HEATHERPLANE_BAD_LENGTH);
+    group("images");
+}
+
+static void save(const char *name)
+{
+    FILE *out = fopen(name, "wb");
+    EXPECT(out && fwrite(image, LENGTH, 1, out) == 1);
+    EXPECT(out && fclose(out) == 0);
+}
+
+int main(int count, char **arguments)
+{
+    const uint32_t stars = count > 1 ? (uint32_t)strtoul(arguments[1], NULL, 10) : 20000;
+    struct heatherplane_file file = file_in(&first, 8), second = file_in(&other, 8);
+    bad_handles();
+    fill(&file, stars);
+    read_all(&file, stars);
+    change(&file);
+    marks(&file);
+    shrink(&file, stars);
+    steps(&file, &second, stars);
+    states(stars);
+    images(&file, stars);
+    if (count > 2)
+        save(arguments[2]);
+    printf("%u passed, %u failed\n", passed, failed);
+    return failed != 0;
+}
