@@ -25,14 +25,6 @@ use Rattle.page_plan.specs.declared.outcome.Outcome.{Outcome}
 use Rattle.page_plan.specs.declared.outcome.Outcome.the-variants.{On, Unsound as outcome·Unsound, Overflows as outcome·Overflows}
 use Rattle.entry_reach.specs.Entry.{Unheld, newStar}
 
--- a star that the file does not hold is to be entered, and `page` is the one that the separators name for it
-pub record Enters (g : Geometry) (t : List ℕ) (f : File) (k home page : ℕ) : Type 0 where
-  pub ready : Ready g t f
-  pub number : validNumber k ≡ true
-  pub unheld : Unheld (g .parameters) (g .growth) f k
-  pub homed : home ≡ homeUnder g k
-  pub here : page ≡ namedPage (g .parameters) (g .growth) (f .separators) k
-
 -- what the pages visited get, of the star s that comes to `page`, and what is carried past page M−1
 abbrev pub visited : Parameters → Growth → File → Star → ℕ → List Contents
 visited p g f s page = cascaded (hashOf p g) f page (p .pages - page) (s ∷ [])
