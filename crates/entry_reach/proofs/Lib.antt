@@ -5,4 +5,4 @@ pub mod Reached
 pub mod Surveyed
 pub mod Holding
 pub mod OnePage
-pub mod Run
+pub mod Runs

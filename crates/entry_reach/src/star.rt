@@ -1,5 +1,6 @@
 // The entry of a star: decided, then carried out.
 ghost use mathlib.Core.Path.{_≡_};
+ghost use mathlib.Core.Bool.{false};
 ghost use Prim.Native.Nat.{_*_, _≤_};
 ghost use lib.ListN.{length};
 ghost use Rattle.pages.specs.Page.{part, placeOf};

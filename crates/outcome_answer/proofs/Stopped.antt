@@ -4,7 +4,8 @@ use mathlib.Core.Bool.{Bool}
 use Prim.Native.Nat.{ℕ}
 use Rattle.hashing.specs.declared.Parameters.{Parameters}
 use Rattle.placement.specs.File.{File}
-use Rattle.calls.specs.Answers.{Answer, Pool, After, Leaves, Stores}
+use Rattle.calls.specs.declared.answers.Answer.{Answer}
+use Rattle.calls.specs.Answers.{Pool, After, Leaves, Stores}
 use Rattle.calls.specs.Stores.{stoppedFile, stopped}
 use Rattle.calls.proofs.Stored.{none-stored}
 

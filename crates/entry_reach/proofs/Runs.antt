@@ -3,7 +3,7 @@ use mathlib.Core.Path.{_≡_, refl, sym, ap, subst, _∙_}
 use mathlib.Core.Bool.{true, false, not, _&&_}
 use mathlib.Core.List.{List, [], _∷_, List·Memᴰ}
 use mathlib.Core.Logic.{⊎-elim}
-use Prim.Native.Nat.{ℕ, suc, _+_, _-_, _*_, _≤_, _<_}
+use Prim.Native.Nat.{ℕ, zero, suc, _+_, _-_, _*_, _≤_, _<_}
 use native.Mathlib.Nat.{zero-add, le-refl, le-antisymm}
 use native.Mathlib.Decide.{decLt}
 use native.Mathlib.Omega.{arith}
@@ -16,7 +16,7 @@ use Rattle.hashing.specs.Limits.{validParameters}
 use Rattle.hashing.proofs.Bounds.{limits}
 use Rattle.pages.specs.Page.{part, placeOf}
 use Rattle.pages.specs.Position.{validNumber, validWord}
-use Rattle.placement.specs.Rule.{Star, Hash, Contents, below, staying, passing, pages, left, insert, pour}
+use Rattle.placement.specs.Rule.{Star, Hash, Contents, below, staying, passing, pages, left, insert}
 use Rattle.placement.specs.File.{File, Sized, pagesAt, gathered, replaced, starsAt}
 use Rattle.placement.specs.Hash.{hashOf, soundAt, namedPage, homeUnder}
 use Rattle.placement.proofs.Filters.{filter-all-on, filter-none-on, length-filter}
@@ -37,7 +37,7 @@ use Rattle.clean_test.proofs.Raising.{none-ruled}
 use Rattle.page_edit.specs.Shift.{numberAt, Vacant}
 use Rattle.page_edit.proofs.Shifted.{vacant-room}
 use Rattle.page_edit.proofs.OnePage.{file-alone, ordered-page}
-use Rattle.page_plan.specs.declared.outcome.Outcome.the-variants.{On, Unsound as outcome·Unsound}
+use Rattle.page_plan.specs.declared.outcome.Outcome.the-variants.{Unsound as outcome·Unsound}
 use Rattle.decision.specs.Carried.{withStars, starsThere}
 use Rattle.decision.specs.declared.chosen.Decision.the-variants.{Put}
 use Rattle.entry_reach.specs.declared.blocks.Reach.the-variants.{Ends, Unsound, Overflows}
@@ -267,15 +267,15 @@ module _ (p : Parameters) (g : Growth) (f : File) (k page : ℕ) (valid : validP
   one-page = rw (pushed, none-on) (ap (λ (l : List Contents). record { separator = stored; stars = insert new stars } ∷ l) (nothing m))
     where
       nothing : (n : ℕ) → cascaded (hashOf p g) f (suc page) n [] ≡ []
-      nothing 0 = refl
+      nothing zero = refl
       nothing (suc n) = refl
 
   ended : carriedPast (hashOf p g) f page (suc m) (new ∷ []) ≡ []
   unfolding carriedPast
-  ended = rw none-on (nothing m)
+  ended = ap (carriedPast (hashOf p g) f (suc page) m) none-on ∙ nothing m
     where
       nothing : (n : ℕ) → carriedPast (hashOf p g) f (suc page) n [] ≡ []
-      nothing 0 = refl
+      nothing zero = refl
       nothing (suc n) = refl
 
   said : pagesAt (p .places) f from (q + suc m) ≡ pages (hashOf p g) from (q + suc m) (gathered (p .places) f from (q + suc m))
