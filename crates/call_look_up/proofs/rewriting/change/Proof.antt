@@ -1,13 +1,12 @@
-use mathlib.Core.Path.{subst}
 use mathlib.Core.Bool.{true}
 use native.Mathlib.Nat.{le-refl}
 use denote.Ref.{now}
 use Rattle.placement.specs.File.{File}
 use Rattle.placement.specs.Hash.{lent}
-use Rattle.calls.specs.Answers.{After, Leaves, unpooled}
+use Rattle.calls.specs.Answers.{unpooled}
 use Rattle.calls.specs.Calls.{changeOf}
 use Rattle.calls.specs.Stores.{changeStoppedOf}
-use Rattle.calls.proofs.Stored.{whole-stopped}
+use Rattle.outcome_answer.proofs.Stopped.{whole-leaves}
 use borrow.Author.Needs.{needs}
 use Rattle.call_look_up.proofs.rewriting.change.Statement.{statement}
 use Rattle.call_look_up.proofs.rewriting.change.Tie as tie
@@ -25,7 +24,7 @@ returns : tie.Need-returns
 unfolding changeStoppedOf
 returns c =
     let s = c .before .before .before .before .before .before .before .before in
-    subst (λ (x : After). Leaves x _ _ _) (whole-stopped true (s .args .parameters) (fileOf s) (s .args .parameters .pages) (changeOf (s .args .parameters) (s .args .growth) (fileOf s) unpooled (s .args .caller) (s .args .number) (s .args .position)) (le-refl (s .args .parameters .pages)))
+    whole-leaves true (s .args .parameters) (s .args .parameters .pages) (changeOf (s .args .parameters) (s .args .growth) (fileOf s) unpooled (s .args .caller) (s .args .number) (s .args .position)) (fileOf s) (le-refl (s .args .parameters .pages))
     (c .before .before .change-stopped .ensures)
 
 pub change-spec : {M : Type 1} → statement M

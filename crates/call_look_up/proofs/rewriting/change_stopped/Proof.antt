@@ -9,7 +9,8 @@ use Rattle.pages.specs.Position.{validNumber, validPosition, packed}
 use Rattle.placement.specs.File.{File}
 use Rattle.placement.specs.Hash.{lent}
 use lib.ListN.{set}
-use Rattle.calls.specs.declared.answers.Placed.the-variants.{On}
+use Rattle.calls.specs.declared.answers.Refusal.the-variants.{Damaged, NotHeld, NotOwner}
+use Rattle.calls.specs.declared.answers.Placed.the-variants.{On, Refused}
 use Rattle.calls.specs.Answers.{After, Leaves, unpooled, placed, refusedBy}
 use Rattle.calls.specs.Lent.{Admitted}
 use Rattle.calls.specs.Calls.{unlent, changeOf, changeOn, allowed, fileFits}
@@ -131,7 +132,7 @@ returns-4 c =
     let s = c .before .before .before .before .before .before .before .before .before .before .before .before .before .before .before .before .before .before .before .before in
     let found = c .before .before .before .find .ensures .0 in
     let d = c .before .before .before .before .before .before .before .before in
-    unmoved-leaves true (s .args .parameters) (s .args .stores) {after = call s}
+    unmoved-leaves true (s .args .parameters) (s .args .stores) {after = call s} {answer = placed (Refused (Damaged (c .before .before .before .find .result .page)) 0)} {f = fileOf s} {pool = unpooled}
     (leaves _ _ (c .before .before .before .before .before .before .before .before .before .before .before .before .before .before .before .before .before .before .before .before .args .growth) _ _
     (rw (none (told d), numbered d, positioned d, sym (found .readableIs) ∙ not-true _ (c .if3 .taken), found .pageIs)))
 
@@ -145,7 +146,7 @@ returns-5 c =
     let found = c .before .before .before .before .before .find .ensures .0 in
     let read = not-false _ (c .before .before .if3 .left) in
     let d = c .before .before .before .before .before .before .before .before .before .before in
-    unmoved-leaves true (s .args .parameters) (s .args .stores) {after = call s}
+    unmoved-leaves true (s .args .parameters) (s .args .stores) {after = call s} {answer = placed (Refused NotHeld (c .before .before .before .before .before .find .result .place))} {f = fileOf s} {pool = unpooled}
     (leaves _ _ (c .before .before .before .before .before .before .before .before .before .before .before .before .before .before .before .before .before .before .before .before .before .before .args .growth) _ _
     (rw (none (told d), numbered d, positioned d, sym (found .readableIs) ∙ read, sym (found .heldIs read) ∙ not-true _ (c .if4 .taken), ← found .placeIs read)))
 
@@ -164,7 +165,7 @@ returns-6 c =
     let there = not-false _ (c .before .before .if4 .left) in
     let may = altered _ _ _ _ _ (found .ownerIs there) (c .before .may-alter .ensures) (not-true _ (c .if5 .taken)) in
     let d = c .before .before .before .before .before .before .before .before .before .before .before .before in
-    unmoved-leaves true (s .args .parameters) (s .args .stores) {after = call s}
+    unmoved-leaves true (s .args .parameters) (s .args .stores) {after = call s} {answer = placed (Refused NotOwner (c .before .before .before .before .before .before .before .find .result .place))} {f = fileOf s} {pool = unpooled}
     (leaves _ _ (begun (told d) .args .growth) _ _
     (rw (none (told d), numbered d, positioned d, sym (found .readableIs) ∙ read, sym (found .heldIs read) ∙ there, may, ← found .placeIs read)))
 
