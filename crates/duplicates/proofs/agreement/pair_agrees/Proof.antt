@@ -1,0 +1,57 @@
+use borrow.Author.Needs.{needs}
+use Rattle.duplicates.proofs.agreement.pair_agrees.Statement.{statement}
+use Rattle.duplicates.proofs.agreement.pair_agrees.Tie as tie
+use Rattle.duplicates.proofs.agreement.pair_agrees.Reads as reads
+use Rattle.duplicates.proofs.agreement.pair_agrees.Lts as lts
+use Rattle.plan_transfer.proofs.owner_named.Reads as owner-named-reads
+use Rattle.plan_transfer.proofs.word_named.Reads as word-named-reads
+
+-- src/agreement.rt:14:9
+returns : tie.Need-returns
+returns c = ?
+
+-- src/agreement.rt:16:15
+cast-one : tie.Need-cast-one
+cast-one c = search needs
+
+-- src/agreement.rt:17:17
+cast-other : tie.Need-cast-other
+cast-other c = search needs
+
+-- src/agreement.rt:18:8
+word-named-requires : tie.Need-word-named-requires
+word-named-requires c κs = search needs
+
+-- src/agreement.rt:18:37
+word-named-requires-2 : tie.Need-word-named-requires-2
+word-named-requires-2 c κs = search needs
+
+-- src/agreement.rt:19:9
+returns-2 : tie.Need-returns-2
+returns-2 c = ?
+
+-- src/agreement.rt:21:5
+owner-named-requires : tie.Need-owner-named-requires
+owner-named-requires c κs = search needs
+
+-- src/agreement.rt:21:36
+owner-named-requires-2 : tie.Need-owner-named-requires-2
+owner-named-requires-2 c κs = search needs
+
+-- src/agreement.rt:10:1
+returns-3 : tie.Need-returns-3
+returns-3 c = ?
+
+pub pair-agrees-spec : {M : Type 1} → statement M
+pair-agrees-spec =
+    tie.close
+    (tie.spec
+    returns
+    cast-one
+    cast-other
+    word-named-requires
+    word-named-requires-2
+    returns-2
+    owner-named-requires
+    owner-named-requires-2
+    returns-3)
