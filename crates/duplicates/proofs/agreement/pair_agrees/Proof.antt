@@ -1,14 +1,11 @@
 use borrow.Author.Needs.{needs}
+use Rattle.duplicates.proofs.Firsts.{pair-apart, pair-words, pair-owners}
 use Rattle.duplicates.proofs.agreement.pair_agrees.Statement.{statement}
 use Rattle.duplicates.proofs.agreement.pair_agrees.Tie as tie
-use Rattle.duplicates.proofs.agreement.pair_agrees.Reads as reads
-use Rattle.duplicates.proofs.agreement.pair_agrees.Lts as lts
-use Rattle.plan_transfer.proofs.owner_named.Reads as owner-named-reads
-use Rattle.plan_transfer.proofs.word_named.Reads as word-named-reads
 
 -- src/agreement.rt:14:9
 returns : tie.Need-returns
-returns c = ?
+returns c = pair-apart _ _ _ _ (c .if1 .taken)
 
 -- src/agreement.rt:16:15
 cast-one : tie.Need-cast-one
@@ -28,7 +25,7 @@ word-named-requires-2 c κs = search needs
 
 -- src/agreement.rt:19:9
 returns-2 : tie.Need-returns-2
-returns-2 c = ?
+returns-2 c = pair-words _ _ _ _ (c .before .before .before .if1 .left) _ _ (c .before .before .word-named .ensures) (c .before .word-named2 .ensures) (c .if2 .taken)
 
 -- src/agreement.rt:21:5
 owner-named-requires : tie.Need-owner-named-requires
@@ -40,7 +37,7 @@ owner-named-requires-2 c κs = search needs
 
 -- src/agreement.rt:10:1
 returns-3 : tie.Need-returns-3
-returns-3 c = ?
+returns-3 c = pair-owners _ _ _ _ (c .before .before .before .before .before .if1 .left) _ _ (c .before .before .before .before .word-named .ensures) (c .before .before .before .word-named2 .ensures) (c .before .before .if2 .left) _ _ (c .before .owner-named .ensures) (c .owner-named2 .ensures)
 
 pub pair-agrees-spec : {M : Type 1} → statement M
 pair-agrees-spec =
