@@ -2,8 +2,9 @@
 use mathlib.Core.Path.{_≡_}
 use mathlib.Core.Bool.{Bool, true}
 use mathlib.Core.List.{List}
-use Prim.Native.Nat.{ℕ, _*_, _^_, _≤_}
+use Prim.Native.Nat.{ℕ, _+_, _*_, _^_, _≤_, _<_}
 use lib.ListN.{length, take}
+use Rattle.pages.specs.Page.{stretch}
 use Rattle.hashing.specs.declared.Parameters.{Parameters}
 use Rattle.hashing.specs.Limits.{validParameters}
 use Rattle.page_separator.specs.Lists.{allBelow}
@@ -19,13 +20,13 @@ fileWords p ns hs = ordered (grouped 0 0 (p .pages) (stretchWords (p .places) 0 
 -- numbers of 31 bits and homes of the file's pages, with room for all their words
 pub record Collectable (p : Parameters) (ns hs W ends : List ℕ) : Type 0 where
   pub valid : validParameters p ≡ true
-  pub some : 1 ≤ p .pages
+  pub some : 0 < p .pages
   pub ofNumbers : length ns ≡ p .pages * p .places
   pub ofHomes : length hs ≡ p .pages * p .places
   pub ofWords : length W ≡ p .pages * p .places
   pub ofEnds : length ends ≡ 1024
-  pub numbered : allBelow (2 ^ 31) ns ≡ true
-  pub within : allBelow (p .pages) hs ≡ true
+  pub numbered : allBelow (2 ^ 31) (stretch (p .places) 0 (p .pages) ns) ≡ true
+  pub within : allBelow (0 + p .pages) (stretch (p .places) 0 (p .pages) hs) ≡ true
 
 pub record Collects (p : Parameters) (ns ws os hs W ends : List ℕ) (r : Collected) : Type 0 where
   pub alike-is : r .alike ≡ neighboursAgree ws os (fileWords p ns hs)

@@ -1,10 +1,4 @@
 // The distinct stars of all pages as words in order.
-ghost use mathlib.Core.Path.{_≡_};
-ghost use mathlib.Core.Bool.{true};
-ghost use Prim.Native.Nat.{_*_, _^_, _≤_};
-ghost use lib.ListN.{length};
-ghost use Rattle.hashing.specs.Limits.{validParameters};
-ghost use Rattle.page_separator.specs.Lists.{allBelow};
 ghost use Rattle.mending.specs.Collect.{Collects, Collectable};
 use duplicates::all_agree;
 use duplicates::drop_repeated;

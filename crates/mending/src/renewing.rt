@@ -1,7 +1,7 @@
 // All pages placed anew over the stars of words that stand in groups by home.
 ghost use mathlib.Core.Path.{_≡_};
 ghost use mathlib.Core.Bool.{true};
-ghost use lib.ListN.{length, take};
+ghost use lib.ListN.{take};
 ghost use Rattle.hashing.specs.Limits.{validParameters};
 ghost use Rattle.placement.specs.File.{Sized};
 ghost use Rattle.placement.specs.Lent.{held, before, after};

@@ -1,13 +1,41 @@
+use mathlib.Core.Path.{_≡_, sym, ap, _∙_}
+use mathlib.Core.Bool.{false≢true}
+use Prim.Native.Nat.{ℕ, _+_, _*_, _≤_}
+use native.Mathlib.Nat.{zero-add}
+use native.Mathlib.Omega.{arith}
+use lib.ListN.{length, take}
+use denote.Ref.{now}
+use Rattle.hashing.proofs.Bounds.{limits, passed, failed}
+use Rattle.sorting.proofs.Joining.{rises-ordered}
+use Rattle.duplicates.specs.Words.{InGroups, neighboursAgree, firstsAfter}
+use Rattle.mending.specs.Collect.{fileWords}
+use Rattle.mending.proofs.Agreed.{firsts-rise}
+use Rattle.mending.proofs.Renewed.{stars-fit, gathered-groups, gathered-ordered}
 use borrow.Author.Needs.{needs}
 use Rattle.mending.proofs.collection.collect.Statement.{statement}
 use Rattle.mending.proofs.collection.collect.Tie as tie
-use Rattle.mending.proofs.collection.collect.Reads as reads
-use Rattle.mending.proofs.collection.collect.Lts as lts
-use Rattle.duplicates.proofs.all_agree.Reads as all-agree-reads
-use Rattle.duplicates.proofs.mark_ends.Reads as mark-ends-reads
-use Rattle.duplicates.proofs.sort_groups.Reads as sort-groups-reads
-use Rattle.duplicates.proofs.drop_repeated.Reads as drop-repeated-reads
-use Rattle.page_plan.proofs.gather.Reads as gather-reads
+
+abbrev start : tie.After-gather → tie.Start
+start c = c .before .before .before .before .before .before .before .before .before .before .before
+
+groups : (c : tie.After-gather) → InGroups (start c .args .parameters .pages) (c .gather .result) (c .gather .last .1 .1 .0) (c .gather .last .1 .1 .1 .0)
+groups c =
+    gathered-groups _ _ _ _ _ (start c .pre) _ _ _ (c .gather .ensures .0) (c .gather .ensures .1) (c .gather .kept .1 .1 .0) (c .gather .kept .1 .1 .1 .0)
+
+abbrev grouping : tie.After-sort-groups → tie.After-gather
+grouping c = c .before .before .before .before .before .before .before
+
+sorted : (c : tie.After-sort-groups) → take (grouping c .gather .result) (c .sort-groups .last .0)
+    ≡ fileWords (start (grouping c) .args .parameters) (now (start (grouping c) .args .numbers)) (now (start (grouping c) .args .homes))
+sorted c =
+    let g = grouping c in
+    gathered-ordered _ _ _ _ _ (start g .pre) _ _ _ (g .gather .ensures .0) (g .gather .ensures .1) _ (c .sort-groups .ensures)
+
+end-inside : (c : tie.After-sort-groups) → grouping c .gather .result ≤ length (c .sort-groups .last .0)
+end-inside c = omega (arith, groups (grouping c) .inside, c .sort-groups .kept .0)
+
+end-few : (c : tie.After-sort-groups) → grouping c .gather .result ≤ 32768
+end-few c = omega (arith, groups (grouping c) .inside, groups (grouping c) .few)
 
 -- src/collection.rt:34:18
 cast-places : tie.Need-cast-places
@@ -19,15 +47,22 @@ cast-pages c = search needs
 
 -- src/collection.rt:36:9
 gather-requires : tie.Need-gather-requires
-gather-requires c κs = ?
+gather-requires c κs =
+    let s = c .before .before .before .before .before .before .before .before .before .before in
+    let C = s .pre in
+    let l = limits (s .args .parameters) (C .valid) in
+    let whole : (0 + s .args .parameters .pages) * s .args .parameters .places ≡ s .args .parameters .pages * s .args .parameters .places = rw (zero-add (s .args .parameters .pages)) in (
+      (l .places-most, (C .some, omega (arith, l .pages-most))),
+      ((omega (arith, whole, C .ofNumbers), omega (arith, whole, C .ofHomes)), (C .numbered, (C .within, ((omega (arith, l .pages-most, C .ofEnds), omega arith), stars-fit _ _ _ _ _ C)))),
+    )
 
 -- src/collection.rt:37:5
 sort-groups-requires : tie.Need-sort-groups-requires
-sort-groups-requires c κs = ?
+sort-groups-requires c κs = groups (c .before .before .before .before .before .before)
 
 -- src/collection.rt:38:9
 all-agree-requires : tie.Need-all-agree-requires
-all-agree-requires c κs = ?
+all-agree-requires c κs = (end-inside (c .before .before .before), end-few (c .before .before .before))
 
 -- src/collection.rt:39:9
 same-length : tie.Need-same-length
@@ -39,15 +74,29 @@ same-length-2 c = search needs
 
 -- src/collection.rt:39:9
 returns : tie.Need-returns
-returns c = ?
+returns c =
+    let s = c .before .before .before .before .before in
+    record {
+      alike-is = sym (failed _ _ (c .before .all-agree .ensures) (c .if1 .taken)) ∙ ap (neighboursAgree _ _) (sorted s);
+      inside = omega arith;
+      words = λ e. absurd (false≢true e);
+      ends-are = λ e. absurd (false≢true e);
+    }
 
 -- src/collection.rt:44:9
 drop-repeated-requires : tie.Need-drop-repeated-requires
-drop-repeated-requires c κs = ?
+drop-repeated-requires c κs = end-inside (c .before .before .before .before .before .before)
 
 -- src/collection.rt:45:5
 mark-ends-requires : tie.Need-mark-ends-requires
-mark-ends-requires c κs = ?
+mark-ends-requires c κs =
+    let d = c .before .before .before .before in
+    let s = d .before .before .before .before .before .before .before in
+    let g = grouping s in
+    let e = d .drop-repeated .ensures in (
+      (omega (arith, e .0, end-inside s, d .drop-repeated .kept .0), groups g .long),
+      ((omega (arith, e .0, end-few s), limits (start g .args .parameters) (start g .pre .valid) .pages-most), rw (e .1) (firsts-rise 0 0 _ (rw (s .sort-groups .ensures) (rises-ordered _)))),
+    )
 
 -- src/collection.rt:22:1
 same-length-3 : tie.Need-same-length-3
@@ -59,7 +108,16 @@ same-length-4 c = search needs
 
 -- src/collection.rt:22:1
 returns-2 : tie.Need-returns-2
-returns-2 c = ?
+returns-2 c =
+    let d = c .before .before .before .before .before .before .before in
+    let s = d .before .before .before .before .before .before .before in
+    let a = d .before .before in
+    record {
+      alike-is = sym (passed _ _ (a .before .all-agree .ensures) (a .if1 .left)) ∙ ap (neighboursAgree _ _) (sorted s);
+      inside = omega (arith, d .drop-repeated .ensures .0, end-inside s, d .drop-repeated .kept .0);
+      words = λ e. d .drop-repeated .ensures .1 ∙ ap (firstsAfter 0) (sorted s);
+      ends-are = λ e. c .before .before .mark-ends .ensures;
+    }
 
 pub collect-spec : {M : Type 1} → statement M
 collect-spec =

@@ -1,15 +1,22 @@
+use mathlib.Core.Path.{_≡_, refl, sym, ap, _∙_}
+use Prim.Native.Nat.{ℕ, suc, _+_, _-_, _*_, _≤_, _<_}
+use native.Mathlib.Omega.{arith}
+use lib.ListN.{length, getD, take, length-set}
+use borrow.Author.Tests.{eq-eqb, ne-eqb}
+use Rattle.mending.specs.Homes.{homeOrNone}
+use borrow.Author.Needs.{needs}
 use Rattle.mending.proofs.item_homes.home_or_none.Statement.{statement}
 use Rattle.mending.proofs.item_homes.home_or_none.Tie as tie
-use Rattle.mending.proofs.item_homes.home_or_none.Reads as reads
-use Rattle.mending.proofs.item_homes.home_or_none.Lts as lts
 
 -- src/item_homes.rt:18:9
 returns : tie.Need-returns
-returns c = ?
+unfolding homeOrNone
+returns c = rw (eq-eqb _ _ (c .if1 .taken))
 
 -- src/item_homes.rt:14:1
 returns-2 : tie.Need-returns-2
-returns-2 c = ?
+unfolding homeOrNone
+returns-2 c = rw (ne-eqb _ _ (c .if1 .left))
 
 pub home-or-none-spec : {M : Type 1} → statement M
 home-or-none-spec = tie.close (tie.spec returns returns-2)

@@ -1,10 +1,22 @@
+use mathlib.Core.Path.{_≡_, _∙_}
+use Prim.Native.Nat.{_+_, _*_}
+use native.Mathlib.Nat.{zero-add}
+use native.Mathlib.Omega.{arith}
+use denote.Ref.{now}
+use Rattle.hashing.proofs.Bounds.{limits}
+use Rattle.placement.specs.File.{File}
+use Rattle.placement.specs.Hash.{lent}
+use Rattle.removal_reach.proofs.Ruled.{applied-lists}
+use Rattle.mending.proofs.Renewed.{settleable, renew-kept, renew-placed}
 use borrow.Author.Needs.{needs}
 use Rattle.mending.proofs.renewing.renew.Statement.{statement}
 use Rattle.mending.proofs.renewing.renew.Tie as tie
-use Rattle.mending.proofs.renewing.renew.Reads as reads
-use Rattle.mending.proofs.renewing.renew.Lts as lts
-use Rattle.plan_transfer.proofs.apply.Reads as apply-reads
-use Rattle.page_plan.proofs.settle_pages.Reads as settle-pages-reads
+
+abbrev start : tie.After-settle-pages → tie.Start
+start c = c .before .before .before .before .before .before .before .before .before .before .before .before .before
+
+abbrev file : tie.Start → File
+file s = lent (now (s .args .separators)) (now (s .args .numbers)) (now (s .args .words)) (now (s .args .owners))
 
 -- src/renewing.rt:35:17
 cast-pages : tie.Need-cast-pages
@@ -16,7 +28,7 @@ slice-aggregate-settle-pages c = search needs
 
 -- src/renewing.rt:37:9
 settle-pages-requires : tie.Need-settle-pages-requires
-settle-pages-requires c κs = ?
+settle-pages-requires c κs = let s = c .before .before .before .before .before .before .before .before .before .before .before .before in settleable _ (s .pre .0) _ _ _ _ _ (s .pre .1 .1 .1 .0) (s .pre .1 .1 .0 .ofNumbers) (omega arith)
 
 -- src/renewing.rt:49:9
 same-length : tie.Need-same-length
@@ -28,7 +40,10 @@ same-length-2 c = search needs
 
 -- src/renewing.rt:49:9
 returns : tie.Need-returns
-returns c = ?
+returns c =
+    let k = c .before .before .before .before .before .before in
+    let s = start k in
+    renew-kept (s .args .parameters) (s .pre .0) (file s) _ _ _ _ _ _ _ (k .settle-pages .ensures) (c .if1 .taken)
 
 -- src/renewing.rt:59:9
 slice-aggregate-apply : tie.Need-slice-aggregate-apply
@@ -40,7 +55,22 @@ cast-apply c = search needs
 
 -- src/renewing.rt:51:5
 apply-requires : tie.Need-apply-requires
-apply-requires c κs = ?
+apply-requires c κs =
+    let k = c .before .before .before .before .before .before .before .before .before .before .before .before .before .before .before in
+    let s = start k in
+    let l = limits (s .args .parameters) (s .pre .0) in
+    let z = s .pre .1 .0 in
+    let o = s .pre .1 .1 .0 in
+    let whole : (0 + s .args .parameters .pages) * s .args .parameters .places ≡ s .args .parameters .pages * s .args .parameters .places = rw (zero-add (s .args .parameters .pages)) in (
+      (l .places-most, omega (arith, l .pages-most)),
+      (
+        (omega (arith, z .ofSeparators), omega (arith, l .pages-most, k .settle-pages .kept .1 .1 .1 .0)),
+        (
+          (omega (arith, whole, z .ofNumbers), omega (arith, whole, z .ofWords)),
+          ((omega (arith, whole, o .ofNumbers, k .settle-pages .kept .1 .0), omega (arith, whole, o .ofWords, k .settle-pages .kept .1 .1 .0)), (omega (arith, whole, z .ofOwners), omega (arith, whole, o .ofOwners))),
+        ),
+      ),
+    )
 
 -- src/renewing.rt:15:1
 same-length-3 : tie.Need-same-length-3
@@ -72,7 +102,14 @@ same-length-9 c = search needs
 
 -- src/renewing.rt:15:1
 returns-2 : tie.Need-returns-2
-returns-2 c = ?
+returns-2 c =
+    let applying = c .before .before .before .before .before .before .before .before .before .before .before .before .before .before in
+    let chosen = applying .before .before .before .before .before .before .before .before .before .before in
+    let k = chosen .before .before .before .before .before .before in
+    let s = start k in
+    let done = renew-placed (s .args .parameters) (s .pre .0) (file s) _ _ _ _ _ _ _ (k .settle-pages .ensures) (chosen .if1 .left) (s .pre .1 .1 .0 .ofNumbers) (omega arith) (s .pre .1 .1 .1 .1) in
+    let left = applying .apply .ensures in
+    (done .0, applied-lists _ _ _ _ _ _ _ _ _ _ _ _ _ (left .0) (left .1 .0) (left .1 .1 .0) (left .1 .1 .1 .0) ∙ done .1)
 
 pub renew-spec : {M : Type 1} → statement M
 renew-spec =
