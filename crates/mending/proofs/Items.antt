@@ -8,7 +8,8 @@ use native.Mathlib.Decide.{decLt, ℕ-discrete}
 use native.Mathlib.Numerals.{add-one}
 use lib.Dec.{eqb, leb, ltb}
 use lib.ListN.{length, getD, take, drop, set, length-set, length-map, List·getD-map}
-use lib.Seq.{drop-cons, getD-take, getD-drop, getD-set-same, getD-set-other, ext-getD, drop-length}
+use native.Mathlib.Nat.{zero-add}
+use lib.Seq.{paste, take-paste, drop-cons, getD-take, getD-drop, getD-set-same, getD-set-other, ext-getD, drop-length}
 use borrow.Author.Tests.{eq-eqb, ne-eqb, eqb-true, leb-true, le-leb}
 use Rattle.buffers.proofs.Tests.{and-true}
 use Rattle.hashing.specs.declared.Parameters.{Parameters}
@@ -146,3 +147,11 @@ unfolding homesOf
 homed-all p g numbers homes at D h =
     ext-getD 0 homes (map (homeIn p g) numbers) (D .size ∙ sym (length-map numbers (homeIn p g)))
     (λ i k. D .are i (omega (arith, D .size)) ∙ sym (List·getD-map (homeIn p g) numbers i 0))
+
+-- the block that was copied out
+pub block-taken : (count at : ℕ) (numbers block exit : List ℕ) → exit ≡ paste block 0 (drop at numbers) count → at + count ≤ length numbers → take count exit ≡ take count (drop at numbers)
+block-taken count at numbers block exit e h =
+    let long : count ≤ length (drop at numbers) = omega (arith, lib.ListN.length-drop at numbers) in
+    ap (take count) e
+    ∙ ap (λ (n : ℕ). take n (paste block 0 (drop at numbers) count)) (sym (zero-add count))
+    ∙ take-paste block 0 (drop at numbers) count (omega arith) long

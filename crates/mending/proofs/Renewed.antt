@@ -311,3 +311,18 @@ module _ (p : Parameters) (g : Growth) (f : File) (pool : Pool) (a : Admitted p 
             let past : isEmpty (left H 0 (p .pages) W) ≡ true = sym (fit-is) ∙ ap (wordsFit p) (sym (C .words t)) ∙ sym e in
             rw (v, sym agreed ∙ t, past)
             (record { answers = refl; files = d ∙ ap (wordsPlaced p f) (C .words t) ∙ placed-is ∙ rw past })
+
+-- mending leaves the pool that it is told of
+pub mended-pool : (p : Parameters) (g : Growth) (f : File) (pool : Pool) → mendOn p g f pool .pool ≡ pool
+unfolding mendOn
+mended-pool p g f pool = go (mendable p f) (isEmpty (left (hashOf p g) 0 (p .pages) (distinct (allStars p f))))
+  where
+    go : (t u : Bool)
+        → cond t
+        (cond u
+        (record { answer = accepted 0; growth = g; file = laid (p .places) (hashOf p g) (p .pages) (distinct (allStars p f)); pool = pool })
+        (unchanged g f pool (refused 8 0)))
+        (unchanged g f pool (refused 15 0)) .pool ≡ pool
+    go true true = refl
+    go true false = refl
+    go false u = refl

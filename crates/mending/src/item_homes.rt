@@ -29,7 +29,7 @@ fn put_homes(
     count: usize,
 )
     requires { ⌜ (at + count ≤ length (now numbers)) × (length (now homes) ≡ length (now numbers)) ⌝ }
-    requires { ⌜ (count ≤ 32) × (length (now found) ≡ 32) ⌝ }
+    requires { ⌜ count ≤ 32 ⌝ }
     requires { ⌜ take count (now found) ≡ map (Home·home (multiplierOf (geometry .parameters)) (geometry .parameters) (geometry .growth)) (take count (drop at (now numbers))) ⌝ }
     ensures { λ _. ⌜ HomesPut (geometry .parameters) (geometry .growth) at count (now (numbers .entry)) (now (homes .entry)) (now (homes .exit)) ⌝ }
 {
@@ -71,7 +71,7 @@ fn at_most_32(rest: usize) -> usize
 
 pub fn find_homes(table: &[u32; 90], geometry: Geometry, numbers: &[u32], homes: &mut [u32])
     requires { ⌜ Homing geometry (now table) ⌝ }
-    requires { ⌜ length (now homes) ≡ length (now numbers) ⌝ }
+    requires { ⌜ (length (now homes) ≡ length (now numbers)) × (length (now numbers) ≤ 32768) ⌝ }
     ensures { λ _. ⌜ now (homes .exit) ≡ homesOf (geometry .parameters) (geometry .growth) (now (numbers .entry)) ⌝ }
 {
     let mut at = 0;

@@ -1,11 +1,9 @@
+use mathlib.Core.Path.{refl, ap, _∙_}
+use mathlib.Core.List.{map}
+use Rattle.mending.proofs.Items.{block-taken}
 use borrow.Author.Needs.{needs}
 use Rattle.mending.proofs.item_homes.home_block.Statement.{statement}
 use Rattle.mending.proofs.item_homes.home_block.Tie as tie
-use Rattle.mending.proofs.item_homes.home_block.Reads as reads
-use Rattle.mending.proofs.item_homes.home_block.Lts as lts
-use Rattle.buffers.proofs.copy_32.Reads as copy-32-reads
-use Rattle.homes.proofs.of_page.Reads as of-page-reads
-use Rattle.mending.proofs.item_homes.put_homes.Reads as put-homes-reads
 
 -- src/item_homes.rt:51:22
 slice-aggregate-copy-32 : tie.Need-slice-aggregate-copy-32
@@ -17,11 +15,18 @@ copy-32-requires c κs = search needs
 
 -- src/item_homes.rt:52:5
 of-page-requires : tie.Need-of-page-requires
-of-page-requires c κs = ?
+of-page-requires c κs =
+    let s = c .before .before .before .before .before .before .before in
+    let h = s .pre .0 in
+    (h .table, (h .valid, (h .growth, (s .pre .1 .1, (c .before .before .before .copy-32 .kept .0, refl)))))
 
 -- src/item_homes.rt:53:5
 put-homes-requires : tie.Need-put-homes-requires
-put-homes-requires c κs = ?
+put-homes-requires c κs =
+    let s = c .before .before .before .before .before .before .before .before .before .before in
+    let d = c .before .before .of-page in
+    let k = c .before .before .before .before .before .before .copy-32 in
+    (s .pre .1 .0, (s .pre .1 .1, d .ensures ∙ ap (map _) (block-taken _ _ _ _ _ (k .ensures) (s .pre .1 .0 .0))))
 
 -- src/item_homes.rt:36:1
 same-length : tie.Need-same-length

@@ -8,14 +8,14 @@ use Rattle.mending.proofs.item_homes.put_homes.Statement.{statement}
 use Rattle.mending.proofs.item_homes.put_homes.Tie as tie
 
 abbrev Inv-loop : tie.InvT-loop
-Inv-loop numbers found homes₀ at count i₀ homes i = (at + count ≤ length numbers) × (length homes₀ ≡ length numbers) × (count ≤ 32) × (length found ≡ 32) × Putting numbers found homes₀ at count homes i
+Inv-loop numbers found homes₀ at count i₀ homes i = (at + count ≤ length numbers) × (length homes₀ ≡ length numbers) × (count ≤ 32) × Putting numbers found homes₀ at count homes i
 
 abbrev μ-loop : tie.MeasureT-loop
 μ-loop numbers found homes₀ at count i₀ homes i = count - i
 
 -- src/item_homes.rt:30:5
 loop-holds : tie.Need-loop-holds Inv-loop μ-loop
-loop-holds c = let q = c .before .before .pre in (q .0 .0, q .0 .1, q .1 .0 .0, q .1 .0 .1, putting-none _ _ _ _ _)
+loop-holds c = let q = c .before .before .pre in (q .0 .0, q .0 .1, q .1 .0, putting-none _ _ _ _ _)
 
 -- src/item_homes.rt:31:46
 add-home-or-none : tie.Need-add-home-or-none Inv-loop μ-loop
@@ -51,7 +51,7 @@ mul-homes c = search needs
 
 -- src/item_homes.rt:31:9
 slice-write-homes : tie.Need-slice-write-homes Inv-loop μ-loop
-slice-write-homes c = let k = c .before .before .before .before .loop .inv in omega (arith, c .before .before .before .loop-test .taken, k .0, k .1, k .4 .size)
+slice-write-homes c = let k = c .before .before .before .before .loop .inv in omega (arith, c .before .before .before .loop-test .taken, k .0, k .1, k .3 .size)
 
 -- src/item_homes.rt:32:9
 add-i : tie.Need-add-i Inv-loop μ-loop
@@ -63,15 +63,15 @@ loop-less c = omega (arith, c .before .before .before .loop-test .taken)
 
 -- src/item_homes.rt:30:5
 loop-again : tie.Need-loop-again Inv-loop μ-loop
-loop-again c = let k = c .before .before .before .before .loop .inv in (k .0, k .1, k .2, k .3, putting-next _ _ _ _ _ _ _ (k .4) (c .before .before .before .loop-test .taken) (omega (arith, k .0, k .1)) _ (c .home-or-none .ensures))
+loop-again c = let k = c .before .before .before .before .loop .inv in (k .0, k .1, k .2, putting-next _ _ _ _ _ _ _ (k .3) (c .before .before .before .loop-test .taken) (omega (arith, k .0, k .1)) _ (c .home-or-none .ensures))
 
 -- src/item_homes.rt:23:1
 same-length : tie.Need-same-length Inv-loop μ-loop
-same-length c = c .before .loop .inv .4 .size
+same-length c = c .before .loop .inv .3 .size
 
 -- src/item_homes.rt:23:1
 returns : tie.Need-returns Inv-loop μ-loop
-returns c = let k = c .before .loop .inv in putting-all _ _ _ _ _ _ _ _ _ (k .4) (c .loop-test .left) (c .before .before .before .before .pre .1 .1) (k .0)
+returns c = let k = c .before .loop .inv in putting-all _ _ _ _ _ _ _ _ _ (k .3) (c .loop-test .left) (c .before .before .before .before .pre .1 .1) (k .0)
 
 pub put-homes-spec : {M : Type 1} → statement M
 put-homes-spec =
