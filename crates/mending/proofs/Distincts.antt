@@ -1,9 +1,9 @@
 -- The stars that the kept words name are the distinct stars of the file.
 use mathlib.Core.Path.{_≡_, refl, sym, ap, _∙_}
-use mathlib.Core.Bool.{Bool, true, false, cond, not, _&&_, false≢true}
+use mathlib.Core.Bool.{Bool, true, false, cond, not, false≢true}
 use mathlib.Core.List.{List, [], _∷_, _++_, map, List·Memᴰ, List·Memᴰ·head, List·Memᴰ·tail, List·Memᴰ·cases-cons, List·Memᴰ·not-nil}
 use mathlib.Core.Logic.{⊎-elim, _⊎_, inl, inr}
-use Prim.Native.Nat.{ℕ, zero, suc, _+_, _*_, _/_, _%_, _^_, _≤_, _<_}
+use Prim.Native.Nat.{ℕ, zero, suc, _+_, _*_, _^_, _≤_, _<_}
 use native.Mathlib.Omega.{arith}
 use native.Mathlib.Nat.{zero-mul}
 use lib.Dec.{eqb, ltb}
@@ -18,7 +18,7 @@ use Rattle.placement.specs.Rule.{Star, Hash, keep, pour, without, starWith}
 use Rattle.placement.specs.File.{File, starsOf, gathered}
 use Rattle.placement.specs.Distinct.{distinct}
 use Rattle.placement.proofs.Filters.{filter-all-on}
-use Rattle.placement.proofs.Order.{Distinct, Absent, member-pour, poured, poured-same}
+use Rattle.placement.proofs.Order.{Distinct, member-pour, poured, poured-same}
 use Rattle.placement.proofs.Mapping.{pour-map}
 use Rattle.placement.proofs.Mixture.{Single, distinct-rising, distinct-member, member-distinct}
 use Rattle.placement.proofs.Sound.{sorted-gathered}
@@ -26,7 +26,7 @@ use Rattle.page_plan.specs.Sources.{renamed, sourced}
 use Rattle.page_plan.specs.Plans.{starOf, waits, homed}
 use Rattle.page_plan.proofs.Applying.{renamed-keeps}
 use Rattle.page_plan.proofs.RuleOverWords.{Probes}
-use Rattle.page_plan.proofs.Sourcing.{ordered, led, fresh, fresh-led, waits-poured, words-ordered, words-fresh, gathered-stretch, true-stars, length-stretch}
+use Rattle.page_plan.proofs.Sourcing.{ordered, fresh, fresh-led, waits-poured, words-ordered, words-fresh, gathered-stretch, true-stars, length-stretch}
 use Rattle.page_plan.proofs.Placed.{Gatherable, stretch-homed, stretch-grouped, stretch-sourced}
 use Rattle.sorting.proofs.Joining.{rises-ordered, all-ordered, member-ordered, ordered-member}
 use Rattle.calls.specs.Mend.{agreeing}

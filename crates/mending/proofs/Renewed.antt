@@ -1,33 +1,32 @@
 -- All pages placed anew over the kept words, and what mending makes of it.
 use mathlib.Core.Path.{_≡_, refl, sym, ap, _∙_}
-use mathlib.Core.Bool.{Bool, true, false, cond, _&&_, false≢true}
-use mathlib.Core.List.{List, [], _∷_, _++_, map}
+use mathlib.Core.Bool.{Bool, true, false, cond}
+use mathlib.Core.List.{List, [], _∷_, map}
 use Prim.Native.Nat.{ℕ, suc, _+_, _-_, _*_, _^_, _≤_, _<_}
-use native.Mathlib.Nat.{zero-add, zero-mul, mul-le-mul, mul-le-mul-right}
+use native.Mathlib.Nat.{zero-add, zero-mul, mul-le-mul}
 use native.Mathlib.Omega.{arith}
 use lib.Dec.{eqb, ltb}
 use lib.ListN.{length, getD, take, drop, length-map, List·getD-map}
-use lib.Seq.{slice, length-take-le, getD-take, getD-drop}
+use lib.Seq.{length-take-le, getD-take, getD-drop}
 use borrow.Author.Tests.{eq-eqb, ne-eqb, lt-ltb, ltb-true}
 use Rattle.buffers.proofs.Lists.{map-take, map-drop}
 use Rattle.buffers.proofs.Written.{written-whole}
 use Rattle.pages.specs.Page.{stretch}
 use Rattle.hashing.specs.declared.Parameters.{Parameters}
 use Rattle.hashing.specs.declared.Growth.{Growth}
-use Rattle.hashing.specs.Limits.{validParameters, validGrowth}
+use Rattle.hashing.specs.Limits.{validParameters}
 use Rattle.hashing.proofs.Bounds.{limits, growth-within, spread}
 use Rattle.placement.specs.Rule.{Star, Hash, Contents, pages, left, separators}
-use Rattle.placement.specs.File.{File, Sized, gathered, replaced, laid, fileOf, column}
+use Rattle.placement.specs.File.{File, Sized, replaced, laid, fileOf, column}
 use Rattle.placement.specs.Distinct.{distinct}
 use Rattle.placement.specs.Hash.{hashOf, homeIn, homesOf}
-use Rattle.placement.specs.Ready.{Pooled}
 use Rattle.placement.proofs.Composition.{length-pages}
 use Rattle.placement.proofs.Standing.{length-separators}
 use Rattle.placement.proofs.Writing.{length-column}
 use Rattle.placement.proofs.Files.{roomy-pages}
 use Rattle.placement.proofs.Mapping.{mapped, pages-map, left-map}
 use Rattle.placement.proofs.Probing.{homed-real}
-use Rattle.page_separator.specs.Lists.{all, allBelow, rises}
+use Rattle.page_separator.specs.Lists.{all, allBelow}
 use Rattle.page_separator.specs.Words.{homeOf}
 use Rattle.page_separator.proofs.Lists.{all-mono}
 use Rattle.page_plan.specs.Gather.{groupOf, grouped, stretchWords, starsIn, Scattered}
@@ -35,21 +34,20 @@ use Rattle.page_plan.proofs.Items.{words-count}
 use Rattle.page_plan.proofs.Gathered.{starsIn-most}
 use Rattle.reach.specs.Reach.{isEmpty, allStars}
 use Rattle.page_plan.specs.Sources.{renamed, sourced}
-use Rattle.page_plan.specs.Plans.{waits, homed, plans, remains, Planned, Started, Settleable}
+use Rattle.page_plan.specs.Plans.{waits, homed, plans, remains, Planned, Settleable}
 use Rattle.page_plan.proofs.Applying.{applied, renamed-keeps}
 use Rattle.page_plan.proofs.Blocks.{grouped-again}
 use Rattle.page_plan.proofs.Sourcing.{itemHome, length-stretch}
 use Rattle.page_plan.proofs.Placed.{Gatherable, probes-real, homes-real, planned-pages, layout, applied-layout, left-count}
 use Rattle.removal_reach.proofs.Items.{all-below, ready-stretch}
 use Rattle.sorting.specs.Order.{ordered}
-use Rattle.calls.specs.Answers.{Pool, After, Stores, placed, spotted, refusedBy, accepted, refused}
+use Rattle.calls.specs.Answers.{Pool, Stores, placed, refusedBy, accepted, refused}
 use Rattle.calls.specs.Calls.{unchanged}
 use Rattle.calls.specs.Lent.{Admitted}
 use Rattle.calls.specs.Mend.{validItems, agreeing, mendable, mendOn}
-use Rattle.calls.specs.declared.answers.Placed.{Placed}
 use Rattle.calls.specs.declared.answers.Placed.the-variants.{On, Refused}
 use Rattle.calls.specs.declared.answers.Refusal.the-variants.{BadContents, Full}
-use Rattle.duplicates.specs.Words.{Ends, InGroups, neighboursAgree, firstsAfter}
+use Rattle.duplicates.specs.Words.{InGroups, firstsAfter}
 use Rattle.duplicates.proofs.ByHome.{ordered-groups}
 use Rattle.mending.specs.Collect.{fileWords, Collectable, Collects}
 use Rattle.mending.specs.declared.collection.Collected.{Collected}

@@ -1,5 +1,4 @@
 // The call, its refusals in the documents' order: 1, 2, 16, 15, 8.
-ghost use mathlib.Core.Path.{_≡_};
 ghost use Rattle.placement.specs.Lent.{held, before, after};
 ghost use Rattle.placement.specs.Ready.{Pooled};
 ghost use Rattle.calls.specs.Answers.{Leaves, Stores, cleared, placed};

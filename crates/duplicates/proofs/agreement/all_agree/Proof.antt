@@ -1,8 +1,8 @@
-use mathlib.Core.Path.{_≡_, refl, sym, ap, _∙_}
-use Prim.Native.Nat.{ℕ, suc, _+_, _-_, _*_, _≤_, _<_}
+use mathlib.Core.Path.{refl}
+use Prim.Native.Nat.{_-_, _≤_}
 use native.Mathlib.Omega.{arith}
 use borrow.Author.Needs.{needs}
-use lib.ListN.{length, getD, take, length-set}
+use lib.ListN.{length}
 use Rattle.hashing.proofs.Bounds.{passed, failed}
 use Rattle.duplicates.proofs.Firsts.{Agreeing, agreeing-fails, agreeing-next, agreeing-all}
 use Rattle.duplicates.proofs.agreement.all_agree.Statement.{statement}
@@ -14,53 +14,41 @@ Inv-loop words owners waiting end i₀ i = (end ≤ length waiting) × (end ≤ 
 abbrev μ-loop : tie.MeasureT-loop
 μ-loop words owners waiting end i₀ i = end - i
 
--- src/agreement.rt:31:5
 loop-holds : tie.Need-loop-holds Inv-loop μ-loop
 loop-holds c = (c .before .before .before .pre .0, c .before .before .before .pre .1, omega arith, record { rest = refl })
 
--- src/agreement.rt:31:11
 add-loop : tie.Need-add-loop Inv-loop μ-loop
 add-loop c = record { fits = omega (arith, c .loop .inv .1, c .loop .inv .2) }
 
--- src/agreement.rt:32:40
 mul-pair-agrees : tie.Need-mul-pair-agrees Inv-loop μ-loop
 mul-pair-agrees c = search needs
 
--- src/agreement.rt:32:40
 shared-slice-read-pair-agrees : tie.Need-shared-slice-read-pair-agrees Inv-loop μ-loop
 shared-slice-read-pair-agrees c = omega (arith, c .before .loop-test .taken, c .before .before .loop .inv .0)
 
--- src/agreement.rt:32:60
 add-pair-agrees : tie.Need-add-pair-agrees Inv-loop μ-loop
 add-pair-agrees c = record { fits = omega (arith, c .before .before .loop .inv .1, c .before .before .loop .inv .2) }
 
--- src/agreement.rt:32:52
 mul-pair-agrees-2 : tie.Need-mul-pair-agrees-2 Inv-loop μ-loop
 mul-pair-agrees-2 c = search needs
 
--- src/agreement.rt:32:52
 shared-slice-read-pair-agrees-2 : tie.Need-shared-slice-read-pair-agrees-2 Inv-loop μ-loop
 shared-slice-read-pair-agrees-2 c = omega (arith, c .before .before .loop-test .taken, c .before .before .before .loop .inv .0)
 
--- src/agreement.rt:32:13
 pair-agrees-requires : tie.Need-pair-agrees-requires Inv-loop μ-loop
 pair-agrees-requires c κs = search needs
 
--- src/agreement.rt:33:13
 returns : tie.Need-returns Inv-loop μ-loop
 returns c =
     let b = c .before .before .before .before .before in
     agreeing-fails _ _ _ _ _ (b .loop .inv .3) (b .loop .inv .0) (c .before .before .before .before .loop-test .taken) (failed _ _ (c .before .pair-agrees .ensures) (c .if1 .taken))
 
--- src/agreement.rt:35:9
 add-i : tie.Need-add-i Inv-loop μ-loop
 add-i c = let b = c .before .before .before .before .before in record { fits = omega (arith, b .loop .inv .1, b .loop .inv .2) }
 
--- src/agreement.rt:31:5
 loop-less : tie.Need-loop-less Inv-loop μ-loop
 loop-less c = omega (arith, c .before .before .before .before .loop-test .taken)
 
--- src/agreement.rt:31:5
 loop-again : tie.Need-loop-again Inv-loop μ-loop
 loop-again c =
     let b = c .before .before .before .before .before in (
@@ -70,7 +58,6 @@ loop-again c =
       agreeing-next _ _ _ _ _ (b .loop .inv .3) (b .loop .inv .0) (c .before .before .before .before .loop-test .taken) (passed _ _ (c .before .pair-agrees .ensures) (c .if1 .left)),
     )
 
--- src/agreement.rt:25:1
 returns-2 : tie.Need-returns-2 Inv-loop μ-loop
 returns-2 c = agreeing-all _ _ _ _ _ (c .before .loop .inv .3) (c .before .loop .inv .0) (omega (arith, c .loop-test .left))
 

@@ -3,39 +3,30 @@ use Rattle.duplicates.proofs.Firsts.{pair-apart, pair-words, pair-owner
 use Rattle.duplicates.proofs.agreement.pair_agrees.Statement.{statement}
 use Rattle.duplicates.proofs.agreement.pair_agrees.Tie as tie
 
--- src/agreement.rt:14:9
 returns : tie.Need-returns
 returns c = pair-apart _ _ _ _ (c .if1 .taken)
 
--- src/agreement.rt:16:15
 cast-one : tie.Need-cast-one
 cast-one c = search needs
 
--- src/agreement.rt:17:17
 cast-other : tie.Need-cast-other
 cast-other c = search needs
 
--- src/agreement.rt:18:8
 word-named-requires : tie.Need-word-named-requires
 word-named-requires c κs = search needs
 
--- src/agreement.rt:18:37
 word-named-requires-2 : tie.Need-word-named-requires-2
 word-named-requires-2 c κs = search needs
 
--- src/agreement.rt:19:9
 returns-2 : tie.Need-returns-2
 returns-2 c = pair-words _ _ _ _ (c .before .before .before .if1 .left) _ _ (c .before .before .word-named .ensures) (c .before .word-named2 .ensures) (c .if2 .taken)
 
--- src/agreement.rt:21:5
 owner-named-requires : tie.Need-owner-named-requires
 owner-named-requires c κs = search needs
 
--- src/agreement.rt:21:36
 owner-named-requires-2 : tie.Need-owner-named-requires-2
 owner-named-requires-2 c κs = search needs
 
--- src/agreement.rt:10:1
 returns-3 : tie.Need-returns-3
 returns-3 c = pair-owners _ _ _ _ (c .before .before .before .before .before .if1 .left) _ _ (c .before .before .before .before .word-named .ensures) (c .before .before .before .word-named2 .ensures) (c .before .before .if2 .left) _ _ (c .before .owner-named .ensures) (c .owner-named2 .ensures)
 

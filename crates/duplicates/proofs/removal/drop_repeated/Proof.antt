@@ -1,8 +1,6 @@
-use mathlib.Core.Path.{_≡_, refl, sym, ap, _∙_}
-use Prim.Native.Nat.{ℕ, suc, _+_, _-_, _*_, _≤_, _<_}
+use Prim.Native.Nat.{_-_}
 use native.Mathlib.Omega.{arith}
 use borrow.Author.Needs.{needs}
-use lib.ListN.{length, getD, take, length-set}
 use Rattle.duplicates.specs.Words.{keyOf}
 use Rattle.duplicates.proofs.Firsts.{Keeping, keeping-none, keeping-repeated, keeping-first, keeping-all}
 use Rattle.duplicates.proofs.removal.drop_repeated.Statement.{statement}
@@ -14,55 +12,42 @@ Inv-loop waiting₀ end last₀ kept₀ i₀ waiting last kept i = Keeping end w
 abbrev μ-loop : tie.MeasureT-loop
 μ-loop waiting₀ end last₀ kept₀ i₀ waiting last kept i = end - i
 
--- src/removal.rt:16:5
 loop-holds : tie.Need-loop-holds Inv-loop μ-loop
 loop-holds c = keeping-none _ _
 
--- src/removal.rt:17:20
 mul-word : tie.Need-mul-word Inv-loop μ-loop
 mul-word c = search needs
 
--- src/removal.rt:17:20
 slice-read-word : tie.Need-slice-read-word Inv-loop μ-loop
 slice-read-word c = omega (arith, c .before .loop-test .taken, c .before .before .before .pre, c .before .before .loop .inv .size)
 
--- src/removal.rt:18:9
 add-i : tie.Need-add-i Inv-loop μ-loop
 add-i c = search needs
 
--- src/removal.rt:20:13
 mul-waiting : tie.Need-mul-waiting Inv-loop μ-loop
 mul-waiting c = search needs
 
--- src/removal.rt:20:13
 slice-write-waiting : tie.Need-slice-write-waiting Inv-loop μ-loop
 slice-write-waiting c = let b = c .before .before .before in omega (arith, c .before .before .loop-test .taken, b .before .pre, b .loop .inv .size, b .loop .inv .order)
 
--- src/removal.rt:21:13
 add-kept : tie.Need-add-kept Inv-loop μ-loop
 add-kept c = search needs
 
--- src/removal.rt:16:5
 loop-less : tie.Need-loop-less Inv-loop μ-loop
 loop-less c = omega (arith, c .before .before .loop-test .taken)
 
--- src/removal.rt:16:5
 loop-again : tie.Need-loop-again Inv-loop μ-loop
 loop-again c = let b = c .before .before .before in unfold keyOf in keeping-first _ _ _ _ _ _ (b .loop .inv) (b .before .pre) (c .before .before .loop-test .taken) (c .if1 .taken)
 
--- src/removal.rt:16:5
 loop-less-2 : tie.Need-loop-less-2 Inv-loop μ-loop
 loop-less-2 c = omega (arith, c .before .before .loop-test .taken)
 
--- src/removal.rt:16:5
 loop-again-2 : tie.Need-loop-again-2 Inv-loop μ-loop
 loop-again-2 c = let b = c .before .before .before in keeping-repeated _ _ _ _ _ _ (b .loop .inv) (b .before .pre) (c .before .before .loop-test .taken) (unfold keyOf in c .if1 .left)
 
--- src/removal.rt:8:1
 same-length : tie.Need-same-length Inv-loop μ-loop
 same-length c = c .before .loop .inv .size
 
--- src/removal.rt:8:1
 returns : tie.Need-returns Inv-loop μ-loop
 returns c = let k = c .before .loop .inv in (omega (arith, k .order, k .upto), keeping-all _ _ _ _ _ _ k (c .before .before .pre) (c .loop-test .left))
 

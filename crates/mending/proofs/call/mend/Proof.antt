@@ -5,80 +5,61 @@ use borrow.Author.Needs.{needs}
 use Rattle.mending.proofs.call.mend.Statement.{statement}
 use Rattle.mending.proofs.call.mend.Tie as tie
 
--- src/call.rt:133:9
 at-rest-requires : tie.Need-at-rest-requires
 at-rest-requires c κs = search needs
 
--- src/call.rt:134:9
 turn-away-requires : tie.Need-turn-away-requires
 turn-away-requires c κs = failed _ _ (c .before .before .before .before .before .before .before .before .at-rest .ensures) (c .before .before .before .before .before .before .before .if1 .taken)
 
--- src/call.rt:134:9
 same-length : tie.Need-same-length
 same-length c = search needs
 
--- src/call.rt:134:9
 same-length-2 : tie.Need-same-length-2
 same-length-2 c = search needs
 
--- src/call.rt:134:9
 same-length-3 : tie.Need-same-length-3
 same-length-3 c = search needs
 
--- src/call.rt:134:9
 same-length-4 : tie.Need-same-length-4
 same-length-4 c = search needs
 
--- src/call.rt:134:9
 same-length-5 : tie.Need-same-length-5
 same-length-5 c = search needs
 
--- src/call.rt:134:9
 same-length-6 : tie.Need-same-length-6
 same-length-6 c = search needs
 
--- src/call.rt:134:9
 same-length-7 : tie.Need-same-length-7
 same-length-7 c = search needs
 
--- src/call.rt:134:9
 returns : tie.Need-returns
 unfolding mendUnder
 returns c = c .before .before .before .before .before .before .turn-away .ensures _
 
--- src/call.rt:146:5
 mend-at-requires : tie.Need-mend-at-requires
 mend-at-requires c κs = search needs
 
--- src/call.rt:119:1
 same-length-8 : tie.Need-same-length-8
 same-length-8 c = search needs
 
--- src/call.rt:119:1
 same-length-9 : tie.Need-same-length-9
 same-length-9 c = search needs
 
--- src/call.rt:119:1
 same-length-10 : tie.Need-same-length-10
 same-length-10 c = search needs
 
--- src/call.rt:119:1
 same-length-11 : tie.Need-same-length-11
 same-length-11 c = search needs
 
--- src/call.rt:119:1
 same-length-12 : tie.Need-same-length-12
 same-length-12 c = search needs
 
--- src/call.rt:119:1
 same-length-13 : tie.Need-same-length-13
 same-length-13 c = search needs
 
--- src/call.rt:119:1
 same-length-14 : tie.Need-same-length-14
 same-length-14 c = search needs
 
--- src/call.rt:119:1
 returns-2 : tie.Need-returns-2
 unfolding mendUnder
 returns-2 c = rw (in-turn _ _ _ _ _ _ (passed _ _ (c .before .before .before .before .before .before .before .before .before .before .before .before .before .before .before .before .before .before .before .before .before .before .before .at-rest .ensures) (c .before .before .before .before .before .before .before .before .before .before .before .before .before .before .before .before .before .before .before .before .before .before .if1 .left))) (c .before .before .before .before .before .before .before .before .before .before .before .before .before .before .mend-at .ensures)

@@ -32,19 +32,15 @@ none c = none-is _ _ (c .before .before .guard .ensures) (c .before .before .bef
 lent-well : (c : tie.After-enum-told) → Admitted (begun c .args .parameters) (begun c .args .growth) (fileOf (begun c)) × Pooled (begun c .args .parameters) (poolOf (begun c) .numbers) (poolOf (begun c) .words) (poolOf (begun c) .owners)
 lent-well c = admitted-pool _ _ _ (poolOf (begun c)) (none c)
 
--- src/call.rt:90:9
 all-fit-requires : tie.Need-all-fit-requires
 all-fit-requires c κs = search needs
 
--- src/call.rt:100:42
 guard-requires : tie.Need-guard-requires
 guard-requires c κs = search needs
 
--- src/call.rt:100:31
 enum-known-refusal : tie.Need-enum-known-refusal
 enum-known-refusal c = search needs
 
--- src/call.rt:101:9
 returns : tie.Need-returns
 unfolding mendOf placed fileFits poolFits
 returns c = leaves _ _ _ _ _ (turned-away _ _ _ _ _ _ _ (refusal-is _ _ (c .before .before .before .guard .ensures) (c .before .before .before .before .all-fit .ensures) (c .before .refusal .given .1)))
@@ -52,43 +48,33 @@ returns c = leaves _ _ _ _ _ (turned-away _ _ _ _ _ _ _ (refusal-is _ _ (c .befo
 enum-told : tie.Need-enum-told
 enum-told c = search needs
 
--- src/call.rt:103:9
 mend-file-requires : tie.Need-mend-file-requires
 mend-file-requires c κs = lent-well (c .before .before .before .before .before .before .before)
 
--- src/call.rt:114:5
 clear-requires : tie.Need-clear-requires
 clear-requires c κs = search needs
 
--- src/call.rt:76:1
 same-length : tie.Need-same-length
 same-length c = search needs
 
--- src/call.rt:76:1
 same-length-2 : tie.Need-same-length-2
 same-length-2 c = search needs
 
--- src/call.rt:76:1
 same-length-3 : tie.Need-same-length-3
 same-length-3 c = search needs
 
--- src/call.rt:76:1
 same-length-4 : tie.Need-same-length-4
 same-length-4 c = search needs
 
--- src/call.rt:76:1
 same-length-5 : tie.Need-same-length-5
 same-length-5 c = search needs
 
--- src/call.rt:76:1
 same-length-6 : tie.Need-same-length-6
 same-length-6 c = search needs
 
--- src/call.rt:76:1
 same-length-7 : tie.Need-same-length-7
 same-length-7 c = search needs
 
--- src/call.rt:76:1
 returns-2 : tie.Need-returns-2
 unfolding mendOf
 returns-2 c =

@@ -51,42 +51,33 @@ collected c =
     subst (λ (h : List ℕ). Collects (s .args .parameters) (fileOf s .numbers) (fileOf s .words) (fileOf s .owners) h (c .collect .last .1 .1 .1 .1 .1 .0) (c .collect .last .1 .1 .1 .1 .1 .1 .0) (c .collect .result))
     (housed c .find-homes .ensures) (c .collect .ensures)
 
--- src/call.rt:41:9
 items-valid-requires : tie.Need-items-valid-requires
 items-valid-requires c κs = search needs
 
--- src/call.rt:42:9
 same-length : tie.Need-same-length
 same-length c = search needs
 
--- src/call.rt:42:9
 same-length-2 : tie.Need-same-length-2
 same-length-2 c = search needs
 
--- src/call.rt:42:9
 same-length-3 : tie.Need-same-length-3
 same-length-3 c = search needs
 
--- src/call.rt:42:9
 returns : tie.Need-returns
 returns c = let s = c .before .before .before .before .before .before .before .before .before .before .before .before in mend-invalid _ _ (fileOf s) (cleared (poolOf s)) (s .pre .0) (failed _ _ (c .before .items-valid .ensures) (c .if1 .taken))
 
--- src/call.rt:44:17
 first-multipliers-requires : tie.Need-first-multipliers-requires
 first-multipliers-requires c κs = tabled (start c .pre .0)
 
--- src/call.rt:45:5
 find-homes-requires : tie.Need-find-homes-requires
 find-homes-requires c κs =
     let s = start (c .before .before .before .before) in
     let a = s .pre .0 in
     (prepared (c .before .before .before .first-multipliers .ensures) a .homing, (omega (arith, a .sized .ofNumbers, s .pre .1 .ofNumbers), omega (arith, a .sized .ofNumbers, few s)))
 
--- src/call.rt:54:9
 slice-aggregate-collect : tie.Need-slice-aggregate-collect
 slice-aggregate-collect c = search needs
 
--- src/call.rt:47:9
 collect-requires : tie.Need-collect-requires
 collect-requires c κs =
     let f = c .before .before .before .before .before .before .before .before in
@@ -95,38 +86,30 @@ collect-requires c κs =
     subst (λ (h : List ℕ). Collectable (s .args .parameters) (fileOf s .numbers) h (now (s .args .poolwords)) (replicate {A = ℕ} 1024 0)) (sym (f .find-homes .ensures))
     (collectable (s .args .parameters) (s .args .growth) (fileOf s) (cleared (poolOf s)) (s .pre .0) (valid e) (now (s .args .poolwords)) (replicate {A = ℕ} 1024 0) (s .pre .1 .ofWords) refl)
 
--- src/call.rt:57:9
 same-length-4 : tie.Need-same-length-4
 same-length-4 c = search needs
 
--- src/call.rt:57:9
 same-length-5 : tie.Need-same-length-5
 same-length-5 c = search needs
 
--- src/call.rt:57:9
 same-length-6 : tie.Need-same-length-6
 same-length-6 c = search needs
 
--- src/call.rt:57:9
 same-length-7 : tie.Need-same-length-7
 same-length-7 c = search needs
 
--- src/call.rt:57:9
 same-length-8 : tie.Need-same-length-8
 same-length-8 c = search needs
 
--- src/call.rt:57:9
 returns-2 : tie.Need-returns-2
 returns-2 c =
     let k = c .before .before .before .before .before in
     let s = begun k in
     mend-differs (s .args .parameters) (s .args .growth) (fileOf s) (cleared (poolOf s)) (s .pre .0) (valid (checked (housed k))) _ _ _ (collected k) (failed _ _ refl (c .if2 .taken))
 
--- src/call.rt:68:9
 slice-aggregate-renew : tie.Need-slice-aggregate-renew
 slice-aggregate-renew c = search needs
 
--- src/call.rt:59:9
 renew-requires : tie.Need-renew-requires
 renew-requires c κs =
     let k = c .before .before .before .before .before .before .before .before .before .before .before .before .before in
@@ -148,37 +131,29 @@ renew-requires c κs =
       ),
     )
 
--- src/call.rt:71:9
 same-length-9 : tie.Need-same-length-9
 same-length-9 c = search needs
 
--- src/call.rt:71:9
 same-length-10 : tie.Need-same-length-10
 same-length-10 c = search needs
 
--- src/call.rt:71:9
 same-length-11 : tie.Need-same-length-11
 same-length-11 c = search needs
 
--- src/call.rt:71:9
 same-length-12 : tie.Need-same-length-12
 same-length-12 c = search needs
 
--- src/call.rt:71:9
 same-length-13 : tie.Need-same-length-13
 same-length-13 c =
     let n = c .before .before .before .before .before .before .before .before .before .before .before .before .before .before .before in
     n .renew .kept .1 .1 .1 .1 .1 .0 ∙ housed (n .before .before .before .before .before .before .before .before .before .before .before .before .before .before) .find-homes .kept .1 .1 .1 .0
 
--- src/call.rt:71:9
 same-length-14 : tie.Need-same-length-14
 same-length-14 c = search needs
 
--- src/call.rt:71:9
 same-length-15 : tie.Need-same-length-15
 same-length-15 c = search needs
 
--- src/call.rt:71:9
 returns-3 : tie.Need-returns-3
 returns-3 c =
     let n = c .before .before .before .before .before .before .before .before .before .before .before .before .before .before .before in
@@ -187,37 +162,29 @@ returns-3 c =
     let t = passed _ _ refl (n .before .before .before .before .before .before .before .before .before .if2 .left) in
     mend-over (s .args .parameters) (s .args .growth) (fileOf s) (cleared (poolOf s)) (s .pre .0) (valid (checked (housed k))) _ _ _ (collected k) t (sym (failed _ _ (n .renew .ensures .0) (c .if3 .taken))) _ (n .renew .ensures .1)
 
--- src/call.rt:25:1
 same-length-16 : tie.Need-same-length-16
 same-length-16 c = search needs
 
--- src/call.rt:25:1
 same-length-17 : tie.Need-same-length-17
 same-length-17 c = search needs
 
--- src/call.rt:25:1
 same-length-18 : tie.Need-same-length-18
 same-length-18 c = search needs
 
--- src/call.rt:25:1
 same-length-19 : tie.Need-same-length-19
 same-length-19 c = search needs
 
--- src/call.rt:25:1
 same-length-20 : tie.Need-same-length-20
 same-length-20 c =
     let n = c .before .before .before .before .before .before .before .before .before .before .before .before .before .before .before in
     n .renew .kept .1 .1 .1 .1 .1 .0 ∙ housed (n .before .before .before .before .before .before .before .before .before .before .before .before .before .before) .find-homes .kept .1 .1 .1 .0
 
--- src/call.rt:25:1
 same-length-21 : tie.Need-same-length-21
 same-length-21 c = search needs
 
--- src/call.rt:25:1
 same-length-22 : tie.Need-same-length-22
 same-length-22 c = search needs
 
--- src/call.rt:25:1
 returns-4 : tie.Need-returns-4
 returns-4 c =
     let n = c .before .before .before .before .before .before .before .before .before .before .before .before .before .before .before in

@@ -1,6 +1,6 @@
 use mathlib.Core.Path.{_≡_, sym, ap, _∙_}
 use mathlib.Core.Bool.{false≢true}
-use Prim.Native.Nat.{ℕ, _+_, _*_, _≤_}
+use Prim.Native.Nat.{_+_, _*_, _≤_}
 use native.Mathlib.Nat.{zero-add}
 use native.Mathlib.Omega.{arith}
 use lib.ListN.{length, take}
@@ -37,15 +37,12 @@ end-inside c = omega (arith, groups (grouping c) .inside, c .sort-groups .kept .
 end-few : (c : tie.After-sort-groups) → grouping c .gather .result ≤ 32768
 end-few c = omega (arith, groups (grouping c) .inside, groups (grouping c) .few)
 
--- src/collection.rt:34:18
 cast-places : tie.Need-cast-places
 cast-places c = search needs
 
--- src/collection.rt:35:17
 cast-pages : tie.Need-cast-pages
 cast-pages c = search needs
 
--- src/collection.rt:36:9
 gather-requires : tie.Need-gather-requires
 gather-requires c κs =
     let s = c .before .before .before .before .before .before .before .before .before .before in
@@ -56,23 +53,18 @@ gather-requires c κs =
       ((omega (arith, whole, C .ofNumbers), omega (arith, whole, C .ofHomes)), (C .numbered, (C .within, ((omega (arith, l .pages-most, C .ofEnds), omega arith), stars-fit _ _ _ _ _ C)))),
     )
 
--- src/collection.rt:37:5
 sort-groups-requires : tie.Need-sort-groups-requires
 sort-groups-requires c κs = groups (c .before .before .before .before .before .before)
 
--- src/collection.rt:38:9
 all-agree-requires : tie.Need-all-agree-requires
 all-agree-requires c κs = (end-inside (c .before .before .before), end-few (c .before .before .before))
 
--- src/collection.rt:39:9
 same-length : tie.Need-same-length
 same-length c = search needs
 
--- src/collection.rt:39:9
 same-length-2 : tie.Need-same-length-2
 same-length-2 c = search needs
 
--- src/collection.rt:39:9
 returns : tie.Need-returns
 returns c =
     let s = c .before .before .before .before .before in
@@ -83,11 +75,9 @@ returns c =
       ends-are = λ e. absurd (false≢true e);
     }
 
--- src/collection.rt:44:9
 drop-repeated-requires : tie.Need-drop-repeated-requires
 drop-repeated-requires c κs = end-inside (c .before .before .before .before .before .before)
 
--- src/collection.rt:45:5
 mark-ends-requires : tie.Need-mark-ends-requires
 mark-ends-requires c κs =
     let d = c .before .before .before .before in
@@ -98,15 +88,12 @@ mark-ends-requires c κs =
       ((omega (arith, e .0, end-few s), limits (start g .args .parameters) (start g .pre .valid) .pages-most), rw (e .1) (firsts-rise 0 0 _ (rw (s .sort-groups .ensures) (rises-ordered _)))),
     )
 
--- src/collection.rt:22:1
 same-length-3 : tie.Need-same-length-3
 same-length-3 c = search needs
 
--- src/collection.rt:22:1
 same-length-4 : tie.Need-same-length-4
 same-length-4 c = search needs
 
--- src/collection.rt:22:1
 returns-2 : tie.Need-returns-2
 returns-2 c =
     let d = c .before .before .before .before .before .before .before in

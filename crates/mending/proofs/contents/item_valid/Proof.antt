@@ -1,7 +1,4 @@
-use mathlib.Core.Path.{_≡_, refl, sym, ap, _∙_}
-use Prim.Native.Nat.{ℕ, suc, _+_, _-_, _*_, _≤_, _<_}
-use native.Mathlib.Omega.{arith}
-use lib.ListN.{length, getD, take, length-set}
+use Prim.Native.Nat.{_-_}
 use borrow.Author.Tests.{eq-eqb, ne-eqb}
 use Rattle.hashing.proofs.Bounds.{passed, failed}
 use Rattle.calls.specs.Mend.{validItem}
@@ -9,30 +6,24 @@ use borrow.Author.Needs.{needs}
 use Rattle.mending.proofs.contents.item_valid.Statement.{statement}
 use Rattle.mending.proofs.contents.item_valid.Tie as tie
 
--- src/contents.rt:13:13
 returns : tie.Need-returns
 unfolding validItem
 returns c = rw (eq-eqb _ _ (c .before .if1 .taken), ne-eqb _ _ (c .if2 .taken))
 
--- src/contents.rt:15:9
 returns-2 : tie.Need-returns-2
 unfolding validItem
 returns-2 c = rw (eq-eqb _ _ (c .before .if1 .taken), eq-eqb _ _ (c .if2 .left))
 
--- src/contents.rt:17:9
 number-valid-requires : tie.Need-number-valid-requires
 number-valid-requires c κs = search needs
 
--- src/contents.rt:18:9
 returns-3 : tie.Need-returns-3
 unfolding validItem
 returns-3 c = rw (ne-eqb _ _ (c .before .before .if1 .left), failed _ _ (c .before .number-valid .ensures) (c .if3 .taken))
 
--- src/contents.rt:20:5
 word-valid-requires : tie.Need-word-valid-requires
 word-valid-requires c κs = search needs
 
--- src/contents.rt:8:1
 returns-4 : tie.Need-returns-4
 unfolding validItem
 returns-4 c = rw (ne-eqb _ _ (c .before .before .before .if1 .left), passed _ _ (c .before .before .number-valid .ensures) (c .before .if3 .left)) (c .word-valid .ensures)

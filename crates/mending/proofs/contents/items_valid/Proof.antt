@@ -1,7 +1,7 @@
-use mathlib.Core.Path.{_≡_, refl, sym, ap, _∙_}
-use Prim.Native.Nat.{ℕ, suc, _+_, _-_, _*_, _≤_, _<_}
+use mathlib.Core.Path.{_≡_, refl}
+use Prim.Native.Nat.{_-_}
 use native.Mathlib.Omega.{arith}
-use lib.ListN.{length, getD, take, length-set}
+use lib.ListN.{length}
 use Rattle.hashing.proofs.Bounds.{passed, failed}
 use Rattle.mending.proofs.Items.{Valid, valid-fails, valid-next, valid-all}
 use borrow.Author.Needs.{needs}
@@ -14,57 +14,45 @@ Inv-loop numbers words owners i₀ i = (length words ≡ length numbers) × (len
 abbrev μ-loop : tie.MeasureT-loop
 μ-loop numbers words owners i₀ i = length numbers - i
 
--- src/contents.rt:28:5
 loop-holds : tie.Need-loop-holds Inv-loop μ-loop
 loop-holds c = let q = c .before .before .before .pre in (q .0, q .1, record { upto = omega arith; rest = refl })
 
--- src/contents.rt:29:24
 mul-item-valid : tie.Need-mul-item-valid Inv-loop μ-loop
 mul-item-valid c = search needs
 
--- src/contents.rt:29:24
 shared-slice-read-item-valid : tie.Need-shared-slice-read-item-valid Inv-loop μ-loop
 shared-slice-read-item-valid c = c .before .loop-test .taken
 
--- src/contents.rt:29:36
 mul-item-valid-2 : tie.Need-mul-item-valid-2 Inv-loop μ-loop
 mul-item-valid-2 c = search needs
 
--- src/contents.rt:29:36
 shared-slice-read-item-valid-2 : tie.Need-shared-slice-read-item-valid-2 Inv-loop μ-loop
 shared-slice-read-item-valid-2 c = omega (arith, c .before .before .loop-test .taken, c .before .before .before .loop .inv .0)
 
--- src/contents.rt:29:46
 shared-slice-read-item-valid-3 : tie.Need-shared-slice-read-item-valid-3 Inv-loop μ-loop
 shared-slice-read-item-valid-3 c = omega (arith, c .before .before .before .loop-test .taken, c .before .before .before .before .loop .inv .1)
 
--- src/contents.rt:29:13
 item-valid-requires : tie.Need-item-valid-requires Inv-loop μ-loop
 item-valid-requires c κs = search needs
 
--- src/contents.rt:30:13
 returns : tie.Need-returns Inv-loop μ-loop
 returns c =
     let i = c .before .before .before .before .before in
     let k = i .before .loop .inv in
     valid-fails _ _ _ _ (k .2) (k .0) (k .1) (i .loop-test .taken) (failed _ _ (c .before .item-valid .ensures) (c .if1 .taken))
 
--- src/contents.rt:32:9
 add-i : tie.Need-add-i Inv-loop μ-loop
 add-i c = search needs
 
--- src/contents.rt:28:5
 loop-less : tie.Need-loop-less Inv-loop μ-loop
 loop-less c = omega (arith, c .before .before .before .before .before .loop-test .taken)
 
--- src/contents.rt:28:5
 loop-again : tie.Need-loop-again Inv-loop μ-loop
 loop-again c =
     let i = c .before .before .before .before .before in
     let k = i .before .loop .inv in
     (k .0, k .1, valid-next _ _ _ _ (k .2) (k .0) (k .1) (i .loop-test .taken) (passed _ _ (c .before .item-valid .ensures) (c .if1 .left)))
 
--- src/contents.rt:23:1
 returns-2 : tie.Need-returns-2 Inv-loop μ-loop
 returns-2 c = valid-all _ _ _ _ (c .before .loop .inv .2) (c .loop-test .left)
 

@@ -1,19 +1,13 @@
-use mathlib.Core.Path.{_≡_, refl, sym, ap, _∙_}
-use Prim.Native.Nat.{ℕ, suc, _+_, _-_, _*_, _≤_, _<_}
-use native.Mathlib.Omega.{arith}
-use lib.ListN.{length, getD, take, length-set}
+use Prim.Native.Nat.{_-_}
 use borrow.Author.Tests.{le-leb, lt-leb}
 use Rattle.mending.specs.Homes.{atMost}
-use borrow.Author.Needs.{needs}
 use Rattle.mending.proofs.item_homes.at_most_32.Statement.{statement}
 use Rattle.mending.proofs.item_homes.at_most_32.Tie as tie
 
--- src/item_homes.rt:60:9
 returns : tie.Need-returns
 unfolding atMost
 returns c = rw (le-leb _ _ (c .if1 .taken))
 
--- src/item_homes.rt:56:1
 returns-2 : tie.Need-returns-2
 unfolding atMost
 returns-2 c = rw (lt-leb _ _ (c .if1 .left))

@@ -1,5 +1,5 @@
-use mathlib.Core.Path.{_≡_, sym, _∙_}
-use Prim.Native.Nat.{_+_, _-_, _≤_}
+use mathlib.Core.Path.{sym, _∙_}
+use Prim.Native.Nat.{_-_, _≤_}
 use native.Mathlib.Omega.{arith}
 use borrow.Author.Needs.{needs}
 use lib.ListN.{length}
@@ -13,19 +13,15 @@ Inv-loop table geometry numbers homes₀ at₀ homes at = (length numbers ≤ 32
 abbrev μ-loop : tie.MeasureT-loop
 μ-loop table geometry numbers homes₀ at₀ homes at = length numbers - at
 
--- src/item_homes.rt:71:5
 loop-holds : tie.Need-loop-holds Inv-loop μ-loop
 loop-holds c = (c .before .before .pre .1 .1, record { upto = omega arith; size = c .before .before .pre .1 .0; are = λ j h. absurd (omega arith) })
 
--- src/item_homes.rt:72:32
 sub-at-most-32 : tie.Need-sub-at-most-32 Inv-loop μ-loop
 sub-at-most-32 c = c .before .loop .inv .1 .upto
 
--- src/item_homes.rt:72:13
 at-most-32-requires : tie.Need-at-most-32-requires Inv-loop μ-loop
 at-most-32-requires c κs = search needs
 
--- src/item_homes.rt:73:9
 home-block-requires : tie.Need-home-block-requires Inv-loop μ-loop
 home-block-requires c κs =
     let b = c .before .before .before in
@@ -34,21 +30,18 @@ home-block-requires c κs =
     let m = atMost-fits 32 (length (s .args .numbers .now) - b .loop .at) in
     (s .pre .0, ((omega (arith, e, m .0, b .loop .inv .1 .upto), b .loop .inv .1 .size), omega (arith, e, m .1)))
 
--- src/item_homes.rt:74:9
 add-at : tie.Need-add-at Inv-loop μ-loop
 add-at c =
     let b = c .before .before .before .before .before .before in
     let m = atMost-fits 32 (length (b .before .before .before .args .numbers .now) - b .loop .at) in
     record { fits = omega (arith, c .before .before .before .before .at-most-32 .ensures, m .0, b .loop .inv .1 .upto, b .loop .inv .0) }
 
--- src/item_homes.rt:71:5
 loop-less : tie.Need-loop-less Inv-loop μ-loop
 loop-less c =
     let b = c .before .before .before .before .before .before in
     let i = c .before .before .before .before .before in
     omega (arith, i .loop-test .taken, c .before .before .before .before .at-most-32 .ensures, atMost-some (length (b .before .before .before .args .numbers .now) - b .loop .at) (omega (arith, i .loop-test .taken)))
 
--- src/item_homes.rt:71:5
 loop-again : tie.Need-loop-again Inv-loop μ-loop
 loop-again c =
     let b = c .before .before .before .before .before .before in
@@ -57,11 +50,9 @@ loop-again c =
     let d = c .before .before .home-block in
     (b .loop .inv .0, homed-next _ _ _ _ _ _ _ (b .loop .inv .1) (omega (arith, c .before .before .before .before .at-most-32 .ensures, m .0, b .loop .inv .1 .upto)) (d .kept .1 .1 .1 .0) (d .ensures))
 
--- src/item_homes.rt:65:1
 same-length : tie.Need-same-length Inv-loop μ-loop
 same-length c = c .before .loop .inv .1 .size ∙ sym (c .before .before .before .before .pre .1 .0)
 
--- src/item_homes.rt:65:1
 returns : tie.Need-returns Inv-loop μ-loop
 returns c = homed-all _ _ _ _ _ (c .before .loop .inv .1) (c .loop-test .left)
 

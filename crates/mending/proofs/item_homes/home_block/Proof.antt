@@ -5,22 +5,18 @@ use borrow.Author.Needs.{needs}
 use Rattle.mending.proofs.item_homes.home_block.Statement.{statement}
 use Rattle.mending.proofs.item_homes.home_block.Tie as tie
 
--- src/item_homes.rt:51:22
 slice-aggregate-copy-32 : tie.Need-slice-aggregate-copy-32
 slice-aggregate-copy-32 c = search needs
 
--- src/item_homes.rt:51:5
 copy-32-requires : tie.Need-copy-32-requires
 copy-32-requires c κs = search needs
 
--- src/item_homes.rt:52:5
 of-page-requires : tie.Need-of-page-requires
 of-page-requires c κs =
     let s = c .before .before .before .before .before .before .before in
     let h = s .pre .0 in
     (h .table, (h .valid, (h .growth, (s .pre .1 .1, (c .before .before .before .copy-32 .kept .0, refl)))))
 
--- src/item_homes.rt:53:5
 put-homes-requires : tie.Need-put-homes-requires
 put-homes-requires c κs =
     let s = c .before .before .before .before .before .before .before .before .before .before in
@@ -28,11 +24,9 @@ put-homes-requires c κs =
     let k = c .before .before .before .before .before .before .copy-32 in
     (s .pre .1 .0, (s .pre .1 .1, d .ensures ∙ ap (map _) (block-taken _ _ _ _ _ (k .ensures) (s .pre .1 .0 .0))))
 
--- src/item_homes.rt:36:1
 same-length : tie.Need-same-length
 same-length c = search needs
 
--- src/item_homes.rt:36:1
 returns : tie.Need-returns
 returns c = search needs
 

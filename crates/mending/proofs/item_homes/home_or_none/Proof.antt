@@ -1,19 +1,13 @@
-use mathlib.Core.Path.{_≡_, refl, sym, ap, _∙_}
-use Prim.Native.Nat.{ℕ, suc, _+_, _-_, _*_, _≤_, _<_}
-use native.Mathlib.Omega.{arith}
-use lib.ListN.{length, getD, take, length-set}
+use Prim.Native.Nat.{_-_}
 use borrow.Author.Tests.{eq-eqb, ne-eqb}
 use Rattle.mending.specs.Homes.{homeOrNone}
-use borrow.Author.Needs.{needs}
 use Rattle.mending.proofs.item_homes.home_or_none.Statement.{statement}
 use Rattle.mending.proofs.item_homes.home_or_none.Tie as tie
 
--- src/item_homes.rt:18:9
 returns : tie.Need-returns
 unfolding homeOrNone
 returns c = rw (eq-eqb _ _ (c .if1 .taken))
 
--- src/item_homes.rt:14:1
 returns-2 : tie.Need-returns-2
 unfolding homeOrNone
 returns-2 c = rw (ne-eqb _ _ (c .if1 .left))

@@ -1,7 +1,7 @@
-use mathlib.Core.Path.{_≡_, refl, sym, ap, _∙_}
-use Prim.Native.Nat.{ℕ, suc, _+_, _-_, _*_, _≤_, _<_}
+use mathlib.Core.Path.{_≡_}
+use Prim.Native.Nat.{_+_, _-_, _≤_}
 use native.Mathlib.Omega.{arith}
-use lib.ListN.{length, getD, take, length-set}
+use lib.ListN.{length}
 use Rattle.mending.proofs.Items.{Putting, putting-none, putting-next, putting-all}
 use borrow.Author.Needs.{needs}
 use Rattle.mending.proofs.item_homes.put_homes.Statement.{statement}
@@ -13,63 +13,48 @@ Inv-loop numbers found homes₀ at count i₀ homes i = (at + count ≤ length n
 abbrev μ-loop : tie.MeasureT-loop
 μ-loop numbers found homes₀ at count i₀ homes i = count - i
 
--- src/item_homes.rt:30:5
 loop-holds : tie.Need-loop-holds Inv-loop μ-loop
 loop-holds c = let q = c .before .before .pre in (q .0 .0, q .0 .1, q .1 .0, putting-none _ _ _ _ _)
 
--- src/item_homes.rt:31:46
 add-home-or-none : tie.Need-add-home-or-none Inv-loop μ-loop
 add-home-or-none c = search needs
 
--- src/item_homes.rt:31:38
 mul-home-or-none : tie.Need-mul-home-or-none Inv-loop μ-loop
 mul-home-or-none c = search needs
 
--- src/item_homes.rt:31:38
 shared-slice-read-home-or-none : tie.Need-shared-slice-read-home-or-none Inv-loop μ-loop
 shared-slice-read-home-or-none c = let k = c .before .before .loop .inv in omega (arith, c .before .loop-test .taken, k .0)
 
--- src/item_homes.rt:31:55
 mul-home-or-none-2 : tie.Need-mul-home-or-none-2 Inv-loop μ-loop
 mul-home-or-none-2 c = search needs
 
--- src/item_homes.rt:31:55
 element-copy-out-home-or-none : tie.Need-element-copy-out-home-or-none Inv-loop μ-loop
 element-copy-out-home-or-none c = let k = c .before .before .loop .inv in omega (arith, c .before .loop-test .taken, k .2)
 
--- src/item_homes.rt:31:25
 home-or-none-requires : tie.Need-home-or-none-requires Inv-loop μ-loop
 home-or-none-requires c κs = search needs
 
--- src/item_homes.rt:31:15
 add-homes : tie.Need-add-homes Inv-loop μ-loop
 add-homes c = search needs
 
--- src/item_homes.rt:31:9
 mul-homes : tie.Need-mul-homes Inv-loop μ-loop
 mul-homes c = search needs
 
--- src/item_homes.rt:31:9
 slice-write-homes : tie.Need-slice-write-homes Inv-loop μ-loop
 slice-write-homes c = let k = c .before .before .before .before .loop .inv in omega (arith, c .before .before .before .loop-test .taken, k .0, k .1, k .3 .size)
 
--- src/item_homes.rt:32:9
 add-i : tie.Need-add-i Inv-loop μ-loop
 add-i c = search needs
 
--- src/item_homes.rt:30:5
 loop-less : tie.Need-loop-less Inv-loop μ-loop
 loop-less c = omega (arith, c .before .before .before .loop-test .taken)
 
--- src/item_homes.rt:30:5
 loop-again : tie.Need-loop-again Inv-loop μ-loop
 loop-again c = let k = c .before .before .before .before .loop .inv in (k .0, k .1, k .2, putting-next _ _ _ _ _ _ _ (k .3) (c .before .before .before .loop-test .taken) (omega (arith, k .0, k .1)) _ (c .home-or-none .ensures))
 
--- src/item_homes.rt:23:1
 same-length : tie.Need-same-length Inv-loop μ-loop
 same-length c = c .before .loop .inv .3 .size
 
--- src/item_homes.rt:23:1
 returns : tie.Need-returns Inv-loop μ-loop
 returns c = let k = c .before .loop .inv in putting-all _ _ _ _ _ _ _ _ _ (k .3) (c .loop-test .left) (c .before .before .before .before .pre .1 .1) (k .0)
 

@@ -18,42 +18,33 @@ start c = c .before .before .before .before .before .before .before .before .bef
 abbrev file : tie.Start → File
 file s = lent (now (s .args .separators)) (now (s .args .numbers)) (now (s .args .words)) (now (s .args .owners))
 
--- src/renewing.rt:35:17
 cast-pages : tie.Need-cast-pages
 cast-pages c = search needs
 
--- src/renewing.rt:41:9
 slice-aggregate-settle-pages : tie.Need-slice-aggregate-settle-pages
 slice-aggregate-settle-pages c = search needs
 
--- src/renewing.rt:37:9
 settle-pages-requires : tie.Need-settle-pages-requires
 settle-pages-requires c κs = let s = c .before .before .before .before .before .before .before .before .before .before .before .before in settleable _ (s .pre .0) _ _ _ _ _ (s .pre .1 .1 .1 .0) (s .pre .1 .1 .0 .ofNumbers) (omega arith)
 
--- src/renewing.rt:49:9
 same-length : tie.Need-same-length
 same-length c = search needs
 
--- src/renewing.rt:49:9
 same-length-2 : tie.Need-same-length-2
 same-length-2 c = search needs
 
--- src/renewing.rt:49:9
 returns : tie.Need-returns
 returns c =
     let k = c .before .before .before .before .before .before in
     let s = start k in
     renew-kept (s .args .parameters) (s .pre .0) (file s) _ _ _ _ _ _ _ (k .settle-pages .ensures) (c .if1 .taken)
 
--- src/renewing.rt:59:9
 slice-aggregate-apply : tie.Need-slice-aggregate-apply
 slice-aggregate-apply c = search needs
 
--- src/renewing.rt:60:9
 cast-apply : tie.Need-cast-apply
 cast-apply c = search needs
 
--- src/renewing.rt:51:5
 apply-requires : tie.Need-apply-requires
 apply-requires c κs =
     let k = c .before .before .before .before .before .before .before .before .before .before .before .before .before .before .before in
@@ -72,35 +63,27 @@ apply-requires c κs =
       ),
     )
 
--- src/renewing.rt:15:1
 same-length-3 : tie.Need-same-length-3
 same-length-3 c = search needs
 
--- src/renewing.rt:15:1
 same-length-4 : tie.Need-same-length-4
 same-length-4 c = search needs
 
--- src/renewing.rt:15:1
 same-length-5 : tie.Need-same-length-5
 same-length-5 c = search needs
 
--- src/renewing.rt:15:1
 same-length-6 : tie.Need-same-length-6
 same-length-6 c = search needs
 
--- src/renewing.rt:15:1
 same-length-7 : tie.Need-same-length-7
 same-length-7 c = search needs
 
--- src/renewing.rt:15:1
 same-length-8 : tie.Need-same-length-8
 same-length-8 c = search needs
 
--- src/renewing.rt:15:1
 same-length-9 : tie.Need-same-length-9
 same-length-9 c = search needs
 
--- src/renewing.rt:15:1
 returns-2 : tie.Need-returns-2
 returns-2 c =
     let applying = c .before .before .before .before .before .before .before .before .before .before .before .before .before .before in
