@@ -8,7 +8,7 @@ ghost use Rattle.pages.specs.Page.{stretch};
 ghost use Rattle.buffers.specs.Lists.{written};
 ghost use Rattle.plan_transfer.specs.Sources.{namedItem};
 
-fn word_named(words: &[u64], source: u32, newword: u64) -> u64
+pub fn word_named(words: &[u64], source: u32, newword: u64) -> u64
     ensures { λ r. ⌜ r ≡ namedItem (now (words .entry)) newword source ⌝ }
 {
     if source == 0 {
@@ -34,7 +34,7 @@ fn number_named(numbers: &[u32], source: u32, newnumber: u32) -> u32
     newnumber
 }
 
-fn owner_named(owners: &[u8], source: u32, newowner: u8) -> u8
+pub fn owner_named(owners: &[u8], source: u32, newowner: u8) -> u8
     ensures { λ r. ⌜ r ≡ namedItem (now (owners .entry)) newowner source ⌝ }
 {
     if source == 0 {
