@@ -88,9 +88,9 @@ pub record AtRest (now : HistoryState) (second : File) : Type 0 where
   pub opening :
       (pool : Pool) → poolFits (now .parameters) pool ≡ true → fileFits (now .parameters) second ≡ true
       → outcome now (callOf pool second openGrowth) .answer .refusal ≡ outcome now (callOf pool second grow) .answer .refusal
-  -- a step is out of turn
+  -- a step is out of turn, whatever second set it is lent
   pub stepping :
-      (pool : Pool) → poolFits (now .parameters) pool ≡ true → fileFits (now .parameters) (now .second) ≡ true
+      (pool : Pool) → poolFits (now .parameters) pool ≡ true → fileFits (now .parameters) second ≡ true
       → OutOfTurn now (callOf pool second stepGrowth)
 
 -- what holds between opening and step M
