@@ -19,6 +19,7 @@ use Rattle.calls.specs.Answers.{Pool, After, unpooled, spotted, acceptedAt, acc
 use Rattle.calls.specs.Calls.{fileFits, poolFits, unlent, unchanged, emptyFile, lookUpOf, enterOf, cascadeOf, changeOf, removeOf, growOn, growOf, shrinkOf, checkOf}
 use Rattle.calls.specs.Records.{
   validSteps,
+  closedRecord,
   openRecord,
   unlessOpen,
   lookUpUnder,
@@ -62,10 +63,11 @@ use Rattle.histories.specs.Model.{
   placeOn,
   answered,
 }
-use Rattle.histories.specs.Call.{callOf, isAccepted, finishes, Outcome, keepingPool, onFile, onOpening, onStep, step, effect, countsAs, feeding}
+use Rattle.histories.specs.Call.{mend, lost, Call, elementOf, callOf, isAccepted, finishes, Outcome, keepingPool, onFile, onOpening, onStep, step, effect, countsAs, feeding}
+use Rattle.histories.specs.Loss.{Loss, lossFits}
 use Rattle.histories.specs.Run.{HistoryState, Event, initial, outcome, fedThen, next, end}
 use Rattle.histories.specs.Theorem.{EveryHistory}
-use Rattle.histories.specs.Corollaries.{NotOwner, AcceptedAt, OutOfTurn, writes, AtRest, InHistory, EachState, SameContents, SameState, HistoryIndependence}
+use Rattle.histories.specs.Corollaries.{NotOwner, AcceptedAt, OutOfTurn, writes, AtRest, Mended, InHistory, EachState, SameContents, SameState, HistoryIndependence}
 use Rattle.histories.proofs.Entries.{determined, position-valid}
 use Rattle.histories.proofs.Fitting.{Fitting, hashFor, starsFor, rising-from, proper, in-range}
 use Rattle.histories.proofs.Guards.{lent, lent-pool}
@@ -79,7 +81,8 @@ use Rattle.histories.proofs.Check.{finds-nothing}
 use Rattle.histories.proofs.Conforms.{fedWith, fed-refused}
 use Rattle.histories.proofs.Histories.{Agrees, each-event, end-agrees, as-model}
 use Rattle.histories.proofs.Make.{initial-agrees}
-use Rattle.histories.proofs.Under.{step-accepted, is-opened}
+use Rattle.histories.proofs.Under.{step-accepted, is-closed, is-opened}
+use Rattle.histories.proofs.GoesOn.{survives, mend-stays, mended-as-it-is}
 use Rattle.histories.proofs.Elements.{conforming}
 
 pub every-history : EveryHistory
@@ -359,6 +362,41 @@ at-rest s agrees second rest =
       stepping = λ pool. stepping s agrees second pool rest;
     }
 
+-- Mending, by itself and after a loss.
+module _ (s : HistoryState) (agrees : Agrees s) (second : File) (pool : Pool) where
+  abbrev ps : Parameters
+  ps = s .parameters
+
+  abbrev mending : Call
+  mending = elementOf pool second mend
+
+  mended-stays : next s mending ≡ s
+  unfolding next fedThen outcome effect feeding fedBy fedAll
+  mended-stays =
+      let t = mend-stays ps (s .model) (s .growth) (s .file) (s .second) agrees pool in
+      λ i. record {
+        parameters = ps;
+        growth = record { state = t .growth i; growing = s .growth .growing; steps = s .growth .steps };
+        file = t .file i;
+        second = s .second;
+        model = s .model;
+      }
+
+  mended-accepted : poolFits ps pool ≡ true → s .growth .growing ≡ false → outcome s mending .answer ≡ accepted 0
+  unfolding outcome effect
+  mended-accepted fit rest =
+      rw (is-closed ps (s .model) (s .growth) (s .file) (s .second) agrees rest, agrees .file, mended-as-it-is ps (s .model) (agrees .fitting) pool fit)
+
+  survived : (l : Loss) → lossFits ps l ≡ true → Mended s (elementOf pool second (lost l)) l
+  unfolding outcome effect
+  survived l e =
+      let t = survives ps (s .model) (s .growth) (s .file) (s .second) agrees pool l e in
+      record {
+        answer = rw e (t .answer);
+        closed = rw e (ap closedRecord (t .state ∙ sym (agrees .growth)));
+        file = rw e (t .file);
+      }
+
 in-history : (s : HistoryState) → Agrees s → (second : File) → InHistory s second
 unfolding outcome effect step checkUnder lookUpUnder
 in-history s agrees second =
@@ -367,6 +405,8 @@ in-history s agrees second =
       checked = λ pool e. rw (agrees .steps, agrees .growth, agrees .file) (check-accepts (s .parameters) (s .model) (agrees .fitting) pool e);
       sought = λ pool k e. rw (agrees .steps, agrees .growth, agrees .file) (look-up-accepts (s .parameters) (s .model) (agrees .fitting) pool k e);
       cascades = λ pool caller k q. (does-as-entry s agrees second pool caller k q, counts-as-entry s agrees second pool caller k q);
+      mends = λ pool. (mended-stays s agrees second pool, mended-accepted s agrees second pool);
+      survives = λ pool. survived s agrees second pool;
       steps = agrees .steps;
       atRest = at-rest s agrees second;
       whileOpen = λ e. record {

@@ -6,13 +6,18 @@ use Rattle.hashing.specs.declared.Parameters.{Parameters}
 use Rattle.placement.specs.File.{File}
 use Rattle.calls.specs.declared.answers.Answer.{Answer}
 use Rattle.calls.specs.declared.records.GrowthRecord.{GrowthRecord}
-use Rattle.calls.specs.Answers.{Pool, After, unpooled}
-use Rattle.calls.specs.Records.{lookUpUnder, enterUnder, cascadeUnder, changeUnder, removeUnder, growUnder, shrinkUnder, dueUnder, checkUnder, recordAfter, AfterStep, openUnder, stepUnder}
+use Rattle.calls.specs.Answers.{Pool, After, unpooled, refused}
+use Rattle.calls.specs.Calls.{unchanged}
+use Rattle.calls.specs.Records.{closedRecord, lookUpUnder, enterUnder, cascadeUnder, changeUnder, removeUnder, growUnder, shrinkUnder, dueUnder, checkUnder, recordAfter, AfterStep, openUnder, stepUnder}
+use Rattle.calls.specs.Mend.{mendUnder}
 use Rattle.histories.specs.Model.{Request, lookUp, enter, cascade, change, remove, grow, shrink, due, check, openGrowth, stepGrowth, made, Feeding, goesOn}
+use Rattle.histories.specs.Loss.{Loss, lossFits, wholeCall, mendedAfter, counted}
 
--- a call that the book is fed as it is
+-- a call that the book is fed as it is; a mending; power lost, and then a mending: document 02 (xii)
 pub data Element : Type 0 where
   plain : Request → Element
+  mend : Element
+  lost : Loss → Element
 
 -- "any number, position and pool", and any caller: look-ups, changes and Dues leave the pool alone. `second` is the second set of pages that an
 -- opening is lent, and a step while nothing is open, of any contents and lengths: document 02 (xiii).
@@ -21,8 +26,11 @@ pub record Call : Type 0 where
   pub pool : Pool
   pub second : File
 
+abbrev pub elementOf : Pool → File → Element → Call
+elementOf pool second e = record { element = e; pool = pool; second = second }
+
 abbrev pub callOf : Pool → File → Request → Call
-callOf pool second r = record { element = plain r; pool = pool; second = second }
+callOf pool second r = elementOf pool second (plain r)
 
 -- whether a call was accepted
 unfoldable pub isAccepted : Answer → Bool
@@ -96,8 +104,14 @@ step p r f second lent pool check = onFile p r second (checkUnder p r f pool)
 step p r f second lent pool openGrowth = onOpening p f second (openUnder p r f lent pool)
 step p r f second lent pool stepGrowth = onStep p r f second (stepUnder p r f (cond (r .growing) second lent) pool)
 
+-- "a history goes on only after mending": a loss with other separators than M, or a pool that does not fit the mending, is no step
 unfoldable pub effect : Parameters → GrowthRecord → File → File → File → Pool → Element → Outcome
 effect p r f second lent pool (plain q) = step p r f second lent pool q
+effect p r f second lent pool mend = onFile p r second (mendUnder p r f pool)
+effect p r f second lent pool (lost x) =
+    cond (lossFits p x)
+    (onFile p (closedRecord (r .state)) second (mendedAfter p r f pool x))
+    (onFile p r second (unchanged (r .state) f pool (refused 2 0)))
 
 -- "Histories read an unfinished growth as not begun, a finished one as accepted at step M": document 02 (xiii)
 unfoldable pub countsAs : GrowthRecord → Request → Outcome → Request
@@ -106,3 +120,5 @@ countsAs r q o = cond (finishes r (o .growth)) grow q
 -- what the model is fed of an element on this file that had this outcome
 unfoldable pub feeding : Parameters → GrowthRecord → File → Pool → Outcome → Element → Feeding
 feeding p r f pool o (plain q) = goesOn (made (countsAs r q o) (o .answer .refusal) ∷ [])
+feeding p r f pool o mend = goesOn []
+feeding p r f pool o (lost x) = goesOn (cond (lossFits p x) (counted p (x .underway) (wholeCall p r f pool (x .underway)) (o .file)) [])
