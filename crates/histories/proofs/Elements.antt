@@ -83,10 +83,7 @@ module _ (p : Parameters) (m : Model) (r : GrowthRecord) (f second : File) (x : 
       ended : mended .answer ≡ accepted 0 → mended .answer .refusal ≡ 5 → ⊥
       ended e z = let d : _≡_ {A = ℕ} 0 5 = sym (ap (λ (a : Answer). a .refusal) e) ∙ z in omega arith
 
-      lastly : Bool → Outcome
-      lastly b = cond b (onFile p (closedRecord (r .state)) second mended) (onFile p r second (unchanged (r .state) f pool (refused 2 0)))
-
-      go : (b : Bool) → lossFits p l ≡ b → ElementConforms p m r f pool (lost l) (lastly (lossFits p l))
+      go : (b : Bool) → lossFits p l ≡ b → ElementConforms p m r f pool (lost l) (effect p r f second set pool (lost l))
       go true e =
           let t = survives p m r f second x pool l e in
           rw e
