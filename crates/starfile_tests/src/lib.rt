@@ -1,7 +1,6 @@
 // The calls as exported functions, backup's and two of hashing's, for the Rust tests alone. C programs have crate heatherplane.
-// The calls as exported functions, backup's and two of hashing's, for the Rust tests alone. C programs have the four of starfile_c.
-mod stopping;
 mod mends;
+mod stopping;
 
 use calls::answers::Answer;
 use calls::answers::checked_answer;
