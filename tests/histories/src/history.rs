@@ -30,7 +30,7 @@ impl History {
         lent.file.words.iter_mut().for_each(|word| *word = tester.random.draw());
         lent.file.owners.iter_mut().for_each(|owner| *owner = tester.random.draw() as u8);
         let record = Record::default();
-        let call = Call { kind: Kind::Make, parameters, record, caller: 0, number: 0, ra: 0, dec: 0 };
+        let call = Call::new(Kind::Make, parameters, record);
         let (_, lent) = tester.compare(&call, &lent);
         History::from(tester, parameters, record.growth, lent)
     }
@@ -117,7 +117,7 @@ impl History {
     fn make_call(&self, kind: Kind, star: Star) -> Call {
         let (ra, dec) = unpack(star.word);
         let (parameters, record) = (self.parameters, self.record);
-        Call { kind, parameters, record, caller: star.owner, number: star.number, ra, dec }
+        Call { caller: star.owner, number: star.number, ra, dec, ..Call::new(kind, parameters, record) }
     }
 
     /// Runs a call for a random caller, or for the owner that the book has.

@@ -4,7 +4,7 @@ mod history;
 mod scenarios;
 mod tester;
 
-use model::Kind;
+use interface::LIBRARY;
 use std::panic::{catch_unwind, AssertUnwindSafe};
 use std::process::exit;
 use std::time::{Duration, Instant};
@@ -112,7 +112,8 @@ fn main() {
         }
     }
     println!("{:<12}{}", "refusals", REFUSALS.map(|refusal| format!("{refusal:>9}")).concat());
-    for (kind, counts) in Kind::ALL.iter().zip(totals.tester.refusals) {
+    for kind in LIBRARY.kinds() {
+        let counts = totals.tester.refusals[kind as usize];
         println!("{:<12}{}", kind.name(), REFUSALS.map(|refusal| format!("{:>9}", counts[refusal])).concat());
     }
     println!("{} pairs of histories ended in the same stars", totals.tester.alike);

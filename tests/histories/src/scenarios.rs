@@ -2,6 +2,7 @@
 
 use crate::history::{finishes, History};
 use crate::tester::{stored, Tester};
+use interface::LIBRARY;
 use model::files::*;
 use model::hashing::home;
 use model::placement::Star;
@@ -133,7 +134,7 @@ pub fn large_steps(tester: &mut Tester) {
     random_second(&mut tester.random, &mut lent);
     random_pool(&mut tester.random, &mut lent);
     let record = Record::closed(growth);
-    let grow = Call { kind: Kind::Grow, parameters, record, caller: 0, number: 0, ra: 0, dec: 0 };
+    let grow = Call::new(Kind::Grow, parameters, record);
     let (outcome, grown) = tester.compare(&grow, &lent);
     let (opened, _) = tester.compare(&Call { kind: Kind::Open, ..grow }, &lent);
     tester.expect(opened.refusal == outcome.refusal, "opening is refused otherwise than growing");
@@ -262,7 +263,7 @@ fn session(tester: &mut Tester, parameters: Parameters, growth: Growth, mut lent
     random_second(&mut tester.random, &mut lent);
     for _ in 0..calls {
         random_pool(&mut tester.random, &mut lent);
-        let kind = tester.random.pick(&Kind::ALL[1..]);
+        let kind = tester.random.pick(&LIBRARY.kinds()[1..]);
         // While a growth is open most calls are refused.
         if record.open && tester.random.once_in(4) {
             record = Record::closed(record.growth);
@@ -272,7 +273,7 @@ fn session(tester: &mut Tester, parameters: Parameters, growth: Growth, mut lent
         let resent = stored(&lent, number).filter(|_| tester.random.once_in(2));
         let (ra, dec) = resent.unwrap_or_else(|| tester.random.position());
         let caller = random_caller(&mut tester.random);
-        let call = Call { kind, parameters, record, caller, number, ra, dec };
+        let call = Call { caller, number, ra, dec, ..Call::new(kind, parameters, record) };
         let (outcome, after) = tester.compare(&call, &lent);
         (lent, record) = (after, outcome.record);
         if finishes(&call, &outcome) {

@@ -1,5 +1,6 @@
 //! Runs a call on the library and on the model and compares everything afterwards.
 
+use interface::LIBRARY;
 use model::files::random_caller;
 use model::placement::{unpack, Star};
 use model::random::Random;
@@ -36,7 +37,7 @@ impl Tester {
         self.refusals[call.kind as usize][outcome.refusal as usize] += 1;
         outcome.record = call.record_after(&outcome);
         let vector = Vector { call: *call, before: before.clone(), outcome, after };
-        let differences = vector.differences(interface::run);
+        let differences = vector.differences(LIBRARY);
         if !differences.is_empty() {
             let kept = self.keep(&vector).map_or(String::new(), |path| format!(" ({})", path.display()));
             self.fail(format!("{}{kept}", differences.join("; ")));
@@ -101,19 +102,19 @@ impl Tester {
     fn keep(&mut self, vector: &Vector) -> Option<PathBuf> {
         self.saved += 1;
         let path = PathBuf::from(FOLDER).join(format!("failed-{}.txt", self.saved));
-        let text = vector.text(interface::LANDED);
+        let text = vector.text(LIBRARY.landed);
         let kept = self.saved <= 20 && fs::create_dir_all(FOLDER).is_ok() && fs::write(&path, text).is_ok();
         kept.then_some(path)
     }
 
     /// Every call on copies of one file: those that take a number, for each of the numbers, and resends.
     pub fn every_call(&mut self, parameters: Parameters, record: Record, lent: &Buffers, numbers: &[u32]) {
-        for kind in Kind::ALL {
+        for kind in LIBRARY.kinds() {
             let numbers = if kind.takes_number() { numbers } else { &[0] };
             for &number in numbers {
                 let (ra, dec) = self.random.position();
                 let caller = random_caller(&mut self.random);
-                let call = Call { kind, parameters, record, caller, number, ra, dec };
+                let call = Call { caller, number, ra, dec, ..Call::new(kind, parameters, record) };
                 self.compare(&call, lent);
                 if let (true, Some((ra, dec))) = (kind.enters(), stored(lent, number)) {
                     self.compare(&Call { ra, dec, ..call }, lent);
