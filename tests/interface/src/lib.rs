@@ -3,7 +3,7 @@
 use model::{Buffers, Call, Growth, Implementation, Kind, Outcome, Parameters, Record, Refused};
 
 /// The requests of document 02 that have landed in the library.
-pub const LANDED: &[u32] = &[1, 2, 3, 4, 5, 7, 9, 10, 13, 14];
+pub const LANDED: &[u32] = &[1, 2, 3, 4, 5, 7, 9, 10, 12, 13, 14];
 
 pub const LIBRARY: Implementation = Implementation { run, landed: LANDED };
 
@@ -153,6 +153,46 @@ extern "C" {
         pool_words: *mut u64, pool_words_length: usize,
         pool_owners: *mut u8, pool_owners_length: usize,
     ) -> Reply;
+    fn sft_enter_stopped(
+        parameters: Parameters, record: Record,
+        separators: *mut u8, separators_length: usize,
+        numbers: *mut u32, numbers_length: usize,
+        words: *mut u64, words_length: usize,
+        owners: *mut u8, owners_length: usize,
+        pool_numbers: *mut u32, pool_numbers_length: usize,
+        pool_words: *mut u64, pool_words_length: usize,
+        pool_owners: *mut u8, pool_owners_length: usize,
+        caller: u8, number: u32, ra: u32, dec: i32, stores: u32,
+    ) -> Reply;
+    fn sft_change_stopped(
+        parameters: Parameters, record: Record,
+        separators: *const u8, separators_length: usize,
+        numbers: *const u32, numbers_length: usize,
+        words: *mut u64, words_length: usize,
+        owners: *const u8, owners_length: usize,
+        caller: u8, number: u32, ra: u32, dec: i32, stores: u32,
+    ) -> Reply;
+    fn sft_remove_stopped(
+        parameters: Parameters, record: Record,
+        separators: *mut u8, separators_length: usize,
+        numbers: *mut u32, numbers_length: usize,
+        words: *mut u64, words_length: usize,
+        owners: *mut u8, owners_length: usize,
+        pool_numbers: *mut u32, pool_numbers_length: usize,
+        pool_words: *mut u64, pool_words_length: usize,
+        pool_owners: *mut u8, pool_owners_length: usize,
+        caller: u8, number: u32, stores: u32,
+    ) -> Reply;
+    fn sft_mend(
+        parameters: Parameters, record: Record,
+        separators: *mut u8, separators_length: usize,
+        numbers: *mut u32, numbers_length: usize,
+        words: *mut u64, words_length: usize,
+        owners: *mut u8, owners_length: usize,
+        pool_numbers: *mut u32, pool_numbers_length: usize,
+        pool_words: *mut u64, pool_words_length: usize,
+        pool_owners: *mut u8, pool_owners_length: usize,
+    ) -> Reply;
     fn sft_mark_changed(
         parameters: Parameters, growth: Growth,
         old: *const u8, old_length: usize,
@@ -184,7 +224,7 @@ pub fn rank(step: u64, groups: u64, group: u64) -> u64 {
 
 /// Runs one call of the library.
 pub fn run(call: &Call, lent: &mut Buffers) -> Outcome {
-    let Call { kind, parameters: p, record: g, caller: c, number, ra, dec, .. } = *call;
+    let Call { kind, parameters: p, record: g, caller: c, number, ra, dec, stores, .. } = *call;
     let Buffers { file, second, .. } = lent;
     let (s, sl) = (file.separators.as_mut_ptr(), file.separators.len());
     let (n, nl) = (file.numbers.as_mut_ptr(), file.numbers.len());
@@ -218,6 +258,14 @@ pub fn run(call: &Call, lent: &mut Buffers) -> Outcome {
             Kind::Step => sft_step(
                 p, g, s, sl, n, nl, w, wl, o, ol, ss, ssl, sn, snl, sw, swl, so, sol, pn, pnl, pw, pwl, po, pol,
             ),
+            Kind::EnterStopped => sft_enter_stopped(
+                p, g, s, sl, n, nl, w, wl, o, ol, pn, pnl, pw, pwl, po, pol, c, number, ra, dec, stores,
+            ),
+            Kind::ChangeStopped => sft_change_stopped(p, g, s, sl, n, nl, w, wl, o, ol, c, number, ra, dec, stores),
+            Kind::RemoveStopped => {
+                sft_remove_stopped(p, g, s, sl, n, nl, w, wl, o, ol, pn, pnl, pw, pwl, po, pol, c, number, stores)
+            }
+            Kind::Mend => sft_mend(p, g, s, sl, n, nl, w, wl, o, ol, pn, pnl, pw, pwl, po, pol),
             _ => panic!("the library has no {}", kind.name()),
         }
     };

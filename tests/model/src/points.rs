@@ -787,6 +787,117 @@ pub fn growth_refused_in_steps(run: Implementation) {
     assert_eq!(answers(session.remove(1)), (0, page));
 }
 
+/// A stopped form stores an entry's pages from the highest down and a removal's from the lowest up, leaves the separators, and
+/// answers as the call; mending gives the file before the call or the one after it.
+pub fn stopped_stores(run: Implementation) {
+    let mut first = Session::new(run, TWO_PAGES);
+    first.caller = 1;
+    assert_eq!(answers(first.enter(32)), (0, 0));
+    let mut second = Session { caller: 2, ..first.clone() };
+    assert_eq!(answers(second.enter(170)), (0, 0));
+    let cut = |from: &Session, kind, number, stores| {
+        let mut session = from.clone();
+        let outcome = session.stopped(kind, number, stores);
+        let pages = (session.lent.file.numbers.clone(), session.lent.file.separators.clone());
+        session.lent.file.separators = vec![200, 7];
+        fill_pool(&mut session);
+        assert_eq!(session.mend().refusal, 0);
+        (answers(outcome), pages, session.lent)
+    };
+    // The entry stores page 1, then page 0; the removal page 0, then page 1.
+    let entering = |stores| cut(&Session { caller: 2, ..first.clone() }, Kind::EnterStopped, 170, stores);
+    assert_eq!(entering(0), ((0, 0), (vec![32, 0], vec![255, 255]), first.lent.clone()));
+    assert_eq!(entering(1), ((0, 0), (vec![32, 32], vec![255, 255]), first.lent.clone()));
+    assert_eq!(entering(2), ((0, 0), (vec![170, 32], vec![223, 255]), second.lent.clone()));
+    assert_eq!(entering(u32::MAX), entering(2));
+    let removing = |stores| cut(&second, Kind::RemoveStopped, 170, stores);
+    assert_eq!(removing(0), ((0, 0), (vec![170, 32], vec![223, 255]), second.lent.clone()));
+    assert_eq!(removing(1), ((0, 0), (vec![32, 32], vec![223, 255]), first.lent.clone()));
+    assert_eq!(removing(2), ((0, 0), (vec![32, 0], vec![255, 255]), first.lent.clone()));
+    // A separator alone is no store: after 170, star 32 goes to page 1, and page 0 keeps its place.
+    let mut session = Session::new(run, TWO_PAGES);
+    assert_eq!(answers(session.enter(170)), (0, 0));
+    assert_eq!(
+        cut(&session, Kind::EnterStopped, 32, 0),
+        ((0, 1), (vec![170, 0], vec![255, 255]), session.lent.clone())
+    );
+    assert_eq!(cut(&session, Kind::EnterStopped, 32, 1).1, (vec![170, 32], vec![223, 255]));
+}
+
+/// A change stores one page, and nothing if the position stays, as a resend does.
+pub fn stopped_changes(run: Implementation) {
+    let mut session = Session::new(run, TWO_PAGES);
+    assert_eq!(answers(session.enter(170)), (0, 0));
+    let before = session.lent.clone();
+    for kind in [Kind::EnterStopped, Kind::ChangeStopped] {
+        assert_eq!((answers(session.stopped(kind, 170, 0)), &session.lent), ((0, 0), &before));
+    }
+    session.lent.file.words[0] = pack(2, 0);
+    let before = session.lent.clone();
+    assert_eq!((answers(session.stopped(Kind::ChangeStopped, 170, 0)), &session.lent), ((0, 0), &before));
+    assert_eq!(session.stopped(Kind::EnterStopped, 170, 9).refusal, 6);
+    assert_eq!(
+        (answers(session.stopped(Kind::ChangeStopped, 170, 1)), session.lent.file.words[0]),
+        ((0, 0), pack(1, 0))
+    );
+}
+
+/// On a file that is not clean a stopped entry may lose another's star: it stands on page 1 and its first page is 0.
+pub fn stopped_on_sound_pages(run: Implementation) {
+    let mut session = Session::new(run, [1, 1, 1, 1, 8, 50, 3]);
+    session.lent.file.separators[0] = 0;
+    (session.lent.file.numbers[1], session.lent.file.words[1], session.lent.file.owners[1]) = (32, pack(1, 0), 2);
+    session.caller = 1;
+    let mut whole = session.clone();
+    assert_eq!((whole.enter(4).refusal, session.stopped(Kind::EnterStopped, 4, 1).refusal), (0, 0));
+    assert!(whole.lent.file.numbers.contains(&32) && !session.lent.file.numbers.contains(&32));
+}
+
+/// Mending takes pages as they are and reads no separator; 15 comes after 16 and before 8, with page 0.
+pub fn mending(run: Implementation) {
+    let star = |session: &mut Session, item: usize, number, word, owner| {
+        let file = &mut session.lent.file;
+        (file.numbers[item], file.words[item], file.owners[item]) = (number, word, owner);
+    };
+    let mut clean = Session::new(run, [3, 1, 1, 1, 8, 50, 2]);
+    assert_eq!((clean.enter(170).refusal, clean.enter(32).refusal), (0, 0));
+    let mut session = Session::new(run, [3, 1, 1, 1, 8, 50, 2]);
+    for (item, number) in [(1, 170), (3, 32), (4, 170), (5, 32)] {
+        star(&mut session, item, number, pack(1, 0), 0);
+    }
+    session.lent.file.separators = vec![0, 9];
+    let mut mended = session.clone();
+    fill_pool(&mut mended);
+    assert_eq!((spot(mended.mend()), &mended.lent, mended.record), ((0, 0, 0), &clean.lent, session.record));
+    let damage = [
+        (4, 170, pack(2, 0), 0),
+        (4, 170, pack(1, 0), 3),
+        (2, 2_147_483_647, pack(1, 0), 0),
+        (2, 5, u64::MAX, 0),
+        (2, 0, 1, 0),
+        (2, 0, 0, 1),
+    ];
+    for (item, number, word, owner) in damage {
+        let mut session = session.clone();
+        star(&mut session, item, number, word, owner);
+        let before = session.lent.clone();
+        fill_pool(&mut session);
+        assert_eq!((spot(session.mend()), &session.lent), ((15, 0, 0), &before));
+        session.record.open = true;
+        assert_eq!(session.mend().refusal, 16);
+    }
+    // Two stars of one home with one signature on both pages, or none that is below 1.
+    let mut full = Session::new(run, [1, 1, 1, 1, 1, 50, 2]);
+    star(&mut full, 0, 1, pack(1, 0), 0);
+    star(&mut full, 1, 2, pack(1, 0), 0);
+    let before = full.lent.clone();
+    assert_eq!((spot(full.mend()), &full.lent), ((8, 0, 0), &before));
+    full.lent.file.owners[0] = 1;
+    assert_eq!(full.mend().refusal, 8);
+    full.lent.file.words[0] = u64::MAX;
+    assert_eq!(full.mend().refusal, 15);
+}
+
 /// A test of each point for an implementation.
 #[macro_export]
 macro_rules! point_tests {
@@ -796,7 +907,8 @@ macro_rules! point_tests {
             nothing_to_give_back growth_repairs entry_below_named_page removal_raises_separator
             entry_without_room_in_its_reach entry_into_full_file check_order damaged_values places resends cascades
             pages_in_use pool_contents strangers strangers_before_reach owners_travel owner_of_an_empty_place owner_lengths
-            growth_in_steps out_of_turn record_limits growth_refused_in_steps);
+            growth_in_steps out_of_turn record_limits growth_refused_in_steps stopped_stores stopped_changes
+            stopped_on_sound_pages mending);
     };
     ($run:path: $($name:ident)*) => {
         $(#[test] fn $name() { $crate::points::$name($run) })*

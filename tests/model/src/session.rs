@@ -69,6 +69,16 @@ impl Session {
         self.call(Kind::Step, 0, 0, 0)
     }
 
+    /// A stopped form, with the position that the entries have.
+    pub fn stopped(&mut self, kind: Kind, number: u32, stores: u32) -> Outcome {
+        let Session { parameters, record, caller, .. } = *self;
+        self.run(Call { caller, number, ra: 1, stores, ..Call::new(kind, parameters, record) })
+    }
+
+    pub fn mend(&mut self) -> Outcome {
+        self.call(Kind::Mend, 0, 0, 0)
+    }
+
     pub fn due(&mut self) -> Outcome {
         self.call(Kind::Due, 0, 0, 0)
     }
