@@ -20,7 +20,7 @@ fn parameters_and_growth(file: &File) -> (Parameters, Growth) {
 pub fn library(file: &File) -> Box<dyn Library> {
     let (parameters, growth) = parameters_and_growth(file);
     let record = Record::closed(growth);
-    let call = Call { kind: Kind::Due, parameters, record, caller: 0, number: 0, ra: 0, dec: 0 };
+    let call = Call::new(Kind::Due, parameters, record);
     let pages = Pages {
         separators: file.separators.clone(),
         numbers: file.numbers.clone(),

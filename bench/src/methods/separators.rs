@@ -20,7 +20,7 @@ pub struct Separators {
 
 impl Separators {
     pub fn new(parameters: Parameters) -> Separators {
-        let session = Session::with(interface::run, parameters);
+        let session = Session::with(interface::LIBRARY, parameters);
         Separators { session, procedures: Procedures::new(parameters, Cut::SectionTwo), changed: 0 }
     }
 

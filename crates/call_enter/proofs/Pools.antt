@@ -13,9 +13,11 @@ use Rattle.entry_reach.specs.Entry.{Unheld}
 use Rattle.call_guard.proofs.Admitting.{readable-facts}
 use Rattle.entry_cascade.specs.Cascade.{overflow, stopOf, cascadeUnsound}
 use Rattle.reach.specs.Reach.{pagesTo, entryEnd, entersWithin, firstUnsound, isEmpty}
-use Rattle.calls.specs.Answers.{Pool, cleared}
+use Rattle.calls.specs.declared.answers.Answer.{Answer}
+use Rattle.calls.specs.Answers.{Pool, After, Leaves, Stores, cleared}
 use Rattle.calls.specs.Calls.{guarded, named, readable, holds, placeFor, entryRefusal, entered, enterOf, enterOn, enterTo, cascadeOf, cascadeOn, cascadeFrom}
-use Rattle.call_enter.specs.Entries.{entryFrom, entryOn, entryOf}
+use Rattle.call_enter.specs.Entries.{entryFrom, entryOn, entryOf, unlessCascading}
+use Rattle.outcome_answer.proofs.Stopped.{unmoved-leaves, unmoved-stores}
 use Rattle.outcome_answer.proofs.Pools.{cases-pool, named-pool}
 
 pub unheld : (p : Parameters) (g : Growth) (f : File) (k : ℕ) → readable p g f (named p g f k) ≡ true → holds p f (named p g f k) k ≡ false → Unheld p g f k
@@ -52,3 +54,16 @@ module _ (p : Parameters) (g : Growth) (f : File) (pool : Pool) where
   unfolding cascadeOf cascadeOn enterOf enterOn
   entry-way true caller k position = refl
   entry-way false caller k position = refl
+
+-- the stopped form of an entry that leaves the file is the entry
+pub kept-leaves : (cascading : Bool) (p : Parameters) (n : ℕ) {after : After} {answer : Answer} {f : File} {pool : Pool} → Leaves after answer f pool → Leaves (unlessCascading cascading p f n after) answer f pool
+kept-leaves true p n L = L
+kept-leaves false p n L = unmoved-leaves false p n L
+
+pub kept-stores : (cascading : Bool) (p : Parameters) (n : ℕ) {after : After} {answer : Answer} {f : File} → Stores after answer f → Stores (unlessCascading cascading p f n after) answer f
+kept-stores true p n L = L
+kept-stores false p n L = unmoved-stores false p n L
+
+pub stopped-pool : (cascading : Bool) (p : Parameters) (f : File) (n : ℕ) (after : After) → unlessCascading cascading p f n after .pool ≡ after .pool
+stopped-pool true p f n after = refl
+stopped-pool false p f n after = refl

@@ -1,5 +1,5 @@
 -- The two ways of an entry as one, for code that they share.
-use mathlib.Core.Bool.{Bool, cond}
+use mathlib.Core.Bool.{Bool, true, false, cond}
 use Prim.Native.Nat.{ℕ}
 use Rattle.hashing.specs.declared.Parameters.{Parameters}
 use Rattle.hashing.specs.declared.Growth.{Growth}
@@ -9,6 +9,7 @@ use Rattle.placement.specs.Rule.{Star}
 use Rattle.placement.specs.File.{File}
 use Rattle.reach.specs.Reach.{entryEnd}
 use Rattle.calls.specs.Answers.{Pool, After}
+use Rattle.calls.specs.Stores.{stopped}
 use Rattle.calls.specs.Calls.{placeFor, unlessHeld, enterTo, enterOf, cascadeFrom, cascadeOf}
 
 -- an entry of a star that is not held, over its reach or `cascading` from the named page
@@ -23,3 +24,8 @@ entryOn cascading p g f pool page s = unlessHeld p g f pool page s (entryFrom ca
 
 abbrev pub entryOf : Bool → Parameters → Growth → File → Pool → ℕ → ℕ → Position → After
 entryOf cascading p g f pool caller k position = cond cascading (cascadeOf p g f pool caller k position) (enterOf p g f pool caller k position)
+
+-- an entry over its reach is stopped after n stores; one by a cascade is not
+abbrev pub unlessCascading : Bool → Parameters → File → ℕ → After → After
+unlessCascading true p f n after = after
+unlessCascading false p f n after = stopped false p f n after

@@ -7,13 +7,15 @@ ghost use Rattle.placement.specs.Ready.{Pooled};
 ghost use Rattle.placement.specs.Rule.{starWith};
 ghost use Rattle.calls.specs.Answers.{Leaves, Stores, cleared, placed};
 ghost use Rattle.calls.specs.Calls.{enterOf, cascadeOf, named};
-ghost use Rattle.call_enter.specs.Entries.{entryOn, entryOf};
+ghost use Rattle.calls.specs.Stores.{enterStoppedOf};
+ghost use Rattle.call_enter.specs.Entries.{entryOn, entryOf, unlessCascading};
 ghost use Rattle.calls.specs.Lent.{Admitted, poolBefore, poolAfter};
 use call_guard::all_fit;
 use call_guard::guard;
 use calls::answers::Admission;
 use calls::answers::Placed;
 use calls::answers::Refusal;
+use decision::Newcomer;
 use hashing::Geometry;
 use hashing::Growth;
 use hashing::Parameters;
@@ -54,10 +56,48 @@ pub fn enter(
         caller,
         number,
         position,
+        parameters.pages,
     )
 }
 
-// The same by a cascade: it reads the pages from the named one upward, one at a time, until none has a star to push on.
+// The same, stopped after so many page stores: a page is stored whole, the highest that changes first, and the separators after the last.
+pub fn enter_stopped(
+    parameters: Parameters,
+    growth: Growth,
+    separators: &mut [u8],
+    numbers: &mut [u32],
+    words: &mut [u64],
+    owners: &mut [u8],
+    poolnumbers: &mut [u32],
+    poolwords: &mut [u64],
+    poolowners: &mut [u8],
+    caller: u8,
+    number: u32,
+    position: Position,
+    stores: u32,
+) -> Placed
+    ensures { λ r. ⌜ Leaves (enterStoppedOf parameters growth (before separators numbers words owners) (poolBefore poolnumbers poolwords poolowners) caller number position stores)
+        (placed r) (after separators numbers words owners) (poolAfter poolnumbers poolwords poolowners) ⌝ }
+{
+    enter_by(
+        parameters,
+        growth,
+        false,
+        separators,
+        numbers,
+        words,
+        owners,
+        poolnumbers,
+        poolwords,
+        poolowners,
+        caller,
+        number,
+        position,
+        stores,
+    )
+}
+
+// The entry by a cascade: it reads the pages from the named one upward, one at a time, until none has a star to push on.
 pub fn cascade(
     parameters: Parameters,
     growth: Growth,
@@ -89,10 +129,11 @@ pub fn cascade(
         caller,
         number,
         position,
+        0,
     )
 }
 
-// An entry over its reach, or `cascading`.
+// An entry over its reach, stopped after so many page stores, or `cascading`.
 fn enter_by(
     parameters: Parameters,
     growth: Growth,
@@ -107,8 +148,10 @@ fn enter_by(
     caller: u8,
     number: u32,
     position: Position,
+    stores: u32,
 ) -> Placed
-    ensures { λ r. ⌜ Leaves (entryOf cascading parameters growth (before separators numbers words owners) (poolBefore poolnumbers poolwords poolowners) caller number position)
+    ensures { λ r. ⌜ Leaves (unlessCascading cascading parameters (before separators numbers words owners) stores
+        (entryOf cascading parameters growth (before separators numbers words owners) (poolBefore poolnumbers poolwords poolowners) caller number position))
         (placed r) (after separators numbers words owners) (poolAfter poolnumbers poolwords poolowners) ⌝ }
 {
     let fits = all_fit(
@@ -145,6 +188,7 @@ fn enter_by(
         caller,
         number,
         word,
+        stores,
     );
     plan_transfer::clear(poolnumbers, poolwords, poolowners);
     answer
@@ -165,12 +209,14 @@ fn enter_star(
     caller: u8,
     number: u32,
     word: u64,
+    stores: u32,
 ) -> Placed
     requires { ⌜ Admitted parameters growth (held separators numbers words owners) ⌝ }
     requires { ⌜ Pooled parameters (now poolnumbers) (now poolwords) (now poolowners) ⌝ }
     requires { ⌜ validNumber number ≡ true ⌝ }
-    ensures { λ r. ⌜ Stores (entryOn cascading parameters growth (before separators numbers words owners) (cleared (poolBefore poolnumbers poolwords poolowners))
-        (named parameters growth (before separators numbers words owners) number) (starWith number word caller))
+    ensures { λ r. ⌜ Stores (unlessCascading cascading parameters (before separators numbers words owners) stores
+        (entryOn cascading parameters growth (before separators numbers words owners) (cleared (poolBefore poolnumbers poolwords poolowners))
+        (named parameters growth (before separators numbers words owners) number) (starWith number word caller)))
         (placed r) (after separators numbers words owners) ⌝ }
 {
     let geometry = Geometry { parameters, growth };
@@ -213,8 +259,16 @@ fn enter_star(
             named.place,
         );
     }
+    let star = Newcomer {
+        number,
+        word,
+        owner: caller,
+        home: named.home,
+        place: named.place,
+        page: named.page,
+    };
     placed_from(
-        entry_run::enter_star(
+        entry_reach::enter_star(
             &table,
             geometry,
             separators,
@@ -224,12 +278,8 @@ fn enter_star(
             poolnumbers,
             poolwords,
             poolowners,
-            number,
-            word,
-            caller,
-            named.home,
-            named.place,
-            named.page,
+            star,
+            stores as usize,
         ),
         named.place,
     )

@@ -2,6 +2,7 @@
 ghost use Rattle.placement.specs.Lent.{held, before};
 ghost use Rattle.calls.specs.Answers.{Leaves, unpooled, placed};
 ghost use Rattle.calls.specs.Calls.{changeOf};
+ghost use Rattle.calls.specs.Stores.{changeStoppedOf};
 use call_guard::file_fits;
 use call_guard::guard;
 use call_guard::may_alter;
@@ -27,6 +28,36 @@ pub fn change(
     position: Position,
 ) -> Placed
     ensures { λ r. ⌜ Leaves (changeOf parameters growth (before separators numbers words owners) unpooled caller number position)
+        (placed r) (held (separators .entry) (numbers .entry) (words .exit) (owners .entry)) unpooled ⌝ }
+{
+    change_stopped(
+        parameters,
+        growth,
+        separators,
+        numbers,
+        words,
+        owners,
+        caller,
+        number,
+        position,
+        parameters.pages,
+    )
+}
+
+// The same, stopped after so many page stores: one stores the page.
+pub fn change_stopped(
+    parameters: Parameters,
+    growth: Growth,
+    separators: &[u8],
+    numbers: &[u32],
+    words: &mut [u64],
+    owners: &[u8],
+    caller: u8,
+    number: u32,
+    position: Position,
+    stores: u32,
+) -> Placed
+    ensures { λ r. ⌜ Leaves (changeStoppedOf parameters growth (before separators numbers words owners) unpooled caller number position stores)
         (placed r) (held (separators .entry) (numbers .entry) (words .exit) (owners .entry)) unpooled ⌝ }
 {
     let fits = file_fits(
@@ -67,6 +98,9 @@ pub fn change(
     }
     if !may_alter(caller, named.owner) {
         return Placed::Refused(Refusal::NotOwner, named.place);
+    }
+    if stores == 0 {
+        return Placed::On(page, named.place);
     }
     let item = named.item;
     words[item] = pages::position::pack(position);

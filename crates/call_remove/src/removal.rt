@@ -6,6 +6,7 @@ ghost use Rattle.placement.specs.Lent.{held, before, after};
 ghost use Rattle.placement.specs.Ready.{Pooled};
 ghost use Rattle.calls.specs.Answers.{Leaves, Stores, cleared, placed};
 ghost use Rattle.calls.specs.Calls.{removeOf, removeOn, named};
+ghost use Rattle.calls.specs.Stores.{stopped, removeStoppedOf};
 ghost use Rattle.calls.specs.Lent.{Admitted, poolBefore, poolAfter};
 use call_guard::all_fit;
 use call_guard::guard;
@@ -36,6 +37,40 @@ pub fn remove(
     ensures { λ r. ⌜ Leaves (removeOf parameters growth (before separators numbers words owners) (poolBefore poolnumbers poolwords poolowners) caller number)
         (placed r) (after separators numbers words owners) (poolAfter poolnumbers poolwords poolowners) ⌝ }
 {
+    remove_stopped(
+        parameters,
+        growth,
+        separators,
+        numbers,
+        words,
+        owners,
+        poolnumbers,
+        poolwords,
+        poolowners,
+        caller,
+        number,
+        parameters.pages,
+    )
+}
+
+// The same, stopped after so many page stores: a page is stored whole, the lowest that changes first, and the separators after the last.
+pub fn remove_stopped(
+    parameters: Parameters,
+    growth: Growth,
+    separators: &mut [u8],
+    numbers: &mut [u32],
+    words: &mut [u64],
+    owners: &mut [u8],
+    poolnumbers: &mut [u32],
+    poolwords: &mut [u64],
+    poolowners: &mut [u8],
+    caller: u8,
+    number: u32,
+    stores: u32,
+) -> Placed
+    ensures { λ r. ⌜ Leaves (removeStoppedOf parameters growth (before separators numbers words owners) (poolBefore poolnumbers poolwords poolowners) caller number stores)
+        (placed r) (after separators numbers words owners) (poolAfter poolnumbers poolwords poolowners) ⌝ }
+{
     let fits = all_fit(
         parameters,
         separators.len(),
@@ -64,6 +99,7 @@ pub fn remove(
         poolowners,
         caller,
         number,
+        stores,
     );
     plan_transfer::clear(poolnumbers, poolwords, poolowners);
     answer
@@ -82,12 +118,14 @@ fn remove_held(
     poolowners: &mut [u8],
     caller: u8,
     number: u32,
+    stores: u32,
 ) -> Placed
     requires { ⌜ Admitted parameters growth (held separators numbers words owners) ⌝ }
     requires { ⌜ Pooled parameters (now poolnumbers) (now poolwords) (now poolowners) ⌝ }
     requires { ⌜ validNumber number ≡ true ⌝ }
-    ensures { λ r. ⌜ Stores (removeOn parameters growth (before separators numbers words owners) (cleared (poolBefore poolnumbers poolwords poolowners))
-        (named parameters growth (before separators numbers words owners) number) caller number)
+    ensures { λ r. ⌜ Stores (stopped true parameters (before separators numbers words owners) stores
+        (removeOn parameters growth (before separators numbers words owners) (cleared (poolBefore poolnumbers poolwords poolowners))
+        (named parameters growth (before separators numbers words owners) number) caller number))
         (placed r) (after separators numbers words owners) ⌝ }
 {
     let geometry = Geometry { parameters, growth };
@@ -127,6 +165,7 @@ fn remove_held(
             named.home,
             named.page,
             named.place,
+            stores as usize,
         ),
         named.place,
     )

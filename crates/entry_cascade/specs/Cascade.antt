@@ -1,6 +1,6 @@
 -- The entry by a cascade, from the page that the separators name upward: document 02 (ix).
 use mathlib.Core.Path.{_≡_}
-use mathlib.Core.Bool.{true, false, cond}
+use mathlib.Core.Bool.{false, cond}
 use mathlib.Core.List.{List, [], _∷_}
 use Prim.Native.Nat.{ℕ, _+_, _-_, _*_, _≤_, _<_}
 use lib.Dec.{ltb}
@@ -8,12 +8,9 @@ use lib.ListN.{length}
 use lib.Seq.{slice}
 use Rattle.hashing.specs.declared.Parameters.{Parameters}
 use Rattle.hashing.specs.declared.Growth.{Growth}
-use Rattle.hashing.specs.declared.Geometry.{Geometry}
-use Rattle.pages.specs.Position.{validNumber}
 use Rattle.placement.specs.Rule.{Star, Contents, separators}
 use Rattle.placement.specs.File.{File, column, written, replaced}
-use Rattle.placement.specs.Hash.{namedPage, homeUnder, hashOf}
-use Rattle.placement.specs.Ready.{Ready}
+use Rattle.placement.specs.Hash.{hashOf}
 use Rattle.reach.specs.Reach.{isEmpty, pagesTo, firstUnsound, holding}
 use Rattle.reach.specs.Cascade.{cascaded, carriedPast}
 use Rattle.page_separator.specs.Probes.{stayingWords, passingWords, wordsSeparatorFrom}
@@ -23,15 +20,7 @@ use Rattle.entry_reach.specs.declared.blocks.Reach.{Reach}
 use Rattle.entry_reach.specs.declared.blocks.Reach.the-variants.{Ends, Unsound, Overflows}
 use Rattle.page_plan.specs.declared.outcome.Outcome.{Outcome}
 use Rattle.page_plan.specs.declared.outcome.Outcome.the-variants.{On, Unsound as outcome·Unsound, Overflows as outcome·Overflows}
-use Rattle.entry_reach.specs.Entry.{Unheld, newStar}
-
--- a star that the file does not hold is to be entered, and `page` is the one that the separators name for it
-pub record Enters (g : Geometry) (t : List ℕ) (f : File) (k home page : ℕ) : Type 0 where
-  pub ready : Ready g t f
-  pub number : validNumber k ≡ true
-  pub unheld : Unheld (g .parameters) (g .growth) f k
-  pub homed : home ≡ homeUnder g k
-  pub here : page ≡ namedPage (g .parameters) (g .growth) (f .separators) k
+use Rattle.entry_reach.specs.Entry.{newStar}
 
 -- what the pages visited get, of the star s that comes to `page`, and what is carried past page M−1
 abbrev pub visited : Parameters → Growth → File → Star → ℕ → List Contents

@@ -4,7 +4,8 @@ ghost use Prim.Native.Nat.{_+_, _-_, _*_, _≤_};
 ghost use lib.ListN.{length, getD};
 ghost use Rattle.placement.specs.Lent.{held, before};
 ghost use Rattle.entry_reach.specs.declared.blocks.Reach.the-variants.{Ends};
-ghost use Rattle.entry_cascade.specs.Cascade.{Enters, Plans};
+ghost use Rattle.entry_reach.specs.Entry.{Enters};
+ghost use Rattle.entry_cascade.specs.Cascade.{Plans};
 use crate::arriving::append;
 use hashing::Geometry;
 

@@ -7,15 +7,17 @@ use Prim.Native.Nat.{ℕ, zero, suc, _+_, _-_, _*_, _≤_, _<_}
 use native.Mathlib.Nat.{add-zero, zero-add}
 use native.Mathlib.Omega.{arith}
 use lib.Dec.{eqb, ltb}
-use lib.ListN.{length, take, drop, getD, length-append}
+use lib.ListN.{length, take, drop, getD, length-append, length-drop, take-append-drop}
 use lib.Seq.{drop-at, length-take-le}
 use borrow.Author.Tests.{eqb-true, eq-eqb}
 use Rattle.buffers.specs.Lists.{written}
+use Rattle.buffers.proofs.Lists.{drop-take}
+use Rattle.buffers.proofs.Written.{taken-written}
 use Rattle.pages.specs.Page.{stretch}
 use Rattle.hashing.specs.declared.Parameters.{Parameters}
 use Rattle.hashing.specs.declared.Growth.{Growth}
 use Rattle.placement.specs.Rule.{Star, Hash, Contents, separators, pages, left, first, blank}
-use Rattle.placement.specs.File.{File, gathered, replaced}
+use Rattle.placement.specs.File.{File, Sized, gathered, replaced}
 use Rattle.placement.specs.Hash.{namedPage, lent, hashOf}
 use Rattle.placement.proofs.Composition.{length-pages}
 use Rattle.placement.proofs.Order.{inserted}
@@ -27,8 +29,19 @@ use Rattle.reach.specs.Reach.{pagesTo, entering, entersWithin, entryEnd, hasNum
 use Rattle.reach.proofs.Search.{such}
 use Rattle.entry_reach.specs.declared.blocks.Reach.the-variants.{Ends, Unsound, Overflows}
 use Rattle.page_plan.specs.declared.outcome.Outcome.the-variants.{On, Unsound as outcome·Unsound, Overflows as outcome·Overflows}
-use Rattle.entry_reach.specs.Entry.{newStar, entryStart, entryLast, entryCount, entryUnsound, entryContents, reachAnswer, entryAnswer, entryFile, Applies}
+use Rattle.entry_reach.specs.Entry.{newStar, entryStart, entryLast, entryCount, entryUnsound, entryContents, reachAnswer, entryAnswer, entryFile, Applies, Decides}
+use Rattle.decision.specs.declared.chosen.Decision.the-variants.{Planned}
 use Rattle.entry_reach.proofs.Reached.{ending, unsound-ends, overflows-ends}
+
+-- a part of a list's front
+taken-front : (m a n : ℕ) (l : List ℕ) → a + n ≤ m → take n (drop a (take m l)) ≡ take n (drop a l)
+taken-front m a n l h = ap (take n) (drop-take a m l) ∙ front (m - a) n (drop a l) (omega arith)
+  where
+    front : (m n : ℕ) (l : List ℕ) → n ≤ m → take n (take m l) ≡ take n l
+    front m zero l h = refl
+    front zero (suc n) l h = absurd (omega arith)
+    front (suc m) (suc n) [] h = refl
+    front (suc m) (suc n) (x ∷ l) h = ap (λ (t : List ℕ). x ∷ t) (front m n l (omega arith))
 
 -- which page holds a number
 
@@ -99,6 +112,14 @@ first-written H a k vs us e h inside =
 
     size : length (take a us) ≡ a
     size = length-take-le a us h
+
+-- the pages from a number's home on begin with those that name one of them
+pub first-planned : (H : Hash) (a k : ℕ) (vs us rest : List ℕ) → H .home k ≡ a → drop a us ≡ vs ++ rest → a ≤ length us → first H a vs k < a + length vs
+    → first H 0 us k ≡ first H a vs k
+first-planned H a k vs us rest e parts h inside =
+    sym (rw (zero-add a) at (first-home-on H 0 a us k (omega arith) (omega (arith, zero-add a))))
+    ∙ ap (λ (l : List ℕ). first H a l k) parts
+    ∙ first-append H a vs rest k inside
 
 -- the answers
 
@@ -178,6 +199,59 @@ module _ (p : Parameters) (g : Growth) (f : File) (k word owner : ℕ) where
         ap On h
         ∙ sym (ends-way unsoundHere entersHere last (entryUnsound p g f (newStar k word owner)) (entryLast p g f (newStar k word owner)) (outcome·Unsound (entryUnsound p g f (newStar k word owner))) (On (holding k (entryStart p g k) (entryContents p g f (newStar k word owner)))) outcome·Overflows e .2)
 
+    -- separators that have the reach's, elsewhere any
+    pub planned-holds : (us : List ℕ) → entryStart p g k ≤ length us
+        → take (entryCount p g f (newStar k word owner)) (drop (entryStart p g k) us) ≡ separators (entryContents p g f (newStar k word owner))
+        → namedPage p g us k ≡ holding k (entryStart p g k) (entryContents p g f (newStar k word owner))
+    unfolding namedPage
+    planned-holds us h parts =
+        let r = held-first (hashOf p g) (entryStart p g k) (entryCount p g f (newStar k word owner)) (entering (hashOf p g) f (newStar k word owner) (entryLast p g f (newStar k word owner))) (newStar k word owner) nothing-left new-waits in
+        let n : ℕ = entryCount p g f (newStar k word owner) in
+        first-planned (hashOf p g) (entryStart p g k) k (separators (entryContents p g f (newStar k word owner))) us (drop n (drop (entryStart p g k) us)) refl
+        (sym (take-append-drop n (drop (entryStart p g k) us)) ∙ ap (λ (l : List ℕ). l ++ drop n (drop (entryStart p g k) us)) parts) h
+        (omega (arith, r .1, length-separators (entryContents p g f (newStar k word owner)), length-pages (hashOf p g) (entryStart p g k) (entryCount p g f (newStar k word owner)) (entering (hashOf p g) f (newStar k word owner) (entryLast p g f (newStar k word owner)))))
+        ∙ sym (r .0)
+
+    -- the separators that the plan has written for the reach
+    module _ (pool planned : List ℕ) (sized : Sized (p .places) (p .pages) f) (high : last < p .pages) (long : p .pages ≤ length planned) (applies : Applies p g f k pool planned (Ends last)) where
+      reach-count : pagesTo (entryStart p g k) last ≡ entryCount p g f (newStar k word owner)
+      reach-count = ap (pagesTo (entryStart p g k)) (file-way .0)
+
+      fits : entryStart p g k + entryCount p g f (newStar k word owner) ≤ p .pages
+      fits = omega (arith, reach-count, last-least)
+
+      separators-planned : take (entryCount p g f (newStar k word owner)) (drop (entryStart p g k) planned) ≡ separators (entryContents p g f (newStar k word owner))
+      unfolding applied replaced
+      separators-planned =
+          let n : ℕ = entryCount p g f (newStar k word owner) in
+          let a : ℕ = entryStart p g k in
+          let vs : List ℕ = separators (entryContents p g f (newStar k word owner)) in
+          let few : a ≤ length (f .separators) = omega (arith, fits, sized .ofSeparators) in
+          let size : length (take n (drop a planned)) ≡ n = length-take-le n (drop a planned) (rw (length-drop a planned) (omega (arith, fits))) in
+          let same : written a (take n (drop a planned)) (f .separators) ≡ written a vs (f .separators) =
+          ap (λ (m : ℕ). written a (take m (drop a planned)) (f .separators)) (sym reach-count) ∙ ap (λ (x : File). x .separators) (applies word owner last refl .1 ∙ file-way .2) in
+          sym (taken-written a n (take n (drop a planned)) (f .separators) size few)
+          ∙ ap (λ (l : List ℕ). take n (drop a l)) same
+          ∙ taken-written a n vs (f .separators) (length-separators (entryContents p g f (newStar k word owner)) ∙ length-pages (hashOf p g) a n (entering (hashOf p g) f (newStar k word owner) (entryLast p g f (newStar k word owner)))) few
+
+      within : take (entryCount p g f (newStar k word owner)) (drop (entryStart p g k) (take (p .pages) planned)) ≡ take (entryCount p g f (newStar k word owner)) (drop (entryStart p g k) planned)
+      within = taken-front (p .pages) (entryStart p g k) (entryCount p g f (newStar k word owner)) planned fits
+
+      pub ends-decided : (from page : ℕ) → from ≡ entryStart p g k → page ≡ namedPage p g (take (p .pages) planned) k → Decides p g f (newStar k word owner) pool planned (Planned from (last + 1 - from) page)
+      ends-decided from page at named =
+          let low : from ≤ last = omega (arith, at, last-least) in
+          let count : last + 1 - from ≡ pagesTo (entryStart p g k) last = omega (arith, at, low) in
+          record {
+            answers =
+                ends-answer page
+                (named ∙ planned-holds (take (p .pages) planned) (omega (arith, fits, length-take-le (p .pages) planned long)) (within ∙ separators-planned));
+            files =
+                ap (λ (m : ℕ). applied (p .places) m (last + 1 - from) k word owner pool planned f) at
+                ∙ ap (λ (m : ℕ). applied (p .places) (entryStart p g k) m k word owner pool planned f) count
+                ∙ applies word owner last refl .1;
+            feasible = (omega (arith, low, high), omega (arith, low, high, long));
+          }
+
 -- the lists that applying the plan leaves
 
 pub lists-applied : (places lo count k word owner : ℕ) (pool planned : List ℕ) (f : File) (s n w o : List ℕ) → s ≡ written lo (take count (drop lo planned)) (f .separators)
@@ -187,17 +261,3 @@ pub lists-applied : (places lo count k word owner : ℕ) (pool planned : List �
     → lent s n w o ≡ applied places lo count k word owner pool planned f
 unfolding applied
 lists-applied places lo count k word owner pool planned f s n w o es en ew eo = λ i. record { separators = es i; numbers = en i; words = ew i; owners = eo i }
-
-module _ (p : Parameters) (g : Growth) (f : File) (k word owner : ℕ) (pool planned : List ℕ) (last : ℕ) (e : Ends last ≡ reachAnswer p g f (newStar k word owner)) where
-  abbrev Applied : List ℕ → ℕ → List ℕ → Type 0
-  Applied l new d = d ≡ written (entryStart p g k * p .places) (map (namedItem l new) (stretch (p .places) (entryStart p g k) (last + 1 - entryStart p g k) pool)) l
-
-  pub entry-file : Applies p g f k pool planned (Ends last) → (s n w o : List ℕ)
-      → s ≡ written (entryStart p g k) (take (last + 1 - entryStart p g k) (drop (entryStart p g k) planned)) (f .separators)
-      → Applied (f .numbers) k n → Applied (f .words) word w → Applied (f .owners) owner o
-      → lent s n w o ≡ entryFile p g f (newStar k word owner)
-  entry-file applies s n w o es en ew eo =
-      let count : last + 1 - entryStart p g k ≡ pagesTo (entryStart p g k) last = omega (arith, last-least p g f k word owner last e) in
-      lists-applied (p .places) (entryStart p g k) (last + 1 - entryStart p g k) k word owner pool planned f s n w o es en ew eo
-      ∙ ap (λ (m : ℕ). applied (p .places) (entryStart p g k) m k word owner pool planned f) count
-      ∙ applies word owner last refl .1

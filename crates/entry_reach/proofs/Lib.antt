@@ -5,3 +5,4 @@ pub mod Reached
 pub mod Surveyed
 pub mod Holding
 pub mod OnePage
+pub mod Runs

@@ -1,5 +1,5 @@
 -- An entry that the home page takes alone: its reach is that page, all its stars and the new one stay, and the separator with them.
-use mathlib.Core.Path.{_≡_, refl, sym, ap, _∙_}
+use mathlib.Core.Path.{_≡_, refl, sym, ap, subst, _∙_}
 use mathlib.Core.Bool.{true}
 use mathlib.Core.List.{List, [], _∷_, map, List·Memᴰ}
 use mathlib.Core.Logic.{⊎-elim}
@@ -28,7 +28,8 @@ use Rattle.page_edit.specs.Shift.{numberAt, starsOn, Vacant, takesAlone}
 use Rattle.page_edit.proofs.Shifted.{vacant-room}
 use Rattle.page_edit.proofs.OnePage.{file-alone, pages-alone, left-alone, first-here, named-home, ordered-page, homed-here, gathered-alone}
 use Rattle.page_plan.specs.declared.outcome.Outcome.the-variants.{On, Unsound, Overflows}
-use Rattle.entry_reach.specs.Entry.{Unheld, newStar, entryStart, entryLast, entryUnsound, entryContents, entryAnswer, entryFile}
+use Rattle.entry_reach.specs.Entry.{Unheld, newStar, entryStart, entryLast, entryUnsound, entryContents, entryAnswer, entryFile, Decides}
+use Rattle.decision.specs.declared.chosen.Decision.the-variants.{Put}
 use Rattle.entry_reach.proofs.Reached.{ending, by-reach}
 use Rattle.entry_reach.proofs.Holding.{member-has}
 
@@ -52,7 +53,7 @@ module _ (p : Parameters) (g : Growth) (f : File) (k : ℕ) (valid : validParame
   sound-there = ap (soundAt p g f) (sym named-there) ∙ unheld .sound
 
   -- where the new star is put
-  pub vacant-home : (place : ℕ) → place ≡ placeOf k (part (p .places) (namedPage p g (f .separators) k) (f .numbers))
+  vacant-home : (place : ℕ) → place ≡ placeOf k (part (p .places) (namedPage p g (f .separators) k) (f .numbers))
       → Vacant (p .places) (entryStart p g k) place k (f .numbers) (f .words) (f .owners)
   vacant-home place e =
       record {
@@ -127,7 +128,7 @@ module _ (p : Parameters) (g : Growth) (f : File) (k : ℕ) (valid : validParame
         ∙ ap (replaced (p .places) f (entryStart p g k)) contents)
 
     -- the lists with the star put on its home page
-    pub alone-lists : (from : ℕ) → from ≡ entryStart p g k → (ns ws os : List ℕ)
+    alone-lists : (from : ℕ) → from ≡ entryStart p g k → (ns ws os : List ℕ)
         → ns ≡ written (from * p .places) (padded (p .places) (map numberOf (insert (newStar k word owner) (starsOn (p .places) from (f .numbers) (f .words) (f .owners))))) (f .numbers)
         → ws ≡ written (from * p .places) (padded (p .places) (map wordOf (insert (newStar k word owner) (starsOn (p .places) from (f .numbers) (f .words) (f .owners))))) (f .words)
         → os ≡ written (from * p .places) (padded (p .places) (map ownerOf (insert (newStar k word owner) (starsOn (p .places) from (f .numbers) (f .words) (f .owners))))) (f .owners)
@@ -139,3 +140,18 @@ module _ (p : Parameters) (g : Growth) (f : File) (k : ℕ) (valid : validParame
           (rw e at en) (rw e at ew) (rw e at eo)
           ∙ alone-file,
     )
+
+    -- the star is put on its home page
+    pub alone-decided : (from page place : ℕ) → from ≡ entryStart p g k → page ≡ namedPage p g (f .separators) k → place ≡ placeOf k (part (p .places) page (f .numbers)) → (pool planned : List ℕ)
+        → Decides p g f (newStar k word owner) pool planned (Put from place)
+    alone-decided from page place at here there pool planned =
+        let done = alone-lists from at _ _ _ refl refl refl in
+        record {
+          answers = done .0;
+          files = done .1;
+          feasible = (
+            omega (arith, at, home-inside),
+            subst (λ (q : ℕ). Vacant (p .places) q place k (f .numbers) (f .words) (f .owners)) (sym at)
+                (vacant-home place (there ∙ ap (λ (q : ℕ). placeOf k (part (p .places) q (f .numbers))) here)),
+          );
+        }

@@ -10,14 +10,18 @@ use Rattle.hashing.specs.declared.Parameters.{Parameters}
 use Rattle.hashing.specs.declared.Growth.{Growth}
 use Rattle.hashing.specs.declared.Geometry.{Geometry}
 use Rattle.pages.specs.Page.{part, heldAt, stretch}
+use Rattle.pages.specs.Position.{validNumber}
 use Rattle.placement.specs.Rule.{Star, Contents, pages, starWith}
 use Rattle.placement.specs.File.{File, replaced}
-use Rattle.placement.specs.Hash.{hashOf, soundAt, namedPage, homesOf}
+use Rattle.placement.specs.Hash.{hashOf, soundAt, namedPage, homesOf, homeUnder}
+use Rattle.placement.specs.Ready.{Ready}
 use Rattle.placement.specs.Lent.{Lent}
 use Rattle.reach.specs.Reach.{pagesTo, removalEnd, entering, entersWithin, entryEnd, firstUnsound, holding}
 use Rattle.page_plan.specs.Gather.{starsIn, stretchWords}
 use Rattle.page_plan.specs.Plans.{Planned}
 use Rattle.page_plan.proofs.Applying.{applied}
+use Rattle.decision.specs.declared.chosen.Decision.{Decision}
+use Rattle.decision.specs.Carried.{outcomeOf, carriedOut, Feasible}
 use Rattle.entry_reach.specs.declared.blocks.Reach.{Reach}
 use Rattle.entry_reach.specs.declared.blocks.Reach.the-variants.{Ends, Unsound, Overflows}
 use Rattle.entry_reach.specs.declared.blocks.Block.{Block}
@@ -72,6 +76,20 @@ entryAnswer p g f s =
 -- "The rule is then applied to the reach .. Other pages stay."
 unfoldable pub entryFile : Parameters → Growth → File → Star → File
 entryFile p g f s = byEntryReach p g f s f f (replaced (p .places) f (entryStart p g (s .number)) (entryContents p g f s))
+
+-- a star that the file does not hold is to be entered, and `page` is the one that the separators name for it
+pub record Enters (g : Geometry) (t : List ℕ) (f : File) (k home page : ℕ) : Type 0 where
+  pub ready : Ready g t f
+  pub number : validNumber k ≡ true
+  pub unheld : Unheld (g .parameters) (g .growth) f k
+  pub homed : home ≡ homeUnder g k
+  pub here : page ≡ namedPage (g .parameters) (g .growth) (f .separators) k
+
+-- a decision on the entry: it answers as the entry, and carried out it leaves the entry's file
+pub record Decides (p : Parameters) (g : Growth) (f : File) (s : Star) (pool planned : List ℕ) (d : Decision) : Type 0 where
+  pub answers : outcomeOf d ≡ entryAnswer p g f s
+  pub files : carriedOut (p .places) s pool planned f d ≡ entryFile p g f s
+  pub feasible : Feasible p f (s .number) planned d
 
 -- where the reach ends, applying its plan enters the star, with any word and owner
 abbrev pub Applies : Parameters → Growth → File → ℕ → List ℕ → List ℕ → Reach → Type 0

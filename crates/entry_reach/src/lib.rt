@@ -1,5 +1,6 @@
-// The entry of a star: on its home page alone, or over its reach, planned block after block and then applied.
+// The entry of a star: on its home page alone, within a run of pages that are the rule's, or over its reach, planned block after block.
 mod blocks;
+mod run;
 mod star;
 mod stretch;
 

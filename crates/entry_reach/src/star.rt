@@ -1,19 +1,77 @@
-// The entry of a star, whose home page most often takes it alone.
+// The entry of a star: decided, then carried out.
 ghost use mathlib.Core.Path.{_≡_};
-ghost use mathlib.Core.Bool.{true};
+ghost use mathlib.Core.Bool.{false};
+ghost use Prim.Native.Nat.{_*_, _≤_};
+ghost use lib.ListN.{length};
 ghost use Rattle.pages.specs.Page.{part, placeOf};
-ghost use Rattle.pages.specs.Position.{validNumber};
-ghost use Rattle.placement.specs.Hash.{homeUnder, namedPage};
 ghost use Rattle.placement.specs.Lent.{held, before, after};
-ghost use Rattle.placement.specs.Ready.{Ready, Pooled};
+ghost use Rattle.placement.specs.Ready.{Pooled};
 ghost use Rattle.reach.specs.Known.{Known};
-ghost use Rattle.entry_reach.specs.Entry.{Unheld, newStar, entryAnswer, entryFile};
-use crate::stretch::enter_stretch;
+ghost use Rattle.calls.specs.Stores.{stoppedFile};
+ghost use Rattle.decision.specs.Carried.{newcomer};
+ghost use Rattle.entry_reach.specs.Entry.{Enters, Decides, entryAnswer, entryFile};
+use crate::run::decide_run;
+use crate::run::may_gain;
+use crate::stretch::decide_stretch;
+use decision::Decision;
+use decision::Newcomer;
+use decision::carry_out;
 use hashing::Geometry;
 use page_plan::Outcome;
 
-// The entry of a number that the file does not hold, sought on its named page at this place. The known page was tested before.
-// A refusal leaves the file as it was.
+// The known page is the named one.
+fn decide(
+    table: &[u32; 90],
+    geometry: Geometry,
+    separators: &[u8],
+    numbers: &[u32],
+    words: &[u64],
+    owners: &[u8],
+    pool: &mut [u32],
+    waiting: &mut [u64],
+    planned: &mut [u8],
+    star: Newcomer,
+) -> Decision
+    requires { ⌜ Enters geometry (now table) (held separators numbers words owners) (star .number) (star .home) (star .page) ⌝ }
+    requires { ⌜ (length (now pool) ≡ geometry .parameters .pages * geometry .parameters .places) × (length (now waiting) ≡ geometry .parameters .pages * geometry .parameters .places) ⌝ }
+    requires { ⌜ geometry .parameters .pages ≤ length (now planned) ⌝ }
+    requires { ⌜ Known (geometry .parameters) (geometry .growth) (held separators numbers words owners) (now pool) (star .page) ⌝ }
+    requires { ⌜ star .place ≡ placeOf (star .number) (part (geometry .parameters .places) (star .page) (now numbers)) ⌝ }
+    ensures { λ r. ⌜ Decides (geometry .parameters) (geometry .growth) (before separators numbers words owners) (newcomer star) (now (pool .exit)) (now (planned .exit)) r ⌝ }
+{
+    let from = star.home as usize;
+    let last = reach::stretch_end(separators, placement::top_of(geometry.parameters), from);
+    if may_gain(geometry.parameters, numbers, from, last, star.page) {
+        return decide_run(
+            table,
+            geometry,
+            separators,
+            numbers,
+            words,
+            owners,
+            pool,
+            waiting,
+            planned,
+            star,
+            last,
+        );
+    }
+    decide_stretch(
+        table,
+        geometry,
+        separators,
+        numbers,
+        words,
+        owners,
+        pool,
+        waiting,
+        planned,
+        star,
+        star.page,
+    )
+}
+
+// The entry of a star that the file does not hold, stopped after `limit` page stores. Its home page most often takes it alone.
 pub fn enter_star(
     table: &[u32; 90],
     geometry: Geometry,
@@ -24,29 +82,23 @@ pub fn enter_star(
     pool: &mut [u32],
     waiting: &mut [u64],
     poolowners: &mut [u8],
-    number: u32,
-    word: u64,
-    owner: u8,
-    home: u32,
-    place: u32,
-    known: usize,
+    star: Newcomer,
+    limit: usize,
 ) -> Outcome
-    requires { ⌜ Ready geometry (now table) (held separators numbers words owners) ⌝ }
+    requires { ⌜ Enters geometry (now table) (held separators numbers words owners) (star .number) (star .home) (star .page) ⌝ }
     requires { ⌜ Pooled (geometry .parameters) (now pool) (now waiting) (now poolowners) ⌝ }
-    requires { ⌜ validNumber number ≡ true ⌝ }
-    requires { ⌜ Unheld (geometry .parameters) (geometry .growth) (held separators numbers words owners) number ⌝ }
-    requires { ⌜ home ≡ homeUnder geometry number ⌝ }
-    requires { ⌜ place ≡ placeOf number (part (geometry .parameters .places) (namedPage (geometry .parameters) (geometry .growth) (now separators) number) (now numbers)) ⌝ }
-    requires { ⌜ Known (geometry .parameters) (geometry .growth) (held separators numbers words owners) (now pool) known ⌝ }
-    ensures { λ r. ⌜ r ≡ entryAnswer (geometry .parameters) (geometry .growth) (before separators numbers words owners) (newStar number word owner) ⌝ }
-    ensures { λ _. ⌜ after separators numbers words owners ≡ entryFile (geometry .parameters) (geometry .growth) (before separators numbers words owners) (newStar number word owner) ⌝ }
+    requires { ⌜ Known (geometry .parameters) (geometry .growth) (held separators numbers words owners) (now pool) (star .page) ⌝ }
+    requires { ⌜ star .place ≡ placeOf (star .number) (part (geometry .parameters .places) (star .page) (now numbers)) ⌝ }
+    ensures { λ r. ⌜ r ≡ entryAnswer (geometry .parameters) (geometry .growth) (before separators numbers words owners) (newcomer star) ⌝ }
+    ensures { λ _. ⌜ after separators numbers words owners ≡ stoppedFile false (geometry .parameters) (before separators numbers words owners)
+        (entryFile (geometry .parameters) (geometry .growth) (before separators numbers words owners) (newcomer star)) limit ⌝ }
 {
     let parameters = geometry.parameters;
-    let page = home as usize;
-    if !page_edit::takes_alone(parameters, separators, numbers, page) {
-        return enter_stretch(
-            table,
-            geometry,
+    let page = star.home as usize;
+    if page_edit::takes_alone(parameters, separators, numbers, page) {
+        let none = [0u8; 1];
+        return carry_out(
+            parameters,
             separators,
             numbers,
             words,
@@ -54,24 +106,39 @@ pub fn enter_star(
             pool,
             waiting,
             poolowners,
-            number,
-            word,
-            owner,
-            home,
-            known,
+            &none,
+            Decision::Put(page, star.place as usize),
+            star,
+            limit,
+            false,
         );
     }
-    let places = parameters.places as usize;
-    page_edit::put_star(
+    let mut planned = [0u8; 1024];
+    let decision = decide(
+        table,
+        geometry,
+        separators,
         numbers,
         words,
         owners,
-        places,
-        page,
-        place as usize,
-        number,
-        word,
-        owner,
+        pool,
+        waiting,
+        &mut planned,
+        star,
     );
-    Outcome::On(page)
+    carry_out(
+        parameters,
+        separators,
+        numbers,
+        words,
+        owners,
+        pool,
+        waiting,
+        poolowners,
+        &planned,
+        decision,
+        star,
+        limit,
+        false,
+    )
 }

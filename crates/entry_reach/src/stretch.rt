@@ -1,46 +1,39 @@
-// An entry over its reach.
+// The entry of a star decided over its reach.
 ghost use mathlib.Core.Path.{_≡_};
-ghost use mathlib.Core.Bool.{true};
-ghost use Rattle.pages.specs.Position.{validNumber};
-ghost use Rattle.placement.specs.Hash.{homeUnder};
-ghost use Rattle.placement.specs.Lent.{held, before, after};
-ghost use Rattle.placement.specs.Ready.{Ready, Pooled};
+ghost use Prim.Native.Nat.{_*_, _≤_};
+ghost use lib.ListN.{length};
+ghost use Rattle.placement.specs.Lent.{held, before};
 ghost use Rattle.reach.specs.Known.{Known};
-ghost use Rattle.entry_reach.specs.Entry.{Unheld, newStar, entryAnswer, entryFile};
+ghost use Rattle.decision.specs.Carried.{newcomer};
+ghost use Rattle.entry_reach.specs.Entry.{Enters, Decides};
 use crate::blocks::Reach;
 use crate::blocks::plan_entry;
+use decision::Decision;
+use decision::Newcomer;
 use hashing::Geometry;
-use page_plan::Outcome;
 
-// The entry of a number that the file does not hold. A refusal leaves the file as it was.
-pub fn enter_stretch(
+// The page answered is the one that the planned separators name. The known page was tested before.
+pub fn decide_stretch(
     table: &[u32; 90],
     geometry: Geometry,
-    separators: &mut [u8],
-    numbers: &mut [u32],
-    words: &mut [u64],
-    owners: &mut [u8],
+    separators: &[u8],
+    numbers: &[u32],
+    words: &[u64],
+    owners: &[u8],
     pool: &mut [u32],
     waiting: &mut [u64],
-    poolowners: &mut [u8],
-    number: u32,
-    word: u64,
-    owner: u8,
-    home: u32,
+    planned: &mut [u8],
+    star: Newcomer,
     known: usize,
-) -> Outcome
-    requires { ⌜ Ready geometry (now table) (held separators numbers words owners) ⌝ }
-    requires { ⌜ Pooled (geometry .parameters) (now pool) (now waiting) (now poolowners) ⌝ }
-    requires { ⌜ validNumber number ≡ true ⌝ }
-    requires { ⌜ Unheld (geometry .parameters) (geometry .growth) (held separators numbers words owners) number ⌝ }
-    requires { ⌜ home ≡ homeUnder geometry number ⌝ }
+) -> Decision
+    requires { ⌜ Enters geometry (now table) (held separators numbers words owners) (star .number) (star .home) (star .page) ⌝ }
+    requires { ⌜ (length (now pool) ≡ geometry .parameters .pages * geometry .parameters .places) × (length (now waiting) ≡ geometry .parameters .pages * geometry .parameters .places) ⌝ }
+    requires { ⌜ geometry .parameters .pages ≤ length (now planned) ⌝ }
     requires { ⌜ Known (geometry .parameters) (geometry .growth) (held separators numbers words owners) (now pool) known ⌝ }
-    ensures { λ r. ⌜ r ≡ entryAnswer (geometry .parameters) (geometry .growth) (before separators numbers words owners) (newStar number word owner) ⌝ }
-    ensures { λ _. ⌜ after separators numbers words owners ≡ entryFile (geometry .parameters) (geometry .growth) (before separators numbers words owners) (newStar number word owner) ⌝ }
+    ensures { λ r. ⌜ Decides (geometry .parameters) (geometry .growth) (before separators numbers words owners) (newcomer star) (now (pool .exit)) (now (planned .exit)) r ⌝ }
 {
-    let places = geometry.parameters.places as usize;
-    let from = home as usize;
-    let mut planned = [0u8; 1024];
+    let pages = geometry.parameters.pages as usize;
+    let from = star.home as usize;
     match plan_entry(
         table,
         geometry,
@@ -50,32 +43,22 @@ pub fn enter_stretch(
         owners,
         pool,
         waiting,
-        &mut planned,
-        number,
-        home,
+        planned,
+        star.number,
+        star.home,
         known,
     ) {
-        Reach::Unsound(page) => Outcome::Unsound(page),
-        Reach::Overflows => Outcome::Overflows,
+        Reach::Unsound(page) => Decision::Unsound(page),
+        Reach::Overflows => Decision::Overflows,
         Reach::Ends(last) => {
-            plan_transfer::apply(
-                separators,
-                numbers,
-                words,
-                owners,
-                pool,
-                waiting,
-                poolowners,
-                &planned,
-                places,
-                from,
-                last + 1 - from,
-                number,
-                word,
-                owner,
+            let page = soundness::named_from(
+                table,
+                geometry,
+                &planned[..pages],
+                star.number,
+                star.home,
             );
-            let page = soundness::named_from(table, geometry, separators, number, home);
-            Outcome::On(page)
+            Decision::Planned(from, last + 1 - from, page)
         }
     }
 }

@@ -15,10 +15,11 @@ use Rattle.placement.specs.Hash.{hashOf, namedPage}
 use Rattle.placement.proofs.Sound.{clean-laid}
 use Rattle.calls.specs.declared.answers.Answer.{Answer}
 use Rattle.calls.specs.declared.records.GrowthRecord.{GrowthRecord}
-use Rattle.calls.specs.Answers.{Pool, After, spotted, acceptedAt, accepted, refused, refusedAt, cleared}
+use Rattle.calls.specs.Answers.{Pool, After, unpooled, spotted, acceptedAt, accepted, refused, refusedAt, cleared}
 use Rattle.calls.specs.Calls.{fileFits, poolFits, unlent, unchanged, emptyFile, lookUpOf, enterOf, cascadeOf, changeOf, removeOf, growOn, growOf, shrinkOf, checkOf}
 use Rattle.calls.specs.Records.{
   validSteps,
+  closedRecord,
   openRecord,
   unlessOpen,
   lookUpUnder,
@@ -51,6 +52,8 @@ use Rattle.histories.specs.Model.{
   openGrowth,
   stepGrowth,
   fed,
+  fedAll,
+  fedBy,
   heldPosition,
   heldOwner,
   heldEntry,
@@ -60,10 +63,11 @@ use Rattle.histories.specs.Model.{
   placeOn,
   answered,
 }
-use Rattle.histories.specs.Call.{Call, callOf, isAccepted, finishes, Outcome, onFile, onOpening, onStep, step}
-use Rattle.histories.specs.Run.{HistoryState, Event, initial, outcome, countsAs, next, end}
+use Rattle.histories.specs.Call.{mend, lost, Call, elementOf, callOf, isAccepted, finishes, Outcome, keepingPool, onFile, onOpening, onStep, step, effect, countsAs, feeding}
+use Rattle.histories.specs.Loss.{Loss, lossFits}
+use Rattle.histories.specs.Run.{HistoryState, Event, initial, outcome, fedThen, next, end}
 use Rattle.histories.specs.Theorem.{EveryHistory}
-use Rattle.histories.specs.Corollaries.{NotOwner, AcceptedAt, OutOfTurn, writes, AtRest, InHistory, EachState, SameContents, SameState, HistoryIndependence}
+use Rattle.histories.specs.Corollaries.{NotOwner, AcceptedAt, OutOfTurn, writes, AtRest, Mended, InHistory, EachState, SameContents, SameState, HistoryIndependence}
 use Rattle.histories.proofs.Entries.{determined, position-valid}
 use Rattle.histories.proofs.Fitting.{Fitting, hashFor, starsFor, rising-from, proper, in-range}
 use Rattle.histories.proofs.Guards.{lent, lent-pool}
@@ -77,7 +81,9 @@ use Rattle.histories.proofs.Check.{finds-nothing}
 use Rattle.histories.proofs.Conforms.{fedWith, fed-refused}
 use Rattle.histories.proofs.Histories.{Agrees, each-event, end-agrees, as-model}
 use Rattle.histories.proofs.Make.{initial-agrees}
-use Rattle.histories.proofs.Under.{step-accepted, is-opened, conforming}
+use Rattle.histories.proofs.Under.{step-accepted, is-closed, is-opened}
+use Rattle.histories.proofs.GoesOn.{survives, mend-stays, mended-as-it-is}
+use Rattle.histories.proofs.Elements.{conforming}
 
 pub every-history : EveryHistory
 every-history p f second pool accepted history = as-model conforming (initial p f second pool) (initial-agrees p f second pool accepted) history
@@ -138,24 +144,26 @@ goes-on false = refl
 
 -- what a call leaves that changes nothing
 abbrev same : HistoryState → Pool → Answer → Outcome
-same s pool a = record { answer = a; growth = s .growth; file = s .file; second = s .second; pool = pool }
+same s pool a = record { answer = a; parameters = s .parameters; growth = s .growth; file = s .file; second = s .second; pool = pool }
 
 -- A call that is answered so and changes nothing, and leaves the model when fed, is no step.
-no-step : (s : HistoryState) (c : Call) (pool : Pool) (a : Answer) → outcome s c ≡ same s pool a
-    → fedWith (s .parameters) (c .request) a (s .model) ≡ s .model → next s c ≡ s
-unfolding next countsAs finishes
-no-step s c pool a e d =
-    let m : fed (s .parameters) (cond (s .growth .growing && not (outcome s c .growth .growing)) grow (c .request)) (isAccepted (outcome s c .answer)) (s .model) ≡ s .model =
-    ap (λ (x : Outcome). fedWith (s .parameters) (cond (s .growth .growing && not (x .growth .growing)) grow (c .request)) (x .answer) (s .model)) e
-    ∙ ap (λ (b : Bool). fedWith (s .parameters) (cond b grow (c .request)) a (s .model)) (goes-on (s .growth .growing))
+no-step : (s : HistoryState) (lent : Pool) (second : File) (q : Request) (pool : Pool) (a : Answer) → outcome s (callOf lent second q) ≡ same s pool a
+    → fedWith (s .parameters) q a (s .model) ≡ s .model → next s (callOf lent second q) ≡ s
+unfolding next fedThen feeding fedBy fedAll countsAs finishes isAccepted
+no-step s lent second q pool a e d =
+    let c = callOf lent second q in
+    let m : fed (outcome s c .parameters) (cond (s .growth .growing && not (outcome s c .growth .growing)) grow q) (isAccepted (outcome s c .answer)) (s .model) ≡ s .model =
+    ap (λ (x : Outcome). fedWith (x .parameters) (cond (s .growth .growing && not (x .growth .growing)) grow q) (x .answer) (s .model)) e
+    ∙ ap (λ (b : Bool). fedWith (s .parameters) (cond b grow q) a (s .model)) (goes-on (s .growth .growing))
     ∙ d in
-    λ i. record { parameters = s .parameters; growth = e i .growth; file = e i .file; second = e i .second; model = m i }
+    λ i. record { parameters = e i .parameters; growth = e i .growth; file = e i .file; second = e i .second; model = m i }
 
-refused-stays : (s : HistoryState) → Agrees s → (c : Call) (pool : Pool) (a : Answer) → (a .refusal ≡ 0 → ⊥) → outcome s c ≡ same s pool a
-    → (outcome s c .answer ≡ a) × (next s c ≡ s)
-refused-stays s agrees c pool a h e = (
+refused-stays : (s : HistoryState) → Agrees s → (lent : Pool) (second : File) (q : Request) (pool : Pool) (a : Answer) → (a .refusal ≡ 0 → ⊥)
+    → outcome s (callOf lent second q) ≡ same s pool a
+    → (outcome s (callOf lent second q) .answer ≡ a) × (next s (callOf lent second q) ≡ s)
+refused-stays s agrees lent second q pool a h e = (
   ap (λ (x : Outcome). x .answer) e,
-  no-step s c pool a e (fed-refused (s .parameters) (s .model) (agrees .fitting) (c .request) a h),
+  no-step s lent second q pool a e (fed-refused (s .parameters) (s .model) (agrees .fitting) q a h),
 )
 
 module _ (s : HistoryState) (agrees : Agrees s) (second : File) (pool : Pool) where
@@ -177,24 +185,25 @@ module _ (s : HistoryState) (agrees : Agrees s) (second : File) (pool : Pool) wh
   -- A cascade.
   module _ (caller k : ℕ) (q : Position) where
     does-as-entry : outcome s (callOf pool second (cascade caller k q)) ≡ outcome s (callOf pool second (enter caller k q))
-    unfolding outcome step cascadeUnder enterUnder
+    unfolding outcome effect step cascadeUnder enterUnder
     does-as-entry =
-        ap (λ (a : After). onFile (s .growth) (s .second) (unlessOpen p (s .growth) (fileFits p (s .file) && poolFits p pool) (s .file) pool a)) inner
+        ap (λ (a : After). onFile p (s .growth) (s .second) (unlessOpen p (s .growth) (fileFits p (s .file) && poolFits p pool) (s .file) pool a)) inner
       where
         inner : cascadeOf p (s .growth .state) (s .file) pool caller k q ≡ enterOf p (s .growth .state) (s .file) pool caller k q
         inner = rw (agrees .growth, agrees .file) (cascade-is p (s .model) t caller k q pool)
 
-    counts-alike : (b accepted : Bool) → fed p (cond b grow (cascade caller k q)) accepted (s .model) ≡ fed p (cond b grow (enter caller k q)) accepted (s .model)
-    counts-alike true accepted = refl
-    counts-alike false accepted = fed-alike p (s .model) caller k q accepted
+    counts-alike : (o : Parameters) (b accepted : Bool)
+        → fed o (cond b grow (cascade caller k q)) accepted (s .model) ≡ fed o (cond b grow (enter caller k q)) accepted (s .model)
+    counts-alike o true accepted = refl
+    counts-alike o false accepted = fed-alike o (s .model) caller k q accepted
 
     counts-as-entry : next s (callOf pool second (cascade caller k q)) ≡ next s (callOf pool second (enter caller k q))
-    unfolding next countsAs
+    unfolding next fedThen feeding fedBy fedAll countsAs isAccepted
     counts-as-entry =
         let o = outcome s (callOf pool second (enter caller k q)) in
         rw does-as-entry
-        (ap (λ (m : Model). record { parameters = p; growth = o .growth; file = o .file; second = o .second; model = m })
-        (counts-alike (finishes (s .growth) (o .growth)) (isAccepted (o .answer))))
+        (ap (λ (m : Model). record { parameters = o .parameters; growth = o .growth; file = o .file; second = o .second; model = m })
+        (counts-alike (o .parameters) (finishes (s .growth) (o .growth)) (isAccepted (o .answer))))
 
   -- With no growth open.
   module _ (rest : s .growth .growing ≡ false) where
@@ -202,26 +211,28 @@ module _ (s : HistoryState) (agrees : Agrees s) (second : File) (pool : Pool) wh
     free = rests p (s .growth) (s .file) pool (agrees .steps) rest
 
     abbrev leaving : After → Outcome
-    leaving a = onFile (s .growth) (s .second) a
+    leaving a = onFile p (s .growth) (s .second) a
 
     enters : (caller k : ℕ) (q : Position) → outcome s (callOf pool second (enter caller k q)) ≡ leaving (enterOf p (s .growth .state) (s .file) pool caller k q)
-    unfolding outcome step enterUnder
+    unfolding outcome effect step enterUnder
     enters caller k q = ap leaving (free (fileFits p (s .file) && poolFits p pool) (enterOf p (s .growth .state) (s .file) pool caller k q))
 
-    changes : (caller k : ℕ) (q : Position) → outcome s (callOf pool second (change caller k q)) ≡ leaving (changeOf p (s .growth .state) (s .file) pool caller k q)
-    unfolding outcome step changeUnder
-    changes caller k q = ap leaving (free (fileFits p (s .file)) (changeOf p (s .growth .state) (s .file) pool caller k q))
+    changes : (caller k : ℕ) (q : Position) → outcome s (callOf pool second (change caller k q)) ≡ leaving (keepingPool pool (changeOf p (s .growth .state) (s .file) unpooled caller k q))
+    unfolding outcome effect step changeUnder
+    changes caller k q =
+        ap (λ (a : After). leaving (keepingPool pool a))
+        (rests p (s .growth) (s .file) unpooled (agrees .steps) rest (fileFits p (s .file)) (changeOf p (s .growth .state) (s .file) unpooled caller k q))
 
     removes : (caller k : ℕ) → outcome s (callOf pool second (remove caller k)) ≡ leaving (removeOf p (s .growth .state) (s .file) pool caller k)
-    unfolding outcome step removeUnder
+    unfolding outcome effect step removeUnder
     removes caller k = ap leaving (free (fileFits p (s .file) && poolFits p pool) (removeOf p (s .growth .state) (s .file) pool caller k))
 
     shrinks : outcome s (callOf pool second shrink) ≡ leaving (shrinkOf p (s .growth .state) (s .file) pool)
-    unfolding outcome step shrinkUnder
+    unfolding outcome effect step shrinkUnder
     shrinks = ap leaving (free (fileFits p (s .file) && poolFits p pool) (shrinkOf p (s .growth .state) (s .file) pool))
 
     grows : outcome s (callOf pool second grow) ≡ leaving (growOf p (s .growth .state) (s .file) pool)
-    unfolding outcome step growUnder
+    unfolding outcome effect step growUnder
     grows = ap leaving (free (fileFits p (s .file) && poolFits p pool) (growOf p (s .growth .state) (s .file) pool))
 
     module _ (fit : poolFits p pool ≡ true) (caller k : ℕ) where
@@ -238,7 +249,7 @@ module _ (s : HistoryState) (agrees : Agrees s) (second : File) (pool : Pool) wh
         stays : next s (callOf pool second (enter caller k q)) ≡ s
         unfolding fed isAccepted spotted
         stays =
-            no-step s (callOf pool second (enter caller k q)) (cleared pool) (acceptedAt (pageFor p (s .model) k) (placeOn p (s .model) k)) leaves
+            no-step s pool second (enter caller k q) (cleared pool) (acceptedAt (pageFor p (s .model) k) (placeOn p (s .model) k)) leaves
             (fed-own p (s .model) t caller k q e)
 
       refuses : (q r : Position) → validPosition q ≡ true → heldPosition k (s .model .entries) ≡ some r → (r ≡ q → ⊥)
@@ -251,16 +262,16 @@ module _ (s : HistoryState) (agrees : Agrees s) (second : File) (pool : Pool) wh
         no-change : (q : Position) → validPosition q ≡ true → NotOwner s (callOf pool second (change caller k q)) k
         unfolding spotted
         no-change q v =
-            refused-stays s agrees (callOf pool second (change caller k q)) pool (refusedAt 13 0 (placeOn p (s .model) k)) (λ z. omega arith)
-            (changes caller k q ∙ ap leaving inner)
+            refused-stays s agrees pool second (change caller k q) pool (refusedAt 13 0 (placeOn p (s .model) k)) (λ z. omega arith)
+            (changes caller k q ∙ ap (λ (a : After). leaving (keepingPool pool a)) inner)
           where
-            inner : changeOf p (s .growth .state) (s .file) pool caller k q ≡ unchanged (s .growth .state) (s .file) pool (refusedAt 13 0 (placeOn p (s .model) k))
-            inner = rw (agrees .growth, agrees .file) (change-refused p (s .model) t caller k q pool r e v h d)
+            inner : changeOf p (s .growth .state) (s .file) unpooled caller k q ≡ unchanged (s .growth .state) (s .file) unpooled (refusedAt 13 0 (placeOn p (s .model) k))
+            inner = rw (agrees .growth, agrees .file) (change-refused p (s .model) t caller k q unpooled r e v h d)
 
         no-removal : poolFits p pool ≡ true → NotOwner s (callOf pool second (remove caller k)) k
         unfolding spotted
         no-removal fit =
-            refused-stays s agrees (callOf pool second (remove caller k)) (cleared pool) (refusedAt 13 0 (placeOn p (s .model) k)) (λ z. omega arith)
+            refused-stays s agrees pool second (remove caller k) (cleared pool) (refusedAt 13 0 (placeOn p (s .model) k)) (λ z. omega arith)
             (removes caller k ∙ ap leaving inner)
           where
             inner : removeOf p (s .growth .state) (s .file) pool caller k ≡ unchanged (s .growth .state) (s .file) (cleared pool) (refusedAt 13 0 (placeOn p (s .model) k))
@@ -268,7 +279,7 @@ module _ (s : HistoryState) (agrees : Agrees s) (second : File) (pool : Pool) wh
 
       module _ (h : (caller ≡ 0) ⊎ (caller ≡ heldOwner k (s .model .entries))) where
         own-change : (q : Position) → validPosition q ≡ true → AcceptedAt s (callOf pool second (change caller k q)) k
-        own-change q v = rw (changes caller k q, agrees .growth, agrees .file) (change-accepted p (s .model) t caller k q pool r e v h)
+        own-change q v = rw (changes caller k q, agrees .growth, agrees .file) (change-accepted p (s .model) t caller k q unpooled r e v h)
 
         own-removal : poolFits p pool ≡ true → AcceptedAt s (callOf pool second (remove caller k)) k
         own-removal fit = rw (removes caller k, agrees .growth, agrees .file) (removal-accepted p (s .model) t caller k pool fit r e h)
@@ -276,7 +287,7 @@ module _ (s : HistoryState) (agrees : Agrees s) (second : File) (pool : Pool) wh
     -- Opening is refused as the growth, and a step is out of turn.
     opening : poolFits p pool ≡ true → fileFits p second ≡ true
         → outcome s (callOf pool second openGrowth) .answer .refusal ≡ outcome s (callOf pool second grow) .answer .refusal
-    unfolding outcome step growOf
+    unfolding outcome effect step growOf
     opening fit set =
         ap (λ (a : AfterStep). a .answer .refusal) (opens p (s .growth) (s .file) pool (agrees .steps) second (fits-both fit second set) rest)
         ∙ opens-as p (s .growth) (s .file) pool (agrees .steps) second (fits-both fit second set)
@@ -285,28 +296,33 @@ module _ (s : HistoryState) (agrees : Agrees s) (second : File) (pool : Pool) wh
         growing : outcome s (callOf pool second grow) .answer .refusal ≡ growOn p (s .growth .state) (s .file) (cleared pool) .answer .refusal
         growing = ap (λ (o : Outcome). o .answer .refusal) grows ∙ rw (fits-with (poolFits p pool) fit)
 
-    no-stepping : poolFits p pool ≡ true → fileFits p (s .second) ≡ true → outcome s (callOf pool second stepGrowth) ≡ same s (cleared pool) (refused 16 0)
-    unfolding outcome step finishes
+    no-stepping : poolFits p pool ≡ true → fileFits p second ≡ true → outcome s (callOf pool second stepGrowth) ≡ same s (cleared pool) (refused 16 0)
+    unfolding outcome effect step finishes
     no-stepping fit set =
-        ap (onStep (s .growth) (s .file)) (not-stepped p (s .growth) (s .file) pool (agrees .steps) (s .second) (fits-both fit (s .second) set) rest)
-        ∙ ap (λ (b : Bool). record { answer = refused 16 0; growth = s .growth; file = cond b (s .second) (s .file); second = cond b (s .file) (s .second); pool = cleared pool })
-        (goes-on (s .growth .growing))
+        ap (λ (b : Bool). onStep p (s .growth) (s .file) (s .second) (stepUnder p (s .growth) (s .file) (cond b (s .second) second) pool)) rest
+        ∙ ap (onStep p (s .growth) (s .file) (s .second)) (not-stepped p (s .growth) (s .file) pool (agrees .steps) second (fits-both fit second set) rest)
+        ∙ rw rest
 
-    stepping : poolFits p pool ≡ true → fileFits p (s .second) ≡ true → OutOfTurn s (callOf pool second stepGrowth)
+    stepping : poolFits p pool ≡ true → fileFits p second ≡ true → OutOfTurn s (callOf pool second stepGrowth)
     unfolding spotted
-    stepping fit set = refused-stays s agrees (callOf pool second stepGrowth) (cleared pool) (refused 16 0) (λ z. omega arith) (no-stepping fit set)
+    stepping fit set = refused-stays s agrees pool second stepGrowth (cleared pool) (refused 16 0) (λ z. omega arith) (no-stepping fit set)
 
   -- While one is open.
   module _ (growing : s .growth .growing ≡ true) where
-    writing : (r : Request) → writes r ≡ true → poolFits p pool ≡ true → outcome s (callOf pool second r) ≡ same s (cleared pool) (refused 16 0)
-    unfolding writes outcome step enterUnder cascadeUnder changeUnder removeUnder growUnder shrinkUnder
+    -- the pool is cleared, or was not lent
+    whatever-pool : (o : Outcome) (left : Pool) → o ≡ same s left (refused 16 0) → o ≡ same s (o .pool) (refused 16 0)
+    whatever-pool o left e = e ∙ ap (λ (x : Outcome). same s (x .pool) (refused 16 0)) (sym e)
+
+    writing : (r : Request) → writes r ≡ true → poolFits p pool ≡ true → outcome s (callOf pool second r) ≡ same s (outcome s (callOf pool second r) .pool) (refused 16 0)
+    unfolding writes outcome effect step enterUnder cascadeUnder changeUnder removeUnder growUnder shrinkUnder
     writing (lookUp k) w fit = absurd (true≢false (sym w))
-    writing (enter caller k q) w fit = ap (onFile (s .growth) (s .second)) (turned-away p (s .growth) (s .file) pool (agrees .steps) growing _ _ (fits-with (poolFits p pool) fit))
-    writing (cascade caller k q) w fit = ap (onFile (s .growth) (s .second)) (turned-away p (s .growth) (s .file) pool (agrees .steps) growing _ _ (fits-with (poolFits p pool) fit))
-    writing (change caller k q) w fit = ap (onFile (s .growth) (s .second)) (turned-away p (s .growth) (s .file) pool (agrees .steps) growing _ _ fits)
-    writing (remove caller k) w fit = ap (onFile (s .growth) (s .second)) (turned-away p (s .growth) (s .file) pool (agrees .steps) growing _ _ (fits-with (poolFits p pool) fit))
-    writing grow w fit = ap (onFile (s .growth) (s .second)) (turned-away p (s .growth) (s .file) pool (agrees .steps) growing _ _ (fits-with (poolFits p pool) fit))
-    writing shrink w fit = ap (onFile (s .growth) (s .second)) (turned-away p (s .growth) (s .file) pool (agrees .steps) growing _ _ (fits-with (poolFits p pool) fit))
+    writing (enter caller k q) w fit = whatever-pool _ _ (ap (onFile p (s .growth) (s .second)) (turned-away p (s .growth) (s .file) pool (agrees .steps) growing _ _ (fits-with (poolFits p pool) fit)))
+    writing (cascade caller k q) w fit = whatever-pool _ _ (ap (onFile p (s .growth) (s .second)) (turned-away p (s .growth) (s .file) pool (agrees .steps) growing _ _ (fits-with (poolFits p pool) fit)))
+    writing (change caller k q) w fit =
+        whatever-pool _ _ (ap (λ (a : After). onFile p (s .growth) (s .second) (keepingPool pool a)) (turned-away p (s .growth) (s .file) unpooled (agrees .steps) growing _ _ fits))
+    writing (remove caller k) w fit = whatever-pool _ _ (ap (onFile p (s .growth) (s .second)) (turned-away p (s .growth) (s .file) pool (agrees .steps) growing _ _ (fits-with (poolFits p pool) fit)))
+    writing grow w fit = whatever-pool _ _ (ap (onFile p (s .growth) (s .second)) (turned-away p (s .growth) (s .file) pool (agrees .steps) growing _ _ (fits-with (poolFits p pool) fit)))
+    writing shrink w fit = whatever-pool _ _ (ap (onFile p (s .growth) (s .second)) (turned-away p (s .growth) (s .file) pool (agrees .steps) growing _ _ (fits-with (poolFits p pool) fit)))
     writing due w fit = absurd (true≢false (sym w))
     writing check w fit = absurd (true≢false (sym w))
     writing openGrowth w fit = absurd (true≢false (sym w))
@@ -314,21 +330,21 @@ module _ (s : HistoryState) (agrees : Agrees s) (second : File) (pool : Pool) wh
 
     written : (r : Request) → writes r ≡ true → poolFits p pool ≡ true → OutOfTurn s (callOf pool second r)
     unfolding spotted
-    written r w fit = refused-stays s agrees (callOf pool second r) (cleared pool) (refused 16 0) (λ z. omega arith) (writing r w fit)
+    written r w fit = refused-stays s agrees pool second r (outcome s (callOf pool second r) .pool) (refused 16 0) (λ z. omega arith) (writing r w fit)
 
     no-opening : poolFits p pool ≡ true → fileFits p second ≡ true → outcome s (callOf pool second openGrowth) ≡ same s (cleared pool) (refused 16 0)
-    unfolding outcome step isAccepted spotted
-    no-opening fit set = ap (onOpening (s .file) (s .second)) (not-opened p (s .growth) (s .file) pool (agrees .steps) second (fits-both fit second set) growing)
+    unfolding outcome effect step isAccepted spotted
+    no-opening fit set = ap (onOpening p (s .file) (s .second)) (not-opened p (s .growth) (s .file) pool (agrees .steps) second (fits-both fit second set) growing)
 
     reopened : poolFits p pool ≡ true → fileFits p second ≡ true → OutOfTurn s (callOf pool second openGrowth)
     unfolding spotted
-    reopened fit set = refused-stays s agrees (callOf pool second openGrowth) (cleared pool) (refused 16 0) (λ z. omega arith) (no-opening fit set)
+    reopened fit set = refused-stays s agrees pool second openGrowth (cleared pool) (refused 16 0) (λ z. omega arith) (no-opening fit set)
 
     steps-on : poolFits p pool ≡ true → outcome s (callOf pool second stepGrowth) .answer .refusal ≡ 0
-    unfolding outcome step
+    unfolding outcome effect step
     steps-on fit =
         rw (agrees .file)
-        (subst (λ (r : GrowthRecord). stepUnder p r (modelFile p (s .model)) (s .second) pool .answer .refusal ≡ 0)
+        (subst (λ (r : GrowthRecord). stepUnder p r (modelFile p (s .model)) (cond (r .growing) (s .second) second) pool .answer .refusal ≡ 0)
         (sym (is-opened p (s .model) (s .growth) (s .file) (s .second) agrees growing))
         (step-accepted p (s .model) t (s .second) (s .growth .steps) (agrees .unfinished growing) pool fit))
 
@@ -346,14 +362,51 @@ at-rest s agrees second rest =
       stepping = λ pool. stepping s agrees second pool rest;
     }
 
+-- Mending, by itself and after a loss.
+module _ (s : HistoryState) (agrees : Agrees s) (second : File) (pool : Pool) where
+  abbrev ps : Parameters
+  ps = s .parameters
+
+  abbrev mending : Call
+  mending = elementOf pool second mend
+
+  mended-stays : next s mending ≡ s
+  unfolding next fedThen outcome effect feeding fedBy fedAll
+  mended-stays =
+      let t = mend-stays ps (s .model) (s .growth) (s .file) (s .second) agrees pool in
+      λ i. record {
+        parameters = ps;
+        growth = record { state = t .growth i; growing = s .growth .growing; steps = s .growth .steps };
+        file = t .file i;
+        second = s .second;
+        model = s .model;
+      }
+
+  mended-accepted : poolFits ps pool ≡ true → s .growth .growing ≡ false → outcome s mending .answer ≡ accepted 0
+  unfolding outcome effect
+  mended-accepted fit rest =
+      rw (is-closed ps (s .model) (s .growth) (s .file) (s .second) agrees rest, agrees .file, mended-as-it-is ps (s .model) (agrees .fitting) pool fit)
+
+  survived : (l : Loss) → lossFits ps l ≡ true → Mended s (elementOf pool second (lost l)) l
+  unfolding outcome effect
+  survived l e =
+      let t = survives ps (s .model) (s .growth) (s .file) (s .second) agrees pool l e in
+      record {
+        answer = rw e (t .answer);
+        closed = rw e (ap closedRecord (t .state ∙ sym (agrees .growth)));
+        file = rw e (t .file);
+      }
+
 in-history : (s : HistoryState) → Agrees s → (second : File) → InHistory s second
-unfolding outcome step checkUnder lookUpUnder
+unfolding outcome effect step checkUnder lookUpUnder
 in-history s agrees second =
     record {
       clean = rw (agrees .growth, agrees .file) (clean-file (s .parameters) (s .model) (agrees .fitting));
       checked = λ pool e. rw (agrees .steps, agrees .growth, agrees .file) (check-accepts (s .parameters) (s .model) (agrees .fitting) pool e);
       sought = λ pool k e. rw (agrees .steps, agrees .growth, agrees .file) (look-up-accepts (s .parameters) (s .model) (agrees .fitting) pool k e);
       cascades = λ pool caller k q. (does-as-entry s agrees second pool caller k q, counts-as-entry s agrees second pool caller k q);
+      mends = λ pool. (mended-stays s agrees second pool, mended-accepted s agrees second pool);
+      survives = λ pool. survived s agrees second pool;
       steps = agrees .steps;
       atRest = at-rest s agrees second;
       whileOpen = λ e. record {

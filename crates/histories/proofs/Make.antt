@@ -53,8 +53,8 @@ unfolding laid fileOf
 laid-none b H bounds n =
     rw (pages-none H bounds 0 n, separators-none n (vacant H), column-none b (λ (s : Star). s .number) n (H .top), column-none b (λ (s : Star). s .payload .word) n (H .top), column-none b (λ (s : Star). s .payload .owner) n (H .top))
 
-empty-is : (p : Parameters) → validParameters p ≡ true → emptyFile p ≡ modelFile p emptyModel
-unfolding emptyFile modelFile emptyModel entryStars hashOf
+empty-is : (p : Parameters) → validParameters p ≡ true → emptyFile p ≡ modelFile p (emptyModel ungrown)
+unfolding emptyFile modelFile entryStars hashOf
 empty-is p v = sym (laid-none (p .places) (hashOf p ungrown) (bounded-real p ungrown v) (p .pages))
 
 -- What make accepts.
@@ -75,7 +75,7 @@ make-accepts p f pool e = go (validParameters p) (fileFits p f) refl refl e
     go false false v l e = absurd (omega arith)
 
 pub initial-agrees : (p : Parameters) (f second : File) (pool : Pool) → makeOf p f pool .answer .refusal ≡ 0 → Agrees (initial p f second pool)
-unfolding initial makeOf emptyModel entryStars validSteps
+unfolding initial makeOf entryStars validSteps
 initial-agrees p f second pool e =
     let a = make-accepts p f pool e in
     rw (a .parameters, a .lengths)

@@ -1,7 +1,7 @@
 -- What is to be shown of a call under a growth record, at a state whose file and second set are the model's.
 use mathlib.Core.Path.{_≡_}
-use mathlib.Core.Bool.{true, false, cond}
-use mathlib.Core.List.{[]}
+use mathlib.Core.Bool.{true, false}
+use mathlib.Core.List.{[], List·Memᴰ}
 use Prim.Native.Nat.{ℕ, _-_, _<_}
 use lib.Dec.{eqb}
 use Rattle.hashing.specs.declared.Parameters.{Parameters}
@@ -10,9 +10,10 @@ use Rattle.placement.specs.Rule.{left}
 use Rattle.placement.specs.File.{File}
 use Rattle.placement.specs.Hash.{hashOf}
 use Rattle.calls.specs.declared.records.GrowthRecord.{GrowthRecord}
+use Rattle.calls.specs.Answers.{Pool}
 use Rattle.calls.specs.Records.{validSteps}
-use Rattle.histories.specs.Model.{Model, Request, lookUp, grow, modelFile, unfinishedFile, answered}
-use Rattle.histories.specs.Call.{finishes, Outcome}
+use Rattle.histories.specs.Model.{Model, Request, lookUp, Made, callsMade, fedBy, modelFile, unfinishedFile, answered}
+use Rattle.histories.specs.Call.{Element, plain, Outcome, countsAs, feeding}
 use Rattle.histories.proofs.Fitting.{Fitting, starsFor}
 use Rattle.histories.proofs.Conforms.{fedWith}
 
@@ -31,12 +32,15 @@ pub record Matches (p : Parameters) (m : Model) (r : GrowthRecord) (f second : F
   pub steps : validSteps p r ≡ true
   pub unfinished : r .growing ≡ true → Unfinished p m (r .steps) second
 
--- what the request counts as
-abbrev pub countedAs : GrowthRecord → Request → Outcome → Request
-countedAs r q o = cond (finishes r (o .growth)) grow q
-
 -- A request to the model's own file is answered as it should be and leaves what is the fed model's.
 pub record ConformsUnder (p : Parameters) (m : Model) (r : GrowthRecord) (q : Request) (o : Outcome) : Type 0 where
-  pub matches : Matches p (fedWith p (countedAs r q o) (o .answer) m) (o .growth) (o .file) (o .second)
+  pub matches : Matches (o .parameters) (fedWith (o .parameters) (countsAs r q o) (o .answer) m) (o .growth) (o .file) (o .second)
   pub undamaged : o .answer .refusal ≡ 5 → ⊥
   pub found : (k : ℕ) → q ≡ lookUp k → o .answer .refusal ≡ 0 → o .answer ≡ answered p m k
+
+-- An element on the model's own file f, lent a pool, does so.
+pub record ElementConforms (p : Parameters) (m : Model) (r : GrowthRecord) (f : File) (pool : Pool) (e : Element) (o : Outcome) : Type 0 where
+  pub matches : Matches (o .parameters) (fedBy (o .parameters) (feeding p r f pool o e) m) (o .growth) (o .file) (o .second)
+  pub undamaged : o .answer .refusal ≡ 5 → ⊥
+  pub each : (c : Made) → List·Memᴰ c (callsMade (feeding p r f pool o e)) → c .refusal ≡ 5 → ⊥
+  pub found : (k : ℕ) → e ≡ plain (lookUp k) → o .answer .refusal ≡ 0 → o .answer ≡ answered p m k

@@ -29,7 +29,7 @@ use Rattle.placement.proofs.Sound.{AllSound, gathered-member, gathered-proper, 
 use Rattle.reach.specs.Reach.{isEmpty, pagesTo, removalEnd, entering, entersWithin, entryEnd, firstUnsound}
 use Rattle.reach.specs.Cascade.{cascaded, carriedPast}
 use Rattle.reach.proofs.Reaching.{is-empty, entry-reach, removal-reach}
-use Rattle.calls.specs.Answers.{Pool, After, cleared}
+use Rattle.calls.specs.Answers.{Pool, After, unpooled, cleared}
 use Rattle.calls.specs.Calls.{fileFits, poolFits, unless, orElse, unlent, guarded, readable, named, holds, placeFor, itemOf, ownerFor, mayAlter, allowed, enterTo, unlessHeld, enterOn, entryRefusal, entered, enterOf, cascadeFrom, cascadeOn, cascadeOf, changeOn, changeOf, removeTo, removeOn, removeOf}
 use Rattle.calls.specs.declared.records.GrowthRecord.{GrowthRecord}
 use Rattle.calls.specs.Records.{validSteps, unlessOpen, enterUnder, cascadeUnder, changeUnder, removeUnder}
@@ -58,8 +58,8 @@ given false n e = absurd (omega arith)
 
 module _ (p : Parameters) (g : Growth) (f : File) (caller : ℕ) (observer : caller ≡ 0 → ⊥) (s : Star) (other : s .payload .owner ≡ caller → ⊥) where
   -- what a call leaves holds s as often
-  record Kept (a : After) : Type 0 where
-    same : copies s (a .file) ≡ copies s f
+  pub record Kept (a : After) : Type 0 where
+    pub same : copies s (a .file) ≡ copies s f
 
   either : (t : Bool) (a b : After) → (t ≡ true → Kept a) → (t ≡ false → Kept b) → Kept (cond t a b)
   either true a b h k = h refl
@@ -75,7 +75,7 @@ module _ (p : Parameters) (g : Growth) (f : File) (caller : ℕ) (observer : cal
   allows pool page k a h =
       either (mayAlter caller (ownerFor p f page k)) _ _ (λ may. h (owns caller (ownerFor p f page k) observer may)) (λ _. record { same = refl })
 
-  change-kept : (pool : Pool) (k : ℕ) (q : Position) → Kept (changeOf p g f pool caller k q)
+  pub change-kept : (pool : Pool) (k : ℕ) (q : Position) → Kept (changeOf p g f pool caller k q)
   unfolding changeOf changeOn copies
   change-kept pool k q =
       past pool (orElse (unlent p g (fileFits p f)) (orElse (unless (validNumber k) 3) (unless (validPosition q) 4)))
@@ -273,7 +273,7 @@ others-untouched p r f second lent pool (cascade c k q) caller e observer s othe
     rw by (under-kept p r f caller observer s other _ pool _ (cascade-kept p (r .state) f caller observer s other pool k q) .same)
 others-untouched p r f second lent pool (change c k q) caller e observer s other =
     let by : c ≡ caller = cc in
-    rw by (under-kept p r f caller observer s other _ pool _ (change-kept p (r .state) f caller observer s other pool k q) .same)
+    rw by (under-kept p r f caller observer s other _ unpooled _ (change-kept p (r .state) f caller observer s other unpooled k q) .same)
 others-untouched p r f second lent pool (remove c k) caller e observer s other =
     let by : c ≡ caller = cc in
     rw by (under-kept p r f caller observer s other _ pool _ (remove-kept p (r .state) f caller observer s other pool k) .same)

@@ -13,7 +13,7 @@ use Rattle.placement.specs.Rule.{Star}
 use Rattle.placement.specs.File.{File, pagesAt, replaced}
 use Rattle.calls.specs.declared.answers.Answer.{Answer}
 use Rattle.calls.specs.declared.records.GrowthRecord.{GrowthRecord}
-use Rattle.calls.specs.Answers.{Pool, After, spotted, accepted, refused, cleared}
+use Rattle.calls.specs.Answers.{Pool, After, spotted, unpooled, accepted, refused, cleared}
 use Rattle.calls.specs.Calls.{fileFits, poolFits, unless, guarded, unchanged, emptyFile, growOn}
 use Rattle.calls.specs.Records.{
   validSteps,
@@ -39,12 +39,11 @@ use Rattle.calls.specs.Records.{
   stepUnder,
 }
 use Rattle.histories.specs.Model.{Model, Request, lookUp, enter, cascade, change, remove, grow, shrink, due, check, openGrowth, stepGrowth, updated, fed, modelFile, unfinishedFile}
-use Rattle.histories.specs.Call.{isAccepted, finishes, onFile, onOpening, onStep, step}
+use Rattle.histories.specs.Call.{isAccepted, finishes, countsAs, keepingPool, onFile, onOpening, onStep, step}
 use Rattle.histories.proofs.Fitting.{Fitting}
 use Rattle.histories.proofs.Guards.{lent, lent-pool}
 use Rattle.histories.proofs.Conforms.{Conforms, fedWith, fed-refused, refused-conforms}
 use Rattle.histories.proofs.Matching.{Unfinished, Matches, ConformsUnder}
-use Rattle.histories.proofs.Histories.{Conforming}
 use Rattle.histories.proofs.LookUp.{look-up-conforms}
 use Rattle.histories.proofs.Enter.{enter-conforms}
 use Rattle.histories.proofs.Cascade.{cascade-conforms}
@@ -84,9 +83,12 @@ module _ (p : Parameters) (m : Model) (t : Fitting p m) (second : File) where
   grows : (pool : Pool) → growOn p g f pool ≡ grew pool (eqb (highest p g) (p .pages - 1)) (carried p m (grown p g))
   grows pool = rw (regrows p m t pool (grown p g) (pageCount p g))
 
+  keeping : (q : Request) (pool : Pool) (a : After) → Conforms p m q a → Conforms p m q (keepingPool pool a)
+  keeping q pool a c = record { growth = c .growth; file = c .file; fitting = c .fitting; undamaged = c .undamaged; found = c .found }
+
   -- With no growth open a call on the file is the call under the growth state.
-  at-rest : (q : Request) (a : After) → Conforms p m q a → ConformsUnder p m (closedRecord g) q (onFile (closedRecord g) second a)
-  unfolding finishes
+  at-rest : (q : Request) (a : After) → Conforms p m q a → ConformsUnder p m (closedRecord g) q (onFile p (closedRecord g) second a)
+  unfolding finishes countsAs
   at-rest q a c =
       record {
         matches = record { growth = c .growth; file = c .file; fitting = c .fitting; steps = closed-valid p (a .growth); unfinished = λ e. absurd (true≢false (sym e)) };
@@ -95,7 +97,7 @@ module _ (p : Parameters) (m : Model) (t : Fitting p m) (second : File) where
       }
 
   rest-refused : (q : Request) (pool : Pool) (a : Answer) → (a .refusal ≡ 0 → ⊥) → (a .refusal ≡ 5 → ⊥)
-      → ConformsUnder p m (closedRecord g) q (record { answer = a; growth = closedRecord g; file = f; second = second; pool = pool })
+      → ConformsUnder p m (closedRecord g) q (record { answer = a; parameters = p; growth = closedRecord g; file = f; second = second; pool = pool })
   rest-refused q pool a z d = at-rest q (unchanged g f pool a) (refused-conforms p m t q pool a z d)
 
   -- an opening, by what the growth would answer
@@ -105,15 +107,15 @@ module _ (p : Parameters) (m : Model) (t : Fitting p m) (second : File) where
       (record { answer = accepted 0; growth = openRecord g 0; second = emptyFile p; pool = pool })
       (notStepped (closedRecord g) set pool (whole .answer))
 
-  opens : (set : File) (pool : Pool) → ConformsUnder p m (closedRecord g) openGrowth (onOpening f second (openUnder p (closedRecord g) f set pool))
-  unfolding openUnder stepRefusal openOn spotted isAccepted finishes fed updated
+  opens : (set : File) (pool : Pool) → ConformsUnder p m (closedRecord g) openGrowth (onOpening p f second (openUnder p (closedRecord g) f set pool))
+  unfolding openUnder stepRefusal openOn spotted isAccepted finishes countsAs fed updated
   opens set pool =
       rw (closed-valid p g, lent-pool p m t (fileFits p set && poolFits p pool), grows (cleared pool))
       (go (fileFits p set && poolFits p pool) (eqb (highest p g) (p .pages - 1)) refl (carried p m (grown p g)) refl)
     where
       go : (fits none : Bool) → eqb (highest p g) (p .pages - 1) ≡ none → (l : List Star) → carried p m (grown p g) ≡ l
           → ConformsUnder p m (closedRecord g) openGrowth
-          (onOpening f second (guardedStep (closedRecord g) set pool (unless fits 2) (openedBy set (cleared pool) (grew (cleared pool) none l))))
+          (onOpening p f second (guardedStep (closedRecord g) set pool (unless fits 2) (openedBy set (cleared pool) (grew (cleared pool) none l))))
       go false none e l d = rest-refused openGrowth pool (refused 2 0) (λ z. omega arith) (λ z. omega arith)
       go true true e l d = rest-refused openGrowth (cleared pool) (refused 8 0) (λ z. omega arith) (λ z. omega arith)
       go true false e (s ∷ l) d = rest-refused openGrowth (cleared pool) (refused 8 0) (λ z. omega arith) (λ z. omega arith)
@@ -132,13 +134,13 @@ module _ (p : Parameters) (m : Model) (t : Fitting p m) (second : File) where
             found = λ k z _. cc;
           }
 
-  not-stepped : (pool : Pool) → ConformsUnder p m (closedRecord g) stepGrowth (onStep (closedRecord g) f (stepUnder p (closedRecord g) f second pool))
-  unfolding stepUnder stepRefusal spotted finishes
-  not-stepped pool = rw (closed-valid p g, lent-pool p m t (fileFits p second && poolFits p pool)) (go (fileFits p second && poolFits p pool))
+  not-stepped : (set : File) (pool : Pool) → ConformsUnder p m (closedRecord g) stepGrowth (onStep p (closedRecord g) f second (stepUnder p (closedRecord g) f set pool))
+  unfolding stepUnder stepRefusal spotted finishes countsAs
+  not-stepped set pool = rw (closed-valid p g, lent-pool p m t (fileFits p set && poolFits p pool)) (go (fileFits p set && poolFits p pool))
     where
       go : (fits : Bool)
           → ConformsUnder p m (closedRecord g) stepGrowth
-          (onStep (closedRecord g) f (guardedStep (closedRecord g) second pool (unless fits 2) (notStepped (closedRecord g) second (cleared pool) (refused 16 0))))
+          (onStep p (closedRecord g) f second (guardedStep (closedRecord g) set pool (unless fits 2) (notStepped (closedRecord g) set (cleared pool) (refused 16 0))))
       go false = rest-refused stepGrowth pool (refused 2 0) (λ z. omega arith) (λ z. omega arith)
       go true = rest-refused stepGrowth (cleared pool) (refused 16 0) (λ z. omega arith) (λ z. omega arith)
 
@@ -147,14 +149,14 @@ module _ (p : Parameters) (m : Model) (t : Fitting p m) (second : File) where
   rest-conforms set pool (lookUp k) = rw (closed-valid p g) (at-rest (lookUp k) _ (look-up-conforms p m t pool k))
   rest-conforms set pool (enter caller k q) = rw (closed-valid p g) (at-rest (enter caller k q) _ (enter-conforms p m t caller k q pool))
   rest-conforms set pool (cascade caller k q) = rw (closed-valid p g) (at-rest (cascade caller k q) _ (cascade-conforms p m t caller k q pool))
-  rest-conforms set pool (change caller k q) = rw (closed-valid p g) (at-rest (change caller k q) _ (change-conforms p m t caller k q pool))
+  rest-conforms set pool (change caller k q) = rw (closed-valid p g) (at-rest (change caller k q) _ (keeping (change caller k q) pool _ (change-conforms p m t caller k q unpooled)))
   rest-conforms set pool (remove caller k) = rw (closed-valid p g) (at-rest (remove caller k) _ (remove-conforms p m t caller k pool))
   rest-conforms set pool grow = rw (closed-valid p g) (at-rest grow _ (grow-conforms p m t pool))
   rest-conforms set pool shrink = rw (closed-valid p g) (at-rest shrink _ (shrink-conforms p m t pool))
   rest-conforms set pool due = rw (closed-valid p g) (at-rest due _ (due-conforms p m t pool))
   rest-conforms set pool check = rw (closed-valid p g) (at-rest check _ (check-conforms p m t pool))
   rest-conforms set pool openGrowth = opens set pool
-  rest-conforms set pool stepGrowth = not-stepped pool
+  rest-conforms set pool stepGrowth = not-stepped set pool
 
   -- While a growth is open.
   module _ (j : ℕ) (u : Unfinished p m j second) where
@@ -165,8 +167,8 @@ module _ (p : Parameters) (m : Model) (t : Fitting p m) (second : File) where
     valid = opened-valid p g j (u .inside)
 
     -- a call that leaves the model
-    while-open : (q : Request) (a : After) → Conforms p m q a → fedWith p q (a .answer) m ≡ m → ConformsUnder p m r q (onFile r second a)
-    unfolding finishes
+    while-open : (q : Request) (a : After) → Conforms p m q a → fedWith p q (a .answer) m ≡ m → ConformsUnder p m r q (onFile p r second a)
+    unfolding finishes countsAs
     while-open q a c e =
         record {
           matches = record { growth = c .growth; file = c .file; fitting = c .fitting; steps = opened-valid p (a .growth) j (u .inside); unfinished = λ _. rw e u };
@@ -175,22 +177,22 @@ module _ (p : Parameters) (m : Model) (t : Fitting p m) (second : File) where
         }
 
     open-refused : (q : Request) (pool : Pool) (a : Answer) → (a .refusal ≡ 0 → ⊥) → (a .refusal ≡ 5 → ⊥)
-        → ConformsUnder p m r q (record { answer = a; growth = r; file = f; second = second; pool = pool })
+        → ConformsUnder p m r q (record { answer = a; parameters = p; growth = r; file = f; second = second; pool = pool })
     open-refused q pool a z d = while-open q (unchanged g f pool a) (refused-conforms p m t q pool a z d) (fed-refused p m t q a z)
 
     -- a call that writes the file
     not-now : (q : Request) (pool : Pool) (fits : Bool)
-        → ConformsUnder p m r q (onFile r second (guarded g f pool (unless fits 2) (unchanged g f (cleared pool) (refused 16 0))))
+        → ConformsUnder p m r q (onFile p r second (guarded g f pool (unless fits 2) (unchanged g f (cleared pool) (refused 16 0))))
     unfolding spotted
     not-now q pool false = open-refused q pool (refused 2 0) (λ z. omega arith) (λ z. omega arith)
     not-now q pool true = open-refused q (cleared pool) (refused 16 0) (λ z. omega arith) (λ z. omega arith)
 
-    not-opened : (set : File) (pool : Pool) → ConformsUnder p m r openGrowth (onOpening f second (openUnder p r f set pool))
+    not-opened : (set : File) (pool : Pool) → ConformsUnder p m r openGrowth (onOpening p f second (openUnder p r f set pool))
     unfolding openUnder stepRefusal spotted isAccepted
     not-opened set pool = rw (valid, lent-pool p m t (fileFits p set && poolFits p pool)) (go (fileFits p set && poolFits p pool))
       where
         go : (fits : Bool)
-            → ConformsUnder p m r openGrowth (onOpening f second (guardedStep r set pool (unless fits 2) (notStepped r set (cleared pool) (refused 16 0))))
+            → ConformsUnder p m r openGrowth (onOpening p f second (guardedStep r set pool (unless fits 2) (notStepped r set (cleared pool) (refused 16 0))))
         go false = open-refused openGrowth pool (refused 2 0) (λ z. omega arith) (λ z. omega arith)
         go true = open-refused openGrowth (cleared pool) (refused 16 0) (λ z. omega arith) (λ z. omega arith)
 
@@ -214,14 +216,14 @@ module _ (p : Parameters) (m : Model) (t : Fitting p m) (second : File) where
     unfolding stepOn withPage spotted
     steps-to pool = rw (accepts pool, page-done)
 
-    steps : (pool : Pool) → ConformsUnder p m r stepGrowth (onStep r f (stepUnder p r f second pool))
-    unfolding stepUnder stepRefusal spotted isAccepted finishes fed updated
+    steps : (pool : Pool) → ConformsUnder p m r stepGrowth (onStep p r f second (stepUnder p r f second pool))
+    unfolding stepUnder stepRefusal spotted isAccepted finishes countsAs fed updated
     steps pool =
         rw (valid, lent-pool p m t (fileFits p second && poolFits p pool), steps-to (cleared pool))
         (go (fileFits p second && poolFits p pool) (eqb (suc j) (p .pages)) refl)
       where
         go : (fits last : Bool) → eqb (suc j) (p .pages) ≡ last
-            → ConformsUnder p m r stepGrowth (onStep r f (guardedStep r second pool (unless fits 2) (steppedTo (cleared pool) last)))
+            → ConformsUnder p m r stepGrowth (onStep p r f second (guardedStep r second pool (unless fits 2) (steppedTo (cleared pool) last)))
         go false last e = open-refused stepGrowth pool (refused 2 0) (λ z. omega arith) (λ z. omega arith)
         go true true e =
             record {
@@ -263,11 +265,11 @@ module _ (p : Parameters) (m : Model) (t : Fitting p m) (second : File) where
         go false = refl
 
     pub open-conforms : (set : File) (pool : Pool) (q : Request) → ConformsUnder p m r q (step p r f second set pool q)
-    unfolding step lookUpUnder enterUnder cascadeUnder changeUnder removeUnder growUnder shrinkUnder dueUnder checkUnder updated
+    unfolding step lookUpUnder enterUnder cascadeUnder changeUnder removeUnder growUnder shrinkUnder dueUnder checkUnder updated spotted
     open-conforms set pool (lookUp k) = rw valid (while-open (lookUp k) _ (look-up-conforms p m t pool k) (quiet p (lookUp k) m refl _))
     open-conforms set pool (enter caller k q) = rw (valid, lent-pool p m t (poolFits p pool)) (not-now (enter caller k q) pool (poolFits p pool))
     open-conforms set pool (cascade caller k q) = rw (valid, lent-pool p m t (poolFits p pool)) (not-now (cascade caller k q) pool (poolFits p pool))
-    open-conforms set pool (change caller k q) = rw (valid, lent p m t) (not-now (change caller k q) pool true)
+    open-conforms set pool (change caller k q) = rw (valid, lent p m t) (open-refused (change caller k q) pool (refused 16 0) (λ z. omega arith) (λ z. omega arith))
     open-conforms set pool (remove caller k) = rw (valid, lent-pool p m t (poolFits p pool)) (not-now (remove caller k) pool (poolFits p pool))
     open-conforms set pool grow = rw (valid, lent-pool p m t (poolFits p pool)) (not-now grow pool (poolFits p pool))
     open-conforms set pool shrink = rw (valid, lent-pool p m t (poolFits p pool)) (not-now shrink pool (poolFits p pool))
@@ -289,8 +291,9 @@ module _ (p : Parameters) (m : Model) (r : GrowthRecord) (f second : File) (x : 
   is-opened e = λ i. record { state = x .growth i; growing = e i; steps = r .steps }
 
 -- one law for every call
-pub conforming : Conforming
-conforming p m r f second x set pool q = go (r .growing) refl
+pub request-conforms : (p : Parameters) (m : Model) (r : GrowthRecord) (f second : File) → Matches p m r f second
+    → (set : File) (pool : Pool) (q : Request) → ConformsUnder p m r q (step p r f second set pool q)
+request-conforms p m r f second x set pool q = go (r .growing) refl
   where
     go : (b : Bool) → r .growing ≡ b → ConformsUnder p m r q (step p r f second set pool q)
     go false e = rw (is-closed p m r f second x e, x .file) (rest-conforms p m (x .fitting) second set pool q)

@@ -12,11 +12,12 @@ use Rattle.pages.specs.declared.position.Position.{Position}
 use Rattle.pages.specs.Position.{validNumber, validPosition, validWord}
 use Rattle.placement.specs.Rule.{left}
 use Rattle.placement.specs.File.{File, Clean}
-use Rattle.calls.specs.Answers.{Pool, refused, acceptedAt, refusedAt}
+use Rattle.calls.specs.Answers.{Pool, accepted, refused, acceptedAt, refusedAt}
 use Rattle.calls.specs.Calls.{fileFits, poolFits, makeOf}
-use Rattle.calls.specs.Records.{validSteps}
+use Rattle.calls.specs.Records.{validSteps, closedRecord}
 use Rattle.histories.specs.Model.{Request, lookUp, enter, cascade, change, remove, grow, shrink, due, check, openGrowth, stepGrowth, setPosition, heldPosition, heldOwner, heldEntry, entryStars, pageFor, placeOn, answered}
-use Rattle.histories.specs.Call.{Call, callOf}
+use Rattle.histories.specs.Loss.{Loss, lossFits, wholeCall}
+use Rattle.histories.specs.Call.{mend, lost, Call, elementOf, callOf}
 use Rattle.histories.specs.Run.{HistoryState, Event, initial, outcome, next, events, end}
 
 -- refused with 13 and the place of star k, and no step: file, growth state and model stay
@@ -88,9 +89,9 @@ pub record AtRest (now : HistoryState) (second : File) : Type 0 where
   pub opening :
       (pool : Pool) → poolFits (now .parameters) pool ≡ true → fileFits (now .parameters) second ≡ true
       → outcome now (callOf pool second openGrowth) .answer .refusal ≡ outcome now (callOf pool second grow) .answer .refusal
-  -- a step is out of turn
+  -- a step is out of turn, whatever second set it is lent
   pub stepping :
-      (pool : Pool) → poolFits (now .parameters) pool ≡ true → fileFits (now .parameters) (now .second) ≡ true
+      (pool : Pool) → poolFits (now .parameters) pool ≡ true → fileFits (now .parameters) second ≡ true
       → OutOfTurn now (callOf pool second stepGrowth)
 
 -- what holds between opening and step M
@@ -104,6 +105,16 @@ pub record WhileOpen (now : HistoryState) (second : File) : Type 0 where
       → OutOfTurn now (callOf pool second openGrowth)
   -- a step is accepted, so the growth comes to its end
   pub stepping : (pool : Pool) → poolFits (now .parameters) pool ≡ true → outcome now (callOf pool second stepGrowth) .answer .refusal ≡ 0
+
+-- what holds after power was lost in a state, and the file was mended with M separators and a pool that fits: document 02 (xii)
+pub record Mended (now : HistoryState) (c : Call) (l : Loss) : Type 0 where
+  pub answer : outcome now c .answer ≡ accepted 0
+  -- nothing is open
+  pub closed : outcome now c .growth ≡ closedRecord (now .growth .state)
+  -- "the file is that from before the call or after it"
+  pub file :
+      (outcome now c .file ≡ now .file)
+      ⊎ (outcome now c .file ≡ wholeCall (now .parameters) (now .growth) (now .file) (c .pool) (l .underway) .file)
 
 -- what holds of a state of a history, whatever second set its calls are lent
 pub record InHistory (now : HistoryState) (second : File) : Type 0 where
@@ -120,6 +131,12 @@ pub record InHistory (now : HistoryState) (second : File) : Type 0 where
       (pool : Pool) (caller k : ℕ) (q : Position)
       → (outcome now (callOf pool second (cascade caller k q)) ≡ outcome now (callOf pool second (enter caller k q)))
       × (next now (callOf pool second (cascade caller k q)) ≡ next now (callOf pool second (enter caller k q)))
+  -- a mending is no step, and accepted where nothing is open
+  pub mends :
+      (pool : Pool) → (next now (elementOf pool second mend) ≡ now)
+      × (poolFits (now .parameters) pool ≡ true → now .growth .growing ≡ false → outcome now (elementOf pool second mend) .answer ≡ accepted 0)
+  -- after a power loss the history goes on
+  pub survives : (pool : Pool) (l : Loss) → lossFits (now .parameters) l ≡ true → Mended now (elementOf pool second (lost l)) l
   -- the steps done are "below M and 0 if none is open"
   pub steps : validSteps (now .parameters) (now .growth) ≡ true
   pub atRest : now .growth .growing ≡ false → AtRest now second

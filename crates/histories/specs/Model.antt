@@ -7,7 +7,7 @@ use lib.Dec.{eqb, ltb}
 use Rattle.placement.specs.Hash.{hashOf}
 use Rattle.hashing.specs.declared.Parameters.{Parameters}
 use Rattle.hashing.specs.declared.Growth.{Growth}
-use Rattle.hashing.specs.Geometry.{grown, ungrown, shrunk}
+use Rattle.hashing.specs.Geometry.{grown, shrunk}
 use Rattle.pages.specs.declared.position.Position.{Position}
 use Rattle.pages.specs.Position.{packed}
 use Rattle.placement.specs.Rule.{Star, first, filter, starWith}
@@ -27,9 +27,9 @@ pub record Model : Type 0 where
   pub entries : List Entry
   pub growth : Growth
 
--- "at first no star and (0, 0)"
-unfoldable pub emptyModel : Model
-emptyModel = record { entries = []; growth = ungrown }
+-- the model of no star under (e, x): "at first no star and (0, 0)"
+abbrev pub emptyModel : Growth → Model
+emptyModel g = record { entries = []; growth = g }
 
 -- "sets the number's position": in place of the number's entry, which "leaves the owner", or before the first higher one, and it "is its caller's"
 unfoldable pub setPosition : ℕ → ℕ → Position → List Entry → List Entry
@@ -85,7 +85,7 @@ callerOf stepGrowth = none
 
 -- what an accepted call makes of the model; "Any other call leaves it as it is"; a shrink is "taking the book's (e, x) back": document 02 (i);
 -- of a cascade "histories count it as one", an entry: document 02 (ix); "Histories read an unfinished growth as not begun", and step M counts as a growth
--- (`countsAs` in Run): document 02 (xiii)
+-- (`feeding` in Call): document 02 (xiii)
 unfoldable pub updated : Parameters → Request → Model → Model
 updated p (lookUp k) m = m
 updated p (enter caller k q) m = record { entries = setPosition caller k q (m .entries); growth = m .growth }
@@ -103,6 +103,31 @@ updated p stepGrowth m = m
 unfoldable pub fed : Parameters → Request → Bool → Model → Model
 fed p r true m = updated p r m
 fed p r false m = m
+
+-- a call that was made, and its refusal, 0 if it was accepted
+pub record Made : Type 0 where
+  pub request : Request
+  pub refusal : ℕ
+
+abbrev pub made : Request → ℕ → Made
+made r n = record { request = r; refusal = n }
+
+unfoldable pub fedAll : Parameters → List Made → Model → Model
+fedAll p [] m = m
+fedAll p (c ∷ cs) m = fedAll p cs (fed p (c .request) (eqb (c .refusal) 0) m)
+
+-- What an element of a history feeds the model: the calls made, and first of all, where it "begins anew" (02 (vi)), that there is no star under an (e, x).
+pub data Feeding : Type 0 where
+  goesOn : List Made → Feeding
+  anew : Growth → List Made → Feeding
+
+unfoldable pub callsMade : Feeding → List Made
+callsMade (goesOn calls) = calls
+callsMade (anew g calls) = calls
+
+unfoldable pub fedBy : Parameters → Feeding → Model → Model
+fedBy p (goesOn calls) m = fedAll p calls m
+fedBy p (anew g calls) m = fedAll p calls (emptyModel g)
 
 -- "its stars, .. positions packed into words"
 unfoldable pub entryStars : List Entry → List Star

@@ -43,11 +43,11 @@ use Rattle.history_replay.specs.Replay.{
   EveryReplay,
 }
 use Rattle.history_replay.specs.Steps.{Runs}
-use Rattle.histories.proofs.Histories.{end-keeps, end-agrees}
+use Rattle.histories.proofs.Histories.{end-agrees}
 use Rattle.histories.proofs.Make.{initial-agrees}
-use Rattle.histories.proofs.Under.{conforming}
+use Rattle.histories.proofs.Elements.{conforming}
 use Rattle.histories.proofs.Every.{every-history}
-use Rattle.history_replay.proofs.Running.{none-open}
+use Rattle.history_replay.proofs.Running.{none-open, same-parameters}
 
 refusal-number : (r : Refusal) → refusalNumber r ≡ suc (refusalNumber r - 1)
 refusal-number r = omega (arith, numbered r)
@@ -142,7 +142,7 @@ every-replay p f pool h answers e =
     let n : refusalOf p f pool h answers ≡ 0 = accepted-run (refusalOf p f pool h answers) p f pool h answers e in
     let rest = either-none (unless (agreeing f pool h answers) 2) _ n in
     let made : makeOf p f unpooled .answer .refusal ≡ 0 = either-none (unless (allKinds (h .kinds)) unknownKind) _ rest in
-    let keeps : end (startOf p f) (historyOf p f pool h) .parameters ≡ p = end-keeps (startOf p f) (historyOf p f pool h) in
+    let keeps : end (startOf p f) (historyOf p f pool h) .parameters ≡ p = same-parameters (startOf p f) pool h (length (h .kinds)) refl in
     let agrees = end-agrees conforming (startOf p f) (initial-agrees p f noSecond unpooled made) (historyOf p f pool h) in
     record {
       asModel = every-history p f noSecond unpooled made (historyOf p f pool h);

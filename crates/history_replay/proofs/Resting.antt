@@ -8,7 +8,7 @@ use Rattle.hashing.specs.declared.Growth.{Growth}
 use Rattle.pages.specs.declared.position.Position.{Position}
 use Rattle.placement.specs.File.{File}
 use Rattle.calls.specs.declared.records.GrowthRecord.{GrowthRecord}
-use Rattle.calls.specs.Answers.{Pool}
+use Rattle.calls.specs.Answers.{Pool, unpooled}
 use Rattle.calls.specs.Records.{
   validSteps,
   closedRecord,
@@ -23,9 +23,10 @@ use Rattle.calls.specs.Records.{
   checkUnder,
 }
 use Rattle.histories.specs.Model.{Request, lookUp, enter, cascade, change, remove, grow, shrink, due, check}
-use Rattle.histories.specs.Call.{Outcome, onFile, step}
+use Rattle.histories.specs.Call.{Outcome, keepingPool, onFile, step}
 use Rattle.history_replay.specs.Replay.{requestOf}
 use Rattle.history_replay.specs.Steps.{callAt}
+use Rattle.history_replay.proofs.Stepping.{change-over}
 
 module _ (p : Parameters) (f second set : File) (pool : Pool) (kind caller k : ℕ) (q : Position) where
   -- the request of a kind, by which one it is
@@ -41,12 +42,13 @@ module _ (p : Parameters) (f second set : File) (pool : Pool) (kind caller k : �
 
   each-kind : (g : Growth) (is0 is1 is8 is2 is3 is4 is5 is7 : Bool)
       → step p (closedRecord g) f second set pool (by is0 is1 is8 is2 is3 is4 is5 is7)
-      ≡ onFile (closedRecord g) second (callAt p g f pool (by is0 is1 is8 is2 is3 is4 is5 is7))
+      ≡ onFile p (closedRecord g) second (callAt p g f pool (by is0 is1 is8 is2 is3 is4 is5 is7))
   unfolding step callAt lookUpUnder enterUnder cascadeUnder changeUnder removeUnder growUnder shrinkUnder dueUnder checkUnder validSteps
   each-kind g true is1 is8 is2 is3 is4 is5 is7 = refl
   each-kind g false true is8 is2 is3 is4 is5 is7 = refl
   each-kind g false false true is2 is3 is4 is5 is7 = refl
-  each-kind g false false false true is3 is4 is5 is7 = refl
+  each-kind g false false false true is3 is4 is5 is7 =
+      ap (onFile p (closedRecord g) second) (ap (keepingPool pool) (change-over p g f unpooled caller k q) ∙ sym (change-over p g f pool caller k q))
   each-kind g false false false false true is4 is5 is7 = refl
   each-kind g false false false false false true is5 is7 = refl
   each-kind g false false false false false false true is7 = refl
@@ -54,9 +56,15 @@ module _ (p : Parameters) (f second set : File) (pool : Pool) (kind caller k : �
   each-kind g false false false false false false false false = refl
 
   pub at-rest : (g : Growth)
-      → step p (closedRecord g) f second set pool (requestOf kind caller k q) ≡ onFile (closedRecord g) second (callAt p g f pool (requestOf kind caller k q))
+      → step p (closedRecord g) f second set pool (requestOf kind caller k q) ≡ onFile p (closedRecord g) second (callAt p g f pool (requestOf kind caller k q))
   unfolding requestOf
   at-rest g = each-kind g (eqb kind 0) (eqb kind 1) (eqb kind 8) (eqb kind 2) (eqb kind 3) (eqb kind 4) (eqb kind 5) (eqb kind 7)
+
+  -- the parameters stay
+  pub keeps-parameters : (r : GrowthRecord) → r ≡ closedRecord (r .state) → step p r f second set pool (requestOf kind caller k q) .parameters ≡ p
+  keeps-parameters r e =
+      ap (λ (s : GrowthRecord). step p s f second set pool (requestOf kind caller k q) .parameters) e
+      ∙ ap (λ (o : Outcome). o .parameters) (at-rest (r .state))
 
   -- so a closed record is closed after it
   pub closed-after : (r : GrowthRecord) → r ≡ closedRecord (r .state)

@@ -16,11 +16,11 @@ use Rattle.calls.specs.Records.{closedRecord}
 use Rattle.histories.specs.Model.{Request}
 use Rattle.histories.specs.Call.{Call, callOf, Outcome, onFile}
 use Rattle.histories.specs.Run.{HistoryState, fresh, outcome, next, events, end}
+use Rattle.histories.specs.Call.{effect}
 use Rattle.answer_row.proofs.Rows.{eight-long}
 use Rattle.history_replay.specs.Replay.{LentHistory, requestAt, requestsTo, requestsOf, historyFrom, lastPool, encoded, eventAnswers, noSecond}
 use Rattle.history_replay.specs.Steps.{callAt, Recorded, Even, Runs}
-use Rattle.histories.proofs.Histories.{end-keeps}
-use Rattle.history_replay.proofs.Resting.{at-rest, closed-after}
+use Rattle.history_replay.proofs.Resting.{at-rest, closed-after, keeps-parameters}
 
 -- the state after the requests, the one more call, and the state after it
 abbrev after : HistoryState → Pool → List Request → HistoryState
@@ -55,12 +55,23 @@ answers-snoc s pool (x ∷ rs) r =
 -- No growth is open after requests of a lent history.
 pub none-open : (s : HistoryState) (pool : Pool) (h : LentHistory) (i : ℕ) → s .growth ≡ closedRecord (s .growth .state)
     → after s pool (requestsTo h i) .growth ≡ closedRecord (after s pool (requestsTo h i) .growth .state)
-unfolding requestsTo historyFrom end next outcome
+unfolding requestsTo historyFrom end next outcome effect
 none-open s pool h zero e = e
 none-open s pool h (suc i) e =
     let state = after s pool (requestsTo h i) in
     rw (end-snoc s pool (requestsTo h i) (requestAt h i))
     (closed-after (state .parameters) (state .file) (state .second) (state .second) (lastPool s pool (requestsTo h i)) _ _ _ _ (state .growth) (none-open s pool h i e))
+
+-- nor are the parameters others
+pub same-parameters : (s : HistoryState) (pool : Pool) (h : LentHistory) (i : ℕ) → s .growth ≡ closedRecord (s .growth .state)
+    → after s pool (requestsTo h i) .parameters ≡ s .parameters
+unfolding requestsTo historyFrom end next outcome effect
+same-parameters s pool h zero e = refl
+same-parameters s pool h (suc i) e =
+    let state = after s pool (requestsTo h i) in
+    rw (end-snoc s pool (requestsTo h i) (requestAt h i))
+    (keeps-parameters (state .parameters) (state .file) (state .second) (state .second) (lastPool s pool (requestsTo h i)) _ _ _ _ (state .growth) (none-open s pool h i e)
+    ∙ same-parameters s pool h i e)
 
 -- eight answers more, written behind those of the calls before
 written-behind : (done whole before row : List ℕ) (at : ℕ) → length done ≡ at → before ≡ done ++ drop at whole
@@ -130,10 +141,10 @@ module _ (p : Parameters) (h : LentHistory) (growth₀ : Growth) (file₀ : File
     abbrev called : After
     called = callAt p growth file pool (requestAt h i)
 
-    same-step : onFile (closedRecord growth) (state .second) called ≡ this
-    unfolding outcome
+    same-step : onFile p (closedRecord growth) (state .second) called ≡ this
+    unfolding outcome effect
     same-step =
-        rw (end-keeps (fresh p growth₀ file₀ noSecond) (historyFrom (fresh p growth₀ file₀ noSecond) pool₀ (requestsTo h i)), ← t .runs .growths, ← t .runs .files, ← t .runs .pools)
+        rw (same-parameters (fresh p growth₀ file₀ noSecond) pool₀ h i refl, ← t .runs .growths, ← t .runs .files, ← t .runs .pools)
         (sym (at-rest p file (state .second) (state .second) pool _ _ _ _ growth))
 
     pub ongoing-more : i < length (h .kinds) → (growth′ : Growth) (answers′ : List ℕ) (file′ : File) (pool′ : Pool)

@@ -66,7 +66,7 @@ module _ (p : Parameters) (g : Growth) (f : File) (pool : Pool) where
   unfolding dueOf
   due-over = only-answers g f pool (unlent p g (fileFits p f)) _
 
-  change-over : (caller k : ℕ) (q : Position) → changeOf p g f pool caller k q ≡ over g pool (changeOf p g f unpooled caller k q)
+  pub change-over : (caller k : ℕ) (q : Position) → changeOf p g f pool caller k q ≡ over g pool (changeOf p g f unpooled caller k q)
   unfolding changeOf changeOn allowed
   change-over caller k q =
       guarded-over g f pool (orElse (unlent p g (fileFits p f)) (orElse (unless (validNumber k) 3) (unless (validPosition q) 4))) _ _

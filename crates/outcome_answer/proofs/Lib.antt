@@ -1,3 +1,4 @@
 pub mod Outcomes
 pub mod Pools
 pub mod Resent
+pub mod Stopped

@@ -8,7 +8,8 @@ use lib.ListN.{length, getD, take, drop, length-drop, length-map, List·getD-map
 use lib.Seq.{paste, drop-paste, getD-drop}
 use Rattle.buffers.specs.Lists.{written}
 use Rattle.buffers.proofs.Lists.{map-take, within}
-use Rattle.buffers.proofs.Written.{through}
+use Rattle.buffers.proofs.Written.{paste-written, through}
+use Rattle.pages.specs.Page.{stretch}
 use Rattle.plan_transfer.specs.Sources.{namedItem}
 
 suc-sub : (i : ℕ) → suc i - 1 ≡ i
@@ -43,6 +44,15 @@ pub fetched-back : (d e l s : List ℕ) (new at n : ℕ) → at + n ≤ length e
 fetched-back d e l s new at n he hs =
     through d e at n (map (namedItem l new) (drop at s)) (omega arith) (rw (length-map (drop at s) (namedItem l new), length-drop at s) (omega arith))
     ∙ ap (λ (m : List ℕ). written at m d) (map-take (namedItem l new) n (drop at s))
+
+-- d's stretch stored from p, which e became when what the sources of s's stretch name was fetched
+pub fetched-stored : (d e l s p : List ℕ) (new b lo n : ℕ) → (lo + n) * b ≤ length e → (lo + n) * b ≤ length s → (lo + n) * b ≤ length p
+    → p ≡ paste e (lo * b) (map (namedItem l new) (drop (lo * b) s)) (n * b)
+    → written (lo * b) (stretch b lo n p) d ≡ written (lo * b) (map (namedItem l new) (stretch b lo n s)) d
+fetched-stored d e l s p new b lo n he hs hp is =
+    sym (paste-written d (lo * b) (drop (lo * b) p) (n * b) (rw (length-drop (lo * b) p) (omega (arith, add-mul lo n b))))
+    ∙ ap (λ (q : List ℕ). paste d (lo * b) (drop (lo * b) q) (n * b)) is
+    ∙ fetched-back d e l s new (lo * b) (n * b) (omega (arith, add-mul lo n b)) (omega (arith, add-mul lo n b))
 
 -- the items of s behind the stretch stay where its own are fetched
 pub fetched-behind : (l s : List ℕ) (new b lo n : ℕ) → (lo + n) * b ≤ length s

@@ -1,4 +1,4 @@
-// Applying a plan: what the sources name is fetched through the pool, and the stretch is copied back to the file.
+// Applying a plan: what the sources name is fetched through the pool, and the pages of the stretch are stored.
 ghost use mathlib.Core.Path.{_≡_};
 ghost use mathlib.Core.List.{map};
 ghost use Prim.Native.Nat.{_+_, _*_, _≤_};
@@ -8,7 +8,7 @@ ghost use Rattle.pages.specs.Page.{stretch};
 ghost use Rattle.buffers.specs.Lists.{written};
 ghost use Rattle.plan_transfer.specs.Sources.{namedItem};
 
-fn word_named(words: &[u64], source: u32, newword: u64) -> u64
+pub fn word_named(words: &[u64], source: u32, newword: u64) -> u64
     ensures { λ r. ⌜ r ≡ namedItem (now (words .entry)) newword source ⌝ }
 {
     if source == 0 {
@@ -34,7 +34,7 @@ fn number_named(numbers: &[u32], source: u32, newnumber: u32) -> u32
     newnumber
 }
 
-fn owner_named(owners: &[u8], source: u32, newowner: u8) -> u8
+pub fn owner_named(owners: &[u8], source: u32, newowner: u8) -> u8
     ensures { λ r. ⌜ r ≡ namedItem (now (owners .entry)) newowner source ⌝ }
 {
     if source == 0 {
@@ -122,31 +122,6 @@ pub fn fetch(
     fetch_numbers(numbers, pool, at, items, newnumber);
 }
 
-fn put_back(
-    numbers: &mut [u32],
-    words: &mut [u64],
-    owners: &mut [u8],
-    pool: &[u32],
-    waiting: &[u64],
-    poolowners: &[u8],
-    at: usize,
-    items: usize,
-)
-    requires { ⌜ at + items ≤ length (now numbers) ⌝ }
-    requires { ⌜ at + items ≤ length (now words) ⌝ }
-    requires { ⌜ at + items ≤ length (now owners) ⌝ }
-    requires { ⌜ at + items ≤ length (now pool) ⌝ }
-    requires { ⌜ at + items ≤ length (now waiting) ⌝ }
-    requires { ⌜ at + items ≤ length (now poolowners) ⌝ }
-    ensures { λ _. ⌜ now (numbers .exit) ≡ paste (now (numbers .entry)) at (drop at (now (pool .entry))) items ⌝ }
-    ensures { λ _. ⌜ now (words .exit) ≡ paste (now (words .entry)) at (drop at (now (waiting .entry))) items ⌝ }
-    ensures { λ _. ⌜ now (owners .exit) ≡ paste (now (owners .entry)) at (drop at (now (poolowners .entry))) items ⌝ }
-{
-    buffers::copy_64(words, at, waiting, at, items);
-    buffers::copy_32(numbers, at, pool, at, items);
-    buffers::copy_8(owners, at, poolowners, at, items);
-}
-
 // The stretch of `count` pages from page lo becomes what the planned sources and separators say. The pool stays behind it.
 pub fn apply(
     separators: &mut [u8],
@@ -190,8 +165,22 @@ pub fn apply(
         newword,
         newowner,
     );
-    put_back(numbers, words, owners, pool, waiting, poolowners, at, items);
-    buffers::copy_8(separators, lo, planned, lo, count);
+    let limit = count;
+    page_store::store(
+        separators,
+        numbers,
+        words,
+        owners,
+        pool,
+        waiting,
+        poolowners,
+        planned,
+        places,
+        lo,
+        count,
+        limit,
+        false,
+    );
 }
 
 // Zeros in all three lists: the pool after a call that used it, and the places of an empty file.

@@ -1,5 +1,5 @@
 -- A removal from a home page whose stored separator is 2^k − 1: its reach is that page, and the other stars stay, the separator with them.
-use mathlib.Core.Path.{_≡_, refl, sym, ap, _∙_}
+use mathlib.Core.Path.{_≡_, refl, sym, ap, subst, _∙_}
 use mathlib.Core.Bool.{true, not}
 use mathlib.Core.List.{List, [], _∷_, map, List·Memᴰ}
 use Prim.Native.Nat.{ℕ, suc, _+_, _-_, _*_, _≤_, _<_}
@@ -28,7 +28,8 @@ use Rattle.reach.specs.Reach.{pagesTo, storedTop, removalEnd}
 use Rattle.page_edit.specs.Shift.{numberAt, starsOn, Occupied}
 use Rattle.page_edit.proofs.OnePage.{file-alone, pages-alone, first-here, named-home, ordered-page, homed-here, gathered-alone, unsound-alone}
 use Rattle.page_plan.specs.declared.outcome.Outcome.the-variants.{On}
-use Rattle.removal_reach.specs.Removal.{Held, removalStart, removalCount, removalUnsound, removalAnswer, removalFile}
+use Rattle.decision.specs.declared.chosen.Decision.the-variants.{Take}
+use Rattle.removal_reach.specs.Removal.{Held, removalStart, removalCount, removalUnsound, removalAnswer, removalFile, Decides}
 
 module _ (p : Parameters) (g : Growth) (f : File) (k : ℕ) (valid : validParameters p ≡ true) (grows : validGrowth p g ≡ true) (sized : Sized (p .places) (p .pages) f) (number : validNumber k ≡ true)
     (held : Held p g f k) (stored : getD (f .separators) (removalStart p g k) 0 ≡ topOf (p .bits)) where
@@ -51,13 +52,13 @@ module _ (p : Parameters) (g : Growth) (f : File) (k : ℕ) (valid : validParame
 
   -- where the star stands
   module _ (place : ℕ) (there : place ≡ placeOf k (part (p .places) (namedPage p g (f .separators) k) (f .numbers))) where
-    pub taken-is : numberAt (p .places) (removalStart p g k) place (f .numbers) ≡ k
+    taken-is : numberAt (p .places) (removalStart p g k) place (f .numbers) ≡ k
     taken-is =
         ap (λ (q : ℕ). numberAt (p .places) q place (f .numbers)) (sym named-there)
         ∙ ap (λ (i : ℕ). numberAt (p .places) (namedPage p g (f .separators) k) i (f .numbers)) there
         ∙ held-there k (part (p .places) (namedPage p g (f .separators) k) (f .numbers)) (held .present) .1
 
-    pub occupied-home : Occupied (p .places) (removalStart p g k) place (f .numbers) (f .words) (f .owners)
+    occupied-home : Occupied (p .places) (removalStart p g k) place (f .numbers) (f .words) (f .owners)
     occupied-home = record { ordered = ordered-page p g f sized (removalStart p g k) home-inside sound-there; held = omega (arith, taken-is, some-number) }
 
   abbrev stars : List Star
@@ -105,7 +106,7 @@ module _ (p : Parameters) (g : Growth) (f : File) (k : ℕ) (valid : validParame
       (rw past, rw past (ap (replaced (p .places) f (removalStart p g k)) contents))
 
   -- the lists without the star
-  pub alone-lists : (page from taken : ℕ) → from ≡ removalStart p g k → taken ≡ k → (ns ws os : List ℕ)
+  alone-lists : (page from taken : ℕ) → from ≡ removalStart p g k → taken ≡ k → (ns ws os : List ℕ)
       → ns ≡ written (from * p .places) (padded (p .places) (map numberOf (without taken (starsOn (p .places) from (f .numbers) (f .words) (f .owners))))) (f .numbers)
       → ws ≡ written (from * p .places) (padded (p .places) (map wordOf (without taken (starsOn (p .places) from (f .numbers) (f .words) (f .owners))))) (f .words)
       → os ≡ written (from * p .places) (padded (p .places) (map ownerOf (without taken (starsOn (p .places) from (f .numbers) (f .words) (f .owners))))) (f .owners)
@@ -117,3 +118,20 @@ module _ (p : Parameters) (g : Growth) (f : File) (k : ℕ) (valid : validParame
         (rw (e, t) at en) (rw (e, t) at ew) (rw (e, t) at eo)
         ∙ sym (decided page .1),
   )
+
+  -- the star is taken from its page
+  pub taken-decided : (page place : ℕ) → page ≡ namedPage p g (f .separators) k → place ≡ placeOf k (part (p .places) page (f .numbers)) → (pool planned : List ℕ)
+      → Decides p g f k page pool planned (Take page place)
+  taken-decided page place here there pool planned =
+      let at : page ≡ removalStart p g k = here ∙ named-there in
+      let sought : place ≡ placeOf k (part (p .places) (namedPage p g (f .separators) k) (f .numbers)) = there ∙ ap (λ (q : ℕ). placeOf k (part (p .places) q (f .numbers))) here in
+      let taken : numberAt (p .places) page place (f .numbers) ≡ k = ap (λ (q : ℕ). numberAt (p .places) q place (f .numbers)) at ∙ taken-is place sought in
+      let done = alone-lists page page (numberAt (p .places) page place (f .numbers)) at taken _ _ _ refl refl refl in
+      record {
+        answers = done .0;
+        files = done .1;
+        feasible = (
+          omega (arith, at, home-inside),
+          subst (λ (q : ℕ). Occupied (p .places) q place (f .numbers) (f .words) (f .owners)) (sym at) (occupied-home place sought),
+        );
+      }

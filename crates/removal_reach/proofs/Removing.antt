@@ -1,5 +1,5 @@
 -- A removal: its reach, and that the rule over its sound pages is what the code leaves.
-use mathlib.Core.Path.{_≡_, refl, _∙_}
+use mathlib.Core.Path.{_≡_, refl, sym, ap, _∙_}
 use mathlib.Core.Bool.{true, false, not}
 use mathlib.Core.List.{List, []}
 use Prim.Native.Nat.{ℕ, _+_, _-_, _*_, _≤_, _<_}
@@ -18,14 +18,17 @@ use Rattle.placement.specs.File.{File, Sized, gathered, replaced}
 use Rattle.placement.specs.Hash.{hashOf, homesOf}
 use Rattle.placement.proofs.Sound.{sound-fits}
 use Rattle.placement.proofs.Probing.{homed-real}
-use Rattle.reach.specs.Reach.{firstSuch, storedTop, removalEnd, firstUnsound}
+use Rattle.reach.specs.Reach.{isEmpty, firstSuch, storedTop, removalEnd, firstUnsound}
+use Rattle.page_plan.specs.Gather.{stretchWords}
+use Rattle.page_plan.specs.Plans.{Planned}
+use Rattle.page_plan.proofs.Applying.{applied}
 use Rattle.reach.proofs.Search.{such}
 use Rattle.reach.proofs.Surveyed.{unsound}
 use Rattle.page_plan.proofs.Placed.{probes-real}
 use Rattle.page_plan.specs.declared.outcome.Outcome.the-variants.{On, Unsound}
-use Rattle.removal_reach.specs.Stretch.{StretchReady, restretched}
+use Rattle.removal_reach.specs.Stretch.{StretchReady, newPages, fitting, restretched}
 use Rattle.removal_reach.specs.Removal.{removalStart, removalCount, removalUnsound, removalAnswer, removalFile}
-use Rattle.removal_reach.proofs.Ruled.{restretched-is}
+use Rattle.removal_reach.proofs.Ruled.{applied-stretch, fitting-is, restretched-is}
 use Rattle.removal_reach.proofs.Items.{all-sound, real-sound, plannable-surveyed, ready-surveyed}
 
 -- the reach as the code has it
@@ -117,3 +120,21 @@ module _ (p : Parameters) (g : Growth) (f : File) (k : ℕ) where
           (ready-surveyed p g f valid sized from n some inside sound-stretch pool pool′ size kept size′) k
           ∙ rw fits in
           rw t (refl, done ∙ rw (count, R .start))
+
+      -- the plan without the star, applied
+      pub removal-planned : (waiting pool″ planned planned′ W′ : List ℕ) (r : ℕ) → length waiting ≡ p .pages * p .places → p .pages ≤ length planned
+          → Planned p from (last + 1 - from) [] (stretchWords (p .places) from (last + 1 - from) k (f .numbers) pool′) pool′ pool″ planned planned′ W′ r
+          → applied (p .places) from (last + 1 - from) 0 0 0 pool″ planned′ f ≡ removalFile p g f k
+      unfolding restretched n
+      removal-planned waiting pool″ planned planned′ W′ r ew long P =
+          applied-stretch p from (last + 1 - from) f pool′ waiting waiting (removal-plannable waiting waiting ew ew) k pool″ planned planned′ W′ r (omega (arith, inside, long)) P
+          ∙ sym whole
+          ∙ removal-done 0 .1
+        where
+          fitted : fitting p from (last + 1 - from) k f pool′ ≡ true
+          fitted =
+              fitting-is (hashOf p g) p (probes-real p g) from n f pool′ (ready-surveyed p g f valid sized from n some inside sound-stretch pool pool′ size kept size′) k
+              ∙ ap isEmpty fits
+
+          whole : restretched p from (last + 1 - from) k f pool′ ≡ replaced (p .places) f from (newPages p from (last + 1 - from) k f pool′)
+          whole = rw fitted

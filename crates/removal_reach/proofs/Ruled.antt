@@ -50,7 +50,7 @@ module _ (q : Parameters) (lo n : ℕ) (f : File) (pool waiting poolowners : Lis
       (f .numbers) 0 (named-stretch (q .places) lo n 0 (f .numbers) (L .numbers-long))
 
   -- the plan applied
-  applied-stretch : (pool′ planned planned′ W′ : List ℕ) (r : ℕ) → lo + n ≤ length planned
+  pub applied-stretch : (pool′ planned planned′ W′ : List ℕ) (r : ℕ) → lo + n ≤ length planned
       → Planned q lo n [] (stretchWords (q .places) lo n k (f .numbers) pool) pool pool′ planned planned′ W′ r
       → applied (q .places) lo n 0 0 0 pool′ planned′ f ≡ replaced (q .places) f lo (newPages q lo n k f pool)
   unfolding newPages

@@ -1,17 +1,20 @@
 -- What a removal makes of sound pages: document 01, "The cut" and "Where each refusal is met".
 use mathlib.Core.Path.{_≡_}
 use mathlib.Core.Bool.{true, cond}
+use mathlib.Core.List.{List}
 use Prim.Native.Nat.{ℕ, _+_}
 use lib.Dec.{ltb}
 use Rattle.hashing.specs.declared.Parameters.{Parameters}
 use Rattle.hashing.specs.declared.Growth.{Growth}
 use Rattle.pages.specs.Page.{part, heldAt}
-use Rattle.placement.specs.Rule.{pages, without}
+use Rattle.placement.specs.Rule.{pages, without, starWith}
 use Rattle.placement.specs.File.{File, gathered, replaced}
 use Rattle.placement.specs.Hash.{hashOf, soundAt, namedPage}
 use Rattle.reach.specs.Reach.{pagesTo, removalEnd, firstUnsound}
 use Rattle.page_plan.specs.declared.outcome.Outcome.{Outcome}
 use Rattle.page_plan.specs.declared.outcome.Outcome.the-variants.{On, Unsound}
+use Rattle.decision.specs.declared.chosen.Decision.{Decision}
+use Rattle.decision.specs.Carried.{outcomeOf, carriedOut, Feasible}
 
 -- the page that the separators name for k is sound and holds it
 pub record Held (p : Parameters) (g : Growth) (f : File) (k : ℕ) : Type 0 where
@@ -42,3 +45,9 @@ removalFile p g f k =
     byRemovalReach p g f k f
     (replaced (p .places) f (removalStart p g k)
     (pages (hashOf p g) (removalStart p g k) (removalCount p g f k) (without k (gathered (p .places) f (removalStart p g k) (removalCount p g f k)))))
+
+-- a decision on the removal: it answers as the removal, and carried out it leaves the removal's file
+pub record Decides (p : Parameters) (g : Growth) (f : File) (k page : ℕ) (pool planned : List ℕ) (d : Decision) : Type 0 where
+  pub answers : outcomeOf d ≡ removalAnswer p g f k page
+  pub files : carriedOut (p .places) (starWith 0 0 0) pool planned f d ≡ removalFile p g f k
+  pub feasible : Feasible p f 0 planned d

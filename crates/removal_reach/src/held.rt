@@ -1,4 +1,4 @@
-// The removal of a star where it was found.
+// The removal of a star where it was found: decided, then carried out.
 ghost use mathlib.Core.Path.{_≡_};
 ghost use mathlib.Core.Bool.{true};
 ghost use Rattle.pages.specs.Page.{part, placeOf};
@@ -7,13 +7,17 @@ ghost use Rattle.placement.specs.Hash.{homeUnder, namedPage};
 ghost use Rattle.placement.specs.Lent.{held, before, after};
 ghost use Rattle.placement.specs.Ready.{Ready, Pooled};
 ghost use Rattle.reach.specs.Known.{Known};
+ghost use Rattle.calls.specs.Stores.{stoppedFile};
 ghost use Rattle.removal_reach.specs.Removal.{Held, removalAnswer, removalFile};
-use crate::removal::remove_star;
+use crate::removal::decide_removal;
+use decision::Decision;
+use decision::Newcomer;
+use decision::carry_out;
 use hashing::Geometry;
 use page_plan::Outcome;
 
-// The removal of a star that its named page holds at this place. Where its home page's separator is 2^k − 1 that page is the whole reach, and
-// its other stars stay: so it is altered in place. The answer is the page given, which was tested before.
+// The removal of a star that its named page holds at this place, stopped after `limit` page stores. Where its home page's separator is
+// 2^k − 1 that page is the named one and the whole reach, and its other stars stay.
 pub fn remove_held(
     table: &[u32; 90],
     geometry: Geometry,
@@ -28,23 +32,34 @@ pub fn remove_held(
     home: u32,
     page: usize,
     place: u32,
+    limit: usize,
 ) -> Outcome
     requires { ⌜ Ready geometry (now table) (held separators numbers words owners) ⌝ }
     requires { ⌜ Pooled (geometry .parameters) (now pool) (now waiting) (now poolowners) ⌝ }
     requires { ⌜ validNumber number ≡ true ⌝ }
     requires { ⌜ Held (geometry .parameters) (geometry .growth) (held separators numbers words owners) number ⌝ }
     requires { ⌜ home ≡ homeUnder geometry number ⌝ }
-    requires { ⌜ place ≡ placeOf number (part (geometry .parameters .places) (namedPage (geometry .parameters) (geometry .growth) (now separators) number) (now numbers)) ⌝ }
+    requires { ⌜ page ≡ namedPage (geometry .parameters) (geometry .growth) (now separators) number ⌝ }
+    requires { ⌜ place ≡ placeOf number (part (geometry .parameters .places) page (now numbers)) ⌝ }
     requires { ⌜ Known (geometry .parameters) (geometry .growth) (held separators numbers words owners) (now pool) page ⌝ }
     ensures { λ r. ⌜ r ≡ removalAnswer (geometry .parameters) (geometry .growth) (before separators numbers words owners) number page ⌝ }
-    ensures { λ r. ⌜ after separators numbers words owners ≡ removalFile (geometry .parameters) (geometry .growth) (before separators numbers words owners) number ⌝ }
+    ensures { λ r. ⌜ after separators numbers words owners ≡ stoppedFile true (geometry .parameters) (before separators numbers words owners)
+        (removalFile (geometry .parameters) (geometry .growth) (before separators numbers words owners) number) limit ⌝ }
 {
     let parameters = geometry.parameters;
+    let nobody = Newcomer {
+        number: 0,
+        word: 0,
+        owner: 0,
+        home: 0,
+        place: 0,
+        page: 0,
+    };
     let first = home as usize;
-    if separators[first] != placement::top_of(parameters) {
-        return remove_star(
-            table,
-            geometry,
+    if separators[first] == placement::top_of(parameters) {
+        let none = [0u8; 1];
+        return carry_out(
+            parameters,
             separators,
             numbers,
             words,
@@ -52,12 +67,41 @@ pub fn remove_held(
             pool,
             waiting,
             poolowners,
-            number,
-            home,
-            page,
+            &none,
+            Decision::Take(page, place as usize),
+            nobody,
+            limit,
+            true,
         );
     }
-    let places = parameters.places as usize;
-    page_edit::take_star(numbers, words, owners, places, first, place as usize);
-    Outcome::On(page)
+    let mut planned = [0u8; 1024];
+    let decision = decide_removal(
+        table,
+        geometry,
+        separators,
+        numbers,
+        words,
+        owners,
+        pool,
+        waiting,
+        &mut planned,
+        number,
+        home,
+        page,
+    );
+    carry_out(
+        parameters,
+        separators,
+        numbers,
+        words,
+        owners,
+        pool,
+        waiting,
+        poolowners,
+        &planned,
+        decision,
+        nobody,
+        limit,
+        true,
+    )
 }

@@ -1,36 +1,37 @@
-// The removal of a star over its reach.
+// The removal of a star decided over its reach.
 ghost use mathlib.Core.Path.{_≡_};
+ghost use Prim.Native.Nat.{_*_, _≤_};
+ghost use lib.ListN.{length};
 ghost use Rattle.placement.specs.Hash.{homeUnder};
-ghost use Rattle.placement.specs.Lent.{held, before, after};
-ghost use Rattle.placement.specs.Ready.{Ready, Pooled};
+ghost use Rattle.placement.specs.Lent.{held, before};
+ghost use Rattle.placement.specs.Ready.{Ready};
 ghost use Rattle.reach.specs.Known.{Known};
-ghost use Rattle.removal_reach.specs.Removal.{removalAnswer, removalFile};
-use crate::stretch::replace_stretch;
+ghost use Rattle.removal_reach.specs.Removal.{Decides};
+use decision::Decision;
 use hashing::Geometry;
-use page_plan::Outcome;
 
-// The stars from home to the first page whose separator is 2^k − 1, placed anew without the star. Sound pages hold them all. The answer is the page given,
+// The stars from home to the first page whose separator is 2^k − 1, planned anew without the star. Sound pages hold them all. The answer is the page given,
 // which was tested before.
-pub fn remove_star(
+pub fn decide_removal(
     table: &[u32; 90],
     geometry: Geometry,
-    separators: &mut [u8],
-    numbers: &mut [u32],
-    words: &mut [u64],
-    owners: &mut [u8],
+    separators: &[u8],
+    numbers: &[u32],
+    words: &[u64],
+    owners: &[u8],
     pool: &mut [u32],
     waiting: &mut [u64],
-    poolowners: &mut [u8],
+    planned: &mut [u8],
     number: u32,
     home: u32,
     page: usize,
-) -> Outcome
+) -> Decision
     requires { ⌜ Ready geometry (now table) (held separators numbers words owners) ⌝ }
-    requires { ⌜ Pooled (geometry .parameters) (now pool) (now waiting) (now poolowners) ⌝ }
+    requires { ⌜ (length (now pool) ≡ geometry .parameters .pages * geometry .parameters .places) × (length (now waiting) ≡ geometry .parameters .pages * geometry .parameters .places) ⌝ }
+    requires { ⌜ geometry .parameters .pages ≤ length (now planned) ⌝ }
     requires { ⌜ home ≡ homeUnder geometry number ⌝ }
     requires { ⌜ Known (geometry .parameters) (geometry .growth) (held separators numbers words owners) (now pool) page ⌝ }
-    ensures { λ r. ⌜ r ≡ removalAnswer (geometry .parameters) (geometry .growth) (before separators numbers words owners) number page ⌝ }
-    ensures { λ r. ⌜ after separators numbers words owners ≡ removalFile (geometry .parameters) (geometry .growth) (before separators numbers words owners) number ⌝ }
+    ensures { λ r. ⌜ Decides (geometry .parameters) (geometry .growth) (before separators numbers words owners) number page (now (pool .exit)) (now (planned .exit)) r ⌝ }
 {
     let parameters = geometry.parameters;
     let from = home as usize;
@@ -49,20 +50,19 @@ pub fn remove_star(
         page,
     );
     if bad < stop {
-        return Outcome::Unsound(bad);
+        return Decision::Unsound(bad);
     }
-    replace_stretch(
+    let count = stop - from;
+    page_plan::plan(
         parameters,
-        separators,
         numbers,
-        words,
-        owners,
         pool,
         waiting,
-        poolowners,
+        planned,
         from,
-        stop - from,
+        count,
         number,
+        0,
     );
-    Outcome::On(page)
+    Decision::Planned(from, count, page)
 }

@@ -4,6 +4,7 @@ mod advancing;
 mod growing;
 mod opening;
 mod reading;
+mod stopping;
 mod whole;
 mod writing;
 
@@ -15,6 +16,9 @@ pub use opening::open_growth;
 pub use reading::check;
 pub use reading::due;
 pub use reading::look_up;
+pub use stopping::change_stopped;
+pub use stopping::enter_stopped;
+pub use stopping::remove_stopped;
 pub use writing::cascade;
 pub use writing::change;
 pub use writing::enter;

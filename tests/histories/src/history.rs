@@ -1,6 +1,6 @@
 //! A history with the plain book beside it.
 
-use crate::tester::Tester;
+use crate::tester::{stores, Tester};
 use model::files::{random_caller, random_entry, random_pool, random_second, random_star, second_after};
 use model::hashing::{grown, highest_address, home, shrunk, signature};
 use model::placement::{entered_stretch, lay_out, pack, unpack, Star};
@@ -30,7 +30,7 @@ impl History {
         lent.file.words.iter_mut().for_each(|word| *word = tester.random.draw());
         lent.file.owners.iter_mut().for_each(|owner| *owner = tester.random.draw() as u8);
         let record = Record::default();
-        let call = Call { kind: Kind::Make, parameters, record, caller: 0, number: 0, ra: 0, dec: 0 };
+        let call = Call::new(Kind::Make, parameters, record);
         let (_, lent) = tester.compare(&call, &lent);
         History::from(tester, parameters, record.growth, lent)
     }
@@ -50,8 +50,8 @@ impl History {
     pub fn step(&mut self, tester: &mut Tester) {
         self.rising ^= tester.random.once_in(60);
         let seldom = tester.random.once_in(5);
-        if self.record.open && tester.random.once_in(40) {
-            self.give_up();
+        if tester.random.once_in(if self.record.open { 40 } else { 12 }) {
+            return self.lose_power(tester);
         }
         let kind = match tester.random.below(100) {
             _ if self.record.open && tester.random.once_in(2) => Kind::Step,
@@ -62,7 +62,7 @@ impl History {
             83..=92 if self.rising != seldom => Kind::Grow,
             83..=92 => Kind::Shrink,
             93..=95 => Kind::Due,
-            96 => Kind::Open,
+            96 => tester.random.pick(&[Kind::Open, Kind::Mend]),
             97 => Kind::Step,
             _ => Kind::Check,
         };
@@ -108,16 +108,33 @@ impl History {
         outcome
     }
 
-    /// What a host does after a power loss: the record says that nothing is open.
-    pub fn give_up(&mut self) {
-        self.record = Record::closed(self.record.growth);
+    /// A power loss during an entry, change or removal, or at rest: then the record says that nothing is open, the separators
+    /// may be anything, and the pages are mended. The book counts the call if the mended file is the one after it.
+    pub fn lose_power(&mut self, tester: &mut Tester) {
+        let kind =
+            tester.random.pick(&[Kind::EnterStopped, Kind::EnterStopped, Kind::RemoveStopped, Kind::ChangeStopped]);
+        let number = tester.random.pick(&self.numbers);
+        let held = self.book.get(&number).filter(|_| tester.random.once_in(2));
+        let star = Star { number, ..*held.unwrap_or(&random_star(&mut tester.random)) };
+        let call = self.make_call(kind, star);
+        // At rest, also while a growth is open, is before the first store.
+        let at_rest = self.record.open || tester.random.once_in(5);
+        let most = if at_rest { 0 } else { stores(&call, &self.lent) + 1 };
+        let call = Call { stores: tester.random.below(u64::from(most) + 1) as u32, ..call };
+        random_pool(&mut tester.random, &mut self.lent);
+        let (outcome, mended, counts) = tester.cut(&call, &self.lent);
+        (self.lent, self.record) = (mended, Record::closed(self.record.growth));
+        if counts {
+            self.feed(&Call { kind: kind.stops().unwrap(), ..call }, &outcome);
+        }
+        self.check_file(tester);
     }
 
     /// A call with the star's number and position, for its owner.
     fn make_call(&self, kind: Kind, star: Star) -> Call {
         let (ra, dec) = unpack(star.word);
         let (parameters, record) = (self.parameters, self.record);
-        Call { kind, parameters, record, caller: star.owner, number: star.number, ra, dec }
+        Call { caller: star.owner, number: star.number, ra, dec, ..Call::new(kind, parameters, record) }
     }
 
     /// Runs a call for a random caller, or for the owner that the book has.

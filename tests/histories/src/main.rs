@@ -1,10 +1,10 @@
-//! Random testing of the library against the model: histories [--quick | --soak MINUTES] [--seed N]
+//! Random testing of the library against the model: histories [--quick | --soak MINUTES] [--only NAME] [--seed N]
 
 mod history;
 mod scenarios;
 mod tester;
 
-use model::Kind;
+use interface::LIBRARY;
 use std::panic::{catch_unwind, AssertUnwindSafe};
 use std::process::exit;
 use std::time::{Duration, Instant};
@@ -13,7 +13,7 @@ use tester::Tester;
 /// A name, how often a quick run repeats it and a round of a soak, and what to do.
 type Scenario = (&'static str, u64, u64, fn(&mut Tester));
 
-const SCENARIOS: [Scenario; 16] = [
+const SCENARIOS: [Scenario; 21] = [
     ("tiny files", 12, 3, scenarios::tiny_files),
     ("edge histories", 20, 10, scenarios::edge_histories),
     ("small histories", 3_000, 1_000, scenarios::small_history),
@@ -24,6 +24,11 @@ const SCENARIOS: [Scenario; 16] = [
     ("single-bit arguments", 40, 10, scenarios::single_bit_arguments),
     ("damaged sessions", 15_000, 4_000, scenarios::damaged_session),
     ("sound sessions", 18_000, 5_000, scenarios::sound_session),
+    ("power cuts", 150, 40, scenarios::power_cuts),
+    ("long power cuts", 12, 4, scenarios::long_power_cuts),
+    ("large power cuts", 8, 4, scenarios::large_power_cuts),
+    ("mendings", 12_000, 4_000, scenarios::mendings),
+    ("large mendings", 10, 4, scenarios::large_mendings),
     ("full files", 500, 150, scenarios::full_file_entries),
     ("same stars", 1_200, 400, scenarios::same_stars),
     ("large histories", 24, 10, scenarios::large_history),
@@ -33,7 +38,7 @@ const SCENARIOS: [Scenario; 16] = [
 ];
 
 /// The refusals that calls meet, after 0 for none.
-const REFUSALS: [usize; 12] = [0, 1, 2, 3, 4, 5, 6, 7, 8, 9, 13, 16];
+const REFUSALS: [usize; 13] = [0, 1, 2, 3, 4, 5, 6, 7, 8, 9, 13, 15, 16];
 
 struct Totals {
     tester: Tester,
@@ -58,8 +63,11 @@ impl Totals {
         }
     }
 
-    fn round(&mut self, quick: bool, seed: u64) {
+    fn round(&mut self, quick: bool, only: &str, seed: u64) {
         for (index, &(name, in_quick, in_soak, scenario)) in SCENARIOS.iter().enumerate() {
+            if !name.contains(only) {
+                continue;
+            }
             let start = Instant::now();
             let count = if quick { in_quick } else { in_soak };
             for i in 0..count {
@@ -73,12 +81,12 @@ impl Totals {
 }
 
 fn usage() -> ! {
-    eprintln!("usage: histories [--quick | --soak MINUTES] [--seed N]");
+    eprintln!("usage: histories [--quick | --soak MINUTES] [--only NAME] [--seed N]");
     exit(2)
 }
 
 fn main() {
-    let (mut soak, mut seed) = (None, 1);
+    let (mut soak, mut only, mut seed) = (None, String::new(), 1);
     let mut arguments = std::env::args().skip(1);
     while let Some(argument) = arguments.next() {
         let mut number = || arguments.next().and_then(|text| text.parse().ok()).unwrap_or_else(|| usage());
@@ -86,6 +94,7 @@ fn main() {
             "--quick" => soak = None,
             "--soak" => soak = Some(Duration::from_secs(60 * number())),
             "--seed" => seed = number(),
+            "--only" => only = arguments.next().unwrap_or_else(|| usage()),
             _ => usage(),
         }
     }
@@ -93,13 +102,13 @@ fn main() {
     let mut totals = Totals { tester: Tester::new(), passed: 0, failed: 0 };
     let start = Instant::now();
     match soak {
-        None => totals.round(true, seed),
+        None => totals.round(true, &only, seed),
         Some(time) => {
             totals.run("all 1,024 sizes", scenarios::all_sizes, seed);
             println!("{:.1} min: all 1,024 sizes", start.elapsed().as_secs_f64() / 60.0);
             for round in 0.. {
                 // Rounds draw on seeds of their own, far from each other.
-                totals.round(false, seed.wrapping_add(round << 40));
+                totals.round(false, &only, seed.wrapping_add(round << 40));
                 let minutes = start.elapsed().as_secs_f64() / 60.0;
                 println!(
                     "{minutes:.1} min: {} calls, {} passed, {} failed",
@@ -111,11 +120,16 @@ fn main() {
             }
         }
     }
-    println!("{:<12}{}", "refusals", REFUSALS.map(|refusal| format!("{refusal:>9}")).concat());
-    for (kind, counts) in Kind::ALL.iter().zip(totals.tester.refusals) {
-        println!("{:<12}{}", kind.name(), REFUSALS.map(|refusal| format!("{:>9}", counts[refusal])).concat());
+    println!("{:<15}{}", "refusals", REFUSALS.map(|refusal| format!("{refusal:>9}")).concat());
+    for kind in LIBRARY.kinds() {
+        let counts = totals.tester.refusals[kind as usize];
+        println!("{:<15}{}", kind.name(), REFUSALS.map(|refusal| format!("{:>9}", counts[refusal])).concat());
     }
     println!("{} pairs of histories ended in the same stars", totals.tester.alike);
+    let Tester { cuts, torn, .. } = totals.tester;
+    println!(
+        "{cuts} stopped calls mended, {torn} of them from files that were neither the one before nor the one after"
+    );
     println!("{} calls compared in {:.1} s", totals.tester.calls, start.elapsed().as_secs_f64());
     println!("{} passed, {} failed", totals.passed, totals.failed);
     exit((totals.failed > 0) as i32);

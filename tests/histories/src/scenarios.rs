@@ -1,7 +1,8 @@
 //! What is tested, each by random numbers of its own.
 
 use crate::history::{finishes, History};
-use crate::tester::{stored, Tester};
+use crate::tester::{stored, stores, Tester};
+use interface::LIBRARY;
 use model::files::*;
 use model::hashing::home;
 use model::placement::Star;
@@ -133,7 +134,7 @@ pub fn large_steps(tester: &mut Tester) {
     random_second(&mut tester.random, &mut lent);
     random_pool(&mut tester.random, &mut lent);
     let record = Record::closed(growth);
-    let grow = Call { kind: Kind::Grow, parameters, record, caller: 0, number: 0, ra: 0, dec: 0 };
+    let grow = Call::new(Kind::Grow, parameters, record);
     let (outcome, grown) = tester.compare(&grow, &lent);
     let (opened, _) = tester.compare(&Call { kind: Kind::Open, ..grow }, &lent);
     tester.expect(opened.refusal == outcome.refusal, "opening is refused otherwise than growing");
@@ -262,7 +263,7 @@ fn session(tester: &mut Tester, parameters: Parameters, growth: Growth, mut lent
     random_second(&mut tester.random, &mut lent);
     for _ in 0..calls {
         random_pool(&mut tester.random, &mut lent);
-        let kind = tester.random.pick(&Kind::ALL[1..]);
+        let kind = tester.random.pick(&LIBRARY.kinds()[1..]);
         // While a growth is open most calls are refused.
         if record.open && tester.random.once_in(4) {
             record = Record::closed(record.growth);
@@ -272,13 +273,102 @@ fn session(tester: &mut Tester, parameters: Parameters, growth: Growth, mut lent
         let resent = stored(&lent, number).filter(|_| tester.random.once_in(2));
         let (ra, dec) = resent.unwrap_or_else(|| tester.random.position());
         let caller = random_caller(&mut tester.random);
-        let call = Call { kind, parameters, record, caller, number, ra, dec };
+        let stores = random_stores(&mut tester.random);
+        let call = Call { caller, number, ra, dec, stores, ..Call::new(kind, parameters, record) };
         let (outcome, after) = tester.compare(&call, &lent);
         (lent, record) = (after, outcome.record);
         if finishes(&call, &outcome) {
             std::mem::swap(&mut lent.file, &mut lent.second);
         }
     }
+}
+
+/// Every entry, change and removal of a clean file's stars and of some others, stopped at every point, then mended.
+pub fn power_cuts(tester: &mut Tester) {
+    let parameters = small_parameters(&mut tester.random);
+    let growth = random_growth(&mut tester.random, &parameters);
+    let percent = tester.random.pick(&[30, 80, 100, 120]);
+    let lent = clean_file(&mut tester.random, &parameters, &growth, percent);
+    let count = lent.file.stars().count().min(40);
+    let numbers = some_numbers(tester, &lent, count + 4);
+    cuts(tester, parameters, growth, &lent, &numbers);
+}
+
+/// The same for a few stars of a large file.
+pub fn large_power_cuts(tester: &mut Tester) {
+    let list = tester.random.pick(&LARGE);
+    let parameters = Parameters::new(list).under(random_multiplier(&mut tester.random));
+    let growth = random_growth(&mut tester.random, &parameters);
+    let percent = tester.random.pick(&[80, 95]);
+    let lent = clean_file(&mut tester.random, &parameters, &growth, percent);
+    let numbers = some_numbers(tester, &lent, 1);
+    cuts(tester, parameters, growth, &lent, &numbers);
+}
+
+/// The same through many full pages.
+pub fn long_power_cuts(tester: &mut Tester) {
+    let places = tester.random.pick(&[1, 2, 5]);
+    let pages = tester.random.pick(&[13, 40]);
+    let parameters = Parameters::new([places, 4, 1, 3, 8, 99, pages]).under(random_multiplier(&mut tester.random));
+    let growth = growth_after(&parameters, u64::from(pages - 4));
+    let lent = full_file(&mut tester.random, &parameters, &growth, 2);
+    let mut numbers = some_numbers(tester, &lent, 2);
+    numbers.push((1..).find(|&number| home(&parameters, &growth, number.into()) == 0).unwrap());
+    cuts(tester, parameters, growth, &lent, &numbers);
+}
+
+fn cuts(tester: &mut Tester, parameters: Parameters, growth: Growth, lent: &Buffers, numbers: &[u32]) {
+    let record = Record::closed(growth);
+    for kind in [Kind::EnterStopped, Kind::ChangeStopped, Kind::RemoveStopped] {
+        for &number in numbers {
+            let resent = stored(lent, number).filter(|_| tester.random.once_in(4));
+            let (ra, dec) = resent.unwrap_or_else(|| tester.random.position());
+            let caller = random_caller(&mut tester.random);
+            let call = Call { caller, number, ra, dec, ..Call::new(kind, parameters, record) };
+            for stores in (0..=stores(&call, lent) + 1).chain([u32::MAX]) {
+                tester.cut(&Call { stores, ..call }, lent);
+            }
+        }
+    }
+}
+
+/// Mendings of pages with stars twice, out of order and behind empty places, now and then with single wrong bits.
+pub fn mendings(tester: &mut Tester) {
+    let parameters = small_parameters(&mut tester.random);
+    let growth = random_growth(&mut tester.random, &parameters);
+    let mut lent = clean_file(&mut tester.random, &parameters, &growth, 90);
+    scatter(&mut tester.random, &parameters, &mut lent);
+    for _ in 0..tester.random.pick(&[0, 0, 0, 1, 2]) {
+        let bit = tester.random.below(bits(&lent) as u64) as usize;
+        flip(&mut lent, bit);
+    }
+    random_pool(&mut tester.random, &mut lent);
+    // Under another growth state the stars may not fit.
+    let growth = if tester.random.once_in(3) { random_growth(&mut tester.random, &parameters) } else { growth };
+    let mend = Call::new(Kind::Mend, parameters, random_record(&mut tester.random, &parameters, growth));
+    let (mended, after) = tester.compare(&mend, &lent);
+    if mended.refusal == 0 {
+        let (again, same) = tester.compare(&mend, &after);
+        tester.expect(again.refusal == 0 && same == after, "mending a clean file alters it");
+        let (checked, _) = tester.compare(&Call { kind: Kind::Check, ..mend }, &after);
+        tester.expect(checked.refusal == 0, "a mended file is not clean");
+    }
+}
+
+/// Mendings of large files of few stars, each on many places, the numbers falling.
+pub fn large_mendings(tester: &mut Tester) {
+    let list = tester.random.pick(&LARGE);
+    let parameters = Parameters::new(list).under(random_multiplier(&mut tester.random));
+    let growth = random_growth(&mut tester.random, &parameters);
+    let mut lent = Buffers::zeros(&parameters);
+    let mut stars: Vec<Star> = (0..tester.random.pick(&[1, 2, 60])).map(|_| random_star(&mut tester.random)).collect();
+    stars.sort();
+    for item in 0..parameters.items() {
+        let star = stars[stars.len() - 1 - item * stars.len() / parameters.items()];
+        (lent.file.numbers[item], lent.file.words[item], lent.file.owners[item]) = (star.number, star.word, star.owner);
+    }
+    random_pool(&mut tester.random, &mut lent);
+    tester.compare(&Call::new(Kind::Mend, parameters, Record::closed(growth)), &lent);
 }
 
 /// Entries that go through many full pages, with and without room at the end.

@@ -1,6 +1,7 @@
 //! Runs a call on the library and on the model and compares everything afterwards.
 
-use model::files::random_caller;
+use interface::LIBRARY;
+use model::files::{random_caller, random_pool, random_stores};
 use model::placement::{unpack, Star};
 use model::random::Random;
 use model::vectors::Vector;
@@ -18,6 +19,9 @@ pub struct Tester {
     pub refusals: [[u64; 17]; Kind::ALL.len()],
     /// How many pairs of histories ended in the same stars, positions, owners and growth state.
     pub alike: u64,
+    /// How many stopped calls were mended, and how many of these files were neither the one before the call nor the one after.
+    pub cuts: u64,
+    pub torn: u64,
     pub failures: Vec<String>,
     saved: u32,
 }
@@ -25,7 +29,7 @@ pub struct Tester {
 impl Tester {
     pub fn new() -> Tester {
         let refusals = [[0; 17]; Kind::ALL.len()];
-        Tester { random: Random(0), calls: 0, refusals, alike: 0, failures: Vec::new(), saved: 0 }
+        Tester { random: Random(0), calls: 0, refusals, alike: 0, cuts: 0, torn: 0, failures: Vec::new(), saved: 0 }
     }
 
     /// The outcome, with the growth record after the call, and the buffers that the model leaves.
@@ -36,7 +40,7 @@ impl Tester {
         self.refusals[call.kind as usize][outcome.refusal as usize] += 1;
         outcome.record = call.record_after(&outcome);
         let vector = Vector { call: *call, before: before.clone(), outcome, after };
-        let differences = vector.differences(interface::run);
+        let differences = vector.differences(LIBRARY);
         if !differences.is_empty() {
             let kept = self.keep(&vector).map_or(String::new(), |path| format!(" ({})", path.display()));
             self.fail(format!("{}{kept}", differences.join("; ")));
@@ -61,6 +65,40 @@ impl Tester {
         let alters = call.kind.enters() || matches!(call.kind, Kind::Change | Kind::Remove);
         let kept = || others(call.caller, before) == others(call.caller, after);
         self.expect(!alters || call.caller == 0 || kept(), "an observer altered another's star");
+        // A stopped form may leave a star on two pages.
+        let distinct = |lent: &Buffers| {
+            let mut stars = others(call.caller, lent);
+            stars.dedup();
+            stars
+        };
+        let present = || !clean(call, before) || distinct(before) == distinct(after);
+        let alters = call.kind.stops().is_some() && call.caller != 0;
+        self.expect(!alters || present(), "an observer's stopped call altered another's star");
+    }
+
+    /// A stopped form of a call on a clean file, any separators after it, and a mending with any pool: the mended file is the
+    /// one before the call, or the one after it exactly if the star's page was stored. Answers the stopped form's outcome,
+    /// the mended buffers, and whether the call counts.
+    pub fn cut(&mut self, call: &Call, before: &Buffers) -> (Outcome, Buffers, bool) {
+        self.cuts += 1;
+        let (mut after, plain) = (before.clone(), Call { kind: call.kind.stops().unwrap(), ..*call });
+        let expected = model::run(&plain, &mut after);
+        let (outcome, mut torn) = self.compare(call, before);
+        self.expect(outcome == expected, "a stopped form answers otherwise than the call");
+        let stored = stored_pages(call, before, &after);
+        let whole = torn.file == before.file || torn.file == after.file;
+        self.torn += u64::from(!whole);
+        for separator in &mut torn.file.separators {
+            let any = self.random.draw() as u8;
+            *separator = self.random.pick(&[*separator, any]);
+        }
+        random_pool(&mut self.random, &mut torn);
+        let record = Record::closed(call.record.growth);
+        let (mended, lent) = self.compare(&Call { kind: Kind::Mend, record, ..*call }, &torn);
+        let counts = outcome.refusal == 0 && stored.contains(&(outcome.page as usize));
+        let expected = if counts { &after.file } else { &before.file };
+        self.expect(mended.refusal == 0 && lent.file == *expected, "a mended file is neither the one before nor after");
+        (outcome, lent, counts)
     }
 
     /// The marks of the pages that a growth may alter; an accepted growth of a clean file leaves the others alone.
@@ -101,21 +139,23 @@ impl Tester {
     fn keep(&mut self, vector: &Vector) -> Option<PathBuf> {
         self.saved += 1;
         let path = PathBuf::from(FOLDER).join(format!("failed-{}.txt", self.saved));
-        let text = vector.text(interface::LANDED);
+        let text = vector.text(LIBRARY.landed);
         let kept = self.saved <= 20 && fs::create_dir_all(FOLDER).is_ok() && fs::write(&path, text).is_ok();
         kept.then_some(path)
     }
 
     /// Every call on copies of one file: those that take a number, for each of the numbers, and resends.
     pub fn every_call(&mut self, parameters: Parameters, record: Record, lent: &Buffers, numbers: &[u32]) {
-        for kind in Kind::ALL {
+        for kind in LIBRARY.kinds() {
             let numbers = if kind.takes_number() { numbers } else { &[0] };
             for &number in numbers {
                 let (ra, dec) = self.random.position();
                 let caller = random_caller(&mut self.random);
-                let call = Call { kind, parameters, record, caller, number, ra, dec };
+                let stores = random_stores(&mut self.random);
+                let call = Call { caller, number, ra, dec, stores, ..Call::new(kind, parameters, record) };
                 self.compare(&call, lent);
-                if let (true, Some((ra, dec))) = (kind.enters(), stored(lent, number)) {
+                let enters = kind.enters() || kind == Kind::EnterStopped;
+                if let (true, Some((ra, dec))) = (enters, stored(lent, number)) {
                     self.compare(&Call { ra, dec, ..call }, lent);
                 }
             }
@@ -136,7 +176,7 @@ impl Tester {
         let small = random.below(40) as u32;
         let value = random.pick(&[0, 1, 8, 9, 32, 33, 99, 100, 256, 257, 1_024, 1_025, u32::MAX, any, small, small]);
         let p = &mut call.parameters;
-        match random.below(27) {
+        match random.below(28) {
             0 => p.places = value,
             1 => p.groups = value,
             2 => p.width = value,
@@ -163,12 +203,30 @@ impl Tester {
             23 => resize(random, &mut lent.second.numbers),
             24 => resize(random, &mut lent.second.words),
             25 => resize(random, &mut lent.second.owners),
+            26 => call.stores = random.pick(&[0, 1, 2, value]),
             _ => {
                 call.ra = random.pick(&[0, 1_295_999_999, 1_296_000_000, u32::MAX, any]);
                 call.dec = random.pick(&[-324_000_001, -324_000_000, 324_000_000, 324_000_001, i32::MIN, any as i32]);
             }
         }
     }
+}
+
+/// The pages that a stopped form stores, from the files before and after the call.
+fn stored_pages(call: &Call, before: &Buffers, after: &Buffers) -> Vec<usize> {
+    let mut changed = before.file.changed_pages(&call.parameters, &after.file);
+    if call.kind == Kind::EnterStopped {
+        changed.reverse();
+    }
+    changed.truncate(call.stores as usize);
+    changed
+}
+
+/// How many pages a call changes.
+pub fn stores(call: &Call, before: &Buffers) -> u32 {
+    let mut after = before.clone();
+    model::run(&Call { kind: call.kind.stops().unwrap(), ..*call }, &mut after);
+    before.file.changed_pages(&call.parameters, &after.file).len() as u32
 }
 
 /// Whether the model's check accepts the buffers of a call.

@@ -1,9 +1,33 @@
 //! The calls of the Rattle crate starfile_tests, linked from its static library.
 
-use model::{Buffers, Call, Growth, Kind, Outcome, Parameters, Record};
+use model::{Buffers, Call, Growth, Implementation, Kind, Outcome, Parameters, Record, Refused};
 
 /// The requests of document 02 that have landed in the library.
-pub const LANDED: &[u32] = &[1, 2, 3, 4, 5, 7, 9, 10, 13, 14];
+pub const LANDED: &[u32] = &[1, 2, 3, 4, 5, 7, 9, 10, 12, 13, 14];
+
+pub const LIBRARY: Implementation = Implementation { run, landed: LANDED };
+
+/// What a call returns. The fields that a kind does not answer are zeros.
+#[repr(C)]
+struct Reply {
+    refusal: u32,
+    page: u32,
+    place: u32,
+    found: u32,
+    ra: u32,
+    dec: i32,
+    due: u32,
+    stars: u32,
+    record: Record,
+}
+
+impl Reply {
+    fn outcome(self) -> Outcome {
+        let Reply { refusal, page, place, found, ra, dec, due, stars, record } = self;
+        let (length, filed, inner) = (0, 0, Refused::default());
+        Outcome { refusal, page, place, found, ra, dec, due, stars, length, filed, inner, record }
+    }
+}
 
 // Each slice is a pointer and a length in items.
 #[rustfmt::skip]
@@ -14,7 +38,7 @@ extern "C" {
         numbers: *mut u32, numbers_length: usize,
         words: *mut u64, words_length: usize,
         owners: *mut u8, owners_length: usize,
-    ) -> Outcome;
+    ) -> Reply;
     fn sft_look_up(
         parameters: Parameters, record: Record,
         separators: *const u8, separators_length: usize,
@@ -22,7 +46,7 @@ extern "C" {
         words: *const u64, words_length: usize,
         owners: *const u8, owners_length: usize,
         number: u32,
-    ) -> Outcome;
+    ) -> Reply;
     fn sft_enter(
         parameters: Parameters, record: Record,
         separators: *mut u8, separators_length: usize,
@@ -33,7 +57,7 @@ extern "C" {
         pool_words: *mut u64, pool_words_length: usize,
         pool_owners: *mut u8, pool_owners_length: usize,
         caller: u8, number: u32, ra: u32, dec: i32,
-    ) -> Outcome;
+    ) -> Reply;
     fn sft_cascade(
         parameters: Parameters, record: Record,
         separators: *mut u8, separators_length: usize,
@@ -44,7 +68,7 @@ extern "C" {
         pool_words: *mut u64, pool_words_length: usize,
         pool_owners: *mut u8, pool_owners_length: usize,
         caller: u8, number: u32, ra: u32, dec: i32,
-    ) -> Outcome;
+    ) -> Reply;
     fn sft_change(
         parameters: Parameters, record: Record,
         separators: *const u8, separators_length: usize,
@@ -52,7 +76,7 @@ extern "C" {
         words: *mut u64, words_length: usize,
         owners: *const u8, owners_length: usize,
         caller: u8, number: u32, ra: u32, dec: i32,
-    ) -> Outcome;
+    ) -> Reply;
     fn sft_remove(
         parameters: Parameters, record: Record,
         separators: *mut u8, separators_length: usize,
@@ -63,7 +87,7 @@ extern "C" {
         pool_words: *mut u64, pool_words_length: usize,
         pool_owners: *mut u8, pool_owners_length: usize,
         caller: u8, number: u32,
-    ) -> Outcome;
+    ) -> Reply;
     fn sft_grow(
         parameters: Parameters, record: Record,
         separators: *mut u8, separators_length: usize,
@@ -73,7 +97,7 @@ extern "C" {
         pool_numbers: *mut u32, pool_numbers_length: usize,
         pool_words: *mut u64, pool_words_length: usize,
         pool_owners: *mut u8, pool_owners_length: usize,
-    ) -> Outcome;
+    ) -> Reply;
     fn sft_shrink(
         parameters: Parameters, record: Record,
         separators: *mut u8, separators_length: usize,
@@ -83,14 +107,14 @@ extern "C" {
         pool_numbers: *mut u32, pool_numbers_length: usize,
         pool_words: *mut u64, pool_words_length: usize,
         pool_owners: *mut u8, pool_owners_length: usize,
-    ) -> Outcome;
+    ) -> Reply;
     fn sft_due(
         parameters: Parameters, record: Record,
         separators: *const u8, separators_length: usize,
         numbers: *const u32, numbers_length: usize,
         words: *const u64, words_length: usize,
         owners: *const u8, owners_length: usize,
-    ) -> Outcome;
+    ) -> Reply;
     fn sft_check(
         parameters: Parameters, record: Record,
         separators: *const u8, separators_length: usize,
@@ -100,7 +124,7 @@ extern "C" {
         pool_numbers: *mut u32, pool_numbers_length: usize,
         pool_words: *mut u64, pool_words_length: usize,
         pool_owners: *mut u8, pool_owners_length: usize,
-    ) -> Outcome;
+    ) -> Reply;
     fn sft_open(
         parameters: Parameters, record: Record,
         separators: *const u8, separators_length: usize,
@@ -114,7 +138,7 @@ extern "C" {
         pool_numbers: *mut u32, pool_numbers_length: usize,
         pool_words: *mut u64, pool_words_length: usize,
         pool_owners: *mut u8, pool_owners_length: usize,
-    ) -> Outcome;
+    ) -> Reply;
     fn sft_step(
         parameters: Parameters, record: Record,
         separators: *const u8, separators_length: usize,
@@ -128,7 +152,47 @@ extern "C" {
         pool_numbers: *mut u32, pool_numbers_length: usize,
         pool_words: *mut u64, pool_words_length: usize,
         pool_owners: *mut u8, pool_owners_length: usize,
-    ) -> Outcome;
+    ) -> Reply;
+    fn sft_enter_stopped(
+        parameters: Parameters, record: Record,
+        separators: *mut u8, separators_length: usize,
+        numbers: *mut u32, numbers_length: usize,
+        words: *mut u64, words_length: usize,
+        owners: *mut u8, owners_length: usize,
+        pool_numbers: *mut u32, pool_numbers_length: usize,
+        pool_words: *mut u64, pool_words_length: usize,
+        pool_owners: *mut u8, pool_owners_length: usize,
+        caller: u8, number: u32, ra: u32, dec: i32, stores: u32,
+    ) -> Reply;
+    fn sft_change_stopped(
+        parameters: Parameters, record: Record,
+        separators: *const u8, separators_length: usize,
+        numbers: *const u32, numbers_length: usize,
+        words: *mut u64, words_length: usize,
+        owners: *const u8, owners_length: usize,
+        caller: u8, number: u32, ra: u32, dec: i32, stores: u32,
+    ) -> Reply;
+    fn sft_remove_stopped(
+        parameters: Parameters, record: Record,
+        separators: *mut u8, separators_length: usize,
+        numbers: *mut u32, numbers_length: usize,
+        words: *mut u64, words_length: usize,
+        owners: *mut u8, owners_length: usize,
+        pool_numbers: *mut u32, pool_numbers_length: usize,
+        pool_words: *mut u64, pool_words_length: usize,
+        pool_owners: *mut u8, pool_owners_length: usize,
+        caller: u8, number: u32, stores: u32,
+    ) -> Reply;
+    fn sft_mend(
+        parameters: Parameters, record: Record,
+        separators: *mut u8, separators_length: usize,
+        numbers: *mut u32, numbers_length: usize,
+        words: *mut u64, words_length: usize,
+        owners: *mut u8, owners_length: usize,
+        pool_numbers: *mut u32, pool_numbers_length: usize,
+        pool_words: *mut u64, pool_words_length: usize,
+        pool_owners: *mut u8, pool_owners_length: usize,
+    ) -> Reply;
     fn sft_mark_changed(
         parameters: Parameters, growth: Growth,
         old: *const u8, old_length: usize,
@@ -160,7 +224,7 @@ pub fn rank(step: u64, groups: u64, group: u64) -> u64 {
 
 /// Runs one call of the library.
 pub fn run(call: &Call, lent: &mut Buffers) -> Outcome {
-    let Call { kind, parameters: p, record: g, caller: c, number, ra, dec } = *call;
+    let Call { kind, parameters: p, record: g, caller: c, number, ra, dec, stores, .. } = *call;
     let Buffers { file, second, .. } = lent;
     let (s, sl) = (file.separators.as_mut_ptr(), file.separators.len());
     let (n, nl) = (file.numbers.as_mut_ptr(), file.numbers.len());
@@ -174,7 +238,7 @@ pub fn run(call: &Call, lent: &mut Buffers) -> Outcome {
     let (sw, swl) = (second.words.as_mut_ptr(), second.words.len());
     let (so, sol) = (second.owners.as_mut_ptr(), second.owners.len());
     // SAFETY: each pointer and length is that of a vector of its own, which lives through the call.
-    unsafe {
+    let reply = unsafe {
         match kind {
             Kind::Make => sft_make(p, s, sl, n, nl, w, wl, o, ol),
             Kind::LookUp => sft_look_up(p, g, s, sl, n, nl, w, wl, o, ol, number),
@@ -194,6 +258,16 @@ pub fn run(call: &Call, lent: &mut Buffers) -> Outcome {
             Kind::Step => sft_step(
                 p, g, s, sl, n, nl, w, wl, o, ol, ss, ssl, sn, snl, sw, swl, so, sol, pn, pnl, pw, pwl, po, pol,
             ),
+            Kind::EnterStopped => sft_enter_stopped(
+                p, g, s, sl, n, nl, w, wl, o, ol, pn, pnl, pw, pwl, po, pol, c, number, ra, dec, stores,
+            ),
+            Kind::ChangeStopped => sft_change_stopped(p, g, s, sl, n, nl, w, wl, o, ol, c, number, ra, dec, stores),
+            Kind::RemoveStopped => {
+                sft_remove_stopped(p, g, s, sl, n, nl, w, wl, o, ol, pn, pnl, pw, pwl, po, pol, c, number, stores)
+            }
+            Kind::Mend => sft_mend(p, g, s, sl, n, nl, w, wl, o, ol, pn, pnl, pw, pwl, po, pol),
+            _ => panic!("the library has no {}", kind.name()),
         }
-    }
+    };
+    reply.outcome()
 }

@@ -1,6 +1,6 @@
 //! The documents' points, against the library.
 
-model::point_tests!(interface::run);
+model::point_tests!(interface::LIBRARY);
 
 #[test]
 fn generator() {

@@ -1,10 +1,10 @@
 //! The calls on any buffers, with the refusals in the order of document 01's table and document 02.
 
+use crate::fits;
 use crate::hashing::{grown, highest_address, home, shape, shrunk, signature, MULTIPLIERS};
-use crate::placement::{cut, pack, position_valid, rule, unpack, with_homes, word_valid, write, Page, Star};
-use crate::{Buffers, Call, Growth, Kind, Outcome, Pages, Parameters, Record};
-
-const HIGHEST_NUMBER: u32 = 2_147_483_646;
+use crate::placement::{cut, lay_out, pack, position_valid, rule, unpack, with_homes, word_valid, write, Page, Star};
+use crate::tray::{Report, PLACES};
+use crate::{Buffers, Call, Growth, Kind, Outcome, Pages, Parameters, Record, Refused, HIGHEST_NUMBER};
 
 struct Refusal {
     number: u32,
@@ -52,8 +52,7 @@ fn unchanged(call: &Call) -> Outcome {
 }
 
 fn attempt(call: &Call, lent: &mut Buffers) -> Result<Outcome, Refusal> {
-    let valid = parameters_valid(&call.parameters);
-    if !valid || call.kind != Kind::Make && !record_valid(&call.parameters, &call.record) {
+    if !values_valid(call) {
         return refuse(1);
     }
     if !lengths_right(call, lent) {
@@ -65,7 +64,8 @@ fn attempt(call: &Call, lent: &mut Buffers) -> Result<Outcome, Refusal> {
     if call.kind.takes_number() && !(1..=HIGHEST_NUMBER).contains(&call.number) {
         return refuse(3);
     }
-    if call.kind.takes_position() && !position_valid(call.ra, call.dec) {
+    let position_read = call.kind.takes_position() && !(call.kind == Kind::Report && call.removed);
+    if position_read && !position_valid(call.ra, call.dec) {
         return refuse(4);
     }
     let mut file = File { parameters: call.parameters, growth: call.record.growth, lent };
@@ -78,8 +78,81 @@ fn attempt(call: &Call, lent: &mut Buffers) -> Result<Outcome, Refusal> {
         Kind::Due => return Ok(file.due(unchanged(call))),
         Kind::Check => file.check()?,
         Kind::LookUp | Kind::Enter | Kind::Change | Kind::Remove | Kind::Cascade => return on_a_star(call, &mut file),
+        Kind::EnterStopped | Kind::ChangeStopped | Kind::RemoveStopped => return stopped(call, lent),
+        Kind::Mend => file.mend()?,
+        Kind::Write => return file.write_table(unchanged(call)),
+        Kind::Read => file.read_table()?,
+        Kind::Carry => file.carry(&call.new_parameters, &call.new_record.growth)?,
+        Kind::Report => add_report(call, lent)?,
+        Kind::Combined => return combined(call, &mut file),
+        Kind::Filing => return Ok(file_reports(call, lent)),
     }
     Ok(unchanged(call))
+}
+
+/// The call that a stopped form stops, of whose changed pages only the first so many are stored, unless all are.
+fn stopped(call: &Call, lent: &mut Buffers) -> Result<Outcome, Refusal> {
+    let mut after = lent.clone();
+    let outcome = attempt(&Call { kind: call.kind.stops().unwrap(), ..*call }, &mut after)?;
+    let mut changed = lent.file.changed_pages(&call.parameters, &after.file);
+    if call.kind == Kind::EnterStopped {
+        changed.reverse();
+    }
+    if call.stores as usize >= changed.len() {
+        lent.file = after.file;
+        return Ok(outcome);
+    }
+    for &page in &changed[..call.stores as usize] {
+        lent.file.copy_page(&call.parameters, page, &after.file);
+    }
+    Ok(outcome)
+}
+
+fn add_report(call: &Call, lent: &mut Buffers) -> Result<(), Refusal> {
+    if lent.tray.count as usize == PLACES {
+        return refuse(14);
+    }
+    let star = Star { number: call.number, word: pack(call.ra, call.dec), owner: call.caller };
+    lent.tray.add(call.parameters.multiplier, Report::new(star, call.removed));
+    Ok(())
+}
+
+/// The filter, then the tray, then the file.
+fn combined(call: &Call, file: &mut File) -> Result<Outcome, Refusal> {
+    let Some(report) = file.lent.tray.latest(call.parameters.multiplier, call.number) else {
+        return on_a_star(&Call { kind: Kind::LookUp, ..*call }, file);
+    };
+    let none = Outcome { page: call.parameters.pages, ..unchanged(call) };
+    match report {
+        Report { removed: true, .. } => Ok(none),
+        Report { ra, dec, .. } => Ok(Outcome { found: 1, ra, dec, ..none }),
+    }
+}
+
+/// Files the reports in order up to the first refusal.
+fn file_reports(call: &Call, lent: &mut Buffers) -> Outcome {
+    let mut outcome = unchanged(call);
+    for report in lent.tray.waiting().to_vec() {
+        let Outcome { refusal, page, place, .. } = file_report(call, report, lent);
+        if refusal != 0 {
+            outcome.inner = Refused { refusal, page, place };
+            break;
+        }
+        outcome.filed += 1;
+    }
+    lent.tray.strike_out(call.parameters.multiplier, outcome.filed as usize);
+    outcome
+}
+
+/// A held star is changed or removed, another entered; a removal of a star not held does nothing.
+fn file_report(call: &Call, report: Report, lent: &mut Buffers) -> Outcome {
+    let Report { number, ra, dec, owner: caller, removed } = report;
+    let mut run = |kind| run(&Call { kind, caller, number, ra, dec, ..*call }, lent);
+    match run(if removed { Kind::Remove } else { Kind::Change }) {
+        Outcome { refusal: 7, .. } if removed => unchanged(call),
+        Outcome { refusal: 7, .. } => run(Kind::Enter),
+        outcome => outcome,
+    }
 }
 
 /// The calls that take a number: each answers the place found on the page first named, also when refused after that.
@@ -128,11 +201,24 @@ fn record_valid(p: &Parameters, record: &Record) -> bool {
     growth_valid(p, &record.growth) && steps_valid
 }
 
+/// Parameters and records; a new file has no record yet, and a file is carried to the other multiplier.
+fn values_valid(call: &Call) -> bool {
+    let Call { kind, parameters, record, new_parameters, new_record, .. } = call;
+    parameters_valid(parameters)
+        && (*kind == Kind::Make || record_valid(parameters, record))
+        && (*kind != Kind::Carry
+            || parameters_valid(new_parameters)
+                && record_valid(new_parameters, new_record)
+                && new_parameters.multiplier != parameters.multiplier)
+}
+
 fn lengths_right(call: &Call, lent: &Buffers) -> bool {
+    let Call { kind, parameters, .. } = call;
     let pool = [lent.pool_numbers.len(), lent.pool_words.len(), lent.pool_owners.len()];
-    lent.file.fit(&call.parameters)
-        && (!call.kind.takes_second() || lent.second.fit(&call.parameters))
-        && (!call.kind.takes_pool() || pool == [call.parameters.items(); 3])
+    (!kind.takes_file() || lent.file.fit(parameters))
+        && (!kind.takes_second() || lent.second.fit(call.second_parameters()))
+        && (!kind.takes_pool() || pool == [call.second_parameters().items(); 3])
+        && (!kind.takes_tray() || lent.tray.fits())
 }
 
 /// A file whose parameters, growth state and lengths are right; its contents may be anything.
@@ -364,15 +450,67 @@ impl File<'_> {
     fn step(&mut self, record: Record) -> Result<Outcome, Refusal> {
         let (outcome, grown) = self.grown()?;
         let page = record.steps as usize;
-        let (items, second) = (self.items(page), &mut self.lent.second);
-        second.separators[page] = grown.separators[page];
-        second.numbers[items.clone()].copy_from_slice(&grown.numbers[items.clone()]);
-        second.words[items.clone()].copy_from_slice(&grown.words[items.clone()]);
-        second.owners[items.clone()].copy_from_slice(&grown.owners[items]);
+        self.lent.second.separators[page] = grown.separators[page];
+        self.lent.second.copy_page(&self.parameters, page, &grown);
         if page == self.last_page() {
             return Ok(outcome);
         }
         Ok(Outcome { record: Record { steps: record.steps + 1, ..record }, ..Outcome::default() })
+    }
+
+    /// The distinct stars of all pages, placed by the rule; no separator is read.
+    fn mend(&mut self) -> Result<(), Refusal> {
+        let file = &self.lent.file;
+        let all = || (0..file.numbers.len()).map(|item| file.star(item));
+        let valid = |star: Star| match star.number {
+            0 => star == Star::default(),
+            number => number <= HIGHEST_NUMBER && word_valid(star.word),
+        };
+        let mut stars: Vec<Star> = file.stars().collect();
+        stars.sort();
+        stars.dedup();
+        if !all().all(valid) || stars.windows(2).any(|pair| pair[0].number == pair[1].number) {
+            return refuse(15);
+        }
+        self.replace(stars)
+    }
+
+    /// The file that the rule gives some stars.
+    fn replace(&mut self, stars: Vec<Star>) -> Result<(), Refusal> {
+        let Some(laid_out) = lay_out(&self.parameters, &self.growth, stars) else {
+            return refuse(8);
+        };
+        self.lent.file = laid_out.file;
+        Ok(())
+    }
+
+    fn write_table(&mut self, none: Outcome) -> Result<Outcome, Refusal> {
+        self.all_sound(0)?;
+        let mut stars: Vec<Star> = self.lent.file.stars().collect();
+        stars.sort();
+        let table = fits::table(&stars);
+        if self.lent.table.len() < table.len() {
+            return refuse(12);
+        }
+        self.lent.table[..table.len()].copy_from_slice(&table);
+        Ok(Outcome { length: table.len() as u32, ..none })
+    }
+
+    fn read_table(&mut self) -> Result<(), Refusal> {
+        match fits::stars(&self.lent.table) {
+            Ok(stars) => self.replace(stars),
+            Err(number) => refuse(number),
+        }
+    }
+
+    /// The second set becomes the file of these stars under other parameters.
+    fn carry(&mut self, parameters: &Parameters, growth: &Growth) -> Result<(), Refusal> {
+        self.all_sound(0)?;
+        let Some(laid_out) = lay_out(parameters, growth, self.lent.file.stars().collect()) else {
+            return refuse(8);
+        };
+        self.lent.second = laid_out.file;
+        Ok(())
     }
 
     fn due(&self, no: Outcome) -> Outcome {

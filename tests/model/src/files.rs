@@ -73,6 +73,12 @@ pub fn random_caller(random: &mut Random) -> u8 {
     random.pick(&[0, 0, 1, 2, 255])
 }
 
+/// After how many stores a stopped form stops, often before the last.
+pub fn random_stores(random: &mut Random) -> u32 {
+    let few = random.below(5) as u32;
+    random.pick(&[0, 1, 1, few, few, u32::MAX])
+}
+
 pub fn random_star(random: &mut Random) -> Star {
     let (ra, dec) = random.position();
     Star { number: random.star_number(), word: pack(ra, dec), owner: random_caller(random) }
@@ -168,6 +174,32 @@ pub fn random_record(random: &mut Random, parameters: &Parameters, growth: Growt
     let open = Record { growth, open: true, steps: random.pick(&[any, last]) };
     let closed = Record::closed(growth);
     random.pick(&[open, closed, closed, closed])
+}
+
+/// Stars again on places elsewhere, pages turned round, and empty places before stars: what mending alone may meet.
+pub fn scatter(random: &mut Random, parameters: &Parameters, lent: &mut Buffers) {
+    let (places, items) = (parameters.places as usize, lent.file.numbers.len());
+    let file = &mut lent.file;
+    for _ in 0..random.below(items as u64 + 1) {
+        let [from, to] = [(); 2].map(|_| random.below(items as u64) as usize);
+        match random.below(3) {
+            0 => {
+                file.numbers.swap(from, to);
+                file.words.swap(from, to);
+                file.owners.swap(from, to);
+            }
+            1 if file.numbers[to] == 0 || random.once_in(3) => {
+                let star = file.star(from);
+                (file.numbers[to], file.words[to], file.owners[to]) = (star.number, star.word, star.owner);
+            }
+            _ => {
+                let page = from / places * places..(from / places + 1) * places;
+                file.numbers[page.clone()].reverse();
+                file.words[page.clone()].reverse();
+                file.owners[page].reverse();
+            }
+        }
+    }
 }
 
 /// How many bits the file has.

@@ -3,20 +3,28 @@
 pub mod backup;
 mod calls;
 pub mod files;
+pub mod fits;
 pub mod hashing;
 pub mod placement;
 pub mod points;
 pub mod random;
 pub mod session;
 pub mod starline;
+pub mod tray;
 pub mod vectors;
 
 pub use calls::run;
 use hashing::MULTIPLIERS;
 use placement::Star;
+use tray::Tray;
 
 /// The requests of document 02 that the model follows.
-pub const LANDED: &[u32] = &[1, 2, 3, 4, 5, 7, 9, 10, 13, 14];
+pub const LANDED: &[u32] = &[1, 2, 3, 4, 5, 6, 7, 8, 9, 10, 11, 12, 13, 14];
+
+/// Of a star.
+pub const HIGHEST_NUMBER: u32 = 2_147_483_646;
+
+pub const MODEL: Implementation = Implementation { run, landed: LANDED };
 
 /// The documents' b, N, n0, s, k, A and M, and the generator's multiplier.
 #[repr(C)]
@@ -50,7 +58,6 @@ pub struct Record {
 }
 
 /// What a call answers, and the growth record after it.
-#[repr(C)]
 #[derive(Clone, Copy, Debug, Default, PartialEq, Eq)]
 pub struct Outcome {
     pub refusal: u32,
@@ -61,7 +68,20 @@ pub struct Outcome {
     pub dec: i32,
     pub due: u32,
     pub stars: u32,
+    /// How many bytes a table written has.
+    pub length: u32,
+    /// How many reports a filing filed, and the refusal at which it stopped.
+    pub filed: u32,
+    pub inner: Refused,
     pub record: Record,
+}
+
+/// A refusal with its page and place, or zeros.
+#[derive(Clone, Copy, Debug, Default, PartialEq, Eq)]
+pub struct Refused {
+    pub refusal: u32,
+    pub page: u32,
+    pub place: u32,
 }
 
 /// A file's four buffers.
@@ -73,7 +93,8 @@ pub struct Pages {
     pub owners: Vec<u8>,
 }
 
-/// The lent buffers: the file's, the pool's three, and the second set of pages into which a growth is opened.
+/// The lent buffers: the file's, the pool's three, the second set of pages into which a growth is opened or a file is carried,
+/// the tray, and the bytes of a table.
 #[derive(Clone, Debug, Default, PartialEq, Eq)]
 pub struct Buffers {
     pub file: Pages,
@@ -81,6 +102,8 @@ pub struct Buffers {
     pub pool_words: Vec<u64>,
     pub pool_owners: Vec<u8>,
     pub second: Pages,
+    pub tray: Tray,
+    pub table: Vec<u8>,
 }
 
 #[derive(Clone, Copy, Debug, PartialEq, Eq)]
@@ -97,10 +120,20 @@ pub enum Kind {
     Cascade,
     Open,
     Step,
+    EnterStopped,
+    ChangeStopped,
+    RemoveStopped,
+    Mend,
+    Write,
+    Read,
+    Carry,
+    Report,
+    Combined,
+    Filing,
 }
 
 impl Kind {
-    pub const ALL: [Kind; 12] = [
+    pub const ALL: [Kind; 22] = [
         Kind::Make,
         Kind::LookUp,
         Kind::Enter,
@@ -113,39 +146,95 @@ impl Kind {
         Kind::Cascade,
         Kind::Open,
         Kind::Step,
+        Kind::EnterStopped,
+        Kind::ChangeStopped,
+        Kind::RemoveStopped,
+        Kind::Mend,
+        Kind::Write,
+        Kind::Read,
+        Kind::Carry,
+        Kind::Report,
+        Kind::Combined,
+        Kind::Filing,
     ];
     pub const ENTRIES: [Kind; 2] = [Kind::Enter, Kind::Cascade];
 
+    #[rustfmt::skip]
     pub fn name(self) -> &'static str {
         let names = [
             "make", "look_up", "enter", "change", "remove", "grow", "shrink", "due", "check", "cascade", "open", "step",
+            "enter_stopped", "change_stopped", "remove_stopped", "mend", "write", "read", "carry", "report", "combined", "filing",
         ];
         names[self as usize]
+    }
+
+    /// The request of document 02 that asks for the call, or 0 for document 01.
+    pub fn request(self) -> u32 {
+        match self {
+            Kind::Shrink => 1,
+            Kind::Cascade => 9,
+            Kind::Open | Kind::Step => 13,
+            Kind::EnterStopped | Kind::ChangeStopped | Kind::RemoveStopped | Kind::Mend => 12,
+            Kind::Write | Kind::Read => 6,
+            Kind::Carry => 8,
+            Kind::Report | Kind::Combined | Kind::Filing => 11,
+            _ => 0,
+        }
     }
 
     pub fn enters(self) -> bool {
         Kind::ENTRIES.contains(&self)
     }
 
+    /// The call that a stopped form stops.
+    pub fn stops(self) -> Option<Kind> {
+        match self {
+            Kind::EnterStopped => Some(Kind::Enter),
+            Kind::ChangeStopped => Some(Kind::Change),
+            Kind::RemoveStopped => Some(Kind::Remove),
+            _ => None,
+        }
+    }
+
+    pub fn takes_file(self) -> bool {
+        self != Kind::Report
+    }
+
     pub fn takes_pool(self) -> bool {
-        self.enters() || self.takes_second() || matches!(self, Kind::Remove | Kind::Grow | Kind::Shrink | Kind::Check)
+        let all_pages =
+            matches!(self, Kind::Grow | Kind::Shrink | Kind::Check | Kind::Mend | Kind::Read | Kind::Filing);
+        let plain = self.stops().unwrap_or(self);
+        plain.enters() || plain == Kind::Remove || self.takes_second() || all_pages
     }
 
     pub fn takes_second(self) -> bool {
-        matches!(self, Kind::Open | Kind::Step)
+        matches!(self, Kind::Open | Kind::Step | Kind::Carry)
+    }
+
+    pub fn takes_tray(self) -> bool {
+        matches!(self, Kind::Report | Kind::Combined | Kind::Filing)
+    }
+
+    pub fn takes_table(self) -> bool {
+        matches!(self, Kind::Write | Kind::Read)
     }
 
     /// Whether the kind writes the file or opens a growth, and so must wait while one is open; making a file need not.
     pub fn waits(self) -> bool {
-        self.enters() || matches!(self, Kind::Change | Kind::Remove | Kind::Grow | Kind::Shrink | Kind::Open)
+        let plain = self.stops().unwrap_or(self);
+        let all_pages = matches!(self, Kind::Grow | Kind::Shrink | Kind::Open | Kind::Mend | Kind::Read | Kind::Filing);
+        plain.enters() || matches!(plain, Kind::Change | Kind::Remove) || all_pages
     }
 
     pub fn takes_number(self) -> bool {
-        self.enters() || matches!(self, Kind::LookUp | Kind::Change | Kind::Remove)
+        let plain = self.stops().unwrap_or(self);
+        let looks_up = matches!(self, Kind::LookUp | Kind::Combined | Kind::Report);
+        plain.enters() || matches!(plain, Kind::Change | Kind::Remove) || looks_up
     }
 
     pub fn takes_position(self) -> bool {
-        self.enters() || self == Kind::Change
+        let plain = self.stops().unwrap_or(self);
+        plain.enters() || matches!(plain, Kind::Change | Kind::Report)
     }
 }
 
@@ -160,10 +249,29 @@ pub struct Call {
     pub number: u32,
     pub ra: u32,
     pub dec: i32,
+    /// A report's mark.
+    pub removed: bool,
+    /// After how many stores a stopped form stops.
+    pub stores: u32,
+    /// The new file's, of a carrying.
+    pub new_parameters: Parameters,
+    pub new_record: Record,
 }
 
-/// The model's `run`, or the same calls of another implementation.
-pub type Run = fn(&Call, &mut Buffers) -> Outcome;
+/// The model's calls or another's, and the requests of document 02 that have landed there.
+#[derive(Clone, Copy)]
+pub struct Implementation {
+    pub run: fn(&Call, &mut Buffers) -> Outcome,
+    pub landed: &'static [u32],
+}
+
+impl Implementation {
+    /// The calls that it has.
+    pub fn kinds(&self) -> Vec<Kind> {
+        let has = |kind: &Kind| kind.request() == 0 || self.landed.contains(&kind.request());
+        Kind::ALL.into_iter().filter(has).collect()
+    }
+}
 
 impl Parameters {
     /// In document 01's order, b, N, n0, s, k, A, M, and with its multiplier.
@@ -175,6 +283,12 @@ impl Parameters {
     /// The same under another multiplier.
     pub fn under(self, multiplier: u32) -> Parameters {
         Parameters { multiplier, ..self }
+    }
+
+    /// The same under the other multiplier.
+    pub fn carried(self) -> Parameters {
+        let [first, second] = MULTIPLIERS;
+        self.under(if self.multiplier == first { second } else { first })
     }
 
     /// All eight, the multiplier last.
@@ -206,12 +320,28 @@ impl Record {
 }
 
 impl Call {
+    /// With zeros for all else; a carrying is to a file like this one under the other multiplier.
+    pub fn new(kind: Kind, parameters: Parameters, record: Record) -> Call {
+        let (new_parameters, new_record) = (parameters.carried(), Record::closed(record.growth));
+        let (caller, number, ra, dec, removed, stores) = (0, 0, 0, 0, false, 0);
+        Call { kind, parameters, record, caller, number, ra, dec, removed, stores, new_parameters, new_record }
+    }
+
     /// Whether a growth is open that the call has to wait for, or none for a step.
     pub fn out_of_turn(&self) -> bool {
-        if self.record.open {
-            self.kind.waits()
+        match self.kind {
+            Kind::Step => !self.record.open,
+            Kind::Carry => self.new_record.open,
+            kind => self.record.open && kind.waits(),
+        }
+    }
+
+    /// The parameters of the second set and the pool.
+    pub fn second_parameters(&self) -> &Parameters {
+        if self.kind == Kind::Carry {
+            &self.new_parameters
         } else {
-            self.kind == Kind::Step
+            &self.parameters
         }
     }
 
@@ -235,6 +365,8 @@ impl Buffers {
             pool_words: vec![0; items],
             pool_owners: vec![0; items],
             second: Pages::zeros(parameters),
+            tray: Tray::zeros(),
+            table: Vec::new(),
         }
     }
 }
@@ -261,6 +393,23 @@ impl Pages {
     pub fn fit(&self, parameters: &Parameters) -> bool {
         self.separators.len() == parameters.pages as usize
             && [self.numbers.len(), self.words.len(), self.owners.len()] == [parameters.items(); 3]
+    }
+
+    /// The pages whose places differ in others.
+    pub fn changed_pages(&self, parameters: &Parameters, other: &Pages) -> Vec<usize> {
+        let places = parameters.places as usize;
+        let same = |item: usize| self.star(item) == other.star(item);
+        let changed = |&page: &usize| !(page * places..(page + 1) * places).all(same);
+        (0..parameters.pages as usize).filter(changed).collect()
+    }
+
+    /// Makes a page of these that of others.
+    pub fn copy_page(&mut self, parameters: &Parameters, page: usize, from: &Pages) {
+        let places = parameters.places as usize;
+        let items = page * places..(page + 1) * places;
+        self.numbers[items.clone()].copy_from_slice(&from.numbers[items.clone()]);
+        self.words[items.clone()].copy_from_slice(&from.words[items.clone()]);
+        self.owners[items.clone()].copy_from_slice(&from.owners[items]);
     }
 
     /// What stands at an item; number 0 is an empty place.

@@ -4,7 +4,7 @@ use crate::files::second_after;
 use crate::hashing::{MODULUS, MULTIPLIERS};
 use crate::placement::{lay_out, pack, Star};
 use crate::session::Session;
-use crate::{Buffers, Growth, Kind, Outcome, Pages, Parameters, Record, Run};
+use crate::{Buffers, Growth, Implementation, Kind, Outcome, Pages, Parameters, Record};
 
 /// One page at home, one above it, a place in each: star 32 has signatures 223 and 126, star 170 has 149 and 215.
 const TWO_PAGES: [u32; 7] = [1, 1, 1, 1, 8, 50, 2];
@@ -46,7 +46,7 @@ pub fn ranks(rank: fn(u64, u64, u64) -> u64) {
 }
 
 /// An empty file, whatever the buffers held; making one takes no pool.
-pub fn empty_file(run: Run) {
+pub fn empty_file(run: Implementation) {
     let mut session = Session::new(run, TWO_PAGES);
     let Buffers { file: Pages { separators, numbers, words, owners }, pool_owners, .. } = &mut session.lent;
     separators.fill(7);
@@ -61,7 +61,7 @@ pub fn empty_file(run: Run) {
 }
 
 /// The homes of stars 1 and 2, seen by look-ups that find none.
-pub fn homes(run: Run) {
+pub fn homes(run: Implementation) {
     let mut session = Session::new(run, [2, 2, 2, 1, 8, 80, 8]);
     assert_eq!((answers(session.look_up(1)), answers(session.look_up(2))), ((0, 3), (0, 2)));
     assert_eq!(answers(session.grow()), (0, 4));
@@ -71,7 +71,7 @@ pub fn homes(run: Run) {
 }
 
 /// The limits of positions and of star numbers.
-pub fn value_limits(run: Run) {
+pub fn value_limits(run: Implementation) {
     for entry in Kind::ENTRIES {
         let mut session = Session::new(run, [4, 2, 2, 1, 8, 80, 8]);
         for kind in [entry, Kind::Change] {
@@ -86,7 +86,7 @@ pub fn value_limits(run: Run) {
             assert_eq!(refusal(3, u32::MAX, 0), 4);
             assert_eq!(refusal(0, u32::MAX, 0), 3);
         }
-        for kind in Kind::ALL.into_iter().filter(|kind| kind.takes_number()) {
+        for kind in run.kinds().into_iter().filter(|kind| kind.takes_number()) {
             for number in [0, 2_147_483_647, u32::MAX] {
                 assert_eq!(session.call(kind, number, 0, 0).refusal, 3);
             }
@@ -97,9 +97,9 @@ pub fn value_limits(run: Run) {
 }
 
 /// The limits of document 01's seven parameters, for every call.
-pub fn parameter_limits(run: Run) {
+pub fn parameter_limits(run: Implementation) {
     let limits = [(0, 1, 32), (1, 1, 256), (2, 1, 4), (3, 1, 4), (4, 1, 8), (5, 1, 99), (6, 8, 1_024)];
-    for kind in Kind::ALL {
+    for kind in run.kinds() {
         for (index, least, greatest) in limits {
             for (value, refused) in
                 [(least - 1, true), (least, false), (greatest, false), (greatest + 1, true), (u32::MAX, true)]
@@ -118,7 +118,7 @@ pub fn parameter_limits(run: Run) {
 }
 
 /// Homes and signatures follow the file's multiplier.
-pub fn multipliers(run: Run) {
+pub fn multipliers(run: Implementation) {
     for (multiplier, page, separator) in [(16_807, 1, 223), (48_271, 4, 254)] {
         let mut session = Session::with(run, Parameters::new([2, 2, 2, 1, 8, 80, 8]).under(multiplier));
         assert_eq!((answers(session.look_up(3)), answers(session.grow())), ((0, 1), (0, 4)));
@@ -137,11 +137,11 @@ pub fn multipliers(run: Run) {
 }
 
 /// A multiplier that is neither is 1 in every call, also in those that never hash, and before every other refusal.
-pub fn multiplier_limits(run: Run) {
+pub fn multiplier_limits(run: Implementation) {
     let [first, second] = MULTIPLIERS;
     let near = [first - 1, first + 1, second - 1, second + 1, first + second, first * first, first | second];
     let far = [0, 1, 2_147_483_646, 2_147_483_647, first + 0x8000_0000, second + 0x0001_0000, u32::MAX];
-    for kind in Kind::ALL {
+    for kind in run.kinds() {
         for multiplier in near.into_iter().chain(far) {
             let mut session = Session::new(run, TWO_PAGES);
             session.parameters.multiplier = multiplier;
@@ -160,7 +160,7 @@ pub fn multiplier_limits(run: Run) {
 }
 
 /// The refusal of a call on an empty file, whose buffers have the lengths that M and b ask if these are sensible.
-fn on_empty_file(run: Run, kind: Kind, list: [u32; 7], growth: Growth) -> u32 {
+fn on_empty_file(run: Implementation, kind: Kind, list: [u32; 7], growth: Growth) -> u32 {
     let mut sizes = Parameters::new(list);
     (sizes.places, sizes.pages) = (sizes.places.min(33), sizes.pages.min(1_025));
     let mut lent = Buffers::zeros(&sizes);
@@ -171,8 +171,8 @@ fn on_empty_file(run: Run, kind: Kind, list: [u32; 7], growth: Growth) -> u32 {
 }
 
 /// Growth states at and beyond the limits; e may be any number of 32 bits.
-pub fn growth_limits(run: Run) {
-    for kind in Kind::ALL.into_iter().filter(|&kind| kind != Kind::Make) {
+pub fn growth_limits(run: Implementation) {
+    for kind in run.kinds().into_iter().filter(|&kind| kind != Kind::Make) {
         let refused = |list, expansions, expanded| on_empty_file(run, kind, list, Growth { expansions, expanded }) == 1;
         let (slow, fast) = ([1, 1, 4, 1, 8, 80, 1_024], [1, 256, 1, 256, 8, 80, 1_000]);
         assert!(!refused(slow, 32, 0) && refused(slow, 32, 1) && refused(slow, 33, 0));
@@ -187,7 +187,7 @@ pub fn growth_limits(run: Run) {
 }
 
 /// k = 1, b = 1: entering a second star of the same home, into a file that the check accepts, is always 8.
-pub fn second_star_of_a_home(run: Run) {
+pub fn second_star_of_a_home(run: Implementation) {
     let files = [([1, 1, 1, 1, 1, 50, 3], 1), ([1, 2, 2, 1, 1, 50, 9], 3), ([1, 3, 1, 2, 1, 50, 8], 4)];
     for ((list, growths), multiplier) in
         files.into_iter().flat_map(|file| MULTIPLIERS.map(|multiplier| (file, multiplier)))
@@ -208,7 +208,7 @@ pub fn second_star_of_a_home(run: Run) {
 }
 
 /// Growth is 8 with pages left, where the rule carries a star past the last page.
-pub fn growth_without_room(run: Run) {
+pub fn growth_without_room(run: Implementation) {
     let mut session = Session::new(run, TWO_PAGES);
     assert_eq!(answers(session.enter(32)), (0, 0));
     assert_eq!(answers(session.enter(170)), (0, 0));
@@ -219,7 +219,7 @@ pub fn growth_without_room(run: Run) {
 }
 
 /// Shrinking answers the pages in falling order, and takes (e, x) back through the states that the growths left.
-pub fn pages_given_back(run: Run) {
+pub fn pages_given_back(run: Implementation) {
     for list in [[2, 2, 2, 1, 8, 80, 8], [1, 1, 1, 1, 8, 50, 9], [3, 3, 1, 2, 8, 80, 14], [1, 1, 4, 1, 2, 99, 18]] {
         for multiplier in MULTIPLIERS {
             let mut session = Session::with(run, Parameters::new(list).under(multiplier));
@@ -242,7 +242,7 @@ pub fn pages_given_back(run: Run) {
 }
 
 /// A growth then a shrink leaves a clean file as it was, and so does a shrink then a growth.
-pub fn there_and_back(run: Run) {
+pub fn there_and_back(run: Implementation) {
     let mut session = Session::new(run, [2, 2, 2, 1, 8, 80, 16]);
     let (mut grown, mut number) = (0, 0);
     while session.record.growth != (Growth { expansions: 4, expanded: 0 }) {
@@ -262,7 +262,7 @@ pub fn there_and_back(run: Run) {
 }
 
 /// Shrinking a clean file is 8 where the rule carries a star past the last page.
-pub fn shrinking_without_room(run: Run) {
+pub fn shrinking_without_room(run: Implementation) {
     let mut session = Session::new(run, [1, 1, 1, 1, 1, 50, 2]);
     assert_eq!(answers(session.grow()), (0, 1));
     assert_eq!(session.record.growth, Growth { expansions: 1, expanded: 0 });
@@ -279,7 +279,7 @@ pub fn shrinking_without_room(run: Run) {
 }
 
 /// There is nothing to give back at (0, 0), whatever the pages hold; the pool is zeros after that.
-pub fn nothing_to_give_back(run: Run) {
+pub fn nothing_to_give_back(run: Implementation) {
     let mut session = Session::new(run, TWO_PAGES);
     session.lent.file.words = vec![u64::MAX, 7];
     session.lent.file.numbers = vec![u32::MAX, 0];
@@ -300,7 +300,7 @@ pub fn nothing_to_give_back(run: Run) {
 }
 
 /// Growth repairs a file that is all sound and that the check refuses, and so does shrinking.
-pub fn growth_repairs(run: Run) {
+pub fn growth_repairs(run: Implementation) {
     let mut session = Session::new(run, TWO_PAGES);
     session.lent.file.separators.fill(0);
     assert_eq!(spot(session.check()), (5, 0, 1));
@@ -314,7 +314,7 @@ pub fn growth_repairs(run: Run) {
 }
 
 /// An entry into a file that is not clean stands below the page that was first named.
-pub fn entry_below_named_page(run: Run) {
+pub fn entry_below_named_page(run: Implementation) {
     let mut session = Session::new(run, TWO_PAGES);
     session.lent.file.separators[0] = 0;
     assert_eq!(answers(session.look_up(32)), (0, 1));
@@ -323,7 +323,7 @@ pub fn entry_below_named_page(run: Run) {
 }
 
 /// A removal raises the separator of the home page, though the star stood above it.
-pub fn removal_raises_separator(run: Run) {
+pub fn removal_raises_separator(run: Implementation) {
     let mut session = Session::new(run, TWO_PAGES);
     session.enter(170);
     session.enter(32);
@@ -333,7 +333,7 @@ pub fn removal_raises_separator(run: Run) {
 }
 
 /// An entry into a file that is all sound and not clean is 8, though the rule over the whole file would fit.
-pub fn entry_without_room_in_its_reach(run: Run) {
+pub fn entry_without_room_in_its_reach(run: Implementation) {
     let mut session = Session::new(run, [1, 2, 1, 1, 8, 50, 2]);
     let lower = (1..).find(|&number| session.home(number) == 0).unwrap();
     let upper = (1..).find(|&number| session.home(number) == 1).unwrap();
@@ -347,7 +347,7 @@ pub fn entry_without_room_in_its_reach(run: Run) {
 }
 
 /// All places full and one star more: 8, but only once every page of the reach was found sound.
-pub fn entry_into_full_file(run: Run) {
+pub fn entry_into_full_file(run: Implementation) {
     let mut session = Session::new(run, [2, 4, 1, 2, 8, 99, 4]);
     let mut number = 0;
     while session.lent.file.numbers.contains(&0) {
@@ -366,7 +366,7 @@ pub fn entry_into_full_file(run: Run) {
 }
 
 /// What the check names, in its order: unsound pages first, then places, then the separator.
-pub fn check_order(run: Run) {
+pub fn check_order(run: Implementation) {
     let mut session = Session::new(run, TWO_PAGES);
     assert_eq!(spot(session.check()), (0, 0, 0));
     session.lent.file.separators = vec![100, 255];
@@ -378,7 +378,7 @@ pub fn check_order(run: Run) {
 }
 
 /// Due counts every number that is not 0, and a separator above 2^k − 1 still names its page.
-pub fn damaged_values(run: Run) {
+pub fn damaged_values(run: Implementation) {
     let mut session = Session::new(run, [1, 1, 1, 1, 4, 50, 2]);
     session.lent.file.numbers = vec![u32::MAX, 7];
     let outcome = session.due();
@@ -393,7 +393,7 @@ pub fn damaged_values(run: Run) {
 }
 
 /// The place on the page first named, in every answer after that search.
-pub fn places(run: Run) {
+pub fn places(run: Implementation) {
     let mut session = Session::new(run, TWO_PAGES);
     assert_eq!(spot(session.enter(32)), (0, 0, 0));
     assert_eq!(spot(session.enter(170)), (0, 0, 1));
@@ -430,7 +430,7 @@ pub fn places(run: Run) {
 
 /// A resend of the stored position is accepted, though the reach is damaged or the caller a stranger; any other position
 /// is 6.
-pub fn resends(run: Run) {
+pub fn resends(run: Implementation) {
     let mut session = Session::new(run, TWO_PAGES);
     session.caller = 5;
     session.enter(170);
@@ -454,7 +454,7 @@ pub fn resends(run: Run) {
 
 /// A cascading entry is the entry on a clean file; on others it raises no separator and reads no page below the named one,
 /// nor above the first past which nothing is carried.
-pub fn cascades(run: Run) {
+pub fn cascades(run: Implementation) {
     let file = |session: &Session| (session.lent.file.separators.clone(), session.lent.file.numbers.clone());
     for (first, second, page, place) in [(32, 170, 0, 1), (170, 32, 1, 0)] {
         let mut session = Session::new(run, TWO_PAGES);
@@ -486,7 +486,7 @@ pub fn cascades(run: Run) {
 }
 
 /// A star on a page above the highest address makes that page one in use.
-pub fn pages_in_use(run: Run) {
+pub fn pages_in_use(run: Implementation) {
     let mut session = Session::new(run, [2, 1, 1, 1, 8, 99, 3]);
     for (number, due) in [(1, 0), (2, 1), (3, 0)] {
         assert_eq!(session.enter(number).refusal, 0);
@@ -496,12 +496,12 @@ pub fn pages_in_use(run: Run) {
 }
 
 /// A refusal 1 to 4 leaves the pool as it is; every other call that takes it leaves zeros.
-pub fn pool_contents(run: Run) {
+pub fn pool_contents(run: Implementation) {
     let pool = |session: &Session| {
         let Buffers { pool_numbers, pool_words, pool_owners, .. } = session.lent.clone();
         (pool_numbers, pool_words, pool_owners)
     };
-    for kind in Kind::ALL.into_iter().filter(|kind| kind.takes_pool()) {
+    for kind in run.kinds().into_iter().filter(|kind| kind.takes_pool()) {
         let mut session = Session::new(run, TWO_PAGES);
         session.lent.pool_words.fill(7);
         session.lent.pool_owners.fill(7);
@@ -519,7 +519,7 @@ pub fn pool_contents(run: Run) {
 }
 
 /// A star is its caller's; besides its owner the institute alone changes and removes it, and a change leaves the owner.
-pub fn strangers(run: Run) {
+pub fn strangers(run: Implementation) {
     let mut session = Session::new(run, [4, 1, 1, 1, 8, 80, 1]);
     for (caller, number) in [(5, 10), (255, 20), (0, 30)] {
         session.caller = caller;
@@ -557,7 +557,7 @@ pub fn strangers(run: Run) {
 }
 
 /// A stranger is refused before the reach is read, and after the page that is named.
-pub fn strangers_before_reach(run: Run) {
+pub fn strangers_before_reach(run: Implementation) {
     let mut session = Session::new(run, TWO_PAGES);
     session.caller = 5;
     assert_eq!((session.enter(170).refusal, session.enter(32).refusal), (0, 0));
@@ -570,7 +570,7 @@ pub fn strangers_before_reach(run: Run) {
 }
 
 /// Owners travel with stars that an entry, a removal, a growth or a shrink moves.
-pub fn owners_travel(run: Run) {
+pub fn owners_travel(run: Implementation) {
     for entry in Kind::ENTRIES {
         let mut session = Session::new(run, TWO_PAGES);
         let mut after = |caller, kind, number| {
@@ -591,7 +591,7 @@ pub fn owners_travel(run: Run) {
 }
 
 /// An empty place that has an owner makes its page unsound, and no other does.
-pub fn owner_of_an_empty_place(run: Run) {
+pub fn owner_of_an_empty_place(run: Implementation) {
     let mut session = Session::new(run, [2, 2, 1, 1, 8, 80, 3]);
     let number = (1..).find(|&number| session.home(number) == 1).unwrap();
     let other = (1..).find(|&number| session.home(number) == 0).unwrap();
@@ -599,7 +599,7 @@ pub fn owner_of_an_empty_place(run: Run) {
     assert_eq!(spot(session.enter(number)), (0, 1, 0));
     session.lent.file.owners[3] = 128;
     assert_eq!(spot(session.check()), (5, 1, 2));
-    for kind in Kind::ALL.into_iter().filter(|kind| kind.takes_number()) {
+    for kind in run.kinds().into_iter().filter(|kind| kind.takes_number() && kind.takes_file()) {
         assert_eq!(spot(session.call(kind, number, 1, 0)), (5, 1, 0));
     }
     assert_eq!(answers(session.grow()), (5, 1));
@@ -611,9 +611,9 @@ pub fn owner_of_an_empty_place(run: Run) {
     }
 }
 
-/// Owners of a wrong length are 2 in every call, the pool's in those that take one.
-pub fn owner_lengths(run: Run) {
-    for kind in Kind::ALL {
+/// Owners of a wrong length are 2 in every call that takes the file, the pool's in those that take one.
+pub fn owner_lengths(run: Implementation) {
+    for kind in run.kinds().into_iter().filter(|kind| kind.takes_file()) {
         for length in [0, 1, 3, 4] {
             let mut session = Session::new(run, TWO_PAGES);
             session.lent.file.owners.resize(length, 0);
@@ -638,7 +638,7 @@ fn fill_pool(session: &mut Session) {
 
 /// Opening empties the second set and step j + 1 writes page j of it; after M of them it is the file that growing leaves. Till
 /// then look-ups, Due and the check answer from the old file, which stays.
-pub fn growth_in_steps(run: Run) {
+pub fn growth_in_steps(run: Implementation) {
     let files =
         [([2, 2, 2, 1, 8, 80, 8], 12), ([1, 1, 1, 1, 8, 50, 2], 1), ([3, 2, 1, 2, 4, 80, 5], 6), (TWO_PAGES, 0)];
     for ((list, stars), multiplier) in
@@ -678,8 +678,8 @@ pub fn growth_in_steps(run: Run) {
 
 /// While a growth is open every kind that writes the file or opens a growth is 16, after 2 and before all else; a step is when
 /// none is open.
-pub fn out_of_turn(run: Run) {
-    for kind in Kind::ALL {
+pub fn out_of_turn(run: Implementation) {
+    for kind in run.kinds().into_iter().filter(|kind| kind.takes_file()) {
         for open in [false, true] {
             let mut session = Session::new(run, TWO_PAGES);
             session.record.open = open;
@@ -712,8 +712,8 @@ pub fn out_of_turn(run: Run) {
 }
 
 /// A record with M steps done or more, or with steps and none open, is 1 in every call but making a file, which ends a growth.
-pub fn record_limits(run: Run) {
-    for kind in Kind::ALL {
+pub fn record_limits(run: Implementation) {
+    for kind in run.kinds() {
         let records = [(true, 0, true), (true, 1, true), (true, 2, false), (true, u32::MAX, false), (false, 0, true)];
         for (open, steps, valid) in records.into_iter().chain([(false, 1, false), (false, u32::MAX, false)]) {
             let mut session = Session::new(run, TWO_PAGES);
@@ -736,7 +736,7 @@ pub fn record_limits(run: Run) {
 
 /// Opening and steps are refused as growing is, with the second set left as it was; damage holds a growth up until it is made
 /// good, or until the record says that none is open.
-pub fn growth_refused_in_steps(run: Run) {
+pub fn growth_refused_in_steps(run: Implementation) {
     for kind in [Kind::Open, Kind::Step] {
         let fresh = || {
             let mut session = Session::new(run, TWO_PAGES);
@@ -787,6 +787,117 @@ pub fn growth_refused_in_steps(run: Run) {
     assert_eq!(answers(session.remove(1)), (0, page));
 }
 
+/// A stopped form stores an entry's pages from the highest down and a removal's from the lowest up, leaves the separators, and
+/// answers as the call; mending gives the file before the call or the one after it.
+pub fn stopped_stores(run: Implementation) {
+    let mut first = Session::new(run, TWO_PAGES);
+    first.caller = 1;
+    assert_eq!(answers(first.enter(32)), (0, 0));
+    let mut second = Session { caller: 2, ..first.clone() };
+    assert_eq!(answers(second.enter(170)), (0, 0));
+    let cut = |from: &Session, kind, number, stores| {
+        let mut session = from.clone();
+        let outcome = session.stopped(kind, number, stores);
+        let pages = (session.lent.file.numbers.clone(), session.lent.file.separators.clone());
+        session.lent.file.separators = vec![200, 7];
+        fill_pool(&mut session);
+        assert_eq!(session.mend().refusal, 0);
+        (answers(outcome), pages, session.lent)
+    };
+    // The entry stores page 1, then page 0; the removal page 0, then page 1.
+    let entering = |stores| cut(&Session { caller: 2, ..first.clone() }, Kind::EnterStopped, 170, stores);
+    assert_eq!(entering(0), ((0, 0), (vec![32, 0], vec![255, 255]), first.lent.clone()));
+    assert_eq!(entering(1), ((0, 0), (vec![32, 32], vec![255, 255]), first.lent.clone()));
+    assert_eq!(entering(2), ((0, 0), (vec![170, 32], vec![223, 255]), second.lent.clone()));
+    assert_eq!(entering(u32::MAX), entering(2));
+    let removing = |stores| cut(&second, Kind::RemoveStopped, 170, stores);
+    assert_eq!(removing(0), ((0, 0), (vec![170, 32], vec![223, 255]), second.lent.clone()));
+    assert_eq!(removing(1), ((0, 0), (vec![32, 32], vec![223, 255]), first.lent.clone()));
+    assert_eq!(removing(2), ((0, 0), (vec![32, 0], vec![255, 255]), first.lent.clone()));
+    // A separator alone is no store: after 170, star 32 goes to page 1, and page 0 keeps its place.
+    let mut session = Session::new(run, TWO_PAGES);
+    assert_eq!(answers(session.enter(170)), (0, 0));
+    assert_eq!(
+        cut(&session, Kind::EnterStopped, 32, 0),
+        ((0, 1), (vec![170, 0], vec![255, 255]), session.lent.clone())
+    );
+    assert_eq!(cut(&session, Kind::EnterStopped, 32, 1).1, (vec![170, 32], vec![223, 255]));
+}
+
+/// A change stores one page, and nothing if the position stays, as a resend does.
+pub fn stopped_changes(run: Implementation) {
+    let mut session = Session::new(run, TWO_PAGES);
+    assert_eq!(answers(session.enter(170)), (0, 0));
+    let before = session.lent.clone();
+    for kind in [Kind::EnterStopped, Kind::ChangeStopped] {
+        assert_eq!((answers(session.stopped(kind, 170, 0)), &session.lent), ((0, 0), &before));
+    }
+    session.lent.file.words[0] = pack(2, 0);
+    let before = session.lent.clone();
+    assert_eq!((answers(session.stopped(Kind::ChangeStopped, 170, 0)), &session.lent), ((0, 0), &before));
+    assert_eq!(session.stopped(Kind::EnterStopped, 170, 9).refusal, 6);
+    assert_eq!(
+        (answers(session.stopped(Kind::ChangeStopped, 170, 1)), session.lent.file.words[0]),
+        ((0, 0), pack(1, 0))
+    );
+}
+
+/// On a file that is not clean a stopped entry may lose another's star: it stands on page 1 and its first page is 0.
+pub fn stopped_on_sound_pages(run: Implementation) {
+    let mut session = Session::new(run, [1, 1, 1, 1, 8, 50, 3]);
+    session.lent.file.separators[0] = 0;
+    (session.lent.file.numbers[1], session.lent.file.words[1], session.lent.file.owners[1]) = (32, pack(1, 0), 2);
+    session.caller = 1;
+    let mut whole = session.clone();
+    assert_eq!((whole.enter(4).refusal, session.stopped(Kind::EnterStopped, 4, 1).refusal), (0, 0));
+    assert!(whole.lent.file.numbers.contains(&32) && !session.lent.file.numbers.contains(&32));
+}
+
+/// Mending takes pages as they are and reads no separator; 15 comes after 16 and before 8, with page 0.
+pub fn mending(run: Implementation) {
+    let star = |session: &mut Session, item: usize, number, word, owner| {
+        let file = &mut session.lent.file;
+        (file.numbers[item], file.words[item], file.owners[item]) = (number, word, owner);
+    };
+    let mut clean = Session::new(run, [3, 1, 1, 1, 8, 50, 2]);
+    assert_eq!((clean.enter(170).refusal, clean.enter(32).refusal), (0, 0));
+    let mut session = Session::new(run, [3, 1, 1, 1, 8, 50, 2]);
+    for (item, number) in [(1, 170), (3, 32), (4, 170), (5, 32)] {
+        star(&mut session, item, number, pack(1, 0), 0);
+    }
+    session.lent.file.separators = vec![0, 9];
+    let mut mended = session.clone();
+    fill_pool(&mut mended);
+    assert_eq!((spot(mended.mend()), &mended.lent, mended.record), ((0, 0, 0), &clean.lent, session.record));
+    let damage = [
+        (4, 170, pack(2, 0), 0),
+        (4, 170, pack(1, 0), 3),
+        (2, 2_147_483_647, pack(1, 0), 0),
+        (2, 5, u64::MAX, 0),
+        (2, 0, 1, 0),
+        (2, 0, 0, 1),
+    ];
+    for (item, number, word, owner) in damage {
+        let mut session = session.clone();
+        star(&mut session, item, number, word, owner);
+        let before = session.lent.clone();
+        fill_pool(&mut session);
+        assert_eq!((spot(session.mend()), &session.lent), ((15, 0, 0), &before));
+        session.record.open = true;
+        assert_eq!(session.mend().refusal, 16);
+    }
+    // Two stars of one home with one signature on both pages, or none that is below 1.
+    let mut full = Session::new(run, [1, 1, 1, 1, 1, 50, 2]);
+    star(&mut full, 0, 1, pack(1, 0), 0);
+    star(&mut full, 1, 2, pack(1, 0), 0);
+    let before = full.lent.clone();
+    assert_eq!((spot(full.mend()), &full.lent), ((8, 0, 0), &before));
+    full.lent.file.owners[0] = 1;
+    assert_eq!(full.mend().refusal, 8);
+    full.lent.file.words[0] = u64::MAX;
+    assert_eq!(full.mend().refusal, 15);
+}
+
 /// A test of each point for an implementation.
 #[macro_export]
 macro_rules! point_tests {
@@ -796,7 +907,8 @@ macro_rules! point_tests {
             nothing_to_give_back growth_repairs entry_below_named_page removal_raises_separator
             entry_without_room_in_its_reach entry_into_full_file check_order damaged_values places resends cascades
             pages_in_use pool_contents strangers strangers_before_reach owners_travel owner_of_an_empty_place owner_lengths
-            growth_in_steps out_of_turn record_limits growth_refused_in_steps);
+            growth_in_steps out_of_turn record_limits growth_refused_in_steps stopped_stores stopped_changes
+            stopped_on_sound_pages mending);
     };
     ($run:path: $($name:ident)*) => {
         $(#[test] fn $name() { $crate::points::$name($run) })*

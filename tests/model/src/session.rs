@@ -1,10 +1,10 @@
 //! One file with its growth record, and the calls on it.
 
-use crate::{Buffers, Call, Kind, Outcome, Parameters, Record, Run};
+use crate::{Buffers, Call, Implementation, Kind, Outcome, Parameters, Record};
 
 #[derive(Clone)]
 pub struct Session {
-    pub run: Run,
+    pub run: Implementation,
     pub parameters: Parameters,
     pub record: Record,
     pub lent: Buffers,
@@ -14,12 +14,12 @@ pub struct Session {
 
 impl Session {
     /// An empty file under document 01's multiplier; the parameters in the order b, N, n0, s, k, A, M.
-    pub fn new(run: Run, parameters: [u32; 7]) -> Session {
+    pub fn new(run: Implementation, parameters: [u32; 7]) -> Session {
         Session::with(run, Parameters::new(parameters))
     }
 
     /// An empty file.
-    pub fn with(run: Run, parameters: Parameters) -> Session {
+    pub fn with(run: Implementation, parameters: Parameters) -> Session {
         let lent = Buffers::zeros(&parameters);
         let mut session = Session { run, parameters, record: Record::default(), lent, caller: 0 };
         assert_eq!(session.call(Kind::Make, 0, 0, 0).refusal, 0, "making {parameters:?}");
@@ -28,8 +28,11 @@ impl Session {
 
     pub fn call(&mut self, kind: Kind, number: u32, ra: u32, dec: i32) -> Outcome {
         let Session { parameters, record, caller, .. } = *self;
-        let call = Call { kind, parameters, record, caller, number, ra, dec };
-        let outcome = (self.run)(&call, &mut self.lent);
+        self.run(Call { caller, number, ra, dec, ..Call::new(kind, parameters, record) })
+    }
+
+    fn run(&mut self, call: Call) -> Outcome {
+        let outcome = (self.run.run)(&call, &mut self.lent);
         self.record = call.record_after(&outcome);
         outcome
     }
@@ -64,6 +67,16 @@ impl Session {
 
     pub fn step_growth(&mut self) -> Outcome {
         self.call(Kind::Step, 0, 0, 0)
+    }
+
+    /// A stopped form, with the position that the entries have.
+    pub fn stopped(&mut self, kind: Kind, number: u32, stores: u32) -> Outcome {
+        let Session { parameters, record, caller, .. } = *self;
+        self.run(Call { caller, number, ra: 1, stores, ..Call::new(kind, parameters, record) })
+    }
+
+    pub fn mend(&mut self) -> Outcome {
+        self.call(Kind::Mend, 0, 0, 0)
     }
 
     pub fn due(&mut self) -> Outcome {

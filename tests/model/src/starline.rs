@@ -6,7 +6,7 @@ pub fn starline(input: &[u8]) -> String {
     let parameters = Parameters::new([2, 2, 2, 1, 8, 80, 8]);
     let mut lent = Buffers::zeros(&parameters);
     let record = Record::default();
-    let mut call = Call { kind: Kind::Make, parameters, record, caller: 0, number: 0, ra: 0, dec: 0 };
+    let mut call = Call::new(Kind::Make, parameters, record);
     run(&call, &mut lent);
     let mut lines: Vec<&[u8]> = input.split(|&byte| byte == b'\n').collect();
     if lines.last().is_some_and(|line| line.is_empty()) {

@@ -1,8 +1,9 @@
 //! Files of single calls on explicit buffers with everything expected afterwards, in two forms: document 01's, and
 //! document 02's, whose vectors begin with the requests that have landed.
 
-use crate::{Buffers, Call, Growth, Kind, Outcome, Pages, Parameters, Record, Run};
-use std::fmt::{Display, Write};
+use crate::tray::{Report, Tray};
+use crate::{Buffers, Call, Growth, Implementation, Kind, Outcome, Pages, Parameters, Record, Refused};
+use std::fmt::{Debug, Display, Write};
 use std::fs;
 use std::str::FromStr;
 
@@ -29,11 +30,6 @@ struct Reader<'a> {
 
 fn value<T: FromStr>(field: &str) -> Result<T, String> {
     field.parse().map_err(|_| format!("bad value '{field}'"))
-}
-
-/// Fields of a request that has not landed are 0.
-fn unused(fields: &[&str]) -> Result<(), String> {
-    fields.iter().find(|&&field| field != "0").map_or(Ok(()), |field| Err(format!("unknown value '{field}'")))
 }
 
 impl<'a> Reader<'a> {
@@ -89,22 +85,73 @@ impl<'a> Reader<'a> {
         Ok(Pages { separators, numbers, words, owners })
     }
 
-    /// Parameters, record and buffers. Document 02's form has a pool only where the call takes one, and a second set of pages,
-    /// which has no parameters and record of its own, for opening and steps.
-    fn lent(&mut self, kind: Kind) -> Result<(Parameters, Record, Buffers), String> {
-        let (parameters, record) = (self.parameters("params")?, self.record("record")?);
+    fn tray(&mut self) -> Result<Tray, String> {
+        let count = value(self.counted("count", 1, 1)?[0])?;
+        let fields = self.fields("reports")?;
+        let length = value(fields.first().ok_or("reports: a length was expected")?)?;
+        let mut reports = fields[1..].chunks(5).map(report).collect::<Result<Vec<Report>, String>>()?;
+        reports.resize(length, Report::default());
+        Ok(Tray { count, reports, filter: self.values("filter")? })
+    }
+
+    /// A table's bytes: their number and the first of them, the others being all the same.
+    fn table(&mut self, others: u8) -> Result<Vec<u8>, String> {
+        let fields = self.fields("bytes")?;
+        let length = value(fields.first().ok_or("bytes: a length was expected")?)?;
+        let digits = fields.get(1).unwrap_or(&"");
+        let byte = |at: usize| digits.get(at..at + 2).and_then(|pair| u8::from_str_radix(pair, 16).ok());
+        let bytes: Option<Vec<u8>> = (0..digits.len()).step_by(2).map(byte).collect();
+        let mut bytes = bytes.ok_or("bytes: pairs of hexadecimal digits were expected")?;
+        bytes.resize(length, others);
+        Ok(bytes)
+    }
+
+    /// Parameters, records and buffers into the call. Document 02's form has only what the kind takes, and the file; `afterwards`
+    /// a reading's table does not stand again, nor do the parameters in document 01's form.
+    fn lent(&mut self, call: &mut Call, afterwards: bool) -> Result<Buffers, String> {
+        let kind = call.kind;
+        if self.later || !afterwards {
+            call.parameters = self.parameters("params")?;
+        }
+        call.record = self.record("record")?;
         let mut lent = Buffers { file: self.pages(FILE)?, ..Buffers::default() };
         if !self.later || kind.takes_pool() {
             (lent.pool_numbers, lent.pool_words) = (self.values("pnums")?, self.values("pwords")?);
             lent.pool_owners = self.owners("powners", lent.pool_numbers.len())?;
         }
         if kind.takes_second() {
-            if (self.parameters("params2")?, self.record("record2")?) != (parameters, record) {
+            (call.new_parameters, call.new_record) = (self.parameters("params2")?, self.record("record2")?);
+            if kind != Kind::Carry && (call.new_parameters, call.new_record) != (call.parameters, call.record) {
                 return Err("the second set has other parameters or another record".to_string());
             }
             lent.second = self.pages(SECOND)?;
         }
-        Ok((parameters, record, lent))
+        if kind.takes_tray() {
+            lent.tray = self.tray()?;
+        }
+        if kind.takes_table() && !(kind == Kind::Read && afterwards) {
+            lent.table = self.table(if kind == Kind::Read { 0 } else { 170 })?;
+        }
+        Ok(lent)
+    }
+
+    fn outcome(&mut self) -> Result<Outcome, String> {
+        let answer = self.counted("answer", 8, 13)?;
+        let number = |i: usize| answer.get(i).map_or(Ok(0), |field| value(field));
+        Ok(Outcome {
+            refusal: number(0)?,
+            page: number(1)?,
+            place: number(2)?,
+            found: number(3)?,
+            ra: number(4)?,
+            dec: value(answer[5])?,
+            due: number(6)?,
+            stars: number(7)?,
+            length: number(8)?,
+            filed: number(9)?,
+            inner: Refused { refusal: number(10)?, page: number(11)?, place: number(12)? },
+            record: Record::default(),
+        })
     }
 
     fn vector(&mut self, landed: &[u32]) -> Result<Vector, String> {
@@ -118,31 +165,36 @@ impl<'a> Reader<'a> {
         let name = self.fields("call")?.concat();
         let kind = Kind::ALL.into_iter().find(|kind| kind.name() == name);
         let kind = kind.ok_or_else(|| format!("no call '{name}'"))?;
-        let (parameters, record, before) = self.lent(kind)?;
+        let mut call = Call::new(kind, Parameters::new([0; 7]), Record::default());
+        let before = self.lent(&mut call, false)?;
         let args = self.counted("args", 3, 6)?;
-        let (number, ra, dec) = (value(args[0])?, value(args[1])?, value(args[2])?);
-        let caller = if self.owned { value(args[3])? } else { 0 };
-        let call = Call { kind, parameters, record, caller, number, ra, dec };
-        let answer = self.counted("answer", 8, 13)?;
-        unused(&answer[8..])?;
-        let (parameters, record, after) = self.lent(kind)?;
-        if parameters != call.parameters {
-            return Err("no call changes the parameters".to_string());
+        (call.number, call.ra, call.dec) = (value(args[0])?, value(args[1])?, value(args[2])?);
+        if self.owned {
+            call.caller = value(args[3])?;
+            (call.removed, call.stores) = (value::<u8>(args[4])? != 0, value(args[5])?);
         }
-        let outcome = Outcome {
-            refusal: value(answer[0])?,
-            page: value(answer[1])?,
-            place: value(answer[2])?,
-            found: value(answer[3])?,
-            ra: value(answer[4])?,
-            dec: value(answer[5])?,
-            due: value(answer[6])?,
-            stars: value(answer[7])?,
-            record,
-        };
+        let mut outcome = self.outcome()?;
+        let mut afterwards = call;
+        let mut after = self.lent(&mut afterwards, true)?;
+        outcome.record = afterwards.record;
+        if kind == Kind::Read {
+            after.table.clone_from(&before.table);
+        }
+        let carried = kind == Kind::Carry && afterwards.new_record != call.new_record;
+        if carried || (afterwards.parameters, afterwards.new_parameters) != (call.parameters, call.new_parameters) {
+            return Err("no call changes parameters, or the record of a new file".to_string());
+        }
         self.counted("end", 0, 0)?;
         Ok(Vector { call, before, outcome, after })
     }
+}
+
+fn report(fields: &[&str]) -> Result<Report, String> {
+    let [number, ra, dec, owner, removed] = fields else {
+        return Err("reports: five values each were expected".to_string());
+    };
+    let (number, ra, dec, owner) = (value(number)?, value(ra)?, value(dec)?, value(owner)?);
+    Ok(Report { number, ra, dec, owner, removed: value::<u8>(removed)? != 0 })
 }
 
 /// Each vector of a text with the line at which it starts, or what hinders an implementation with these requests from
@@ -157,11 +209,11 @@ pub fn parse(text: &str, landed: &[u32]) -> Vec<(usize, Result<Vector, String>)>
 }
 
 /// Runs files of vectors, tells of those that fail and closes with 'N passed, M failed'; whether all passed.
-pub fn run_files(files: impl Iterator<Item = String>, run: Run, landed: &[u32]) -> bool {
+pub fn run_files(files: impl Iterator<Item = String>, run: Implementation) -> bool {
     let (mut passed, mut failed) = (0, 0);
     for file in files {
         let vectors = match fs::read_to_string(&file) {
-            Ok(text) => parse(&text, landed),
+            Ok(text) => parse(&text, run.landed),
             Err(error) => vec![(0, Err(error.to_string()))],
         };
         for (line, vector) in vectors {
@@ -181,9 +233,9 @@ pub fn run_files(files: impl Iterator<Item = String>, run: Run, landed: &[u32]) 
 
 impl Vector {
     /// Runs the call and names what differs, a line each.
-    pub fn differences(&self, run: Run) -> Vec<String> {
+    pub fn differences(&self, run: Implementation) -> Vec<String> {
         let mut lent = self.before.clone();
-        let mut outcome = run(&self.call, &mut lent);
+        let mut outcome = (run.run)(&self.call, &mut lent);
         outcome.record = self.call.record_after(&outcome);
         let mut list = Vec::new();
         if self.outcome != outcome {
@@ -198,20 +250,25 @@ impl Vector {
         compare(&mut list, "pool number", &self.after.pool_numbers, &lent.pool_numbers);
         compare(&mut list, "pool word", &self.after.pool_words, &lent.pool_words);
         compare(&mut list, "pool owner", &self.after.pool_owners, &lent.pool_owners);
+        compare(&mut list, "report", &self.after.tray.reports, &lent.tray.reports);
+        compare(&mut list, "filter word", &self.after.tray.filter, &lent.tray.filter);
+        compare(&mut list, "count", &[self.after.tray.count], &[lent.tray.count]);
+        compare(&mut list, "byte", &self.after.table, &lent.table);
         list
     }
 
     /// The vector in document 02's form, for an implementation with these requests.
     pub fn text(&self, landed: &[u32]) -> String {
-        let Call { kind, parameters, record, caller, number, ra, dec } = self.call;
+        let Call { kind, record, caller, number, ra, dec, removed, stores, .. } = self.call;
         let mut text = String::new();
         put(&mut text, "landed", landed);
         put(&mut text, "call", &[kind.name()]);
-        put_lent(&mut text, kind, &parameters, &record, &self.before);
-        writeln!(text, "args {number} {ra} {dec} {caller} 0 0").unwrap();
-        let Outcome { refusal, page, place, found, ra, dec, due, stars, record } = self.outcome;
-        writeln!(text, "answer {refusal} {page} {place} {found} {ra} {dec} {due} {stars} 0 0 0 0 0").unwrap();
-        put_lent(&mut text, kind, &parameters, &record, &self.after);
+        put_lent(&mut text, &self.call, &record, &self.before, false);
+        writeln!(text, "args {number} {ra} {dec} {caller} {} {stores}", removed as u8).unwrap();
+        let Outcome { refusal, page, place, found, ra, dec, due, stars, length, filed, inner, record } = self.outcome;
+        write!(text, "answer {refusal} {page} {place} {found} {ra} {dec} {due} {stars}").unwrap();
+        writeln!(text, " {length} {filed} {} {} {}", inner.refusal, inner.page, inner.place).unwrap();
+        put_lent(&mut text, &self.call, &record, &self.after, true);
         text + "end\n"
     }
 }
@@ -224,11 +281,14 @@ fn put<T: Display>(text: &mut String, label: &str, values: &[T]) {
     text.push('\n');
 }
 
-fn put_lent(text: &mut String, kind: Kind, parameters: &Parameters, record: &Record, lent: &Buffers) {
-    let Record { growth: Growth { expansions, expanded }, open, steps } = *record;
-    let record = [expansions, expanded, open.into(), steps];
-    put(text, "params", &parameters.list());
-    put(text, "record", &record);
+fn put_lent(text: &mut String, call: &Call, record: &Record, lent: &Buffers, afterwards: bool) {
+    let kind = call.kind;
+    let record_list = |record: &Record| {
+        let Record { growth: Growth { expansions, expanded }, open, steps } = *record;
+        [expansions, expanded, open.into(), steps]
+    };
+    put(text, "params", &call.parameters.list());
+    put(text, "record", &record_list(record));
     put_pages(text, FILE, &lent.file);
     if kind.takes_pool() {
         put(text, "pnums", &lent.pool_numbers);
@@ -236,10 +296,28 @@ fn put_lent(text: &mut String, kind: Kind, parameters: &Parameters, record: &Rec
         put(text, "powners", &lent.pool_owners);
     }
     if kind.takes_second() {
-        put(text, "params2", &parameters.list());
-        put(text, "record2", &record);
+        put(text, "params2", &call.second_parameters().list());
+        put(text, "record2", &record_list(if kind == Kind::Carry { &call.new_record } else { record }));
         put_pages(text, SECOND, &lent.second);
     }
+    if kind.takes_tray() {
+        put_tray(text, &lent.tray);
+    }
+    if kind.takes_table() && !(kind == Kind::Read && afterwards) {
+        let digits: String = lent.table.iter().map(|byte| format!("{byte:02x}")).collect();
+        writeln!(text, "bytes {} {digits}", lent.table.len()).unwrap();
+    }
+}
+
+fn put_tray(text: &mut String, tray: &Tray) {
+    put(text, "count", &[tray.count]);
+    write!(text, "reports {}", tray.reports.len()).unwrap();
+    let last = tray.reports.iter().rposition(|report| *report != Report::default());
+    for Report { number, ra, dec, owner, removed } in &tray.reports[..last.map_or(0, |last| last + 1)] {
+        write!(text, " {number} {ra} {dec} {owner} {}", *removed as u8).unwrap();
+    }
+    text.push('\n');
+    put(text, "filter", &tray.filter);
 }
 
 fn put_pages(text: &mut String, [separators, numbers, words, owners]: [&str; 4], pages: &Pages) {
@@ -250,10 +328,10 @@ fn put_pages(text: &mut String, [separators, numbers, words, owners]: [&str; 4],
 }
 
 /// Names the buffer and the first item that differs.
-fn compare<T: PartialEq + Display>(list: &mut Vec<String>, name: &str, expected: &[T], got: &[T]) {
+fn compare<T: PartialEq + Debug>(list: &mut Vec<String>, name: &str, expected: &[T], got: &[T]) {
     if expected.len() != got.len() {
         list.push(format!("{name}s: expected {} of them, got {}", expected.len(), got.len()));
     } else if let Some(i) = (0..expected.len()).find(|&i| expected[i] != got[i]) {
-        list.push(format!("{name} {i}: expected {}, got {}", expected[i], got[i]));
+        list.push(format!("{name} {i}: expected {:?}, got {:?}", expected[i], got[i]));
     }
 }

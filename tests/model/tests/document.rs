@@ -5,7 +5,7 @@ use model::hashing::{grown, highest_address, home, rank, shrunk, signature, x};
 use model::placement::{pack, separator, unpack, word_valid};
 use model::random::Random;
 use model::session::Session;
-use model::{points, starline::starline, vectors, Growth, Parameters, Record, LANDED};
+use model::{points, starline::starline, vectors, Growth, Parameters, Record, LANDED, MODEL};
 use std::fs;
 
 const FOLDER: &str = concat!(env!("CARGO_MANIFEST_DIR"), "/../vectors");
@@ -79,7 +79,7 @@ fn cascades_as_entries() {
         let growth = random_growth(&mut random, &parameters);
         let lent = clean_file(&mut random, &parameters, &growth, 100);
         let record = Record::closed(growth);
-        let mut entered = Session { run: model::run, parameters, record, lent, caller: 0 };
+        let mut entered = Session { run: MODEL, parameters, record, lent, caller: 0 };
         for _ in 0..10 {
             let (number, mut cascaded) = (random.star_number(), entered.clone());
             assert_eq!((cascaded.cascade(number), &cascaded.lent), (entered.enter(number), &entered.lent));
@@ -99,13 +99,13 @@ fn position_words() {
 
 #[test]
 fn call_vectors() {
-    for (name, count) in [("4-i", 900), ("5-ix-xiv", 900), ("6-xiii", 1_000)] {
+    for (name, count) in [("4-i", 900), ("5-ix-xiv", 900), ("6-xiii", 1_000), ("7-xii", 1_200)] {
         let text = fs::read_to_string(format!("{FOLDER}/{name}.txt")).unwrap();
         let vectors = vectors::parse(&text, LANDED);
         assert_eq!(vectors.len(), count);
         for (line, vector) in vectors {
             let vector = vector.unwrap();
-            assert_eq!(vector.differences(model::run), Vec::<String>::new(), "{name}, line {line}");
+            assert_eq!(vector.differences(MODEL), Vec::<String>::new(), "{name}, line {line}");
             let text = vector.text(LANDED);
             assert_eq!(vectors::parse(&text, LANDED)[0].1.as_ref().unwrap().text(LANDED), text);
         }

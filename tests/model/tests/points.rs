@@ -1,3 +1,3 @@
 //! The documents' points about the calls, against the model.
 
-model::point_tests!(model::run);
+model::point_tests!(model::MODEL);

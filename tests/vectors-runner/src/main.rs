@@ -1,6 +1,6 @@
 //! Runs files of vectors against the library; ends with 'N passed, M failed'.
 
 fn main() {
-    let passed = model::vectors::run_files(std::env::args().skip(1), interface::run, interface::LANDED);
+    let passed = model::vectors::run_files(std::env::args().skip(1), interface::LIBRARY);
     std::process::exit(!passed as i32);
 }

@@ -1,5 +1,5 @@
 -- `call_enter::entry::enter_by` meets its contract.
-use mathlib.Core.Path.{_≡_}
+use mathlib.Core.Path.{_≡_, _∙_}
 use mathlib.Core.Bool.{true, _&&_}
 use denote.Ref.{now}
 use Rattle.hashing.proofs.Bounds.{passed, failed}
@@ -7,13 +7,13 @@ use Rattle.pages.specs.Position.{validNumber, validPosition}
 use Rattle.placement.specs.File.{File}
 use Rattle.placement.specs.Hash.{lent}
 use Rattle.placement.specs.Ready.{Pooled}
-use Rattle.calls.specs.Answers.{Pool, placed, refusedBy, pooled, cleared}
+use Rattle.calls.specs.Answers.{Pool, After, placed, refusedBy, pooled, cleared}
 use Rattle.calls.specs.Lent.{Admitted}
 use Rattle.calls.specs.Calls.{unlent, guarded, entryRefusal, named, entered, fileFits, poolFits}
 use Rattle.call_enter.specs.Entries.{entryOn, entryOf}
 use Rattle.calls.proofs.Refusals.{turned-away-first, refusal-is, none-is, admitted-pool, leaves}
 use Rattle.outcome_answer.proofs.Pools.{cleared-is, leaves-cleared}
-use Rattle.call_enter.proofs.Pools.{entry-pool, entry-way}
+use Rattle.call_enter.proofs.Pools.{entry-pool, entry-way, kept-leaves, stopped-pool}
 use borrow.Author.Needs.{needs}
 use Rattle.call_enter.proofs.entry.enter_by.Statement.{statement}
 use Rattle.call_enter.proofs.entry.enter_by.Tie as tie
@@ -23,6 +23,9 @@ fileOf s = lent (now (s .args .separators)) (now (s .args .numbers)) (now (s .ar
 
 abbrev poolOf : tie.Start → Pool
 poolOf s = pooled (now (s .args .poolnumbers)) (now (s .args .poolwords)) (now (s .args .poolowners))
+
+abbrev call : tie.Start → After
+call s = entryOf (s .args .cascading) (s .args .parameters) (s .args .growth) (fileOf s) (poolOf s) (s .args .caller) (s .args .number) (s .args .position)
 
 way : (s : tie.Start)
     → entryOf (s .args .cascading) (s .args .parameters) (s .args .growth) (fileOf s) (poolOf s) (s .args .caller) (s .args .number) (s .args .position)
@@ -41,7 +44,9 @@ enum-known-refusal c = search needs
 
 returns : tie.Need-returns
 unfolding placed fileFits poolFits
-returns c = rw (way (c .before .before .before .before .before .before .before .before .before .before .before .before)) (leaves _ _ _ _ _ (turned-away-first _ _ _ _ _ _ _ _ (refusal-is _ _ (c .before .before .before .guard .ensures) (c .before .before .before .before .all-fit .ensures) (c .before .refusal .given .1))))
+returns c =
+    let s = c .before .before .before .before .before .before .before .before .before .before .before .before in
+    kept-leaves (s .args .cascading) (s .args .parameters) (s .args .stores) {after = call s} (rw (way (c .before .before .before .before .before .before .before .before .before .before .before .before)) (leaves _ _ _ _ _ (turned-away-first _ _ _ _ _ _ _ _ (refusal-is _ _ (c .before .before .before .guard .ensures) (c .before .before .before .before .all-fit .ensures) (c .before .refusal .given .1)))))
 
 enum-told : tie.Need-enum-told
 enum-told c = search needs
@@ -63,12 +68,14 @@ number-valid-requires c κs = search needs
 returns-2 : tie.Need-returns-2
 unfolding placed refusedBy
 returns-2 c =
-    leaves _ _ (c .before .before .before .before .before .before .before .before .before .before .before .before .before .args .growth) _ _
+    let s = c .before .before .before .before .before .before .before .before .before .before .before .before .before in
+    kept-leaves (s .args .cascading) (s .args .parameters) (s .args .stores) {after = call s}
+    (leaves _ _ (c .before .before .before .before .before .before .before .before .before .before .before .before .before .args .growth) _ _
     (rw (
       way (c .before .before .before .before .before .before .before .before .before .before .before .before .before),
       none (c .before .before),
       failed _ _ (c .before .number-valid .ensures) (c .if1 .taken),
-    ))
+    )))
 
 position-valid-requires : tie.Need-position-valid-requires
 position-valid-requires c κs = search needs
@@ -76,13 +83,15 @@ position-valid-requires c κs = search needs
 returns-3 : tie.Need-returns-3
 unfolding placed refusedBy
 returns-3 c =
-    leaves _ _ (c .before .before .before .before .before .before .before .before .before .before .before .before .before .before .before .args .growth) _ _
+    let s = c .before .before .before .before .before .before .before .before .before .before .before .before .before .before .before in
+    kept-leaves (s .args .cascading) (s .args .parameters) (s .args .stores) {after = call s}
+    (leaves _ _ (c .before .before .before .before .before .before .before .before .before .before .before .before .before .before .before .args .growth) _ _
     (rw (
       way (c .before .before .before .before .before .before .before .before .before .before .before .before .before .before .before),
       none (c .before .before .before .before),
       passed _ _ (c .before .before .before .number-valid .ensures) (c .before .before .if1 .left),
       failed _ _ (c .before .position-valid .ensures) (c .if2 .taken),
-    ))
+    )))
 
 abbrev told : tie.Else2 → tie.After-enum-told
 told c = c .before .before .before .before
@@ -132,7 +141,7 @@ returns-4 c =
     let done = c .before .before .before .before .before .before .before .before .before .before .before .before .before .before .before .before .before .before .before .before .before .before .before .before .enter-star in
     rw (way s, none (told d), numbered d, positioned d)
     (leaves-cleared _ _ _ (poolOf s) _ (rw (c .before .before .before .before .before .before .before .before .before .before .before .before .before .before .before .before .before .before .before .before .before .before .before .before .before .before .before .before .before .before .before .before .pack .ensures) at (done .ensures))
-    (entry-pool (s .args .parameters) (s .args .growth) (fileOf s) (cleared (poolOf s)) (s .args .cascading) _ _)
+    (stopped-pool (s .args .cascading) (s .args .parameters) (fileOf s) (s .args .stores) _ ∙ entry-pool (s .args .parameters) (s .args .growth) (fileOf s) (cleared (poolOf s)) (s .args .cascading) _ _)
     (cleared-is _ _ _ _ _ _ _ _ _ (c .before .before .before .before .before .before .clear .ensures .0) (c .before .before .before .before .before .before .clear .ensures .1 .0) (c .before .before .before .before .before .before .clear .ensures .1 .1)
     (done .kept .1 .1 .1 .1 .1 .1 .1 .0) (done .kept .1 .1 .1 .1 .1 .1 .1 .1 .0) (done .kept .1 .1 .1 .1 .1 .1 .1 .1 .1 .0)))
 

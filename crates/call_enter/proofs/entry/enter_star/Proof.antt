@@ -1,21 +1,27 @@
 -- `call_enter::entry::enter_star` meets its contract.
 use mathlib.Core.Path.{_≡_, sym, ap, _∙_}
 use mathlib.Core.Bool.{true, false}
+use Prim.Native.Nat.{ℕ}
 use native.Mathlib.Omega.{arith}
 use borrow.Author.Tests.{not-true, not-false}
 use denote.Ref.{now}
 use Rattle.hashing.proofs.Bounds.{limits}
+use Rattle.pages.specs.Page.{part, placeOf}
 use Rattle.placement.specs.File.{File}
 use Rattle.placement.specs.Hash.{lent}
 use Rattle.placement.specs.Ready.{Pooled}
 use Rattle.placement.specs.Rule.{Star}
 use Rattle.entry_reach.specs.Entry.{Unheld, newStar}
-use Rattle.calls.specs.Answers.{Pool, placed, refusedBy, pooled, cleared}
+use Rattle.calls.specs.declared.answers.Refusal.the-variants.{Damaged}
+use Rattle.calls.specs.declared.answers.Placed.the-variants.{Refused}
+use Rattle.calls.specs.Stores.{stoppedFile}
+use Rattle.calls.specs.Answers.{Pool, After, placed, refusedBy, pooled, cleared}
 use Rattle.calls.specs.Calls.{readable, holds, enteredAgain, named, placeFor}
 use Rattle.outcome_answer.proofs.Resent.{again-is}
 use Rattle.call_enter.proofs.Outcomes.{entry-small, cascade-small, entered-is, cascaded-is}
 use Rattle.call_guard.proofs.Admitting.{prepared, tabled}
-use Rattle.call_enter.proofs.Pools.{unheld}
+use Rattle.call_enter.specs.Entries.{entryOn}
+use Rattle.call_enter.proofs.Pools.{unheld, kept-stores}
 use borrow.Author.Needs.{needs}
 use Rattle.call_enter.proofs.entry.enter_star.Statement.{statement}
 use Rattle.call_enter.proofs.entry.enter_star.Tie as tie
@@ -25,6 +31,11 @@ fileOf s = lent (now (s .args .separators)) (now (s .args .numbers)) (now (s .ar
 
 abbrev poolOf : tie.Start → Pool
 poolOf s = pooled (now (s .args .poolnumbers)) (now (s .args .poolwords)) (now (s .args .poolowners))
+
+abbrev on : tie.Start → After
+on s =
+    entryOn (s .args .cascading) (s .args .parameters) (s .args .growth) (fileOf s) (cleared (poolOf s)) (named (s .args .parameters) (s .args .growth) (fileOf s) (s .args .number))
+    (newStar (s .args .number) (s .args .word) (s .args .caller))
 
 first-multipliers-requires : tie.Need-first-multipliers-requires
 first-multipliers-requires c κs = tabled (c .before .before .before .before .before .before .before .pre .0)
@@ -57,7 +68,8 @@ unfolding placed refusedBy
 returns c =
     let found = c .before .before .before .before .before .find-kept .ensures .0 in
     let unread = sym (found .readableIs) ∙ not-true _ (c .if1 .taken) in
-    record { answers = rw (unread, found .pageIs); files = rw unread }
+    let s = c .before .before .before .before .before .before .before .before .before .before .before .before .before .before .before .before .before .before .before .before in
+    kept-stores (s .args .cascading) (s .args .parameters) (s .args .stores) {after = on s} {answer = placed (Refused (Damaged (c .before .before .before .before .before .find-kept .result .page)) 0)} {f = fileOf s} (record { answers = rw (unread, found .pageIs); files = rw unread })
 
 same-length-6 : tie.Need-same-length-6
 same-length-6 c = search needs
@@ -85,10 +97,12 @@ returns-2 c =
     let read = sym (found .readableIs) ∙ opened in
     let there = c .before .if2 .taken in
     let held = sym (found .heldIs opened) ∙ there in
-    record {
+    let s = c .before .before .before .before .before .before .before .before .before .before .before .before .before .before .before .before .before .before .before .before .before .before in
+    kept-stores (s .args .cascading) (s .args .parameters) (s .args .stores) {after = on s} {answer = placed (c .entered-again .result)} {f = fileOf s}
+    (record {
       answers = rw (read, held) (again-is _ _ _ _ _ _ _ _ (c .entered-again .ensures) (found .pageIs) (found .placeIs opened) (found .wordIs there));
       files = rw (read, held);
-    }
+    })
 
 -- past the test of the named page: it does not hold the star
 module _ (c : tie.Else2) where
@@ -175,7 +189,8 @@ enter-star-requires : tie.Need-enter-star-requires
 enter-star-requires c κs =
     let e = c .before .before .before .before .before .before .before .before .before in
     let s = begun e in
-    let found = c .before .before .before .before .before .before .before .before .before .before .before .before .before .before .before .find-kept .ensures .0 in (
+    let kept = c .before .before .before .before .before .before .before .before .before .before .before .before .before .before .before .find-kept .ensures in
+    let found = kept .0 in (
       record {
         ready = prepared (c .before .before .before .before .before .before .before .before .before .before .before .before .before .before .before .before .before .before .before .before .before .before .first-multipliers .ensures) (s .pre .0);
         number = s .pre .1 .1;
@@ -183,7 +198,13 @@ enter-star-requires c κs =
         homed = found .homeIs;
         here = found .pageIs;
       },
-      (pooled-still e, (found .placeIs (opened e), e .before .before .before .before .before .before .find-kept .ensures .1 (opened e))),
+      (
+        pooled-still e,
+        (
+          kept .1 (opened e),
+          found .placeIs (opened e) ∙ ap (λ (q : ℕ). placeOf (s .args .number) (part (s .args .parameters .places) q (now (s .args .numbers)))) (sym (found .pageIs)),
+        ),
+      ),
     )
 
 placed-from-requires-2 : tie.Need-placed-from-requires-2
@@ -219,11 +240,12 @@ returns-4 c =
     let e = c .before .before .before .before .before .before .before .before .before .before .before .before .before .before .before .before .before .before .before .before .before .before .before .before .before in
     let s = begun e in
     let found = c .before .before .before .before .before .before .before .before .before .before .before .before .before .before .before .before .before .before .before .before .before .before .before .before .before .before .before .before .before .before .before .find-kept .ensures .0 in
+    let reached = c .before .before .before .before .before .before .before .before .before .before .before .before .before .before .before .before .before .before .before .before .before .before .before .before .if3 .left in
     let done = c .before .before .before .before .before .before .before .before .before .before .before .before .before .before .before .enter-star .ensures in
     let is = entered-is (s .args .parameters) (s .args .growth) (fileOf s) (cleared (poolOf s)) (star e) (placeFor (s .args .parameters) (fileOf s) (named (s .args .parameters) (s .args .growth) (fileOf s) (s .args .number)) (s .args .number)) in
     record {
-      answers = rw (read e, held e, c .before .before .before .before .before .before .before .before .before .before .before .before .before .before .before .before .before .before .before .before .before .before .before .before .if3 .left) (ap placed (rw (done .0, found .placeIs (opened e)) at (c .placed-from2 .ensures)) ∙ is .0);
-      files = rw (read e, held e, c .before .before .before .before .before .before .before .before .before .before .before .before .before .before .before .before .before .before .before .before .before .before .before .before .if3 .left) (done .1 ∙ is .1);
+      answers = rw (read e, held e, reached) (ap placed (rw (done .0, found .placeIs (opened e)) at (c .placed-from2 .ensures)) ∙ is .0);
+      files = rw (read e, held e, reached) (done .1 ∙ ap (λ (l : File). stoppedFile false (s .args .parameters) (fileOf s) l (s .args .stores)) (is .1));
     }
 
 pub enter-star-spec : {M : Type 1} → statement M

@@ -1,18 +1,12 @@
--- `call_remove::remove` meets its contract.
-use mathlib.Core.Path.{_≡_}
-use mathlib.Core.Bool.{true, _&&_}
+use mathlib.Core.Bool.{true}
+use native.Mathlib.Nat.{le-refl}
 use denote.Ref.{now}
-use Rattle.hashing.proofs.Bounds.{passed, failed}
-use Rattle.pages.specs.Position.{validNumber}
 use Rattle.placement.specs.File.{File}
 use Rattle.placement.specs.Hash.{lent}
-use Rattle.placement.specs.Ready.{Pooled}
-use Rattle.calls.specs.Answers.{Pool, placed, refusedBy, pooled, cleared}
-use Rattle.calls.specs.Lent.{Admitted}
-use Rattle.calls.specs.Calls.{unlent, removeOf, fileFits, poolFits}
-use Rattle.calls.proofs.Refusals.{turned-away-first, refusal-is, none-is, admitted-pool, leaves}
-use Rattle.outcome_answer.proofs.Pools.{cleared-is, leaves-cleared}
-use Rattle.call_remove.proofs.Pools.{remove-pool}
+use Rattle.calls.specs.Answers.{pooled}
+use Rattle.calls.specs.Calls.{removeOf}
+use Rattle.calls.specs.Stores.{removeStoppedOf}
+use Rattle.outcome_answer.proofs.Stopped.{whole-leaves}
 use borrow.Author.Needs.{needs}
 use Rattle.call_remove.proofs.removal.remove.Statement.{statement}
 use Rattle.call_remove.proofs.removal.remove.Tie as tie
@@ -20,61 +14,8 @@ use Rattle.call_remove.proofs.removal.remove.Tie as tie
 abbrev fileOf : tie.Start → File
 fileOf s = lent (now (s .args .separators)) (now (s .args .numbers)) (now (s .args .words)) (now (s .args .owners))
 
-abbrev poolOf : tie.Start → Pool
-poolOf s = pooled (now (s .args .poolnumbers)) (now (s .args .poolwords)) (now (s .args .poolowners))
-
-all-fit-requires : tie.Need-all-fit-requires
-all-fit-requires c κs = search needs
-
-guard-requires : tie.Need-guard-requires
-guard-requires c κs = search needs
-
-enum-known-refusal : tie.Need-enum-known-refusal
-enum-known-refusal c = search needs
-
-returns : tie.Need-returns
-unfolding removeOf placed fileFits poolFits
-returns c = leaves _ _ _ _ _ (turned-away-first _ _ _ _ _ _ _ _ (refusal-is _ _ (c .before .before .before .guard .ensures) (c .before .before .before .before .all-fit .ensures) (c .before .refusal .given .1)))
-
-enum-told : tie.Need-enum-told
-enum-told c = search needs
-
--- what is known past the guard
-abbrev begun : tie.After-enum-told → tie.Start
-begun c = c .before .before .before .before .before .before .before .before .before .before .before
-
-none : (c : tie.After-enum-told) → unlent (begun c .args .parameters) (begun c .args .growth) (fileFits (begun c .args .parameters) (fileOf (begun c)) && poolFits (begun c .args .parameters) (poolOf (begun c))) ≡ 0
-unfolding fileFits poolFits
-none c = none-is _ _ (c .before .before .guard .ensures) (c .before .before .before .all-fit .ensures) (c .enum-told .given .1)
-
-lent-well : (c : tie.After-enum-told) → Admitted (begun c .args .parameters) (begun c .args .growth) (fileOf (begun c)) × Pooled (begun c .args .parameters) (poolOf (begun c) .numbers) (poolOf (begun c) .words) (poolOf (begun c) .owners)
-lent-well c = admitted-pool _ _ _ (poolOf (begun c)) (none c)
-
-number-valid-requires : tie.Need-number-valid-requires
-number-valid-requires c κs = search needs
-
-returns-2 : tie.Need-returns-2
-unfolding removeOf placed refusedBy
-returns-2 c =
-    leaves _ _ (c .before .before .before .before .before .before .before .before .before .before .before .before .before .args .growth) _ _
-    (rw (
-      none (c .before .before),
-      failed _ _ (c .before .number-valid .ensures) (c .if1 .taken),
-    ))
-
-abbrev told : tie.Else1 → tie.After-enum-told
-told c = c .before .before
-
-numbered : (c : tie.Else1) → validNumber (begun (told c) .args .number) ≡ true
-numbered c = passed _ _ (c .before .number-valid .ensures) (c .if1 .left)
-
-remove-held-requires : tie.Need-remove-held-requires
-remove-held-requires c κs =
-    let d = c .before .before .before .before .before .before .before in
-    (lent-well (told d) .0, (lent-well (told d) .1, numbered d))
-
-clear-requires : tie.Need-clear-requires
-clear-requires c κs = search needs
+remove-stopped-requires : tie.Need-remove-stopped-requires
+remove-stopped-requires c κs = search needs
 
 same-length : tie.Need-same-length
 same-length c = search needs
@@ -97,31 +38,18 @@ same-length-6 c = search needs
 same-length-7 : tie.Need-same-length-7
 same-length-7 c = search needs
 
-returns-3 : tie.Need-returns-3
-unfolding removeOf
-returns-3 c =
-    let d = c .before .before .before .before .before .before .before .before .before .before .before .before .before .before .before .before .before .before .before .before .before .before .before .before .before .before .before .before .before .before .before .before in
-    let s = begun (told d) in
-    let done = c .before .before .before .before .before .before .before .before .before .before .before .before .before .before .before .before .before .before .before .before .before .before .before .before .remove-held in
-    rw (none (told d), numbered d)
-    (leaves-cleared _ _ _ (poolOf s) _ (done .ensures)
-    (remove-pool (s .args .parameters) (s .args .growth) (fileOf s) (cleared (poolOf s)) _ _ _)
-    (cleared-is _ _ _ _ _ _ _ _ _ (c .before .before .before .before .before .before .clear .ensures .0) (c .before .before .before .before .before .before .clear .ensures .1 .0) (c .before .before .before .before .before .before .clear .ensures .1 .1)
-    (done .kept .1 .1 .1 .1 .1 .1 .0) (done .kept .1 .1 .1 .1 .1 .1 .1 .0) (done .kept .1 .1 .1 .1 .1 .1 .1 .1 .0)))
+returns : tie.Need-returns
+unfolding removeStoppedOf
+returns c =
+    let s = c .before .before .before .before .before .before .before .before .before .before .before .before .before .before .before .before .before .before .before .before .before .before .before .before .before .before .before .before .before in
+    whole-leaves true (s .args .parameters) (s .args .parameters .pages) (removeOf (s .args .parameters) (s .args .growth) (fileOf s) (pooled (now (s .args .poolnumbers)) (now (s .args .poolwords)) (now (s .args .poolowners))) (s .args .caller) (s .args .number)) (fileOf s) (le-refl (s .args .parameters .pages))
+    (c .before .before .before .before .before .before .before .before .before .before .before .before .before .before .remove-stopped .ensures)
 
 pub remove-spec : {M : Type 1} → statement M
 remove-spec =
     tie.close
     (tie.spec
-    all-fit-requires
-    guard-requires
-    enum-known-refusal
-    returns
-    enum-told
-    number-valid-requires
-    returns-2
-    remove-held-requires
-    clear-requires
+    remove-stopped-requires
     same-length
     same-length-2
     same-length-3
@@ -129,4 +57,4 @@ remove-spec =
     same-length-5
     same-length-6
     same-length-7
-    returns-3)
+    returns)

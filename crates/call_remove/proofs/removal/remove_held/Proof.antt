@@ -1,14 +1,21 @@
 -- `call_remove::removal::remove_held` meets its contract.
 use mathlib.Core.Path.{sym, ap, _∙_}
+use mathlib.Core.Bool.{true}
+use Prim.Native.Nat.{ℕ}
 use native.Mathlib.Omega.{arith}
 use borrow.Author.Tests.{not-true, not-false}
 use denote.Ref.{now}
 use Rattle.hashing.proofs.Bounds.{limits}
+use Rattle.pages.specs.Page.{part, placeOf}
 use Rattle.placement.specs.File.{File}
 use Rattle.placement.specs.Hash.{lent}
-use Rattle.calls.specs.Answers.{Pool, placed, refusedBy, pooled, cleared}
+use Rattle.calls.specs.declared.answers.Refusal.the-variants.{Damaged, NotHeld, NotOwner}
+use Rattle.calls.specs.declared.answers.Placed.the-variants.{Refused}
+use Rattle.calls.specs.Stores.{stoppedFile}
+use Rattle.calls.specs.Answers.{Pool, After, placed, refusedBy, pooled, cleared}
 use Rattle.calls.specs.Calls.{removeOn, allowed, named, placeFor}
 use Rattle.call_remove.proofs.Outcomes.{removal-small, removed-is}
+use Rattle.outcome_answer.proofs.Stopped.{unmoved-stores}
 use Rattle.call_guard.proofs.Admitting.{prepared, tabled, altered}
 use Rattle.call_remove.proofs.Pools.{held-star}
 use borrow.Author.Needs.{needs}
@@ -20,6 +27,10 @@ fileOf s = lent (now (s .args .separators)) (now (s .args .numbers)) (now (s .ar
 
 abbrev poolOf : tie.Start → Pool
 poolOf s = pooled (now (s .args .poolnumbers)) (now (s .args .poolwords)) (now (s .args .poolowners))
+
+abbrev on : tie.Start → After
+on s =
+    removeOn (s .args .parameters) (s .args .growth) (fileOf s) (cleared (poolOf s)) (named (s .args .parameters) (s .args .growth) (fileOf s) (s .args .number)) (s .args .caller) (s .args .number)
 
 first-multipliers-requires : tie.Need-first-multipliers-requires
 first-multipliers-requires c κs = tabled (c .before .before .before .before .before .before .before .pre .0)
@@ -52,7 +63,8 @@ unfolding removeOn placed refusedBy
 returns c =
     let found = c .before .before .before .before .before .find-kept .ensures .0 in
     let unread = sym (found .readableIs) ∙ not-true _ (c .if1 .taken) in
-    record { answers = rw (unread, found .pageIs); files = rw unread }
+    let s = c .before .before .before .before .before .before .before .before .before .before .before .before .before .before .before .before .before .before .before .before in
+    unmoved-stores true (s .args .parameters) (s .args .stores) {after = on s} {answer = placed (Refused (Damaged (c .before .before .before .before .before .find-kept .result .page)) 0)} {f = fileOf s} (record { answers = rw (unread, found .pageIs); files = rw unread })
 
 same-length-6 : tie.Need-same-length-6
 same-length-6 c = search needs
@@ -76,7 +88,8 @@ returns-2 c =
     let opened = not-false _ (c .before .before .if1 .left) in
     let read = sym (found .readableIs) ∙ opened in
     let held = sym (found .heldIs opened) ∙ not-true _ (c .if2 .taken) in
-    record { answers = rw (read, held, ← found .placeIs opened); files = rw (read, held) }
+    let s = c .before .before .before .before .before .before .before .before .before .before .before .before .before .before .before .before .before .before .before .before .before .before in
+    unmoved-stores true (s .args .parameters) (s .args .stores) {after = on s} {answer = placed (Refused NotHeld (c .before .before .before .before .before .before .before .find-kept .result .place))} {f = fileOf s} (record { answers = rw (read, held, ← found .placeIs opened); files = rw (read, held) })
 
 may-alter-requires : tie.Need-may-alter-requires
 may-alter-requires c κs = search needs
@@ -105,7 +118,8 @@ returns-3 c =
     let there = not-false _ (c .before .before .if2 .left) in
     let held = sym (found .heldIs opened) ∙ there in
     let may = altered _ _ _ _ _ (found .ownerIs there) (c .before .may-alter .ensures) (not-true _ (c .if3 .taken)) in
-    record { answers = rw (read, held, may, ← found .placeIs opened); files = rw (read, held, may) }
+    let s = c .before .before .before .before .before .before .before .before .before .before .before .before .before .before .before .before .before .before .before .before .before .before .before .before in
+    unmoved-stores true (s .args .parameters) (s .args .stores) {after = on s} {answer = placed (Refused NotOwner (c .before .before .before .before .before .before .before .before .before .find-kept .result .place))} {f = fileOf s} (record { answers = rw (read, held, may, ← found .placeIs opened); files = rw (read, held, may) })
 
 remove-held-requires : tie.Need-remove-held-requires
 remove-held-requires c κs =
@@ -121,7 +135,16 @@ remove-held-requires c κs =
           s .pre .1 .1,
           (
             held-star (s .args .parameters) (s .args .growth) (fileOf s) (s .args .number) (sym (found .readableIs) ∙ opened) (sym (found .heldIs opened) ∙ there),
-            (found .homeIs, (found .placeIs opened, kept .ensures .1 opened)),
+            (
+              found .homeIs,
+              (
+                found .pageIs,
+                (
+                  found .placeIs opened ∙ ap (λ (q : ℕ). placeOf (s .args .number) (part (s .args .parameters .places) q (now (s .args .numbers)))) (sym (found .pageIs)),
+                  kept .ensures .1 opened,
+                ),
+              ),
+            ),
           ),
         ),
       ),
@@ -170,7 +193,7 @@ returns-4 c =
     let is = removed-is (s .args .parameters) (s .args .growth) (fileOf s) (cleared (poolOf s)) (named (s .args .parameters) (s .args .growth) (fileOf s) (s .args .number)) (s .args .number) (placeFor (s .args .parameters) (fileOf s) (named (s .args .parameters) (s .args .growth) (fileOf s) (s .args .number)) (s .args .number)) in
     record {
       answers = rw (read, held, may) (ap placed (rw (done .0, found .pageIs, found .placeIs opened) at (c .placed-from .ensures)) ∙ is .0);
-      files = rw (read, held, may) (done .1 ∙ is .1);
+      files = rw (read, held, may) (done .1 ∙ ap (λ (l : File). stoppedFile true (s .args .parameters) (fileOf s) l (s .args .stores)) (is .1));
     }
 
 pub remove-held-spec : {M : Type 1} → statement M

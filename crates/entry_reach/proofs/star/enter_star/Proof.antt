@@ -1,52 +1,76 @@
-use mathlib.Core.Path.{_≡_, sym, ap, _∙_, subst}
-use mathlib.Core.Bool.{true}
+use mathlib.Core.Path.{_≡_, sym, ap, _∙_}
+use mathlib.Core.Bool.{true, false}
+use mathlib.Core.List.{List}
 use Prim.Native.Nat.{ℕ, _<_}
 use native.Mathlib.Omega.{arith}
 use denote.Ref.{now}
-use borrow.Author.Needs.{needs}
-use borrow.Author.Tests.{not-false}
 use Rattle.hashing.specs.Geometry.{multiplierOf}
+use Rattle.hashing.proofs.Bounds.{limits}
 use Rattle.hashing.proofs.Homes.{home-pages}
 use Rattle.pages.proofs.Parts.{page-fits}
 use Rattle.placement.specs.File.{File}
 use Rattle.placement.specs.Hash.{lent}
 use Rattle.page_edit.proofs.OnePage.{home-start}
-use Rattle.page_edit.specs.Shift.{Vacant, takesAlone}
-use Rattle.entry_reach.specs.Entry.{entryStart}
-use Rattle.entry_reach.proofs.OnePage.{vacant-home, alone-lists}
+use Rattle.page_edit.specs.Shift.{takesAlone}
+use Rattle.calls.specs.Stores.{stoppedFile}
+use Rattle.decision.specs.declared.chosen.Decision.the-variants.{Put}
+use Rattle.entry_reach.specs.Entry.{newStar, entryStart, Decides}
+use Rattle.entry_reach.proofs.OnePage.{alone-decided}
+use borrow.Author.Needs.{needs}
 use Rattle.entry_reach.proofs.star.enter_star.Statement.{statement}
 use Rattle.entry_reach.proofs.star.enter_star.Tie as tie
 
 abbrev file : tie.Start → File
 file s = lent (now (s .args .separators)) (now (s .args .numbers)) (now (s .args .words)) (now (s .args .owners))
 
-home-inside : (s : tie.Start) → s .args .home < s .args .geometry .parameters .pages
+home-inside : (s : tie.Start) → s .args .star .home < s .args .geometry .parameters .pages
 home-inside s =
     let p = s .args .geometry .parameters in
-    omega (arith, s .pre .1 .1 .1 .1 .0, home-pages (multiplierOf p) p (s .args .geometry .growth) (s .args .number) (s .pre .0 .homing .valid) (s .pre .0 .homing .growth))
+    let e = s .pre .0 in
+    omega (arith, e .homed, home-pages (multiplierOf p) p (s .args .geometry .growth) (s .args .star .number) (e .ready .homing .valid) (e .ready .homing .growth))
 
-home-is : (s : tie.Start) → s .args .home ≡ entryStart (s .args .geometry .parameters) (s .args .geometry .growth) (s .args .number)
-home-is s = s .pre .1 .1 .1 .1 .0 ∙ home-start (s .args .geometry .parameters) (s .args .geometry .growth) (s .args .number)
+home-is : (s : tie.Start) → s .args .star .home ≡ entryStart (s .args .geometry .parameters) (s .args .geometry .growth) (s .args .star .number)
+home-is s = s .pre .0 .homed ∙ home-start (s .args .geometry .parameters) (s .args .geometry .growth) (s .args .star .number)
+
+-- the home page takes the star alone
+abbrev begun : tie.Then1 → tie.Start
+begun c = c .before .before .before .before .before .before .before .before .before .before .before .before .before
+
+alone : (c : tie.Then1)
+    → takesAlone (begun c .args .geometry .parameters) (now (begun c .args .separators)) (now (begun c .args .numbers)) (entryStart (begun c .args .geometry .parameters) (begun c .args .geometry .growth) (begun c .args .star .number)) ≡ true
+alone c =
+    let s = begun c in
+    ap (takesAlone (s .args .geometry .parameters) (now (s .args .separators)) (now (s .args .numbers))) (sym (home-is s)) ∙ sym (c .before .takes-alone .ensures) ∙ c .if1 .taken
+
+decided : (c : tie.Then1) (pool planned : List ℕ)
+    → Decides (begun c .args .geometry .parameters) (begun c .args .geometry .growth) (file (begun c)) (newStar (begun c .args .star .number) (begun c .args .star .word) (begun c .args .star .owner)) pool planned (Put (begun c .args .star .home) (begun c .args .star .place))
+decided c pool planned =
+    let s = begun c in
+    let e = s .pre .0 in
+    alone-decided (s .args .geometry .parameters) (s .args .geometry .growth) (file s) (s .args .star .number) (e .ready .homing .valid) (e .ready .homing .growth) (e .ready .sized) (e .unheld) (alone c)
+    (s .args .star .word) (s .args .star .owner) (s .args .star .home) (s .args .star .page) (s .args .star .place) (home-is s) (e .here) (s .pre .1 .1 .1) pool planned
+
+cast-page : tie.Need-cast-page
+cast-page c = search needs
 
 takes-alone-requires : tie.Need-takes-alone-requires
 takes-alone-requires c κs =
-    let s = c .before .before .before .before .before .before .before .before .before .before in
-    (s .pre .0 .homing .valid, (omega (arith, home-inside s, s .pre .0 .sized .ofSeparators), page-fits _ _ _ (home-inside s) (s .pre .0 .sized .ofNumbers)))
+    let s = c .before .before .before .before .before .before .before .before .before .before .before in
+    let e = s .pre .0 .ready in
+    (e .homing .valid, (omega (arith, home-inside s, e .sized .ofSeparators), page-fits _ _ _ (home-inside s) (e .sized .ofNumbers)))
 
--- past the test
-abbrev begun : tie.Else1 → tie.Start
-begun c = c .before .before .before .before .before .before .before .before .before .before .before .before
+slice-aggregate-carry-out : tie.Need-slice-aggregate-carry-out
+slice-aggregate-carry-out c = search needs
 
-alone : (c : tie.Else1)
-    → takesAlone (begun c .args .geometry .parameters) (now (begun c .args .separators)) (now (begun c .args .numbers)) (entryStart (begun c .args .geometry .parameters) (begun c .args .geometry .growth) (begun c .args .number)) ≡ true
-alone c =
-    let s = begun c in
-    ap (takesAlone (s .args .geometry .parameters) (now (s .args .separators)) (now (s .args .numbers))) (sym (home-is s)) ∙ sym (c .before .takes-alone .ensures) ∙ not-false _ (c .if1 .left)
+cast-t38 : tie.Need-cast-t38
+cast-t38 c = search needs
 
-enter-stretch-requires : tie.Need-enter-stretch-requires
-enter-stretch-requires c κs =
-    let pre = c .before .before .before .before .before .before .before .before .before .before .before .before .before .before .before .before .before .before .before .pre in
-    (pre .0, (pre .1 .0, (pre .1 .1 .0, (pre .1 .1 .1 .0, (pre .1 .1 .1 .1 .0, pre .1 .1 .1 .1 .1 .1)))))
+carry-out-requires : tie.Need-carry-out-requires
+carry-out-requires c κs =
+    let d = c .before .before .before .before .before .before .before .before .before in
+    let s = begun d in
+    let e = s .pre .0 .ready in
+    (e .homing .valid, (e .sized, (s .pre .1 .0, decided d (now (s .args .pool)) (now (s .args .separators)) .feasible)))
 
 same-length : tie.Need-same-length
 same-length c = search needs
@@ -70,17 +94,39 @@ same-length-7 : tie.Need-same-length-7
 same-length-7 c = search needs
 
 returns : tie.Need-returns
-returns c = search needs
-
-cast-places : tie.Need-cast-places
-cast-places c = search needs
-
-put-star-requires : tie.Need-put-star-requires
-put-star-requires c κs =
-    let d = c .before .before .before .before in
+returns c =
+    let d = c .before .before .before .before .before .before .before .before .before .before .before .before .before .before .before .before .before .before .before .before .before .before .before .before in
     let s = begun d in
-    subst (λ (page : ℕ). Vacant (s .args .geometry .parameters .places) page (s .args .place) (s .args .number) (now (s .args .numbers)) (now (s .args .words)) (now (s .args .owners))) (sym (home-is s))
-    (vacant-home (s .args .geometry .parameters) (s .args .geometry .growth) (file s) (s .args .number) (s .pre .0 .homing .valid) (s .pre .0 .homing .growth) (s .pre .0 .sized) (s .pre .1 .1 .1 .0) (alone d) (s .args .place) (s .pre .1 .1 .1 .1 .1 .0))
+    let done = c .before .before .before .before .before .before .before .before .before .before .before .before .before .before .carry-out .ensures in
+    let chosen = decided d (now (s .args .pool)) (now (s .args .separators)) in
+    (done .0 ∙ chosen .answers, done .1 ∙ ap (λ (l : File). stoppedFile false (s .args .geometry .parameters) (file s) l (s .args .limit)) (chosen .files))
+
+slice-aggregate-decide : tie.Need-slice-aggregate-decide
+slice-aggregate-decide c = search needs
+
+decide-requires : tie.Need-decide-requires
+decide-requires c κs =
+    let s = c .before .before .before .before .before .before .before .before .before .before .before .before .before .before .before .before .before .before .before .before in
+    (s .pre .0, ((s .pre .1 .0 .ofNumbers, s .pre .1 .0 .ofWords), (limits _ (s .pre .0 .ready .homing .valid) .pages-most, (s .pre .1 .1 .0, s .pre .1 .1 .1))))
+
+slice-aggregate-carry-out-2 : tie.Need-slice-aggregate-carry-out-2
+slice-aggregate-carry-out-2 c = search needs
+
+carry-out-requires-2 : tie.Need-carry-out-requires-2
+carry-out-requires-2 c κs =
+    let s = c .before .before .before .before .before .before .before .before .before .before .before .before .before .before .before .before .before .before .before .before .before .before .before .before .before .before .before .before .before .before .before .before .before .before in
+    let e = s .pre .0 .ready in
+    let pools = s .pre .1 .0 in
+    let planned = c .before .before .before .before .before .before .before .before .before .before .before .before .before .decide in (
+      e .homing .valid,
+      (
+        e .sized,
+        (
+          record { ofNumbers = planned .kept .1 .1 .1 .1 .1 .1 .0 ∙ pools .ofNumbers; ofWords = planned .kept .1 .1 .1 .1 .1 .1 .1 .0 ∙ pools .ofWords; ofOwners = pools .ofOwners },
+          planned .ensures .feasible,
+        ),
+      ),
+    )
 
 same-length-8 : tie.Need-same-length-8
 same-length-8 c = search needs
@@ -94,20 +140,31 @@ same-length-10 c = search needs
 same-length-11 : tie.Need-same-length-11
 same-length-11 c = search needs
 
+same-length-12 : tie.Need-same-length-12
+same-length-12 c = search needs
+
+same-length-13 : tie.Need-same-length-13
+same-length-13 c = search needs
+
+same-length-14 : tie.Need-same-length-14
+same-length-14 c = search needs
+
 returns-2 : tie.Need-returns-2
 returns-2 c =
-    let d = c .before .before .before .before .before .before .before .before .before .before .before in
-    let s = begun d in
-    let put = c .before .before .before .before .before .before .put-star .ensures in
-    alone-lists (s .args .geometry .parameters) (s .args .geometry .growth) (file s) (s .args .number) (s .pre .0 .homing .valid) (s .pre .0 .homing .growth) (s .pre .0 .sized) (s .pre .1 .1 .1 .0) (alone d) (s .args .word) (s .args .owner)
-    (s .args .home) (home-is s) _ _ _ (put .ofNumbers) (put .ofWords) (put .ofOwners)
+    let s = c .before .before .before .before .before .before .before .before .before .before .before .before .before .before .before .before .before .before .before .before .before .before .before .before .before .before .before .before .before .before .before .before .before .before .before .before .before .before .before .before .before .before .before .before .before .before .before .before .before in
+    let done = c .before .before .before .before .before .before .before .before .before .before .before .before .before .before .carry-out2 .ensures in
+    let chosen = c .before .before .before .before .before .before .before .before .before .before .before .before .before .before .before .before .before .before .before .before .before .before .before .before .before .before .before .before .decide .ensures in
+    (done .0 ∙ chosen .answers, done .1 ∙ ap (λ (l : File). stoppedFile false (s .args .geometry .parameters) (file s) l (s .args .limit)) (chosen .files))
 
 pub enter-star-spec : {M : Type 1} → statement M
 enter-star-spec =
     tie.close
     (tie.spec
+    cast-page
     takes-alone-requires
-    enter-stretch-requires
+    slice-aggregate-carry-out
+    cast-t38
+    carry-out-requires
     same-length
     same-length-2
     same-length-3
@@ -116,10 +173,15 @@ enter-star-spec =
     same-length-6
     same-length-7
     returns
-    cast-places
-    put-star-requires
+    slice-aggregate-decide
+    decide-requires
+    slice-aggregate-carry-out-2
+    carry-out-requires-2
     same-length-8
     same-length-9
     same-length-10
     same-length-11
+    same-length-12
+    same-length-13
+    same-length-14
     returns-2)

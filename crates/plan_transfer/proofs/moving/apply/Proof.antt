@@ -1,12 +1,15 @@
 use mathlib.Core.Path.{ap, _∙_}
-use mathlib.Core.List.{List}
-use Prim.Native.Nat.{ℕ, _+_, _*_}
+use mathlib.Core.Bool.{Bool, false, cond}
+use Prim.Native.Nat.{_+_, _*_}
+use native.Mathlib.Nat.{le-refl}
 use native.Mathlib.Omega.{arith}
-use lib.ListN.{drop, length-drop}
-use lib.Seq.{paste}
+use lib.ListN.{take, drop}
 use denote.Ref.{now}
-use Rattle.buffers.proofs.Written.{paste-written}
-use Rattle.plan_transfer.proofs.Fetched.{fetched-back, fetched-behind}
+use Rattle.buffers.specs.Lists.{written}
+use Rattle.page_store.specs.Columns.{columns}
+use Rattle.page_store.proofs.Loop.{Fits}
+use Rattle.page_store.proofs.Laws.{enough-count, numbers-all, words-all, owners-all}
+use Rattle.plan_transfer.proofs.Fetched.{fetched-stored, fetched-behind}
 use borrow.Author.Needs.{needs}
 use Rattle.plan_transfer.proofs.moving.apply.Statement.{statement}
 use Rattle.plan_transfer.proofs.moving.apply.Tie as tie
@@ -20,15 +23,8 @@ mul-items c = search needs
 fetch-requires : tie.Need-fetch-requires
 fetch-requires c κs = search needs
 
-abbrev start : tie.After-put-back-arg6 → tie.Start
-start c = c .before .before .before .before .before .before .before .before .before .before .before .before .before .before .before .before .before .before .before .before .before .before .before .before .before .before .before
-
-put-back-requires : tie.Need-put-back-requires
-put-back-requires c κs =
-    omega (arith, start c .pre, c .before .before .before .before .before .before .before .before .before .before .before .before .fetch .kept)
-
-copy-8-requires : tie.Need-copy-8-requires
-copy-8-requires c κs = omega (arith, start (c .before .before .before .before .before .before .before .before) .pre)
+store-requires : tie.Need-store-requires
+store-requires c κs = omega (arith, c .before .before .before .before .before .before .before .before .before .before .before .before .before .before .before .before .before .before .before .before .before .before .before .before .before .before .before .before .pre, c .before .before .before .before .before .before .before .before .before .before .before .before .before .fetch .kept)
 
 same-length : tie.Need-same-length
 same-length c = search needs
@@ -53,20 +49,27 @@ same-length-7 c = search needs
 
 returns : tie.Need-returns
 returns c =
-    let s = start (c .before .before .before .before .before .before .before .before .before .before .before) in
+    let s = c .before .before .before .before .before .before .before .before .before .before .before .before .before .before .before .before .before .before .before .before .before .before .before .before .before .before .before .before .before .before .before .before .before .before .before .before .before in
     let a = s .args in
-    let f = c .before .before .before .before .before .before .before .before .before .before .before .before .before .before .before .before .before .before .before .before .before .before .before .fetch in
-    let b = c .before .before .before .before .before .before .before .before .before .before .put-back in
-    let at = a .lo * a .places in
-    let items = a .count * a .places in (
-      c .before .before .copy-8 .ensures ∙ paste-written (now (a .separators)) (a .lo) (drop (a .lo) (now (a .planned))) (a .count) (rw (length-drop (a .lo) (now (a .planned))) (omega (arith, s .pre))),
+    let f = c .before .before .before .before .before .before .before .before .before .before .before .before .before .before .before .before .before .before .before .before .before .before .fetch in
+    let t = c .before .before .before .before .before .before .before .before .store .ensures .1 in
+    let b = a .places in
+    let lo = a .lo in
+    let n = a .count in
+    let old = columns (now (a .numbers)) (now (a .words)) (now (a .owners)) in
+    let new = columns (f .last .1 .1 .1 .0) (f .last .1 .1 .1 .1 .0) (f .last .1 .1 .1 .1 .1 .0) in
+    let fo : Fits b (lo + n) old = record { numbers = omega (arith, s .pre); words = omega (arith, s .pre); owners = omega (arith, s .pre) } in
+    let fn : Fits b (lo + n) new = record { numbers = omega (arith, s .pre, f .kept); words = omega (arith, s .pre, f .kept); owners = omega (arith, s .pre, f .kept) } in
+    let all = enough-count false b lo n old new n (le-refl n) in
+    let w = written lo (take n (drop lo (now (a .planned)))) (now (a .separators)) in (
+      t .0 ∙ ap (λ (q : Bool). cond q w (now (a .separators))) all,
       (
-        b .ensures .0 ∙ ap (λ (l : List ℕ). paste (now (a .numbers)) at (drop at l) items) (f .ensures .0) ∙ fetched-back (now (a .numbers)) (now (a .pool)) (now (a .numbers)) (now (a .pool)) (a .newnumber) at items (omega (arith, s .pre)) (omega (arith, s .pre)),
+        t .1 .0 ∙ numbers-all false b lo n n old new fo fn all ∙ fetched-stored (now (a .numbers)) (now (a .pool)) (now (a .numbers)) (now (a .pool)) (f .last .1 .1 .1 .0) (a .newnumber) b lo n (omega (arith, s .pre)) (omega (arith, s .pre)) (fn .numbers) (f .ensures .0),
         (
-          b .ensures .1 .0 ∙ ap (λ (l : List ℕ). paste (now (a .words)) at (drop at l) items) (f .ensures .1 .0) ∙ fetched-back (now (a .words)) (now (a .waiting)) (now (a .words)) (now (a .pool)) (a .newword) at items (omega (arith, s .pre)) (omega (arith, s .pre)),
+          t .1 .1 .0 ∙ words-all false b lo n n old new fo fn all ∙ fetched-stored (now (a .words)) (now (a .waiting)) (now (a .words)) (now (a .pool)) (f .last .1 .1 .1 .1 .0) (a .newword) b lo n (omega (arith, s .pre)) (omega (arith, s .pre)) (fn .words) (f .ensures .1 .0),
           (
-            b .ensures .1 .1 ∙ ap (λ (l : List ℕ). paste (now (a .owners)) at (drop at l) items) (f .ensures .1 .1) ∙ fetched-back (now (a .owners)) (now (a .poolowners)) (now (a .owners)) (now (a .pool)) (a .newowner) at items (omega (arith, s .pre)) (omega (arith, s .pre)),
-            ap (drop ((a .lo + a .count) * a .places)) (f .ensures .0) ∙ fetched-behind (now (a .numbers)) (now (a .pool)) (a .newnumber) (a .places) (a .lo) (a .count) (omega (arith, s .pre)),
+            t .1 .1 .1 ∙ owners-all false b lo n n old new fo fn all ∙ fetched-stored (now (a .owners)) (now (a .poolowners)) (now (a .owners)) (now (a .pool)) (f .last .1 .1 .1 .1 .1 .0) (a .newowner) b lo n (omega (arith, s .pre)) (omega (arith, s .pre)) (fn .owners) (f .ensures .1 .1),
+            ap (drop ((lo + n) * b)) (f .ensures .0) ∙ fetched-behind (now (a .numbers)) (now (a .pool)) (a .newnumber) b lo n (omega (arith, s .pre)),
           ),
         ),
       ),
@@ -79,8 +82,7 @@ apply-spec =
     mul-at
     mul-items
     fetch-requires
-    put-back-requires
-    copy-8-requires
+    store-requires
     same-length
     same-length-2
     same-length-3

@@ -1,18 +1,22 @@
-use mathlib.Core.Path.{_≡_, sym, ap, _∙_, subst}
+use mathlib.Core.Path.{_≡_, sym, ap, _∙_}
+use mathlib.Core.Bool.{true}
+use mathlib.Core.List.{List}
 use Prim.Native.Nat.{ℕ, _<_}
 use native.Mathlib.Omega.{arith}
 use lib.ListN.{getD}
 use denote.Ref.{now}
-use borrow.Author.Needs.{needs}
 use Rattle.generator.specs.Generator.{topOf}
 use Rattle.hashing.specs.Geometry.{multiplierOf}
+use Rattle.hashing.proofs.Bounds.{limits}
 use Rattle.hashing.proofs.Homes.{home-pages}
 use Rattle.placement.specs.File.{File}
 use Rattle.placement.specs.Hash.{lent}
 use Rattle.page_edit.proofs.OnePage.{home-start}
-use Rattle.page_edit.specs.Shift.{numberAt, Occupied}
-use Rattle.removal_reach.specs.Removal.{removalStart}
-use Rattle.removal_reach.proofs.OnePage.{taken-is, occupied-home, alone-lists}
+use Rattle.calls.specs.Stores.{stoppedFile}
+use Rattle.decision.specs.declared.chosen.Decision.the-variants.{Take}
+use Rattle.removal_reach.specs.Removal.{removalStart, Decides}
+use Rattle.removal_reach.proofs.OnePage.{taken-decided}
+use borrow.Author.Needs.{needs}
 use Rattle.removal_reach.proofs.held.remove_held.Statement.{statement}
 use Rattle.removal_reach.proofs.held.remove_held.Tie as tie
 
@@ -27,26 +31,38 @@ home-inside s =
 home-is : (s : tie.Start) → s .args .home ≡ removalStart (s .args .geometry .parameters) (s .args .geometry .growth) (s .args .number)
 home-is s = s .pre .1 .1 .1 .1 .0 ∙ home-start (s .args .geometry .parameters) (s .args .geometry .growth) (s .args .number)
 
--- past the test
-abbrev begun : tie.Else1 → tie.Start
+-- the home page has the separator 2^k − 1
+abbrev begun : tie.Then1 → tie.Start
 begun c = c .before .before .before .before .before .before .before .before .before .before .before
 
-stored : (c : tie.Else1)
+stored : (c : tie.Then1)
     → getD (now (begun c .args .separators)) (removalStart (begun c .args .geometry .parameters) (begun c .args .geometry .growth) (begun c .args .number)) 0 ≡ topOf (begun c .args .geometry .parameters .bits)
 stored c =
     let s = begun c in
-    ap (λ (q : ℕ). getD (now (s .args .separators)) q 0) (sym (home-is s)) ∙ c .if1 .left ∙ c .before .top-of .ensures
+    ap (λ (q : ℕ). getD (now (s .args .separators)) q 0) (sym (home-is s)) ∙ c .if1 .taken ∙ c .before .top-of .ensures
+
+decided : (c : tie.Then1) (pool planned : List ℕ)
+    → Decides (begun c .args .geometry .parameters) (begun c .args .geometry .growth) (file (begun c)) (begun c .args .number) (begun c .args .page) pool planned (Take (begun c .args .page) (begun c .args .place))
+decided c pool planned =
+    let s = begun c in
+    let e = s .pre .0 in
+    taken-decided (s .args .geometry .parameters) (s .args .geometry .growth) (file s) (s .args .number) (e .homing .valid) (e .homing .growth) (e .sized) (s .pre .1 .1 .0) (s .pre .1 .1 .1 .0) (stored c)
+    (s .args .page) (s .args .place) (s .pre .1 .1 .1 .1 .1 .0) (s .pre .1 .1 .1 .1 .1 .1 .0) pool planned
 
 slice-read-if1 : tie.Need-slice-read-if1
-slice-read-if1 c = omega (arith, home-inside (c .before .before .before .before .before .before .before .before .before), c .before .before .before .before .before .before .before .before .before .pre .0 .sized .ofSeparators)
+slice-read-if1 c = let s = c .before .before .before .before .before .before .before .before .before in omega (arith, home-inside s, s .pre .0 .sized .ofSeparators)
 
 top-of-requires : tie.Need-top-of-requires
 top-of-requires c κs = search needs
 
-remove-star-requires : tie.Need-remove-star-requires
-remove-star-requires c κs =
-    let pre = c .before .before .before .before .before .before .before .before .before .before .before .before .before .before .before .before .before .before .pre in
-    (pre .0, (pre .1 .0, (pre .1 .1 .1 .1 .0, pre .1 .1 .1 .1 .1 .1)))
+slice-aggregate-carry-out : tie.Need-slice-aggregate-carry-out
+slice-aggregate-carry-out c = search needs
+
+carry-out-requires : tie.Need-carry-out-requires
+carry-out-requires c κs =
+    let d = c .before .before .before .before .before .before .before .before in
+    let s = begun d in
+    (s .pre .0 .homing .valid, (s .pre .0 .sized, (s .pre .1 .0, decided d (now (s .args .pool)) (now (s .args .separators)) .feasible)))
 
 same-length : tie.Need-same-length
 same-length c = search needs
@@ -70,17 +86,39 @@ same-length-7 : tie.Need-same-length-7
 same-length-7 c = search needs
 
 returns : tie.Need-returns
-returns c = search needs
-
-cast-places : tie.Need-cast-places
-cast-places c = search needs
-
-take-star-requires : tie.Need-take-star-requires
-take-star-requires c κs =
-    let d = c .before .before .before .before in
+returns c =
+    let d = c .before .before .before .before .before .before .before .before .before .before .before .before .before .before .before .before .before .before .before .before .before .before .before in
     let s = begun d in
-    subst (λ (page : ℕ). Occupied (s .args .geometry .parameters .places) page (s .args .place) (now (s .args .numbers)) (now (s .args .words)) (now (s .args .owners))) (sym (home-is s))
-    (occupied-home (s .args .geometry .parameters) (s .args .geometry .growth) (file s) (s .args .number) (s .pre .0 .homing .valid) (s .pre .0 .homing .growth) (s .pre .0 .sized) (s .pre .1 .1 .0) (s .pre .1 .1 .1 .0) (stored d) (s .args .place) (s .pre .1 .1 .1 .1 .1 .0))
+    let done = c .before .before .before .before .before .before .before .before .before .before .before .before .before .before .carry-out .ensures in
+    let chosen = decided d (now (s .args .pool)) (now (s .args .separators)) in
+    (done .0 ∙ chosen .answers, done .1 ∙ ap (λ (l : File). stoppedFile true (s .args .geometry .parameters) (file s) l (s .args .limit)) (chosen .files))
+
+slice-aggregate-decide-removal : tie.Need-slice-aggregate-decide-removal
+slice-aggregate-decide-removal c = search needs
+
+decide-removal-requires : tie.Need-decide-removal-requires
+decide-removal-requires c κs =
+    let s = c .before .before .before .before .before .before .before .before .before .before .before .before .before .before .before .before .before .before in
+    let pre = s .pre in
+    (pre .0, ((pre .1 .0 .ofNumbers, pre .1 .0 .ofWords), (limits _ (pre .0 .homing .valid) .pages-most, (pre .1 .1 .1 .1 .0, pre .1 .1 .1 .1 .1 .1 .1))))
+
+slice-aggregate-carry-out-2 : tie.Need-slice-aggregate-carry-out-2
+slice-aggregate-carry-out-2 c = search needs
+
+carry-out-requires-2 : tie.Need-carry-out-requires-2
+carry-out-requires-2 c κs =
+    let s = c .before .before .before .before .before .before .before .before .before .before .before .before .before .before .before .before .before .before .before .before .before .before .before .before .before .before .before .before .before .before .before .before in
+    let pools = s .pre .1 .0 in
+    let planned = c .before .before .before .before .before .before .before .before .before .before .before .before .before .decide-removal in (
+      s .pre .0 .homing .valid,
+      (
+        s .pre .0 .sized,
+        (
+          record { ofNumbers = planned .kept .1 .1 .1 .1 .1 .1 .0 ∙ pools .ofNumbers; ofWords = planned .kept .1 .1 .1 .1 .1 .1 .1 .0 ∙ pools .ofWords; ofOwners = pools .ofOwners },
+          planned .ensures .feasible,
+        ),
+      ),
+    )
 
 same-length-8 : tie.Need-same-length-8
 same-length-8 c = search needs
@@ -91,16 +129,24 @@ same-length-9 c = search needs
 same-length-10 : tie.Need-same-length-10
 same-length-10 c = search needs
 
+same-length-11 : tie.Need-same-length-11
+same-length-11 c = search needs
+
+same-length-12 : tie.Need-same-length-12
+same-length-12 c = search needs
+
+same-length-13 : tie.Need-same-length-13
+same-length-13 c = search needs
+
+same-length-14 : tie.Need-same-length-14
+same-length-14 c = search needs
+
 returns-2 : tie.Need-returns-2
 returns-2 c =
-    let d = c .before .before .before .before .before .before .before .before .before .before .before in
-    let s = begun d in
-    let left = c .before .before .before .before .before .before .take-star .ensures in
-    alone-lists (s .args .geometry .parameters) (s .args .geometry .growth) (file s) (s .args .number) (s .pre .0 .homing .valid) (s .pre .0 .homing .growth) (s .pre .0 .sized) (s .pre .1 .1 .0) (s .pre .1 .1 .1 .0) (stored d)
-    (s .args .page) (s .args .home) (numberAt (s .args .geometry .parameters .places) (s .args .home) (s .args .place) (now (s .args .numbers))) (home-is s)
-    (ap (λ (q : ℕ). numberAt (s .args .geometry .parameters .places) q (s .args .place) (now (s .args .numbers))) (home-is s)
-    ∙ taken-is (s .args .geometry .parameters) (s .args .geometry .growth) (file s) (s .args .number) (s .pre .0 .homing .valid) (s .pre .0 .homing .growth) (s .pre .0 .sized) (s .pre .1 .1 .0) (s .pre .1 .1 .1 .0) (stored d) (s .args .place) (s .pre .1 .1 .1 .1 .1 .0))
-    _ _ _ (left .ofNumbers) (left .ofWords) (left .ofOwners)
+    let s = c .before .before .before .before .before .before .before .before .before .before .before .before .before .before .before .before .before .before .before .before .before .before .before .before .before .before .before .before .before .before .before .before .before .before .before .before .before .before .before .before .before .before .before .before .before .before .before in
+    let done = c .before .before .before .before .before .before .before .before .before .before .before .before .before .before .carry-out2 .ensures in
+    let chosen = c .before .before .before .before .before .before .before .before .before .before .before .before .before .before .before .before .before .before .before .before .before .before .before .before .before .before .before .before .decide-removal .ensures in
+    (done .0 ∙ chosen .answers, done .1 ∙ ap (λ (l : File). stoppedFile true (s .args .geometry .parameters) (file s) l (s .args .limit)) (chosen .files))
 
 pub remove-held-spec : {M : Type 1} → statement M
 remove-held-spec =
@@ -108,7 +154,8 @@ remove-held-spec =
     (tie.spec
     slice-read-if1
     top-of-requires
-    remove-star-requires
+    slice-aggregate-carry-out
+    carry-out-requires
     same-length
     same-length-2
     same-length-3
@@ -117,9 +164,15 @@ remove-held-spec =
     same-length-6
     same-length-7
     returns
-    cast-places
-    take-star-requires
+    slice-aggregate-decide-removal
+    decide-removal-requires
+    slice-aggregate-carry-out-2
+    carry-out-requires-2
     same-length-8
     same-length-9
     same-length-10
+    same-length-11
+    same-length-12
+    same-length-13
+    same-length-14
     returns-2)

@@ -1,0 +1,330 @@
+-- An entry into a run: an unsound page of it, and a run of pages that are the rule's, in which the star's own page has room: that page alone changes.
+use mathlib.Core.Path.{_≡_, refl, sym, ap, subst, _∙_}
+use mathlib.Core.Bool.{true, false, not, _&&_}
+use mathlib.Core.List.{List, [], _∷_, List·Memᴰ}
+use mathlib.Core.Logic.{⊎-elim}
+use Prim.Native.Nat.{ℕ, zero, suc, _+_, _-_, _*_, _≤_, _<_}
+use native.Mathlib.Nat.{zero-add, le-refl, le-antisymm}
+use native.Mathlib.Decide.{decLt}
+use native.Mathlib.Omega.{arith}
+use lib.ListN.{length, getD}
+use borrow.Author.Tests.{eqb-true}
+use Rattle.hashing.specs.declared.Parameters.{Parameters}
+use Rattle.hashing.specs.declared.Growth.{Growth}
+use Rattle.hashing.specs.declared.Geometry.{Geometry}
+use Rattle.hashing.specs.Limits.{validParameters}
+use Rattle.hashing.proofs.Bounds.{limits}
+use Rattle.pages.specs.Page.{part, placeOf}
+use Rattle.pages.specs.Position.{validNumber, validWord}
+use Rattle.placement.specs.Rule.{Star, Hash, Contents, below, staying, passing, pages, left, insert}
+use Rattle.placement.specs.File.{File, Sized, pagesAt, gathered, replaced, starsAt}
+use Rattle.placement.specs.Hash.{hashOf, soundAt, namedPage, homeUnder}
+use Rattle.placement.proofs.Filters.{filter-all-on, filter-none-on, length-filter}
+use Rattle.placement.proofs.Order.{Absent, member-insert, length-insert, pour-insert, pour-nil, rising-sorted}
+use Rattle.placement.proofs.Standing.{first-home, first-below, past-top}
+use Rattle.placement.proofs.Writing.{length-part}
+use Rattle.placement.proofs.Search.{absent-held}
+use Rattle.placement.proofs.Sound.{Sound, AllSound, absent-named, sound-rising}
+use Rattle.placement.proofs.Probing.{bounded-real}
+use Rattle.placement.proofs.Tested.{real-facts}
+use Rattle.reach.specs.Reach.{firstSuch, isEmpty, pagesTo, storedTop, removalEnd, entering, entersWithin, entryEnd, firstUnsound}
+use Rattle.reach.specs.Cascade.{meeting, lowered, pushedTo, pushedOn, cascaded, carriedPast}
+use Rattle.reach.proofs.Cascading.{lowered-stored, lowered-great}
+use Rattle.reach.proofs.Search.{Such, such}
+use Rattle.reach.proofs.Stretches.{stretch-leaves, stretch-file}
+use Rattle.clean_test.specs.Raising.{raisableFrom}
+use Rattle.clean_test.proofs.Raising.{none-ruled}
+use Rattle.page_edit.specs.Shift.{numberAt, Vacant}
+use Rattle.page_edit.proofs.Shifted.{vacant-room}
+use Rattle.page_edit.proofs.OnePage.{file-alone, ordered-page}
+use Rattle.page_plan.specs.declared.outcome.Outcome.the-variants.{Unsound as outcome·Unsound}
+use Rattle.decision.specs.Carried.{withStars, starsThere}
+use Rattle.decision.specs.declared.chosen.Decision.the-variants.{Put}
+use Rattle.entry_reach.specs.declared.blocks.Reach.the-variants.{Ends, Unsound, Overflows}
+use Rattle.entry_reach.specs.Entry.{Unheld, newStar, entryStart, entryLast, entryUnsound, entryContents, blockEnd, reachAnswer, entryAnswer, entryFile, Decides}
+use Rattle.entry_reach.proofs.Firsts.{such-is}
+use Rattle.entry_reach.proofs.Reached.{by-reach, reached-none, reached-unsound}
+use Rattle.entry_reach.proofs.Surveyed.{last-low, last-high, block-unsound}
+use Rattle.entry_reach.proofs.Holding.{unsound-answer, named-holds, ends-answer}
+
+-- A reach that would end at `last` by stored tops, and within which the star enters, ends there.
+entry-ends : (H : Hash) (M : ℕ) (f : File) (s : Star) (last : ℕ) → last ≡ removalEnd H M f (H .home (s .number)) → entersWithin H f s last ≡ true → entryEnd H M f s ≡ last
+unfolding removalEnd entryEnd
+entry-ends H M f s last e enters =
+    sym (such-is (λ (q : ℕ). storedTop (f .separators) (H .top) q && entersWithin H f s q) from (M - 1 - from) last
+    (record {
+      low = omega (arith, e, found .low);
+      high = omega (arith, e, found .high);
+      before = λ q a b. rw (found .before q a (omega (arith, e)));
+      passes = λ h. rw (top h, enters);
+    }))
+  where
+    from : ℕ
+    from = H .home (s .number)
+
+    found : Such (storedTop (f .separators) (H .top)) from (M - 1 - from) (firstSuch (storedTop (f .separators) (H .top)) from (M - 1 - from))
+    found = such (storedTop (f .separators) (H .top)) from (M - 1 - from)
+
+    top : last < from + (M - 1 - from) → storedTop (f .separators) (H .top) last ≡ true
+    top h = rw e (found .passes (omega (arith, e)))
+
+-- the home that the code tells
+pub home-is : (g : Geometry) (k from : ℕ) → from ≡ homeUnder g k → from ≡ entryStart (g .parameters) (g .growth) k
+unfolding hashOf
+home-is g k from e = e
+
+module _ (p : Parameters) (g : Growth) (f : File) (k : ℕ) (sized : Sized (p .places) (p .pages) f) (unheld : Unheld p g f k) where
+  pub named-low : entryStart p g k ≤ namedPage p g (f .separators) k
+  unfolding namedPage
+  named-low = first-home (hashOf p g) 0 (f .separators) k (omega (arith, unheld .named, sized .ofSeparators))
+
+  pub home-inside : entryStart p g k < p .pages
+  home-inside = omega (arith, named-low, unheld .named)
+
+module _ (p : Parameters) (g : Growth) (f : File) (k : ℕ) (valid : validParameters p ≡ true) (sized : Sized (p .places) (p .pages) f)
+    (number : validNumber k ≡ true) (unheld : Unheld p g f k) (last : ℕ) (is : last ≡ blockEnd p g f (entryStart p g k)) where
+  inside-home : entryStart p g k < p .pages
+  inside-home = home-inside p g f k sized unheld
+
+  pub run-low : entryStart p g k ≤ last
+  run-low = last-low p g f valid sized (entryStart p g k) inside-home last is
+
+  pub run-high : last < p .pages
+  run-high = last-high p g f valid sized (entryStart p g k) inside-home last is
+
+  -- an unsound page of the run
+  pub run-unsound : (word owner bad : ℕ) → bad ≡ firstUnsound p g f (entryStart p g k) (last + 1 - entryStart p g k) → bad < last + 1
+      → (outcome·Unsound bad ≡ entryAnswer p g f (newStar k word owner)) × (f ≡ entryFile p g f (newStar k word owner))
+  run-unsound word owner bad e h =
+      unsound-answer p g f k word owner bad
+      (reached-unsound p g f k valid sized number unheld [] [] _ (entryStart p g k) 1 (reached-none p g f k valid sized number unheld [] [] (0 ∷ []) inside-home (omega arith)) bad
+      (block-unsound p g f valid sized (entryStart p g k) inside-home last is bad e h) word owner)
+
+  -- none of its sound pages could have a higher separator: they are the rule's
+  module _ (sound : (q : ℕ) → entryStart p g k ≤ q → q ≤ last → soundAt p g f q ≡ true) where
+    run-sound : AllSound validWord (hashOf p g) f (entryStart p g k) (pagesTo (entryStart p g k) last)
+    run-sound q a h = real-facts p g f q (sound q a (omega (arith, run-low)))
+
+    run-count : last + 1 - entryStart p g k ≡ pagesTo (entryStart p g k) last
+    run-count = omega (arith, run-low)
+
+    none-rises : (r : ℕ) → r ≡ firstSuch (raisableFrom (hashOf p g) (entryStart p g k) (last + 1 - entryStart p g k) (f .separators) (f .numbers)) (entryStart p g k) (last + 1 - entryStart p g k)
+        → last + 1 ≤ r → (q : ℕ) → entryStart p g k ≤ q → q < entryStart p g k + pagesTo (entryStart p g k) last
+        → raisableFrom (hashOf p g) (entryStart p g k) (pagesTo (entryStart p g k) last) (f .separators) (f .numbers) q ≡ false
+    none-rises r e h q a b =
+        let found = such (raisableFrom (hashOf p g) (entryStart p g k) (last + 1 - entryStart p g k) (f .separators) (f .numbers)) (entryStart p g k) (last + 1 - entryStart p g k) in
+        rw run-count at (found .before q a (omega (arith, e, run-low)))
+
+    pub run-ruled : (r : ℕ)
+        → r ≡ firstSuch (raisableFrom (hashOf p g) (entryStart p g k) (last + 1 - entryStart p g k) (f .separators) (f .numbers)) (entryStart p g k) (last + 1 - entryStart p g k)
+        → last + 1 ≤ r
+        → pagesAt (p .places) f (entryStart p g k) (pagesTo (entryStart p g k) last)
+        ≡ pages (hashOf p g) (entryStart p g k) (pagesTo (entryStart p g k) last) (gathered (p .places) f (entryStart p g k) (pagesTo (entryStart p g k) last))
+    unfolding hashOf
+    run-ruled r e h =
+        none-ruled validWord (hashOf p g) (p .pages) f sized (entryStart p g k) (pagesTo (entryStart p g k) last) (omega (arith, run-low, run-high)) run-sound (none-rises r e h)
+
+    -- the named page lies in the run
+    pub named-high : namedPage p g (f .separators) k ≤ last
+    unfolding namedPage removalEnd
+    named-high = go (decLt last (p .pages - 1)) (decLt last named)
+      where
+        H : Hash
+        H = hashOf p g
+
+        named : ℕ
+        named = namedPage p g (f .separators) k
+
+        found : Such (storedTop (f .separators) (hashOf p g .top)) (entryStart p g k) (p .pages - 1 - entryStart p g k) (firstSuch (storedTop (f .separators) (hashOf p g .top)) (entryStart p g k) (p .pages - 1 - entryStart p g k))
+        found = such (storedTop (f .separators) (hashOf p g .top)) (entryStart p g k) (p .pages - 1 - entryStart p g k)
+
+        top : last < p .pages - 1 → getD (f .separators) last 0 ≡ hashOf p g .top
+        top h = eqb-true (getD (f .separators) last 0) (hashOf p g .top) (rw is (found .passes (omega (arith, is, run-low))))
+
+        go : Dec (last < p .pages - 1) → Dec (last < named) → namedPage p g (f .separators) k ≤ last
+        go (yes h) (yes l) =
+            absurd (omega (arith, run-low, zero-add last, past-top (hashOf p g) (bounded-real p g valid) 0 last (f .separators) k (omega (arith, run-high, sized .ofSeparators)) (top h) (omega (arith, l, zero-add last))))
+        go (yes h) (no l) = omega (arith, l)
+        go (no h) l = omega (arith, h, unheld .named)
+
+-- A run of pages that are the rule's, and room on the star's own page.
+module _ (p : Parameters) (g : Growth) (f : File) (k page : ℕ) (valid : validParameters p ≡ true) (sized : Sized (p .places) (p .pages) f)
+    (number : validNumber k ≡ true) (unheld : Unheld p g f k) (here : page ≡ namedPage p g (f .separators) k) (last : ℕ) (is : last ≡ blockEnd p g f (entryStart p g k))
+    (sound : (q : ℕ) → entryStart p g k ≤ q → q ≤ last → soundAt p g f q ≡ true)
+    (ruled : pagesAt (p .places) f (entryStart p g k) (pagesTo (entryStart p g k) last)
+    ≡ pages (hashOf p g) (entryStart p g k) (pagesTo (entryStart p g k) last) (gathered (p .places) f (entryStart p g k) (pagesTo (entryStart p g k) last)))
+    (place : ℕ) (there : place ≡ placeOf k (part (p .places) page (f .numbers))) (room : numberAt (p .places) page (p .places - 1) (f .numbers) ≡ 0) (word owner : ℕ) where
+  abbrev from : ℕ
+  from = entryStart p g k
+
+  abbrev new : Star
+  new = newStar k word owner
+
+  abbrev stars : List Star
+  stars = starsAt (hashOf p g .room) f page
+
+  abbrev stored : ℕ
+  stored = getD (f .separators) page 0
+
+  -- the pages of the run below the named page, and those from it on
+  abbrev q : ℕ
+  q = page - from
+
+  abbrev m : ℕ
+  m = last - page
+
+  page-low : from ≤ page
+  page-low = omega (arith, here, named-low p g f k sized unheld)
+
+  page-high : page ≤ last
+  page-high = omega (arith, here, named-high p g f k valid sized number unheld last is sound)
+
+  page-inside : page < p .pages
+  page-inside = omega (arith, here, unheld .named)
+
+  at-page : from + q ≡ page
+  at-page = omega (arith, page-low)
+
+  count : pagesTo from last ≡ q + suc m
+  count = omega (arith, page-low, page-high)
+
+  inside : from + (q + suc m) ≤ p .pages
+  inside = omega (arith, page-low, page-high, run-high p g f k valid sized number unheld last is)
+
+  least : from ≤ last
+  least = run-low p g f k valid sized number unheld last is
+
+  all : AllSound validWord (hashOf p g) f from (q + suc m)
+  all r a b = real-facts p g f r (sound r a (omega (arith, page-low, page-high)))
+
+  facts : Sound validWord (hashOf p g) f page
+  facts = real-facts p g f page (sound page page-low page-high)
+
+  vacant : Vacant (p .places) page place k (f .numbers) (f .words) (f .owners)
+  vacant =
+      record {
+        ordered = ordered-page p g f sized page page-inside (sound page page-low page-high);
+        some = limits p valid .places-least;
+        there = there;
+        empty = room;
+      }
+
+  absent-here : Absent k (starsAt (hashOf p g .room) f (namedPage p g (f .separators) k))
+  unfolding hashOf starsAt
+  absent-here =
+      absent-held validWord (part (p .places) named (f .numbers)) (part (p .places) named (f .words)) (part (p .places) named (f .owners)) k
+      (even (f .words) (sized .ofWords), even (f .owners) (sized .ofOwners)) (real-facts p g f named (unheld .sound) .inOrder) (unheld .absent)
+    where
+      named : ℕ
+      named = namedPage p g (f .separators) k
+
+      even : (l : List ℕ) → length l ≡ p .pages * p .places → length (part (p .places) named (f .numbers)) ≡ length (part (p .places) named l)
+      even l e = length-part (p .places) named (p .pages) (f .numbers) (sized .ofNumbers) (unheld .named) ∙ sym (length-part (p .places) named (p .pages) l e (unheld .named))
+
+  absent : Absent k (gathered (p .places) f from (q + suc m))
+  unfolding hashOf namedPage
+  absent = absent-named validWord (hashOf p g) f from (q + suc m) k all absent-here
+
+  -- the page and the new star meet: all stay under the stored separator
+  met : meeting (hashOf p g) f page (new ∷ []) ≡ insert new stars
+  unfolding meeting insert
+  met =
+      pour-insert stars new [] (λ t n e. absent-here t (subst (λ (r : ℕ). List·Memᴰ t (starsAt (hashOf p g .room) f r)) here n) e)
+      ∙ ap (insert new) (pour-nil 1 stars (rising-sorted 1 stars (sound-rising validWord (hashOf p g) f page facts)))
+
+  few : length (insert new stars) ≤ hashOf p g .room
+  unfolding hashOf starsAt
+  few = omega (arith, length-insert new (starsAt (p .places) f page), vacant-room vacant)
+
+  stands : (t : Star) → List·Memᴰ t (insert new stars) → below (hashOf p g) page stored (t .number) ≡ true
+  unfolding namedPage
+  stands t n =
+      ⊎-elim
+      (λ (e : t ≡ new). ap (λ (x : Star). below (hashOf p g) page stored (x .number)) e ∙ at k (sym here))
+      (λ (o : List·Memᴰ t stars). at (t .number) (facts .here t o))
+      (member-insert new stars t n)
+    where
+      at : (j : ℕ) → namedPage p g (f .separators) j ≡ page → below (hashOf p g) page stored j ≡ true
+      at j e = rw (zero-add page) at (first-below (hashOf p g) 0 page (f .separators) j (omega (arith, page-inside, sized .ofSeparators)) (e ∙ sym (zero-add page)))
+
+  kept : lowered (hashOf p g) f page (new ∷ []) ≡ stored
+  unfolding staying
+  kept =
+      le-antisymm (lowered-stored (hashOf p g) f page (new ∷ []))
+      (lowered-great (hashOf p g) f page (new ∷ []) stored (le-refl stored)
+      (rw met (omega (arith, few, length-filter (λ (s : Star). below (hashOf p g) page stored (s .number)) (insert new stars)))))
+
+  pushed : pushedTo (hashOf p g) f page (new ∷ []) ≡ record { separator = stored; stars = insert new stars }
+  unfolding pushedTo staying
+  pushed = rw (kept, met, filter-all-on (λ (s : Star). below (hashOf p g) page stored (s .number)) (insert new stars) stands)
+
+  none-on : pushedOn (hashOf p g) f page (new ∷ []) ≡ []
+  unfolding pushedOn passing
+  none-on = rw (kept, met) (filter-none-on (λ (s : Star). not (below (hashOf p g) page stored (s .number))) (insert new stars) (λ t n. ap not (stands t n)))
+
+  one-page : cascaded (hashOf p g) f page (suc m) (new ∷ []) ≡ record { separator = stored; stars = insert new stars } ∷ []
+  unfolding cascaded
+  one-page = rw (pushed, none-on) (ap (λ (l : List Contents). record { separator = stored; stars = insert new stars } ∷ l) (nothing m))
+    where
+      nothing : (n : ℕ) → cascaded (hashOf p g) f (suc page) n [] ≡ []
+      nothing zero = refl
+      nothing (suc n) = refl
+
+  ended : carriedPast (hashOf p g) f page (suc m) (new ∷ []) ≡ []
+  unfolding carriedPast
+  ended = ap (carriedPast (hashOf p g) f (suc page) m) none-on ∙ nothing m
+    where
+      nothing : (n : ℕ) → carriedPast (hashOf p g) f (suc page) n [] ≡ []
+      nothing zero = refl
+      nothing (suc n) = refl
+
+  said : pagesAt (p .places) f from (q + suc m) ≡ pages (hashOf p g) from (q + suc m) (gathered (p .places) f from (q + suc m))
+  said = subst (λ (n : ℕ). pagesAt (p .places) f from n ≡ pages (hashOf p g) from n (gathered (p .places) f from n)) count ruled
+
+  ended-there : carriedPast (hashOf p g) f (from + q) (suc m) (new ∷ []) ≡ []
+  ended-there = ap (λ (n : ℕ). carriedPast (hashOf p g) f n (suc m) (new ∷ [])) at-page ∙ ended
+
+  enters : entersWithin (hashOf p g) f new last ≡ true
+  unfolding entersWithin entering hashOf namedPage
+  enters =
+      ap isEmpty
+      (subst (λ (n : ℕ). left (hashOf p g) from n (insert new (gathered (p .places) f from n)) ≡ []) (sym count)
+      (stretch-leaves validWord (hashOf p g) (p .pages) f sized new q (suc m) inside all said absent (sym here ∙ sym at-page) ended-there))
+
+  last-is : entryLast p g f new ≡ last
+  last-is = entry-ends (hashOf p g) (p .pages) f new last is enters
+
+  run-ends : Ends last ≡ reachAnswer p g f new
+  unfolding reachAnswer
+  run-ends =
+      ap Ends (sym last-is)
+      ∙ sym (by-reach p g f k last least sound word owner true (Unsound (entryUnsound p g f new)) Overflows (Ends (entryLast p g f new)) last-is enters)
+
+  contents : replaced (p .places) f from (entryContents p g f new) ≡ replaced (p .places) f page (record { separator = stored; stars = insert new stars } ∷ [])
+  unfolding entering hashOf namedPage
+  contents =
+      ap (λ (n : ℕ). replaced (p .places) f from (pages (hashOf p g) from (pagesTo from n) (insert new (gathered (p .places) f from (pagesTo from n))))) last-is
+      ∙ ap (λ (n : ℕ). replaced (p .places) f from (pages (hashOf p g) from n (insert new (gathered (p .places) f from n)))) count
+      ∙ stretch-file validWord (hashOf p g) (p .pages) f sized new q (suc m) inside all said absent (sym here ∙ sym at-page) ended-there
+      ∙ ap (λ (n : ℕ). replaced (p .places) f n (cascaded (hashOf p g) f n (suc m) (new ∷ []))) at-page
+      ∙ ap (replaced (p .places) f page) one-page
+
+  put-file : withStars (p .places) f page (insert new (starsThere (p .places) f page)) ≡ entryFile p g f new
+  unfolding entryFile hashOf starsAt
+  put-file =
+      file-alone (p .places) f page stored (insert new (starsThere (p .places) f page)) _ _ _ (omega (arith, page-inside, sized .ofSeparators)) refl refl refl refl
+      ∙ sym contents
+      ∙ sym (by-reach p g f k last least sound word owner true f f (replaced (p .places) f from (entryContents p g f new)) last-is enters)
+
+  -- the star is put on its own page
+  pub run-decided : (pool planned : List ℕ) → Decides p g f new pool planned (Put page place)
+  run-decided pool planned =
+      record {
+        answers =
+            ends-answer p g f k word owner last run-ends page
+            (here
+            ∙ ap (λ (x : File). namedPage p g (x .separators) k) put-file
+            ∙ named-holds p g f k word owner last run-ends (omega (arith, page-low, page-inside, sized .ofSeparators)));
+        files = put-file;
+        feasible = (page-inside, vacant);
+      }

@@ -1,0 +1,110 @@
+use mathlib.Core.Path.{_≡_}
+use Prim.Native.Nat.{_<_}
+use native.Mathlib.Omega.{arith}
+use denote.Ref.{now}
+use Rattle.hashing.proofs.Bounds.{limits}
+use Rattle.pages.proofs.Parts.{page-fits}
+use Rattle.placement.specs.File.{File}
+use Rattle.placement.specs.Hash.{lent}
+use Rattle.entry_reach.specs.Entry.{blockEnd}
+use Rattle.entry_reach.proofs.Surveyed.{end-found, last-low}
+use Rattle.entry_reach.proofs.Runs.{home-is, home-inside}
+use borrow.Author.Needs.{needs}
+use Rattle.entry_reach.proofs.star.decide.Statement.{statement}
+use Rattle.entry_reach.proofs.star.decide.Tie as tie
+
+abbrev file : tie.Start → File
+file s = lent (now (s .args .separators)) (now (s .args .numbers)) (now (s .args .words)) (now (s .args .owners))
+
+inside : (s : tie.Start) → s .args .star .home < s .args .geometry .parameters .pages
+inside s =
+    let e = s .pre .0 in
+    omega (arith, home-is (s .args .geometry) (s .args .star .number) (s .args .star .home) (e .homed), home-inside (s .args .geometry .parameters) (s .args .geometry .growth) (file s) (s .args .star .number) (e .ready .sized) (e .unheld))
+
+abbrev start : tie.After-stretch-end → tie.Start
+start c = c .before .before .before .before .before .before .before .before .before .before
+
+ended : (c : tie.After-stretch-end) → c .stretch-end .result ≡ blockEnd (start c .args .geometry .parameters) (start c .args .geometry .growth) (file (start c)) (start c .args .star .home)
+ended c =
+    let s = start c in
+    end-found (s .args .geometry .parameters) (s .args .geometry .growth) (file s) (s .pre .0 .ready .homing .valid) (s .pre .0 .ready .sized) (s .args .star .home) (inside s) (c .before .top-of .result) (c .stretch-end .result) (c .before .top-of .ensures) (c .stretch-end .ensures)
+
+cast-from : tie.Need-cast-from
+cast-from c = search needs
+
+top-of-requires : tie.Need-top-of-requires
+top-of-requires c κs = search needs
+
+stretch-end-requires : tie.Need-stretch-end-requires
+stretch-end-requires c κs = let s = c .before .before .before .before .before .before .before .before .before in omega (arith, inside s, s .pre .0 .ready .sized .ofSeparators)
+
+may-gain-requires : tie.Need-may-gain-requires
+may-gain-requires c κs =
+    let k = c in
+    let s = start k in
+    let p = s .args .geometry .parameters in
+    let valid = s .pre .0 .ready .homing .valid in
+    let sized = s .pre .0 .ready .sized in
+    let most : s .args .star .page < p .pages = omega (arith, s .pre .0 .here, s .pre .0 .unheld .named) in (
+      valid,
+      (
+        (
+          last-low p (s .args .geometry .growth) (file s) valid sized (s .args .star .home) (inside s) (k .stretch-end .result) (ended k),
+          omega (arith, most, limits p valid .pages-most),
+        ),
+        page-fits (p .places) (p .pages) (s .args .star .page) most (sized .ofNumbers),
+      ),
+    )
+
+decide-run-requires : tie.Need-decide-run-requires
+decide-run-requires c κs =
+    let s = c .before .before .before .before .before .before .before .before .before .before .before .before .before .before .before in
+    (s .pre .0, (s .pre .1 .0, (s .pre .1 .1 .0, (s .pre .1 .1 .1 .0, (s .pre .1 .1 .1 .1, (c .before .before .before .before .may-gain .ensures (c .before .before .before .if1 .taken), ended (c .before .before .before .before .before)))))))
+
+same-length : tie.Need-same-length
+same-length c = search needs
+
+same-length-2 : tie.Need-same-length-2
+same-length-2 c = search needs
+
+same-length-3 : tie.Need-same-length-3
+same-length-3 c = search needs
+
+returns : tie.Need-returns
+returns c = search needs
+
+decide-stretch-requires : tie.Need-decide-stretch-requires
+decide-stretch-requires c κs =
+    let s = c .before .before .before .before .before .before .before .before .before .before .before .before .before .before .before in
+    (s .pre .0, (s .pre .1 .0, (s .pre .1 .1 .0, s .pre .1 .1 .1 .0)))
+
+same-length-4 : tie.Need-same-length-4
+same-length-4 c = search needs
+
+same-length-5 : tie.Need-same-length-5
+same-length-5 c = search needs
+
+same-length-6 : tie.Need-same-length-6
+same-length-6 c = search needs
+
+returns-2 : tie.Need-returns-2
+returns-2 c = search needs
+
+pub decide-spec : {M : Type 1} → statement M
+decide-spec =
+    tie.close
+    (tie.spec
+    cast-from
+    top-of-requires
+    stretch-end-requires
+    may-gain-requires
+    decide-run-requires
+    same-length
+    same-length-2
+    same-length-3
+    returns
+    decide-stretch-requires
+    same-length-4
+    same-length-5
+    same-length-6
+    returns-2)

@@ -1,0 +1,118 @@
+-- Every element of a history conforms.
+use mathlib.Core.Path.{_≡_, refl, sym, ap, _∙_}
+use mathlib.Core.Bool.{Bool, true, false, cond, true≢false}
+use mathlib.Core.List.{[], List·Memᴰ, List·Memᴰ·not-nil, List·Memᴰ·eq-of-singleton}
+use Prim.Native.Nat.{ℕ}
+use native.Mathlib.Omega.{arith}
+use Rattle.hashing.specs.declared.Parameters.{Parameters}
+use Rattle.placement.specs.File.{File}
+use Rattle.calls.specs.declared.answers.Answer.{Answer}
+use Rattle.calls.specs.declared.records.GrowthRecord.{GrowthRecord}
+use Rattle.calls.specs.Answers.{Pool, After, spotted, accepted, refused}
+use Rattle.calls.specs.Calls.{unchanged}
+use Rattle.calls.specs.Records.{validSteps, closedRecord, recordAfter}
+use Rattle.calls.specs.Mend.{mendUnder}
+use Rattle.histories.specs.Model.{Model, Request, lookUp, Made, fedAll, callsMade, fedBy}
+use Rattle.histories.specs.Call.{plain, mend, lost, isAccepted, Outcome, onFile, step, effect, feeding}
+use Rattle.histories.specs.Loss.{Loss, Underway, noCall, anEntry, aChange, aRemoval, lossFits, wholeCall, mendedAfter, sameFile, madeOf, counted}
+use Rattle.histories.proofs.Matching.{Matches, ElementConforms}
+use Rattle.histories.proofs.Histories.{Conforming}
+use Rattle.histories.proofs.Under.{request-conforms}
+use Rattle.histories.proofs.GoesOn.{mend-stays, survives}
+
+same-request : (q : Request) (k : ℕ) → plain q ≡ plain (lookUp k) → q ≡ lookUp k
+same-request q k e = cc
+
+told : {c d : Made} → c ≡ d → c .refusal ≡ 5 → d .refusal ≡ 5
+told e z = rw e at z
+
+module _ (p : Parameters) (m : Model) (r : GrowthRecord) (f second : File) (x : Matches p m r f second) (set : File) (pool : Pool) where
+  -- a call that leaves record and file leaves what the model is
+  stays : (a : After) → a .growth ≡ r .state → a .file ≡ f → Matches p m (recordAfter r a) (a .file) second
+  unfolding validSteps
+  stays a e d = record { growth = e ∙ x .growth; file = d ∙ x .file; fitting = x .fitting; steps = x .steps; unfinished = x .unfinished }
+
+  plain-conforms : (q : Request) → ElementConforms p m r f pool (plain q) (step p r f second set pool q)
+  unfolding feeding fedBy fedAll callsMade isAccepted
+  plain-conforms q =
+      let t = request-conforms p m r f second x set pool q in
+      record {
+        matches = t .matches;
+        undamaged = t .undamaged;
+        each = λ c n e. t .undamaged (told (List·Memᴰ·eq-of-singleton n) e);
+        found = λ k e. t .found k (same-request q k e);
+      }
+
+  -- Mending by itself, and power lost: document 02 (xii).
+  not-look-up : (k : ℕ) → mend ≡ plain (lookUp k) → ⊥
+  not-look-up k e = let z : _≡_ {A = ℕ} 0 1 = cc in omega arith
+
+  mend-conforms : ElementConforms p m r f pool mend (onFile p r second (mendUnder p r f pool))
+  unfolding feeding fedBy fedAll callsMade
+  mend-conforms =
+      let t = mend-stays p m r f second x pool in
+      record {
+        matches = stays (mendUnder p r f pool) (t .growth) (t .file);
+        undamaged = t .undamaged;
+        each = λ c n e. absurd (List·Memᴰ·not-nil n);
+        found = λ k e. absurd (not-look-up k e);
+      }
+
+  no-look-up : (l : Loss) (k : ℕ) → lost l ≡ plain (lookUp k) → ⊥
+  no-look-up l k e = let z : _≡_ {A = ℕ} 0 1 = cc in omega arith
+
+  not-damaged : (u : Underway) (n : ℕ) → (n ≡ 5 → ⊥) → (b : Bool) (c : Made) → List·Memᴰ c (cond b (madeOf u n) []) → c .refusal ≡ 5 → ⊥
+  unfolding madeOf
+  not-damaged u n h false c z e = absurd (List·Memᴰ·not-nil z)
+  not-damaged noCall n h true c z e = absurd (List·Memᴰ·not-nil z)
+  not-damaged (anEntry caller k q) n h true c z e = h (told (List·Memᴰ·eq-of-singleton z) e)
+  not-damaged (aChange caller k q) n h true c z e = h (told (List·Memᴰ·eq-of-singleton z) e)
+  not-damaged (aRemoval caller k) n h true c z e = h (told (List·Memᴰ·eq-of-singleton z) e)
+
+  -- what follows a loss is at rest
+  lost-conforms : (l : Loss) → ElementConforms p m r f pool (lost l) (effect p r f second set pool (lost l))
+  unfolding effect feeding fedBy fedAll callsMade counted validSteps spotted
+  lost-conforms l = go (lossFits p l) refl
+    where
+      mended : After
+      mended = mendedAfter p r f pool l
+
+      whole : After
+      whole = wholeCall p r f pool (l .underway)
+
+      ended : mended .answer ≡ accepted 0 → mended .answer .refusal ≡ 5 → ⊥
+      ended e z = let d : _≡_ {A = ℕ} 0 5 = sym (ap (λ (a : Answer). a .refusal) e) ∙ z in omega arith
+
+      go : (b : Bool) → lossFits p l ≡ b → ElementConforms p m r f pool (lost l) (effect p r f second set pool (lost l))
+      go true e =
+          let t = survives p m r f second x pool l e in
+          rw e
+          (record {
+            matches =
+                rw e
+                (record {
+                  growth = t .mends .growth;
+                  file = t .mends .file;
+                  fitting = t .mends .fitting;
+                  steps = refl;
+                  unfinished = λ z. absurd (true≢false (sym z));
+                });
+            undamaged = λ z. ended (t .answer) z;
+            each = rw e (not-damaged (l .underway) (whole .answer .refusal) (t .undamaged) (sameFile p (mended .file) (whole .file)));
+            found = λ k z. absurd (no-look-up l k z);
+          })
+      go false e =
+          rw e
+          (record {
+            matches = rw e (stays (unchanged (r .state) f pool (refused 2 0)) refl refl);
+            undamaged = λ z. omega arith;
+            each = rw e (λ c n z. absurd (List·Memᴰ·not-nil n));
+            found = λ k z. absurd (no-look-up l k z);
+          })
+
+-- one law for every element
+pub conforming : Conforming
+unfolding effect
+conforming p m r f second x set pool (plain q) = plain-conforms p m r f second x set pool q
+conforming p m r f second x set pool mend = mend-conforms p m r f second x set pool
+conforming p m r f second x set pool (lost l) = lost-conforms p m r f second x set pool l

@@ -1,0 +1,117 @@
+use mathlib.Core.Path.{_≡_, _∙_}
+use Prim.Native.Nat.{_+_, _*_}
+use native.Mathlib.Nat.{zero-add}
+use native.Mathlib.Omega.{arith}
+use denote.Ref.{now}
+use Rattle.hashing.proofs.Bounds.{limits}
+use Rattle.placement.specs.File.{File}
+use Rattle.placement.specs.Hash.{lent}
+use Rattle.removal_reach.proofs.Ruled.{applied-lists}
+use Rattle.mending.proofs.Renewed.{settleable, renew-kept, renew-placed}
+use borrow.Author.Needs.{needs}
+use Rattle.mending.proofs.renewing.renew.Statement.{statement}
+use Rattle.mending.proofs.renewing.renew.Tie as tie
+
+abbrev start : tie.After-settle-pages → tie.Start
+start c = c .before .before .before .before .before .before .before .before .before .before .before .before .before
+
+abbrev file : tie.Start → File
+file s = lent (now (s .args .separators)) (now (s .args .numbers)) (now (s .args .words)) (now (s .args .owners))
+
+cast-pages : tie.Need-cast-pages
+cast-pages c = search needs
+
+slice-aggregate-settle-pages : tie.Need-slice-aggregate-settle-pages
+slice-aggregate-settle-pages c = search needs
+
+settle-pages-requires : tie.Need-settle-pages-requires
+settle-pages-requires c κs = let s = c .before .before .before .before .before .before .before .before .before .before .before .before in settleable _ (s .pre .0) _ _ _ _ _ (s .pre .1 .1 .1 .0) (s .pre .1 .1 .0 .ofNumbers) (omega arith)
+
+same-length : tie.Need-same-length
+same-length c = search needs
+
+same-length-2 : tie.Need-same-length-2
+same-length-2 c = search needs
+
+returns : tie.Need-returns
+returns c =
+    let k = c .before .before .before .before .before .before in
+    let s = start k in
+    renew-kept (s .args .parameters) (s .pre .0) (file s) _ _ _ _ _ _ _ (k .settle-pages .ensures) (c .if1 .taken)
+
+slice-aggregate-apply : tie.Need-slice-aggregate-apply
+slice-aggregate-apply c = search needs
+
+cast-apply : tie.Need-cast-apply
+cast-apply c = search needs
+
+apply-requires : tie.Need-apply-requires
+apply-requires c κs =
+    let k = c .before .before .before .before .before .before .before .before .before .before .before .before .before .before .before in
+    let s = start k in
+    let l = limits (s .args .parameters) (s .pre .0) in
+    let z = s .pre .1 .0 in
+    let o = s .pre .1 .1 .0 in
+    let whole : (0 + s .args .parameters .pages) * s .args .parameters .places ≡ s .args .parameters .pages * s .args .parameters .places = rw (zero-add (s .args .parameters .pages)) in (
+      (l .places-most, omega (arith, l .pages-most)),
+      (
+        (omega (arith, z .ofSeparators), omega (arith, l .pages-most, k .settle-pages .kept .1 .1 .1 .0)),
+        (
+          (omega (arith, whole, z .ofNumbers), omega (arith, whole, z .ofWords)),
+          ((omega (arith, whole, o .ofNumbers, k .settle-pages .kept .1 .0), omega (arith, whole, o .ofWords, k .settle-pages .kept .1 .1 .0)), (omega (arith, whole, z .ofOwners), omega (arith, whole, o .ofOwners))),
+        ),
+      ),
+    )
+
+same-length-3 : tie.Need-same-length-3
+same-length-3 c = search needs
+
+same-length-4 : tie.Need-same-length-4
+same-length-4 c = search needs
+
+same-length-5 : tie.Need-same-length-5
+same-length-5 c = search needs
+
+same-length-6 : tie.Need-same-length-6
+same-length-6 c = search needs
+
+same-length-7 : tie.Need-same-length-7
+same-length-7 c = search needs
+
+same-length-8 : tie.Need-same-length-8
+same-length-8 c = search needs
+
+same-length-9 : tie.Need-same-length-9
+same-length-9 c = search needs
+
+returns-2 : tie.Need-returns-2
+returns-2 c =
+    let applying = c .before .before .before .before .before .before .before .before .before .before .before .before .before .before in
+    let chosen = applying .before .before .before .before .before .before .before .before .before .before in
+    let k = chosen .before .before .before .before .before .before in
+    let s = start k in
+    let done = renew-placed (s .args .parameters) (s .pre .0) (file s) _ _ _ _ _ _ _ (k .settle-pages .ensures) (chosen .if1 .left) (s .pre .1 .1 .0 .ofNumbers) (omega arith) (s .pre .1 .1 .1 .1) in
+    let left = applying .apply .ensures in
+    (done .0, applied-lists _ _ _ _ _ _ _ _ _ _ _ _ _ (left .0) (left .1 .0) (left .1 .1 .0) (left .1 .1 .1 .0) ∙ done .1)
+
+pub renew-spec : {M : Type 1} → statement M
+renew-spec =
+    tie.close
+    (tie.spec
+    cast-pages
+    slice-aggregate-settle-pages
+    settle-pages-requires
+    same-length
+    same-length-2
+    returns
+    slice-aggregate-apply
+    cast-apply
+    apply-requires
+    same-length-3
+    same-length-4
+    same-length-5
+    same-length-6
+    same-length-7
+    same-length-8
+    same-length-9
+    returns-2)

@@ -1,0 +1,3 @@
+pub mod Homes
+pub mod Collect
+pub mod Renew
