@@ -15,10 +15,7 @@ use Rattle.placement.specs.Rule.{Star, keep, insert, pour, starWith}
 use Rattle.placement.specs.File.{File, Sized, starsOf, starsAt, gathered}
 use Rattle.placement.proofs.Order.{pour-append}
 use Rattle.fits_table.specs.Items.{insertBy, sortBy, keptItem, heldItems}
-use Rattle.fits_table.specs.Rows.{rowOf, rowsIn}
-
-abbrev pub rowOfStar : Star → ℕ × ℕ
-rowOfStar s = (s .number, s .payload .word)
+use Rattle.fits_table.specs.Rows.{rowOfStar, rowOf, rowsIn}
 
 -- sorting and a map that keeps the key
 map-insert : {A B : Type 0} (f : A → ℕ) (g : B → ℕ) (h : A → B) → ((x : A) → g (h x) ≡ f x) → (x : A) (l : List A) → map h (insertBy f x l) ≡ insertBy g (h x) (map h l)

@@ -1,4 +1,4 @@
--- A file whose pages are sound: its rows rise and are valid, so its table is accepted.
+-- A file whose pages are sound: its rows rise and are valid.
 -- Assumes nothing.
 use mathlib.Core.Path.{_≡_, sym, ap, _∙_}
 use mathlib.Core.Bool.{true}
@@ -14,10 +14,8 @@ use Rattle.placement.specs.File.{File, Sized, gathered}
 use Rattle.placement.proofs.Order.{Rising}
 use Rattle.placement.proofs.Pages.{Proper}
 use Rattle.placement.proofs.Sound.{AllSound, gathered-rising, gathered-proper}
-use Rattle.fits_table.specs.Items.{sortBy, heldItems}
-use Rattle.fits_table.specs.Rows.{rowOf, rowsIn, tableOf, RowsUp}
-use Rattle.fits_table.proofs.FileRows.{rowOfStar, file-rows}
-use Rattle.fits_table.proofs.Reading.{Accepted, table-taken}
+use Rattle.fits_table.specs.Rows.{rowOfStar, rowsIn, RowsUp}
+use Rattle.fits_table.proofs.FileRows.{file-rows}
 
 number-valid : (n : ℕ) → 1 ≤ n → n ≤ 2147483646 → validNumber n ≡ true
 unfolding validNumber
@@ -29,15 +27,11 @@ rows-up (s ∷ l) last k h r p =
     let g = p s (List·Memᴰ·head refl) in
     (omega (arith, r .0), (number-valid (s .number) (g .0) (g .1), (g .2, rows-up l (s .number) (suc (s .number)) (omega arith) (r .1) (λ t m. p t (List·Memᴰ·tail m)))))
 
+-- of stars by number that are valid
+pub stars-up : (l : List Star) → Rising 0 l → Proper validWord l → RowsUp 0 (map rowOfStar l)
+stars-up [] r p = tt
+stars-up (s ∷ l) r p = rows-up (s ∷ l) 0 1 (omega arith) (p s (List·Memᴰ·head refl) .0, r .1) p
+
 -- The rows of sound pages rise and are valid: what `put_table` asks, and what the reader tests.
 pub file-up : (H : Hash) (M : ℕ) (f : File) → Sized (H .room) M f → AllSound validWord H f 0 M → RowsUp 0 (rowsIn (f .numbers) (f .words))
-file-up H M f z a = rw (← file-rows (H .room) M f z) (from-one (gathered (H .room) f 0 M) (gathered-rising validWord H f 0 M a) (gathered-proper validWord H f 0 M a))
-  where
-    from-one : (l : List Star) → Rising 0 l → Proper validWord l → RowsUp 0 (map rowOfStar l)
-    from-one [] r p = tt
-    from-one (s ∷ l) r p = rows-up (s ∷ l) 0 1 (omega arith) (p s (List·Memᴰ·head refl) .0, r .1) p
-
--- WHAT A SOUND FILE WRITES IS NEITHER 10 NOR 11
-pub file-accepted : (H : Hash) (M : ℕ) (f : File) → Sized (H .room) M f → AllSound validWord H f 0 M → length (rowsIn (f .numbers) (f .words)) ≤ 32768
-    → Accepted (tableOf (rowsIn (f .numbers) (f .words))) (length (rowsIn (f .numbers) (f .words)))
-file-accepted H M f z a h = table-taken (rowsIn (f .numbers) (f .words)) h (file-up H M f z a)
+file-up H M f z a = rw (← file-rows (H .room) M f z) (stars-up (gathered (H .room) f 0 M) (gathered-rising validWord H f 0 M a) (gathered-proper validWord H f 0 M a))

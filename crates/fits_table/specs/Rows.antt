@@ -9,6 +9,7 @@ use lib.ListN.{length, getD, replicate}
 use lib.IntN.{ℤ, pos, negsuc}
 use Rattle.pages.specs.Position.{validNumber, validPosition, validWord, packed, unpacked}
 use Rattle.pages.specs.declared.position.Position.{Position}
+use Rattle.placement.specs.Rule.{Star as Rule·Star}
 use Rattle.fits_table.specs.Header.{headers, blocksOf}
 use Rattle.fits_table.specs.Items.{sortBy, heldItems}
 use Rattle.fits_table.specs.declared.rows.Row.{Row}
@@ -69,6 +70,10 @@ rowsBytes (r ∷ rs) = rowBytes (r .0) (r .1) ++ rowsBytes rs
 -- the whole table: "data padded with zeros" to blocks of 2,880
 unfoldable pub tableOf : List (ℕ × ℕ) → List ℕ
 tableOf rs = headers (length rs) ++ (rowsBytes rs ++ replicate (blocksOf (12 * length rs) - 12 * length rs) 0)
+
+-- a star's row
+abbrev pub rowOfStar : Rule·Star → ℕ × ℕ
+rowOfStar s = (s .number, s .payload .word)
 
 -- the number and the word that an item names, and those of the items that hold a number, in rising order of number
 abbrev pub rowOf : List ℕ → List ℕ → ℕ → ℕ × ℕ

@@ -1,6 +1,6 @@
 -- What tables promise to those who exchange files by them: document 02 (vi).
 use mathlib.Core.Path.{_≡_}
-use mathlib.Core.Bool.{true, _&&_}
+use mathlib.Core.Bool.{true, false, _&&_}
 use mathlib.Core.List.{List}
 use Prim.Native.Nat.{ℕ, _≤_, _<_}
 use lib.ListN.{length, getD, take, replicate}
@@ -11,8 +11,7 @@ use Rattle.calls.specs.declared.records.GrowthRecord.{GrowthRecord}
 use Rattle.calls.specs.Answers.{Pool, accepted, counted, cleared}
 use Rattle.calls.specs.Calls.{fileFits, poolFits, checkOf, unchanged}
 use Rattle.calls.specs.Records.{closedRecord}
-use Rattle.fits_table.specs.Tables.{writeUnder, readUnder}
-use mathlib.Core.Bool.{false}
+use Rattle.exchange.specs.Tables.{writeUnder, readUnder}
 
 -- the bytes that an accepted writing puts out
 abbrev pub put : Parameters → GrowthRecord → File → List ℕ → List ℕ

@@ -18,15 +18,12 @@ use Rattle.calls.specs.declared.records.GrowthRecord.{GrowthRecord}
 use Rattle.calls.specs.Answers.{After, Pool, accepted, refused, counted, cleared}
 use Rattle.calls.specs.Calls.{unless, orElse, unlent, guarded, unchanged, fileFits, poolFits}
 use Rattle.calls.specs.Records.{validSteps, unlessOpen}
 use Rattle.fits_table.specs.Header.{tableIn}
-use Rattle.fits_table.specs.Rows.{tableOf, goodRows, rowsRead}
+use Rattle.fits_table.specs.Rows.{rowOfStar, tableOf, goodRows, rowsRead}
 use Rattle.fits_table.specs.declared.cards.Table.{Table}
 use Rattle.fits_table.specs.declared.cards.Table.the-variants.{Rows, Nothing}
 
--- a star's row, and a row's star: "FITS tables are read in with owner 0" (x)
-abbrev pub rowOfStar : Star → ℕ × ℕ
-rowOfStar s = (s .number, s .payload .word)
-
+-- a row's star: "FITS tables are read in with owner 0" (x)
 abbrev pub starOfRow : ℕ × ℕ → Star
 starOfRow r = starWith (r .0) (r .1) 0
 
