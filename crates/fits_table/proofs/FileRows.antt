@@ -138,7 +138,7 @@ held-rows N W i (x ∷ ns) (y ∷ ws) (o ∷ os) a b n w =
         ∙ ap (λ (k : ℕ). (getD N i 0, k) ∷ map (rowOf N W) (heldItems (suc i) ns)) (here y ws W w)
     go false ih = ih
 
--- THE TIE: "rows in rising number" are the stars of all pages by number
+-- "rows in rising number" are the stars of all pages by number
 pub file-rows : (places M : ℕ) (f : File) → Sized places M f → map rowOfStar (gathered places f 0 M) ≡ rowsIn (f .numbers) (f .words)
 unfolding rowsIn
 file-rows places M f s =

@@ -21,7 +21,7 @@ use Rattle.fits_table.proofs.RoundTrip.{row-read, Taken, row-back, take
 use Rattle.fits_table.proofs.Told.{told-table}
 use Rattle.fits_table.proofs.Whole.{length-row, length-rows}
 
--- WRITTEN ROWS ARE GOOD
+-- written rows are good
 pub rows-taken : (rs : List (ℕ × ℕ)) (last : ℕ) (l r : List ℕ) (at : ℕ) → drop at l ≡ rowsBytes rs ++ r → RowsUp last rs → goodRows last l at (length rs) ≡ true
 unfolding goodRows rowsBytes
 rows-taken [] last l r at e u = refl
@@ -43,7 +43,7 @@ unfolding rowsRead
 length-read l at zero = refl
 length-read l at (suc n) = ap suc (length-read l (at + 12) n)
 
--- GOOD ROWS ARE WHAT THEIR STARS WRITE
+-- good rows are what their stars write
 pub rows-back : (l : List ℕ) → ((k : ℕ) → getD l k 0 < 256) → (n last at : ℕ) → at + 12 * n ≤ length l → goodRows last l at n ≡ true → Read l last at n
 unfolding goodRows rowsRead rowsBytes
 rows-back l bytes zero last at h e = record { is = refl; up = tt }

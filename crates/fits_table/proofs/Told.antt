@@ -57,15 +57,21 @@ told-candidate n x h =
     ∙ ap (readDigits 0) (take-at (field n) (behind ++ x) 20 (length-field n))
     ∙ read-field n h
 
--- WHAT A WRITER PUTS OUT IS NOT REFUSED WITH 10
+pub table-long : (rs : List (ℕ × ℕ)) → length (tableOf rs) ≡ tableLength (length rs)
+unfolding tableOf
+table-long rs =
+    length-append (headers (length rs)) (rowsBytes rs ++ pad)
+    ∙ omega (arith, headers-long (length rs), length-append (rowsBytes rs) pad, length-rows rs, length-replicate {A = ℕ} (blocksOf (12 * length rs) - 12 * length rs) 0)
+  where
+    pad : List ℕ
+    pad = replicate (blocksOf (12 * length rs) - 12 * length rs) 0
+
+-- what a writer puts out is not refused with 10
 pub told-table : (rs : List (ℕ × ℕ)) → length rs ≤ 32768 → tableIn (tableOf rs) ≡ Rows (length rs)
 unfolding tableOf
 told-table rs h =
     sym (told-rows T (omega (arith, size)) (rw is h) same (size ∙ ap tableLength (sym is))) ∙ ap Rows is
   where
-    n : ℕ
-    n = length rs
-
     pad : List ℕ
     pad = replicate (blocksOf (12 * length rs) - 12 * length rs) 0
 
@@ -76,9 +82,7 @@ told-table rs h =
     is = told-candidate (length rs) (rowsBytes rs ++ pad) h
 
     size : length T ≡ tableLength (length rs)
-    size =
-        length-append (headers (length rs)) (rowsBytes rs ++ pad)
-        ∙ omega (arith, headers-long (length rs), length-append (rowsBytes rs) pad, length-rows rs, length-replicate {A = ℕ} (blocksOf (12 * length rs) - 12 * length rs) 0)
+    size = table-long rs
 
     same : alike (take 5760 T) (headers (candidate T)) ≡ true
     same =
