@@ -7,6 +7,7 @@ mod settling;
 pub use gathering::count_stars;
 pub use gathering::gather;
 pub use layout::plan;
+pub use layout::settle_pages;
 pub use layout::store_sources;
 pub use outcome::Outcome;
 pub use settling::Settled;
