@@ -15,3 +15,4 @@ pub mod Blocks
 pub mod Slots
 pub mod Stretch
 pub mod Placed
+pub mod Numbered

@@ -2,6 +2,7 @@
 mod gathering;
 mod keys;
 mod layout;
+mod numbering;
 mod outcome;
 mod settling;
 
@@ -11,6 +12,7 @@ pub use keys::gather_keys;
 pub use layout::plan;
 pub use layout::settle_pages;
 pub use layout::store_sources;
+pub use numbering::gather_stars;
 pub use outcome::Outcome;
 pub use settling::Settled;
 pub use settling::keep_all;
