@@ -25,9 +25,10 @@ use Rattle.page_separator.specs.Probes.{homesUpTo, stayingWords, wordsSeparator
 use Rattle.page_plan.specs.Settle.{Settlement, slotsOf}
 use Rattle.page_plan.proofs.Grouping.{grouped-next, grouped-add}
 use Rattle.page_separator.proofs.Cutting.{separator-fits, separator-most}
-use Rattle.page_plan.specs.Plans.{starOf, waits, settled, carriedOn, plans, remains, PagePlanned, Planned}
+use Rattle.page_plan.specs.Plans.{starOf, waits, settled, carriedOn, plans, remains, PagePlanned, Planned, Started, endOf}
 use Rattle.page_plan.proofs.Pouring.{length-waits}
 use Rattle.page_plan.proofs.RuleOverWords.{near-probing, near-onward}
+use Rattle.page_plan.proofs.Blocks.{grouped-again, plans-grouped}
 
 -- the last page comes after the others
 module _ (q : Parameters) (lo : ℕ) (l : List ℕ) where
@@ -90,16 +91,6 @@ slice-join f m t l a b c =
     back : f + (m - f) ≡ m
     back = omega arith
 
--- where group v ends and group v + 1 starts
-abbrev pub endOf : ℕ → ℕ → List ℕ → ℕ → ℕ
-endOf carried lo l v = carried + length (grouped lo 0 v l)
-
--- the waiting list as gathering leaves it: the words carried in, then the stretch's words in groups
-pub record Started (lo count carried : ℕ) (l W ends : List ℕ) : Type 0 where
-  pub room : carried + length l ≤ length W
-  pub words : take (carried + length l) W ≡ take carried W ++ grouped lo 0 count l
-  pub ended : (v : ℕ) → v < count → getD ends v 0 ≡ endOf carried lo l (suc v)
-
 -- what was carried in stands as it did
 pub carried-same : (lo count carried : ℕ) (l U W ends : List ℕ) → Scattered lo count carried l U W ends → carried + length l ≤ length U → take carried W ≡ take carried U
 carried-same lo count carried l U W ends S h =
@@ -135,6 +126,22 @@ module _ (lo count carried : ℕ) (l W ends : List ℕ) (S : Started lo count ca
 
   pub ends-last : endOf carried lo l count ≡ carried + length l
   ends-last = ap (λ (n : ℕ). carried + n) whole
+
+  -- the words that stand behind those carried in are the groups
+  pub stands : slice carried (carried + length l) W ≡ grouped lo 0 count l
+  stands = ap (drop carried) (S .words) ∙ drop-at (take carried W) (grouped lo 0 count l) carried size
+
+  -- .. and they are in groups themselves
+  pub started-again : Started lo count carried (grouped lo 0 count l) W ends
+  started-again =
+      record {
+        room = omega (arith, whole, S .room);
+        words =
+            ap (λ (n : ℕ). take (carried + n) W) whole
+            ∙ S .words
+            ∙ ap (λ (s : List ℕ). take carried W ++ s) (sym (grouped-again lo count count l (omega arith)));
+        ended = λ v h. S .ended v h ∙ ap (λ (s : List ℕ). carried + length s) (sym (grouped-again lo (suc v) count l h));
+      }
 
   -- so much of the list is the words carried in and the first v groups
   groups-up-to : (v : ℕ) → v ≤ count → take (endOf carried lo l v) W ≡ take carried W ++ grouped lo 0 v l
@@ -337,6 +344,18 @@ planned-all q lo count carried l W pool planned ends S pool′ W′ planned′ f
       separators-are = I .planned-are ∙ ap (λ (n : ℕ). written lo (separators (plans q lo 0 n (take carried W) l)) planned) ev;
       passed = et ∙ left;
       counted = er ∙ sym (length-slice from end W′ (omega (arith, S .room, I .long-waiting))) ∙ ap length left;
+    }
+
+-- the plan of words in groups is the plan of the words
+pub planned-again : (q : Parameters) (lo count : ℕ) (w l pool pool′ planned planned′ W′ : List ℕ) (r : ℕ)
+    → Planned q lo count w (grouped lo 0 count l) pool pool′ planned planned′ W′ r → Planned q lo count w l pool pool′ planned planned′ W′ r
+planned-again q lo count w l pool pool′ planned planned′ W′ r P =
+    let both = plans-grouped q lo count w l in
+    record {
+      sources = P .sources ∙ ap (λ (cs : List Contents). written (lo * q .places) (column (q .places) (λ (s : Star). s .payload .word) cs) pool) (both .0);
+      separators-are = P .separators-are ∙ ap (λ (cs : List Contents). written lo (separators cs) planned) (both .0);
+      passed = P .passed ∙ both .1;
+      counted = P .counted ∙ ap length (both .1);
     }
 
 -- a page of the stretch is within a list that holds the stretch

@@ -15,7 +15,7 @@ use Rattle.placement.specs.File.{column, written}
 use Rattle.placement.specs.Lent.{Lent}
 use Rattle.page_separator.specs.Lists.{all, allBelow}
 use Rattle.page_separator.specs.Words.{homeOf, numberIn, sourceOf}
-use Rattle.page_plan.specs.Gather.{group, stretchWords, starsIn}
+use Rattle.page_plan.specs.Gather.{group, grouped, stretchWords, starsIn}
 use Rattle.page_separator.specs.Probes.{homesUpTo, stayingWords, passingWords, wordsSeparator}
 use Rattle.page_plan.specs.Settle.{slotsOf}
 
@@ -84,6 +84,30 @@ pub record Plannable (q : Parameters) (lo count k carried : ℕ) (numbers pool W
   pub few : length W ≤ 32768
   pub near : homesUpTo lo (take carried W) ≡ true
 
+-- where group v ends and group v + 1 starts
+abbrev pub endOf : ℕ → ℕ → List ℕ → ℕ → ℕ
+endOf carried lo l v = carried + length (grouped lo 0 v l)
+
+-- the waiting list as gathering leaves it: the words carried in, then the stretch's words l in groups
+pub record Started (lo count carried : ℕ) (l W ends : List ℕ) : Type 0 where
+  pub room : carried + length l ≤ length W
+  pub words : take (carried + length l) W ≡ take carried W ++ grouped lo 0 count l
+  pub ended : (v : ℕ) → v < count → getD ends v 0 ≡ endOf carried lo l (suc v)
+
+-- What settling `count` pages from page lo needs: the words that stand from `carried` up to `end` are grouped, those before them homed at
+-- page lo or lower.
+pub record Settleable (q : Parameters) (lo count carried end : ℕ) (pool W planned ends : List ℕ) : Type 0 where
+  pub valid : validParameters q ≡ true
+  pub pages : lo + count ≤ 1024
+  pub ofPlanned : lo + count ≤ length planned
+  pub ofPool : (lo + count) * q .places ≤ length pool
+  pub ofEnds : count ≤ length ends
+  pub few : length W ≤ 32768
+  pub order : carried ≤ end
+  pub inside : end ≤ length W
+  pub grouped-are : Started lo count carried (slice carried end W) W ends
+  pub near : homesUpTo lo (take carried W) ≡ true
+
 -- What planning `count` pages from page lo leaves, of the words w carried in and the stretch's words l: the source of each place's star in
 -- the pool, the new separators, and at the front of W′ the r words that are carried past the stretch.
 pub record Planned (q : Parameters) (lo count : ℕ) (w l pool pool′ planned planned′ W′ : List ℕ) (r : ℕ) : Type 0 where
@@ -98,3 +122,9 @@ PlansStretch q lo count k carried numbers pool waiting planned r =
     Planned q lo count (take carried (now (waiting .entry)))
     (stretchWords (q .places) lo count k (now (numbers .entry)) (now (pool .entry))) (now (pool .entry)) (now (pool .exit)) (now (planned .entry))
     (now (planned .exit)) (now (waiting .exit)) r
+
+-- the words that stand in groups are settled, whichever stars they are of
+abbrev pub SettlesPages : Parameters → ℕ → ℕ → ℕ → ℕ → Lent → Lent → Lent → ℕ → Type 0
+SettlesPages q lo count carried end pool waiting planned r =
+    Planned q lo count (take carried (now (waiting .entry))) (slice carried end (now (waiting .entry))) (now (pool .entry)) (now (pool .exit))
+    (now (planned .entry)) (now (planned .exit)) (now (waiting .exit)) r

@@ -12,7 +12,7 @@ ghost use Rattle.page_separator.specs.Words.{sourceOf};
 ghost use Rattle.page_separator.specs.Lists.{allBelow};
 ghost use Rattle.page_plan.specs.Gather.{starsIn};
 ghost use Rattle.page_separator.specs.Probes.{homesUpTo, Probing};
-ghost use Rattle.page_plan.specs.Plans.{slotSource, Plannable, PlansPage, PlansStretch};
+ghost use Rattle.page_plan.specs.Plans.{slotSource, Plannable, Settleable, SettlesPages, PlansPage, PlansStretch};
 use crate::gathering::gather;
 use crate::settling::settle;
 use hashing::Parameters;
@@ -79,7 +79,33 @@ fn settle_page(
     settled.from
 }
 
-// Settles the stretch page by page; `ends` has a place for each.
+// Settles the stretch page by page: its words, of whatever stars, stand from `carried` up to `end` in groups by home, each up to its place in `ends`.
+// The words carried past the stretch are left at the front; the answer is their count.
+pub fn settle_pages(
+    parameters: Parameters,
+    pool: &mut [u32],
+    waiting: &mut [u64],
+    planned: &mut [u8],
+    ends: &[u32],
+    lo: usize,
+    count: usize,
+    carried: usize,
+    end: usize,
+) -> usize
+    requires { ⌜ Settleable parameters lo count carried end (now pool) (now waiting) (now planned) (now ends) ⌝ }
+    ensures { λ r. ⌜ SettlesPages parameters lo count carried end pool waiting planned r ⌝ }
+{
+    let mut from = 0;
+    let mut v = 0;
+    while v < count {
+        let reach = ends[v] as usize;
+        from = settle_page(parameters, pool, waiting, planned, from, reach, lo + v);
+        v += 1;
+    }
+    close_up(waiting, from, end)
+}
+
+// Gathers the stretch and settles it; `ends` has a place for each page.
 fn plan_pages(
     parameters: Parameters,
     numbers: &[u32],
@@ -108,14 +134,17 @@ fn plan_pages(
         without,
         carried,
     );
-    let mut from = 0;
-    let mut v = 0;
-    while v < count {
-        let reach = ends[v] as usize;
-        from = settle_page(parameters, pool, waiting, planned, from, reach, lo + v);
-        v += 1;
-    }
-    close_up(waiting, from, end)
+    settle_pages(
+        parameters,
+        pool,
+        waiting,
+        planned,
+        ends,
+        lo,
+        count,
+        carried,
+        end,
+    )
 }
 
 // Plans the stretch of `count` pages from page lo, with the words carried in at the front of `waiting` and the stars of the stretch but `without`.
