@@ -78,7 +78,16 @@ same-length-7 c = search needs
 
 returns-2 : tie.Need-returns-2
 unfolding readOf
-returns-2 c = ?
+returns-2 c =
+    let done = c .before .before .before .before .before .before .before .before .before .before .before .before .before .before .before .before .before .before .before .before .before .before .before .before in
+    let d = done .before .before .before .before .before .before .before .before in
+    let s = begun d in
+    let e = c .before .before .before .before .before .before .clear .ensures in
+    rw (none d)
+    (leaves-cleared _ _ _ (poolOf s) _ (done .read-lent .ensures)
+    (read-pool (s .args .parameters) (s .args .growth) (fileOf s) (cleared (poolOf s)) (now (s .args .given)) _)
+    (cleared-is _ _ _ _ _ _ _ _ _ (e .0) (e .1 .0) (e .1 .1)
+    (done .read-lent .kept .1 .1 .1 .1 .1 .1 .0) (done .read-lent .kept .1 .1 .1 .1 .1 .1 .1 .0) (done .read-lent .kept .1 .1 .1 .1 .1 .1 .1 .1 .0)))
 
 pub read-closed-spec : {M : Type 1} → statement M
 read-closed-spec =

@@ -62,7 +62,11 @@ same-length-14 : tie.Need-same-length-14
 same-length-14 c = search needs
 
 returns-2 : tie.Need-returns-2
-returns-2 c = ?
+unfolding readUnder
+returns-2 c =
+    let d = c .before .before .before .before .before .before .before .before .before .before .before .before .before .before in
+    let r = d .before .before .before .before .before .before .before .before in
+    rw (in-turn _ _ _ _ _ _ (passed _ _ (r .before .at-rest .ensures) (r .if1 .left))) (d .read-closed .ensures)
 
 pub read-table-spec : {M : Type 1} → statement M
 read-table-spec =
