@@ -23,7 +23,12 @@ use Rattle.calls.specs.declared.answers.Refusal.the-variants.{
   NotHeld,
   Full,
   Ungrown,
+  BadHeader,
+  BadRows,
+  ShortOutput,
   NotOwner,
+  TrayFull,
+  BadContents,
   OutOfTurn,
 }
 use Rattle.calls.specs.declared.records.GrowthRecord.{GrowthRecord}
@@ -91,7 +96,12 @@ first-refusal Held h = absurd (omega arith)
 first-refusal NotHeld h = absurd (omega arith)
 first-refusal Full h = absurd (omega arith)
 first-refusal Ungrown h = absurd (omega arith)
+first-refusal BadHeader h = absurd (omega arith)
+first-refusal BadRows h = absurd (omega arith)
+first-refusal ShortOutput h = absurd (omega arith)
 first-refusal NotOwner h = absurd (omega arith)
+first-refusal TrayFull h = absurd (omega arith)
+first-refusal BadContents h = absurd (omega arith)
 first-refusal OutOfTurn h = absurd (omega arith)
 
 -- Calls that read

@@ -18,7 +18,12 @@ use Rattle.calls.specs.declared.answers.Refusal.the-variants.{
   NotHeld,
   Full,
   Ungrown,
+  BadHeader,
+  BadRows,
+  ShortOutput,
   NotOwner,
+  TrayFull,
+  BadContents,
   OutOfTurn,
 }
 use Rattle.calls.specs.declared.answers.Checked.{Checked}
@@ -28,7 +33,10 @@ use Rattle.calls.specs.Answers.{refusalNumber, refusalPage, refusedBy, s
 
 refusalAt : ℕ → ℕ → Refusal
 refusalAt n page =
-    getD (BadParameters ∷ BadLength ∷ BadNumber ∷ BadPosition ∷ Damaged page ∷ Held ∷ NotHeld ∷ Full ∷ Ungrown ∷ []) (n - 1) (cond (eqb n 13) NotOwner OutOfTurn)
+    getD
+    (BadParameters ∷ BadLength ∷ BadNumber ∷ BadPosition ∷ Damaged page ∷ Held ∷ NotHeld ∷ Full ∷ Ungrown ∷ BadHeader ∷ BadRows ∷ ShortOutput ∷ NotOwner ∷ TrayFull ∷ BadContents ∷ [])
+    (n - 1)
+    OutOfTurn
 
 told-back : (r : Refusal) → refusalAt (refusalNumber r) (refusalPage r) ≡ r
 unfolding refusalAt
@@ -41,7 +49,12 @@ told-back Held = refl
 told-back NotHeld = refl
 told-back Full = refl
 told-back Ungrown = refl
+told-back BadHeader = refl
+told-back BadRows = refl
+told-back ShortOutput = refl
 told-back NotOwner = refl
+told-back TrayFull = refl
+told-back BadContents = refl
 told-back OutOfTurn = refl
 
 pub numbered : (r : Refusal) → 1 ≤ refusalNumber r
@@ -54,7 +67,12 @@ numbered Held = omega arith
 numbered NotHeld = omega arith
 numbered Full = omega arith
 numbered Ungrown = omega arith
+numbered BadHeader = omega arith
+numbered BadRows = omega arith
+numbered ShortOutput = omega arith
 numbered NotOwner = omega arith
+numbered TrayFull = omega arith
+numbered BadContents = omega arith
 numbered OutOfTurn = omega arith
 
 checkedAs : Answer → Checked

@@ -24,7 +24,12 @@ use Rattle.calls.specs.declared.answers.Refusal.the-variants.{
   NotHeld,
   Full,
   Ungrown,
+  BadHeader,
+  BadRows,
+  ShortOutput,
   NotOwner,
+  TrayFull,
+  BadContents,
   OutOfTurn,
 }
 use Rattle.calls.specs.declared.answers.Admission.{Admission}
@@ -121,7 +126,12 @@ module _ (g : Growth) (f : File) (pool : Pool) (after : After) where
   away NotHeld m h = absurd (omega arith)
   away Full m h = absurd (omega arith)
   away Ungrown m h = absurd (omega arith)
+  away BadHeader m h = absurd (omega arith)
+  away BadRows m h = absurd (omega arith)
+  away ShortOutput m h = absurd (omega arith)
   away NotOwner m h = absurd (omega arith)
+  away TrayFull m h = absurd (omega arith)
+  away BadContents m h = absurd (omega arith)
   away OutOfTurn m h = absurd (omega arith)
 
   pub turned-away : (p : Parameters) (lengths : Bool) (r : Refusal) → refusalNumber r ≡ unlent p g lengths → guarded g f pool (unlent p g lengths) after ≡ unchanged g f pool (refusedBy r 0)

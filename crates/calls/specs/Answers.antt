@@ -21,7 +21,12 @@ use Rattle.calls.specs.declared.answers.Refusal.the-variants.{
   NotHeld,
   Full,
   Ungrown,
+  BadHeader,
+  BadRows,
+  ShortOutput,
   NotOwner,
+  TrayFull,
+  BadContents,
   OutOfTurn,
 }
 use Rattle.calls.specs.declared.answers.Admission.{Admission}
@@ -85,7 +90,12 @@ refusalNumber Held = 6
 refusalNumber NotHeld = 7
 refusalNumber Full = 8
 refusalNumber Ungrown = 9
+refusalNumber BadHeader = 10
+refusalNumber BadRows = 11
+refusalNumber ShortOutput = 12
 refusalNumber NotOwner = 13
+refusalNumber TrayFull = 14
+refusalNumber BadContents = 15
 refusalNumber OutOfTurn = 16
 
 -- the page that goes with it
@@ -99,7 +109,12 @@ refusalPage Held = 0
 refusalPage NotHeld = 0
 refusalPage Full = 0
 refusalPage Ungrown = 0
+refusalPage BadHeader = 0
+refusalPage BadRows = 0
+refusalPage ShortOutput = 0
 refusalPage NotOwner = 0
+refusalPage TrayFull = 0
+refusalPage BadContents = 0
 refusalPage OutOfTurn = 0
 
 -- 0 if the test that a call begins with is passed

@@ -14,7 +14,14 @@ pub enum Refusal {
     NotHeld,
     Full,
     Ungrown,
+    // a header and length that no table has; a row out of order or range, or a pad that is not 0
+    BadHeader,
+    BadRows,
+    ShortOutput,
     NotOwner,
+    TrayFull,
+    // pages that cannot be mended
+    BadContents,
     // a growth is open and the call writes the file, or none is open and the call is a step
     OutOfTurn,
 }
@@ -132,8 +139,28 @@ fn number_of(refusal: Refusal) -> Numbered
         Refusal::NotHeld => Numbered { number: 7, page: 0 },
         Refusal::Full => Numbered { number: 8, page: 0 },
         Refusal::Ungrown => Numbered { number: 9, page: 0 },
+        Refusal::BadHeader => Numbered {
+            number: 10,
+            page: 0,
+        },
+        Refusal::BadRows => Numbered {
+            number: 11,
+            page: 0,
+        },
+        Refusal::ShortOutput => Numbered {
+            number: 12,
+            page: 0,
+        },
         Refusal::NotOwner => Numbered {
             number: 13,
+            page: 0,
+        },
+        Refusal::TrayFull => Numbered {
+            number: 14,
+            page: 0,
+        },
+        Refusal::BadContents => Numbered {
+            number: 15,
             page: 0,
         },
         Refusal::OutOfTurn => Numbered {

@@ -37,7 +37,12 @@ use Rattle.calls.specs.declared.answers.Refusal.the-variants.{
   NotHeld,
   Full,
   Ungrown,
+  BadHeader,
+  BadRows,
+  ShortOutput,
   NotOwner,
+  TrayFull,
+  BadContents,
   OutOfTurn,
 }
 use Rattle.calls.specs.declared.records.GrowthRecord.{GrowthRecord}
@@ -211,7 +216,12 @@ module _ (r : GrowthRecord) (second : File) (pool : Pool) (after : AfterStep) wh
   early NotHeld h = absurd (omega arith)
   early Full h = absurd (omega arith)
   early Ungrown h = absurd (omega arith)
+  early BadHeader h = absurd (omega arith)
+  early BadRows h = absurd (omega arith)
+  early ShortOutput h = absurd (omega arith)
   early NotOwner h = absurd (omega arith)
+  early TrayFull h = absurd (omega arith)
+  early BadContents h = absurd (omega arith)
   early OutOfTurn h = absurd (omega arith)
 
   numbered-early : (a : Refusal) (n : ℕ) → refusalNumber a ≡ n → n ≤ 2 → LeavesStep (guardedStep r second pool n after) (record { answer = Refused a 0; growth = r }) second pool

@@ -1,0 +1,7 @@
+// The calls on FITS tables: document 02 (vi). Each contract gives the answer and every lent item at exit, refusals too, by the definitions of
+// crate exchange.
+mod putting;
+
+pub use putting::Written;
+pub use putting::write_table;
+pub use putting::written_answer;
