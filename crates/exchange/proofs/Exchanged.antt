@@ -281,11 +281,11 @@ stars-rows : (rs : List (ℕ × ℕ)) → map rowOfStar (map starOfRow rs) ≡ r
 stars-rows [] = refl
 stars-rows (x ∷ rs) = ap (λ (l : List (ℕ × ℕ)). x ∷ l) (stars-rows rs)
 
-rows-rise : (last : ℕ) (rs : List (ℕ × ℕ)) → RowsUp last rs → Rising (suc last) (map starOfRow rs)
+pub rows-rise : (last : ℕ) (rs : List (ℕ × ℕ)) → RowsUp last rs → Rising (suc last) (map starOfRow rs)
 rows-rise last [] u = tt
 rows-rise last (x ∷ rs) u = (u .0, rows-rise (x .0) rs (u .1 .1 .1))
 
-rows-proper : (last : ℕ) (rs : List (ℕ × ℕ)) → RowsUp last rs → Proper validWord (map starOfRow rs)
+pub rows-proper : (last : ℕ) (rs : List (ℕ × ℕ)) → RowsUp last rs → Proper validWord (map starOfRow rs)
 unfolding validNumber
 rows-proper last [] u s m = absurd (List·Memᴰ·not-nil m)
 rows-proper last (x ∷ rs) u s m =
