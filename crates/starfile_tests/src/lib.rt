@@ -1,7 +1,6 @@
 // The calls as exported functions, backup's and two of hashing's, for the Rust tests alone. C programs have crate heatherplane.
 mod mends;
 mod stopping;
-// The calls as exported functions, backup's and two of hashing's, for the Rust tests alone. C programs have the four of starfile_c.
 mod tables;
 
 use calls::answers::Answer;
