@@ -1,30 +1,47 @@
 -- Every element of a history conforms.
 use mathlib.Core.Path.{_≡_, refl, sym, ap, _∙_}
 use mathlib.Core.Bool.{Bool, true, false, cond, true≢false}
-use mathlib.Core.List.{[], List·Memᴰ, List·Memᴰ·not-nil, List·Memᴰ·eq-of-singleton}
+use mathlib.Core.List.{List, [], _∷_, List·Memᴰ, List·Memᴰ·not-nil, List·Memᴰ·eq-of-singleton, List·Memᴰ·cases-cons}
+use mathlib.Core.Logic.{⊎-elim}
 use Prim.Native.Nat.{ℕ}
 use native.Mathlib.Omega.{arith}
+use lib.Dec.{eqb}
+use borrow.Author.Tests.{eqb-true}
 use Rattle.hashing.specs.declared.Parameters.{Parameters}
+use Rattle.hashing.specs.declared.Growth.{Growth}
+use Rattle.placement.specs.Rule.{Star}
 use Rattle.placement.specs.File.{File}
 use Rattle.calls.specs.declared.answers.Answer.{Answer}
 use Rattle.calls.specs.declared.records.GrowthRecord.{GrowthRecord}
 use Rattle.calls.specs.Answers.{Pool, After, spotted, accepted, refused}
 use Rattle.calls.specs.Calls.{unchanged}
-use Rattle.calls.specs.Records.{validSteps, closedRecord, recordAfter}
+use Rattle.calls.specs.Records.{validSteps, recordAfter}
 use Rattle.calls.specs.Mend.{mendUnder}
-use Rattle.histories.specs.Model.{Model, Request, lookUp, Made, fedAll, callsMade, fedBy}
-use Rattle.histories.specs.Call.{plain, mend, lost, isAccepted, Outcome, onFile, step, effect, feeding}
+use Rattle.fits_table.specs.Header.{tableIn}
+use Rattle.fits_table.specs.declared.cards.Table.{Table}
+use Rattle.exchange.specs.Tables.{readUnder}
+use Rattle.exchange.proofs.Exchanged.{was-read}
+use Rattle.histories.specs.Model.{Model, Request, lookUp, Made, made, starsEntered, fedAll, callsMade, fedBy}
+use Rattle.histories.specs.Call.{plain, mend, lost, readFrom, writtenTo, isAccepted, onFile, step, effect, feeding, givenState, tableStars}
 use Rattle.histories.specs.Loss.{Loss, Underway, noCall, anEntry, aChange, aRemoval, lossFits, wholeCall, mendedAfter, sameFile, madeOf, counted}
 use Rattle.histories.proofs.Matching.{Matches, ElementConforms}
 use Rattle.histories.proofs.Histories.{Conforming}
 use Rattle.histories.proofs.Under.{request-conforms}
 use Rattle.histories.proofs.GoesOn.{mend-stays, survives}
+use Rattle.histories.proofs.Cleaned.{Modelled}
+use Rattle.histories.proofs.Tables.{read-begins, read-undamaged, write-undamaged}
 
 same-request : (q : Request) (k : ℕ) → plain q ≡ plain (lookUp k) → q ≡ lookUp k
 same-request q k e = cc
 
 told : {c d : Made} → c ≡ d → c .refusal ≡ 5 → d .refusal ≡ 5
 told e z = rw e at z
+
+-- stars entered, none of them refused
+stars-undamaged : (w : List Star) (c : Made) → List·Memᴰ c (starsEntered w) → c .refusal ≡ 5 → ⊥
+unfolding starsEntered
+stars-undamaged [] c n e = absurd (List·Memᴰ·not-nil n)
+stars-undamaged (t ∷ w) c n e = ⊎-elim (λ (d : c ≡ made _ 0). omega (arith, told d e)) (λ d. stars-undamaged w c d e) (List·Memᴰ·cases-cons n)
 
 module _ (p : Parameters) (m : Model) (r : GrowthRecord) (f second : File) (x : Matches p m r f second) (set : File) (pool : Pool) where
   -- a call that leaves record and file leaves what the model is
@@ -42,6 +59,9 @@ module _ (p : Parameters) (m : Model) (r : GrowthRecord) (f second : File) (x : 
         each = λ c n e. t .undamaged (told (List·Memᴰ·eq-of-singleton n) e);
         found = λ k e. t .found k (same-request q k e);
       }
+
+  modelled : Modelled p (r .state) f
+  modelled = record { model = m; fitting = x .fitting; growth = sym (x .growth); file = sym (x .file) }
 
   -- Mending by itself, and power lost: document 02 (xii).
   not-look-up : (k : ℕ) → mend ≡ plain (lookUp k) → ⊥
@@ -110,9 +130,68 @@ module _ (p : Parameters) (m : Model) (r : GrowthRecord) (f second : File) (x : 
             found = λ k z. absurd (no-look-up l k z);
           })
 
+  -- Reading a table, and writing one: document 02 (vi).
+  module _ (given : List ℕ) (q : Parameters) (g : Growth) where
+    abbrev was : After
+    was = readUnder q (givenState r g) set pool given
+
+    not-table : (k : ℕ) → readFrom given q g ≡ plain (lookUp k) → ⊥
+    not-table k e = let z : _≡_ {A = ℕ} 0 1 = cc in omega arith
+
+    rows-undamaged : (t : Table) (c : Made) → List·Memᴰ c (starsEntered (tableStars given t)) → c .refusal ≡ 5 → ⊥
+    rows-undamaged t = stars-undamaged (tableStars given t)
+
+    table-conforms : ElementConforms p m r f pool (readFrom given q g) (effect p r f second set pool (readFrom given q g))
+    unfolding effect feeding fedBy fedAll callsMade isAccepted tableStars validSteps
+    table-conforms = go (eqb (was .answer .refusal) 0) refl
+      where
+        go : (b : Bool) → eqb (was .answer .refusal) 0 ≡ b → ElementConforms p m r f pool (readFrom given q g) (effect p r f second set pool (readFrom given q g))
+        go true e =
+            let found = was-read q (givenState r g) set pool given (eqb-true (was .answer .refusal) 0 e) in
+            let t = read-begins q (givenState r g) set pool given (found .0) (found .1) in
+            let d = found .1 .is in
+            rw e
+            (record {
+              matches =
+                  rw (e, found .1 .header)
+                  (record {
+                    growth = ap (λ (a : After). a .growth) d ∙ sym (t .growth);
+                    file = ap (λ (a : After). a .file) d ∙ t .file;
+                    fitting = t .fits;
+                    steps = found .1 .recorded .0;
+                    unfinished = λ z. absurd (true≢false (sym z ∙ found .1 .recorded .1));
+                  });
+              undamaged = read-undamaged q (givenState r g) set pool given;
+              each = rw e (rows-undamaged (tableIn given));
+              found = λ k z. absurd (not-table k z);
+            })
+        go false e =
+            rw e
+            (record {
+              matches = rw e x;
+              undamaged = read-undamaged q (givenState r g) set pool given;
+              each = rw e (λ c n z. absurd (List·Memᴰ·not-nil n));
+              found = λ k z. absurd (not-table k z);
+            })
+
+  not-output : (out : List ℕ) (k : ℕ) → writtenTo out ≡ plain (lookUp k) → ⊥
+  not-output out k e = let z : _≡_ {A = ℕ} 0 1 = cc in omega arith
+
+  written-conforms : (out : List ℕ) → ElementConforms p m r f pool (writtenTo out) (effect p r f second set pool (writtenTo out))
+  unfolding effect feeding fedBy fedAll callsMade
+  written-conforms out =
+      record {
+        matches = x;
+        undamaged = write-undamaged p r f modelled out;
+        each = λ c n e. absurd (List·Memᴰ·not-nil n);
+        found = λ k z. absurd (not-output out k z);
+      }
+
 -- one law for every element
 pub conforming : Conforming
 unfolding effect
 conforming p m r f second x set pool (plain q) = plain-conforms p m r f second x set pool q
 conforming p m r f second x set pool mend = mend-conforms p m r f second x set pool
 conforming p m r f second x set pool (lost l) = lost-conforms p m r f second x set pool l
+conforming p m r f second x set pool (readFrom given q g) = table-conforms p m r f second x set pool given q g
+conforming p m r f second x set pool (writtenTo out) = written-conforms p m r f second x set pool out

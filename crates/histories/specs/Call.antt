@@ -1,8 +1,11 @@
 -- An element of a history, what it does, and what the model is fed: document 01, "The plain book".
 use mathlib.Core.Bool.{Bool, not, cond, _&&_}
-use mathlib.Core.List.{[], _∷_}
+use mathlib.Core.List.{List, [], _∷_}
+use Prim.Native.Nat.{ℕ}
 use lib.Dec.{eqb}
 use Rattle.hashing.specs.declared.Parameters.{Parameters}
+use Rattle.hashing.specs.declared.Growth.{Growth}
+use Rattle.placement.specs.Rule.{Star}
 use Rattle.placement.specs.File.{File}
 use Rattle.calls.specs.declared.answers.Answer.{Answer}
 use Rattle.calls.specs.declared.records.GrowthRecord.{GrowthRecord}
@@ -10,17 +13,24 @@ use Rattle.calls.specs.Answers.{Pool, After, unpooled, refused}
 use Rattle.calls.specs.Calls.{unchanged}
 use Rattle.calls.specs.Records.{closedRecord, lookUpUnder, enterUnder, cascadeUnder, changeUnder, removeUnder, growUnder, shrinkUnder, dueUnder, checkUnder, recordAfter, AfterStep, openUnder, stepUnder}
 use Rattle.calls.specs.Mend.{mendUnder}
-use Rattle.histories.specs.Model.{Request, lookUp, enter, cascade, change, remove, grow, shrink, due, check, openGrowth, stepGrowth, made, Feeding, goesOn}
+use Rattle.fits_table.specs.Header.{tableIn}
+use Rattle.fits_table.specs.declared.cards.Table.{Table}
+use Rattle.fits_table.specs.declared.cards.Table.the-variants.{Rows, Nothing}
+use Rattle.exchange.specs.Tables.{starsRead, readUnder, writeUnder}
+use Rattle.histories.specs.Model.{Request, lookUp, enter, cascade, change, remove, grow, shrink, due, check, openGrowth, stepGrowth, made, starsEntered, Feeding, goesOn, anew}
 use Rattle.histories.specs.Loss.{Loss, lossFits, wholeCall, mendedAfter, counted}
 
--- a call that the book is fed as it is; a mending; power lost, and then a mending: document 02 (xii)
+-- A call that the book is fed as it is. A mending, and power lost, then a mending: document 02 (xii). Reading a
+-- table into this file, under given parameters and (e, x), and writing this one as a table: document 02 (vi).
 pub data Element : Type 0 where
   plain : Request → Element
   mend : Element
   lost : Loss → Element
+  readFrom : List ℕ → Parameters → Growth → Element
+  writtenTo : List ℕ → Element
 
--- "any number, position and pool", and any caller: look-ups, changes and Dues leave the pool alone. `second` is the second set of pages that an
--- opening is lent, and a step while nothing is open, of any contents and lengths: document 02 (xiii).
+-- "any number, position and pool", and any caller: look-ups, changes and Dues leave the pool alone. `second` is the set of pages that is lent besides, of
+-- any contents and lengths: to an opening, to a step while nothing is open (02 (xiii)), and to a reading.
 pub record Call : Type 0 where
   pub element : Element
   pub pool : Pool
@@ -104,6 +114,37 @@ step p r f second lent pool check = onFile p r second (checkUnder p r f pool)
 step p r f second lent pool openGrowth = onOpening p f second (openUnder p r f lent pool)
 step p r f second lent pool stepGrowth = onStep p r f second (stepUnder p r f (cond (r .growing) second lent) pool)
 
+-- a call that only reads the file
+abbrev pub onlyRead : Parameters → GrowthRecord → File → File → Pool → Answer → Outcome
+onlyRead p r f second pool answer = record { answer = answer; parameters = p; growth = r; file = f; second = second; pool = pool }
+
+-- "an accepted reading begins anew" (vi): the lent set is then the file; a refused one is no step
+abbrev pub beginning : Parameters → GrowthRecord → File → File → Parameters → AfterStep → Outcome
+beginning p r f second q after =
+    cond (isAccepted (after .answer))
+    (record {
+      answer = after .answer;
+      parameters = q;
+      growth = after .growth;
+      file = after .second;
+      second = second;
+      pool = after .pool;
+    })
+    (onlyRead p r f second (after .pool) (after .answer))
+
+-- the record with a given (e, x): whether a growth is open is told by the file's own
+abbrev pub givenState : GrowthRecord → Growth → GrowthRecord
+givenState r g = record { state = g; growing = r .growing; steps = r .steps }
+
+-- a reading, as a call that leaves the lent set
+abbrev pub asLent : GrowthRecord → After → AfterStep
+asLent r after = record { answer = after .answer; growth = recordAfter r after; second = after .file; pool = after .pool }
+
+-- the stars of a table
+unfoldable pub tableStars : List ℕ → Table → List Star
+tableStars given Nothing = []
+tableStars given (Rows n) = starsRead given n
+
 -- "a history goes on only after mending": a loss with other separators than M, or a pool that does not fit the mending, is no step
 unfoldable pub effect : Parameters → GrowthRecord → File → File → File → Pool → Element → Outcome
 effect p r f second lent pool (plain q) = step p r f second lent pool q
@@ -112,6 +153,8 @@ effect p r f second lent pool (lost x) =
     cond (lossFits p x)
     (onFile p (closedRecord (r .state)) second (mendedAfter p r f pool x))
     (onFile p r second (unchanged (r .state) f pool (refused 2 0)))
+effect p r f second lent pool (readFrom given q g) = beginning p r f second q (asLent (givenState r g) (readUnder q (givenState r g) lent pool given))
+effect p r f second lent pool (writtenTo out) = onlyRead p r f second pool (writeUnder p r f out .answer)
 
 -- "Histories read an unfinished growth as not begun, a finished one as accepted at step M": document 02 (xiii)
 unfoldable pub countsAs : GrowthRecord → Request → Outcome → Request
@@ -122,3 +165,5 @@ unfoldable pub feeding : Parameters → GrowthRecord → File → Pool → Outco
 feeding p r f pool o (plain q) = goesOn (made (countsAs r q o) (o .answer .refusal) ∷ [])
 feeding p r f pool o mend = goesOn []
 feeding p r f pool o (lost x) = goesOn (cond (lossFits p x) (counted p (x .underway) (wholeCall p r f pool (x .underway)) (o .file)) [])
+feeding p r f pool o (readFrom given q g) = cond (isAccepted (o .answer)) (anew g (starsEntered (tableStars given (tableIn given)))) (goesOn [])
+feeding p r f pool o (writtenTo out) = goesOn []

@@ -9,7 +9,7 @@ use Rattle.hashing.specs.declared.Parameters.{Parameters}
 use Rattle.hashing.specs.declared.Growth.{Growth}
 use Rattle.hashing.specs.Geometry.{grown, shrunk}
 use Rattle.pages.specs.declared.position.Position.{Position}
-use Rattle.pages.specs.Position.{packed}
+use Rattle.pages.specs.Position.{packed, unpacked}
 use Rattle.placement.specs.Rule.{Star, first, filter, starWith}
 use Rattle.placement.specs.File.{File, laid, pagesAt, replaced}
 use Rattle.calls.specs.declared.answers.Answer.{Answer}
@@ -115,6 +115,11 @@ made r n = record { request = r; refusal = n }
 unfoldable pub fedAll : Parameters → List Made → Model → Model
 fedAll p [] m = m
 fedAll p (c ∷ cs) m = fedAll p cs (fed p (c .request) (eqb (c .refusal) 0) m)
+
+-- these stars entered, each for its owner, none refused
+unfoldable pub starsEntered : List Star → List Made
+starsEntered [] = []
+starsEntered (s ∷ w) = made (enter (s .payload .owner) (s .number) (unpacked (s .payload .word))) 0 ∷ starsEntered w
 
 -- What an element of a history feeds the model: the calls made, and first of all, where it "begins anew" (02 (vi)), that there is no star under an (e, x).
 pub data Feeding : Type 0 where

@@ -6,6 +6,7 @@ pub mod Scattering
 pub mod Gathered
 pub mod Inserting
 pub mod Sifting
+pub mod Keyed
 pub mod Pouring
 pub mod RuleOverWords
 pub mod Applying
@@ -14,3 +15,4 @@ pub mod Blocks
 pub mod Slots
 pub mod Stretch
 pub mod Placed
+pub mod Numbered

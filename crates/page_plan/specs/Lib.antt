@@ -1,4 +1,5 @@
 pub mod Gather
 pub mod Settle
+pub mod Keys
 pub mod Sources
 pub mod Plans

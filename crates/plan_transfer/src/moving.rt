@@ -21,7 +21,7 @@ pub fn word_named(words: &[u64], source: u32, newword: u64) -> u64
     newword
 }
 
-fn number_named(numbers: &[u32], source: u32, newnumber: u32) -> u32
+pub fn number_named(numbers: &[u32], source: u32, newnumber: u32) -> u32
     ensures { λ r. ⌜ r ≡ namedItem (now (numbers .entry)) newnumber source ⌝ }
 {
     if source == 0 {

@@ -1,6 +1,7 @@
 // The calls as exported functions, backup's and two of hashing's, for the Rust tests alone. C programs have crate heatherplane.
 mod mends;
 mod stopping;
+mod tables;
 
 use calls::answers::Answer;
 use calls::answers::checked_answer;

@@ -1,10 +1,11 @@
 //! A history with the plain book beside it.
 
+use crate::tables::write_again;
 use crate::tester::{stores, Tester};
-use model::files::{random_caller, random_entry, random_pool, random_second, random_star, second_after};
+use model::files::*;
 use model::hashing::{grown, highest_address, home, shrunk, signature};
 use model::placement::{entered_stretch, lay_out, pack, unpack, Star};
-use model::{Buffers, Call, Growth, Kind, Outcome, Parameters, Record};
+use model::{fits, Buffers, Call, Growth, Kind, Outcome, Pages, Parameters, Record};
 use std::collections::BTreeMap;
 use std::ops::RangeInclusive;
 
@@ -61,14 +62,15 @@ impl History {
             76..=82 => Kind::Change,
             83..=92 if self.rising != seldom => Kind::Grow,
             83..=92 => Kind::Shrink,
-            93..=95 => Kind::Due,
+            93 | 94 => Kind::Due,
+            95 => Kind::Write,
             96 => tester.random.pick(&[Kind::Open, Kind::Mend]),
             97 => Kind::Step,
             _ => Kind::Check,
         };
         let number = tester.random.pick(&self.numbers);
         if tester.random.once_in(8) {
-            random_pool(&mut tester.random, &mut self.lent);
+            lend(&mut tester.random, kind, &mut self.lent);
             let star = Star { number, ..random_star(&mut tester.random) };
             tester.deviating_call(self.make_call(kind, star), self.lent.clone());
         }
@@ -151,9 +153,43 @@ impl History {
         self.call_with(tester, kind, Star { number, owner: caller, ..*held.unwrap_or(&star) })
     }
 
+    /// Reads a table under the file's parameters or others, over buffers with anything in them. Accepted, the book begins anew under
+    /// them with the rows as entries of the institute; refused, the history goes on as if nothing had been.
+    pub fn read_table(&mut self, tester: &mut Tester) {
+        let other = small_parameters(&mut tester.random);
+        let parameters = tester.random.pick(&[self.parameters, other]);
+        let growth = random_growth(&mut tester.random, &parameters);
+        let record = Record { growth, ..tester.random.pick(&[self.record, Record::default(), Record::default()]) };
+        let mut lent = Buffers { table: Vec::new(), ..self.lent.clone() };
+        random_table(&mut tester.random, &mut lent);
+        if parameters != self.parameters {
+            let (table, file) = (lent.table, Pages::empty(&parameters));
+            lent = Buffers { table, file, ..Buffers::zeros(&parameters) };
+            random_second(&mut tester.random, &mut lent);
+        }
+        random_pool(&mut tester.random, &mut lent);
+        let call = Call::new(Kind::Read, parameters, record);
+        let (outcome, after) = tester.compare(&call, &lent);
+        let rows = fits::stars(&lent.table);
+        let begun = rows.as_ref().ok().and_then(|rows| lay_out(&parameters, &growth, rows.clone()));
+        let accepted = outcome.refusal == 0;
+        let ready = ![1, 16].contains(&outcome.refusal);
+        tester.expect(!ready || accepted == begun.is_some(), "a reading differs from the book begun anew");
+        if !accepted {
+            return;
+        }
+        write_again(tester, &call, &after);
+        let book = rows.into_iter().flatten().map(|star| (star.number, star)).collect();
+        let numbers = std::mem::take(&mut self.numbers);
+        *self = History::from(tester, parameters, growth, after);
+        tester.expect(self.book == book, "a reading leaves other stars than its rows");
+        self.numbers.extend(numbers);
+        self.check_file(tester);
+    }
+
     /// Runs a call with a random pool, feeds the book, and compares the file with the book's.
     pub fn call_with(&mut self, tester: &mut Tester, kind: Kind, star: Star) -> Outcome {
-        random_pool(&mut tester.random, &mut self.lent);
+        lend(&mut tester.random, kind, &mut self.lent);
         let (call, number) = (self.make_call(kind, star), star.number);
         let (outcome, after) = tester.compare(&call, &self.lent);
         if kind.takes_number() && !call.out_of_turn() {
@@ -246,6 +282,13 @@ impl History {
             Kind::Due => {
                 tester.expect(outcome.stars as usize == self.book.len(), "due counts other stars");
                 tester.expect((outcome.due == 1) == self.due(), "due differs from the book");
+            }
+            Kind::Write => {
+                let table = fits::table(&self.book.values().copied().collect::<Vec<_>>());
+                let fits = self.lent.table.len() >= table.len();
+                let written = outcome.length as usize == table.len() && self.lent.table.starts_with(&table);
+                let as_book = if fits { outcome.refusal == 0 && written } else { outcome.refusal == 12 };
+                tester.expect(as_book, "a table differs from the book");
             }
             _ => {}
         }

@@ -2,6 +2,7 @@
 
 mod history;
 mod scenarios;
+mod tables;
 mod tester;
 
 use interface::LIBRARY;
@@ -13,7 +14,7 @@ use tester::Tester;
 /// A name, how often a quick run repeats it and a round of a soak, and what to do.
 type Scenario = (&'static str, u64, u64, fn(&mut Tester));
 
-const SCENARIOS: [Scenario; 21] = [
+const SCENARIOS: [Scenario; 25] = [
     ("tiny files", 12, 3, scenarios::tiny_files),
     ("edge histories", 20, 10, scenarios::edge_histories),
     ("small histories", 3_000, 1_000, scenarios::small_history),
@@ -35,10 +36,14 @@ const SCENARIOS: [Scenario; 21] = [
     ("largest histories", 6, 4, scenarios::largest_history),
     ("large growths in steps", 24, 10, scenarios::large_steps),
     ("long cascades", 1, 1, scenarios::long_cascade),
+    ("tables", 3_000, 1_000, tables::tables),
+    ("mutated tables", 10_000, 3_000, tables::mutated_tables),
+    ("large tables", 3, 1, tables::large_tables),
+    ("histories with tables", 400, 150, tables::histories_with_tables),
 ];
 
 /// The refusals that calls meet, after 0 for none.
-const REFUSALS: [usize; 13] = [0, 1, 2, 3, 4, 5, 6, 7, 8, 9, 13, 15, 16];
+const REFUSALS: [usize; 16] = [0, 1, 2, 3, 4, 5, 6, 7, 8, 9, 10, 11, 12, 13, 15, 16];
 
 struct Totals {
     tester: Tester,

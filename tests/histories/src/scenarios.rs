@@ -262,8 +262,8 @@ fn session(tester: &mut Tester, parameters: Parameters, growth: Growth, mut lent
     let mut record = random_record(&mut tester.random, &parameters, growth);
     random_second(&mut tester.random, &mut lent);
     for _ in 0..calls {
-        random_pool(&mut tester.random, &mut lent);
         let kind = tester.random.pick(&LIBRARY.kinds()[1..]);
+        lend(&mut tester.random, kind, &mut lent);
         // While a growth is open most calls are refused.
         if record.open && tester.random.once_in(4) {
             record = Record::closed(record.growth);

@@ -1,7 +1,7 @@
 //! Runs a call on the library and on the model and compares everything afterwards.
 
 use interface::LIBRARY;
-use model::files::{random_caller, random_pool, random_stores};
+use model::files::{lend, random_caller, random_pool, random_stores};
 use model::placement::{unpack, Star};
 use model::random::Random;
 use model::vectors::Vector;
@@ -147,6 +147,11 @@ impl Tester {
     /// Every call on copies of one file: those that take a number, for each of the numbers, and resends.
     pub fn every_call(&mut self, parameters: Parameters, record: Record, lent: &Buffers, numbers: &[u32]) {
         for kind in LIBRARY.kinds() {
+            let mut lent = lent.clone();
+            if kind.takes_table() {
+                lend(&mut self.random, kind, &mut lent);
+            }
+            let lent = &lent;
             let numbers = if kind.takes_number() { numbers } else { &[0] };
             for &number in numbers {
                 let (ra, dec) = self.random.position();
@@ -176,7 +181,7 @@ impl Tester {
         let small = random.below(40) as u32;
         let value = random.pick(&[0, 1, 8, 9, 32, 33, 99, 100, 256, 257, 1_024, 1_025, u32::MAX, any, small, small]);
         let p = &mut call.parameters;
-        match random.below(28) {
+        match random.below(29) {
             0 => p.places = value,
             1 => p.groups = value,
             2 => p.width = value,
@@ -204,6 +209,7 @@ impl Tester {
             24 => resize(random, &mut lent.second.words),
             25 => resize(random, &mut lent.second.owners),
             26 => call.stores = random.pick(&[0, 1, 2, value]),
+            27 => resize(random, &mut lent.table),
             _ => {
                 call.ra = random.pick(&[0, 1_295_999_999, 1_296_000_000, u32::MAX, any]);
                 call.dec = random.pick(&[-324_000_001, -324_000_000, 324_000_000, 324_000_001, i32::MIN, any as i32]);

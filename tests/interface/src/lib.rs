@@ -3,7 +3,7 @@
 use model::{Buffers, Call, Growth, Implementation, Kind, Outcome, Parameters, Record, Refused};
 
 /// The requests of document 02 that have landed in the library.
-pub const LANDED: &[u32] = &[1, 2, 3, 4, 5, 7, 9, 10, 12, 13, 14];
+pub const LANDED: &[u32] = &[1, 2, 3, 4, 5, 6, 7, 9, 10, 12, 13, 14];
 
 pub const LIBRARY: Implementation = Implementation { run, landed: LANDED };
 
@@ -193,6 +193,26 @@ extern "C" {
         pool_words: *mut u64, pool_words_length: usize,
         pool_owners: *mut u8, pool_owners_length: usize,
     ) -> Reply;
+    // The length of the table comes as `stars`.
+    fn sft_write(
+        parameters: Parameters, record: Record,
+        separators: *const u8, separators_length: usize,
+        numbers: *const u32, numbers_length: usize,
+        words: *const u64, words_length: usize,
+        owners: *const u8, owners_length: usize,
+        out: *mut u8, out_length: usize,
+    ) -> Reply;
+    fn sft_read(
+        parameters: Parameters, record: Record,
+        separators: *mut u8, separators_length: usize,
+        numbers: *mut u32, numbers_length: usize,
+        words: *mut u64, words_length: usize,
+        owners: *mut u8, owners_length: usize,
+        pool_numbers: *mut u32, pool_numbers_length: usize,
+        pool_words: *mut u64, pool_words_length: usize,
+        pool_owners: *mut u8, pool_owners_length: usize,
+        given: *const u8, given_length: usize,
+    ) -> Reply;
     fn sft_mark_changed(
         parameters: Parameters, growth: Growth,
         old: *const u8, old_length: usize,
@@ -233,6 +253,7 @@ pub fn run(call: &Call, lent: &mut Buffers) -> Outcome {
     let (pn, pnl) = (lent.pool_numbers.as_mut_ptr(), lent.pool_numbers.len());
     let (pw, pwl) = (lent.pool_words.as_mut_ptr(), lent.pool_words.len());
     let (po, pol) = (lent.pool_owners.as_mut_ptr(), lent.pool_owners.len());
+    let (t, tl) = (lent.table.as_mut_ptr(), lent.table.len());
     let (ss, ssl) = (second.separators.as_mut_ptr(), second.separators.len());
     let (sn, snl) = (second.numbers.as_mut_ptr(), second.numbers.len());
     let (sw, swl) = (second.words.as_mut_ptr(), second.words.len());
@@ -266,8 +287,14 @@ pub fn run(call: &Call, lent: &mut Buffers) -> Outcome {
                 sft_remove_stopped(p, g, s, sl, n, nl, w, wl, o, ol, pn, pnl, pw, pwl, po, pol, c, number, stores)
             }
             Kind::Mend => sft_mend(p, g, s, sl, n, nl, w, wl, o, ol, pn, pnl, pw, pwl, po, pol),
+            Kind::Write => sft_write(p, g, s, sl, n, nl, w, wl, o, ol, t, tl),
+            Kind::Read => sft_read(p, g, s, sl, n, nl, w, wl, o, ol, pn, pnl, pw, pwl, po, pol, t, tl),
             _ => panic!("the library has no {}", kind.name()),
         }
     };
-    reply.outcome()
+    let outcome = reply.outcome();
+    match kind {
+        Kind::Write => Outcome { length: outcome.stars, stars: 0, ..outcome },
+        _ => outcome,
+    }
 }

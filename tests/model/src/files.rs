@@ -1,7 +1,8 @@
 //! Random parameters and files.
 
+use crate::fits;
 use crate::hashing::{grown, highest_address, home, signature, MULTIPLIERS};
-use crate::placement::{lay_out, pack, write, Page, Star};
+use crate::placement::{lay_out, pack, word_valid, write, Page, Star};
 use crate::random::Random;
 use crate::{Buffers, Growth, Kind, Pages, Parameters, Record};
 
@@ -148,6 +149,29 @@ pub fn random_pool(random: &mut Random, lent: &mut Buffers) {
     lent.pool_owners.iter_mut().for_each(|owner| *owner = if zeros { 0 } else { random.draw() as u8 });
 }
 
+/// An output for a table, most often long enough.
+pub fn random_output(random: &mut Random, lent: &mut Buffers) {
+    let stars = lent.file.numbers.iter().filter(|&&number| number != 0).count();
+    let length = 5_760 + (12 * stars).div_ceil(2_880) * 2_880;
+    lent.table = vec![170; random.pick(&[length, length, length + 1, length + 3_000, length - 1, 5_759, 0])];
+}
+
+/// A table of some stars of the file, or of others.
+pub fn random_table(random: &mut Random, lent: &mut Buffers) {
+    let (count, any) = (random.below(lent.file.numbers.len() as u64 + 2), random.once_in(2));
+    let mut stars: Vec<Star> = match any {
+        true => (0..count).map(|_| random_star(random)).collect(),
+        false => lent.file.stars().filter(|star| word_valid(star.word)).take(count as usize).collect(),
+    };
+    stars.sort();
+    stars.dedup_by_key(|star| star.number);
+    lent.table = fits::table(&stars);
+    if random.once_in(3) {
+        let at = random.below(lent.table.len() as u64) as usize;
+        lent.table[at] ^= 1 << random.below(8);
+    }
+}
+
 /// A second set of pages of the right lengths with anything in it.
 pub fn random_second(random: &mut Random, lent: &mut Buffers) {
     let Pages { separators, numbers, words, owners } = &mut lent.second;
@@ -166,6 +190,16 @@ pub fn second_after(parameters: &Parameters, grown: &Pages, steps: u32) -> Pages
     second.words[..items].copy_from_slice(&grown.words[..items]);
     second.owners[..items].copy_from_slice(&grown.owners[..items]);
     second
+}
+
+/// What a kind takes beside the file: anything in the pool, and a table or room for one.
+pub fn lend(random: &mut Random, kind: Kind, lent: &mut Buffers) {
+    random_pool(random, lent);
+    match kind {
+        Kind::Write => random_output(random, lent),
+        Kind::Read => random_table(random, lent),
+        _ => {}
+    }
 }
 
 /// A record that now and then says that a growth is open.

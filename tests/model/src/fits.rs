@@ -63,9 +63,13 @@ pub fn table(stars: &[Star]) -> Vec<u8> {
 
 /// The stars of a table, or the refusal: 10 for headers and a length that no table has, 11 for a row or a pad.
 pub fn stars(bytes: &[u8]) -> Result<Vec<Star>, u32> {
-    let has_length = |rows: usize| bytes.len() == 2 * BLOCK + (12 * rows).div_ceil(BLOCK) * BLOCK;
-    let begins = |rows: &usize| has_length(*rows) && bytes.starts_with(&headers(*rows));
-    let rows = (0..=MOST_ROWS).find(begins).ok_or(10_u32)?;
+    let digits = bytes.get(3_210..3_230).and_then(|digits| std::str::from_utf8(digits).ok());
+    let rows: Option<usize> = digits.and_then(|digits| digits.trim().parse().ok());
+    let rows = rows.filter(|&rows| rows <= MOST_ROWS).ok_or(10_u32)?;
+    let length = 2 * BLOCK + (12 * rows).div_ceil(BLOCK) * BLOCK;
+    if bytes.len() != length || !bytes.starts_with(&headers(rows)) {
+        return Err(10);
+    }
     let (rows, pad) = bytes[2 * BLOCK..].split_at(12 * rows);
     let field = |row: &[u8], i: usize| u32::from_be_bytes(row[4 * i..4 * i + 4].try_into().unwrap());
     let position = |row: &[u8]| (field(row, 1), field(row, 2) as i32);

@@ -5,6 +5,7 @@ mod calls;
 pub mod files;
 pub mod fits;
 pub mod hashing;
+pub mod hdu;
 pub mod placement;
 pub mod points;
 pub mod random;

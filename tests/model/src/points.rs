@@ -1,6 +1,7 @@
 //! Points of the documents that the model and every other implementation must meet. Each panics where one fails.
 
 use crate::files::second_after;
+use crate::fits;
 use crate::hashing::{MODULUS, MULTIPLIERS};
 use crate::placement::{lay_out, pack, Star};
 use crate::session::Session;
@@ -898,6 +899,88 @@ pub fn mending(run: Implementation) {
     assert_eq!(full.mend().refusal, 15);
 }
 
+/// Writing answers the table's length and leaves the bytes past it; 5 comes before 12, and neither waits for a growth nor looks at
+/// owners.
+pub fn writing(run: Implementation) {
+    let mut session = Session::new(run, [3, 1, 1, 1, 8, 50, 2]);
+    session.caller = 9;
+    for number in [170, 32, 2_147_483_646] {
+        assert_eq!(session.enter(number).refusal, 0);
+    }
+    let stars = [32, 170, 2_147_483_646].map(|number| Star { number, word: pack(1, 0), owner: 0 });
+    let table = fits::table(&stars);
+    for open in [false, true] {
+        session.record.open = open;
+        for past in [0, 1, 2_880] {
+            session.lent.table = vec![170; table.len() + past];
+            let written = session.call(Kind::Write, 0, 0, 0);
+            let (record, length) = (session.record, table.len() as u32);
+            assert_eq!(written, Outcome { length, record, ..Outcome::default() });
+            assert_eq!(session.lent.table, [&table[..], &vec![170; past]].concat());
+        }
+    }
+    for length in [0, 5_760, table.len() - 1] {
+        session.lent.table = vec![170; length];
+        assert_eq!((spot(session.call(Kind::Write, 0, 0, 0)), &session.lent.table), ((12, 0, 0), &vec![170; length]));
+    }
+    session.lent.file.owners[5] = 1;
+    assert_eq!(spot(session.call(Kind::Write, 0, 0, 0)), (5, 1, 0));
+    session.lent.file.words[0] = u64::MAX;
+    assert_eq!(spot(session.call(Kind::Write, 0, 0, 0)), (5, 0, 0));
+    assert_eq!(session.lent.table, vec![170; table.len() - 1]);
+}
+
+/// Reading replaces whatever the file held, with owner 0 for all; 16, 10, 11, 8 in this order, each leaving the file.
+pub fn reading(run: Implementation) {
+    let star = |number| Star { number, word: pack(1, 0), owner: 0 };
+    let mut session = Session::new(run, [3, 2, 1, 1, 8, 50, 4]);
+    session.record.growth = Growth { expansions: 1, expanded: 0 };
+    session.lent.file.words.fill(7);
+    session.lent.file.owners.fill(7);
+    let read = |session: &Session, table: &[u8]| {
+        let mut session = session.clone();
+        session.lent.table = table.to_vec();
+        fill_pool(&mut session);
+        let outcome = session.call(Kind::Read, 0, 0, 0);
+        assert!(session.lent.table == table && session.lent.pool_words == vec![0; 12]);
+        (outcome, session)
+    };
+    let table = fits::table(&[star(5), star(6), star(2_147_483_646)]);
+    let (outcome, after) = read(&session, &table);
+    assert_eq!(outcome, Outcome { record: session.record, ..Outcome::default() });
+    let rows = vec![star(5), star(6), star(2_147_483_646)];
+    assert_eq!(after.lent.file, lay_out(&session.parameters, &session.record.growth, rows).unwrap().file);
+    let refused = |session: &Session, table: &[u8], refusal: u32| {
+        let (outcome, after) = read(session, table);
+        assert_eq!((spot(outcome), &after.lent.file), ((refusal, 0, 0), &session.lent.file));
+    };
+    let altered = |at: usize, byte: u8| {
+        let mut table = table.clone();
+        table[at] = byte;
+        table
+    };
+    refused(&session, &[], 10);
+    refused(&session, &table[..table.len() - 1], 10);
+    refused(&session, &[&table[..], &[0]].concat(), 10);
+    refused(&session, &altered(3_229, b'4'), 11);
+    refused(&session, &altered(3_228, b'0'), 10);
+    refused(&session, &altered(2_879, b'\n'), 10);
+    // A number again, one beyond the limits, a declination, a pad; the header comes first.
+    refused(&session, &altered(5_760 + 15, 5), 11);
+    refused(&session, &altered(5_760 + 27, 255), 11);
+    refused(&session, &altered(5_760 + 8, 127), 11);
+    refused(&session, &altered(5_760 + 36, 1), 11);
+    refused(&session, &altered(8_639, 1), 11);
+    // More rows than places are 8, but only if each is right.
+    let many: Vec<Star> = (1..=13).map(star).collect();
+    refused(&session, &fits::table(&many), 8);
+    let mut wrong = fits::table(&many);
+    wrong[8_639] = 1;
+    refused(&session, &wrong, 11);
+    session.record.open = true;
+    refused(&session, &[], 16);
+}
+
 /// A test of each point for an implementation.
 #[macro_export]
 macro_rules! point_tests {
@@ -908,7 +991,7 @@ macro_rules! point_tests {
             entry_without_room_in_its_reach entry_into_full_file check_order damaged_values places resends cascades
             pages_in_use pool_contents strangers strangers_before_reach owners_travel owner_of_an_empty_place owner_lengths
             growth_in_steps out_of_turn record_limits growth_refused_in_steps stopped_stores stopped_changes
-            stopped_on_sound_pages mending);
+            stopped_on_sound_pages mending writing reading);
     };
     ($run:path: $($name:ident)*) => {
         $(#[test] fn $name() { $crate::points::$name($run) })*

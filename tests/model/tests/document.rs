@@ -1,11 +1,11 @@
 //! The documents' points about the definitions, and the given vectors, against the model.
 
-use model::files::{clean_file, edge_parameters, random_growth, small_parameters, LARGE};
+use model::files::{clean_file, edge_parameters, random_growth, random_star, small_parameters, LARGE};
 use model::hashing::{grown, highest_address, home, rank, shrunk, signature, x};
-use model::placement::{pack, separator, unpack, word_valid};
+use model::placement::{pack, separator, unpack, word_valid, Star};
 use model::random::Random;
 use model::session::Session;
-use model::{points, starline::starline, vectors, Growth, Parameters, Record, LANDED, MODEL};
+use model::{fits, hdu, points, starline::starline, vectors, Growth, Parameters, Record, LANDED, MODEL};
 use std::fs;
 
 const FOLDER: &str = concat!(env!("CARGO_MANIFEST_DIR"), "/../vectors");
@@ -99,7 +99,7 @@ fn position_words() {
 
 #[test]
 fn call_vectors() {
-    for (name, count) in [("4-i", 900), ("5-ix-xiv", 900), ("6-xiii", 1_000), ("7-xii", 1_200)] {
+    for (name, count) in [("4-i", 900), ("5-ix-xiv", 900), ("6-xiii", 1_000), ("7-xii", 1_200), ("8-vi", 235)] {
         let text = fs::read_to_string(format!("{FOLDER}/{name}.txt")).unwrap();
         let vectors = vectors::parse(&text, LANDED);
         assert_eq!(vectors.len(), count);
@@ -110,6 +110,75 @@ fn call_vectors() {
             assert_eq!(vectors::parse(&text, LANDED)[0].1.as_ref().unwrap().text(LANDED), text);
         }
     }
+}
+
+/// A table as one reads it: cards of 80 characters, and a row.
+#[test]
+fn table_bytes() {
+    let cards = |block: &[u8]| {
+        let cards: Vec<String> = block.chunks(80).map(|card| String::from_utf8(card.to_vec()).unwrap()).collect();
+        assert!(cards.iter().all(|card| card.len() == 80));
+        cards.into_iter().map(|card| card.trim_end().to_string()).filter(|card| !card.is_empty()).collect::<Vec<_>>()
+    };
+    let stars: Vec<Star> =
+        (1..=241).map(|number| Star { number, word: pack(3, -number.cast_signed()), owner: 0 }).collect();
+    let table = fits::table(&stars);
+    assert_eq!(table.len(), 5_760 + 2 * 2_880);
+    assert_eq!(
+        cards(&table[..2_880]),
+        [
+            "SIMPLE  =                    T",
+            "BITPIX  =                    8",
+            "NAXIS   =                    0",
+            "EXTEND  =                    T",
+            "END"
+        ]
+    );
+    assert_eq!(
+        cards(&table[2_880..5_760]),
+        [
+            "XTENSION= 'BINTABLE'",
+            "BITPIX  =                    8",
+            "NAXIS   =                    2",
+            "NAXIS1  =                   12",
+            "NAXIS2  =                  241",
+            "PCOUNT  =                    0",
+            "GCOUNT  =                    1",
+            "TFIELDS =                    3",
+            "TFORM1  = '1J      '",
+            "TFORM2  = '1J      '",
+            "TFORM3  = '1J      '",
+            "END"
+        ]
+    );
+    assert_eq!(table[5_760 + 240 * 12..][..14], [0, 0, 0, 241, 0, 0, 0, 3, 255, 255, 255, 15, 0, 0]);
+    assert_eq!(table[3_229], b'1');
+    let lengths = [0, 1, 240, 241].map(|count| fits::table(&stars[..count]).len());
+    assert_eq!(lengths, [5_760, 8_640, 8_640, 11_520]);
+}
+
+/// The model's tables are the Standard's, and come back from its reader and writer.
+#[test]
+fn tables_by_the_standard() {
+    let mut random = Random(1);
+    for count in [0, 1, 2, 240, 241, 1_000] {
+        let mut stars: Vec<Star> = (0..count).map(|_| Star { owner: 0, ..random_star(&mut random) }).collect();
+        stars.sort();
+        let rows: Vec<Vec<i32>> = stars.iter().map(hdu_row).collect();
+        let units = hdu::read(&fits::table(&stars)).unwrap();
+        assert_eq!(units, hdu::table(3, &[], &rows));
+        assert_eq!(units[1].rows().unwrap(), rows);
+        let bytes = hdu::write(&units);
+        assert_eq!((fits::stars(&bytes), &bytes), (Ok(stars), &fits::table(&fits::stars(&bytes).unwrap())));
+        // With named columns it is a table of the Standard, but not one of ours.
+        let named = hdu::table(3, &["NUMBER", "RA", "DEC"], &rows);
+        assert_eq!((hdu::read(&hdu::write(&named)), fits::stars(&hdu::write(&named))), (Ok(named), Err(10)));
+    }
+}
+
+fn hdu_row(star: &Star) -> Vec<i32> {
+    let (ra, dec) = unpack(star.word);
+    vec![star.number as i32, ra as i32, dec]
 }
 
 #[test]

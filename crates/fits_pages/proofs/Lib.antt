@@ -1,0 +1,4 @@
+pub mod ReadColumns
+pub mod RowKeys
+pub mod PlacedRows
+pub mod LaidRows

@@ -1,0 +1,127 @@
+-- A row's number and word in the columns, by its source.
+use mathlib.Core.Path.{_≡_, refl, sym, ap, _∙_}
+use mathlib.Core.Bool.{Bool, true, false, _&&_, false≢true}
+use mathlib.Core.List.{List, [], _∷_, map}
+use Prim.Native.Nat.{ℕ, zero, suc, _+_, _-_, _*_, _≤_, _<_}
+use native.Mathlib.Nat.{zero-add}
+use native.Mathlib.Omega.{arith}
+use lib.Dec.{ltb}
+use lib.ListN.{length, getD, set, take, drop, length-map, length-drop, List·getD-eq-default}
+use lib.Seq.{paste, getD-drop, take-paste}
+use borrow.Author.Tests.{ltb-true, lt-ltb}
+use Rattle.buffers.proofs.Copies.{Copied, turn}
+use Rattle.buffers.proofs.Tests.{and-true}
+use Rattle.buffers.proofs.Written.{pasted-whole}
+use Rattle.pages.specs.Position.{validNumber, validPosition, packed}
+use Rattle.plan_transfer.specs.Sources.{namedItem}
+use Rattle.fits_table.specs.declared.rows.Row.{Row}
+use Rattle.fits_table.specs.declared.rows.Row.the-variants.{Star, Wrong}
+use Rattle.fits_table.specs.Rows.{from32, positionAt, rowAnswer, rowAt, goodAfter, goodRows, rowsRead}
+use Rattle.fits_table.proofs.Reading.{length-read}
+use Rattle.fits_pages.specs.Columns.{numbersRead, wordsRead}
+
+step : (at i : ℕ) → at + 12 + 12 * i ≡ at + 12 * suc i
+step at i = omega arith
+
+pub number-of-row : (l : List ℕ) (at n i : ℕ) → i < n → getD (map (λ (r : ℕ × ℕ). r .0) (rowsRead l at n)) i 0 ≡ from32 l (at + 12 * i)
+unfolding rowsRead
+number-of-row l at zero i h = absurd (omega arith)
+number-of-row l at (suc n) zero h = let e : at + 12 * 0 ≡ at = omega arith in rw e
+number-of-row l at (suc n) (suc i) h = number-of-row l (at + 12) n i (omega arith) ∙ ap (from32 l) (step at i)
+
+pub word-of-row : (l : List ℕ) (at n i : ℕ) → i < n → getD (map (λ (r : ℕ × ℕ). r .1) (rowsRead l at n)) i 0 ≡ packed (positionAt l (at + 12 * i))
+unfolding rowsRead
+word-of-row l at zero i h = absurd (omega arith)
+word-of-row l at (suc n) zero h = let e : at + 12 * 0 ≡ at = omega arith in rw e
+word-of-row l at (suc n) (suc i) h = word-of-row l (at + 12) n i (omega arith) ∙ ap (λ (k : ℕ). packed (positionAt l k)) (step at i)
+
+pub numbers-long : (l : List ℕ) (n : ℕ) → length (numbersRead l n) ≡ n
+numbers-long l n = length-map (rowsRead l 5760 n) (λ (r : ℕ × ℕ). r .0) ∙ length-read l 5760 n
+
+pub words-long : (l : List ℕ) (n : ℕ) → length (wordsRead l n) ≡ n
+words-long l n = length-map (rowsRead l 5760 n) (λ (r : ℕ × ℕ). r .1) ∙ length-read l 5760 n
+
+-- what a source names
+pub named-none : (l : List ℕ) (s : ℕ) → s ≡ 0 → 0 ≡ namedItem l 0 s
+unfolding namedItem
+named-none l s e = rw e
+
+pub named-beyond : (l : List ℕ) (n s : ℕ) → length l ≡ n → n < s → 0 ≡ namedItem l 0 s
+unfolding namedItem
+named-beyond l n zero e h = absurd (omega arith)
+named-beyond l n (suc s) e h = sym (List·getD-eq-default l 0 (omega arith))
+
+pub named-item : (l : List ℕ) (s : ℕ) → (s ≡ 0 → ⊥) → namedItem l 0 s ≡ getD l (s - 1) 0
+unfolding namedItem
+named-item l zero h = absurd (h refl)
+named-item l (suc s) h = let e : suc s - 1 ≡ s = omega arith in rw e
+
+pub number-named : (l : List ℕ) (n s : ℕ) → (s ≡ 0 → ⊥) → s ≤ n → from32 l (5760 + 12 * (s - 1)) ≡ namedItem (numbersRead l n) 0 s
+number-named l n s h k = sym (named-item (numbersRead l n) s h ∙ number-of-row l 5760 n (s - 1) (omega arith))
+
+pub word-named : (l : List ℕ) (n s : ℕ) → (s ≡ 0 → ⊥) → s ≤ n → packed (positionAt l (5760 + 12 * (s - 1))) ≡ namedItem (wordsRead l n) 0 s
+word-named l n s h k = sym (named-item (wordsRead l n) s h ∙ word-of-row l 5760 n (s - 1) (omega arith))
+
+-- each of the good rows is read as it is by itself
+pub good-row : (l : List ℕ) (n last at i : ℕ) → goodRows last l at n ≡ true → i < n
+    → rowAt 0 l (at + 12 * i) ≡ Star (from32 l (at + 12 * i)) (packed (positionAt l (at + 12 * i)))
+unfolding goodRows rowAt
+good-row l zero last at i g h = absurd (omega arith)
+good-row l (suc n) last at i g h =
+    go (ltb last (from32 l at) && (validNumber (from32 l at) && validPosition (positionAt l at))) refl g i h
+    (λ j e k. good-row l n (from32 l at) (at + 12) j e k)
+  where
+    first : ltb last (from32 l at) && (validNumber (from32 l at) && validPosition (positionAt l at)) ≡ true
+        → rowAnswer (ltb 0 (from32 l at) && (validNumber (from32 l at) && validPosition (positionAt l at))) (from32 l at) (packed (positionAt l at)) ≡ Star (from32 l at) (packed (positionAt l at))
+    first t =
+        let p = and-true (ltb last (from32 l at)) (validNumber (from32 l at) && validPosition (positionAt l at)) t in
+        rw (lt-ltb 0 (from32 l at) (omega (arith, ltb-true last (from32 l at) (p .0))), p .1)
+
+    go : (t : Bool) → ltb last (from32 l at) && (validNumber (from32 l at) && validPosition (positionAt l at)) ≡ t
+        → goodAfter (rowAnswer t (from32 l at) (packed (positionAt l at))) (λ (k : ℕ). goodRows k l (at + 12) n) ≡ true
+        → (i : ℕ) → i < suc n
+        → ((j : ℕ) → goodRows (from32 l at) l (at + 12) n ≡ true → j < n → rowAt 0 l (at + 12 + 12 * j) ≡ Star (from32 l (at + 12 + 12 * j)) (packed (positionAt l (at + 12 + 12 * j))))
+        → rowAt 0 l (at + 12 * i) ≡ Star (from32 l (at + 12 * i)) (packed (positionAt l (at + 12 * i)))
+    go false t e i h ih = absurd (false≢true e)
+    go true t e zero h ih = let z : at + 12 * 0 ≡ at = omega arith in rw z (first t)
+    go true t e (suc i) h ih = rw (← step at i) (ih i e (omega arith))
+
+-- so the word read of it is its own
+module _ (l : List ℕ) (n s : ℕ) (g : goodRows 0 l 5760 n ≡ true) (h : s ≡ 0 → ⊥) (k : s ≤ n) {r : Row} (e : r ≡ rowAt 0 l (5760 + 12 * (s - 1))) where
+  is-star : r ≡ Star (from32 l (5760 + 12 * (s - 1))) (packed (positionAt l (5760 + 12 * (s - 1))))
+  is-star = e ∙ good-row l n 0 5760 (s - 1) g (omega arith)
+
+  pub word-taken : (number word : ℕ) → r ≡ Star number word → word ≡ namedItem (wordsRead l n) 0 s
+  word-taken number word t =
+      let both : Star number word ≡ Star (from32 l (5760 + 12 * (s - 1))) (packed (positionAt l (5760 + 12 * (s - 1)))) = sym t ∙ is-star in
+      let w : word ≡ packed (positionAt l (5760 + 12 * (s - 1))) = cc in
+      w ∙ word-named l n s h k
+
+  pub never-wrong : r ≡ Wrong → ⊥
+  never-wrong t =
+      let both : Wrong ≡ Star (from32 l (5760 + 12 * (s - 1))) (packed (positionAt l (5760 + 12 * (s - 1)))) = sym t ∙ is-star in
+      let z : _≡_ {A = ℕ} 0 1 = cc in
+      omega arith
+
+-- columns filled item by item
+
+pub map-item : (f : ℕ → ℕ) (l : List ℕ) (j : ℕ) → j < length l → getD (map f l) j 0 ≡ f (getD l j 0)
+map-item f [] j b = absurd (omega arith)
+map-item f (y ∷ l) zero b = refl
+map-item f (y ∷ l) (suc j) b = map-item f l j (omega arith)
+
+pub block-next : (ns B₀ B : List ℕ) (first i x : ℕ) → i < length B₀ → first + i < length ns → x ≡ getD ns (first + i) 0 → Copied B₀ 0 (drop first ns) B i
+    → Copied B₀ 0 (drop first ns) (set B i x) (i + 1)
+block-next ns B₀ B first i x h k e c =
+    rw (zero-add i) at (turn B₀ 0 (drop first ns) B i x (omega arith) (omega (arith, length-drop first ns)) (e ∙ sym (getD-drop first ns i 0)) c)
+
+pub block-end : (s B₀ B : List ℕ) (n : ℕ) → n ≤ length s → B ≡ paste B₀ 0 s n → take n B ≡ take n s
+block-end s B₀ B n h e = ap (take n) e ∙ ap (λ (k : ℕ). take k (paste B₀ 0 s n)) (sym (zero-add n)) ∙ take-paste B₀ 0 s n (omega arith) h
+
+pub column-next : (f : ℕ → ℕ) (pool N₀ N : List ℕ) (i x : ℕ) → i < length N₀ → i < length pool → x ≡ f (getD pool i 0) → Copied N₀ 0 (map f pool) N i
+    → Copied N₀ 0 (map f pool) (set N i x) (i + 1)
+column-next f pool N₀ N i x h k e c =
+    rw (zero-add i) at (turn N₀ 0 (map f pool) N i x (omega arith) (omega (arith, length-map pool f)) (e ∙ sym (map-item f pool i k)) c)
+
+pub column-end : (f : ℕ → ℕ) (pool N₀ N : List ℕ) (i : ℕ) → length N₀ ≡ length pool → i ≡ length pool → Copied N₀ 0 (map f pool) N i → N ≡ map f pool
+column-end f pool N₀ N i h e c = c .is ∙ pasted-whole N₀ (map f pool) i (h ∙ sym e) (length-map pool f ∙ sym e)

@@ -1,0 +1,84 @@
+use Rattle.fits_table.specs.Rows.{from32}
+use Prim.Native.Nat.{_+_}
+use native.Mathlib.Omega.{arith}
+use borrow.Author.Needs.{needs}
+use Rattle.fits_table.proofs.rows.get_32.Statement.{statement}
+use Rattle.fits_table.proofs.rows.get_32.Tie as tie
+
+shared-slice-read-wide : tie.Need-shared-slice-read-wide
+shared-slice-read-wide c = search needs
+
+wide-requires : tie.Need-wide-requires
+wide-requires c κs = search needs
+
+mul-result : tie.Need-mul-result
+mul-result c = omega (arith, c .wide .ensures, c .before .shared-slice-known2 .given (c .before .before .before .args .at))
+
+add-wide : tie.Need-add-wide
+add-wide c = search needs
+
+shared-slice-read-wide-2 : tie.Need-shared-slice-read-wide-2
+shared-slice-read-wide-2 c = search needs
+
+wide-requires-2 : tie.Need-wide-requires-2
+wide-requires-2 c κs = search needs
+
+mul-result-2 : tie.Need-mul-result-2
+mul-result-2 c = omega (arith, c .before .before .wide .ensures, c .before .before .before .shared-slice-known2 .given (c .before .before .before .before .before .args .at), c .wide2 .ensures, c .before .before .before .shared-slice-known2 .given (c .before .before .before .before .before .args .at + 1))
+
+add-result : tie.Need-add-result
+add-result c = omega (arith, c .before .before .wide .ensures, c .before .before .before .shared-slice-known2 .given (c .before .before .before .before .before .args .at), c .wide2 .ensures, c .before .before .before .shared-slice-known2 .given (c .before .before .before .before .before .args .at + 1))
+
+add-wide-2 : tie.Need-add-wide-2
+add-wide-2 c = search needs
+
+shared-slice-read-wide-3 : tie.Need-shared-slice-read-wide-3
+shared-slice-read-wide-3 c = search needs
+
+wide-requires-3 : tie.Need-wide-requires-3
+wide-requires-3 c κs = search needs
+
+mul-result-3 : tie.Need-mul-result-3
+mul-result-3 c = omega (arith, c .before .before .before .before .wide .ensures, c .before .before .before .before .before .shared-slice-known2 .given (c .before .before .before .before .before .before .before .args .at), c .before .before .wide2 .ensures, c .before .before .before .before .before .shared-slice-known2 .given (c .before .before .before .before .before .before .before .args .at + 1), c .wide3 .ensures, c .before .before .before .before .before .shared-slice-known2 .given (c .before .before .before .before .before .before .before .args .at + 2))
+
+add-result-2 : tie.Need-add-result-2
+add-result-2 c = omega (arith, c .before .before .before .before .wide .ensures, c .before .before .before .before .before .shared-slice-known2 .given (c .before .before .before .before .before .before .before .args .at), c .before .before .wide2 .ensures, c .before .before .before .before .before .shared-slice-known2 .given (c .before .before .before .before .before .before .before .args .at + 1), c .wide3 .ensures, c .before .before .before .before .before .shared-slice-known2 .given (c .before .before .before .before .before .before .before .args .at + 2))
+
+add-wide-3 : tie.Need-add-wide-3
+add-wide-3 c = search needs
+
+shared-slice-read-wide-4 : tie.Need-shared-slice-read-wide-4
+shared-slice-read-wide-4 c = search needs
+
+wide-requires-4 : tie.Need-wide-requires-4
+wide-requires-4 c κs = search needs
+
+add-result-3 : tie.Need-add-result-3
+add-result-3 c = omega (arith, c .before .before .before .before .before .before .wide .ensures, c .before .before .before .before .before .before .before .shared-slice-known2 .given (c .before .before .before .before .before .before .before .before .before .args .at), c .before .before .before .before .wide2 .ensures, c .before .before .before .before .before .before .before .shared-slice-known2 .given (c .before .before .before .before .before .before .before .before .before .args .at + 1), c .before .before .wide3 .ensures, c .before .before .before .before .before .before .before .shared-slice-known2 .given (c .before .before .before .before .before .before .before .before .before .args .at + 2), c .wide4 .ensures, c .before .before .before .before .before .before .before .shared-slice-known2 .given (c .before .before .before .before .before .before .before .before .before .args .at + 3))
+
+returns : tie.Need-returns
+unfolding from32
+returns c = rw (c .wide4 .ensures, c .before .before .wide3 .ensures, c .before .before .before .before .wide2 .ensures, c .before .before .before .before .before .before .wide .ensures)
+
+pub get-32-spec : {M : Type 1} → statement M
+get-32-spec =
+    tie.close
+    (tie.spec
+    shared-slice-read-wide
+    wide-requires
+    mul-result
+    add-wide
+    shared-slice-read-wide-2
+    wide-requires-2
+    mul-result-2
+    add-result
+    add-wide-2
+    shared-slice-read-wide-3
+    wide-requires-3
+    mul-result-3
+    add-result-2
+    add-wide-3
+    shared-slice-read-wide-4
+    wide-requires-4
+    add-result-3
+    returns)
