@@ -2,8 +2,8 @@
 use mathlib.Core.Path.{_≡_, refl, ap, sym, _∙_}
 use mathlib.Core.Bool.{Bool, true, false, cond, false≢true}
 use mathlib.Core.List.{List, [], _∷_, map}
-use Prim.Native.Nat.{ℕ, suc, _+_, _*_, _^_, _≤_, _<_}
-use native.Mathlib.Nat.{zero-mul, zero-add, mul-le-mul, sub-zero}
+use Prim.Native.Nat.{ℕ, _+_, _*_, _^_, _≤_, _<_}
+use native.Mathlib.Nat.{zero-mul, zero-add, mul-le-mul}
 use native.Mathlib.Omega.{arith}
 use lib.Dec.{eqb, ltb, leb}
 use lib.ListN.{length, take, drop, length-map}
@@ -15,14 +15,13 @@ use Rattle.hashing.specs.declared.Geometry.{Geometry}
 use Rattle.hashing.specs.Limits.{validParameters, validGrowth}
 use Rattle.hashing.proofs.Bounds.{limits, both}
 use Rattle.pages.specs.Page.{stretch}
-use Rattle.placement.specs.Rule.{Star, Hash, Contents, pages, left, separators}
+use Rattle.placement.specs.Rule.{Star, pages, left, separators}
 use Rattle.placement.specs.File.{File, Sized, column, fileOf, laid}
 use Rattle.placement.specs.Hash.{hashOf, homeIn, homesOf, lent}
 use Rattle.placement.proofs.Mapping.{mapped}
 use Rattle.placement.proofs.Prepared.{ready}
 use Rattle.placement.proofs.Standing.{length-separators}
 use Rattle.page_separator.specs.Lists.{all, allBelow}
-use Rattle.page_plan.specs.Gather.{wordsFrom}
 use Rattle.reach.specs.Reach.{isEmpty, allStars, firstUnsound}
 use Rattle.plan_transfer.specs.Sources.{namedItem}
 use Rattle.page_plan.specs.Plans.{homed, waits, plans, remains}
@@ -36,12 +35,11 @@ use Rattle.page_plan.proofs.Placed.{probes-real, placed-words, left-count}
 use Rattle.removal_reach.proofs.Items.{all-sound, all-numbered, numbers-below}
 use Rattle.calls.specs.declared.answers.Placed.{Placed}
 use Rattle.calls.specs.declared.answers.Placed.the-variants.{Refused}
-use Rattle.calls.specs.declared.answers.Refusal.the-variants.{BadParameters, BadLength, OutOfTurn}
+use Rattle.calls.specs.declared.answers.Refusal.the-variants.{BadParameters, BadLength}
 use Rattle.calls.specs.declared.records.GrowthRecord.{GrowthRecord}
 use Rattle.calls.specs.declared.records.Recorded.{Recorded}
-use Rattle.calls.specs.Answers.{Pool, placed, refusedBy, spotted, accepted, refused, cleared}
-use Rattle.calls.specs.Carry.{validState, otherMultiplier, carryStates, carryLengths, carryOn, carryOf}
-use Rattle.calls.specs.Calls.{fileFits, poolFits}
+use Rattle.calls.specs.Answers.{Pool, placed, refusedBy, accepted, refused, cleared}
+use Rattle.calls.specs.Carry.{validState, carryStates, carryLengths, carryOn, carryOf}
 use Rattle.calls.specs.Lent.{Admitted}
 use Rattle.calls.specs.Records.{AfterStep, notStepped, LeavesStep}
 use Rattle.calls.proofs.CarryRefusals.{carry-refusals}
@@ -118,9 +116,6 @@ module _ (old new : Geometry) (f second : File) (bad : ℕ) (survey : bad ≡ fi
         (all-sound (old .parameters) (old .growth) f 0 (old .parameters .pages) all-fine))
 
     module _ (newvalid : validParameters (new .parameters) ≡ true) (newgrowth : validGrowth (new .parameters) (new .growth) ≡ true) where
-      q : Parameters
-      q = new .parameters
-
       stars-carried : map (renamed (f .words) (f .owners) 0 0) (waits (carriedWords new (f .numbers))) ≡ allStars (old .parameters) f
       unfolding homesOf
       stars-carried =

@@ -2,19 +2,19 @@
 use mathlib.Core.Path.{_≡_, refl, ap, sym, _∙_}
 use mathlib.Core.Bool.{Bool, true, false, cond}
 use mathlib.Core.List.{List, [], _∷_, map}
-use Prim.Native.Nat.{ℕ, zero, suc, _+_, _*_, _^_, _≤_, _<_}
+use Prim.Native.Nat.{ℕ, _+_, _*_, _^_, _≤_, _<_}
 use native.Mathlib.Nat.{zero-mul, zero-add}
 use native.Mathlib.Omega.{arith}
 use lib.Dec.{eqb, ltb}
 use lib.ListN.{length, take, length-map}
 use lib.Seq.{slice, length-take-le}
-use borrow.Author.Tests.{lt-ltb, ne-eqb}
+use borrow.Author.Tests.{lt-ltb}
 use Rattle.buffers.proofs.Written.{written-whole, taken-written}
 use Rattle.hashing.specs.declared.Parameters.{Parameters}
 use Rattle.hashing.specs.declared.Geometry.{Geometry}
 use Rattle.hashing.specs.Limits.{validParameters, validGrowth}
 use Rattle.hashing.proofs.Bounds.{limits}
-use Rattle.placement.specs.Rule.{Star, Hash, left, separators}
+use Rattle.placement.specs.Rule.{Star, Hash, separators}
 use Rattle.placement.specs.File.{column}
 use Rattle.placement.specs.Hash.{hashOf, homeUnder, homeIn, homesOf}
 use Rattle.placement.proofs.Composition.{crowded}
@@ -22,7 +22,7 @@ use Rattle.placement.proofs.Probing.{homed-real}
 use Rattle.placement.proofs.Standing.{length-separators}
 use Rattle.page_separator.specs.Lists.{all, allBelow}
 use Rattle.page_separator.proofs.Lists.{all-cons}
-use Rattle.page_plan.specs.Gather.{starsIn, wordsFrom, grouped, groupsBelow, Scattered}
+use Rattle.page_plan.specs.Gather.{starsIn, grouped, groupsBelow, Scattered}
 use Rattle.page_plan.specs.Keys.{Keyed}
 use Rattle.page_plan.proofs.Gathered.{starsIn-most}
 use Rattle.page_plan.proofs.Items.{words-count}
@@ -78,9 +78,6 @@ module _ (g : Geometry) (valid : validParameters (g .parameters) ≡ true) (grow
   module _ (ns : List ℕ) (few : length ns ≤ 32768) where
     -- the words carry the homes of their numbers, and these are pages of the new file
     module _ (numbers : allBelow (2 ^ 31) ns ≡ true) where
-      homes : List ℕ
-      homes = homesOf (g .parameters) (g .growth) ns
-
       pub words-home : homed (hashOf (g .parameters) (g .growth)) (carriedWords g ns) ≡ true
       words-home =
           words-homed 0 0 ns (homesOf (g .parameters) (g .growth) ns) numbers (omega arith) (hashOf (g .parameters) (g .growth)) (homes-real (g .parameters) (g .growth) ns)

@@ -1,6 +1,5 @@
 // The call: refusals 1, 2 and 16, then the pages.
 ghost use mathlib.Core.Path.{_≡_};
-ghost use mathlib.Core.Bool.{true};
 ghost use Prim.Native.Nat.{_*_};
 ghost use lib.ListN.{length};
 ghost use Rattle.placement.specs.Lent.{held, before, after};

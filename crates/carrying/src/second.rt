@@ -6,7 +6,6 @@ ghost use lib.ListN.{length, take};
 ghost use Rattle.plan_transfer.specs.Sources.{namedItem};
 ghost use Rattle.generator.specs.Generator.{firstMultipliers};
 ghost use Rattle.hashing.specs.Geometry.{multiplierOf};
-ghost use Rattle.placement.specs.File.{Sized};
 ghost use Rattle.placement.specs.Hash.{lent};
 ghost use Rattle.placement.specs.Lent.{held, before, after};
 ghost use Rattle.placement.specs.Ready.{Ready};

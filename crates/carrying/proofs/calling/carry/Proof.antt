@@ -1,7 +1,7 @@
 -- 1, 2, then the second set and the cleared pool.
 use borrow.Author.Needs.{needs}
-use mathlib.Core.Path.{_≡_, refl, sym, ap, _∙_}
-use mathlib.Core.Bool.{true, false}
+use mathlib.Core.Path.{_≡_, refl}
+use mathlib.Core.Bool.{true}
 use denote.Ref.{now}
 use Rattle.hashing.proofs.Bounds.{passed, failed}
 use Rattle.placement.specs.File.{File}

@@ -1,6 +1,6 @@
 -- 16, or what the pages tell.
 use borrow.Author.Needs.{needs}
-use mathlib.Core.Path.{_≡_, refl, ap, sym, _∙_}
+use mathlib.Core.Path.{refl}
 use denote.Ref.{now}
 use Rattle.placement.specs.File.{File}
 use Rattle.placement.specs.Hash.{lent}

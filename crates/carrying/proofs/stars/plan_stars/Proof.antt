@@ -7,7 +7,7 @@ use native.Mathlib.Omega.{arith}
 use denote.Ref.{now}
 use Rattle.hashing.proofs.Bounds.{limits}
 use Rattle.page_plan.proofs.Stretch.{planned-again}
-use Rattle.carrying.proofs.Placing.{planned-whole, stars-few, stars-keyed, stars-grouped, stars-settleable}
+use Rattle.carrying.proofs.Placing.{planned-whole, stars-keyed, stars-grouped, stars-settleable}
 use Rattle.carrying.proofs.stars.plan_stars.Statement.{statement}
 use Rattle.carrying.proofs.stars.plan_stars.Tie as tie
 
