@@ -2,6 +2,8 @@
 mod mends;
 mod stopping;
 mod tables;
+// The calls as exported functions, backup's and two of hashing's, for the Rust tests alone. C programs have the four of starfile_c.
+mod carried;
 
 use calls::answers::Answer;
 use calls::answers::checked_answer;
@@ -10,6 +12,7 @@ use calls::answers::placed_answer;
 use calls::answers::sought_answer;
 use calls::records;
 use calls::records::Recorded;
+pub use carried::sft_carry;
 use pages::position::Position;
 
 #[repr(C)]
