@@ -1,9 +1,8 @@
 // The calls as exported functions, backup's and two of hashing's, for the Rust tests alone. C programs have crate heatherplane.
+mod carried;
 mod mends;
 mod stopping;
 mod tables;
-// The calls as exported functions, backup's and two of hashing's, for the Rust tests alone. C programs have the four of starfile_c.
-mod carried;
 
 use calls::answers::Answer;
 use calls::answers::checked_answer;
