@@ -3,3 +3,4 @@ mod entry;
 
 pub use entry::cascade;
 pub use entry::enter;
+pub use entry::enter_stopped;

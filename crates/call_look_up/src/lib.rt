@@ -5,3 +5,4 @@ mod rewriting;
 
 pub use reading::look_up;
 pub use rewriting::change;
+pub use rewriting::change_stopped;

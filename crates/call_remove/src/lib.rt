@@ -2,3 +2,4 @@
 mod removal;
 
 pub use removal::remove;
+pub use removal::remove_stopped;
