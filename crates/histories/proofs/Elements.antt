@@ -2,7 +2,7 @@
 use mathlib.Core.Path.{_≡_, refl, sym, ap, _∙_}
 use mathlib.Core.Bool.{Bool, true, false, cond, true≢false}
 use mathlib.Core.List.{List, [], _∷_, List·Memᴰ, List·Memᴰ·not-nil, List·Memᴰ·eq-of-singleton, List·Memᴰ·cases-cons}
-use mathlib.Core.Logic.{⊎-elim}
+use mathlib.Core.Logic.{_⊎_, inl, ⊎-elim}
 use Prim.Native.Nat.{ℕ}
 use native.Mathlib.Omega.{arith}
 use lib.Dec.{eqb}
@@ -11,18 +11,20 @@ use Rattle.hashing.specs.declared.Parameters.{Parameters}
 use Rattle.hashing.specs.declared.Growth.{Growth}
 use Rattle.placement.specs.Rule.{Star}
 use Rattle.placement.specs.File.{File}
+use Rattle.reach.specs.Reach.{allStars}
 use Rattle.calls.specs.declared.answers.Answer.{Answer}
 use Rattle.calls.specs.declared.records.GrowthRecord.{GrowthRecord}
 use Rattle.calls.specs.Answers.{Pool, After, spotted, accepted, refused}
 use Rattle.calls.specs.Calls.{unchanged}
-use Rattle.calls.specs.Records.{validSteps, recordAfter}
+use Rattle.calls.specs.Records.{validSteps, recordAfter, AfterStep}
 use Rattle.calls.specs.Mend.{mendUnder}
+use Rattle.calls.specs.Carry.{carryOf}
 use Rattle.fits_table.specs.Header.{tableIn}
 use Rattle.fits_table.specs.declared.cards.Table.{Table}
 use Rattle.exchange.specs.Tables.{readUnder}
 use Rattle.exchange.proofs.Exchanged.{was-read}
 use Rattle.histories.specs.Model.{Model, Request, lookUp, Made, made, starsEntered, fedAll, callsMade, fedBy}
-use Rattle.histories.specs.Call.{plain, mend, lost, readFrom, writtenTo, isAccepted, onFile, step, effect, feeding, givenState, tableStars}
+use Rattle.histories.specs.Call.{plain, mend, lost, carriedInto, carriedFrom, readFrom, writtenTo, isAccepted, onFile, step, effect, feeding, givenState, tableStars, tellsOfFile}
 use Rattle.histories.specs.Loss.{Loss, Underway, noCall, anEntry, aChange, aRemoval, lossFits, wholeCall, mendedAfter, sameFile, madeOf, counted}
 use Rattle.histories.proofs.Matching.{Matches, ElementConforms}
 use Rattle.histories.proofs.Histories.{Conforming}
@@ -30,6 +32,7 @@ use Rattle.histories.proofs.Under.{request-conforms}
 use Rattle.histories.proofs.GoesOn.{mend-stays, survives}
 use Rattle.histories.proofs.Cleaned.{Modelled}
 use Rattle.histories.proofs.Tables.{read-begins, read-undamaged, write-undamaged}
+use Rattle.histories.proofs.Carrying.{past, own-order, carried-on, carried-closed, carried-undamaged}
 
 same-request : (q : Request) (k : ℕ) → plain q ≡ plain (lookUp k) → q ≡ lookUp k
 same-request q k e = cc
@@ -55,7 +58,7 @@ module _ (p : Parameters) (m : Model) (r : GrowthRecord) (f second : File) (x : 
       let t = request-conforms p m r f second x set pool q in
       record {
         matches = t .matches;
-        undamaged = t .undamaged;
+        undamaged = λ _. t .undamaged;
         each = λ c n e. t .undamaged (told (List·Memᴰ·eq-of-singleton n) e);
         found = λ k e. t .found k (same-request q k e);
       }
@@ -73,7 +76,7 @@ module _ (p : Parameters) (m : Model) (r : GrowthRecord) (f second : File) (x : 
       let t = mend-stays p m r f second x pool in
       record {
         matches = stays (mendUnder p r f pool) (t .growth) (t .file);
-        undamaged = t .undamaged;
+        undamaged = λ _. t .undamaged;
         each = λ c n e. absurd (List·Memᴰ·not-nil n);
         found = λ k e. absurd (not-look-up k e);
       }
@@ -117,7 +120,7 @@ module _ (p : Parameters) (m : Model) (r : GrowthRecord) (f second : File) (x : 
                   steps = refl;
                   unfinished = λ z. absurd (true≢false (sym z));
                 });
-            undamaged = λ z. ended (t .answer) z;
+            undamaged = λ _ z. ended (t .answer) z;
             each = rw e (not-damaged (l .underway) (whole .answer .refusal) (t .undamaged) (sameFile p (mended .file) (whole .file)));
             found = λ k z. absurd (no-look-up l k z);
           })
@@ -125,10 +128,66 @@ module _ (p : Parameters) (m : Model) (r : GrowthRecord) (f second : File) (x : 
           rw e
           (record {
             matches = rw e (stays (unchanged (r .state) f pool (refused 2 0)) refl refl);
-            undamaged = λ z. omega arith;
+            undamaged = λ _ z. omega arith;
             each = rw e (λ c n z. absurd (List·Memᴰ·not-nil n));
             found = λ k z. absurd (no-look-up l k z);
           })
+
+  -- Carrying into the file, and out of it: document 02 (viii).
+  module _ (old : Parameters) (s : GrowthRecord) (source : File) (q : Parameters) (g : Growth) where
+    abbrev carried : AfterStep
+    carried = carryOf old s source q (givenState r g) set pool
+
+    not-carried : (k : ℕ) → carriedInto old s source q g ≡ plain (lookUp k) → ⊥
+    not-carried k e = let z : _≡_ {A = ℕ} 0 1 = cc in omega arith
+
+    carried-conforms : ElementConforms p m r f pool (carriedInto old s source q g) (effect p r f second set pool (carriedInto old s source q g))
+    unfolding effect feeding fedBy fedAll callsMade isAccepted tellsOfFile
+    carried-conforms = go (eqb (carried .answer .refusal) 0) refl
+      where
+        go : (b : Bool) → eqb (carried .answer .refusal) 0 ≡ b → ElementConforms p m r f pool (carriedInto old s source q g) (effect p r f second set pool (carriedInto old s source q g))
+        go true e =
+            let z : carried .answer .refusal ≡ 0 = eqb-true (carried .answer .refusal) 0 e in
+            let h = past old s source q (givenState r g) set pool (inl z) in
+            let t = carried-on old s source q (givenState r g) set pool z (allStars old source) (own-order old s source q (givenState r g) set pool h) in
+            let c = carried-closed old s source q (givenState r g) set pool z in
+            rw e
+            (record {
+              matches =
+                  rw e
+                  (record {
+                    growth = ap (λ (x : GrowthRecord). x .state) (t .record-kept) ∙ t .growth;
+                    file = t .file;
+                    fitting = t .fits;
+                    steps = ap (validSteps q) (t .record-kept) ∙ c .1;
+                    unfinished = λ d. absurd (true≢false (sym d ∙ ap (λ (x : GrowthRecord). x .growing) (t .record-kept) ∙ c .0));
+                  });
+              undamaged = λ d. absurd (true≢false (sym d));
+              each = rw e (stars-undamaged (allStars old source));
+              found = λ k d. absurd (not-carried k d);
+            })
+        go false e =
+            rw e
+            (record {
+              matches = rw e x;
+              undamaged = λ d. absurd (true≢false (sym d));
+              each = rw e (λ c n z. absurd (List·Memᴰ·not-nil n));
+              found = λ k d. absurd (not-carried k d);
+            })
+
+  module _ (q : Parameters) (s : GrowthRecord) where
+    not-read : (k : ℕ) → carriedFrom q s ≡ plain (lookUp k) → ⊥
+    not-read k e = let z : _≡_ {A = ℕ} 0 1 = cc in omega arith
+
+    read-conforms : ElementConforms p m r f pool (carriedFrom q s) (effect p r f second set pool (carriedFrom q s))
+    unfolding effect feeding fedBy fedAll callsMade
+    read-conforms =
+        record {
+          matches = x;
+          undamaged = λ _. carried-undamaged p r f modelled q s set pool;
+          each = λ c n e. absurd (List·Memᴰ·not-nil n);
+          found = λ k d. absurd (not-read k d);
+        }
 
   -- Reading a table, and writing one: document 02 (vi).
   module _ (given : List ℕ) (q : Parameters) (g : Growth) where
@@ -161,7 +220,7 @@ module _ (p : Parameters) (m : Model) (r : GrowthRecord) (f second : File) (x : 
                     steps = found .1 .recorded .0;
                     unfinished = λ z. absurd (true≢false (sym z ∙ found .1 .recorded .1));
                   });
-              undamaged = read-undamaged q (givenState r g) set pool given;
+              undamaged = λ _. read-undamaged q (givenState r g) set pool given;
               each = rw e (rows-undamaged (tableIn given));
               found = λ k z. absurd (not-table k z);
             })
@@ -169,7 +228,7 @@ module _ (p : Parameters) (m : Model) (r : GrowthRecord) (f second : File) (x : 
             rw e
             (record {
               matches = rw e x;
-              undamaged = read-undamaged q (givenState r g) set pool given;
+              undamaged = λ _. read-undamaged q (givenState r g) set pool given;
               each = rw e (λ c n z. absurd (List·Memᴰ·not-nil n));
               found = λ k z. absurd (not-table k z);
             })
@@ -182,7 +241,7 @@ module _ (p : Parameters) (m : Model) (r : GrowthRecord) (f second : File) (x : 
   written-conforms out =
       record {
         matches = x;
-        undamaged = write-undamaged p r f modelled out;
+        undamaged = λ _. write-undamaged p r f modelled out;
         each = λ c n e. absurd (List·Memᴰ·not-nil n);
         found = λ k z. absurd (not-output out k z);
       }
@@ -193,5 +252,7 @@ unfolding effect
 conforming p m r f second x set pool (plain q) = plain-conforms p m r f second x set pool q
 conforming p m r f second x set pool mend = mend-conforms p m r f second x set pool
 conforming p m r f second x set pool (lost l) = lost-conforms p m r f second x set pool l
+conforming p m r f second x set pool (carriedInto old s source q g) = carried-conforms p m r f second x set pool old s source q g
+conforming p m r f second x set pool (carriedFrom q s) = read-conforms p m r f second x set pool q s
 conforming p m r f second x set pool (readFrom given q g) = table-conforms p m r f second x set pool given q g
 conforming p m r f second x set pool (writtenTo out) = written-conforms p m r f second x set pool out

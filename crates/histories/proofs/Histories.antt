@@ -1,5 +1,6 @@
 -- Every history, from the law of each kind of call.
 use mathlib.Core.Path.{_≡_, sym, ap, subst}
+use mathlib.Core.Bool.{true}
 use mathlib.Core.List.{List, [], _∷_, List·Memᴰ, List·Memᴰ·not-nil, List·Memᴰ·cases-cons}
 use mathlib.Core.Logic.{⊎-elim}
 use Prim.Native.Nat.{ℕ}
@@ -8,7 +9,7 @@ use Rattle.placement.specs.File.{File}
 use Rattle.calls.specs.declared.records.GrowthRecord.{GrowthRecord}
 use Rattle.calls.specs.Answers.{Pool}
 use Rattle.histories.specs.Model.{Model, lookUp, Made, answered}
-use Rattle.histories.specs.Call.{Element, plain, Call, effect}
+use Rattle.histories.specs.Call.{Element, plain, Call, effect, tellsOfFile}
 use Rattle.histories.specs.Run.{HistoryState, Event, eventOf, outcome, fedThen, next, events, end}
 use Rattle.histories.specs.Theorem.{AsModel}
 use Rattle.histories.proofs.Matching.{Matches, ElementConforms}
@@ -58,7 +59,7 @@ module _ (conforming : Conforming) where
       record {
         lookUps = each-event (λ (u : Event). (k : ℕ) → u .call .element ≡ plain (lookUp k) → u .answer .refusal ≡ 0 → u .answer ≡ answered (u .before .parameters) (u .before .model) k)
             (λ s h c. call-conforms s h c .found) t agrees cs;
-        undamaged = each-event (λ (u : Event). u .answer .refusal ≡ 5 → ⊥) (λ s h c. call-conforms s h c .undamaged) t agrees cs;
+        undamaged = each-event (λ (u : Event). tellsOfFile (u .call .element) ≡ true → u .answer .refusal ≡ 5 → ⊥) (λ s h c. call-conforms s h c .undamaged) t agrees cs;
         eachUndamaged = each-event (λ (u : Event). (x : Made) → List·Memᴰ x (u .calls) → x .refusal ≡ 5 → ⊥) (λ s h c. each-made s h c) t agrees cs;
         separators = ap (λ (f : File). f .separators) (end-agrees t agrees cs .file);
         numbers = ap (λ (f : File). f .numbers) (end-agrees t agrees cs .file);

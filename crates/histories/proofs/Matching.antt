@@ -13,7 +13,7 @@ use Rattle.calls.specs.declared.records.GrowthRecord.{GrowthRecord}
 use Rattle.calls.specs.Answers.{Pool}
 use Rattle.calls.specs.Records.{validSteps}
 use Rattle.histories.specs.Model.{Model, Request, lookUp, Made, callsMade, fedBy, modelFile, unfinishedFile, answered}
-use Rattle.histories.specs.Call.{Element, plain, Outcome, countsAs, feeding}
+use Rattle.histories.specs.Call.{Element, plain, Outcome, countsAs, feeding, tellsOfFile}
 use Rattle.histories.proofs.Fitting.{Fitting, starsFor}
 use Rattle.histories.proofs.Conforms.{fedWith}
 
@@ -41,6 +41,6 @@ pub record ConformsUnder (p : Parameters) (m : Model) (r : GrowthRecord) (q : Re
 -- An element on the model's own file f, lent a pool, does so.
 pub record ElementConforms (p : Parameters) (m : Model) (r : GrowthRecord) (f : File) (pool : Pool) (e : Element) (o : Outcome) : Type 0 where
   pub matches : Matches (o .parameters) (fedBy (o .parameters) (feeding p r f pool o e) m) (o .growth) (o .file) (o .second)
-  pub undamaged : o .answer .refusal ≡ 5 → ⊥
+  pub undamaged : tellsOfFile e ≡ true → o .answer .refusal ≡ 5 → ⊥
   pub each : (c : Made) → List·Memᴰ c (callsMade (feeding p r f pool o e)) → c .refusal ≡ 5 → ⊥
   pub found : (k : ℕ) → e ≡ plain (lookUp k) → o .answer .refusal ≡ 0 → o .answer ≡ answered p m k

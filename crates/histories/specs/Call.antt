@@ -1,5 +1,5 @@
 -- An element of a history, what it does, and what the model is fed: document 01, "The plain book".
-use mathlib.Core.Bool.{Bool, not, cond, _&&_}
+use mathlib.Core.Bool.{Bool, true, false, not, cond, _&&_}
 use mathlib.Core.List.{List, [], _∷_}
 use Prim.Native.Nat.{ℕ}
 use lib.Dec.{eqb}
@@ -7,12 +7,14 @@ use Rattle.hashing.specs.declared.Parameters.{Parameters}
 use Rattle.hashing.specs.declared.Growth.{Growth}
 use Rattle.placement.specs.Rule.{Star}
 use Rattle.placement.specs.File.{File}
+use Rattle.reach.specs.Reach.{allStars}
 use Rattle.calls.specs.declared.answers.Answer.{Answer}
 use Rattle.calls.specs.declared.records.GrowthRecord.{GrowthRecord}
 use Rattle.calls.specs.Answers.{Pool, After, unpooled, refused}
 use Rattle.calls.specs.Calls.{unchanged}
 use Rattle.calls.specs.Records.{closedRecord, lookUpUnder, enterUnder, cascadeUnder, changeUnder, removeUnder, growUnder, shrinkUnder, dueUnder, checkUnder, recordAfter, AfterStep, openUnder, stepUnder}
 use Rattle.calls.specs.Mend.{mendUnder}
+use Rattle.calls.specs.Carry.{carryOf}
 use Rattle.fits_table.specs.Header.{tableIn}
 use Rattle.fits_table.specs.declared.cards.Table.{Table}
 use Rattle.fits_table.specs.declared.cards.Table.the-variants.{Rows, Nothing}
@@ -20,17 +22,20 @@ use Rattle.exchange.specs.Tables.{starsRead, readUnder, writeUnder}
 use Rattle.histories.specs.Model.{Request, lookUp, enter, cascade, change, remove, grow, shrink, due, check, openGrowth, stepGrowth, made, starsEntered, Feeding, goesOn, anew}
 use Rattle.histories.specs.Loss.{Loss, lossFits, wholeCall, mendedAfter, counted}
 
--- A call that the book is fed as it is. A mending, and power lost, then a mending: document 02 (xii). Reading a
--- table into this file, under given parameters and (e, x), and writing this one as a table: document 02 (vi).
+-- A call that the book is fed as it is. A mending, and power lost, then a mending: document 02 (xii). Carrying another file, under its parameters and record,
+-- into this one, under given parameters and (e, x), and carrying this one into another, under its parameters and record: document 02 (viii). Reading a
+-- table into this one, under given parameters and (e, x), and writing this one as a table: document 02 (vi).
 pub data Element : Type 0 where
   plain : Request → Element
   mend : Element
   lost : Loss → Element
+  carriedInto : Parameters → GrowthRecord → File → Parameters → Growth → Element
+  carriedFrom : Parameters → GrowthRecord → Element
   readFrom : List ℕ → Parameters → Growth → Element
   writtenTo : List ℕ → Element
 
 -- "any number, position and pool", and any caller: look-ups, changes and Dues leave the pool alone. `second` is the set of pages that is lent besides, of
--- any contents and lengths: to an opening, to a step while nothing is open (02 (xiii)), and to a reading.
+-- any contents and lengths: to an opening, to a step while nothing is open (02 (xiii)), to a carrying and to a reading.
 pub record Call : Type 0 where
   pub element : Element
   pub pool : Pool
@@ -118,7 +123,7 @@ step p r f second lent pool stepGrowth = onStep p r f second (stepUnder p r f (c
 abbrev pub onlyRead : Parameters → GrowthRecord → File → File → Pool → Answer → Outcome
 onlyRead p r f second pool answer = record { answer = answer; parameters = p; growth = r; file = f; second = second; pool = pool }
 
--- "an accepted reading begins anew" (vi): the lent set is then the file; a refused one is no step
+-- "an accepted reading begins anew" (vi), "an accepted carrying counts as a reading does, a refused one as no step" (viii): the lent set is then the file
 abbrev pub beginning : Parameters → GrowthRecord → File → File → Parameters → AfterStep → Outcome
 beginning p r f second q after =
     cond (isAccepted (after .answer))
@@ -153,6 +158,9 @@ effect p r f second lent pool (lost x) =
     cond (lossFits p x)
     (onFile p (closedRecord (r .state)) second (mendedAfter p r f pool x))
     (onFile p r second (unchanged (r .state) f pool (refused 2 0)))
+effect p r f second lent pool (carriedInto old s source q g) = beginning p r f second q (carryOf old s source q (givenState r g) lent pool)
+effect p r f second lent pool (carriedFrom q s) =
+    onlyRead p r f second (carryOf p r f q s lent pool .pool) (carryOf p r f q s lent pool .answer)
 effect p r f second lent pool (readFrom given q g) = beginning p r f second q (asLent (givenState r g) (readUnder q (givenState r g) lent pool given))
 effect p r f second lent pool (writtenTo out) = onlyRead p r f second pool (writeUnder p r f out .answer)
 
@@ -165,5 +173,17 @@ unfoldable pub feeding : Parameters → GrowthRecord → File → Pool → Outco
 feeding p r f pool o (plain q) = goesOn (made (countsAs r q o) (o .answer .refusal) ∷ [])
 feeding p r f pool o mend = goesOn []
 feeding p r f pool o (lost x) = goesOn (cond (lossFits p x) (counted p (x .underway) (wholeCall p r f pool (x .underway)) (o .file)) [])
+feeding p r f pool o (carriedInto old s source q g) = cond (isAccepted (o .answer)) (anew g (starsEntered (allStars old source))) (goesOn [])
+feeding p r f pool o (carriedFrom q s) = goesOn []
 feeding p r f pool o (readFrom given q g) = cond (isAccepted (o .answer)) (anew g (starsEntered (tableStars given (tableIn given)))) (goesOn [])
 feeding p r f pool o (writtenTo out) = goesOn []
+
+-- whether a 5 tells of this file: that of a carrying into it tells of the file it read
+unfoldable pub tellsOfFile : Element → Bool
+tellsOfFile (plain q) = true
+tellsOfFile mend = true
+tellsOfFile (lost x) = true
+tellsOfFile (carriedInto old s source q g) = false
+tellsOfFile (carriedFrom q s) = true
+tellsOfFile (readFrom given q g) = true
+tellsOfFile (writtenTo out) = true

@@ -8,7 +8,7 @@ use Rattle.placement.specs.File.{File}
 use Rattle.calls.specs.Answers.{Pool}
 use Rattle.calls.specs.Calls.{makeOf}
 use Rattle.histories.specs.Model.{lookUp, Made, modelFile, unfinishedFile, answered}
-use Rattle.histories.specs.Call.{Call, plain}
+use Rattle.histories.specs.Call.{Call, plain, tellsOfFile}
 use Rattle.histories.specs.Run.{HistoryState, Event, initial, events, end}
 
 -- what holds of a history from a state on
@@ -18,7 +18,7 @@ pub record AsModel (start : HistoryState) (history : List Call) : Type 0 where
       (t : Event) → List·Memᴰ t (events start history) → (k : ℕ) → t .call .element ≡ plain (lookUp k) → t .answer .refusal ≡ 0
       → t .answer ≡ answered (t .before .parameters) (t .before .model) k
   -- "Refused for damage means 5": no call is, nor any that the model is fed
-  pub undamaged : (t : Event) → List·Memᴰ t (events start history) → t .answer .refusal ≡ 5 → ⊥
+  pub undamaged : (t : Event) → List·Memᴰ t (events start history) → tellsOfFile (t .call .element) ≡ true → t .answer .refusal ≡ 5 → ⊥
   pub eachUndamaged : (t : Event) → List·Memᴰ t (events start history) → (c : Made) → List·Memᴰ c (t .calls) → c .refusal ≡ 5 → ⊥
   -- at the end separators, pages and growth state are the model's under the parameters then held
   pub separators : end start history .file .separators ≡ modelFile (end start history .parameters) (end start history .model) .separators

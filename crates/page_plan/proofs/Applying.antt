@@ -11,7 +11,8 @@ use Rattle.pages.specs.Page.{stretch}
 use Rattle.buffers.specs.Lists.{written, padded}
 use Rattle.hashing.specs.declared.Parameters.{Parameters}
 use Rattle.placement.specs.Rule.{Star, Contents, separators}
-use Rattle.placement.specs.File.{File, every, column, replaced}
+use Rattle.placement.specs.File.{File, every, column, fileOf, replaced}
+use Rattle.placement.specs.Hash.{lent}
 use Rattle.placement.proofs.Mapping.{Keeps, mapped}
 use Rattle.page_separator.specs.Lists.{selected, all}
 use Rattle.page_separator.specs.Words.{lowOf, numberIn, sourceOf}
@@ -122,6 +123,25 @@ applied-is places lo count newnumber newword newowner pool planned f cs ep es so
   where
     g : Star → Star
     g = renamed (f .words) (f .owners) newword newowner
+
+-- what the sources of the pages cs name, with their separators, is these pages as a whole file
+pub fetched-is : (places : ℕ) (sources planned : List ℕ) (f : File) (cs : List Contents)
+    → sources ≡ column places (λ (s : Star). s .payload .word) cs → planned ≡ separators cs → Sourced (f .numbers) 0 cs
+    → lent planned (map (namedItem (f .numbers) 0) sources) (map (namedItem (f .words) 0) sources) (map (namedItem (f .owners) 0) sources)
+    ≡ fileOf places (map (mapped (renamed (f .words) (f .owners) 0 0)) cs)
+unfolding fileOf
+fetched-is places sources planned f cs ep es so =
+    rw (
+      es,
+      ep,
+      separators-map g cs,
+      named-column places (f .numbers) 0 g (λ (s : Star). s .number) cs (names-sourced (f .numbers) 0 g (renamed-keeps (f .words) (f .owners) 0 0) cs so),
+      named-column places (f .words) 0 g (λ (s : Star). s .payload .word) cs (names-all (f .words) 0 g (λ (s : Star). s .payload .word) (λ (s : Star). unfold renamed in refl) cs),
+      named-column places (f .owners) 0 g (λ (s : Star). s .payload .owner) cs (names-all (f .owners) 0 g (λ (s : Star). s .payload .owner) (λ (s : Star). unfold renamed in refl) cs),
+    )
+  where
+    g : Star → Star
+    g = renamed (f .words) (f .owners) 0 0
 
 every-insert : (q : Star → Bool) (x : ℕ) (l : List ℕ) → q (starOf x) ≡ true → every q (map starOf l) ≡ true → every q (map starOf (insertLow x l)) ≡ true
 unfolding every insertLow

@@ -18,7 +18,7 @@ use Rattle.hashing.specs.Home.{home}
 use Rattle.placement.specs.Rule.{Star, Hash, Contents, pages, left, insert, without, separators, starWith}
 use Rattle.placement.specs.File.{File, gathered, column, replaced}
 use Rattle.placement.specs.Hash.{hashOf, homesOf}
-use Rattle.placement.proofs.Mapping.{mapped, pages-map, left-map}
+use Rattle.placement.proofs.Mapping.{Keeps, mapped, pages-map, left-map}
 use Rattle.placement.proofs.Standing.{length-separators}
 use Rattle.placement.proofs.Writing.{length-column, column-append, separators-append}
 use Rattle.page_separator.specs.Lists.{all, allBelow}
@@ -52,6 +52,16 @@ planned-pages H q real lo n w l hw nw hl gl =
     let t = rw (add-zero lo) at (plans-are H q real lo 0 n w l hw (rw (add-zero lo) nw) hl) in
     let same : waits (w ++ grouped lo 0 n l) ≡ waits (w ++ l) = waits-grouped lo n w l gl in
     (sym (t .0) ∙ ap (pages H lo n) same, sym (t .1) ∙ ap (left H lo n) same)
+
+-- .. with each star as g names it: the rule over any list of stars
+pub placed-words : (H : Hash) (q : Parameters) → Probes H q → (lo n : ℕ) (g : Star → Star) → Keeps g → (w l : List ℕ) (t : List Star)
+    → homed H w ≡ true → homesUpTo lo w ≡ true → homed H l ≡ true → groupsBelow lo n l ≡ true → map g (waits (w ++ l)) ≡ t
+    → (map (mapped g) (plans q lo 0 n w l) ≡ pages H lo n t) × (map g (waits (remains q lo 0 n w l)) ≡ left H lo n t)
+placed-words H q real lo n g keeps w l t hw nw hl gl e =
+    let both = planned-pages H q real lo n w l hw nw hl gl in (
+      ap (map (mapped g)) (both .0) ∙ sym (pages-map g keeps H lo n (waits (w ++ l))) ∙ ap (pages H lo n) e,
+      ap (map g) (both .1) ∙ sym (left-map g keeps H lo n (waits (w ++ l))) ∙ ap (left H lo n) e,
+    )
 
 -- the word of an entry's new star
 pub new-homed : (H : Hash) (h k s : ℕ) → h ≡ H .home k → k < 2 ^ 31 → s < 2 ^ 16 → homed H (pack h k s ∷ []) ≡ true
@@ -106,12 +116,8 @@ module _ (H : Hash) (q : Parameters) (real : Probes H q) (lo n : ℕ) (f : File)
       → (map (mapped (renamed (f .words) (f .owners) newword newowner)) (plans q lo 0 n w (stretchWords (q .places) lo n k (f .numbers) hs)) ≡ pages H lo n t)
       × (map (renamed (f .words) (f .owners) newword newowner) (waits (remains q lo 0 n w (stretchWords (q .places) lo n k (f .numbers) hs))) ≡ left H lo n t)
   placed-with w t hw nw e =
-      let g : Star → Star = renamed (f .words) (f .owners) newword newowner in
-      let l : List ℕ = stretchWords (q .places) lo n k (f .numbers) hs in
-      let both = planned-pages H q real lo n w l hw nw stretch-homed stretch-grouped in (
-        ap (map (mapped g)) (both .0) ∙ sym (pages-map g (renamed-keeps (f .words) (f .owners) newword newowner) H lo n (waits (w ++ l))) ∙ ap (pages H lo n) e,
-        ap (map g) (both .1) ∙ sym (left-map g (renamed-keeps (f .words) (f .owners) newword newowner) H lo n (waits (w ++ l))) ∙ ap (left H lo n) e,
-      )
+      placed-words H q real lo n (renamed (f .words) (f .owners) newword newowner) (renamed-keeps (f .words) (f .owners) newword newowner) w
+      (stretchWords (q .places) lo n k (f .numbers) hs) t hw nw stretch-homed stretch-grouped e
 
   -- the stretch by itself: the rule over its stars but the star k
   pub placed : (map (mapped (renamed (f .words) (f .owners) newword newowner)) (plans q lo 0 n [] (stretchWords (q .places) lo n k (f .numbers) hs)) ≡ pages H lo n (without k (gathered (q .places) f lo n)))

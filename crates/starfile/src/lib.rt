@@ -9,6 +9,7 @@ mod whole;
 mod writing;
 
 pub use advancing::step_growth;
+pub use carrying::carry;
 pub use growing::grow;
 pub use growing::make;
 pub use growing::shrink;

@@ -1,4 +1,5 @@
 // The calls as exported functions, backup's and two of hashing's, for the Rust tests alone. C programs have crate heatherplane.
+mod carried;
 mod mends;
 mod stopping;
 mod tables;
@@ -10,6 +11,7 @@ use calls::answers::placed_answer;
 use calls::answers::sought_answer;
 use calls::records;
 use calls::records::Recorded;
+pub use carried::sft_carry;
 use pages::position::Position;
 
 #[repr(C)]

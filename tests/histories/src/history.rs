@@ -1,5 +1,6 @@
 //! A history with the plain book beside it.
 
+use crate::carryings::{carry_back, carrying};
 use crate::tables::write_again;
 use crate::tester::{stores, Tester};
 use model::files::*;
@@ -179,10 +180,68 @@ impl History {
             return;
         }
         write_again(tester, &call, &after);
-        let book = rows.into_iter().flatten().map(|star| (star.number, star)).collect();
+        self.begin_anew(tester, parameters, growth, after, rows.unwrap_or_default());
+    }
+
+    /// Carries the file to the other multiplier and back; neither alters it or its book.
+    pub fn carry_from(&mut self, tester: &mut Tester) {
+        let other = small_parameters(&mut tester.random).under(self.parameters.carried().multiplier);
+        let new = tester.random.pick(&[self.parameters.carried(), other]);
+        let (call, lent) = carrying(tester, &Call::new(Kind::Carry, self.parameters, self.record), new, &self.lent);
+        let (outcome, after) = tester.compare(&call, &lent);
+        let book = self.book.values().copied().collect();
+        let expected = lay_out(&new, &call.new_record.growth, book);
+        tester.expect(
+            outcome.refusal == if expected.is_some() { 0 } else { 8 },
+            "a carrying is refused otherwise than the book",
+        );
+        if let Some(expected) = expected {
+            tester.expect(after.second == expected.file, "a carrying leaves another file than the book's");
+            let (back, restored) = carry_back(tester, &call, &after);
+            let same = back.refusal == 0 && restored.second == self.lent.file;
+            tester.expect(same, "carrying there and back does not restore the file");
+        }
+        self.check_file(tester);
+    }
+
+    /// Carries another file, sound or damaged, into this one's buffers or into others; accepted, the book begins anew.
+    pub fn carry_into(&mut self, tester: &mut Tester) {
+        let other = small_parameters(&mut tester.random);
+        let new = tester.random.pick(&[self.parameters, other]);
+        let old = small_parameters(&mut tester.random).under(new.carried().multiplier);
+        let old_growth = random_growth(&mut tester.random, &old);
+        let mut source = clean_file(&mut tester.random, &old, &old_growth, 80);
+        if tester.random.once_in(4) {
+            let bit = tester.random.below(bits(&source) as u64) as usize;
+            flip(&mut source, bit);
+        }
+        let record = random_record(&mut tester.random, &old, old_growth);
+        let (mut call, mut lent) = carrying(tester, &Call::new(Kind::Carry, old, record), new, &source);
+        if new == self.parameters {
+            (call.new_record, lent.second) = (self.record, self.lent.file.clone());
+        }
+        let (outcome, after) = tester.compare(&call, &lent);
+        if outcome.refusal != 0 {
+            let left = after.second == lent.second;
+            return tester.expect(left, "a refused carrying alters the file");
+        }
+        let file = Buffers { file: after.second, ..Buffers::zeros(&new) };
+        self.begin_anew(tester, new, call.new_record.growth, file, source.file.stars().collect());
+    }
+
+    /// An empty file and book under these parameters, into which the stars are entered.
+    fn begin_anew(
+        &mut self,
+        tester: &mut Tester,
+        parameters: Parameters,
+        growth: Growth,
+        lent: Buffers,
+        stars: Vec<Star>,
+    ) {
         let numbers = std::mem::take(&mut self.numbers);
-        *self = History::from(tester, parameters, growth, after);
-        tester.expect(self.book == book, "a reading leaves other stars than its rows");
+        *self = History::from(tester, parameters, growth, lent);
+        let book = stars.into_iter().map(|star| (star.number, star)).collect();
+        tester.expect(self.book == book, "a file begun anew has other stars");
         self.numbers.extend(numbers);
         self.check_file(tester);
     }

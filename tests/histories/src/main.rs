@@ -1,5 +1,6 @@
 //! Random testing of the library against the model: histories [--quick | --soak MINUTES] [--only NAME] [--seed N]
 
+mod carryings;
 mod history;
 mod scenarios;
 mod tables;
@@ -14,7 +15,7 @@ use tester::Tester;
 /// A name, how often a quick run repeats it and a round of a soak, and what to do.
 type Scenario = (&'static str, u64, u64, fn(&mut Tester));
 
-const SCENARIOS: [Scenario; 25] = [
+const SCENARIOS: [Scenario; 28] = [
     ("tiny files", 12, 3, scenarios::tiny_files),
     ("edge histories", 20, 10, scenarios::edge_histories),
     ("small histories", 3_000, 1_000, scenarios::small_history),
@@ -40,6 +41,9 @@ const SCENARIOS: [Scenario; 25] = [
     ("mutated tables", 10_000, 3_000, tables::mutated_tables),
     ("large tables", 3, 1, tables::large_tables),
     ("histories with tables", 400, 150, tables::histories_with_tables),
+    ("carryings", 5_000, 1_500, carryings::carryings),
+    ("large carryings", 8, 3, carryings::large_carryings),
+    ("histories with carryings", 400, 150, carryings::histories_with_carryings),
 ];
 
 /// The refusals that calls meet, after 0 for none.

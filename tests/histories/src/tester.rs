@@ -181,7 +181,7 @@ impl Tester {
         let small = random.below(40) as u32;
         let value = random.pick(&[0, 1, 8, 9, 32, 33, 99, 100, 256, 257, 1_024, 1_025, u32::MAX, any, small, small]);
         let p = &mut call.parameters;
-        match random.below(29) {
+        match random.below(33) {
             0 => p.places = value,
             1 => p.groups = value,
             2 => p.width = value,
@@ -210,6 +210,10 @@ impl Tester {
             25 => resize(random, &mut lent.second.owners),
             26 => call.stores = random.pick(&[0, 1, 2, value]),
             27 => resize(random, &mut lent.table),
+            28 => call.new_parameters.multiplier = random.pick(&[16_807, 48_271, value]),
+            29 => call.new_parameters.pages = value,
+            30 => call.new_record.steps = random.pick(&[0, 1, value]),
+            31 => (call.new_record.open, call.new_record.growth.expanded) = (random.once_in(2), small),
             _ => {
                 call.ra = random.pick(&[0, 1_295_999_999, 1_296_000_000, u32::MAX, any]);
                 call.dec = random.pick(&[-324_000_001, -324_000_000, 324_000_000, 324_000_001, i32::MIN, any as i32]);

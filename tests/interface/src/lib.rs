@@ -3,7 +3,7 @@
 use model::{Buffers, Call, Growth, Implementation, Kind, Outcome, Parameters, Record, Refused};
 
 /// The requests of document 02 that have landed in the library.
-pub const LANDED: &[u32] = &[1, 2, 3, 4, 5, 6, 7, 9, 10, 12, 13, 14];
+pub const LANDED: &[u32] = &[1, 2, 3, 4, 5, 6, 7, 8, 9, 10, 12, 13, 14];
 
 pub const LIBRARY: Implementation = Implementation { run, landed: LANDED };
 
@@ -213,6 +213,21 @@ extern "C" {
         pool_owners: *mut u8, pool_owners_length: usize,
         given: *const u8, given_length: usize,
     ) -> Reply;
+    fn sft_carry(
+        parameters: Parameters, record: Record,
+        separators: *const u8, separators_length: usize,
+        numbers: *const u32, numbers_length: usize,
+        words: *const u64, words_length: usize,
+        owners: *const u8, owners_length: usize,
+        new_parameters: Parameters, new_record: Record,
+        second_separators: *mut u8, second_separators_length: usize,
+        second_numbers: *mut u32, second_numbers_length: usize,
+        second_words: *mut u64, second_words_length: usize,
+        second_owners: *mut u8, second_owners_length: usize,
+        pool_numbers: *mut u32, pool_numbers_length: usize,
+        pool_words: *mut u64, pool_words_length: usize,
+        pool_owners: *mut u8, pool_owners_length: usize,
+    ) -> Reply;
     fn sft_mark_changed(
         parameters: Parameters, growth: Growth,
         old: *const u8, old_length: usize,
@@ -244,7 +259,8 @@ pub fn rank(step: u64, groups: u64, group: u64) -> u64 {
 
 /// Runs one call of the library.
 pub fn run(call: &Call, lent: &mut Buffers) -> Outcome {
-    let Call { kind, parameters: p, record: g, caller: c, number, ra, dec, stores, .. } = *call;
+    let Call { kind, parameters: p, record: g, caller: c, number, ra, dec, stores, new_parameters, new_record, .. } =
+        *call;
     let Buffers { file, second, .. } = lent;
     let (s, sl) = (file.separators.as_mut_ptr(), file.separators.len());
     let (n, nl) = (file.numbers.as_mut_ptr(), file.numbers.len());
@@ -289,6 +305,34 @@ pub fn run(call: &Call, lent: &mut Buffers) -> Outcome {
             Kind::Mend => sft_mend(p, g, s, sl, n, nl, w, wl, o, ol, pn, pnl, pw, pwl, po, pol),
             Kind::Write => sft_write(p, g, s, sl, n, nl, w, wl, o, ol, t, tl),
             Kind::Read => sft_read(p, g, s, sl, n, nl, w, wl, o, ol, pn, pnl, pw, pwl, po, pol, t, tl),
+            Kind::Carry => sft_carry(
+                p,
+                g,
+                s,
+                sl,
+                n,
+                nl,
+                w,
+                wl,
+                o,
+                ol,
+                new_parameters,
+                new_record,
+                ss,
+                ssl,
+                sn,
+                snl,
+                sw,
+                swl,
+                so,
+                sol,
+                pn,
+                pnl,
+                pw,
+                pwl,
+                po,
+                pol,
+            ),
             _ => panic!("the library has no {}", kind.name()),
         }
     };

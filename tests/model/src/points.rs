@@ -5,7 +5,7 @@ use crate::fits;
 use crate::hashing::{MODULUS, MULTIPLIERS};
 use crate::placement::{lay_out, pack, Star};
 use crate::session::Session;
-use crate::{Buffers, Growth, Implementation, Kind, Outcome, Pages, Parameters, Record};
+use crate::{Buffers, Call, Growth, Implementation, Kind, Outcome, Pages, Parameters, Record};
 
 /// One page at home, one above it, a place in each: star 32 has signatures 223 and 126, star 170 has 149 and 215.
 const TWO_PAGES: [u32; 7] = [1, 1, 1, 1, 8, 50, 2];
@@ -981,6 +981,48 @@ pub fn reading(run: Implementation) {
     refused(&session, &[], 16);
 }
 
+/// Carrying takes each star for its owner to the other multiplier, and an open growth of the old file does not matter; 1 for both files
+/// and for the same multiplier again, 2 for all lengths, 16 by the new file's record, 5, 8.
+pub fn carrying(run: Implementation) {
+    let mut session = Session::new(run, [3, 1, 1, 1, 8, 50, 2]);
+    for (caller, number) in [(9, 170), (0, 32), (255, 2_147_483_646)] {
+        session.caller = caller;
+        assert_eq!(session.enter(number).refusal, 0);
+    }
+    session.record.open = true;
+    session.lent.second.words.fill(7);
+    fill_pool(&mut session);
+    let new = Parameters::new([2, 1, 1, 1, 8, 50, 3]).under(MULTIPLIERS[1]);
+    let fitting = |new: &Parameters| Buffers { file: session.lent.file.clone(), ..Buffers::zeros(new) };
+    let call = Call { new_parameters: new, ..Call::new(Kind::Carry, session.parameters, session.record) };
+    let stars: Vec<Star> = session.lent.file.stars().collect();
+    let mut lent = fitting(&new);
+    let outcome = (run.run)(&call, &mut lent);
+    assert_eq!(outcome, Outcome { record: session.record, ..Outcome::default() });
+    let expected = lay_out(&new, &Growth::default(), stars).unwrap();
+    assert_eq!(lent, Buffers { second: expected.file, ..fitting(&new) });
+    let refused = |call: Call, lent: &Buffers, refusal: (u32, u32, u32)| {
+        let mut after = lent.clone();
+        assert_eq!(spot((run.run)(&call, &mut after)), refusal);
+        assert!(after.second == lent.second && after.file == lent.file);
+    };
+    let lent = fitting(&new);
+    refused(Call { new_parameters: new.under(MULTIPLIERS[0]), ..call }, &lent, (1, 0, 0));
+    refused(Call { new_parameters: Parameters { load: 100, ..new }, ..call }, &lent, (1, 0, 0));
+    refused(Call { new_record: Record { steps: 1, ..Record::default() }, ..call }, &lent, (1, 0, 0));
+    refused(Call { record: Record { steps: 2, ..session.record }, ..call }, &lent, (1, 0, 0));
+    let open = Record { open: true, ..Record::default() };
+    let old_sizes = fitting(&session.parameters);
+    refused(Call { new_parameters: Parameters { pages: 4, ..new }, ..call }, &old_sizes, (2, 0, 0));
+    let mut damaged = lent.clone();
+    damaged.file.words[0] = u64::MAX;
+    refused(Call { new_record: open, ..call }, &damaged, (16, 0, 0));
+    refused(call, &damaged, (5, 0, 0));
+    // Three stars for one place.
+    let small = Parameters { places: 1, pages: 1, ..new };
+    refused(Call { new_parameters: small, ..call }, &fitting(&small), (8, 0, 0));
+}
+
 /// A test of each point for an implementation.
 #[macro_export]
 macro_rules! point_tests {
@@ -991,7 +1033,7 @@ macro_rules! point_tests {
             entry_without_room_in_its_reach entry_into_full_file check_order damaged_values places resends cascades
             pages_in_use pool_contents strangers strangers_before_reach owners_travel owner_of_an_empty_place owner_lengths
             growth_in_steps out_of_turn record_limits growth_refused_in_steps stopped_stores stopped_changes
-            stopped_on_sound_pages mending writing reading);
+            stopped_on_sound_pages mending writing reading carrying);
     };
     ($run:path: $($name:ident)*) => {
         $(#[test] fn $name() { $crate::points::$name($run) })*

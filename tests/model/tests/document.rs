@@ -99,7 +99,9 @@ fn position_words() {
 
 #[test]
 fn call_vectors() {
-    for (name, count) in [("4-i", 900), ("5-ix-xiv", 900), ("6-xiii", 1_000), ("7-xii", 1_200), ("8-vi", 235)] {
+    for (name, count) in
+        [("4-i", 900), ("5-ix-xiv", 900), ("6-xiii", 1_000), ("7-xii", 1_200), ("8-vi", 235), ("8-viii", 116)]
+    {
         let text = fs::read_to_string(format!("{FOLDER}/{name}.txt")).unwrap();
         let vectors = vectors::parse(&text, LANDED);
         assert_eq!(vectors.len(), count);
