@@ -15,7 +15,7 @@ from .refusals import BAD_PARAMETERS, NOT_HELD, ImageRefused, refuse
 TYPES = {"separators": np.uint8, "numbers": np.uint32, "words": np.uint64, "owners": np.uint8}
 RA_END = 1_296_000_000  # a full turn in milliarcseconds
 DEC_END = 324_000_000
-IMAGE_TORN = 6
+IMAGE_BAD_CRC, IMAGE_TORN = 4, 6
 
 
 class Position(NamedTuple):
@@ -367,10 +367,13 @@ class StarFile(Mapping):
                 os.unlink(beside)
 
     @classmethod
-    def from_image(cls, data: bytes, path: object = "image") -> "StarFile":
-        """The file of an image; ImageRefused if it is none, was altered or is torn. Call check() to compare it with the rule."""
+    def from_image(cls, data: bytes, path: object = "image", altered: bool = False) -> "StarFile":
+        """The file of an image; ImageRefused if it is none, was altered or is torn. Call check() to compare it with the rule. With altered
+        an image with a wrong checksum is taken all the same, to be looked into."""
         image, header = np.frombuffer(data, np.uint8), ImageHeader()
         refusal = calls.arrays_image_test(image.ctypes.data, image.size, byref(header))
+        if refusal == IMAGE_BAD_CRC and altered:
+            refusal = 0
         if refusal or header.flags:
             raise ImageRefused(refusal or IMAGE_TORN, path)
         file, at = cls.__new__(cls), ctypes.sizeof(ImageHeader)
@@ -382,7 +385,7 @@ class StarFile(Mapping):
         return file
 
     @classmethod
-    def load(cls, path: str | os.PathLike) -> "StarFile":
-        """Reads an image that save or another host wrote."""
+    def load(cls, path: str | os.PathLike, altered: bool = False) -> "StarFile":
+        """Reads an image that save or another host wrote; see from_image."""
         with open(path, "rb") as image:
-            return cls.from_image(image.read(), path)
+            return cls.from_image(image.read(), path, altered)
