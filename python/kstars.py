@@ -2,6 +2,7 @@
 from __future__ import annotations
 
 import struct
+import sys
 from pathlib import Path
 from typing import NamedTuple
 
@@ -42,3 +43,14 @@ def hd_stars(directory: Path = DIRECTORY) -> tuple[Stars, int]:
     stars = named[np.sort(first)]
     # right ascension in 10^-6 hours, declination in 10^-5 degrees: both are whole milliarcseconds
     return Stars(stars["hd"].astype(np.int64), stars["ra"].astype(np.int64) * 54, stars["dec"].astype(np.int64) * 36, stars["magnitude"]), len(found)
+
+
+def main() -> None:
+    stars, _ = hd_stars()
+    print("HD,RAdeg,DEdeg,Vmag")
+    for hd, ra, dec, magnitude in list(zip(*(column.tolist() for column in stars)))[: int(sys.argv[1])]:
+        print(f"{hd},{ra / 3_600_000:.7f},{dec / 3_600_000:.7f},{magnitude / 100:.2f}")
+
+
+if __name__ == "__main__":
+    main()

@@ -144,14 +144,14 @@ def diff(arguments: argparse.Namespace) -> int:
 
 
 COMMANDS = (
-    (load, "CATALOGUE IMAGE", "enters the stars of a CSV or FITS file into an image, which is made unless it exists; grows when that is due",
+    (load, "enters the stars of a CSV or FITS file into an image, which is made unless it exists; grows when that is due",
      "heatherplane load bright.csv bright.image --number HD --ra RAdeg --dec DEdeg"),
-    (look, "IMAGE NUMBER..", "tells positions, in degrees; status 1 if a star is not held", "heatherplane look bright.image 48915 172167"),
-    (info, "IMAGE", "tells parameters, growth state and stars", "heatherplane info bright.image"),
-    (check, "IMAGE", "compares the whole file with the rule; status 1 and the page if it is damaged", "heatherplane check bright.image"),
-    (fits, "IMAGE OUT.fits", "writes a FITS table with the columns number, ra, dec and owner", "heatherplane fits bright.image bright.fits --unit deg"),
-    (picture, "IMAGE OUT.png", "draws stars, overflow and separators by page", "heatherplane picture bright.image bright.png"),
-    (diff, "OLD NEW", "tells stars added, gone and moved, in milliarcseconds. Clean files of the same parameters, growth state, stars and owners are "
+    (look, "tells positions, in degrees; status 1 if a star is not held", "heatherplane look bright.image 48915 172167"),
+    (info, "tells parameters, growth state and stars", "heatherplane info bright.image"),
+    (check, "compares the whole file with the rule; status 1 and the page if it is damaged", "heatherplane check bright.image"),
+    (fits, "writes a FITS table with the columns number, ra, dec and owner", "heatherplane fits bright.image bright.fits --unit deg"),
+    (picture, "draws stars, overflow and separators by page", "heatherplane picture bright.image bright.png"),
+    (diff, "tells stars added, gone and moved, in milliarcseconds. Clean files of the same parameters, growth state, stars and owners are "
      "equal byte for byte, however they came about; status 1 if they differ", "heatherplane diff monday.image tuesday.image"),
 )  # fmt: skip
 
@@ -161,7 +161,7 @@ def parser() -> argparse.ArgumentParser:
     top.add_argument("--version", action="version", version=version())
     below = top.add_subparsers(required=True, metavar="COMMAND")
     made = {}
-    for command, _, text, example in COMMANDS:
+    for command, text, example in COMMANDS:
         name = command.__name__
         made[name] = below.add_parser(name, help=text, description=text + ".", epilog="example: " + example)
         made[name].set_defaults(command=command)

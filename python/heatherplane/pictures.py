@@ -78,7 +78,7 @@ def growth_picture(file: StarFile, numbers: np.ndarray, ra: np.ndarray, dec: np.
     axis.plot(sizes[span - 1 :], np.convolve(touched, np.ones(span) / span, "valid"), color=OVERFLOW, label=f"mean of the last {span}")
     axis.set(xlabel="pages addressed after the growth", ylabel="pages it may alter", ylim=(0, None))
     axis.set_title(f"{len(touched):,} growths; {np.mean(touched):.1f} pages each in the mean, {max(touched)} at most", loc="left")
-    axis.legend(loc="upper left")
+    axis.legend(loc="lower right", ncol=2)
     store(drawn, path)
     return np.array(touched)
 
