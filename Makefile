@@ -1,4 +1,4 @@
-.PHONY: test run try bench report damage spread untouched stack soak library install uninstall
+.PHONY: test run try bench report damage spread untouched stack soak library install uninstall python pictures catalogue
 
 # Every test; ends with 'N passed, 0 failed'.
 test:
@@ -49,3 +49,15 @@ install:
 
 uninstall:
 	@PREFIX=$(PREFIX) DESTDIR=$(DESTDIR) tools/install --remove
+
+# The library for the Python package (docs/GUIDE.md).
+python:
+	@python/build
+
+# The pictures of docs/pictures/.
+pictures:
+	@python/pictures
+
+# A real catalogue, that of Debian's kstars-data, through a file's life (docs/CATALOGUE.md).
+catalogue:
+	@python/catalogue
