@@ -1,5 +1,5 @@
-/* The header's calls on handles as functions that ctypes can find, and loops that make one call for each item of an array. It stands above the
- * calls: it reads and writes no page itself. python/build links it with the proved archive. */
+/* The header's calls on handles as functions that ctypes can find, and loops that make one call for each item of an array. It stands above
+ * the calls and reads and writes no page itself. python/build links it with the proved archive. */
 #include "heatherplane.h"
 
 #define ARRAYS __attribute__((visibility("default")))
@@ -100,8 +100,8 @@ static size_t grow_if_due(File *file, size_t stars)
     return stars;
 }
 
-/* Entries in order. With grow, growth follows each entry while it is due, and an entry refused with FULL is tried again after a growth as long
- * as there is one. Answers how many were refused. */
+/* Entries in order. With grow, growth follows each entry while it is due, and an entry refused with FULL is tried again after a growth as
+ * long as there is one. Answers how many were refused. */
 ARRAYS size_t arrays_enter_many(
     File *file, uint8_t caller, size_t count, const uint32_t *numbers, const uint32_t *ra, const int32_t *dec, bool grow,
     uint8_t *refusals)

@@ -1,4 +1,4 @@
-"""The HD stars of kstars-data through a star file's life, with a figure for each part. It ends with status 1 if anything is not as it should be."""
+"""The HD stars of kstars-data through a star file's life, with a figure for each part; status 1 if anything is not as it should be."""
 from __future__ import annotations
 
 import ctypes
@@ -99,8 +99,10 @@ def main(out: Path) -> None:
     file = StarFile()
     p = file.parameters
     fit = p.load * p.places * PAGES // 100
-    print(f"a file has {p.pages * p.places:,} places at most: the {fit:,} brightest, {p.load} % of {PAGES:,} pages, go into one, to magnitude "
-          f"{stars.magnitude[fit - 1] / 100:.2f}")
+    print(
+        f"a file has {p.pages * p.places:,} places at most: the {fit:,} brightest, {p.load} % of {PAGES:,} pages, go into one, "
+        f"to magnitude {stars.magnitude[fit - 1] / 100:.2f}"
+    )
 
     refusals, seconds = timed(file.enter_many, stars.hd[:fit], stars.ra[:fit], stars.dec[:fit])
     need(not refusals.any(), "every star is accepted")
@@ -112,7 +114,8 @@ def main(out: Path) -> None:
     found, seconds = timed(file.get_many, stars.hd)
     need(found.found[:fit].all() and not found.found[fit:].any() and not found.refusals.any(), "the stars entered are found, no others")
     need(np.array_equal(found.ra[:fit], stars.ra[:fit]) and np.array_equal(found.dec[:fit], stars.dec[:fit]), "with their positions")
-    print(f"all {len(stars.hd):,} looked up: {fit:,} found with their positions, the others not; {1e6 * seconds / len(stars.hd):.2f} µs each")
+    each = 1e6 * seconds / len(stars.hd)
+    print(f"all {len(stars.hd):,} looked up: {fit:,} found with their positions, the others not; {each:.2f} µs each")
 
     file.save(out / "bright.image")
     need(StarFile.load(out / "bright.image") == file, "the image read back is the file")
@@ -137,14 +140,18 @@ def main(out: Path) -> None:
     need(few.addressed == p.width * p.groups, "the file shrinks to (0, 0)")
     grown, up = timed(grow_to, few, PAGES)
     need(few.image() == small, "and grows back to the same bytes")
-    print(f"with the {LEFT:,} brightest: {given:,} shrinks to (0, 0) ({down:.2f} s) and {grown:,} growths back ({up:.2f} s): the same bytes")
+    print(
+        f"with the {LEFT:,} brightest: {given:,} shrinks to (0, 0) ({down:.2f} s) "
+        f"and {grown:,} growths back ({up:.2f} s): the same bytes"
+    )
 
     faint = StarFile.sized_for(len(stars.hd) - fit)
     refusals, seconds = timed(faint.enter_many, stars.hd[fit:], stars.ra[fit:], stars.dec[fit:])
     need(not refusals.any(), "the fainter stars are accepted")
     faint.check()
     faint.save(out / "faint.image")
-    print(f"the other {len(faint):,} in a file sized for them, {faint.addressed:,} of {faint.parameters.pages:,} pages: {seconds:.2f} s; clean")
+    pages = f"{faint.addressed:,} of {faint.parameters.pages:,} pages"
+    print(f"the other {len(faint):,} in a file sized for them, {pages}: {seconds:.2f} s; clean")
     tables(file, out / "bright.fits")
 
 

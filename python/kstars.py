@@ -42,7 +42,8 @@ def hd_stars(directory: Path = DIRECTORY) -> tuple[Stars, int]:
     _, first = np.unique(named["hd"], return_index=True)
     stars = named[np.sort(first)]
     # right ascension in 10^-6 hours, declination in 10^-5 degrees: both are whole milliarcseconds
-    return Stars(stars["hd"].astype(np.int64), stars["ra"].astype(np.int64) * 54, stars["dec"].astype(np.int64) * 36, stars["magnitude"]), len(found)
+    hd, ra, dec = (stars[name].astype(np.int64) for name in ("hd", "ra", "dec"))
+    return Stars(hd, ra * 54, dec * 36, stars["magnitude"]), len(found)
 
 
 def main() -> None:

@@ -48,8 +48,8 @@ def page_picture(file: StarFile, path: str | os.PathLike) -> None:
     fill.bar(pages, away, width=1.0, bottom=held - away, color=OVERFLOW, label="overflow from lower pages")
     fill.set(ylabel="stars", ylim=(0, p.places * 1.02), xlim=(-0.5, p.pages - 0.5))
     used = held[: file.addressed].sum() / (file.addressed * p.places)
-    fill.set_title(f"{held.sum():,} stars; {file.addressed:,} of {p.pages:,} pages addressed, {used:.0%} of their {p.places} places each used",
-                   loc="left")
+    title = f"{held.sum():,} stars; {file.addressed:,} of {p.pages:,} pages addressed, {used:.0%} of their {p.places} places each used"
+    fill.set_title(title, loc="left")
     cut.plot(pages, file.separators, ".", markersize=3, color=LINE)
     full = np.count_nonzero(file.separators < top)
     cut.set(ylabel="separator", xlabel="page", ylim=(0, top * 1.04))
@@ -61,7 +61,7 @@ def page_picture(file: StarFile, path: str | os.PathLike) -> None:
 
 
 def growth_picture(file: StarFile, numbers: np.ndarray, ra: np.ndarray, dec: np.ndarray, path: str | os.PathLike) -> np.ndarray:
-    """Enters the stars, growing when due, and draws how many pages each growth may have altered. Answers these numbers, growth by growth."""
+    """Enters the stars, growing when due, and draws how many pages each growth may have altered; it answers these numbers."""
     sizes, touched, at = [], [], 0
     while at < len(numbers):
         # growth cannot be due before the load of the addressed pages is exceeded

@@ -369,7 +369,8 @@ class StarFile(Mapping):
     @classmethod
     def from_image(cls, data: bytes, path: object = "image", altered: bool = False) -> "StarFile":
         """The file of an image; ImageRefused if it is none, was altered or is torn. Call check() to compare it with the rule. With altered
-        an image with a wrong checksum is taken all the same, to be looked into."""
+        an image with a wrong checksum is taken all the same, to be looked into. A growth that was open is given up, as its second set is
+        not part of an image."""
         image, header = np.frombuffer(data, np.uint8), ImageHeader()
         refusal = calls.arrays_image_test(image.ctypes.data, image.size, byref(header))
         if refusal == IMAGE_BAD_CRC and altered:
@@ -382,6 +383,9 @@ class StarFile(Mapping):
             array = file._arrays[name]
             array.view(np.uint8)[:] = image[at : at + array.nbytes]
             at += array.nbytes
+        # of all calls due asks for the least: parameters and record
+        refuse(calls.arrays_due(file._handle).refusal)
+        file._handle.growth.open = file._handle.growth.steps = 0
         return file
 
     @classmethod

@@ -101,9 +101,8 @@ def read_csv(
                 ras.append(_angle(texts[1]))
                 decs.append(_angle(texts[2]))
                 lines.append(rows.line_num)
-    return Catalogue(
-        np.array(numbers, np.int64), to_mas(ras, unit, True), to_mas(decs, "deg" if unit == "hour" else unit, False), np.array(lines, np.int64)
-    )
+    dec_unit = "deg" if unit == "hour" else unit
+    return Catalogue(np.array(numbers, np.int64), to_mas(ras, unit, True), to_mas(decs, dec_unit, False), np.array(lines, np.int64))
 
 
 def read_table(table, number: str | None = None, ra: str | None = None, dec: str | None = None, unit: str | None = None) -> Catalogue:

@@ -204,6 +204,18 @@ class Whole(unittest.TestCase):
                     StarFile.from_image(bytes(altered))
                 self.assertEqual(caught.exception.name, name)
             self.assertEqual(len(StarFile.from_image(bytes(data), altered=True)), 400)
+            for at, value in ((24, 0), (48, 2**31), (24, 2**32 - 1)):
+                data = bytearray(self.file.image())
+                data[at : at + 4] = value.to_bytes(4, "little")
+                with self.assertRaises(Refused) as caught:
+                    StarFile.from_image(bytes(data), altered=True)
+                self.assertEqual(caught.exception.number, r.BAD_PARAMETERS)
+
+    def test_image_of_an_open_growth(self):
+        before = self.file.copy()
+        for step in self.file.grow_in_steps():
+            if step == 2:
+                self.assertEqual(StarFile.from_image(self.file.image()), before)
 
     def test_against_a_dictionary(self):
         rng, book, file = np.random.default_rng(5), {}, StarFile(places=4, groups=2, width=2, step=1, pages=64)

@@ -68,7 +68,8 @@ class Tables(unittest.TestCase):
         from astropy import units
         from astropy.table import Table
 
-        table = Table({"HIP": [3, 1, 2, 0], "RAJ2000": [1.0, 2.0, 24.5, 3.0] * units.hourangle, "DEJ2000": [1.0, 2.0, 3.0, 4.0] * units.arcmin})
+        ra, dec = [1.0, 2.0, 24.5, 3.0] * units.hourangle, [1.0, 2.0, 3.0, 4.0] * units.arcmin
+        table = Table({"HIP": [3, 1, 2, 0], "RAJ2000": ra, "DEJ2000": dec})
         file, refused = tables.from_table(table)
         self.assertEqual(dict(file), {1: (108_000_000, 120_000), 3: (54_000_000, 60_000)})
         self.assertEqual([tuple(row) for row in refused], [(3, 2, "bad position"), (4, 0, "bad number")])
@@ -83,7 +84,8 @@ class Tables(unittest.TestCase):
     @unittest.skipUnless(ASTROPY, "astropy is not installed")
     def test_fits_there_and_back(self):
         rng, file = np.random.default_rng(3), StarFile.sized_for(3000)
-        file.enter_many(rng.choice(2**31 - 2, 3000, False) + 1, rng.integers(0, 1_296_000_000, 3000), rng.integers(-324_000_000, 324_000_001, 3000))
+        ra, dec = rng.integers(0, 1_296_000_000, 3000), rng.integers(-324_000_000, 324_000_001, 3000)
+        file.enter_many(rng.choice(2**31 - 2, 3000, False) + 1, ra, dec)
         for unit in ("mas", "arcsec", "deg"):
             tables.write_fits(file, "a.fits", unit)
             again = StarFile.sized_for(3000)
