@@ -3,10 +3,11 @@ import re
 import sys
 from pathlib import Path
 
+import numpy as np
 from kstars import hd_stars
 
 from heatherplane import StarFile
-from heatherplane.pictures import access_picture, growth_picture, page_picture
+from heatherplane.pictures import access_picture, filter_picture, growth_picture, page_picture
 
 
 def report_rows(path: Path) -> list[tuple[int, float, float, float, float]]:
@@ -29,6 +30,9 @@ def main(out: Path) -> None:
     part.enter_many(stars.hd[:6400], stars.ra[:6400], stars.dec[:6400])
     page_picture(part, out / "pages.png")
     print("pages.png:", part)
+    order = np.random.default_rng(1970).permutation(len(stars.hd))
+    share = filter_picture(stars.hd[order], part.parameters.multiplier, out / "filter.png")
+    print(f"filter.png: {share[-1]:.4f} with 256 reports")
     rows = report_rows(out.parent / "REPORT.md")
     access_picture(rows, out / "accesses.png")
     print(f"accesses.png: {len(rows)} steps")

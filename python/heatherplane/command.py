@@ -31,7 +31,7 @@ def describe(file: StarFile) -> str:
         f"pages       {file.addressed} addressed of {p.pages}, {p.places} places each",
         "parameters  " + " ".join(f"{letter}={getattr(p, name)}" for letter, name in zip(("b", "N", "n0", "s", "k", "A", "M"), PARAMETERS))
         + f" multiplier={p.multiplier}",
-        f"growth      e={g.expansions} x={g.expanded}" + (f", open with {g.steps} steps done" if g.open else ""),
+        f"growth      e={g.expansions} x={g.expanded}",
         f"growth due  {'yes' if file.due() else 'no'}",
         f"overflowed  {np.count_nonzero(file.separators < 2**p.bits - 1)} pages",
         f"owners      {len(np.unique(file.owners[file.numbers != 0]))}",

@@ -5,7 +5,7 @@ import os
 
 import numpy as np
 
-from .homes import homes
+from .homes import homes, scrambled
 from .starfile import StarFile
 
 OWN, OVERFLOW, LINE, GREY = "#4477aa", "#ee8866", "#222222", "#999999"
@@ -95,3 +95,23 @@ def access_picture(rows: list[tuple[int, float, float, float, float]], path: str
     axis.set_title("Pages read and written for each star entered, beside the report's Table 1", loc="left")
     axis.legend(loc="upper center", ncol=2, frameon=False)
     store(drawn, path)
+
+
+def filter_picture(numbers: np.ndarray, multiplier: int, path: str | os.PathLike) -> np.ndarray:
+    """How often the tray's filter, 2,048 bits with X1, X2 and X3 of each waiting number set (document 02 (xi)), says yes of a star that no
+    report names: up to 256 reports on the first numbers, asked for all numbers behind them. Answers the share after each report."""
+    bits = np.stack([scrambled(multiplier, power, numbers) % 2048 for power in (1, 2, 3)], axis=1)
+    waiting, others = bits[:256], bits[256:]
+    share, field = [], np.zeros(2048, bool)
+    for report in waiting:
+        field[report] = True
+        share.append(field[others].all(axis=1).mean())
+    count = np.arange(1, 257)
+    drawn, (axis,) = figure(8, 3.6)
+    axis.plot(count, 100 * np.array(share), color=OWN, label=f"asked for {len(others):,} other stars")
+    axis.plot(count, 100 * (1 - (1 - 1 / 2048) ** (3 * count)) ** 3, "--", color=OVERFLOW, label="three random bits each")
+    axis.set(xlabel="reports waiting", ylabel="false positives, per cent", xlim=(0, 256), ylim=(0, None))
+    axis.set_title(f"The tray's filter: {100 * share[-1]:.1f} % false positives when the tray is full", loc="left")
+    axis.legend(loc="upper left", frameon=False)
+    store(drawn, path)
+    return np.array(share)
