@@ -1,4 +1,4 @@
-.PHONY: help test run try bench report damage spread untouched neighbours stack soak library install uninstall clean
+.PHONY: help test run try bench report damage spread untouched neighbours stack soak library install uninstall python pictures catalogue deps clean
 
 # What can be made, and how long it takes. "Proving first": what the target needs is proved where it has changed, up to 10 minutes on two cores.
 help:
@@ -15,6 +15,10 @@ help:
 	@echo "make soak       random histories for as long as you like, proving first"
 	@echo "make library    the library for C, static and shared: seconds, proving first"
 	@echo "make install    library, header, starline, manual and examples below PREFIX (/usr/local); make uninstall removes them"
+	@echo "make python     the library for the Python package and command (docs/GUIDE.md): seconds, proving first"
+	@echo "make catalogue  41,673 stars of Debian's kstars-data through a file's life: ten seconds, proving first; apt installs them"
+	@echo "make pictures   the pictures of docs/pictures/"
+	@echo "make deps       install what only some machines have: numpy, astropy, matplotlib, fitsverify, cfitsio, valgrind (Debian)"
 	@echo "make clean      remove everything that was made"
 
 # Every test; ends with 'N passed, 0 failed'.
@@ -70,6 +74,23 @@ install:
 
 uninstall:
 	@PREFIX=$(PREFIX) DESTDIR=$(DESTDIR) tools/install --remove
+
+# The library for the Python package (docs/GUIDE.md).
+python:
+	@python/build
+
+# The pictures of docs/pictures/.
+pictures:
+	@python/pictures
+
+# A real catalogue, that of Debian's kstars-data, through a file's life (docs/CATALOGUE.md).
+catalogue:
+	@python/catalogue
+
+# What the gate tests only where it is installed.
+deps:
+	apt-get update
+	apt-get install -y python3-numpy python3-astropy python3-matplotlib fitsverify libcfitsio-dev valgrind
 
 clean:
 	rm -rf target

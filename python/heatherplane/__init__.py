@@ -1,0 +1,6 @@
+"""Star files in Python: numpy arrays lent to the proved calls of libheatherplane. docs/GUIDE.md is the way in."""
+from .library import Growth, Parameters, version
+from .refusals import ImageRefused, NotHeld, Refused
+from .starfile import Found, Position, StarFile
+
+__all__ = ["Found", "Growth", "ImageRefused", "NotHeld", "Parameters", "Position", "Refused", "StarFile", "version"]
