@@ -339,6 +339,11 @@ pub fn run(call: &Call, lent: &mut Buffers) -> Outcome {
     let outcome = reply.outcome();
     match kind {
         Kind::Write => Outcome { length: outcome.stars, stars: 0, ..outcome },
+        // A carrying answers the new file's record, which it leaves as lent; the old file's is only read.
+        Kind::Carry => {
+            assert_eq!(outcome.record, new_record, "a carrying changed the new file's record");
+            Outcome { record: g, ..outcome }
+        }
         _ => outcome,
     }
 }
