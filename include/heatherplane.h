@@ -25,8 +25,8 @@
  * BAD_PARAMETERS, BAD_LENGTH, BAD_NUMBER and BAD_POSITION and else holds zeros.
  *
  * Threads: a call touches what it is lent and nothing else, so calls on files that share no buffer may run at once. On one file
- * look_up, due, check, open_growth and step_growth only read and may run at once, each with a pool and a second set of its own, while no
- * call that writes the file runs. Each call's comment says which it is. There are no locks in the library.
+ * look_up, due, check, open_growth, step_growth, write_table and carry only read and may run at once, each with a pool, a second set and
+ * an output of its own, while no call that writes the file runs. Each call's comment says which it is. There are no locks in the library.
  *
  * Buffers, parameters and growth record belong together: keep them together between runs, as an image does. Others that are valid by
  * themselves, but not this file's own, are accepted, and then a star that is held may be answered as not found (docs/DAMAGE.md). */
