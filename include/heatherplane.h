@@ -25,8 +25,8 @@
  * BAD_PARAMETERS, BAD_LENGTH, BAD_NUMBER and BAD_POSITION and else holds zeros.
  *
  * Threads: a call touches what it is lent and nothing else, so calls on files that share no buffer may run at once. On one file
- * look_up, due, check, open_growth and step_growth only read and may run at once, each with a pool and a second set of its own, while no
- * call that writes the file runs. Each call's comment says which it is. There are no locks in the library.
+ * look_up, due, check, open_growth, step_growth, write_table and carry only read and may run at once, each with a pool, a second set and
+ * an output of its own, while no call that writes the file runs. Each call's comment says which it is. There are no locks in the library.
  *
  * Buffers, parameters and growth record belong together: keep them together between runs, as an image does. Others that are valid by
  * themselves, but not this file's own, are accepted, and then a star that is held may be answered as not found (docs/DAMAGE.md). */
@@ -383,6 +383,125 @@ HEATHERPLANE_NODISCARD struct heatherplane_reply heatherplane_step_growth(
     uint64_t *pool_words, size_t pool_words_length,
     uint8_t *pool_owners, size_t pool_owners_length);
 
+/* The stopped forms: what a power loss leaves of a call. A page is stored whole, and the separators after the last page; after the
+ * given number of stores the call ends. With a store for every changed page, or more, it is the whole call. For tests of a mount and
+ * of its mending.
+ *
+ * Buffers, refused, threads: as enter, change and remove. The reply is that of the whole call, whatever was stored.
+ * Afterwards: an entry stores the highest changed page first, a removal the lowest; a change is one store. heatherplane_mend makes
+ * the file whole again. */
+HEATHERPLANE_NODISCARD struct heatherplane_reply heatherplane_enter_stopped(
+    uint32_t places, uint32_t groups, uint32_t width, uint32_t step, uint32_t bits, uint32_t load, uint32_t pages,
+    uint32_t multiplier, uint32_t expansions, uint32_t expanded, uint32_t open, uint32_t steps,
+    uint8_t *separators, size_t separators_length,
+    uint32_t *numbers, size_t numbers_length,
+    uint64_t *words, size_t words_length,
+    uint8_t *owners, size_t owners_length,
+    uint32_t *pool_numbers, size_t pool_numbers_length,
+    uint64_t *pool_words, size_t pool_words_length,
+    uint8_t *pool_owners, size_t pool_owners_length,
+    uint8_t caller, uint32_t number, uint32_t ra, int32_t dec, uint32_t stores);
+
+HEATHERPLANE_NODISCARD struct heatherplane_reply heatherplane_change_stopped(
+    uint32_t places, uint32_t groups, uint32_t width, uint32_t step, uint32_t bits, uint32_t load, uint32_t pages,
+    uint32_t multiplier, uint32_t expansions, uint32_t expanded, uint32_t open, uint32_t steps,
+    const uint8_t *separators, size_t separators_length,
+    const uint32_t *numbers, size_t numbers_length,
+    uint64_t *words, size_t words_length,
+    const uint8_t *owners, size_t owners_length,
+    uint8_t caller, uint32_t number, uint32_t ra, int32_t dec, uint32_t stores);
+
+HEATHERPLANE_NODISCARD struct heatherplane_reply heatherplane_remove_stopped(
+    uint32_t places, uint32_t groups, uint32_t width, uint32_t step, uint32_t bits, uint32_t load, uint32_t pages,
+    uint32_t multiplier, uint32_t expansions, uint32_t expanded, uint32_t open, uint32_t steps,
+    uint8_t *separators, size_t separators_length,
+    uint32_t *numbers, size_t numbers_length,
+    uint64_t *words, size_t words_length,
+    uint8_t *owners, size_t owners_length,
+    uint32_t *pool_numbers, size_t pool_numbers_length,
+    uint64_t *pool_words, size_t pool_words_length,
+    uint8_t *pool_owners, size_t pool_owners_length,
+    uint8_t caller, uint32_t number, uint32_t stores);
+
+/* Mends a file whose call was cut short: places the stars that its pages hold anew. No separator is read, and a star that stands on
+ * two pages with one position and owner is one star.
+ *
+ * Buffers: the file's four and the pool's three.
+ * Refused: BAD_PARAMETERS, BAD_LENGTH, OUT_OF_TURN, BAD_CONTENTS (a star with two positions or owners, or an invalid item), FULL.
+ * Accepted: the file is clean; page is 0.
+ * Threads: writes the file. */
+HEATHERPLANE_NODISCARD struct heatherplane_reply heatherplane_mend(
+    uint32_t places, uint32_t groups, uint32_t width, uint32_t step, uint32_t bits, uint32_t load, uint32_t pages,
+    uint32_t multiplier, uint32_t expansions, uint32_t expanded, uint32_t open, uint32_t steps,
+    uint8_t *separators, size_t separators_length,
+    uint32_t *numbers, size_t numbers_length,
+    uint64_t *words, size_t words_length,
+    uint8_t *owners, size_t owners_length,
+    uint32_t *pool_numbers, size_t pool_numbers_length,
+    uint64_t *pool_words, size_t pool_words_length,
+    uint8_t *pool_owners, size_t pool_owners_length);
+
+/* Writes the file's stars as a FITS table, in rising number. Owners are not written.
+ *
+ * Buffers: the file's four, which are only read, and out, of any number of bytes.
+ * Refused: BAD_PARAMETERS, BAD_LENGTH, DAMAGED (the lowest unsound page), SHORT_OUTPUT; never OUT_OF_TURN. A refusal leaves out.
+ * Accepted: stars is the table's length in bytes: 5760 and 12 for each star, these rounded up to a multiple of 2880. Bytes of out
+ * past it are left.
+ * Threads: reads the file, writes out. */
+HEATHERPLANE_NODISCARD struct heatherplane_reply heatherplane_write_table(
+    uint32_t places, uint32_t groups, uint32_t width, uint32_t step, uint32_t bits, uint32_t load, uint32_t pages,
+    uint32_t multiplier, uint32_t expansions, uint32_t expanded, uint32_t open, uint32_t steps,
+    const uint8_t *separators, size_t separators_length,
+    const uint32_t *numbers, size_t numbers_length,
+    const uint64_t *words, size_t words_length,
+    const uint8_t *owners, size_t owners_length,
+    uint8_t *out, size_t out_length);
+
+/* Replaces the file by the stars of a FITS table, all of them the institute's. What the file held is not read.
+ *
+ * Buffers: the file's four, the pool's three, and given, the table's bytes, which are only read.
+ * Refused: BAD_PARAMETERS, BAD_LENGTH, OUT_OF_TURN, BAD_HEADER (header and length are none that write_table makes), BAD_ROWS (a row out
+ * of order or range, or padding that is not 0), FULL.
+ * Accepted: the file is clean; page is 0.
+ * Threads: writes the file. */
+HEATHERPLANE_NODISCARD struct heatherplane_reply heatherplane_read_table(
+    uint32_t places, uint32_t groups, uint32_t width, uint32_t step, uint32_t bits, uint32_t load, uint32_t pages,
+    uint32_t multiplier, uint32_t expansions, uint32_t expanded, uint32_t open, uint32_t steps,
+    uint8_t *separators, size_t separators_length,
+    uint32_t *numbers, size_t numbers_length,
+    uint64_t *words, size_t words_length,
+    uint8_t *owners, size_t owners_length,
+    uint32_t *pool_numbers, size_t pool_numbers_length,
+    uint64_t *pool_words, size_t pool_words_length,
+    uint8_t *pool_owners, size_t pool_owners_length,
+    const uint8_t *given, size_t given_length);
+
+/* Carries a file to other parameters, with the other multiplier, in a second set of buffers. The file is only read, also while a
+ * growth of it is open.
+ *
+ * Buffers: the file's four, which are only read; the second set's four and the pool's three, in the lengths of the new parameters.
+ * Refused: BAD_PARAMETERS (of either file, or the same multiplier in both), BAD_LENGTH, OUT_OF_TURN (a growth is open in the new
+ * record), DAMAGED (the file's lowest unsound page), FULL. A refusal leaves the second set.
+ * Accepted: the second set is a clean file of the same stars and owners; growth is its record, the one that was passed; page is 0.
+ * Threads: reads the file, writes the second set. */
+HEATHERPLANE_NODISCARD struct heatherplane_reply heatherplane_carry(
+    uint32_t places, uint32_t groups, uint32_t width, uint32_t step, uint32_t bits, uint32_t load, uint32_t pages,
+    uint32_t multiplier, uint32_t expansions, uint32_t expanded, uint32_t open, uint32_t steps,
+    const uint8_t *separators, size_t separators_length,
+    const uint32_t *numbers, size_t numbers_length,
+    const uint64_t *words, size_t words_length,
+    const uint8_t *owners, size_t owners_length,
+    uint32_t new_places, uint32_t new_groups, uint32_t new_width, uint32_t new_step, uint32_t new_bits, uint32_t new_load,
+    uint32_t new_pages, uint32_t new_multiplier, uint32_t new_expansions, uint32_t new_expanded, uint32_t new_open,
+    uint32_t new_steps,
+    uint8_t *second_separators, size_t second_separators_length,
+    uint32_t *second_numbers, size_t second_numbers_length,
+    uint64_t *second_words, size_t second_words_length,
+    uint8_t *second_owners, size_t second_owners_length,
+    uint32_t *pool_numbers, size_t pool_numbers_length,
+    uint64_t *pool_words, size_t pool_words_length,
+    uint8_t *pool_owners, size_t pool_owners_length);
+
 /* Marks the pages that a growth of a clean file may have altered, for a backup: 1 for such a page, 0 for one that is as it was.
  * expansions and expanded are the growth state before the growth; the separators are those before it and after it.
  *
@@ -731,6 +850,103 @@ HEATHERPLANE_NODISCARD static inline struct heatherplane_reply heatherplane_step
         second->owners = old.owners;
     }
     return reply;
+}
+
+HEATHERPLANE_NODISCARD static inline struct heatherplane_reply heatherplane_enter_stopped_in(
+    const struct heatherplane_file *file, uint8_t caller, uint32_t number, uint32_t ra, int32_t dec, uint32_t stores)
+{
+    const struct heatherplane_parameters *p = &file->parameters;
+    return heatherplane_enter_stopped(
+        p->places, p->groups, p->width, p->step, p->bits, p->load, p->pages, p->multiplier,
+        file->growth.expansions, file->growth.expanded, file->growth.open, file->growth.steps,
+        file->separators, file->separators_length, file->numbers, file->numbers_length,
+        file->words, file->words_length, file->owners, file->owners_length,
+        file->pool_numbers, file->pool_numbers_length, file->pool_words, file->pool_words_length,
+        file->pool_owners, file->pool_owners_length,
+        caller, number, ra, dec, stores);
+}
+
+HEATHERPLANE_NODISCARD static inline struct heatherplane_reply heatherplane_change_stopped_in(
+    const struct heatherplane_file *file, uint8_t caller, uint32_t number, uint32_t ra, int32_t dec, uint32_t stores)
+{
+    const struct heatherplane_parameters *p = &file->parameters;
+    return heatherplane_change_stopped(
+        p->places, p->groups, p->width, p->step, p->bits, p->load, p->pages, p->multiplier,
+        file->growth.expansions, file->growth.expanded, file->growth.open, file->growth.steps,
+        file->separators, file->separators_length, file->numbers, file->numbers_length,
+        file->words, file->words_length, file->owners, file->owners_length,
+        caller, number, ra, dec, stores);
+}
+
+HEATHERPLANE_NODISCARD static inline struct heatherplane_reply heatherplane_remove_stopped_in(
+    const struct heatherplane_file *file, uint8_t caller, uint32_t number, uint32_t stores)
+{
+    const struct heatherplane_parameters *p = &file->parameters;
+    return heatherplane_remove_stopped(
+        p->places, p->groups, p->width, p->step, p->bits, p->load, p->pages, p->multiplier,
+        file->growth.expansions, file->growth.expanded, file->growth.open, file->growth.steps,
+        file->separators, file->separators_length, file->numbers, file->numbers_length,
+        file->words, file->words_length, file->owners, file->owners_length,
+        file->pool_numbers, file->pool_numbers_length, file->pool_words, file->pool_words_length,
+        file->pool_owners, file->pool_owners_length,
+        caller, number, stores);
+}
+
+HEATHERPLANE_NODISCARD static inline struct heatherplane_reply heatherplane_mend_in(
+    const struct heatherplane_file *file)
+{
+    const struct heatherplane_parameters *p = &file->parameters;
+    return heatherplane_mend(
+        p->places, p->groups, p->width, p->step, p->bits, p->load, p->pages, p->multiplier,
+        file->growth.expansions, file->growth.expanded, file->growth.open, file->growth.steps,
+        file->separators, file->separators_length, file->numbers, file->numbers_length,
+        file->words, file->words_length, file->owners, file->owners_length,
+        file->pool_numbers, file->pool_numbers_length, file->pool_words, file->pool_words_length,
+        file->pool_owners, file->pool_owners_length);
+}
+
+HEATHERPLANE_NODISCARD static inline struct heatherplane_reply heatherplane_write_table_view(
+    const struct heatherplane_view *view, uint8_t *out, size_t out_length)
+{
+    const struct heatherplane_parameters *p = &view->parameters;
+    return heatherplane_write_table(
+        p->places, p->groups, p->width, p->step, p->bits, p->load, p->pages, p->multiplier,
+        view->growth.expansions, view->growth.expanded, view->growth.open, view->growth.steps,
+        view->separators, view->separators_length, view->numbers, view->numbers_length,
+        view->words, view->words_length, view->owners, view->owners_length,
+        out, out_length);
+}
+
+HEATHERPLANE_NODISCARD static inline struct heatherplane_reply heatherplane_read_table_in(
+    const struct heatherplane_file *file, const uint8_t *given, size_t given_length)
+{
+    const struct heatherplane_parameters *p = &file->parameters;
+    return heatherplane_read_table(
+        p->places, p->groups, p->width, p->step, p->bits, p->load, p->pages, p->multiplier,
+        file->growth.expansions, file->growth.expanded, file->growth.open, file->growth.steps,
+        file->separators, file->separators_length, file->numbers, file->numbers_length,
+        file->words, file->words_length, file->owners, file->owners_length,
+        file->pool_numbers, file->pool_numbers_length, file->pool_words, file->pool_words_length,
+        file->pool_owners, file->pool_owners_length,
+        given, given_length);
+}
+
+/* Carries the viewed file into another, whose parameters, growth record, buffers and pool are set. */
+HEATHERPLANE_NODISCARD static inline struct heatherplane_reply heatherplane_carry_in(
+    const struct heatherplane_view *view, const struct heatherplane_file *file)
+{
+    const struct heatherplane_parameters *p = &view->parameters, *q = &file->parameters;
+    return heatherplane_carry(
+        p->places, p->groups, p->width, p->step, p->bits, p->load, p->pages, p->multiplier,
+        view->growth.expansions, view->growth.expanded, view->growth.open, view->growth.steps,
+        view->separators, view->separators_length, view->numbers, view->numbers_length,
+        view->words, view->words_length, view->owners, view->owners_length,
+        q->places, q->groups, q->width, q->step, q->bits, q->load, q->pages, q->multiplier,
+        file->growth.expansions, file->growth.expanded, file->growth.open, file->growth.steps,
+        file->separators, file->separators_length, file->numbers, file->numbers_length,
+        file->words, file->words_length, file->owners, file->owners_length,
+        file->pool_numbers, file->pool_numbers_length, file->pool_words, file->pool_words_length,
+        file->pool_owners, file->pool_owners_length);
 }
 
 /* Marks after a growth, from the record and the separators before it; old_separators and marks have as many bytes as pages. */

@@ -347,6 +347,78 @@ static void images(const struct heatherplane_file *file, uint32_t stars)
     group("images");
 }
 
+static bool same_file(const struct heatherplane_file *a, const struct heatherplane_file *b)
+{
+    return !memcmp(a->separators, b->separators, PAGES) && !memcmp(a->numbers, b->numbers, 4 * ITEMS)
+           && !memcmp(a->words, b->words, 8 * ITEMS) && !memcmp(a->owners, b->owners, ITEMS);
+}
+
+/* calls stopped before the first store and after the last, and pages whose separators are lost */
+static void mends(struct heatherplane_file *file)
+{
+    const struct heatherplane_file torn = heatherplane_file_of(
+        file->parameters, file->growth, copy.separators, copy.numbers, copy.words, copy.owners, pool_numbers, pool_words, pool_owners);
+    memcpy(copy.separators, file->separators, PAGES);
+    memcpy(copy.numbers, file->numbers, 4 * ITEMS);
+    memcpy(copy.words, file->words, 8 * ITEMS);
+    memcpy(copy.owners, file->owners, ITEMS);
+    EXPECT(heatherplane_remove_stopped_in(&torn, 0, number_of(2), 0).refusal == 0);
+    EXPECT(same_file(&torn, file));
+    EXPECT(heatherplane_change_stopped_in(&torn, 0, number_of(2), 5, 6, 0).refusal == 0);
+    EXPECT(same_file(&torn, file));
+    EXPECT(heatherplane_enter_stopped_in(&torn, 0, 2147483646, 5, 6, 0).refusal == 0);
+    EXPECT(same_file(&torn, file));
+    memset(copy.separators, 0, PAGES);
+    EXPECT(heatherplane_mend_in(&torn).refusal == 0);
+    EXPECT(same_file(&torn, file));
+    EXPECT(pool_is_zero());
+    EXPECT(heatherplane_enter_stopped_in(&torn, 0, 2147483646, 5, 6, PAGES).refusal == 0);
+    EXPECT(heatherplane_look_up_in(&torn, 2147483646).dec == 6);
+    EXPECT(heatherplane_remove_stopped_in(&torn, 0, 2147483646, PAGES).refusal == 0);
+    EXPECT(same_file(&torn, file));
+    copy.owners[0] ^= copy.numbers[0] ? 0 : 1;
+    copy.numbers[0] = 2147483647;
+    EXPECT(heatherplane_mend_in(&torn).refusal == HEATHERPLANE_BAD_CONTENTS);
+    group("stopped calls and mending");
+}
+
+static unsigned char table[5760 + 12 * ITEMS + 2880];
+
+static void tables(struct heatherplane_file *file, struct heatherplane_file *into)
+{
+    const struct heatherplane_view view = heatherplane_view_in(file);
+    const struct heatherplane_reply told = heatherplane_write_table_view(&view, table, sizeof table);
+    const uint32_t stars = heatherplane_due_in(file).stars;
+    EXPECT(told.refusal == 0 && told.stars == 5760 + (12 * stars + 2879) / 2880 * 2880);
+    EXPECT(heatherplane_write_table_view(&view, table, told.stars - 1).refusal == HEATHERPLANE_SHORT_OUTPUT);
+    EXPECT(!memcmp(table, "SIMPLE  =", 9));
+    into->growth = file->growth;
+    EXPECT(heatherplane_read_table_in(into, table, told.stars - 1).refusal == HEATHERPLANE_BAD_HEADER);
+    EXPECT(heatherplane_read_table_in(into, table, told.stars).refusal == 0);
+    EXPECT(!memcmp(into->numbers, file->numbers, 4 * ITEMS) && !memcmp(into->words, file->words, 8 * ITEMS));
+    EXPECT(heatherplane_check_in(into).refusal == 0);
+    table[5760 + 3] ^= 255;
+    table[5760] = 255;
+    EXPECT(heatherplane_read_table_in(into, table, told.stars).refusal == HEATHERPLANE_BAD_ROWS);
+    group("tables");
+}
+
+static void carries(struct heatherplane_file *file, struct heatherplane_file *into)
+{
+    const struct heatherplane_view view = heatherplane_view_in(file);
+    struct heatherplane_file back = heatherplane_file_of(
+        file->parameters, file->growth, copy.separators, copy.numbers, copy.words, copy.owners, pool_numbers, pool_words, pool_owners);
+    into->growth = file->growth;
+    EXPECT(heatherplane_carry_in(&view, into).refusal == HEATHERPLANE_BAD_PARAMETERS);
+    into->parameters.multiplier = HEATHERPLANE_MULTIPLIER_1988;
+    EXPECT(heatherplane_carry_in(&view, into).refusal == 0);
+    EXPECT(heatherplane_check_in(into).refusal == 0);
+    const struct heatherplane_view there = heatherplane_view_in(into);
+    EXPECT(heatherplane_carry_in(&there, &back).refusal == 0);
+    EXPECT(same_file(&back, file));
+    group("carrying there and back");
+}
+
 static void save(const char *name)
 {
     FILE *out = fopen(name, "wb");
@@ -367,6 +439,9 @@ int main(int count, char **arguments)
     steps(&file, &second, stars);
     states(stars);
     images(&file, stars);
+    mends(&file);
+    tables(&file, &second);
+    carries(&file, &second);
     if (count > 2)
         save(arguments[2]);
     printf("%u passed, %u failed\n", passed, failed);

@@ -1,5 +1,7 @@
 -- What a call leaves, told by its reply.
 use mathlib.Core.Path.{_≡_, ap, _∙_}
+use mathlib.Core.List.{List}
+use Prim.Native.Nat.{ℕ}
 use Rattle.hashing.specs.declared.Growth.{Growth}
 use Rattle.placement.specs.File.{File}
 use Rattle.calls.specs.declared.answers.Answer.{Answer}
@@ -7,9 +9,10 @@ use Rattle.calls.specs.declared.records.GrowthRecord.{GrowthRecord}
 use Rattle.calls.specs.declared.records.Recorded.{Recorded}
 use Rattle.calls.specs.Answers.{Pool, After, Leaves, placed}
 use Rattle.calls.specs.Records.{AfterStep, LeavesStep, closedRecord}
+use Rattle.exchange.specs.Tables.{AfterWrite, Writes}
 use Rattle.capacity.specs.State.{Choice}
 use Rattle.heatherplane.specs.declared.replies.Reply.{Reply}
-use Rattle.heatherplane.specs.Reply.{Replies, RepliesStep, replyOf}
+use Rattle.heatherplane.specs.Reply.{Replies, RepliesStep, RepliesTable, replyOf}
 
 pub told-same : {said answer : Answer} {growth : GrowthRecord} {reply : Reply} (kept : GrowthRecord) →
     reply ≡ replyOf said kept → kept ≡ growth → said ≡ answer → reply ≡ replyOf answer growth
@@ -27,6 +30,10 @@ told-recorded left r l e = record { replies = told-same (left .growth) r e (l .a
 pub told-step : {after : AfterStep} {reply : Reply} {second : File} {pool : Pool} (left : Recorded) →
     reply ≡ replyOf (placed (left .answer)) (left .growth) → LeavesStep after left second pool → RepliesStep after reply second pool
 told-step left r l = record { replies = told-same (left .growth) r (l .growths) (l .answers); seconds = l .seconds; pools = l .pools }
+
+pub told-table : {after : AfterWrite} {said answer : Answer} {growth : GrowthRecord} {reply : Reply} {out : List ℕ} (kept : GrowthRecord) →
+    reply ≡ replyOf said kept → kept ≡ growth → said ≡ answer → Writes after answer out → RepliesTable after growth reply out
+told-table kept r k e w = record { replies = told-same kept r k (e ∙ w .answers); outputs = w .outputs }
 
 pub told-choice : {choice : Choice} {said answer : Answer} {reply : Reply} (state : Growth) →
     reply ≡ replyOf said (closedRecord state) → said ≡ answer → record { answer = answer; growth = state } ≡ choice →

@@ -1,6 +1,7 @@
 -- What the numbers that C programs pass and get stand for.
 use mathlib.Core.Path.{_≡_}
 use mathlib.Core.Bool.{Bool, cond}
+use mathlib.Core.List.{List}
 use Prim.Native.Nat.{ℕ}
 use lib.Dec.{eqb, ltb}
 use lib.IntN.{ℤ}
@@ -12,6 +13,7 @@ use Rattle.calls.specs.declared.answers.Answer.{Answer}
 use Rattle.calls.specs.declared.records.GrowthRecord.{GrowthRecord}
 use Rattle.calls.specs.Answers.{Pool, After}
 use Rattle.calls.specs.Records.{AfterStep}
+use Rattle.exchange.specs.Tables.{AfterWrite}
 use Rattle.heatherplane.specs.declared.replies.Growth.{Growth}
 use Rattle.heatherplane.specs.declared.replies.Reply.{Reply}
 
@@ -88,3 +90,8 @@ pub record RepliesStep (after : AfterStep) (reply : Reply) (second : File) (pool
   pub replies : reply ≡ replyOf (after .answer) (after .growth)
   pub seconds : second ≡ after .second
   pub pools : pool ≡ after .pool
+
+-- the same of a table written; the file is only read
+pub record RepliesTable (after : AfterWrite) (growth : GrowthRecord) (reply : Reply) (out : List ℕ) : Type 0 where
+  pub replies : reply ≡ replyOf (after .answer) growth
+  pub outputs : out ≡ after .output
