@@ -123,4 +123,12 @@ impl Library for Base {
     fn copy(&self) -> Box<dyn Library> {
         Box::new(self.clone())
     }
+
+    fn lend(&mut self, _table: Vec<u8>) {
+        unreachable!("the older library has no tables");
+    }
+
+    fn table(&self) -> Vec<u8> {
+        unreachable!("the older library has no tables");
+    }
 }

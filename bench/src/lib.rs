@@ -31,6 +31,10 @@ pub trait Library {
     fn growth(&self) -> [u32; 2];
     fn file(&self) -> File;
     fn copy(&self) -> Box<dyn Library>;
+    /// Lends the bytes of a table, to be written or read; of today's library alone.
+    fn lend(&mut self, table: Vec<u8>);
+    /// Gives them back.
+    fn table(&self) -> Vec<u8>;
 
     fn look_up(&mut self, number: u32) -> Answer {
         self.call(Kind::LookUp, number, 0, 0)

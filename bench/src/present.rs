@@ -85,4 +85,12 @@ impl Library for Present {
     fn copy(&self) -> Box<dyn Library> {
         Box::new(self.clone())
     }
+
+    fn lend(&mut self, table: Vec<u8>) {
+        self.lent.table = table;
+    }
+
+    fn table(&self) -> Vec<u8> {
+        self.lent.table.clone()
+    }
 }

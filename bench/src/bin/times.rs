@@ -176,6 +176,52 @@ fn step_rows(report: &mut Report, table: &Table, file: &File) {
     ));
 }
 
+/// The bytes of a table of so many rows: two headers, and blocks of 240 rows.
+fn table_length(rows: usize) -> usize {
+    5_760 + 2_880 * rows.div_ceil(240)
+}
+
+/// Rows for mending, writing and reading a table and carrying, and a note that compares them with shrinking and check in turn.
+fn whole_file_rows(report: &mut Report, table: &Table, file: &File) {
+    let length = table_length(file.stars().len());
+    let mut writer = today(file).remove(0);
+    writer.lend(vec![0; length]);
+    assert_eq!(writer.call(Kind::Write, 0, 0, 0).refusal, 0);
+    let bytes = writer.table();
+    let mut grown = today(file).remove(0);
+    assert_eq!(grown.grow().refusal, 0);
+    let [shrinks, checks, mendings, writings, readings, carryings] = in_turn(RUNS, &mut today(file), |library| {
+        let timed = |library: &dyn Library, kind| {
+            let mut copy = library.copy();
+            copy.lend(bytes.clone());
+            let mut refusal = 0;
+            let time = nanoseconds(|| refusal = black_box(copy.call(kind, 0, 0, 0)).refusal);
+            assert_eq!(refusal, 0, "{} is accepted", kind.name());
+            time
+        };
+        [
+            timed(grown.as_ref(), Kind::Shrink),
+            timed(library, Kind::Check),
+            timed(library, Kind::Mend),
+            timed(library, Kind::Write),
+            timed(library, Kind::Read),
+            timed(library, Kind::Carry),
+        ]
+    });
+    table.row("mend", &mendings);
+    table.row("write a table", &writings);
+    table.row("read a table", &readings);
+    table.row("carry", &carryings);
+    report.note(format!(
+        "{}: mend / shrink {:.2}, write / check {:.2}, read / shrink {:.2}, carry / shrink {:.2}",
+        file.size(),
+        mendings.by(&shrinks),
+        writings.by(&checks),
+        readings.by(&shrinks),
+        carryings.by(&shrinks),
+    ));
+}
+
 /// Some of the stars that can be entered one after the other.
 fn entered(libraries: &Libraries, stars: &[u32], count: usize) -> Vec<u32> {
     let mut library = libraries[0].copy();
@@ -224,6 +270,7 @@ fn calls(report: &mut Report, random: &mut Random, empty: File) {
     table.row("grow", &restored(RUNS, &mut libraries, |library| library.grow().refusal));
     step_rows(report, &table, &file);
     shrink_row(report, &table, RUNS, "shrink", &file);
+    whole_file_rows(report, &table, &file);
     table.row("check", &many(&mut libraries, 1, |library, _| _ = black_box(library.check())));
     table.row("due", &many(&mut libraries, 100, |library, _| _ = black_box(library.due())));
 }
