@@ -18,6 +18,7 @@ ARRAYS Reply arrays_due(const File *file) { return heatherplane_due_in(file); }
 ARRAYS Reply arrays_grow(File *file) { return heatherplane_grow_in(file); }
 ARRAYS Reply arrays_shrink(File *file) { return heatherplane_shrink_in(file); }
 ARRAYS Reply arrays_check(const File *file) { return heatherplane_check_in(file); }
+ARRAYS Reply arrays_mend(const File *file) { return heatherplane_mend_in(file); }
 ARRAYS Reply arrays_open_growth(File *file, const File *second) { return heatherplane_open_growth_in(file, second); }
 ARRAYS Reply arrays_step_growth(File *file, File *second) { return heatherplane_step_growth_in(file, second); }
 
@@ -34,6 +35,23 @@ ARRAYS Reply arrays_change(const File *file, uint8_t caller, uint32_t number, ui
 ARRAYS Reply arrays_remove(const File *file, uint8_t caller, uint32_t number)
 {
     return heatherplane_remove_in(file, caller, number);
+}
+
+ARRAYS Reply arrays_write_table(const File *file, uint8_t *out, size_t length)
+{
+    const struct heatherplane_view view = heatherplane_view_in(file);
+    return heatherplane_write_table_view(&view, out, length);
+}
+
+ARRAYS Reply arrays_read_table(const File *file, const uint8_t *given, size_t length)
+{
+    return heatherplane_read_table_in(file, given, length);
+}
+
+ARRAYS Reply arrays_carry(const File *old, const File *file)
+{
+    const struct heatherplane_view view = heatherplane_view_in(old);
+    return heatherplane_carry_in(&view, file);
 }
 
 ARRAYS uint32_t arrays_mark_changed(

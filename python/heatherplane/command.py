@@ -43,6 +43,9 @@ def read_catalogue(arguments: argparse.Namespace) -> tables.Catalogue:
     columns = {name: getattr(arguments, name) for name in ("number", "ra", "dec", "unit")}
     with open(arguments.catalogue, "rb") as source:
         fits = source.read(6) == b"SIMPLE"
+    strict = tables.read_strict(arguments.catalogue) if fits else None
+    if strict is not None:
+        return strict
     if fits:
         return tables.read_fits(arguments.catalogue, **columns)
     return tables.read_csv(arguments.catalogue, **{**columns, "unit": columns["unit"] or "deg"})
@@ -112,7 +115,28 @@ def check(arguments: argparse.Namespace) -> int:
     return status
 
 
+def mend(arguments: argparse.Namespace) -> int:
+    file = StarFile.load(arguments.image, torn=True)
+    file.mend()
+    file.save(arguments.image)
+    print(f"{arguments.image}: mended, {len(file)} stars")
+    return 0
+
+
+def carry(arguments: argparse.Namespace) -> int:
+    file = StarFile.load(arguments.image).carried()
+    file.save(arguments.out)
+    print(f"{arguments.out}: {len(file)} stars, multiplier {file.parameters.multiplier}")
+    return 0
+
+
 def fits(arguments: argparse.Namespace) -> int:
+    if arguments.strict:
+        table = StarFile.load(arguments.image).table()
+        with open(arguments.out, "wb") as out:
+            out.write(table)
+        print(f"{arguments.out}: {len(table)} bytes")
+        return 0
     count = tables.write_fits(StarFile.load(arguments.image), arguments.out, arguments.unit)
     print(f"{arguments.out}: {count} rows")
     return 0
@@ -149,7 +173,11 @@ COMMANDS = (
     (look, "tells positions, in degrees; status 1 if a star is not held", "heatherplane look bright.image 48915 172167"),
     (info, "tells parameters, growth state and stars", "heatherplane info bright.image"),
     (check, "compares the whole file with the rule; status 1 and the page if it is damaged", "heatherplane check bright.image"),
-    (fits, "writes a FITS table with the columns number, ra, dec and owner", "heatherplane fits bright.image bright.fits --unit deg"),
+    (mend, "makes an image anew from its pages, as after a power loss: the file before the last entry, change or removal or the one after "
+     "it", "heatherplane mend bright.image"),
+    (carry, "writes the image of the same stars under the other multiplier", "heatherplane carry bright.image bright-1993.image"),
+    (fits, "writes a FITS table with the columns number, ra, dec and owner, or the strict table without names",
+     "heatherplane fits bright.image bright.fits --unit deg"),
     (picture, "draws stars, overflow and separators by page", "heatherplane picture bright.image bright.png"),
     (diff, "tells stars added, gone and moved, in milliarcseconds. Clean files of the same parameters, growth state, stars and owners are "
      "equal byte for byte, however they came about; status 1 if they differ", "heatherplane diff monday.image tuesday.image"),
@@ -173,11 +201,13 @@ def parser() -> argparse.ArgumentParser:
     made["load"].add_argument("--told", type=int, default=20, metavar="N", help="refused rows told one by one (20)")
     for name in PARAMETERS:
         made["load"].add_argument("--" + name, type=int, metavar="N", help=PARAMETERS[name])
-    for name in ("look", "info", "check", "fits", "picture"):
+    for name in ("look", "info", "check", "mend", "carry", "fits", "picture"):
         made[name].add_argument("image")
     made["look"].add_argument("numbers", type=int, nargs="+", metavar="NUMBER")
     made["look"].add_argument("--mas", action="store_true", help="milliarcseconds instead of degrees")
+    made["carry"].add_argument("out")
     made["fits"].add_argument("out")
+    made["fits"].add_argument("--strict", action="store_true", help="three columns without names, in milliarcseconds (docs/FITS.md)")
     made["fits"].add_argument("--unit", choices=("mas", "arcsec", "deg"), default="mas")
     made["picture"].add_argument("out")
     made["diff"].add_argument("old")

@@ -15,7 +15,7 @@ from .refusals import BAD_PARAMETERS, NOT_HELD, ImageRefused, refuse
 TYPES = {"separators": np.uint8, "numbers": np.uint32, "words": np.uint64, "owners": np.uint8}
 RA_END = 1_296_000_000  # a full turn in milliarcseconds
 DEC_END = 324_000_000
-IMAGE_BAD_CRC, IMAGE_TORN = 4, 6
+IMAGE_BAD_CRC, IMAGE_TORN, IMAGE_PAGES_ONLY = 4, 6, 1
 
 
 class Position(NamedTuple):
@@ -303,6 +303,38 @@ class StarFile(Mapping):
         """Compares the whole file with the rule; damage is raised, with its page and place."""
         self._whole(calls.arrays_check)
 
+    def mend(self) -> None:
+        """Makes the file anew from the stars on its pages; no separator is read. After a power loss between the page stores of an entry,
+        change or removal on a clean file, it is exactly the file before the call or the one after it: docs/POWER.md."""
+        self._whole(calls.arrays_mend)
+
+    def carried(self, **parameters: int) -> "StarFile":
+        """A new file with these stars, each of its owner, under the other multiplier. Other parameters may be given; the new file then
+        begins with enough pages addressed for the stars, else with this file's growth state. This file is only read."""
+        mine = {name: getattr(self._handle.parameters, name) for name, _ in Parameters._fields_}
+        wanted = {**mine, **parameters, "multiplier": 48271 if mine["multiplier"] == 16807 else 16807}
+        other = StarFile(**wanted, stars=len(self) if parameters else None)
+        if not parameters:
+            other._handle.growth = Growth(self._handle.growth.expansions, self._handle.growth.expanded)
+        reply = calls.arrays_carry(self._handle, other._handle)
+        refuse(reply.refusal, reply.page, reply.place)
+        return other
+
+    # Strict FITS tables, docs/FITS.md.
+
+    def table(self) -> bytes:
+        """The stars as a FITS binary table of three columns without names: number, right ascension, declination, in rising number."""
+        out = np.zeros(5_760 + 2_880 * -(-len(self) // 240), np.uint8)
+        reply = calls.arrays_write_table(self._handle, out.ctypes.data, out.size)
+        refuse(reply.refusal, reply.page, reply.place)
+        return out[: reply.stars].tobytes()
+
+    def read_table(self, data: bytes) -> None:
+        """Replaces the file by the stars of such a table, all of owner 0, under its parameters and growth state."""
+        given = np.frombuffer(data, np.uint8)
+        reply = calls.arrays_read_table(self._handle, given.ctypes.data, given.size)
+        refuse(reply.refusal, reply.page, reply.place)
+
     def _whole(self, call) -> int:
         reply = call(self._handle)
         refuse(reply.refusal, reply.page, reply.place)
@@ -367,19 +399,21 @@ class StarFile(Mapping):
                 os.unlink(beside)
 
     @classmethod
-    def from_image(cls, data: bytes, path: object = "image", altered: bool = False) -> "StarFile":
+    def from_image(cls, data: bytes, path: object = "image", altered: bool = False, torn: bool = False) -> "StarFile":
         """The file of an image; ImageRefused if it is none, was altered or is torn. Call check() to compare it with the rule. With altered
-        an image with a wrong checksum is taken all the same, to be looked into. A growth that was open is given up, as its second set is
-        not part of an image."""
+        an image with a wrong checksum is taken all the same, to be looked into; with torn one whose pages were being written, or that
+        has no separators, to be mended. A growth that was open is given up, as its second set is not part of an image."""
         image, header = np.frombuffer(data, np.uint8), ImageHeader()
         refusal = calls.arrays_image_test(image.ctypes.data, image.size, byref(header))
         if refusal == IMAGE_BAD_CRC and altered:
             refusal = 0
-        if refusal or header.flags:
+        if refusal or (header.flags and not torn):
             raise ImageRefused(refusal or IMAGE_TORN, path)
         file, at = cls.__new__(cls), ctypes.sizeof(ImageHeader)
         file._lend(header.parameters, header.growth)
         for name in ("words", "numbers", "owners", "separators"):
+            if name == "separators" and header.flags & IMAGE_PAGES_ONLY:
+                break
             array = file._arrays[name]
             array.view(np.uint8)[:] = image[at : at + array.nbytes]
             at += array.nbytes
@@ -389,7 +423,7 @@ class StarFile(Mapping):
         return file
 
     @classmethod
-    def load(cls, path: str | os.PathLike, altered: bool = False) -> "StarFile":
+    def load(cls, path: str | os.PathLike, altered: bool = False, torn: bool = False) -> "StarFile":
         """Reads an image that save or another host wrote; see from_image."""
         with open(path, "rb") as image:
-            return cls.from_image(image.read(), path, altered)
+            return cls.from_image(image.read(), path, altered, torn)

@@ -8,7 +8,7 @@ from typing import NamedTuple
 
 import numpy as np
 
-from .refusals import ACCEPTED, NAMES
+from .refusals import ACCEPTED, BAD_HEADER, BAD_ROWS, NAMES, Refused
 from .starfile import RA_END, StarFile
 
 NUMBER_NAMES = ("number", "hd", "hip", "star", "id")
@@ -65,6 +65,22 @@ def column(names: list[str], given: str | None, usual: tuple[str, ...], what: st
         if name in names or name.lower() in by_lower:
             return name if name in names else by_lower[name.lower()]
     raise ValueError(f"no column {given or ' or '.join(usual)} for the {what} among {', '.join(names)}")
+
+
+def read_strict(path: str | os.PathLike) -> Catalogue | None:
+    """The rows of a strict table (docs/FITS.md), read by the proved call; None if the file is none."""
+    with open(path, "rb") as source:
+        data = source.read()
+    rows = max(1, (len(data) - 5_760) // 12)
+    file = StarFile(places=32, groups=256, width=4, step=1, pages=1024)
+    try:
+        file.read_table(data)
+    except Refused as refused:
+        if refused.number in (BAD_HEADER, BAD_ROWS):
+            return None
+        raise ValueError(f"{path}: {refused.name}: up to {rows} rows are too many for one file") from refused
+    numbers, ra, dec, _ = file.stars()
+    return Catalogue(numbers.astype(np.int64), ra.astype(np.int64), dec.astype(np.int64), np.arange(1, len(numbers) + 1))
 
 
 def _whole(text: str) -> int:

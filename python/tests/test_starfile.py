@@ -245,5 +245,54 @@ class Whole(unittest.TestCase):
         self.assertRegex(heatherplane.version(), r"^\d+\.\d+\.\d+$")
 
 
+class AfterALoss(unittest.TestCase):
+    def setUp(self):
+        self.numbers, self.ra, self.dec = some(600, 7)
+        self.file = StarFile.sized_for(800, places=8)
+        self.assertFalse(self.file.enter_many(self.numbers, self.ra, self.dec, caller=3).any())
+
+    def test_mending_needs_no_separator(self):
+        lost = self.file.copy()
+        lost._arrays["separators"][:] = 1
+        lost.mend()
+        self.assertTrue(lost == self.file)
+        twice = self.file.copy()
+        held = np.flatnonzero(twice._arrays["numbers"])
+        twice._arrays["words"][held[0]] = 0
+        empty = np.flatnonzero(twice._arrays["numbers"] == 0)[0]
+        for name in ("numbers", "words", "owners"):
+            twice._arrays[name][empty] = self.file._arrays[name][held[0]]
+        with self.assertRaises(Refused) as caught:
+            twice.mend()
+        self.assertEqual(caught.exception.number, r.BAD_CONTENTS)
+
+    def test_table_there_and_back(self):
+        institute = StarFile.sized_for(800, places=8)
+        self.assertFalse(institute.enter_many(self.numbers, self.ra, self.dec).any())
+        table = institute.table()
+        self.assertEqual(len(table), 5_760 + 2_880 * 3)
+        self.assertEqual(self.file.table(), table)
+        back = self.file.copy()
+        back.read_table(table)
+        self.assertTrue(back == institute)
+        with self.assertRaises(Refused) as caught:
+            back.read_table(table[:-1])
+        self.assertEqual(caught.exception.number, r.BAD_HEADER)
+        with self.assertRaises(Refused) as caught:
+            back.read_table(table[:-1] + b"1")
+        self.assertEqual(caught.exception.number, r.BAD_ROWS)
+
+    def test_carried_there_and_back(self):
+        other = self.file.carried()
+        self.assertEqual(other.parameters.multiplier, 16807)
+        other.check()
+        self.assertEqual(dict(other), dict(self.file))
+        self.assertEqual(other.owner(int(self.numbers[0])), 3)
+        self.assertTrue(other.carried() == self.file)
+        wider = self.file.carried(places=32, pages=64)
+        wider.check()
+        self.assertEqual(len(wider), 600)
+
+
 if __name__ == "__main__":
     unittest.main()

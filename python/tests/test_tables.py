@@ -92,6 +92,16 @@ class Tables(unittest.TestCase):
             self.assertEqual(tables.enter(again, tables.read_fits("a.fits")).refused, [])
             self.assertEqual(again, file, unit)
 
+    def test_strict_table_mending_and_carrying(self):
+        self.run_command("load", "c.csv", "a.image", "--ra", "RAdeg", "--dec", "DEdeg", "--pages", "24")
+        self.assertEqual(self.run_command("fits", "--strict", "a.image", "a.fits")[:2], (0, "a.fits: 8640 bytes\n"))
+        self.assertEqual(self.run_command("load", "a.fits", "b.image", "--pages", "24")[0], 0)
+        self.assertEqual(self.run_command("diff", "a.image", "b.image")[0], 0)
+        self.assertEqual(self.run_command("carry", "a.image", "c.image")[:2], (0, "c.image: 3 stars, multiplier 16807\n"))
+        self.assertEqual(self.run_command("carry", "c.image", "d.image")[0], 0)
+        self.assertEqual(self.run_command("mend", "d.image")[:2], (0, "d.image: mended, 3 stars\n"))
+        self.assertEqual(self.run_command("diff", "a.image", "d.image")[0], 0)
+
     def test_command(self):
         status, out, err = self.run_command("load", "c.csv", "a.image", "--ra", "RAdeg", "--dec", "DEdeg")
         self.assertEqual((status, len(err.splitlines())), (1, 7))
