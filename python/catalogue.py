@@ -93,6 +93,28 @@ def tables(file: StarFile, path: Path) -> None:
         print("NOT RUN: fitsverify is not installed (apt install fitsverify)")
 
 
+def strict_tables(file: StarFile, path: Path) -> None:
+    """The strict table through the proved calls, and astropy and cfitsio on it."""
+    table, writing = timed(file.table)
+    path.write_bytes(table)
+    again = StarFile()
+    again._handle.growth = file.growth
+    _, reading = timed(again.read_table, table)
+    need(again == file and again.table() == table, "read in again it is the file, and that file's table the same bytes")
+    times = f"written in {1000 * writing:.1f} ms, read in {1000 * reading:.1f}"
+    print(f"strict table of {len(table):,} bytes, {times}: the same file, the same bytes")
+    from astropy.io import fits
+
+    with fits.open(path) as units:
+        for column, name in enumerate(("number", "ra", "dec")):
+            units[1].columns[column].name = name
+        read = [np.asarray(units[1].data[name]) for name in ("number", "ra", "dec")]
+    need(all(np.array_equal(a, b) for a, b in zip(read, file.stars())), "astropy reads the same stars")
+    columns = by_cfitsio(path, len(file))
+    need(columns is None or all(np.array_equal(a, b) for a, b in zip(columns, file.stars())), "cfitsio reads the same stars")
+    print("read by astropy, its columns named first" + ("" if columns is None else ", and by cfitsio") + ": the same numbers and positions")
+
+
 def main(out: Path) -> None:
     stars, records = hd_stars()
     print(f"{records:,} records of kstars-data, {len(stars.hd):,} stars with an HD number once duplicates are out")
@@ -153,6 +175,7 @@ def main(out: Path) -> None:
     pages = f"{faint.addressed:,} of {faint.parameters.pages:,} pages"
     print(f"the other {len(faint):,} in a file sized for them, {pages}: {seconds:.2f} s; clean")
     tables(file, out / "bright.fits")
+    strict_tables(file, out / "strict.fits")
 
 
 main(Path(sys.argv[1]))
