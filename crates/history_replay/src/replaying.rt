@@ -68,12 +68,13 @@ pub fn replay(
     if !kinds_known(kinds) {
         return Replayed::BadKind;
     }
-    let made = call_make::make(parameters, separators, numbers, words, owners);
+    let made = starfile::make(parameters, separators, numbers, words, owners);
     let answer = made.answer;
+    let record = made.growth;
     match answer {
         Placed::On(_, _) => Replayed::Done(run(
             parameters,
-            made.growth,
+            record.state,
             separators,
             numbers,
             words,
