@@ -10,6 +10,7 @@ ghost use Rattle.history_replay.specs.Steps.{Even, Runs};
 use crate::calling::replay_step;
 use calls::answers::Placed;
 use calls::answers::Refusal;
+use calls::records::GrowthRecord;
 use hashing::Growth;
 use hashing::Parameters;
 use pages::position::Position;
@@ -70,11 +71,10 @@ pub fn replay(
     }
     let made = starfile::make(parameters, separators, numbers, words, owners);
     let answer = made.answer;
-    let record = made.growth;
     match answer {
         Placed::On(_, _) => Replayed::Done(run(
             parameters,
-            record.state,
+            made.growth,
             separators,
             numbers,
             words,
@@ -161,7 +161,7 @@ fn kinds_known(kinds: &[u8]) -> bool
 // The calls in turn, each with what the one before left.
 fn run(
     parameters: Parameters,
-    growth: Growth,
+    growth: GrowthRecord,
     separators: &mut [u8],
     numbers: &mut [u32],
     words: &mut [u64],
@@ -177,11 +177,11 @@ fn run(
     answers: &mut [u32],
 ) -> Growth
     requires { ⌜ Even (lentHistory (now kinds) (now callers) (now stars) (now ras) (now decs)) (now answers) ⌝ }
-    ensures { λ r. ⌜ Runs (fresh parameters growth (before separators numbers words owners) noSecond) (poolBefore poolnumbers poolwords poolowners)
+    ensures { λ r. ⌜ Runs (fresh parameters (growth .state) (before separators numbers words owners) noSecond) (poolBefore poolnumbers poolwords poolowners)
         (requestsOf (historyBefore kinds callers stars ras decs)) []
         r (now (answers .exit)) (after separators numbers words owners) (poolAfter poolnumbers poolwords poolowners) ⌝ }
 {
-    let mut state = growth;
+    let mut state = growth.state;
     let mut i = 0;
     while i < kinds.len() {
         let position = Position {
