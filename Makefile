@@ -1,4 +1,4 @@
-.PHONY: help test run try bench report damage spread untouched neighbours stack soak library install uninstall python pictures catalogue deps clean
+.PHONY: help test run try bench report damage spread untouched filter neighbours stack soak library install uninstall python pictures catalogue deps clean
 
 # What can be made, and how long it takes. "Proving first": what the target needs is proved where it has changed, up to 10 minutes on two cores.
 help:
@@ -10,6 +10,7 @@ help:
 	@echo "make damage     which single wrong bits are noticed, and by what: half a minute, proving first"
 	@echo "make spread     which star numbers spread well, and how full a file gets: 3 minutes, proving first"
 	@echo "make untouched  how many pages a growth leaves untouched: 20 seconds, proving first"
+	@echo "make filter     how often the tray's filter says yes of a star that no report names: seconds, proving first"
 	@echo "make neighbours the other methods of the source documents on the same stars: a minute or two, proving first"
 	@echo "make stack      the stack that each call from C needs, and the size of the code: seconds, proving first"
 	@echo "make soak       random histories for as long as you like, proving first"
@@ -52,6 +53,10 @@ spread:
 # How many pages a growth leaves untouched.
 untouched:
 	@bench/untouched
+
+# How often the tray's filter says "yes" of a star that no report names.
+filter:
+	@bench/filter
 
 # The other methods of the source documents beside this one, on the same stars.
 neighbours:
