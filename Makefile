@@ -18,7 +18,7 @@ help:
 	@echo "make python     the library for the Python package and command (docs/GUIDE.md): seconds, proving first"
 	@echo "make catalogue  41,673 stars of Debian's kstars-data through a file's life: ten seconds, proving first; apt installs them"
 	@echo "make pictures   the pictures of docs/pictures/"
-	@echo "make deps       install what only some machines have: numpy, astropy, matplotlib, fitsverify, cfitsio, valgrind (Debian)"
+	@echo "make deps       install what only some machines have: numpy, astropy, matplotlib, fitsverify, cfitsio, valgrind, clang (Debian)"
 	@echo "make clean      remove everything that was made"
 
 # Every test; ends with 'N passed, 0 failed'.
@@ -90,7 +90,7 @@ catalogue:
 # What the gate tests only where it is installed.
 deps:
 	apt-get update
-	apt-get install -y python3-numpy python3-astropy python3-matplotlib fitsverify libcfitsio-dev valgrind
+	apt-get install -y python3-numpy python3-astropy python3-matplotlib fitsverify libcfitsio-dev valgrind clang
 
 clean:
 	rm -rf target

@@ -387,9 +387,10 @@ HEATHERPLANE_NODISCARD struct heatherplane_reply heatherplane_step_growth(
  * given number of stores the call ends. With a store for every changed page, or more, it is the whole call. For tests of a mount and
  * of its mending.
  *
- * Buffers, refused, threads: as enter, change and remove. The reply is that of the whole call, whatever was stored.
+ * Buffers, refused: as enter, change and remove. The reply is that of the whole call, whatever was stored.
  * Afterwards: an entry stores the highest changed page first, a removal the lowest; a change is one store. heatherplane_mend makes
- * the file whole again. */
+ * the file whole again.
+ * Threads: writes the file. */
 HEATHERPLANE_NODISCARD struct heatherplane_reply heatherplane_enter_stopped(
     uint32_t places, uint32_t groups, uint32_t width, uint32_t step, uint32_t bits, uint32_t load, uint32_t pages,
     uint32_t multiplier, uint32_t expansions, uint32_t expanded, uint32_t open, uint32_t steps,
@@ -402,6 +403,7 @@ HEATHERPLANE_NODISCARD struct heatherplane_reply heatherplane_enter_stopped(
     uint8_t *pool_owners, size_t pool_owners_length,
     uint8_t caller, uint32_t number, uint32_t ra, int32_t dec, uint32_t stores);
 
+/* Threads: writes the file, one word of it. */
 HEATHERPLANE_NODISCARD struct heatherplane_reply heatherplane_change_stopped(
     uint32_t places, uint32_t groups, uint32_t width, uint32_t step, uint32_t bits, uint32_t load, uint32_t pages,
     uint32_t multiplier, uint32_t expansions, uint32_t expanded, uint32_t open, uint32_t steps,
@@ -411,6 +413,7 @@ HEATHERPLANE_NODISCARD struct heatherplane_reply heatherplane_change_stopped(
     const uint8_t *owners, size_t owners_length,
     uint8_t caller, uint32_t number, uint32_t ra, int32_t dec, uint32_t stores);
 
+/* Threads: writes the file. */
 HEATHERPLANE_NODISCARD struct heatherplane_reply heatherplane_remove_stopped(
     uint32_t places, uint32_t groups, uint32_t width, uint32_t step, uint32_t bits, uint32_t load, uint32_t pages,
     uint32_t multiplier, uint32_t expansions, uint32_t expanded, uint32_t open, uint32_t steps,
@@ -515,7 +518,8 @@ HEATHERPLANE_NODISCARD uint32_t heatherplane_mark_changed(
     const uint8_t *new_separators, size_t new_separators_length,
     uint8_t *marks, size_t marks_length);
 
-/* The library's version, as HEATHERPLANE_VERSION is the header's. */
+/* The library's version, as HEATHERPLANE_VERSION is the header's.
+ * Threads: touches no memory of the caller. */
 HEATHERPLANE_NODISCARD uint32_t heatherplane_version(void);
 
 /* A file as one value, for writing: its parameters, its growth record and the buffers lent to it. A value of all zeros is refused by
@@ -1034,7 +1038,7 @@ enum heatherplane_image_refusal {
     HEATHERPLANE_IMAGE_BAD_VERSION = 3, /* an image of another version, or with flags that this one does not know */
     HEATHERPLANE_IMAGE_BAD_CRC = 4,     /* something of it was altered */
     HEATHERPLANE_IMAGE_UNALIGNED = 5,   /* its address is no multiple of 8 */
-    HEATHERPLANE_IMAGE_TORN = 6         /* its pages were being written, or it has no separators: see heatherplane_image_file */
+    HEATHERPLANE_IMAGE_TORN = 6         /* its pages were being written, or it has no separators: see heatherplane_image_mend */
 };
 
 static inline const char *heatherplane_image_refusal_name(uint32_t refusal)
@@ -1140,7 +1144,7 @@ HEATHERPLANE_NODISCARD static inline uint32_t heatherplane_image_view(
  *
  * Refused, the file is all zeros, so that every call on it is refused too. TORN is the exception: the power was lost while the pages
  * were written, or the image has no separators, so the file is pointed at the pages, with the separators as they are, and has to be
- * placed anew before any other call. */
+ * mended before any other call, as heatherplane_image_mend does. */
 HEATHERPLANE_NODISCARD static inline uint32_t heatherplane_image_file(
     void *image, size_t length, uint8_t *separators, uint32_t *pool_numbers, uint64_t *pool_words, uint8_t *pool_owners,
     struct heatherplane_file *file)
@@ -1163,6 +1167,34 @@ HEATHERPLANE_NODISCARD static inline uint32_t heatherplane_image_file(
             (uint64_t *)words, base + HEATHERPLANE_IMAGE_HEADER + 12 * items, pool_numbers, pool_words, pool_owners);
     }
     return header.flags ? HEATHERPLANE_IMAGE_TORN : HEATHERPLANE_IMAGE_ACCEPTED;
+}
+
+/* Points a file for writing into an image, as heatherplane_image_file does, and mends it if it is TORN: the first call of a host that
+ * stores pages only, or may have lost its power. separators, of as many bytes as pages, are needed where the image has none.
+ *
+ * A growth that was open in a TORN image is given up, since its second set is not there. reply, which may be null, is the mending's, or
+ * all zeros if none was needed; refused with it (BAD_CONTENTS, FULL, or BAD_LENGTH without separators or pool), the image stays TORN and
+ * as it was, and the file is all zeros. An image that is accepted is only pointed at.
+ *
+ * A mending writes many pages: let image be memory of the program's own, read or mapped privately, and store the mended image under a new
+ * name that then takes the old one's (docs/POWER.md). Seal or save it first. */
+HEATHERPLANE_NODISCARD static inline uint32_t heatherplane_image_mend(
+    void *image, size_t length, uint8_t *separators, uint32_t *pool_numbers, uint64_t *pool_words, uint8_t *pool_owners,
+    struct heatherplane_file *file, struct heatherplane_reply *reply)
+{
+    const uint32_t refusal = heatherplane_image_file(image, length, separators, pool_numbers, pool_words, pool_owners, file);
+    struct heatherplane_reply mended;
+    memset(&mended, 0, sizeof mended);
+    if (refusal == HEATHERPLANE_IMAGE_TORN) {
+        file->growth.open = 0;
+        file->growth.steps = 0;
+        mended = heatherplane_mend_in(file);
+        if (mended.refusal)
+            memset(file, 0, sizeof *file);
+    }
+    if (reply)
+        *reply = mended;
+    return refusal == HEATHERPLANE_IMAGE_TORN && !mended.refusal ? (uint32_t)HEATHERPLANE_IMAGE_ACCEPTED : refusal;
 }
 
 /* Writes a header for these parameters and this record, with the checksum that its flags ask for. */
