@@ -63,11 +63,19 @@ static uint32_t carry(uint32_t number)
     (void)number;
     return heatherplane_carry_in(&view, &carried).refusal;
 }
+static uint32_t replay(uint32_t number)
+{
+    const uint8_t kinds[] = {5, 0, 2, 3, 1, 3, 8}, callers[7] = {0};
+    const uint32_t stars[] = {0, number, number, number, number, number, number}, ras[] = {0, 0, 1, 0, 1, 0, 1};
+    const int32_t decs[7] = {0};
+    uint32_t answers[56];
+    return heatherplane_replay_in(&file, 7, kinds, callers, stars, ras, decs, answers).refusal;
+}
 static uint32_t version(uint32_t number) { (void)number; return heatherplane_version() != HEATHERPLANE_VERSION; }
 
 enum call {
     NOTHING, MAKE, STATE_FOR, LOOK_UP, ENTER, CASCADE, CHANGE, REMOVE, DUE, GROW, SHRINK, CHECK, OPEN, STEP, ENTER_STOPPED,
-    CHANGE_STOPPED, REMOVE_STOPPED, MEND, WRITE_TABLE, READ_TABLE, CARRY, MARK, VERSION, CALLS
+    CHANGE_STOPPED, REMOVE_STOPPED, MEND, WRITE_TABLE, READ_TABLE, CARRY, REPLAY, MARK, VERSION, CALLS
 };
 static const struct {
     const char *name;
@@ -77,7 +85,7 @@ static const struct {
     {"change", change}, {"remove", take_out}, {"due", due}, {"grow", grow}, {"shrink", shrink}, {"check", check},
     {"open_growth", open_growth}, {"step_growth", step_growth}, {"enter_stopped", enter_stopped},
     {"change_stopped", change_stopped}, {"remove_stopped", remove_stopped}, {"mend", mend}, {"write_table", write_table},
-    {"read_table", read_table}, {"carry", carry}, {"mark_changed", mark}, {"version", version},
+    {"read_table", read_table}, {"carry", carry}, {"replay", replay}, {"mark_changed", mark}, {"version", version},
 };
 
 struct job {
@@ -160,6 +168,8 @@ static void whole_files(void)
     measure(WRITE_TABLE, 0);
     measure(READ_TABLE, 0);
     measure(CARRY, 0);
+    for (uint32_t number = 500; number < 700; number++)
+        measure(REPLAY, number);
 }
 
 static void growths(void)

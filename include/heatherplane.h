@@ -76,7 +76,8 @@ enum heatherplane_refusal {
     HEATHERPLANE_NOT_OWNER = 13,     /* the caller is neither the star's owner nor the institute */
     HEATHERPLANE_TRAY_FULL = 14,     /* 256 reports are waiting */
     HEATHERPLANE_BAD_CONTENTS = 15,  /* pages that cannot be mended: a star with two positions, or an invalid item */
-    HEATHERPLANE_OUT_OF_TURN = 16    /* a growth is open, and the call writes the file; or none is open, and the call is a step */
+    HEATHERPLANE_OUT_OF_TURN = 16,   /* a growth is open, and the call writes the file; or none is open, and the call is a step */
+    HEATHERPLANE_BAD_KIND = 256      /* a replay has a kind of call that is none */
 };
 
 /* The refusal's name, for messages. */
@@ -85,6 +86,8 @@ static inline const char *heatherplane_refusal_name(uint32_t refusal)
     static const char *const names[] = {
         "accepted", "bad parameters", "bad length", "bad number", "bad position", "damaged", "held", "not held", "full",
         "ungrown", "bad header", "bad rows", "short output", "not owner", "tray full", "bad contents", "out of turn"};
+    if (refusal == HEATHERPLANE_BAD_KIND)
+        return "bad kind";
     return refusal < sizeof names / sizeof *names ? names[refusal] : "unknown";
 }
 
@@ -517,6 +520,45 @@ HEATHERPLANE_NODISCARD uint32_t heatherplane_mark_changed(
     const uint8_t *old_separators, size_t old_separators_length,
     const uint8_t *new_separators, size_t new_separators_length,
     uint8_t *marks, size_t marks_length);
+
+/* The kinds of a replay's calls. */
+enum heatherplane_kind {
+    HEATHERPLANE_LOOK_UP = 0,
+    HEATHERPLANE_ENTER = 1,
+    HEATHERPLANE_CHANGE = 2,
+    HEATHERPLANE_REMOVE = 3,
+    HEATHERPLANE_GROW = 4,
+    HEATHERPLANE_DUE = 5,
+    HEATHERPLANE_CHECK = 6,
+    HEATHERPLANE_SHRINK = 7,
+    HEATHERPLANE_CASCADE = 8
+};
+
+/* Makes many calls, one after the other, on a file with no growth open: expansions and expanded are its growth state. Each call has a kind
+ * and a caller, a number and a position, of which it takes what it needs, and is refused or accepted as by itself; a refused one does not
+ * end the replay.
+ *
+ * Buffers: the file's four and the pool's three, whose lengths each call tests for itself; kinds, callers, stars, ras and decs, of one item
+ * for each call; and answers, of eight: refusal, page, place, found (0 or 1), ra, dec + 2^31, due (0 or 1), stars.
+ * Refused: BAD_LENGTH (of the last six buffers), BAD_KIND. A refusal leaves all as it was.
+ * Accepted: growth is the record after the last call.
+ * Threads: writes the file and the answers. */
+HEATHERPLANE_NODISCARD struct heatherplane_reply heatherplane_replay(
+    uint32_t places, uint32_t groups, uint32_t width, uint32_t step, uint32_t bits, uint32_t load, uint32_t pages,
+    uint32_t multiplier, uint32_t expansions, uint32_t expanded,
+    uint8_t *separators, size_t separators_length,
+    uint32_t *numbers, size_t numbers_length,
+    uint64_t *words, size_t words_length,
+    uint8_t *owners, size_t owners_length,
+    uint32_t *pool_numbers, size_t pool_numbers_length,
+    uint64_t *pool_words, size_t pool_words_length,
+    uint8_t *pool_owners, size_t pool_owners_length,
+    const uint8_t *kinds, size_t kinds_length,
+    const uint8_t *callers, size_t callers_length,
+    const uint32_t *stars, size_t stars_length,
+    const uint32_t *ras, size_t ras_length,
+    const int32_t *decs, size_t decs_length,
+    uint32_t *answers, size_t answers_length);
 
 /* The library's version, as HEATHERPLANE_VERSION is the header's.
  * Threads: touches no memory of the caller. */
@@ -951,6 +993,34 @@ HEATHERPLANE_NODISCARD static inline struct heatherplane_reply heatherplane_carr
         file->words, file->words_length, file->owners, file->owners_length,
         file->pool_numbers, file->pool_numbers_length, file->pool_words, file->pool_words_length,
         file->pool_owners, file->pool_owners_length);
+}
+
+/* Many calls at once: count of them, with as many kinds, callers, numbers and positions, and eight answers each. OUT_OF_TURN while a growth
+ * is open, BAD_PARAMETERS with a record that is none. */
+HEATHERPLANE_NODISCARD static inline struct heatherplane_reply heatherplane_replay_in(
+    struct heatherplane_file *file, size_t count, const uint8_t *kinds, const uint8_t *callers, const uint32_t *stars, const uint32_t *ras,
+    const int32_t *decs, uint32_t *answers)
+{
+    const struct heatherplane_parameters *p = &file->parameters;
+    struct heatherplane_reply reply;
+    if (file->growth.open || file->growth.steps) {
+        memset(&reply, 0, sizeof reply);
+        reply.refusal = file->growth.open == 1 ? HEATHERPLANE_OUT_OF_TURN : HEATHERPLANE_BAD_PARAMETERS;
+        reply.growth = file->growth;
+        return reply;
+    }
+    reply = heatherplane_replay(
+        p->places, p->groups, p->width, p->step, p->bits, p->load, p->pages, p->multiplier,
+        file->growth.expansions, file->growth.expanded,
+        file->separators, file->separators_length, file->numbers, file->numbers_length,
+        file->words, file->words_length, file->owners, file->owners_length,
+        file->pool_numbers, file->pool_numbers_length, file->pool_words, file->pool_words_length,
+        file->pool_owners, file->pool_owners_length,
+        kinds, kinds ? count : 0, callers, callers ? count : 0, stars, stars ? count : 0, ras, ras ? count : 0, decs, decs ? count : 0,
+        answers, answers ? 8 * count : 0);
+    if (!reply.refusal)
+        file->growth = reply.growth;
+    return reply;
 }
 
 /* Marks after a growth, from the record and the separators before it; old_separators and marks have as many bytes as pages. */

@@ -91,7 +91,7 @@ static void refusal_names(void)
         {HEATHERPLANE_HELD, "held"}, {HEATHERPLANE_NOT_HELD, "not held"}, {HEATHERPLANE_FULL, "full"},
         {HEATHERPLANE_UNGROWN, "ungrown"}, {HEATHERPLANE_BAD_HEADER, "bad header"}, {HEATHERPLANE_BAD_ROWS, "bad rows"},
         {HEATHERPLANE_SHORT_OUTPUT, "short output"}, {HEATHERPLANE_NOT_OWNER, "not owner"}, {HEATHERPLANE_TRAY_FULL, "tray full"},
-        {HEATHERPLANE_BAD_CONTENTS, "bad contents"}, {HEATHERPLANE_OUT_OF_TURN, "out of turn"}, {17, "unknown"}, {UINT32_MAX, "unknown"}};
+        {HEATHERPLANE_BAD_CONTENTS, "bad contents"}, {HEATHERPLANE_OUT_OF_TURN, "out of turn"}, {HEATHERPLANE_BAD_KIND, "bad kind"}, {17, "unknown"}, {UINT32_MAX, "unknown"}};
     for (size_t i = 0; i < sizeof names / sizeof *names; i++) {
         EXPECT(i > 16 || names[i].refusal == i);
         EXPECT(strcmp(heatherplane_refusal_name(names[i].refusal), names[i].name) == 0);
@@ -555,6 +555,59 @@ static void carries(struct heatherplane_file *file, struct heatherplane_file *in
     group("carrying there and back");
 }
 
+/* Calls at once answer and leave what they do one by one. */
+static void replays(struct heatherplane_file *file, uint32_t stars)
+{
+    enum { CALLS = 900 };
+    static uint8_t kinds[CALLS], callers[CALLS];
+    static uint32_t numbers[CALLS], ras[CALLS], answers[8 * CALLS];
+    static int32_t decs[CALLS];
+    struct heatherplane_file single = heatherplane_file_of(
+        file->parameters, file->growth, copy.separators, copy.numbers, copy.words, copy.owners, pool_numbers, pool_words, pool_owners);
+    const struct heatherplane_growth before = file->growth;
+    copy_of(file);
+    for (uint32_t i = 0; i < CALLS; i++) {
+        kinds[i] = (uint8_t)(i % 50 == 0 ? HEATHERPLANE_GROW + i / 50 % 4 : (uint32_t[]){0, 1, 2, 3, 8}[i % 5]);
+        callers[i] = (uint8_t)(i % 3);
+        numbers[i] = number_of(i % 5 == 1 || i % 5 == 4 ? stars + i : i * 13 % (stars + 40));
+        ras[i] = ra_of(i);
+        decs[i] = dec_of(i);
+    }
+    kinds[5] = 9;
+    EXPECT(heatherplane_replay_in(file, CALLS, kinds, callers, numbers, ras, decs, answers).refusal == HEATHERPLANE_BAD_KIND);
+    kinds[5] = 0;
+    EXPECT(heatherplane_replay_in(file, CALLS, kinds, NULL, numbers, ras, decs, answers).refusal == HEATHERPLANE_BAD_LENGTH);
+    file->growth.open = 1;
+    EXPECT(heatherplane_replay_in(file, CALLS, kinds, callers, numbers, ras, decs, answers).refusal == HEATHERPLANE_OUT_OF_TURN);
+    file->growth.open = 0;
+    file->growth.steps = 1;
+    EXPECT(heatherplane_replay_in(file, CALLS, kinds, callers, numbers, ras, decs, answers).refusal == HEATHERPLANE_BAD_PARAMETERS);
+    file->growth.steps = 0;
+    EXPECT(same_file(&single, file) && same_record(file->growth, before));
+    EXPECT(heatherplane_replay_in(file, 0, kinds, callers, numbers, ras, decs, answers).refusal == 0);
+    EXPECT(heatherplane_replay_in(file, CALLS, kinds, callers, numbers, ras, decs, answers).refusal == 0);
+    for (uint32_t i = 0; i < CALLS; i++) {
+        struct heatherplane_reply reply;
+        const uint32_t *answer = answers + 8 * i;
+        switch (kinds[i]) {
+        case HEATHERPLANE_LOOK_UP: reply = heatherplane_look_up_in(&single, numbers[i]); break;
+        case HEATHERPLANE_ENTER: reply = heatherplane_enter_in(&single, callers[i], numbers[i], ras[i], decs[i]); break;
+        case HEATHERPLANE_CHANGE: reply = heatherplane_change_in(&single, callers[i], numbers[i], ras[i], decs[i]); break;
+        case HEATHERPLANE_REMOVE: reply = heatherplane_remove_in(&single, callers[i], numbers[i]); break;
+        case HEATHERPLANE_GROW: reply = heatherplane_grow_in(&single); break;
+        case HEATHERPLANE_DUE: reply = heatherplane_due_in(&single); break;
+        case HEATHERPLANE_CHECK: reply = heatherplane_check_in(&single); break;
+        case HEATHERPLANE_SHRINK: reply = heatherplane_shrink_in(&single); break;
+        default: reply = heatherplane_cascade_in(&single, callers[i], numbers[i], ras[i], decs[i]); break;
+        }
+        EXPECT(answer[0] == reply.refusal && answer[1] == reply.page && answer[2] == reply.place && answer[3] == reply.found);
+        EXPECT(answer[4] == reply.ra && answer[5] == (uint32_t)reply.dec + 0x80000000u && answer[6] == reply.due
+               && answer[7] == reply.stars);
+    }
+    EXPECT(same_file(&single, file) && same_record(file->growth, single.growth));
+    group("replays");
+}
+
 static void save(const char *name)
 {
     FILE *out = fopen(name, "wb");
@@ -581,6 +634,7 @@ int main(int count, char **arguments)
     mends(&file, &whole, stars);
     tables(&file, &second);
     carries(&file, &second);
+    replays(&file, stars);
     if (count > 2)
         save(arguments[2]);
     printf("%u passed, %u failed\n", passed, failed);
