@@ -50,6 +50,7 @@ fn least(list: &[f64]) -> f64 {
 }
 
 /// Runs of each library, nanoseconds of one call, so that the runs of equal index are neighbours in time.
+#[derive(Clone)]
 pub struct Runs(Vec<Vec<f64>>);
 
 impl Runs {

@@ -139,7 +139,7 @@ fn cascade_row(report: &mut Report, table: &mut Table, name: &str, file: &File, 
     // With two decimals where there are any.
     let mean = |pages: usize| (100.0 * pages as f64 / numbers.len() as f64).round() / 100.0;
     report.note(format!(
-        "{}{name}: cascade / enter {:.3}; a cascade visits {} pages, of which {} change; the entry's reach has {}",
+        "{}{name}: cascade / enter {:.3}; pages: {} visited, {} of them changed, {} in the entry's reach",
         file.size(),
         cascades.by(&entries),
         mean(visited),
@@ -201,18 +201,13 @@ fn whole_file_rows(report: &mut Report, table: &mut Table, file: &File) {
     tables.iter_mut().for_each(|library| assert_eq!(library.call(Kind::Write, 0, 0, 0).refusal, 0));
     let read = copied_row(table, RUNS, "read a table", &mut tables, Kind::Read);
     let carry = copied_row(table, RUNS, "carry", &mut prepared(file, &[Kind::Carry], &[]), Kind::Carry);
+    let size = file.size();
+    let [open, step, shrunk, checked] = [open, step, shrink.clone(), check.clone()].map(|call| call.by(&grow));
+    report.note(format!("{size}, by a growth: open {open:.2}, step {step:.2}, shrink {shrunk:.2}, check {checked:.2}"));
+    let [mend, read, carry] = [mend, read, carry].map(|call| call.by(&shrink));
+    let write = write.by(&check);
     report.note(format!(
-        "{}: by a growth: open {:.2}, step {:.2}, shrink {:.2}, check {:.2}; by a shrink: mend {:.2}, read {:.2}, carry {:.2}; \
-         write by a check {:.2}",
-        file.size(),
-        open.by(&grow),
-        step.by(&grow),
-        shrink.by(&grow),
-        check.by(&grow),
-        mend.by(&shrink),
-        read.by(&shrink),
-        carry.by(&shrink),
-        write.by(&check),
+        "{size}, by a shrink: mend {mend:.2}, read {read:.2}, carry {carry:.2}; by a check: write {write:.2}"
     ));
 }
 
