@@ -51,6 +51,12 @@ class Handle(ctypes.Structure):
         field for name in BUFFERS + POOL for field in ((name, c_void_p), (name + "_length", c_size_t))
     ]
 
+    def __init__(self, *values: object):
+        super().__init__(*values)
+        # The same memory, as the calls take it: the numbers of parameters and record, and the addresses and lengths.
+        self.values = (c_uint32 * 12).from_buffer(self)
+        self.lent = (c_size_t * 14).from_buffer(self, Handle.separators.offset)
+
 
 class ImageHeader(ctypes.Structure):
     _fields_ = [
@@ -96,8 +102,6 @@ _SIGNATURES = {
     "replay": _PARAMETERS + [c_uint32] * 2 + _FILE + _POOL + _BYTES * 6,
     "mark_changed": _PARAMETERS + [c_uint32] * 2 + _BYTES * 3,
 }
-_NUMBERS, _ADDRESSES = c_uint32 * 12, c_size_t * 14
-_AT = Handle.separators.offset
 
 
 class Calls:
@@ -118,12 +122,12 @@ class Calls:
     @staticmethod
     def _numbers(handle: Handle) -> list[int]:
         """Parameters and record."""
-        return _NUMBERS.from_buffer(handle)[:]
+        return handle.values[:]
 
     @staticmethod
     def _lent(handle: Handle) -> list[int]:
         """Addresses and lengths: eight of the file, then six of the pool."""
-        return _ADDRESSES.from_buffer(handle, _AT)[:]
+        return handle.lent[:]
 
     @staticmethod
     def _kept(handle: Handle, reply: Reply) -> Reply:
@@ -186,7 +190,7 @@ class Calls:
         lent, other = self._lent(handle), self._lent(second)
         reply = self._kept(handle, self._step_growth(*self._numbers(handle), *lent[:8], *other[:8], *lent[8:]))
         if not reply.refusal and not reply.growth.open:
-            _ADDRESSES.from_buffer(handle, _AT)[:8], _ADDRESSES.from_buffer(second, _AT)[:8] = other[:8], lent[:8]
+            handle.lent[:8], second.lent[:8] = other[:8], lent[:8]
         return reply
 
     def replay(self, handle: Handle, *arrays: tuple[int, int]) -> Reply:
