@@ -139,7 +139,7 @@ fn cascade_row(report: &mut Report, table: &mut Table, name: &str, file: &File, 
     // With two decimals where there are any.
     let mean = |pages: usize| (100.0 * pages as f64 / numbers.len() as f64).round() / 100.0;
     report.note(format!(
-        "{}{name}: cascade / enter {:.3}; pages: {} visited, {} of them changed, {} in the entry's reach",
+        "{}{name}: cascade / enter {:.3}; pages: {} visited, {} of them changed, {} in the reach",
         file.size(),
         cascades.by(&entries),
         mean(visited),
