@@ -1,6 +1,6 @@
 /* How much stack each call from C needs: the call runs on a thread whose stack was painted, and the paint that is left tells.
  * The calls are those of a history on the largest file: at first without a growth, so that entries and removals have long reaches,
- * then growths, steps and shrinkings of what has come of it. */
+ * then mendings, tables and carrying of that file, then growths, steps and shrinkings of what has come of it. */
 #define _POSIX_C_SOURCE 200809L
 
 #include <pthread.h>
@@ -18,12 +18,19 @@ static uint32_t numbers[ITEMS], second_numbers[ITEMS], pool_numbers[ITEMS];
 static uint64_t words[ITEMS], second_words[ITEMS], pool_words[ITEMS];
 static uint8_t owners[ITEMS], second_owners[ITEMS], pool_owners[ITEMS];
 
-static struct heatherplane_file file, second;
+static uint8_t table[5760 + 12 * ITEMS + 2880];
+static size_t table_length;
+
+static struct heatherplane_file file, second, carried;
 static struct heatherplane_growth before;
 
 static uint32_t nothing(uint32_t number) { (void)number; return 0; }
 static uint32_t make(uint32_t number) { (void)number; return heatherplane_make_in(&file).refusal; }
-static uint32_t state_for(uint32_t number) { struct heatherplane_file f = second; return heatherplane_make_for(&f, number).refusal; }
+static uint32_t state_for(uint32_t number)
+{
+    const struct heatherplane_parameters *p = &file.parameters;
+    return heatherplane_state_for(p->places, p->groups, p->width, p->step, p->bits, p->load, p->pages, p->multiplier, number).refusal;
+}
 static uint32_t look_up(uint32_t number) { return heatherplane_look_up_in(&file, number).refusal; }
 static uint32_t enter(uint32_t number) { return heatherplane_enter_in(&file, 0, number, 1, 0).refusal; }
 static uint32_t cascade(uint32_t number) { return heatherplane_cascade_in(&file, 0, number, 1, 0).refusal; }
@@ -37,14 +44,48 @@ static uint32_t open_growth(uint32_t number) { (void)number; return heatherplane
 static uint32_t step_growth(uint32_t number) { (void)number; return heatherplane_step_growth_in(&file, &second).refusal; }
 static uint32_t mark(uint32_t number) { (void)number; return heatherplane_mark_changed_in(&file, &before, old_separators, marks); }
 
-enum call { NOTHING, MAKE, STATE_FOR, LOOK_UP, ENTER, CASCADE, CHANGE, REMOVE, DUE, GROW, SHRINK, CHECK, OPEN, STEP, MARK, CALLS };
+static uint32_t enter_stopped(uint32_t number) { return heatherplane_enter_stopped_in(&file, 0, number, 1, 0, number % 3).refusal; }
+static uint32_t change_stopped(uint32_t number) { return heatherplane_change_stopped_in(&file, 0, number, 3, 0, number % 2).refusal; }
+static uint32_t remove_stopped(uint32_t number) { return heatherplane_remove_stopped_in(&file, 0, number, number % 3).refusal; }
+static uint32_t mend(uint32_t number) { (void)number; return heatherplane_mend_in(&file).refusal; }
+static uint32_t write_table(uint32_t number)
+{
+    const struct heatherplane_view view = heatherplane_view_in(&file);
+    const struct heatherplane_reply reply = heatherplane_write_table_view(&view, table, sizeof table);
+    (void)number;
+    table_length = reply.stars;
+    return reply.refusal;
+}
+static uint32_t read_table(uint32_t number) { (void)number; return heatherplane_read_table_in(&file, table, table_length).refusal; }
+static uint32_t carry(uint32_t number)
+{
+    const struct heatherplane_view view = heatherplane_view_in(&file);
+    (void)number;
+    return heatherplane_carry_in(&view, &carried).refusal;
+}
+static uint32_t replay(uint32_t number)
+{
+    const uint8_t kinds[] = {5, 0, 2, 3, 1, 3, 8}, callers[7] = {0};
+    const uint32_t stars[] = {0, number, number, number, number, number, number}, ras[] = {0, 0, 1, 0, 1, 0, 1};
+    const int32_t decs[7] = {0};
+    uint32_t answers[56];
+    return heatherplane_replay_in(&file, 7, kinds, callers, stars, ras, decs, answers).refusal;
+}
+static uint32_t version(uint32_t number) { (void)number; return heatherplane_version() != HEATHERPLANE_VERSION; }
+
+enum call {
+    NOTHING, MAKE, STATE_FOR, LOOK_UP, ENTER, CASCADE, CHANGE, REMOVE, DUE, GROW, SHRINK, CHECK, OPEN, STEP, ENTER_STOPPED,
+    CHANGE_STOPPED, REMOVE_STOPPED, MEND, WRITE_TABLE, READ_TABLE, CARRY, REPLAY, MARK, VERSION, CALLS
+};
 static const struct {
     const char *name;
     uint32_t (*run)(uint32_t);
 } calls[CALLS] = {
     {"no call", nothing}, {"make", make}, {"state_for", state_for}, {"look_up", look_up}, {"enter", enter}, {"cascade", cascade},
     {"change", change}, {"remove", take_out}, {"due", due}, {"grow", grow}, {"shrink", shrink}, {"check", check},
-    {"open_growth", open_growth}, {"step_growth", step_growth}, {"mark_changed", mark},
+    {"open_growth", open_growth}, {"step_growth", step_growth}, {"enter_stopped", enter_stopped},
+    {"change_stopped", change_stopped}, {"remove_stopped", remove_stopped}, {"mend", mend}, {"write_table", write_table},
+    {"read_table", read_table}, {"carry", carry}, {"replay", replay}, {"mark_changed", mark}, {"version", version},
 };
 
 struct job {
@@ -111,6 +152,26 @@ static void entries(void)
         measure(call, 0);
 }
 
+/* Calls stopped early and mended each, then the file as a table and under the other multiplier. */
+static void whole_files(void)
+{
+    for (uint32_t number = 1; number <= 300; number++) {
+        measure(REMOVE_STOPPED, number);
+        if (number % 3 == 1)
+            measure(MEND, 0);
+        measure(CHANGE_STOPPED, number + 300);
+        measure(ENTER_STOPPED, STARS + number);
+        if (number % 3 == 2)
+            measure(MEND, 0);
+    }
+    measure(MEND, 0);
+    measure(WRITE_TABLE, 0);
+    measure(READ_TABLE, 0);
+    measure(CARRY, 0);
+    for (uint32_t number = 500; number < 700; number++)
+        measure(REPLAY, number);
+}
+
 static void growths(void)
 {
     for (int growth = 0; growth < GROWTHS; growth++) {
@@ -134,13 +195,18 @@ int main(void)
     const struct heatherplane_growth none = {0, 0, 0, 0};
     file = heatherplane_file_of(parameters, none, separators, numbers, words, owners, pool_numbers, pool_words, pool_owners);
     second = heatherplane_file_of(parameters, none, second_separators, second_numbers, second_words, second_owners, NULL, NULL, NULL);
+    carried = file;
+    carried.separators = second_separators, carried.numbers = second_numbers, carried.words = second_words;
+    carried.owners = second_owners, carried.parameters.multiplier = HEATHERPLANE_MULTIPLIER_1993;
     measure(NOTHING, 0);
+    measure(VERSION, 0);
     measure(MAKE, 0);
     measure(STATE_FOR, STARS);
     entries();
+    whole_files();
     growths();
-    printf("%-12s %14s %8s %8s\n", "call", "bytes of stack", "calls", "refused");
+    printf("%-14s %14s %8s %8s\n", "call", "bytes of stack", "calls", "refused");
     for (int call = 0; call < CALLS; call++)
-        printf("%-12s %14zu %8zu %8zu\n", calls[call].name, greatest[call], made[call], refused[call]);
+        printf("%-14s %14zu %8zu %8zu\n", calls[call].name, greatest[call], made[call], refused[call]);
     return 0;
 }

@@ -76,7 +76,8 @@ enum heatherplane_refusal {
     HEATHERPLANE_NOT_OWNER = 13,     /* the caller is neither the star's owner nor the institute */
     HEATHERPLANE_TRAY_FULL = 14,     /* 256 reports are waiting */
     HEATHERPLANE_BAD_CONTENTS = 15,  /* pages that cannot be mended: a star with two positions, or an invalid item */
-    HEATHERPLANE_OUT_OF_TURN = 16    /* a growth is open, and the call writes the file; or none is open, and the call is a step */
+    HEATHERPLANE_OUT_OF_TURN = 16,   /* a growth is open, and the call writes the file; or none is open, and the call is a step */
+    HEATHERPLANE_BAD_KIND = 256      /* a replay has a kind of call that is none */
 };
 
 /* The refusal's name, for messages. */
@@ -85,6 +86,8 @@ static inline const char *heatherplane_refusal_name(uint32_t refusal)
     static const char *const names[] = {
         "accepted", "bad parameters", "bad length", "bad number", "bad position", "damaged", "held", "not held", "full",
         "ungrown", "bad header", "bad rows", "short output", "not owner", "tray full", "bad contents", "out of turn"};
+    if (refusal == HEATHERPLANE_BAD_KIND)
+        return "bad kind";
     return refusal < sizeof names / sizeof *names ? names[refusal] : "unknown";
 }
 
@@ -387,9 +390,10 @@ HEATHERPLANE_NODISCARD struct heatherplane_reply heatherplane_step_growth(
  * given number of stores the call ends. With a store for every changed page, or more, it is the whole call. For tests of a mount and
  * of its mending.
  *
- * Buffers, refused, threads: as enter, change and remove. The reply is that of the whole call, whatever was stored.
+ * Buffers, refused: as enter, change and remove. The reply is that of the whole call, whatever was stored.
  * Afterwards: an entry stores the highest changed page first, a removal the lowest; a change is one store. heatherplane_mend makes
- * the file whole again. */
+ * the file whole again.
+ * Threads: writes the file. */
 HEATHERPLANE_NODISCARD struct heatherplane_reply heatherplane_enter_stopped(
     uint32_t places, uint32_t groups, uint32_t width, uint32_t step, uint32_t bits, uint32_t load, uint32_t pages,
     uint32_t multiplier, uint32_t expansions, uint32_t expanded, uint32_t open, uint32_t steps,
@@ -402,6 +406,7 @@ HEATHERPLANE_NODISCARD struct heatherplane_reply heatherplane_enter_stopped(
     uint8_t *pool_owners, size_t pool_owners_length,
     uint8_t caller, uint32_t number, uint32_t ra, int32_t dec, uint32_t stores);
 
+/* Threads: writes the file, one word of it. */
 HEATHERPLANE_NODISCARD struct heatherplane_reply heatherplane_change_stopped(
     uint32_t places, uint32_t groups, uint32_t width, uint32_t step, uint32_t bits, uint32_t load, uint32_t pages,
     uint32_t multiplier, uint32_t expansions, uint32_t expanded, uint32_t open, uint32_t steps,
@@ -411,6 +416,7 @@ HEATHERPLANE_NODISCARD struct heatherplane_reply heatherplane_change_stopped(
     const uint8_t *owners, size_t owners_length,
     uint8_t caller, uint32_t number, uint32_t ra, int32_t dec, uint32_t stores);
 
+/* Threads: writes the file. */
 HEATHERPLANE_NODISCARD struct heatherplane_reply heatherplane_remove_stopped(
     uint32_t places, uint32_t groups, uint32_t width, uint32_t step, uint32_t bits, uint32_t load, uint32_t pages,
     uint32_t multiplier, uint32_t expansions, uint32_t expanded, uint32_t open, uint32_t steps,
@@ -515,7 +521,47 @@ HEATHERPLANE_NODISCARD uint32_t heatherplane_mark_changed(
     const uint8_t *new_separators, size_t new_separators_length,
     uint8_t *marks, size_t marks_length);
 
-/* The library's version, as HEATHERPLANE_VERSION is the header's. */
+/* The kinds of a replay's calls. */
+enum heatherplane_kind {
+    HEATHERPLANE_LOOK_UP = 0,
+    HEATHERPLANE_ENTER = 1,
+    HEATHERPLANE_CHANGE = 2,
+    HEATHERPLANE_REMOVE = 3,
+    HEATHERPLANE_GROW = 4,
+    HEATHERPLANE_DUE = 5,
+    HEATHERPLANE_CHECK = 6,
+    HEATHERPLANE_SHRINK = 7,
+    HEATHERPLANE_CASCADE = 8
+};
+
+/* Makes many calls, one after the other, on a file with no growth open: expansions and expanded are its growth state. Each call has a kind
+ * and a caller, a number and a position, of which it takes what it needs, and is refused or accepted as by itself; a refused one does not
+ * end the replay.
+ *
+ * Buffers: the file's four and the pool's three, whose lengths each call tests for itself; kinds, callers, stars, ras and decs, of one item
+ * for each call; and answers, of eight: refusal, page, place, found (0 or 1), ra, dec + 2^31, due (0 or 1), stars.
+ * Refused: BAD_LENGTH (of the last six buffers), BAD_KIND. A refusal leaves all as it was.
+ * Accepted: growth is the record after the last call.
+ * Threads: writes the file and the answers. */
+HEATHERPLANE_NODISCARD struct heatherplane_reply heatherplane_replay(
+    uint32_t places, uint32_t groups, uint32_t width, uint32_t step, uint32_t bits, uint32_t load, uint32_t pages,
+    uint32_t multiplier, uint32_t expansions, uint32_t expanded,
+    uint8_t *separators, size_t separators_length,
+    uint32_t *numbers, size_t numbers_length,
+    uint64_t *words, size_t words_length,
+    uint8_t *owners, size_t owners_length,
+    uint32_t *pool_numbers, size_t pool_numbers_length,
+    uint64_t *pool_words, size_t pool_words_length,
+    uint8_t *pool_owners, size_t pool_owners_length,
+    const uint8_t *kinds, size_t kinds_length,
+    const uint8_t *callers, size_t callers_length,
+    const uint32_t *stars, size_t stars_length,
+    const uint32_t *ras, size_t ras_length,
+    const int32_t *decs, size_t decs_length,
+    uint32_t *answers, size_t answers_length);
+
+/* The library's version, as HEATHERPLANE_VERSION is the header's.
+ * Threads: touches no memory of the caller. */
 HEATHERPLANE_NODISCARD uint32_t heatherplane_version(void);
 
 /* A file as one value, for writing: its parameters, its growth record and the buffers lent to it. A value of all zeros is refused by
@@ -949,6 +995,34 @@ HEATHERPLANE_NODISCARD static inline struct heatherplane_reply heatherplane_carr
         file->pool_owners, file->pool_owners_length);
 }
 
+/* Many calls at once: count of them, with as many kinds, callers, numbers and positions, and eight answers each. OUT_OF_TURN while a growth
+ * is open, BAD_PARAMETERS with a record that is none. */
+HEATHERPLANE_NODISCARD static inline struct heatherplane_reply heatherplane_replay_in(
+    struct heatherplane_file *file, size_t count, const uint8_t *kinds, const uint8_t *callers, const uint32_t *stars, const uint32_t *ras,
+    const int32_t *decs, uint32_t *answers)
+{
+    const struct heatherplane_parameters *p = &file->parameters;
+    struct heatherplane_reply reply;
+    if (file->growth.open || file->growth.steps) {
+        memset(&reply, 0, sizeof reply);
+        reply.refusal = file->growth.open == 1 ? HEATHERPLANE_OUT_OF_TURN : HEATHERPLANE_BAD_PARAMETERS;
+        reply.growth = file->growth;
+        return reply;
+    }
+    reply = heatherplane_replay(
+        p->places, p->groups, p->width, p->step, p->bits, p->load, p->pages, p->multiplier,
+        file->growth.expansions, file->growth.expanded,
+        file->separators, file->separators_length, file->numbers, file->numbers_length,
+        file->words, file->words_length, file->owners, file->owners_length,
+        file->pool_numbers, file->pool_numbers_length, file->pool_words, file->pool_words_length,
+        file->pool_owners, file->pool_owners_length,
+        kinds, kinds ? count : 0, callers, callers ? count : 0, stars, stars ? count : 0, ras, ras ? count : 0, decs, decs ? count : 0,
+        answers, answers ? 8 * count : 0);
+    if (!reply.refusal)
+        file->growth = reply.growth;
+    return reply;
+}
+
 /* Marks after a growth, from the record and the separators before it; old_separators and marks have as many bytes as pages. */
 HEATHERPLANE_NODISCARD static inline uint32_t heatherplane_mark_changed_in(
     const struct heatherplane_file *file, const struct heatherplane_growth *before, const uint8_t *old_separators, uint8_t *marks)
@@ -1034,7 +1108,7 @@ enum heatherplane_image_refusal {
     HEATHERPLANE_IMAGE_BAD_VERSION = 3, /* an image of another version, or with flags that this one does not know */
     HEATHERPLANE_IMAGE_BAD_CRC = 4,     /* something of it was altered */
     HEATHERPLANE_IMAGE_UNALIGNED = 5,   /* its address is no multiple of 8 */
-    HEATHERPLANE_IMAGE_TORN = 6         /* its pages were being written, or it has no separators: see heatherplane_image_file */
+    HEATHERPLANE_IMAGE_TORN = 6         /* its pages were being written, or it has no separators: see heatherplane_image_mend */
 };
 
 static inline const char *heatherplane_image_refusal_name(uint32_t refusal)
@@ -1140,7 +1214,7 @@ HEATHERPLANE_NODISCARD static inline uint32_t heatherplane_image_view(
  *
  * Refused, the file is all zeros, so that every call on it is refused too. TORN is the exception: the power was lost while the pages
  * were written, or the image has no separators, so the file is pointed at the pages, with the separators as they are, and has to be
- * placed anew before any other call. */
+ * mended before any other call, as heatherplane_image_mend does. */
 HEATHERPLANE_NODISCARD static inline uint32_t heatherplane_image_file(
     void *image, size_t length, uint8_t *separators, uint32_t *pool_numbers, uint64_t *pool_words, uint8_t *pool_owners,
     struct heatherplane_file *file)
@@ -1163,6 +1237,34 @@ HEATHERPLANE_NODISCARD static inline uint32_t heatherplane_image_file(
             (uint64_t *)words, base + HEATHERPLANE_IMAGE_HEADER + 12 * items, pool_numbers, pool_words, pool_owners);
     }
     return header.flags ? HEATHERPLANE_IMAGE_TORN : HEATHERPLANE_IMAGE_ACCEPTED;
+}
+
+/* Points a file for writing into an image, as heatherplane_image_file does, and mends it if it is TORN: the first call of a host that
+ * stores pages only, or may have lost its power. separators, of as many bytes as pages, are needed where the image has none.
+ *
+ * A growth that was open in a TORN image is given up, since its second set is not there. reply, which may be null, is the mending's, or
+ * all zeros if none was needed; refused with it (BAD_CONTENTS, FULL, or BAD_LENGTH without separators or pool), the image stays TORN and
+ * as it was, and the file is all zeros. An image that is accepted is only pointed at.
+ *
+ * A mending writes many pages: let image be memory of the program's own, read or mapped privately, and store the mended image under a new
+ * name that then takes the old one's (docs/POWER.md). Seal or save it first. */
+HEATHERPLANE_NODISCARD static inline uint32_t heatherplane_image_mend(
+    void *image, size_t length, uint8_t *separators, uint32_t *pool_numbers, uint64_t *pool_words, uint8_t *pool_owners,
+    struct heatherplane_file *file, struct heatherplane_reply *reply)
+{
+    const uint32_t refusal = heatherplane_image_file(image, length, separators, pool_numbers, pool_words, pool_owners, file);
+    struct heatherplane_reply mended;
+    memset(&mended, 0, sizeof mended);
+    if (refusal == HEATHERPLANE_IMAGE_TORN) {
+        file->growth.open = 0;
+        file->growth.steps = 0;
+        mended = heatherplane_mend_in(file);
+        if (mended.refusal)
+            memset(file, 0, sizeof *file);
+    }
+    if (reply)
+        *reply = mended;
+    return refusal == HEATHERPLANE_IMAGE_TORN && !mended.refusal ? (uint32_t)HEATHERPLANE_IMAGE_ACCEPTED : refusal;
 }
 
 /* Writes a header for these parameters and this record, with the checksum that its flags ask for. */

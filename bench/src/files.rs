@@ -1,12 +1,30 @@
 //! Files in a form that no version of the library owns, and the files that the programs measure.
 
 use crate::floors::Homes;
-use crate::present;
+use crate::{present, today};
 use model::hashing::MULTIPLIERS;
 use model::random::Random;
 
 /// M=64 b=8, M=256 b=16 and M=1024 b=32: b, N, n0, s, k, A, M.
 pub const SIZES: [[u32; 7]; 3] = [[8, 8, 2, 5, 8, 80, 64], [16, 8, 2, 5, 8, 80, 256], [32, 8, 2, 5, 8, 80, 1_024]];
+
+/// Small pages, and the largest file at a tenth of its load and nearly full.
+pub const OTHERS: [[u32; 7]; 5] = [
+    [1, 8, 2, 5, 8, 80, 1_024],
+    [2, 8, 2, 5, 8, 80, 1_024],
+    [4, 8, 2, 5, 8, 80, 1_024],
+    [32, 8, 2, 5, 8, 10, 1_024],
+    [32, 8, 2, 5, 8, 95, 1_024],
+];
+
+/// Pages of 16 places, M from 64 to 1,024.
+pub const GROWING: [[u32; 7]; 5] = [
+    [16, 8, 2, 5, 8, 80, 64],
+    [16, 8, 2, 5, 8, 80, 128],
+    [16, 8, 2, 5, 8, 80, 256],
+    [16, 8, 2, 5, 8, 80, 512],
+    [16, 8, 2, 5, 8, 80, 1_024],
+];
 
 /// The same largest file, in which growth has one group and one page to begin with.
 pub const ONE_HOME: [u32; 7] = [32, 1, 1, 1, 8, 80, 1_024];
@@ -78,11 +96,13 @@ impl File {
         (first..first + self.places()).find(|&item| self.numbers[item] == number).map(|item| self.owners[item])
     }
 
-    /// With the multiplier where it is not document 01's.
+    /// With the load and the multiplier where they are not 80 % and document 01's.
     pub fn size(&self) -> String {
+        let [_, _, _, _, _, load, _] = self.parameters;
+        let load = if load == 80 { String::new() } else { format!(", A={load}") };
         let multiplier =
             if self.multiplier == MULTIPLIERS[0] { String::new() } else { format!(", {}", self.multiplier) };
-        format!("M={} b={}{multiplier}", self.pages(), self.places())
+        format!("M={} b={}{load}{multiplier}", self.pages(), self.places())
     }
 
     pub fn has_overflowed(&self, page: usize) -> bool {
@@ -112,13 +132,13 @@ impl File {
 
 /// An empty file filled by entries, which grows when growth is due, until all but one in 32 pages are addressed.
 pub fn filled(random: &mut Random, mut file: File) -> File {
-    let mut library = present::library(&file);
+    let mut library = today(&file);
     let last = file.pages() - file.pages() / 32;
     while file.addressed() < last {
         let (ra, dec) = random.position();
         library.call(model::Kind::Enter, random.star_number(), ra, dec);
-        if library.due().due {
-            library.grow();
+        while file.addressed() < last && library.due().due {
+            assert_eq!(library.grow().refusal, 0, "a file being filled can grow");
             file.growth = library.growth();
         }
     }
@@ -128,7 +148,7 @@ pub fn filled(random: &mut Random, mut file: File) -> File {
 /// The largest file, all pages addressed, its first pages exactly full of stars at home and the others empty; and two stars
 /// of home 0 that it does not hold.
 pub fn full_pages(random: &mut Random, pages: usize) -> (File, [u32; 2]) {
-    let mut library = present::library(&File::empty(SIZES[2]));
+    let mut library = today(&File::empty(SIZES[2]));
     while library.grow().refusal == 0 {}
     let file = library.file();
     let homes = Homes::new(&file);
@@ -155,7 +175,7 @@ pub fn full_pages(random: &mut Random, pages: usize) -> (File, [u32; 2]) {
 /// A run of overflowed pages from page 0 on, and a star of home 0 that it does not hold.
 pub fn overflowed_run(random: &mut Random, pages: usize) -> (File, u32) {
     let (file, [first, second]) = full_pages(random, pages);
-    let mut library = present::library(&file);
+    let mut library = today(&file);
     assert_eq!(library.enter(first).refusal, 0);
     (library.file(), second)
 }
@@ -163,7 +183,7 @@ pub fn overflowed_run(random: &mut Random, pages: usize) -> (File, u32) {
 /// The same run after more entries at its bottom, and a star of home 0 whose entry alters so many pages or more.
 pub fn pushing_run(random: &mut Random, run: &File, altered: usize) -> (File, u32) {
     let homes = Homes::new(run);
-    let mut library = present::library(run);
+    let mut library = today(run);
     loop {
         let number = random.star_number();
         if homes.home(number) != 0 || library.look_up(number).found {

@@ -1,16 +1,16 @@
 //! What the programs of this folder share: the libraries that they call, the files that they call them on, and timing.
 
-#[cfg(feature = "base")]
-mod base;
 pub mod files;
 pub mod floors;
 pub mod methods;
+mod older;
 mod present;
 pub mod procedures;
 pub mod timing;
 
 use files::File;
 use model::Kind;
+pub use older::load;
 pub use present::marked;
 
 /// What all versions of the library answer.
@@ -31,7 +31,7 @@ pub trait Library {
     fn growth(&self) -> [u32; 2];
     fn file(&self) -> File;
     fn copy(&self) -> Box<dyn Library>;
-    /// Lends the bytes of a table, to be written or read; of today's library alone.
+    /// Lends the bytes of a table, to be written or read.
     fn lend(&mut self, table: Vec<u8>);
     /// Gives them back.
     fn table(&self) -> Vec<u8>;
@@ -44,7 +44,6 @@ pub trait Library {
         self.call(Kind::Enter, number, 1, 0)
     }
 
-    /// Of today's library alone.
     fn cascade(&mut self, number: u32) -> Answer {
         self.call(Kind::Cascade, number, 1, 0)
     }
@@ -61,12 +60,10 @@ pub trait Library {
         self.call(Kind::Grow, 0, 0, 0)
     }
 
-    /// Of today's library alone.
     fn shrink(&mut self) -> Answer {
         self.call(Kind::Shrink, 0, 0, 0)
     }
 
-    /// Of today's library alone, as are its steps.
     fn open_growth(&mut self) -> Answer {
         self.call(Kind::Open, 0, 0, 0)
     }
@@ -84,17 +81,13 @@ pub trait Library {
     }
 }
 
-/// Today's library first, then the older one if there is one that has the file's multiplier, each with its own copy of the
-/// file.
-pub fn libraries(file: &File) -> Vec<Box<dyn Library>> {
-    #[cfg(feature = "base")]
-    if base::MULTIPLIERS.contains(&file.multiplier) {
-        return vec![present::library(file), base::library(file)];
-    }
-    today(file)
+/// Today's library first, then the older one if one is loaded that has these calls, each with its own copy of the file.
+pub fn libraries_with(file: &File, kinds: &[Kind]) -> Vec<Box<dyn Library>> {
+    let older = older::loaded().filter(|older| kinds.iter().all(|&kind| older.has(kind)));
+    std::iter::once(interface::linked()).chain(older).map(|exports| present::library(exports, file)).collect()
 }
 
-/// Today's library alone, for calls that the older one has not.
-pub fn today(file: &File) -> Vec<Box<dyn Library>> {
-    vec![present::library(file)]
+/// Today's library.
+pub fn today(file: &File) -> Box<dyn Library> {
+    present::library(interface::linked(), file)
 }

@@ -1,12 +1,14 @@
-//! The library as it is today: the only file here that follows its interface.
+//! A library, today's or an older one, called through the tests' interface.
 
 use crate::files::File;
 use crate::{Answer, Library};
+use interface::Exports;
 use model::placement::{lay_out, pack, Star};
 use model::{Buffers, Call, Growth, Kind, Pages, Parameters, Record};
 
 #[derive(Clone)]
 struct Present {
+    exports: &'static Exports,
     /// The last call; the next one has its parameters and the growth record after it.
     call: Call,
     lent: Buffers,
@@ -17,7 +19,7 @@ fn parameters_and_growth(file: &File) -> (Parameters, Growth) {
     (Parameters::new(file.parameters).under(file.multiplier), Growth { expansions, expanded })
 }
 
-pub fn library(file: &File) -> Box<dyn Library> {
+pub fn library(exports: &'static Exports, file: &File) -> Box<dyn Library> {
     let (parameters, growth) = parameters_and_growth(file);
     let record = Record::closed(growth);
     let call = Call::new(Kind::Due, parameters, record);
@@ -28,7 +30,7 @@ pub fn library(file: &File) -> Box<dyn Library> {
         owners: file.owners.clone(),
     };
     let lent = Buffers { file: pages, ..Buffers::zeros(&parameters) };
-    Box::new(Present { call, lent })
+    Box::new(Present { exports, call, lent })
 }
 
 /// The file that the model's rule gives these stars without a growth; none if a star is carried past the end.
@@ -51,7 +53,7 @@ pub fn marked(before: &File, after: &File) -> Vec<bool> {
 impl Library for Present {
     fn call(&mut self, kind: Kind, number: u32, ra: u32, dec: i32) -> Answer {
         self.call = Call { kind, number, ra, dec, ..self.call };
-        let outcome = interface::run(&self.call, &mut self.lent);
+        let outcome = self.exports.run(&self.call, &mut self.lent);
         self.call.record = outcome.record;
         Answer {
             refusal: outcome.refusal,

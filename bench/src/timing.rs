@@ -50,6 +50,7 @@ fn least(list: &[f64]) -> f64 {
 }
 
 /// Runs of each library, nanoseconds of one call, so that the runs of equal index are neighbours in time.
+#[derive(Clone)]
 pub struct Runs(Vec<Vec<f64>>);
 
 impl Runs {
@@ -101,55 +102,72 @@ pub fn alone(calls: usize, mut work: impl FnMut(usize)) -> Runs {
     Runs(vec![(0..RUNS).map(|_| nanoseconds(|| (0..calls).for_each(&mut work)) / calls as f64).collect()])
 }
 
-/// What the program prints: rows as they are measured, and notes, which stand on the standard error stream too, at the end.
-#[derive(Default)]
-pub struct Report {
-    notes: Vec<String>,
+/// The older library's part of a row: its times, and how much faster today's is.
+#[derive(Clone, Copy)]
+pub struct Older {
+    pub least: f64,
+    pub median: f64,
+    pub ratio: f64,
 }
 
-impl Report {
-    pub fn begin() -> Report {
-        let (older, columns) = if cfg!(feature = "base") {
-            (" old min ns | old median ns | old / new |", "---:|---:|---:|")
-        } else {
-            ("", "")
-        };
-        println!("| call | size | min ns | median ns | min / pool cleared |{older}");
-        println!("|---|---|---:|---:|---:|{columns}");
-        Report::default()
-    }
-
-    pub fn note(&mut self, note: String) {
-        eprintln!("{note}");
-        self.notes.push(note);
-    }
-
-    pub fn end(self) {
-        println!();
-        self.notes.iter().for_each(|note| println!("- {note}"));
-    }
+/// One call on one file, in nanoseconds; the time to clear the file's pool is the unit of `pools`.
+pub struct Row {
+    pub call: String,
+    pub size: String,
+    pub least: f64,
+    pub median: f64,
+    pub pools: f64,
+    pub older: Option<Older>,
 }
 
-/// The rows of one size, with the time to clear the pool as the unit.
+/// The rows of one file.
 pub struct Table {
     size: String,
     clearing: f64,
+    /// Whether rows are printed as they are measured, with columns for an older library.
+    shown: bool,
+    older: bool,
+    pub rows: Vec<Row>,
+}
+
+/// Prints a table's heading.
+pub fn heading(older: bool) {
+    let (names, columns) = match older {
+        true => (" old min ns | old median ns | old / new |", "---:|---:|---:|"),
+        false => ("", ""),
+    };
+    println!("| call | size | min ns | median ns | min / pool cleared |{names}");
+    println!("|---|---|---:|---:|---:|{columns}");
 }
 
 impl Table {
-    pub fn new(size: String, clearing: &Runs) -> Table {
-        Table { size, clearing: least(&clearing.0[0]) }
+    pub fn new(size: String, clearing: &Runs, shown: bool, older: bool) -> Table {
+        Table { size, clearing: least(&clearing.0[0]), shown, older, rows: Vec::new() }
     }
 
-    pub fn row(&self, name: &str, runs: &Runs) {
+    pub fn row(&mut self, name: &str, runs: &Runs) {
         let new = &runs.0[0];
-        let min = least(new);
-        print!("| {name} | {} | {min:.0} | {:.0} | {:.2} |", self.size, median(new.clone()), min / self.clearing);
-        if let Some(old) = runs.0.get(1) {
-            let ratios = old.iter().zip(new).map(|(old, new)| old / new).collect();
-            print!(" {:.0} | {:.0} | {:.2} |", least(old), median(old.clone()), median(ratios));
-        } else if cfg!(feature = "base") {
-            print!(" | | |");
+        let older = runs.0.get(1).map(|old| Older {
+            least: least(old),
+            median: median(old.clone()),
+            ratio: median(old.iter().zip(new).map(|(old, new)| old / new).collect()),
+        });
+        let (call, size, min) = (name.to_string(), self.size.clone(), least(new));
+        let row = Row { call, size, least: min, median: median(new.clone()), pools: min / self.clearing, older };
+        if self.shown {
+            self.print(&row);
+        } else {
+            eprintln!("{}: {name} {min:.0} ns", self.size);
+        }
+        self.rows.push(row);
+    }
+
+    fn print(&self, row: &Row) {
+        print!("| {} | {} | {:.0} | {:.0} | {:.2} |", row.call, row.size, row.least, row.median, row.pools);
+        match row.older {
+            Some(Older { least, median, ratio }) => print!(" {least:.0} | {median:.0} | {ratio:.2} |"),
+            None if self.older => print!(" | | |"),
+            None => (),
         }
         println!();
     }

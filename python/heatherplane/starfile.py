@@ -1,21 +1,20 @@
 """A star file over numpy arrays."""
 from __future__ import annotations
 
-import ctypes
 import os
 from collections.abc import Iterator, Mapping
-from ctypes import byref
 from typing import NamedTuple
 
 import numpy as np
 
-from .library import BUFFERS, POOL, Growth, Handle, ImageHeader, Parameters, calls
-from .refusals import BAD_PARAMETERS, NOT_HELD, ImageRefused, refuse
+from . import images
+from .library import BUFFERS, POOL, Growth, Handle, Parameters, calls
+from .refusals import BAD_PARAMETERS, FULL, NOT_HELD, OUT_OF_TURN, ImageRefused, refuse
 
 TYPES = {"separators": np.uint8, "numbers": np.uint32, "words": np.uint64, "owners": np.uint8}
 RA_END = 1_296_000_000  # a full turn in milliarcseconds
 DEC_END = 324_000_000
-IMAGE_BAD_CRC, IMAGE_TORN, IMAGE_PAGES_ONLY = 4, 6, 1
+LOOK_UP, ENTER, CHANGE, REMOVE = range(4)  # kinds of a replay's calls
 
 
 class Position(NamedTuple):
@@ -73,6 +72,11 @@ def _caller(caller: int) -> int:
     return caller
 
 
+def _alike(numbers: np.ndarray, ra: np.ndarray, dec: np.ndarray) -> None:
+    if not len(numbers) == len(ra) == len(dec):
+        raise ValueError(f"arrays of {len(numbers)} numbers, {len(ra)} right ascensions and {len(dec)} declinations")
+
+
 class StarFile(Mapping):
     """A star file: star numbers to positions, in numpy arrays that are lent to the proved calls.
 
@@ -100,7 +104,7 @@ class StarFile(Mapping):
         if any(not 0 <= value < 2**32 for value in values):
             refuse(BAD_PARAMETERS)
         self._lend(Parameters(*values), Growth())
-        reply = calls.arrays_make(self._handle) if stars is None else calls.arrays_make_for(self._handle, max(0, min(stars, 2**32 - 1)))
+        reply = calls.make(self._handle) if stars is None else calls.make_for(self._handle, max(0, min(stars, 2**32 - 1)))
         refuse(reply.refusal)
 
     @classmethod
@@ -190,64 +194,88 @@ class StarFile(Mapping):
 
     def get(self, number: int, default: object = None):
         """The star's Position, or default if the file does not hold it."""
-        reply = self._star(calls.arrays_look_up, number)
+        reply = self._star(calls.look_up, number)
         return Position(reply.ra, reply.dec) if reply.found else default
 
     def owner(self, number: int) -> int:
         """The star's owner."""
-        reply = self._star(calls.arrays_look_up, number)
+        reply = self._star(calls.look_up, number)
         if not reply.found:
             refuse(NOT_HELD, star=number)
         return int(self.owners[reply.page, reply.place])
 
     def enter(self, number: int, ra: int, dec: int, caller: int = 0) -> int:
         """Enters a star and answers its page. The same star with the same position is accepted again."""
-        return self._star(calls.arrays_enter, number, caller, ra, dec).page
+        return self._star(calls.enter, number, caller, ra, dec).page
 
     def change(self, number: int, ra: int, dec: int, caller: int = 0) -> int:
         """Gives a star that is held another position, and answers its page."""
-        return self._star(calls.arrays_change, number, caller, ra, dec).page
+        return self._star(calls.change, number, caller, ra, dec).page
 
     def remove(self, number: int, caller: int = 0) -> int:
         """Removes a star and answers the page where it stood."""
-        return self._star(calls.arrays_remove, number, caller).page
+        return self._star(calls.remove, number, caller).page
 
-    # Arrays of stars, each through one call of the library.
+    # Arrays of stars, through one call of the library for many.
+
+    def _replay(self, kind: int, caller: int, numbers: np.ndarray, ra: np.ndarray | None = None, dec: np.ndarray | None = None) -> np.ndarray:
+        """The same call for each number, one after the other: a row of refusal, page, place, found, ra, dec + 2^31, due and stars each."""
+        n = len(numbers)
+        kinds, callers = np.full(n, kind, np.uint8), np.full(n, _caller(caller), np.uint8)
+        ra = np.zeros(n, np.uint32) if ra is None else ra
+        dec = np.zeros(n, np.int32) if dec is None else dec
+        answers = np.empty((n, 8), np.uint32)
+        lent = ((array.ctypes.data, array.size) for array in (kinds, callers, numbers, ra, dec, answers))
+        refuse(calls.replay(self._handle, *lent).refusal)
+        return answers
 
     def get_many(self, numbers: object) -> Found:
         """Looks up an array of numbers. refusals has the refusal's number for each, 0 where it was accepted."""
         numbers = _numbers(numbers)
-        n = len(numbers)
-        refusals, found, ra, dec, page = (np.empty(n, kind) for kind in (np.uint8, np.bool_, np.uint32, np.int32, np.uint16))
-        arrays = (array.ctypes.data for array in (numbers, refusals, found, ra, dec, page))
-        calls.arrays_look_up_many(self._handle, n, *arrays)
-        return Found(found, ra, dec, page, refusals)
+        # A replay takes (e, x) alone, by which look-ups answer while a growth is open too.
+        answers = self._replay(LOOK_UP, 0, numbers)
+        refusals, page, _, found, ra, dec = answers[:, :6].T
+        return Found(
+            found.astype(np.bool_), np.ascontiguousarray(ra), (dec ^ np.uint32(1 << 31)).view(np.int32), page.astype(np.uint16),
+            refusals.astype(np.uint8),
+        )  # fmt: skip
 
     def enter_many(self, numbers: object, ra: object, dec: object, caller: int = 0, grow: bool = True) -> np.ndarray:
         """Enters arrays of stars in order, with growth whenever it is due unless grow is False. Answers the refusal's number for each
         star, 0 where it was accepted; it raises nothing."""
         numbers, (ra, dec) = _numbers(numbers), _positions(ra, dec)
-        return self._many(calls.arrays_enter_many, numbers, ra, dec, caller, grow)
+        _alike(numbers, ra, dec)
+        if not grow or self._handle.growth.open:
+            return self._written(ENTER, caller, numbers, ra, dec)
+        refusals, at = np.empty(len(numbers), np.uint8), 0
+        while at < len(numbers):
+            # Growth cannot be due before that many stars exceed the load of the addressed pages: as many as that at once.
+            p, reply = self._handle.parameters, calls.due(self._handle)
+            until = at + max(1, p.load * p.places * self.addressed // 100 + 1 - reply.stars)
+            part = slice(at, until)
+            refusals[part] = self._written(ENTER, caller, numbers[part], ra[part], dec[part])
+            for full in at + np.flatnonzero(refusals[part] == FULL):
+                while refusals[full] == FULL and not calls.grow(self._handle).refusal:
+                    refusals[full] = self._written(ENTER, caller, numbers[full : full + 1], ra[full : full + 1], dec[full : full + 1])[0]
+            while calls.due(self._handle).due and not calls.grow(self._handle).refusal:
+                pass
+            at = until
+        return refusals
 
     def change_many(self, numbers: object, ra: object, dec: object, caller: int = 0) -> np.ndarray:
         """Changes arrays of stars, answering as enter_many."""
         numbers, (ra, dec) = _numbers(numbers), _positions(ra, dec)
-        return self._many(calls.arrays_change_many, numbers, ra, dec, caller)
-
-    def _many(self, call, numbers: np.ndarray, ra: np.ndarray, dec: np.ndarray, caller: int, *more: bool) -> np.ndarray:
-        if not len(numbers) == len(ra) == len(dec):
-            raise ValueError(f"arrays of {len(numbers)} numbers, {len(ra)} right ascensions and {len(dec)} declinations")
-        refusals = np.empty(len(numbers), np.uint8)
-        lent = (array.ctypes.data for array in (numbers, ra, dec))
-        call(self._handle, _caller(caller), len(numbers), *lent, *more, refusals.ctypes.data)
-        return refusals
+        _alike(numbers, ra, dec)
+        return self._written(CHANGE, caller, numbers, ra, dec)
 
     def remove_many(self, numbers: object, caller: int = 0) -> np.ndarray:
         """Removes an array of stars, answering as enter_many."""
-        numbers = _numbers(numbers)
-        refusals = np.empty(len(numbers), np.uint8)
-        calls.arrays_remove_many(self._handle, _caller(caller), len(numbers), numbers.ctypes.data, refusals.ctypes.data)
-        return refusals
+        return self._written(REMOVE, caller, _numbers(numbers))
+
+    def _written(self, kind: int, caller: int, *arrays: np.ndarray) -> np.ndarray:
+        if self._handle.growth.open:
+            return np.full(len(arrays[0]), OUT_OF_TURN, np.uint8)
+        return self._replay(kind, caller, *(np.ascontiguousarray(array) for array in arrays))[:, 0].astype(np.uint8)
 
     def stars(self) -> tuple[np.ndarray, np.ndarray, np.ndarray, np.ndarray]:
         """Numbers in rising order, right ascensions, declinations and owners of all stars."""
@@ -287,26 +315,26 @@ class StarFile(Mapping):
 
     def due(self) -> bool:
         """Whether growth is due."""
-        reply = calls.arrays_due(self._handle)
+        reply = calls.due(self._handle)
         refuse(reply.refusal)
         return reply.due
 
     def grow(self) -> int:
         """Addresses one page more and answers it."""
-        return self._whole(calls.arrays_grow)
+        return self._whole(calls.grow)
 
     def shrink(self) -> int:
         """Takes the latest growth back and answers the page given back."""
-        return self._whole(calls.arrays_shrink)
+        return self._whole(calls.shrink)
 
     def check(self) -> None:
         """Compares the whole file with the rule; damage is raised, with its page and place."""
-        self._whole(calls.arrays_check)
+        self._whole(calls.check)
 
     def mend(self) -> None:
         """Makes the file anew from the stars on its pages; no separator is read. After a power loss between the page stores of an entry,
         change or removal on a clean file, it is exactly the file before the call or the one after it: docs/POWER.md."""
-        self._whole(calls.arrays_mend)
+        self._whole(calls.mend)
 
     def carried(self, **parameters: int) -> "StarFile":
         """A new file with these stars, each of its owner, under the other multiplier. Other parameters may be given; the new file then
@@ -316,7 +344,7 @@ class StarFile(Mapping):
         other = StarFile(**wanted, stars=len(self) if parameters else None)
         if not parameters:
             other._handle.growth = Growth(self._handle.growth.expansions, self._handle.growth.expanded)
-        reply = calls.arrays_carry(self._handle, other._handle)
+        reply = calls.carry(self._handle, other._handle)
         refuse(reply.refusal, reply.page, reply.place)
         return other
 
@@ -325,14 +353,14 @@ class StarFile(Mapping):
     def table(self) -> bytes:
         """The stars as a FITS binary table of three columns without names: number, right ascension, declination, in rising number."""
         out = np.zeros(5_760 + 2_880 * -(-len(self) // 240), np.uint8)
-        reply = calls.arrays_write_table(self._handle, out.ctypes.data, out.size)
+        reply = calls.write_table(self._handle, out.ctypes.data, out.size)
         refuse(reply.refusal, reply.page, reply.place)
         return out[: reply.stars].tobytes()
 
     def read_table(self, data: bytes) -> None:
         """Replaces the file by the stars of such a table, all of owner 0, under its parameters and growth state."""
         given = np.frombuffer(data, np.uint8)
-        reply = calls.arrays_read_table(self._handle, given.ctypes.data, given.size)
+        reply = calls.read_table(self._handle, given.ctypes.data, given.size)
         refuse(reply.refusal, reply.page, reply.place)
 
     def _whole(self, call) -> int:
@@ -345,12 +373,12 @@ class StarFile(Mapping):
         file as it was, and calls that write it are refused as out of turn. Left early, the growth is given up: the file is as it was."""
         second = StarFile.__new__(StarFile)
         second._lend(self.parameters, Growth())
-        reply = calls.arrays_open_growth(self._handle, second._handle)
+        reply = calls.open_growth(self._handle, second._handle)
         refuse(reply.refusal, reply.page, reply.place)
         try:
             yield 0
             for step in range(1, self._handle.parameters.pages + 1):
-                reply = calls.arrays_step_growth(self._handle, second._handle)
+                reply = calls.step_growth(self._handle, second._handle)
                 refuse(reply.refusal, reply.page, reply.place)
                 if not self._handle.growth.open:
                     for name in BUFFERS:
@@ -364,7 +392,7 @@ class StarFile(Mapping):
         before, old = self.growth, self._arrays["separators"].copy()
         self.grow()
         marks = np.zeros(self._handle.parameters.pages, np.bool_)
-        refuse(calls.arrays_mark_changed(self._handle, byref(before), old.ctypes.data, marks.ctypes.data))
+        refuse(calls.mark_changed(self._handle, before, old.ctypes.data, marks.ctypes.data))
         return marks
 
     def copy(self) -> "StarFile":
@@ -379,11 +407,8 @@ class StarFile(Mapping):
 
     def image(self) -> bytes:
         """The file's image."""
-        image = np.zeros(calls.arrays_image_length(byref(self._handle.parameters)), np.uint8)
-        refusal = calls.arrays_image_save(image.ctypes.data, image.size, self._handle)
-        if refusal:
-            raise ImageRefused(refusal, "image")
-        return image.tobytes()
+        buffers = (self._arrays[name].tobytes() for name in ("words", "numbers", "owners", "separators"))
+        return images.image(self.parameters, self.growth, *buffers)
 
     def save(self, path: str | os.PathLike) -> None:
         """Writes the image beside the path and then puts it in its place, so that the path never has half an image."""
@@ -403,22 +428,21 @@ class StarFile(Mapping):
         """The file of an image; ImageRefused if it is none, was altered or is torn. Call check() to compare it with the rule. With altered
         an image with a wrong checksum is taken all the same, to be looked into; with torn one whose pages were being written, or that
         has no separators, to be mended. A growth that was open is given up, as its second set is not part of an image."""
-        image, header = np.frombuffer(data, np.uint8), ImageHeader()
-        refusal = calls.arrays_image_test(image.ctypes.data, image.size, byref(header))
-        if refusal == IMAGE_BAD_CRC and altered:
+        image, (refusal, header) = np.frombuffer(data, np.uint8), images.test(data)
+        if refusal == images.BAD_CRC and altered:
             refusal = 0
         if refusal or (header.flags and not torn):
-            raise ImageRefused(refusal or IMAGE_TORN, path)
-        file, at = cls.__new__(cls), ctypes.sizeof(ImageHeader)
+            raise ImageRefused(refusal or images.TORN, path)
+        file, at = cls.__new__(cls), images.HEADER
         file._lend(header.parameters, header.growth)
         for name in ("words", "numbers", "owners", "separators"):
-            if name == "separators" and header.flags & IMAGE_PAGES_ONLY:
+            if name == "separators" and header.flags & images.PAGES_ONLY:
                 break
             array = file._arrays[name]
             array.view(np.uint8)[:] = image[at : at + array.nbytes]
             at += array.nbytes
         # of all calls due asks for the least: parameters and record
-        refuse(calls.arrays_due(file._handle).refusal)
+        refuse(calls.due(file._handle).refusal)
         file._handle.growth.open = file._handle.growth.steps = 0
         return file
 

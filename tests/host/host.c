@@ -1,5 +1,5 @@
 /* host [STARS [IMAGE]]: a host's life with the library as it ships, on its largest file: fill with growths, check, change, shrink, grow in
- * steps with look-ups between, save, reload, damage. Each group of tests prints a line; it ends with 'N passed, M failed'. With IMAGE it
+ * steps with look-ups between, save, reload, damage, stop calls after every store and mend. Each group of tests prints a line; it ends with 'N passed, M failed'. With IMAGE it
  * leaves the saved image there. */
 #include <inttypes.h>
 #include <stdio.h>
@@ -80,6 +80,42 @@ static bool same_record(struct heatherplane_growth a, struct heatherplane_growth
     return a.expansions == b.expansions && a.expanded == b.expanded && a.open == b.open && a.steps == b.steps;
 }
 
+static void refusal_names(void)
+{
+    static const struct {
+        uint32_t refusal;
+        const char *name;
+    } names[] = {
+        {HEATHERPLANE_ACCEPTED, "accepted"}, {HEATHERPLANE_BAD_PARAMETERS, "bad parameters"}, {HEATHERPLANE_BAD_LENGTH, "bad length"},
+        {HEATHERPLANE_BAD_NUMBER, "bad number"}, {HEATHERPLANE_BAD_POSITION, "bad position"}, {HEATHERPLANE_DAMAGED, "damaged"},
+        {HEATHERPLANE_HELD, "held"}, {HEATHERPLANE_NOT_HELD, "not held"}, {HEATHERPLANE_FULL, "full"},
+        {HEATHERPLANE_UNGROWN, "ungrown"}, {HEATHERPLANE_BAD_HEADER, "bad header"}, {HEATHERPLANE_BAD_ROWS, "bad rows"},
+        {HEATHERPLANE_SHORT_OUTPUT, "short output"}, {HEATHERPLANE_NOT_OWNER, "not owner"}, {HEATHERPLANE_TRAY_FULL, "tray full"},
+        {HEATHERPLANE_BAD_CONTENTS, "bad contents"}, {HEATHERPLANE_OUT_OF_TURN, "out of turn"}, {HEATHERPLANE_BAD_KIND, "bad kind"}, {17, "unknown"}, {UINT32_MAX, "unknown"}};
+    for (size_t i = 0; i < sizeof names / sizeof *names; i++) {
+        EXPECT(i > 16 || names[i].refusal == i);
+        EXPECT(strcmp(heatherplane_refusal_name(names[i].refusal), names[i].name) == 0);
+    }
+    EXPECT(strcmp(heatherplane_image_refusal_name(HEATHERPLANE_IMAGE_TORN), "torn") == 0);
+    EXPECT(strcmp(heatherplane_image_refusal_name(7), "unknown") == 0);
+}
+
+/* A position word and what it holds, at the ends of the ranges. */
+static void position_words(void)
+{
+    static const uint32_t ras[] = {0, 1, 648000000, 1295999999};
+    static const int32_t decs[] = {-324000000, -1, 0, 1, 324000000};
+    for (size_t i = 0; i < 4; i++)
+        for (size_t j = 0; j < 5; j++) {
+            const uint64_t word = heatherplane_word_of(ras[i], decs[j]);
+            EXPECT(heatherplane_word_valid(word) && heatherplane_ra_of(word) == ras[i] && heatherplane_dec_of(word) == decs[j]);
+        }
+    EXPECT(heatherplane_word_of(0, -324000000) == 0 && heatherplane_word_of(1, 0) == ((uint64_t)1 << 32 | 324000000));
+    EXPECT(!heatherplane_word_valid(UINT64_MAX) && !heatherplane_word_valid((uint64_t)1296000000 << 32));
+    EXPECT(!heatherplane_word_valid(648000001) && heatherplane_word_valid(648000000));
+    group("position words");
+}
+
 /* What a careless host passes first: nothing, null buffers, a wrong length, a record that is none. */
 static void bad_handles(void)
 {
@@ -103,12 +139,19 @@ static void bad_handles(void)
         EXPECT(heatherplane_check_in(bad).refusal == code);
         EXPECT(heatherplane_open_growth_in(bad, &nothing).refusal == code);
         EXPECT(heatherplane_step_growth_in(bad, &nothing).refusal == code);
+        EXPECT(heatherplane_enter_stopped_in(bad, 0, 1, 0, 0, 1).refusal == code);
+        EXPECT(heatherplane_change_stopped_in(bad, 0, 1, 0, 0, 1).refusal == code);
+        EXPECT(heatherplane_remove_stopped_in(bad, 0, 1, 1).refusal == code);
+        EXPECT(heatherplane_mend_in(bad).refusal == code);
+        EXPECT(heatherplane_read_table_in(bad, NULL, 0).refusal == code);
         EXPECT(heatherplane_mark_changed_in(bad, &new_file, NULL, NULL) == code);
         EXPECT(same_record(bad->growth, new_file));
     }
     EXPECT(heatherplane_look_up_view(&view, 1).refusal == HEATHERPLANE_BAD_PARAMETERS);
     EXPECT(heatherplane_due_view(&view).refusal == HEATHERPLANE_BAD_PARAMETERS);
     EXPECT(heatherplane_check_view(&view, NULL, NULL, NULL).refusal == HEATHERPLANE_BAD_PARAMETERS);
+    EXPECT(heatherplane_write_table_view(&view, NULL, 0).refusal == HEATHERPLANE_BAD_PARAMETERS);
+    EXPECT(heatherplane_carry_in(&view, &nothing).refusal == HEATHERPLANE_BAD_PARAMETERS);
     EXPECT(heatherplane_make_for(&nothing, 1).refusal == HEATHERPLANE_BAD_PARAMETERS);
     file.words_length--;
     EXPECT(heatherplane_make_in(&file).refusal == HEATHERPLANE_BAD_LENGTH);
@@ -116,8 +159,7 @@ static void bad_handles(void)
     file.growth.open = 2;
     EXPECT(heatherplane_look_up_in(&file, 1).refusal == HEATHERPLANE_BAD_PARAMETERS);
     EXPECT(heatherplane_version() == HEATHERPLANE_VERSION);
-    EXPECT(strcmp(heatherplane_refusal_name(HEATHERPLANE_OUT_OF_TURN), "out of turn") == 0);
-    EXPECT(strcmp(heatherplane_refusal_name(17), "unknown") == 0);
+    refusal_names();
     group("bad handles");
 }
 
@@ -160,7 +202,6 @@ static void read_all(const struct heatherplane_file *file, uint32_t stars)
         count++;
     }
     EXPECT(count == stars);
-    EXPECT(!heatherplane_word_valid(UINT64_MAX) && !heatherplane_word_valid((uint64_t)1296000000 << 32));
     group("look-ups and iteration");
 }
 
@@ -306,6 +347,50 @@ static void damaged_image(void)
     group("images that are damaged");
 }
 
+static bool same_file(const struct heatherplane_file *a, const struct heatherplane_file *b)
+{
+    return !memcmp(a->separators, b->separators, PAGES) && !memcmp(a->numbers, b->numbers, 4 * ITEMS)
+           && !memcmp(a->words, b->words, 8 * ITEMS) && !memcmp(a->owners, b->owners, ITEMS);
+}
+
+/* pages_only, an image of the file without separators, and image, one with: opened by the helper that mends what is torn. */
+static void opened_and_mended(const struct heatherplane_file *file)
+{
+    const size_t length = LENGTH - PAGES;
+    struct heatherplane_file mapped;
+    struct heatherplane_reply reply;
+    EXPECT(heatherplane_image_mend(pages_only, length, NULL, pool_numbers, pool_words, pool_owners, &mapped, &reply)
+           == HEATHERPLANE_IMAGE_TORN);
+    EXPECT(reply.refusal == HEATHERPLANE_BAD_LENGTH && mapped.numbers_length == 0);
+    EXPECT(heatherplane_look_up_in(&mapped, 1).refusal == HEATHERPLANE_BAD_PARAMETERS);
+    memset(copy.separators, 0, PAGES);
+    EXPECT(heatherplane_image_mend(pages_only, length, copy.separators, pool_numbers, pool_words, pool_owners, &mapped, &reply) == 0);
+    EXPECT(reply.refusal == 0 && same_file(&mapped, file) && same_record(mapped.growth, file->growth));
+    EXPECT(heatherplane_check_in(&mapped).refusal == 0);
+    /* found open, in the middle of an entry and of a growth in steps, which is given up */
+    mapped.growth.open = 1;
+    mapped.growth.steps = 3;
+    EXPECT(heatherplane_image_open(pages_only, &mapped) == 0);
+    memset(copy.separators, 255, PAGES);
+    EXPECT(heatherplane_image_mend(pages_only, length, copy.separators, pool_numbers, pool_words, pool_owners, &mapped, NULL) == 0);
+    EXPECT(same_file(&mapped, file) && same_record(mapped.growth, file->growth));
+    /* what cannot be mended stays torn and as it was */
+    mapped.numbers[0] = 2147483647;
+    EXPECT(heatherplane_image_seal(pages_only, &mapped) == 0);
+    const uint32_t crc = heatherplane_crc32c(0, pages_only, length);
+    EXPECT(heatherplane_image_mend(pages_only, length, copy.separators, pool_numbers, pool_words, pool_owners, &mapped, &reply)
+           == HEATHERPLANE_IMAGE_TORN);
+    EXPECT(reply.refusal == HEATHERPLANE_BAD_CONTENTS && mapped.numbers_length == 0);
+    EXPECT(heatherplane_crc32c(0, pages_only, length) == crc);
+    EXPECT(heatherplane_image_mend(pages_only, length - 1, copy.separators, pool_numbers, pool_words, pool_owners, &mapped, &reply)
+           == HEATHERPLANE_IMAGE_BAD_LENGTH);
+    EXPECT(reply.refusal == 0);
+    /* one that is whole is pointed at, and no more */
+    memcpy(pages_only, image, LENGTH);
+    EXPECT(heatherplane_image_mend(image, LENGTH, NULL, pool_numbers, pool_words, pool_owners, &mapped, &reply) == 0);
+    EXPECT(reply.refusal == 0 && !memcmp(pages_only, image, LENGTH));
+}
+
 static void images(const struct heatherplane_file *file, uint32_t stars)
 {
     const struct heatherplane_view saved = heatherplane_view_in(file);
@@ -334,48 +419,99 @@ static void images(const struct heatherplane_file *file, uint32_t stars)
     EXPECT(heatherplane_look_up_view(&view, number_of(stars)).dec == 2);
     EXPECT(heatherplane_image_seal(image, file) == HEATHERPLANE_IMAGE_BAD_LENGTH);
 
-    /* without separators: the host's own are lent, and until the file is placed anew it is torn */
+    /* without separators: the host's own are lent, and it is mended on opening */
     EXPECT(heatherplane_image_save(pages_only, LENGTH - PAGES, &saved, false) == 0);
     EXPECT(heatherplane_image_view(pages_only, LENGTH - PAGES, &view) == HEATHERPLANE_IMAGE_TORN);
-    memcpy(copy.separators, file->separators, PAGES);
-    EXPECT(heatherplane_image_file(pages_only, LENGTH - PAGES, copy.separators, pool_numbers, pool_words, pool_owners, &mapped)
-           == HEATHERPLANE_IMAGE_TORN);
-    EXPECT(heatherplane_check_in(&mapped).refusal == 0);
     EXPECT(heatherplane_image_file(pages_only, LENGTH - PAGES, NULL, pool_numbers, pool_words, pool_owners, &mapped)
            == HEATHERPLANE_IMAGE_TORN);
     EXPECT(heatherplane_check_in(&mapped).refusal == HEATHERPLANE_BAD_LENGTH);
+    opened_and_mended(file);
     group("images");
 }
 
-static bool same_file(const struct heatherplane_file *a, const struct heatherplane_file *b)
+static void copy_of(const struct heatherplane_file *file)
 {
-    return !memcmp(a->separators, b->separators, PAGES) && !memcmp(a->numbers, b->numbers, 4 * ITEMS)
-           && !memcmp(a->words, b->words, 8 * ITEMS) && !memcmp(a->owners, b->owners, ITEMS);
-}
-
-/* calls stopped before the first store and after the last, and pages whose separators are lost */
-static void mends(struct heatherplane_file *file)
-{
-    const struct heatherplane_file torn = heatherplane_file_of(
-        file->parameters, file->growth, copy.separators, copy.numbers, copy.words, copy.owners, pool_numbers, pool_words, pool_owners);
     memcpy(copy.separators, file->separators, PAGES);
     memcpy(copy.numbers, file->numbers, 4 * ITEMS);
     memcpy(copy.words, file->words, 8 * ITEMS);
     memcpy(copy.owners, file->owners, ITEMS);
-    EXPECT(heatherplane_remove_stopped_in(&torn, 0, number_of(2), 0).refusal == 0);
-    EXPECT(same_file(&torn, file));
-    EXPECT(heatherplane_change_stopped_in(&torn, 0, number_of(2), 5, 6, 0).refusal == 0);
-    EXPECT(same_file(&torn, file));
-    EXPECT(heatherplane_enter_stopped_in(&torn, 0, 2147483646, 5, 6, 0).refusal == 0);
-    EXPECT(same_file(&torn, file));
-    memset(copy.separators, 0, PAGES);
-    EXPECT(heatherplane_mend_in(&torn).refusal == 0);
-    EXPECT(same_file(&torn, file));
+}
+
+/* The pages of two files that differ. */
+static uint32_t pages_apart(const struct heatherplane_file *a, const struct heatherplane_file *b)
+{
+    uint32_t count = 0;
+    for (size_t page = 0; page < PAGES; page++)
+        count += memcmp(a->numbers + page * PLACES, b->numbers + page * PLACES, 4 * PLACES) != 0
+                 || memcmp(a->words + page * PLACES, b->words + page * PLACES, 8 * PLACES) != 0
+                 || memcmp(a->owners + page * PLACES, b->owners + page * PLACES, PLACES) != 0;
+    return count;
+}
+
+enum { ENTER, CHANGE, REMOVE };
+
+static struct heatherplane_reply stopped(const struct heatherplane_file *file, int kind, uint32_t number, uint32_t stores)
+{
+    switch (kind) {
+    case ENTER:
+        return heatherplane_enter_stopped_in(file, 1, number, 5, 6, stores);
+    case CHANGE:
+        return heatherplane_change_stopped_in(file, 0, number, 5, 6, stores);
+    default:
+        return heatherplane_remove_stopped_in(file, 0, number, stores);
+    }
+}
+
+/* A call stopped after every number of stores from 0 to two more than it has: so many pages are as after it and the others as before, the
+ * reply is the whole call's, and mending, whatever the separators are, makes the file before it or the file after it. Answers how many
+ * pages the call stores. */
+static uint32_t stop_everywhere(const struct heatherplane_file *file, const struct heatherplane_file *torn,
+                                const struct heatherplane_file *whole, int kind, uint32_t number)
+{
+    struct heatherplane_reply told, reply;
+    uint32_t stores;
+    memcpy(whole->separators, file->separators, PAGES);
+    memcpy(whole->numbers, file->numbers, 4 * ITEMS);
+    memcpy(whole->words, file->words, 8 * ITEMS);
+    memcpy(whole->owners, file->owners, ITEMS);
+    told = stopped(whole, kind, number, PAGES);
+    EXPECT(told.refusal == 0);
+    EXPECT(heatherplane_check_in(whole).refusal == 0);
+    stores = pages_apart(file, whole);
+    for (uint32_t stop = 0; stop <= stores + 2; stop++) {
+        copy_of(file);
+        reply = stopped(torn, kind, number, stop);
+        EXPECT(reply.refusal == 0 && reply.page == told.page && reply.place == told.place);
+        EXPECT(pages_apart(torn, file) == (stop < stores ? stop : stores));
+        EXPECT(pages_apart(torn, whole) == (stop < stores ? stores - stop : 0));
+        EXPECT(stop < stores || kind == CHANGE || same_file(torn, whole));
+        memset(copy.separators, (int)(stop * 85 % 256), PAGES);
+        EXPECT(heatherplane_mend_in(torn).refusal == 0);
+        EXPECT(same_file(torn, file) || same_file(torn, whole));
+        EXPECT(stop > 0 || same_file(torn, file));
+        EXPECT(stop < stores || same_file(torn, whole));
+    }
+    return stores;
+}
+
+/* Calls stopped anywhere, pages whose separators are lost, and pages that cannot be mended. */
+static void mends(struct heatherplane_file *file, const struct heatherplane_file *whole, uint32_t stars)
+{
+    const struct heatherplane_file torn = heatherplane_file_of(
+        file->parameters, file->growth, copy.separators, copy.numbers, copy.words, copy.owners, pool_numbers, pool_words, pool_owners);
+    uint32_t most = 0, several = 0;
+    for (uint32_t i = 0; i < 60; i++) {
+        const uint32_t entered = stop_everywhere(file, &torn, whole, ENTER, number_of(stars + i));
+        const uint32_t removed = stop_everywhere(file, &torn, whole, REMOVE, number_of(i * 31 % stars));
+        EXPECT(stop_everywhere(file, &torn, whole, CHANGE, number_of(i * 17 % stars)) == 1);
+        several += (entered > 1) + (removed > 1);
+        most = entered > most ? entered : most;
+        most = removed > most ? removed : most;
+    }
+    EXPECT(several > 0);
     EXPECT(pool_is_zero());
-    EXPECT(heatherplane_enter_stopped_in(&torn, 0, 2147483646, 5, 6, PAGES).refusal == 0);
-    EXPECT(heatherplane_look_up_in(&torn, 2147483646).dec == 6);
-    EXPECT(heatherplane_remove_stopped_in(&torn, 0, 2147483646, PAGES).refusal == 0);
-    EXPECT(same_file(&torn, file));
+    printf("%" PRIu32 " of 120 entries and removals store several pages, at most %" PRIu32 "\n", several, most);
+    copy_of(file);
     copy.owners[0] ^= copy.numbers[0] ? 0 : 1;
     copy.numbers[0] = 2147483647;
     EXPECT(heatherplane_mend_in(&torn).refusal == HEATHERPLANE_BAD_CONTENTS);
@@ -419,6 +555,59 @@ static void carries(struct heatherplane_file *file, struct heatherplane_file *in
     group("carrying there and back");
 }
 
+/* Calls at once answer and leave what they do one by one. */
+static void replays(struct heatherplane_file *file, uint32_t stars)
+{
+    enum { CALLS = 900 };
+    static uint8_t kinds[CALLS], callers[CALLS];
+    static uint32_t numbers[CALLS], ras[CALLS], answers[8 * CALLS];
+    static int32_t decs[CALLS];
+    struct heatherplane_file single = heatherplane_file_of(
+        file->parameters, file->growth, copy.separators, copy.numbers, copy.words, copy.owners, pool_numbers, pool_words, pool_owners);
+    const struct heatherplane_growth before = file->growth;
+    copy_of(file);
+    for (uint32_t i = 0; i < CALLS; i++) {
+        kinds[i] = (uint8_t)(i % 50 == 0 ? HEATHERPLANE_GROW + i / 50 % 4 : (uint32_t[]){0, 1, 2, 3, 8}[i % 5]);
+        callers[i] = (uint8_t)(i % 3);
+        numbers[i] = number_of(i % 5 == 1 || i % 5 == 4 ? stars + i : i * 13 % (stars + 40));
+        ras[i] = ra_of(i);
+        decs[i] = dec_of(i);
+    }
+    kinds[5] = 9;
+    EXPECT(heatherplane_replay_in(file, CALLS, kinds, callers, numbers, ras, decs, answers).refusal == HEATHERPLANE_BAD_KIND);
+    kinds[5] = 0;
+    EXPECT(heatherplane_replay_in(file, CALLS, kinds, NULL, numbers, ras, decs, answers).refusal == HEATHERPLANE_BAD_LENGTH);
+    file->growth.open = 1;
+    EXPECT(heatherplane_replay_in(file, CALLS, kinds, callers, numbers, ras, decs, answers).refusal == HEATHERPLANE_OUT_OF_TURN);
+    file->growth.open = 0;
+    file->growth.steps = 1;
+    EXPECT(heatherplane_replay_in(file, CALLS, kinds, callers, numbers, ras, decs, answers).refusal == HEATHERPLANE_BAD_PARAMETERS);
+    file->growth.steps = 0;
+    EXPECT(same_file(&single, file) && same_record(file->growth, before));
+    EXPECT(heatherplane_replay_in(file, 0, kinds, callers, numbers, ras, decs, answers).refusal == 0);
+    EXPECT(heatherplane_replay_in(file, CALLS, kinds, callers, numbers, ras, decs, answers).refusal == 0);
+    for (uint32_t i = 0; i < CALLS; i++) {
+        struct heatherplane_reply reply;
+        const uint32_t *answer = answers + 8 * i;
+        switch (kinds[i]) {
+        case HEATHERPLANE_LOOK_UP: reply = heatherplane_look_up_in(&single, numbers[i]); break;
+        case HEATHERPLANE_ENTER: reply = heatherplane_enter_in(&single, callers[i], numbers[i], ras[i], decs[i]); break;
+        case HEATHERPLANE_CHANGE: reply = heatherplane_change_in(&single, callers[i], numbers[i], ras[i], decs[i]); break;
+        case HEATHERPLANE_REMOVE: reply = heatherplane_remove_in(&single, callers[i], numbers[i]); break;
+        case HEATHERPLANE_GROW: reply = heatherplane_grow_in(&single); break;
+        case HEATHERPLANE_DUE: reply = heatherplane_due_in(&single); break;
+        case HEATHERPLANE_CHECK: reply = heatherplane_check_in(&single); break;
+        case HEATHERPLANE_SHRINK: reply = heatherplane_shrink_in(&single); break;
+        default: reply = heatherplane_cascade_in(&single, callers[i], numbers[i], ras[i], decs[i]); break;
+        }
+        EXPECT(answer[0] == reply.refusal && answer[1] == reply.page && answer[2] == reply.place && answer[3] == reply.found);
+        EXPECT(answer[4] == reply.ra && answer[5] == (uint32_t)reply.dec + 0x80000000u && answer[6] == reply.due
+               && answer[7] == reply.stars);
+    }
+    EXPECT(same_file(&single, file) && same_record(file->growth, single.growth));
+    group("replays");
+}
+
 static void save(const char *name)
 {
     FILE *out = fopen(name, "wb");
@@ -431,6 +620,7 @@ int main(int count, char **arguments)
     const uint32_t stars = count > 1 ? (uint32_t)strtoul(arguments[1], NULL, 10) : 20000;
     struct heatherplane_file file = file_in(&first, 8), second = file_in(&other, 8);
     bad_handles();
+    position_words();
     fill(&file, stars);
     read_all(&file, stars);
     change(&file);
@@ -439,9 +629,12 @@ int main(int count, char **arguments)
     steps(&file, &second, stars);
     states(stars);
     images(&file, stars);
-    mends(&file);
+    struct heatherplane_file whole = file_in(file.separators == first.separators ? &other : &first, 8);
+    whole.growth = file.growth;
+    mends(&file, &whole, stars);
     tables(&file, &second);
     carries(&file, &second);
+    replays(&file, stars);
     if (count > 2)
         save(arguments[2]);
     printf("%u passed, %u failed\n", passed, failed);

@@ -5,7 +5,9 @@ fn main() {
     let root = Path::new(&env::var("CARGO_MANIFEST_DIR").unwrap()).join("../..");
     let folder = env::var("STARFILE_LIB_DIR").unwrap_or(root.join("target/staticlib").display().to_string());
     println!("cargo:rustc-link-search=native={folder}");
-    println!("cargo:rustc-link-lib=static=starfile_tests");
     println!("cargo:rerun-if-env-changed=STARFILE_LIB_DIR");
-    println!("cargo:rerun-if-changed={folder}/libstarfile_tests.a");
+    for name in ["heatherplane", "starfile_tests"] {
+        println!("cargo:rustc-link-lib=static={name}");
+        println!("cargo:rerun-if-changed={folder}/lib{name}.a");
+    }
 }

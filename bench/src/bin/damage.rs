@@ -3,7 +3,7 @@
 
 use bench::files::{self, File, SIZES};
 use bench::floors::Homes;
-use bench::{libraries, Answer, Library};
+use bench::{today, Answer, Library};
 use model::hashing::MULTIPLIERS;
 use model::random::Random;
 
@@ -108,7 +108,7 @@ fn told(file: &File, number: u32, answer: &Answer) -> Option<(u32, i32, Option<u
 fn try_bit(counts: &mut Counts, file: &File, pages: &[Named], buffer: Buffer, bit: usize) {
     let mut damaged = file.clone();
     buffer.flip(&mut damaged, bit);
-    let library = &mut libraries(&damaged)[0];
+    let library = &mut today(&damaged);
     let (mut refused, mut wrong) = (false, false);
     for Asked { number, held, before } in concerned(pages, buffer, buffer.page(file, bit)) {
         let after = library.look_up(*number);
@@ -127,7 +127,7 @@ fn try_bit(counts: &mut Counts, file: &File, pages: &[Named], buffer: Buffer, bi
 /// Every bit, or as many as `sample` of each buffer.
 fn single_bits(random: &mut Random, parameters: [u32; 7], sample: Option<usize>) {
     let file = files::filled(random, File::empty(parameters));
-    let pages = named(random, &file, libraries(&file)[0].as_mut());
+    let pages = named(random, &file, today(&file).as_mut());
     let how = if sample.is_some() { "sampled bits" } else { "every bit" };
     println!("{}, {} stars, {how}", file.size(), file.stars().len());
     println!(
@@ -158,7 +158,7 @@ fn single_bits(random: &mut Random, parameters: [u32; 7], sample: Option<usize>)
 
 /// How the look-ups of all held stars answer: rightly, 5, "none".
 fn answers(file: &File, clean: &File) -> [usize; 3] {
-    let (library, before) = (&mut libraries(file)[0], &mut libraries(clean)[0]);
+    let (library, before) = (&mut today(file), &mut today(clean));
     let mut counts = [0; 3];
     for number in clean.stars() {
         let (after, before) = (library.look_up(number), before.look_up(number));
@@ -170,7 +170,7 @@ fn answers(file: &File, clean: &File) -> [usize; 3] {
 
 /// Each growth of a file that fills: the buffers from after it with (e, x) from before it, and the other way round.
 fn growth_states(random: &mut Random, parameters: [u32; 7]) {
-    let mut library = libraries(&File::empty(parameters)).remove(0);
+    let mut library = today(&File::empty(parameters));
     let (mut growths, mut rows) = (0, [("old (e, x), new buffers", [0; 3], 0), ("new (e, x), old buffers", [0; 3], 0)]);
     let sample = (parameters[6] / 64) as usize;
     while library.file().addressed() < parameters[6] as usize {
@@ -191,7 +191,7 @@ fn growth_states(random: &mut Random, parameters: [u32; 7]) {
         for (row, (mixed, clean)) in rows.iter_mut().zip(mixed.iter().zip([&after, &before])) {
             let answers = answers(mixed, clean);
             row.1.iter_mut().zip(answers).for_each(|(sum, count)| *sum += count);
-            row.2 += usize::from(libraries(mixed)[0].check().refusal == DAMAGED);
+            row.2 += usize::from(today(mixed).check().refusal == DAMAGED);
         }
         if growths % (10 * sample) == 0 {
             eprintln!("M={} b={}, growth states: {growths} growths", parameters[6], parameters[0]);
@@ -220,7 +220,7 @@ fn other_multiplier(random: &mut Random, parameters: [u32; 7]) {
     let row = |random: &mut Random, name, own, other| {
         let clean = files::filled(random, File::under(own, parameters));
         let called = File { multiplier: other, ..clean.clone() };
-        (name, answers(&called, &clean), usize::from(libraries(&called)[0].check().refusal == DAMAGED))
+        (name, answers(&called, &clean), usize::from(today(&called).check().refusal == DAMAGED))
     };
     println!("M={} b={}, look-ups of all held stars under the other multiplier", parameters[6], parameters[0]);
     answer_table(&[

@@ -3,7 +3,7 @@
 
 use bench::files::{File, Numbering, CONSECUTIVE, EVEN, RANDOM, SIZES, ZONES, ZONES_IN_TURN};
 use bench::floors::Homes;
-use bench::libraries;
+use bench::today;
 use model::random::Random;
 
 const KINDS: [Numbering; 5] = [CONSECUTIVE, EVEN, RANDOM, ZONES, ZONES_IN_TURN];
@@ -35,7 +35,7 @@ fn spread(file: &File) -> Spread {
 /// and whether it was a growth that was refused.
 fn fill(parameters: [u32; 7], short: usize, kind: Numbering, random: &mut Random) -> (File, File, bool) {
     let mut state = File::empty(parameters);
-    let mut library = libraries(&state).remove(0);
+    let mut library = today(&state);
     let last = state.pages() - short;
     let mut grown = None;
     let first = 1 + random.below(1_000_000) as u32;

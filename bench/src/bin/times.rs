@@ -1,10 +1,10 @@
-//! Times the library's calls and prints a Markdown table, with floors measured in the same run; an older library's beside
-//! them, run in turn with today's, if there is one.
+//! Times the library's calls and prints Markdown tables, with floors measured in the same run; with `--old LIBRARY` an older library's
+//! beside them, run in turn with today's: times [--old LIBRARY] FIGURES
 
-use bench::files::{self, File, SIZES};
+use bench::files::{self, File, GROWING, OTHERS, SIZES};
 use bench::floors::Homes;
-use bench::timing::{alone, in_turn, many, nanoseconds, restored, warm_up, Report, Runs, Table, FEW_RUNS, RUNS};
-use bench::{libraries, today, Answer, Library};
+use bench::timing::{alone, heading, in_turn, many, nanoseconds, restored, warm_up, Row, Runs, Table, FEW_RUNS, RUNS};
+use bench::{libraries_with, load, today, Answer, Library};
 use model::hashing::MULTIPLIERS;
 use model::placement::entered_stretch;
 use model::random::Random;
@@ -12,6 +12,36 @@ use model::Kind;
 use std::hint::black_box;
 
 type Libraries = Vec<Box<dyn Library>>;
+
+/// What is printed besides the rows.
+struct Report {
+    older: bool,
+    notes: Vec<String>,
+}
+
+impl Report {
+    fn note(&mut self, note: String) {
+        eprintln!("{note}");
+        self.notes.push(note);
+    }
+
+    fn table(&self, file: &File, clearing: &Runs, shown: bool) -> Table {
+        Table::new(file.size(), clearing, shown, self.older)
+    }
+
+    /// Prints a heading, and the notes so far below it.
+    fn section(&mut self, title: &str) {
+        self.end();
+        println!("\n## {title}\n");
+    }
+
+    fn end(&mut self) {
+        if !self.notes.is_empty() {
+            println!();
+        }
+        self.notes.drain(..).for_each(|note| println!("- {note}"));
+    }
+}
 
 /// Clearing the pool, every star's home, and the homes of one page of stars.
 fn floors(file: &File) -> [Runs; 3] {
@@ -35,8 +65,7 @@ fn agreed(libraries: &Libraries, call: impl Fn(&mut dyn Library) -> Answer) -> (
     let outcomes = libraries.iter().map(|library| {
         let mut copy = library.copy();
         let answer = call(copy.as_mut());
-        // Request (iii) changes Due's yes or no.
-        (Answer { due: false, ..answer }, copy.file())
+        (answer, copy.file())
     });
     let outcomes: Vec<_> = outcomes.collect();
     assert!(outcomes.iter().all(|other| other == &outcomes[0]), "the libraries answer alike: {:?}", outcomes[0].0);
@@ -60,7 +89,7 @@ fn entries_and_removals(libraries: &mut Libraries, numbers: &[u32]) -> [Runs; 2]
 
 /// Entries of the same stars by the entry and by the cascade in turn, each followed by removals that are not timed.
 fn entries_and_cascades(file: &File, numbers: &[u32]) -> [Runs; 2] {
-    in_turn(RUNS, &mut today(file), |library| {
+    in_turn(RUNS, &mut libraries_with(file, &[Kind::Cascade]), |library| {
         let mut times = [0.0; 2];
         for turn in 0..TIMES {
             for i in [turn % 2, 1 - turn % 2] {
@@ -76,7 +105,7 @@ fn entries_and_cascades(file: &File, numbers: &[u32]) -> [Runs; 2] {
 /// The entry and the cascade of one star in turn, each on a copy of its own.
 fn entry_and_cascade(runs: usize, file: &File, number: u32) -> [Runs; 2] {
     let mut turn = 0;
-    in_turn(runs, &mut today(file), |library| {
+    in_turn(runs, &mut libraries_with(file, &[Kind::Cascade]), |library| {
         let mut times = [0.0; 2];
         turn += 1;
         for i in [turn % 2, 1 - turn % 2] {
@@ -89,11 +118,11 @@ fn entry_and_cascade(runs: usize, file: &File, number: u32) -> [Runs; 2] {
 
 /// A row for the cascade, and a note that compares it with the entry: time, and pages in the mean of these stars, one entered
 /// after the other.
-fn cascade_row(report: &mut Report, table: &Table, name: &str, file: &File, numbers: &[u32], runs: [Runs; 2]) {
+fn cascade_row(report: &mut Report, table: &mut Table, name: &str, file: &File, numbers: &[u32], runs: [Runs; 2]) {
     let [entries, cascades] = runs;
     table.row(&format!("cascade{name}"), &cascades);
     let homes = Homes::new(file);
-    let (mut cascaded, mut entered) = (today(file).remove(0), today(file).remove(0));
+    let (mut cascaded, mut entered) = (today(file), today(file));
     let [mut visited, mut changed, mut reach] = [0; 3];
     for &number in numbers {
         let (before, named) = (cascaded.file(), cascaded.look_up(number).page as usize);
@@ -110,7 +139,7 @@ fn cascade_row(report: &mut Report, table: &Table, name: &str, file: &File, numb
     // With two decimals where there are any.
     let mean = |pages: usize| (100.0 * pages as f64 / numbers.len() as f64).round() / 100.0;
     report.note(format!(
-        "{}{name}: cascade / enter {:.3}; a cascade visits {} pages, of which {} change; the entry's reach has {}",
+        "{}{name}: cascade / enter {:.3}; pages: {} visited, {} of them changed, {} in the reach",
         file.size(),
         cascades.by(&entries),
         mean(visited),
@@ -119,61 +148,34 @@ fn cascade_row(report: &mut Report, table: &Table, name: &str, file: &File, numb
     ));
 }
 
-/// Growths, and the shrinks that give their pages back, in turn, each on a copy of its own.
-fn growths_and_shrinks(runs: usize, file: &File) -> [Runs; 2] {
-    in_turn(runs, &mut today(file), |library| {
-        let mut grown = library.copy();
-        let growth = nanoseconds(|| _ = black_box(grown.grow()));
-        let mut back = grown.copy();
-        let mut refusal = 0;
-        let shrink = nanoseconds(|| refusal = black_box(back.shrink()).refusal);
-        assert_eq!(refusal, 0, "a growth can be undone");
-        [growth, shrink]
-    })
+/// A row for a call on copies of the libraries' files, after a look whether they agree on it.
+fn copied_row(table: &mut Table, runs: usize, name: &str, libraries: &mut Libraries, kind: Kind) -> Runs {
+    agreed(libraries, |library| library.call(kind, 0, 0, 0));
+    let times = restored(runs, libraries, |library| library.call(kind, 0, 0, 0).refusal);
+    table.row(name, &times);
+    times
 }
 
-/// A row for shrinking, and a note that compares it with growth.
-fn shrink_row(report: &mut Report, table: &Table, runs: usize, name: &str, file: &File) {
-    let mut library = today(file).remove(0);
-    assert_eq!((library.grow().refusal, library.shrink().refusal), (0, 0));
-    assert!(library.file() == *file, "a growth and a shrink restore the file");
-    let [growths, shrinks] = growths_and_shrinks(runs, file);
-    table.row(name, &shrinks);
-    report.note(format!(
-        "{}: {name} takes {:.2} times as long as the growth before it",
-        file.size(),
-        shrinks.by(&growths)
-    ));
-}
-
-/// Growths, openings of the same growth and its steps in the middle in turn, each on a copy of its own.
-fn growths_and_steps(file: &File) -> [Runs; 3] {
-    let mut middle = today(file).remove(0);
-    assert_eq!(middle.open_growth().refusal, 0);
-    for _ in 0..file.pages() / 2 {
-        assert_eq!(middle.step_growth().refusal, 0);
+/// The libraries that have these calls, after the calls of a list.
+fn prepared(file: &File, kinds: &[Kind], before: &[Kind]) -> Libraries {
+    let mut libraries = libraries_with(file, kinds);
+    for library in &mut libraries {
+        for &kind in before {
+            assert_eq!(library.call(kind, 0, 0, 0).refusal, 0, "{} is accepted", kind.name());
+        }
     }
-    in_turn(RUNS, &mut today(file), |library| {
-        let [mut grown, mut opened, mut stepped] = [library.copy(), library.copy(), middle.copy()];
-        [
-            nanoseconds(|| _ = black_box(grown.grow())),
-            nanoseconds(|| _ = black_box(opened.open_growth())),
-            nanoseconds(|| _ = black_box(stepped.step_growth())),
-        ]
-    })
+    libraries
 }
 
-/// Rows for opening a growth and for a step in its middle, and a note that compares them with the growth at once.
-fn step_rows(report: &mut Report, table: &Table, file: &File) {
-    let [growths, openings, steps] = growths_and_steps(file);
-    table.row("open", &openings);
-    table.row("step, in the middle", &steps);
-    report.note(format!(
-        "{}: open / grow {:.3}, step / grow {:.3}",
-        file.size(),
-        openings.by(&growths),
-        steps.by(&growths)
-    ));
+/// A row for shrinking, of the growth of the same file.
+fn shrink_row(table: &mut Table, runs: usize, name: &str, file: &File) -> Runs {
+    let mut grown = prepared(file, &[Kind::Shrink], &[Kind::Grow]);
+    for library in &grown {
+        let mut back = library.copy();
+        assert_eq!(back.shrink().refusal, 0, "a growth can be undone");
+        assert!(back.file() == *file, "a growth and a shrink restore the file");
+    }
+    copied_row(table, runs, name, &mut grown, Kind::Shrink)
 }
 
 /// The bytes of a table of so many rows: two headers, and blocks of 240 rows.
@@ -181,44 +183,31 @@ fn table_length(rows: usize) -> usize {
     5_760 + 2_880 * rows.div_ceil(240)
 }
 
-/// Rows for mending, writing and reading a table and carrying, and a note that compares them with shrinking and check in turn.
-fn whole_file_rows(report: &mut Report, table: &Table, file: &File) {
-    let length = table_length(file.stars().len());
-    let mut writer = today(file).remove(0);
-    writer.lend(vec![0; length]);
-    assert_eq!(writer.call(Kind::Write, 0, 0, 0).refusal, 0);
-    let bytes = writer.table();
-    let mut grown = today(file).remove(0);
-    assert_eq!(grown.grow().refusal, 0);
-    let [shrinks, checks, mendings, writings, readings, carryings] = in_turn(RUNS, &mut today(file), |library| {
-        let timed = |library: &dyn Library, kind| {
-            let mut copy = library.copy();
-            copy.lend(bytes.clone());
-            let mut refusal = 0;
-            let time = nanoseconds(|| refusal = black_box(copy.call(kind, 0, 0, 0)).refusal);
-            assert_eq!(refusal, 0, "{} is accepted", kind.name());
-            time
-        };
-        [
-            timed(grown.as_ref(), Kind::Shrink),
-            timed(library, Kind::Check),
-            timed(library, Kind::Mend),
-            timed(library, Kind::Write),
-            timed(library, Kind::Read),
-            timed(library, Kind::Carry),
-        ]
-    });
-    table.row("mend", &mendings);
-    table.row("write a table", &writings);
-    table.row("read a table", &readings);
-    table.row("carry", &carryings);
+/// Rows for the calls over all pages, and a note that compares them with each other.
+fn whole_file_rows(report: &mut Report, table: &mut Table, file: &File) {
+    let grow = copied_row(table, RUNS, "grow", &mut prepared(file, &[], &[]), Kind::Grow);
+    let steps = [Kind::Open, Kind::Step];
+    let open = copied_row(table, RUNS, "open", &mut prepared(file, &steps, &[]), Kind::Open);
+    let mut before = vec![Kind::Open];
+    before.resize(1 + file.pages() / 2, Kind::Step);
+    let step = copied_row(table, RUNS, "step, in the middle", &mut prepared(file, &steps, &before), Kind::Step);
+    let shrink = shrink_row(table, RUNS, "shrink", file);
+    let check = many(&mut prepared(file, &[], &[]), 1, |library, _| _ = black_box(library.check()));
+    table.row("check", &check);
+    let mend = copied_row(table, RUNS, "mend", &mut prepared(file, &[Kind::Mend], &[]), Kind::Mend);
+    let mut tables = prepared(file, &[Kind::Write, Kind::Read], &[]);
+    tables.iter_mut().for_each(|library| library.lend(vec![0; table_length(file.stars().len())]));
+    let write = copied_row(table, RUNS, "write a table", &mut tables, Kind::Write);
+    tables.iter_mut().for_each(|library| assert_eq!(library.call(Kind::Write, 0, 0, 0).refusal, 0));
+    let read = copied_row(table, RUNS, "read a table", &mut tables, Kind::Read);
+    let carry = copied_row(table, RUNS, "carry", &mut prepared(file, &[Kind::Carry], &[]), Kind::Carry);
+    let size = file.size();
+    let [open, step, shrunk, checked] = [open, step, shrink.clone(), check.clone()].map(|call| call.by(&grow));
+    report.note(format!("{size}, by a growth: open {open:.2}, step {step:.2}, shrink {shrunk:.2}, check {checked:.2}"));
+    let [mend, read, carry] = [mend, read, carry].map(|call| call.by(&shrink));
+    let write = write.by(&check);
     report.note(format!(
-        "{}: mend / shrink {:.2}, write / check {:.2}, read / shrink {:.2}, carry / shrink {:.2}",
-        file.size(),
-        mendings.by(&shrinks),
-        writings.by(&checks),
-        readings.by(&shrinks),
-        carryings.by(&shrinks),
+        "{size}, by a shrink: mend {mend:.2}, read {read:.2}, carry {carry:.2}; by a check: write {write:.2}"
     ));
 }
 
@@ -228,11 +217,12 @@ fn entered(libraries: &Libraries, stars: &[u32], count: usize) -> Vec<u32> {
     stars.iter().copied().filter(|&number| library.enter(number).refusal == 0).take(count).collect()
 }
 
-fn calls(report: &mut Report, random: &mut Random, empty: File) {
+/// Rows for every call on a file that is filled by entries and growths.
+fn calls(report: &mut Report, random: &mut Random, empty: File, shown: bool) -> Vec<Row> {
     let file = files::filled(random, empty);
-    let mut libraries = libraries(&file);
+    let mut libraries = libraries_with(&file, &[]);
     let [clearing, every, one] = floors(&file);
-    let table = Table::new(file.size(), &clearing);
+    let mut table = report.table(&file, &clearing, shown);
     let mut held = file.stars();
     let load = 100 * held.len() / (file.addressed() * file.places());
     let (size, addressed) = (file.size(), file.addressed());
@@ -248,7 +238,6 @@ fn calls(report: &mut Report, random: &mut Random, empty: File) {
         agreed(&libraries, |library| library.remove(number));
         agreed(&libraries, |library| library.enter(other));
     }
-    agreed(&libraries, |library| library.grow());
     agreed(&libraries, |library| library.check());
     agreed(&libraries, |library| library.due());
 
@@ -262,29 +251,26 @@ fn calls(report: &mut Report, random: &mut Random, empty: File) {
     table.row("look-up, not held", &look_up(&absent, &mut libraries));
     let change = |library: &mut dyn Library, i| _ = black_box(library.change(held[i], i as u32));
     table.row("change", &many(&mut libraries, held.len(), change));
+    table.row("due", &many(&mut libraries, 100, |library, _| _ = black_box(library.due())));
     let entered = entered(&libraries, &absent, file.pages() / 4);
     let [entries, removals] = entries_and_removals(&mut libraries, &entered);
     table.row("enter", &entries);
-    cascade_row(report, &table, "", &file, &entered, entries_and_cascades(&file, &entered));
+    cascade_row(report, &mut table, "", &file, &entered, entries_and_cascades(&file, &entered));
     table.row("remove", &removals);
-    table.row("grow", &restored(RUNS, &mut libraries, |library| library.grow().refusal));
-    step_rows(report, &table, &file);
-    shrink_row(report, &table, RUNS, "shrink", &file);
-    whole_file_rows(report, &table, &file);
-    table.row("check", &many(&mut libraries, 1, |library, _| _ = black_box(library.check())));
-    table.row("due", &many(&mut libraries, 100, |library, _| _ = black_box(library.due())));
+    whole_file_rows(report, &mut table, &file);
+    table.rows
 }
 
 /// Times a call that is accepted, after a look whether the libraries agree on it; gives the file that it leaves.
-fn one_row(table: &Table, runs: usize, name: &str, file: &File, call: impl Fn(&mut dyn Library) -> Answer) -> File {
-    let mut libraries = libraries(file);
+fn one_row(table: &mut Table, runs: usize, name: &str, file: &File, call: impl Fn(&mut dyn Library) -> Answer) -> File {
+    let mut libraries = libraries_with(file, &[]);
     let after = agreed(&libraries, &call).1;
     table.row(name, &restored(runs, &mut libraries, |library| call(library).refusal));
     after
 }
 
 /// Rows for both entries of one star; gives the file that they leave.
-fn entry_rows(report: &mut Report, table: &Table, runs: usize, name: &str, file: &File, number: u32) -> File {
+fn entry_rows(report: &mut Report, table: &mut Table, runs: usize, name: &str, file: &File, number: u32) -> File {
     let after = one_row(table, runs, &format!("enter{name}"), file, |library| library.enter(number));
     cascade_row(report, table, name, file, &[number], entry_and_cascade(runs, file, number));
     after
@@ -293,50 +279,134 @@ fn entry_rows(report: &mut Report, table: &Table, runs: usize, name: &str, file:
 fn long_calls(report: &mut Report, random: &mut Random) {
     let (full, [newcomer, _]) = files::full_pages(random, 1_000);
     let [clearing, ..] = floors(&full);
-    let table = Table::new(full.size(), &clearing);
-    entry_rows(report, &table, RUNS, ", through 1,000 full pages", &full, newcomer);
+    let table = &mut report.table(&full, &clearing, true);
+    entry_rows(report, table, RUNS, ", through 1,000 full pages", &full, newcomer);
 
     let (run, newcomer) = files::overflowed_run(random, 300);
     report.note(format!("the run of overflowed pages has {} of them", run.overflowed()));
     let name = ", bottom of a run of 300 overflowed pages";
-    let after = entry_rows(report, &table, RUNS, name, &run, newcomer);
-    one_row(&table, RUNS, &format!("remove{name}"), &after, |library| library.remove(newcomer));
+    let after = entry_rows(report, table, RUNS, name, &run, newcomer);
+    one_row(table, RUNS, &format!("remove{name}"), &after, |library| library.remove(newcomer));
+    one_row(table, RUNS, "check, a run of 300 overflowed pages", &run, |library| library.check());
     let (run, newcomer) = files::pushing_run(random, &run, 250);
-    entry_rows(report, &table, RUNS, ", through a run of 300 overflowed pages", &run, newcomer);
+    entry_rows(report, table, RUNS, ", through a run of 300 overflowed pages", &run, newcomer);
 }
 
 /// The slowest calls known: a file that was never grown, with all its stars of one home.
 fn one_home(report: &mut Report, random: &mut Random) {
     let (file, newcomer) = files::one_home(random);
     let [clearing, ..] = floors(&file);
-    let table = Table::new(file.size(), &clearing);
+    let table = &mut report.table(&file, &clearing, true);
     let stars = file.stars();
     report.note(format!("all stars of one home: {} of them, on pages 0 to {}", stars.len(), file.overflowed()));
     // On the highest full page the most stars have the most separators below them.
     let full = file.numbers.chunks(file.places()).rfind(|page| !page.contains(&0)).unwrap();
-    let row = |name: &str, file: &File, call: &dyn Fn(&mut dyn Library) -> Answer| {
-        one_row(&table, FEW_RUNS, &format!("{name}, all stars of one home"), file, call)
-    };
-    row("look-up on the highest full page", &file, &|library| library.look_up(full[0]));
-    let after = entry_rows(report, &table, FEW_RUNS, ", all stars of one home", &file, newcomer);
-    row("remove", &after, &|library| library.remove(newcomer));
-    row("grow", &file, &|library| library.grow());
-    row("check", &file, &|library| library.check());
-    shrink_row(report, &table, FEW_RUNS, "shrink, all stars of one home", &file);
+    let name = |call: &str| format!("{call}, all stars of one home");
+    one_row(table, FEW_RUNS, &name("look-up on the highest full page"), &file, |library| library.look_up(full[0]));
+    let after = entry_rows(report, table, FEW_RUNS, ", all stars of one home", &file, newcomer);
+    one_row(table, FEW_RUNS, &name("remove"), &after, |library| library.remove(newcomer));
+    one_row(table, FEW_RUNS, &name("grow"), &file, |library| library.grow());
+    one_row(table, FEW_RUNS, &name("check"), &file, |library| library.check());
+    shrink_row(table, FEW_RUNS, &name("shrink"), &file);
+}
+
+/// One line for each call with a figure for each file; none where a file has none.
+fn by_file(files: &[Vec<Row>], figure: impl Fn(&Row) -> Option<String>) {
+    println!("| call | {} |", files.iter().map(|rows| rows[0].size.as_str()).collect::<Vec<_>>().join(" | "));
+    println!("|---|{}", "---:|".repeat(files.len()));
+    for (i, row) in files[0].iter().enumerate() {
+        let figures: Vec<_> = files.iter().map(|rows| figure(&rows[i]).unwrap_or_default()).collect();
+        if figures.iter().any(|figure| !figure.is_empty()) {
+            println!("| {} | {} |", row.call, figures.join(" | "));
+        }
+    }
+}
+
+/// The same on a logarithmic scale of nanoseconds, a letter for each file: `a` the first.
+fn plot(files: &[Vec<Row>]) {
+    const DECADE: f64 = 12.0;
+    let column = |nanoseconds: f64| (DECADE * nanoseconds.max(10.0).log10() - DECADE).round() as usize;
+    println!("\n```");
+    println!("{:33}10 ns       100         1 us        10          100         1 ms        10", "");
+    for (i, row) in files[0].iter().enumerate() {
+        let mut line = vec![b' '; 80];
+        for (rows, mark) in files.iter().zip(b'a'..) {
+            line[column(rows[i].least).min(79)] = mark;
+        }
+        println!("{:33}{}", row.call, String::from_utf8_lossy(&line).trim_end());
+    }
+    println!("```");
+}
+
+/// For bench/plot-sizes: a line for each call and file.
+fn figures(files: &[Vec<Row>], parameters: &[[u32; 7]]) -> String {
+    let mut text = "call\tpages\tns\n".to_string();
+    for (rows, [.., pages]) in files.iter().zip(parameters) {
+        rows.iter().for_each(|row| text += &format!("{}\t{pages}\t{:.0}\n", row.call, row.least));
+    }
+    text
+}
+
+/// The rows that differ by more than a twentieth, and how many do not.
+fn other_multiplier(rows: &[Row], others: &[Row]) {
+    heading(false);
+    let mut alike = 0;
+    for (row, other) in rows.iter().zip(others) {
+        if (other.least / row.least - 1.0).abs() <= 0.05 {
+            alike += 1;
+        } else {
+            println!(
+                "| {} | {} | {:.0} | {:.0} | {:.2} |",
+                other.call, other.size, other.least, other.median, other.pools
+            );
+        }
+    }
+    println!("\nThe other {alike} rows are within 5 % of those under {}.", MULTIPLIERS[0]);
 }
 
 fn main() {
+    let arguments: Vec<String> = std::env::args().skip(1).collect();
+    let (older, path) = match arguments.iter().map(String::as_str).collect::<Vec<_>>()[..] {
+        ["--old", library, path] => {
+            load(library).unwrap_or_else(|why| panic!("{why}"));
+            (true, path.to_string())
+        }
+        [path] => (false, path.to_string()),
+        _ => panic!("times [--old LIBRARY] FIGURES"),
+    };
     warm_up();
-    let mut report = Report::begin();
-    for multiplier in MULTIPLIERS {
-        let mut random = Random(1);
-        for parameters in SIZES {
-            calls(&mut report, &mut random, File::under(multiplier, parameters));
-        }
-        if multiplier == MULTIPLIERS[0] {
-            long_calls(&mut report, &mut random);
-            one_home(&mut report, &mut random);
-        }
+    let mut report = Report { older, notes: Vec::new() };
+    let mut random = Random(1);
+    println!("## Three sizes\n");
+    heading(older);
+    let mut rows = Vec::new();
+    for parameters in SIZES {
+        rows.extend(calls(&mut report, &mut random, File::empty(parameters), true));
     }
+    long_calls(&mut report, &mut random);
+    one_home(&mut report, &mut random);
+
+    report.section("Small pages and other loads");
+    heading(older);
+    for parameters in OTHERS {
+        calls(&mut report, &mut random, File::empty(parameters), true);
+    }
+
+    report.section("By the number of pages");
+    let mut quiet = Report { older, notes: Vec::new() };
+    let growing = GROWING.map(|parameters| calls(&mut quiet, &mut random, File::empty(parameters), false));
+    println!("![Least times by the number of pages](benchmark.png)\n\nLeast nanoseconds:\n");
+    by_file(&growing, |row| Some(format!("{:.0}", row.least)));
+    plot(&growing);
+    std::fs::write(&path, figures(&growing, &GROWING)).unwrap_or_else(|why| panic!("{path}: {why}"));
+    if older {
+        println!("\nOld / new:\n");
+        by_file(&growing, |row| row.older.map(|older| format!("{:.2}", older.ratio)));
+    }
+
+    report.section("The other multiplier");
+    let mut random = Random(1);
+    let others = SIZES.map(|parameters| calls(&mut quiet, &mut random, File::under(MULTIPLIERS[1], parameters), false));
+    other_multiplier(&rows, &others.into_iter().flatten().collect::<Vec<_>>());
     report.end();
 }

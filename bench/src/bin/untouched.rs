@@ -46,7 +46,7 @@ impl Growth {
 /// The growths of a file that fills until M pages are addressed, or until a call is refused with 8; and whether it was M.
 fn growths(parameters: [u32; 7], random: &mut Random) -> Result<(Vec<Growth>, bool), String> {
     let mut file = File::empty(parameters);
-    let mut library = today(&file).remove(0);
+    let mut library = today(&file);
     let mut growths = Vec::new();
     while file.addressed() < file.pages() {
         let (ra, dec) = random.position();

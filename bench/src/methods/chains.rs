@@ -6,7 +6,7 @@ use crate::procedures::Accesses;
 use model::hashing::MODULUS;
 
 /// Partial expansions for each full one, n0.
-const WIDTH: usize = 2;
+pub const WIDTH: usize = 2;
 
 /// The document's b, m, r = 1/f and α.
 #[derive(Clone, Copy)]
@@ -164,8 +164,31 @@ impl Method for Chains {
     }
 }
 
+/// Chains a page, and accesses for a star held, one not held, one entered: b = 10.
+#[cfg(test)]
+pub const TABLE_1: [(usize, [f64; 3]); 6] = [
+    (1, [1.314, 2.165, 6.012]),
+    (2, [1.214, 1.583, 5.429]),
+    (3, [1.180, 1.388, 5.235]),
+    (4, [1.164, 1.291, 5.138]),
+    (5, [1.154, 1.233, 5.080]),
+    (10, [1.133, 1.117, 4.963]),
+];
+
+/// b = 40; the document has 4.411 for 4.111.
+#[cfg(test)]
+pub const TABLE_2: [(usize, [f64; 3]); 6] = [
+    (1, [1.229, 2.811, 5.318]),
+    (2, [1.136, 1.906, 4.413]),
+    (3, [1.105, 1.604, 4.111]),
+    (4, [1.090, 1.453, 3.960]),
+    (5, [1.080, 1.362, 3.869]),
+    (10, [1.062, 1.181, 3.688]),
+];
+
 #[cfg(test)]
 mod tests {
+    use super::super::chains_expected::{means as expected, Rate};
     use super::*;
     use model::random::Random;
 
@@ -208,47 +231,30 @@ mod tests {
         })
     }
 
-    /// Within three standard errors and a share of the figure.
-    fn near((mean, error): (f64, f64), published: f64, share: f64) {
-        assert!((mean - published).abs() <= 3.0 * error + share * published, "{mean} for {published}");
+    /// Within three standard errors, and half a unit of the document's last digit.
+    fn near((mean, error): (f64, f64), published: f64) {
+        assert!((mean - published).abs() <= 3.0 * error + 0.000_5, "{mean} ({error}) for {published}");
     }
 
-    /// A file is finite, and the document's figures are not: 1 % for look-ups. For entries it is 2.5 %, as the document's growths
-    /// are dearer than its own equation (1) gives, by a tenth of an access at b = 10 (docs/NEIGHBOURS.md).
+    /// Entries by the rate that the document's equation (1) gives: `chains_expected` has why its own figures are higher.
     fn table(places: usize, every: usize, groups: usize, rows: [(usize, [f64; 3]); 6]) {
-        for (chains, [found, missed, entry]) in rows {
-            let means = over_files(Shape { places, chains, every, load: 0.85 }, groups);
-            near(means[0], found, 0.01);
-            near(means[1], missed, 0.01);
-            near(means[2], entry, 0.025);
+        for (chains, [found, missed, _]) in rows {
+            let shape = Shape { places, chains, every, load: 0.85 };
+            let means = over_files(shape, groups);
+            near(means[0], found);
+            near(means[1], missed);
+            near(means[2], expected(&shape, Rate::Differentiated).entry);
         }
     }
 
     #[test]
     fn table_1() {
-        let rows = [
-            (1, [1.314, 2.165, 6.012]),
-            (2, [1.214, 1.583, 5.429]),
-            (3, [1.180, 1.388, 5.235]),
-            (4, [1.164, 1.291, 5.138]),
-            (5, [1.154, 1.233, 5.080]),
-            (10, [1.133, 1.117, 4.963]),
-        ];
-        table(10, 10, 600, rows);
+        table(10, 10, 600, TABLE_1);
     }
 
-    /// The document has 4.411 for three chains, but its entries are alike save for what an unsuccessful search takes: 4.111.
     #[test]
     fn table_2() {
-        let rows = [
-            (1, [1.229, 2.811, 5.318]),
-            (2, [1.136, 1.906, 4.413]),
-            (3, [1.105, 1.604, 4.111]),
-            (4, [1.090, 1.453, 3.960]),
-            (5, [1.080, 1.362, 3.869]),
-            (10, [1.062, 1.181, 3.688]),
-        ];
-        table(40, 20, 400, rows);
+        table(40, 20, 400, TABLE_2);
     }
 
     /// Section 6: the same files, were each chain on one page.
@@ -256,8 +262,8 @@ mod tests {
     fn optimistic() {
         for (places, every, groups, found, missed) in [(10, 10, 600, 1.113, 1.168), (40, 20, 400, 1.043, 1.185)] {
             let means = over_files(Shape { places, chains: 5, every, load: 0.85 }, groups);
-            near(means[3], found, 0.01);
-            near(means[4], missed, 0.01);
+            near(means[3], found);
+            near(means[4], missed);
         }
     }
 }

@@ -2,6 +2,8 @@
 //! Rust, to compare with; docs/NEIGHBOURS.md names the documents.
 
 pub mod chains;
+#[cfg(test)]
+mod chains_expected;
 pub mod extendible;
 pub mod filter;
 pub mod greatest_keys;

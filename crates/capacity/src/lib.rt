@@ -18,7 +18,7 @@ pub struct Chosen {
 }
 
 pub fn state_for(parameters: Parameters, stars: u32) -> Chosen
-    ensures { λ r. ⌜ told r ≡ choiceOf parameters stars ⌝ }
+    ensures choice { λ r. ⌜ told r ≡ choiceOf parameters stars ⌝ }
 {
     if !hashing::parameters_valid(parameters) {
         let growth = Growth {

@@ -12,7 +12,9 @@ use Rattle.calls.specs.Records.{AfterStep, LeavesStep, closedRecord}
 use Rattle.exchange.specs.Tables.{AfterWrite, Writes}
 use Rattle.capacity.specs.State.{Choice}
 use Rattle.heatherplane.specs.declared.replies.Reply.{Reply}
-use Rattle.heatherplane.specs.Reply.{Replies, RepliesStep, RepliesTable, replyOf}
+use Rattle.history_replay.specs.declared.replaying.Resumed.{Resumed}
+use Rattle.history_replay.specs.Replay.{Replay, Resumes}
+use Rattle.heatherplane.specs.Reply.{Replies, RepliesStep, RepliesTable, RepliesReplay, replyOf, replayReply}
 
 pub told-same : {said answer : Answer} {growth : GrowthRecord} {reply : Reply} (kept : GrowthRecord) →
     reply ≡ replyOf said kept → kept ≡ growth → said ≡ answer → reply ≡ replyOf answer growth
@@ -40,3 +42,13 @@ pub told-choice : {choice : Choice} {said answer : Answer} {reply : Reply} (stat
     reply ≡ replyOf (choice .answer) (closedRecord (choice .growth))
 told-choice state r e c =
     r ∙ (ap (λ (a : Answer). replyOf a (closedRecord state)) e ∙ ap (λ (x : Choice). replyOf (x .answer) (closedRecord (x .growth))) c)
+
+pub told-replay : {replay : Replay} {reply : Reply} {answers : List ℕ} {file : File} {pool : Pool} (said : Resumed) →
+    reply ≡ replayReply (said .refusal) (said .growth) → Resumes replay said answers file pool → RepliesReplay replay reply answers file pool
+told-replay {replay = replay} said r l =
+    record {
+      replies = r ∙ (ap (λ (n : ℕ). replayReply n (said .growth)) (l .refusals) ∙ ap (λ (g : Growth). replayReply (replay .refusal) g) (l .growths));
+      answersAre = l .answersAre;
+      files = l .files;
+      pools = l .pools;
+    }

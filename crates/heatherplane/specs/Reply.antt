@@ -1,10 +1,10 @@
 -- What the numbers that C programs pass and get stand for.
 use mathlib.Core.Path.{_≡_}
-use mathlib.Core.Bool.{Bool, cond}
+use mathlib.Core.Bool.{Bool, false, cond}
 use mathlib.Core.List.{List}
 use Prim.Native.Nat.{ℕ}
 use lib.Dec.{eqb, ltb}
-use lib.IntN.{ℤ}
+use lib.IntN.{ℤ, pos}
 use Rattle.hashing.specs.declared.Parameters.{Parameters}
 use Rattle.hashing.specs.declared.Growth.{Growth as State}
 use Rattle.pages.specs.declared.position.Position.{Position}
@@ -14,6 +14,7 @@ use Rattle.calls.specs.declared.records.GrowthRecord.{GrowthRecord}
 use Rattle.calls.specs.Answers.{Pool, After}
 use Rattle.calls.specs.Records.{AfterStep}
 use Rattle.exchange.specs.Tables.{AfterWrite}
+use Rattle.history_replay.specs.Replay.{Replay}
 use Rattle.heatherplane.specs.declared.replies.Growth.{Growth}
 use Rattle.heatherplane.specs.declared.replies.Reply.{Reply}
 
@@ -79,6 +80,21 @@ replyOf a r =
       growth = growthOf r;
     }
 
+-- a replay's refusal, and the growth state after it with none open
+abbrev pub replayReply : ℕ → State → Reply
+replayReply refusal state =
+    record {
+      refusal = refusal;
+      page = 0;
+      place = 0;
+      ra = 0;
+      dec = pos 0;
+      found = false;
+      due = false;
+      stars = 0;
+      growth = record { expansions = state .expansions; expanded = state .expanded; growing = 0; steps = 0 };
+    }
+
 -- the reply and the buffers at exit are those of the definition, with this record
 pub record Replies (after : After) (growth : GrowthRecord) (reply : Reply) (file : File) (pool : Pool) : Type 0 where
   pub replies : reply ≡ replyOf (after .answer) growth
@@ -95,3 +111,10 @@ pub record RepliesStep (after : AfterStep) (reply : Reply) (second : File) (pool
 pub record RepliesTable (after : AfterWrite) (growth : GrowthRecord) (reply : Reply) (out : List ℕ) : Type 0 where
   pub replies : reply ≡ replyOf (after .answer) growth
   pub outputs : out ≡ after .output
+
+-- the same of a replay
+pub record RepliesReplay (replay : Replay) (reply : Reply) (answers : List ℕ) (file : File) (pool : Pool) : Type 0 where
+  pub replies : reply ≡ replayReply (replay .refusal) (replay .growth)
+  pub answersAre : answers ≡ replay .answers
+  pub files : file ≡ replay .file
+  pub pools : pool ≡ replay .pool

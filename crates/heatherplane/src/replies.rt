@@ -1,11 +1,12 @@
 // What C programs get back, and the growth record that they pass.
 ghost use mathlib.Core.Path.{_≡_};
 ghost use Rattle.calls.specs.Answers.{placed};
-ghost use Rattle.heatherplane.specs.Reply.{replyOf, growthOf, recordOf, flag as Reply·flag};
+ghost use Rattle.heatherplane.specs.Reply.{replyOf, replayReply, growthOf, recordOf, flag as Reply·flag};
 use calls::answers::Answer;
 use calls::answers::placed_answer;
 use calls::records::GrowthRecord;
 use calls::records::Recorded;
+use history_replay::Resumed;
 
 // The growth record in numbers.
 #[repr(C)]
@@ -54,6 +55,29 @@ pub fn recorded(answer: Recorded) -> Reply
 {
     let said = answer.answer;
     reply_of(placed_answer(said), answer.growth)
+}
+
+pub fn replay_reply(resumed: Resumed) -> Reply
+    ensures { λ r. ⌜ r ≡ replayReply (resumed .refusal) (resumed .growth) ⌝ }
+{
+    let state = resumed.growth;
+    let growth = Growth {
+        expansions: state.expansions,
+        expanded: state.expanded,
+        growing: 0,
+        steps: 0,
+    };
+    Reply {
+        refusal: resumed.refusal,
+        page: 0,
+        place: 0,
+        ra: 0,
+        dec: 0,
+        found: false,
+        due: false,
+        stars: 0,
+        growth,
+    }
 }
 
 fn growth_of(kept: GrowthRecord) -> Growth

@@ -37,9 +37,13 @@ use Rattle.history_replay.specs.Replay.{
   historyOf,
   replayedWith,
   replayOf,
+  resumptionRefusal,
+  resumedWith,
+  resumeOf,
   refusalSaid,
   growthSaid,
   Replays,
+  Resumes,
   EveryReplay,
 }
 use Rattle.history_replay.specs.Steps.{Runs}
@@ -124,6 +128,39 @@ module _ (p : Parameters) (f : File) (pool : Pool) (h : LentHistory) (answers : 
               files = u .files;
               pools = u .pools;
             })
+
+-- The same from a lent file.
+module _ (p : Parameters) (g : Growth) (f : File) (pool : Pool) (h : LentHistory) (answers : List ℕ) where
+  refused-resumption : (n : ℕ) → resumptionRefusal h answers ≡ suc n
+      → Resumes (resumeOf p g f pool h answers) (record { refusal = suc n; growth = g }) answers f pool
+  unfolding resumeOf resumedWith
+  refused-resumption n e = rw e (record { refusals = refl; growths = refl; answersAre = refl; files = refl; pools = refl })
+
+  abbrev evens : Bool
+  evens = evenLengths (length (h .kinds)) (length (h .callers)) (length (h .stars)) (length (h .ras)) (length (h .decs)) (length answers)
+
+  pub uneven-resumption : evens ≡ false → Resumes (resumeOf p g f pool h answers) (record { refusal = 2; growth = g }) answers f pool
+  unfolding resumptionRefusal
+  uneven-resumption e = refused-resumption 1 (rw e)
+
+  module _ (even : evens ≡ true) where
+    pub unknown-resumption : allKinds (h .kinds) ≡ false → Resumes (resumeOf p g f pool h answers) (record { refusal = unknownKind; growth = g }) answers f pool
+    unfolding resumptionRefusal
+    unknown-resumption e = refused-resumption 255 (rw (even, e))
+
+    pub resumed : allKinds (h .kinds) ≡ true → (last : Growth) (answers′ : List ℕ) (file′ : File) (pool′ : Pool)
+        → Runs (fresh p g f noSecond) pool (requestsOf h) [] last answers′ file′ pool′
+        → Resumes (resumeOf p g f pool h answers) (record { refusal = 0; growth = last }) answers′ file′ pool′
+    unfolding resumptionRefusal resumeOf resumedWith
+    resumed known last answers′ file′ pool′ u =
+        rw (even, known)
+        (record {
+          refusals = refl;
+          growths = ap (λ (r : GrowthRecord). r .state) (u .growths);
+          answersAre = u .answersAre ∙ append-nil _;
+          files = u .files;
+          pools = u .pools;
+        })
 
 -- Every accepted replay is of a history from a file that make accepted.
 either-none : (m n : ℕ) → orElse m n ≡ 0 → n ≡ 0

@@ -19,6 +19,21 @@ use Rattle.reach.specs.Cascade.{cascaded, carriedPast}
 use Rattle.calls.specs.declared.answers.Answer.{Answer}
 use Rattle.calls.specs.Answers.{Pool, After, Leaves, unpooled}
 use Rattle.calls.specs.Calls.{fileFits, poolFits, unless, orElse, unlent, unchanged, guarded, readable, named, holds, ownerFor, mayAlter, allowed, lookedUp, lookUpOf, enterTo, enterOn, enterOf, cascadeFrom, cascadeOn, cascadeOf, changeOn, changeOf, removeTo, removeOn, removeOf, growOf, shrinkOf, dueOf, checkOf}
+use Rattle.calls.specs.declared.records.GrowthRecord.{GrowthRecord}
+use Rattle.calls.specs.Records.{
+  validSteps,
+  closedRecord,
+  lookUpUnder,
+  enterUnder,
+  cascadeUnder,
+  changeUnder,
+  removeUnder,
+  growUnder,
+  shrinkUnder,
+  dueUnder,
+  checkUnder,
+  recordAfter,
+}
 use Rattle.history_replay.specs.declared.calling.Stepped.{Stepped}
 use Rattle.history_replay.specs.Replay.{requestOf, encoded}
 use Rattle.history_replay.specs.Steps.{callAt, pooledRequest, wholeRequest, entryRequest, Steps, Recorded}
@@ -122,36 +137,36 @@ module _ (p : Parameters) (g : Growth) (f : File) (pool : Pool) where
 
   -- The step of each kind, from what its call ensures.
   module _ (kind caller k : ℕ) (q : Position) (a : Answer) where
-    pub look-up-steps : kind ≡ 0 → a ≡ lookUpOf p g f unpooled k .answer
+    pub look-up-steps : kind ≡ 0 → a ≡ lookUpUnder p (closedRecord g) f unpooled k .answer
         → Steps (callAt p g f pool (requestOf kind caller k q)) (record { answer = a; growth = g }) f pool
-    unfolding callAt requestOf
+    unfolding callAt requestOf lookUpUnder validSteps
     look-up-steps e h = rw (e, look-up-over k) (record { answers = h; growths = refl; files = refl; pools = refl })
 
-    pub due-steps : kind ≡ 5 → a ≡ dueOf p g f unpooled .answer
+    pub due-steps : kind ≡ 5 → a ≡ dueUnder p (closedRecord g) f unpooled .answer
         → Steps (callAt p g f pool (requestOf kind caller k q)) (record { answer = a; growth = g }) f pool
-    unfolding callAt requestOf
+    unfolding callAt requestOf dueUnder validSteps
     due-steps e h = rw (e, due-over) (record { answers = h; growths = refl; files = refl; pools = refl })
 
     module _ (said-so : Answer) (h : a ≡ said-so) where
-      pub change-steps : (file : File) → kind ≡ 2 → Leaves (changeOf p g f unpooled caller k q) said-so file unpooled
+      pub change-steps : (file : File) → kind ≡ 2 → Leaves (changeUnder p (closedRecord g) f unpooled caller k q) said-so file unpooled
           → Steps (callAt p g f pool (requestOf kind caller k q)) (record { answer = a; growth = g }) file pool
-      unfolding callAt requestOf
+      unfolding callAt requestOf changeUnder validSteps
       change-steps file e l = rw (e, change-over caller k q) (record { answers = h ∙ l .answers; growths = refl; files = l .files; pools = refl })
 
-      pub enter-steps : (file : File) (left : Pool) → (kind ≡ 8 → ⊥) → Leaves (enterOf p g f pool caller k q) said-so file left
+      pub enter-steps : (file : File) (left : Pool) → (kind ≡ 8 → ⊥) → Leaves (enterUnder p (closedRecord g) f pool caller k q) said-so file left
           → Steps (callAt p g f pool (entryRequest kind caller k q)) (record { answer = a; growth = g }) file left
-      unfolding callAt entryRequest
+      unfolding callAt entryRequest enterUnder validSteps
       enter-steps file left e l =
           rw (ne-eqb _ _ e) (record { answers = h ∙ l .answers; growths = sym (enter-growth caller k q); files = l .files; pools = l .pools })
 
-      pub cascade-steps : (file : File) (left : Pool) → kind ≡ 8 → Leaves (cascadeOf p g f pool caller k q) said-so file left
+      pub cascade-steps : (file : File) (left : Pool) → kind ≡ 8 → Leaves (cascadeUnder p (closedRecord g) f pool caller k q) said-so file left
           → Steps (callAt p g f pool (entryRequest kind caller k q)) (record { answer = a; growth = g }) file left
-      unfolding callAt entryRequest
+      unfolding callAt entryRequest cascadeUnder validSteps
       cascade-steps file left e l = rw e (record { answers = h ∙ l .answers; growths = sym (cascade-growth caller k q); files = l .files; pools = l .pools })
 
-      pub remove-steps : (file : File) (left : Pool) → kind ≡ 3 → Leaves (removeOf p g f pool caller k) said-so file left
+      pub remove-steps : (file : File) (left : Pool) → kind ≡ 3 → Leaves (removeUnder p (closedRecord g) f pool caller k) said-so file left
           → Steps (callAt p g f pool (pooledRequest kind caller k q)) (record { answer = a; growth = g }) file left
-      unfolding callAt pooledRequest
+      unfolding callAt pooledRequest removeUnder validSteps
       remove-steps file left e l = rw e (record { answers = h ∙ l .answers; growths = sym (remove-growth caller k); files = l .files; pools = l .pools })
 
   -- The kinds left over, by the requests of those that are lent the pool.
@@ -183,21 +198,21 @@ module _ (p : Parameters) (g : Growth) (f : File) (pool : Pool) where
         → Steps (callAt p g f pool (wholeRequest kind)) (record { answer = a; growth = next }) file left
     moving-steps after e next n l = rw e (record { answers = h ∙ l .answers; growths = n; files = l .files; pools = l .pools })
 
-    pub grow-steps : kind ≡ 4 → (next : Growth) → next ≡ growOf p g f pool .growth
-        → Leaves (growOf p g f pool) said-so file left
-        → Steps (callAt p g f pool (wholeRequest kind)) (record { answer = a; growth = next }) file left
-    unfolding callAt wholeRequest
-    grow-steps e = moving-steps (growOf p g f pool) (rw e)
+    pub grow-steps : kind ≡ 4 → (next : GrowthRecord) → next ≡ recordAfter (closedRecord g) (growUnder p (closedRecord g) f pool)
+        → Leaves (growUnder p (closedRecord g) f pool) said-so file left
+        → Steps (callAt p g f pool (wholeRequest kind)) (record { answer = a; growth = next .state }) file left
+    unfolding callAt wholeRequest growUnder validSteps
+    grow-steps e next n = moving-steps (growOf p g f pool) (rw e) (next .state) (ap (λ (r : GrowthRecord). r .state) n)
 
-    pub shrink-steps : kind ≡ 7 → (next : Growth) → next ≡ shrinkOf p g f pool .growth
-        → Leaves (shrinkOf p g f pool) said-so file left
-        → Steps (callAt p g f pool (wholeRequest kind)) (record { answer = a; growth = next }) file left
-    unfolding callAt wholeRequest
-    shrink-steps e = moving-steps (shrinkOf p g f pool) (rw e)
+    pub shrink-steps : kind ≡ 7 → (next : GrowthRecord) → next ≡ recordAfter (closedRecord g) (shrinkUnder p (closedRecord g) f pool)
+        → Leaves (shrinkUnder p (closedRecord g) f pool) said-so file left
+        → Steps (callAt p g f pool (wholeRequest kind)) (record { answer = a; growth = next .state }) file left
+    unfolding callAt wholeRequest shrinkUnder validSteps
+    shrink-steps e next n = moving-steps (shrinkOf p g f pool) (rw e) (next .state) (ap (λ (r : GrowthRecord). r .state) n)
 
-    pub check-steps : (kind ≡ 4 → ⊥) → (kind ≡ 7 → ⊥) → Leaves (checkOf p g f pool) said-so file left
+    pub check-steps : (kind ≡ 4 → ⊥) → (kind ≡ 7 → ⊥) → Leaves (checkUnder p (closedRecord g) f pool) said-so file left
         → Steps (callAt p g f pool (wholeRequest kind)) (record { answer = a; growth = g }) file left
-    unfolding callAt wholeRequest
+    unfolding callAt wholeRequest checkUnder validSteps
     check-steps e4 e7 = moving-steps (checkOf p g f pool) (rw (ne-eqb _ _ e4, ne-eqb _ _ e7)) g (sym check-growth)
 
 -- the answers of a step, recorded

@@ -1,4 +1,4 @@
--- A replay: a lent history, run through the calls from a file made for it.
+-- A replay: a lent history, run through the calls from a file made for it, or from a lent one.
 use mathlib.Core.Path.{_≡_}
 use mathlib.Core.Bool.{Bool, true, cond, _&&_}
 use mathlib.Core.List.{List, [], _∷_, _++_}
@@ -16,10 +16,11 @@ use Rattle.calls.specs.Calls.{unless, orElse, makeOf}
 use Rattle.calls.specs.Records.{closedRecord}
 unfoldable pub use Rattle.answer_row.specs.Rows.{encoded}
 use Rattle.history_replay.specs.declared.replaying.Replayed.{Replayed}
+use Rattle.history_replay.specs.declared.replaying.Resumed.{Resumed}
 use Rattle.history_replay.specs.declared.replaying.Replayed.the-variants.{Done, BadKind, Refused}
 use Rattle.histories.specs.Model.{modelFile, Request, lookUp, enter, cascade, change, remove, grow, shrink, due, check}
 use Rattle.histories.specs.Call.{Call, callOf}
-use Rattle.histories.specs.Run.{HistoryState, Event, initial, outcome, next, events, end}
+use Rattle.histories.specs.Run.{HistoryState, Event, fresh, initial, outcome, next, events, end}
 use Rattle.histories.specs.Theorem.{AsModel}
 
 -- the lent slices of a history: the kind, caller, number, right ascension and declination of each call
@@ -142,6 +143,39 @@ replayedWith zero p f pool h answers =
 
 unfoldable pub replayOf : Parameters → File → Pool → LentHistory → List ℕ → Replay
 replayOf p f pool h answers = replayedWith (refusalOf p f pool h answers) p f pool h answers
+
+-- The same from a file that is lent with its growth state, no growth open: lengths that do not agree are 2, then an unknown kind; the rest is what each call says.
+
+unfoldable pub resumptionRefusal : LentHistory → List ℕ → ℕ
+resumptionRefusal h answers =
+    orElse
+    (unless (evenLengths (length (h .kinds)) (length (h .callers)) (length (h .stars)) (length (h .ras)) (length (h .decs)) (length answers)) 2)
+    (unless (allKinds (h .kinds)) unknownKind)
+
+-- the state that is lent
+abbrev pub lentState : Parameters → Growth → File → HistoryState
+lentState p g f = fresh p g f noSecond
+
+unfoldable pub resumedWith : ℕ → Parameters → Growth → File → Pool → LentHistory → List ℕ → Replay
+resumedWith (suc n) p g f pool h answers = record { refusal = suc n; growth = g; answers = answers; file = f; pool = pool }
+resumedWith zero p g f pool h answers =
+    record {
+      refusal = 0;
+      growth = end (lentState p g f) (historyFrom (lentState p g f) pool (requestsOf h)) .growth .state;
+      answers = eventAnswers (events (lentState p g f) (historyFrom (lentState p g f) pool (requestsOf h)));
+      file = end (lentState p g f) (historyFrom (lentState p g f) pool (requestsOf h)) .file;
+      pool = lastPool (lentState p g f) pool (requestsOf h);
+    }
+
+unfoldable pub resumeOf : Parameters → Growth → File → Pool → LentHistory → List ℕ → Replay
+resumeOf p g f pool h answers = resumedWith (resumptionRefusal h answers) p g f pool h answers
+
+pub record Resumes (replay : Replay) (r : Resumed) (answers : List ℕ) (file : File) (pool : Pool) : Type 0 where
+  pub refusals : r .refusal ≡ replay .refusal
+  pub growths : r .growth ≡ replay .growth
+  pub answersAre : answers ≡ replay .answers
+  pub files : file ≡ replay .file
+  pub pools : pool ≡ replay .pool
 
 -- the number of each case of the answer
 unfoldable pub refusalSaid : Replayed → ℕ

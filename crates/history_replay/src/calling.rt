@@ -11,6 +11,7 @@ use calls::answers::checked_answer;
 use calls::answers::due_answer;
 use calls::answers::placed_answer;
 use calls::answers::sought_answer;
+use calls::records::GrowthRecord;
 use hashing::Growth;
 use hashing::Parameters;
 use pages::position::Position;
@@ -40,22 +41,19 @@ fn run_call(
     ensures { λ r. ⌜ Steps (callAt parameters growth (before separators numbers words owners) (poolBefore poolnumbers poolwords poolowners) (requestOf kind caller star position))
         r (after separators numbers words owners) (poolAfter poolnumbers poolwords poolowners) ⌝ }
 {
+    let record = GrowthRecord {
+        state: growth,
+        growing: false,
+        steps: 0,
+    };
     if kind == 0 {
-        let found = call_look_up::look_up(
-            parameters,
-            growth,
-            separators,
-            numbers,
-            words,
-            owners,
-            star,
-        );
+        let found = starfile::look_up(parameters, record, separators, numbers, words, owners, star);
         return unmoved(sought_answer(found), growth);
     }
     if kind == 2 {
-        let changed = call_look_up::change(
+        let changed = starfile::change(
             parameters,
-            growth,
+            record,
             separators,
             numbers,
             words,
@@ -67,7 +65,7 @@ fn run_call(
         return unmoved(placed_answer(changed), growth);
     }
     if kind == 5 {
-        let due = call_due::due(parameters, growth, separators, numbers, words, owners);
+        let due = starfile::due(parameters, record, separators, numbers, words, owners);
         return unmoved(due_answer(due), growth);
     }
     run_pooled(
@@ -106,6 +104,11 @@ fn run_pooled(
     ensures { λ r. ⌜ Steps (callAt parameters growth (before separators numbers words owners) (poolBefore poolnumbers poolwords poolowners) (pooledRequest kind caller star position))
         r (after separators numbers words owners) (poolAfter poolnumbers poolwords poolowners) ⌝ }
 {
+    let record = GrowthRecord {
+        state: growth,
+        growing: false,
+        steps: 0,
+    };
     if kind == 1 || kind == 8 {
         return run_entry(
             parameters,
@@ -124,9 +127,9 @@ fn run_pooled(
         );
     }
     if kind == 3 {
-        let removed = call_remove::remove(
+        let removed = starfile::remove(
             parameters,
-            growth,
+            record,
             separators,
             numbers,
             words,
@@ -172,10 +175,15 @@ fn run_entry(
     ensures { λ r. ⌜ Steps (callAt parameters growth (before separators numbers words owners) (poolBefore poolnumbers poolwords poolowners) (entryRequest kind caller star position))
         r (after separators numbers words owners) (poolAfter poolnumbers poolwords poolowners) ⌝ }
 {
+    let record = GrowthRecord {
+        state: growth,
+        growing: false,
+        steps: 0,
+    };
     if kind == 8 {
-        let cascaded = call_enter::cascade(
+        let cascaded = starfile::cascade(
             parameters,
-            growth,
+            record,
             separators,
             numbers,
             words,
@@ -189,9 +197,9 @@ fn run_entry(
         );
         return unmoved(placed_answer(cascaded), growth);
     }
-    let entered = call_enter::enter(
+    let entered = starfile::enter(
         parameters,
-        growth,
+        record,
         separators,
         numbers,
         words,
@@ -222,10 +230,15 @@ fn run_whole(
     ensures { λ r. ⌜ Steps (callAt parameters growth (before separators numbers words owners) (poolBefore poolnumbers poolwords poolowners) (wholeRequest kind))
         r (after separators numbers words owners) (poolAfter poolnumbers poolwords poolowners) ⌝ }
 {
+    let record = GrowthRecord {
+        state: growth,
+        growing: false,
+        steps: 0,
+    };
     if kind == 4 {
-        let grown = call_whole_file::grow(
+        let grown = starfile::grow(
             parameters,
-            growth,
+            record,
             separators,
             numbers,
             words,
@@ -235,12 +248,13 @@ fn run_whole(
             poolowners,
         );
         let answer = grown.answer;
-        return unmoved(placed_answer(answer), grown.growth);
+        let next = grown.growth;
+        return unmoved(placed_answer(answer), next.state);
     }
     if kind == 7 {
-        let shrunk = call_whole_file::shrink(
+        let shrunk = starfile::shrink(
             parameters,
-            growth,
+            record,
             separators,
             numbers,
             words,
@@ -250,11 +264,12 @@ fn run_whole(
             poolowners,
         );
         let answer = shrunk.answer;
-        return unmoved(placed_answer(answer), shrunk.growth);
+        let next = shrunk.growth;
+        return unmoved(placed_answer(answer), next.state);
     }
-    let checked = call_whole_file::check(
+    let checked = starfile::check(
         parameters,
-        growth,
+        record,
         separators,
         numbers,
         words,

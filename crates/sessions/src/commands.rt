@@ -5,6 +5,7 @@ ghost use Rattle.sessions.specs.Commands.{starline, newFile, stateOf, un
 use calls::answers::Answer;
 use calls::answers::placed_answer;
 use calls::answers::sought_answer;
+use calls::records::GrowthRecord;
 use hashing::Growth;
 use hashing::Parameters;
 use lines::Command;
@@ -50,14 +51,15 @@ pub fn empty_file() -> StarFile
     let mut numbers = [0u32; 16];
     let mut words = [0u64; 16];
     let mut owners = [0u8; 16];
-    let made = call_make::make(
+    let made = starfile::make(
         parameters(),
         &mut separators,
         &mut numbers,
         &mut words,
         &mut owners,
     );
-    let growth = made.growth;
+    let record = made.growth;
+    let growth = record.state;
     StarFile {
         growth,
         separators,
@@ -96,9 +98,13 @@ fn enter(file: StarFile, number: u32, position: Position) -> Replied
     let mut poolnumbers = [0u32; 16];
     let mut poolwords = [0u64; 16];
     let mut poolowners = [0u8; 16];
-    let answer = call_enter::enter(
+    let answer = starfile::enter(
         parameters(),
-        growth,
+        GrowthRecord {
+            state: growth,
+            growing: false,
+            steps: 0,
+        },
         &mut separators,
         &mut numbers,
         &mut words,
@@ -130,9 +136,13 @@ fn look_up(file: StarFile, number: u32) -> Reply
     let numbers = file.numbers;
     let words = file.words;
     let owners = file.owners;
-    let found = call_look_up::look_up(
+    let found = starfile::look_up(
         parameters(),
-        growth,
+        GrowthRecord {
+            state: growth,
+            growing: false,
+            steps: 0,
+        },
         &separators,
         &numbers,
         &words,
@@ -153,9 +163,13 @@ fn remove(file: StarFile, number: u32) -> Replied
     let mut poolnumbers = [0u32; 16];
     let mut poolwords = [0u64; 16];
     let mut poolowners = [0u8; 16];
-    let answer = call_remove::remove(
+    let answer = starfile::remove(
         parameters(),
-        growth,
+        GrowthRecord {
+            state: growth,
+            growing: false,
+            steps: 0,
+        },
         &mut separators,
         &mut numbers,
         &mut words,
@@ -189,9 +203,13 @@ fn grow(file: StarFile) -> Replied
     let mut poolnumbers = [0u32; 16];
     let mut poolwords = [0u64; 16];
     let mut poolowners = [0u8; 16];
-    let grown = call_whole_file::grow(
+    let grown = starfile::grow(
         parameters(),
-        growth,
+        GrowthRecord {
+            state: growth,
+            growing: false,
+            steps: 0,
+        },
         &mut separators,
         &mut numbers,
         &mut words,
@@ -201,7 +219,8 @@ fn grow(file: StarFile) -> Replied
         &mut poolowners,
     );
     let answer = grown.answer;
-    let next = grown.growth;
+    let record = grown.growth;
+    let next = record.state;
     Replied {
         reply: placed_reply(placed_answer(answer)),
         file: StarFile {

@@ -1,235 +1,147 @@
-//! The calls of the Rattle crate starfile_tests, linked from its static library.
+//! The calls of the library that ships, crate heatherplane's, linked from its static archive; and two functions of crate
+//! starfile_tests, which no host needs.
 
-use model::{Buffers, Call, Growth, Implementation, Kind, Outcome, Parameters, Record, Refused};
+use model::{Buffers, Call, Growth, Implementation, Kind, Outcome, Parameters, Record};
+use std::sync::OnceLock;
 
 /// The requests of document 02 that have landed in the library.
 pub const LANDED: &[u32] = &[1, 2, 3, 4, 5, 6, 7, 8, 9, 10, 12, 13, 14];
 
 pub const LIBRARY: Implementation = Implementation { run, landed: LANDED };
 
-/// What a call returns. The fields that a kind does not answer are zeros.
+/// include/heatherplane.h's growth record and reply.
+#[repr(C)]
+struct CRecord {
+    expansions: u32,
+    expanded: u32,
+    open: u32,
+    steps: u32,
+}
+
 #[repr(C)]
 struct Reply {
     refusal: u32,
     page: u32,
     place: u32,
-    found: u32,
     ra: u32,
     dec: i32,
-    due: u32,
+    found: bool,
+    due: bool,
     stars: u32,
-    record: Record,
+    growth: CRecord,
 }
 
 impl Reply {
     fn outcome(self) -> Outcome {
-        let Reply { refusal, page, place, found, ra, dec, due, stars, record } = self;
-        let (length, filed, inner) = (0, 0, Refused::default());
-        Outcome { refusal, page, place, found, ra, dec, due, stars, length, filed, inner, record }
+        let Reply { refusal, page, place, ra, dec, found, due, stars, growth } = self;
+        let CRecord { expansions, expanded, open, steps } = growth;
+        let record = Record { growth: Growth { expansions, expanded }, open: open != 0, steps };
+        let (found, due) = (found.into(), due.into());
+        Outcome { refusal, page, place, found, ra, dec, due, stars, record, ..Outcome::default() }
     }
 }
 
-// Each slice is a pointer and a length in items.
+/// Calls a function of a library by the parts that it takes, in their order, with those of a call and of the lent buffers. Each slice is
+/// a pointer and a length in items.
+macro_rules! c {
+    ($exports:ident, $call:ident, $lent:ident -> $reply:ident: $($part:ident)*) => {
+        c!(@ $exports $reply $call $lent [] [] $($part)*)
+    };
+    (@ $exports:ident $reply:ident $call:ident $lent:ident [$($type:ty,)*] [$($value:expr,)*]) => {
+        // SAFETY: the address is that of a function which takes these; each pointer and length is that of a vector of its own, which
+        // lives through the call.
+        unsafe {
+            let address = $exports.addresses[$call.kind as usize].expect("the library has the call");
+            std::mem::transmute::<Address, unsafe extern "C" fn($($type),*) -> $reply>(address)($($value),*)
+        }
+    };
+    // Parameters and record as structs by value, as libraries before version 0.9 took them.
+    (@ $exports:ident $reply:ident $call:ident $lent:ident [$($t:tt)*] [$($v:tt)*] parameters_struct $($rest:ident)*) => {
+        c!(@ $exports $reply $call $lent [$($t)* Parameters,] [$($v)* $call.parameters,] $($rest)*)
+    };
+    (@ $exports:ident $reply:ident $call:ident $lent:ident [$($t:tt)*] [$($v:tt)*] record_struct $($rest:ident)*) => {
+        c!(@ $exports $reply $call $lent [$($t)* Record,] [$($v)* $call.record,] $($rest)*)
+    };
+    (@ $exports:ident $reply:ident $call:ident $lent:ident [$($t:tt)*] [$($v:tt)*] new_structs $($rest:ident)*) => {
+        c!(@ $exports $reply $call $lent [$($t)* Parameters, Record,] [$($v)* $call.new_parameters, $call.new_record,] $($rest)*)
+    };
+    (@ $exports:ident $reply:ident $call:ident $lent:ident [$($t:tt)*] [$($v:tt)*] parameters $($rest:ident)*) => {
+        c!(@ $exports $reply $call $lent [$($t)* u32, u32, u32, u32, u32, u32, u32, u32,] [$($v)*
+            $call.parameters.places, $call.parameters.groups, $call.parameters.width, $call.parameters.step,
+            $call.parameters.bits, $call.parameters.load, $call.parameters.pages, $call.parameters.multiplier,
+        ] $($rest)*)
+    };
+    (@ $exports:ident $reply:ident $call:ident $lent:ident [$($t:tt)*] [$($v:tt)*] record $($rest:ident)*) => {
+        c!(@ $exports $reply $call $lent [$($t)* u32, u32, u32, u32,] [$($v)*
+            $call.record.growth.expansions, $call.record.growth.expanded, $call.record.open.into(), $call.record.steps,
+        ] $($rest)*)
+    };
+    (@ $exports:ident $reply:ident $call:ident $lent:ident [$($t:tt)*] [$($v:tt)*] new $($rest:ident)*) => {
+        c!(@ $exports $reply $call $lent [$($t)* u32, u32, u32, u32, u32, u32, u32, u32, u32, u32, u32, u32,] [$($v)*
+            $call.new_parameters.places, $call.new_parameters.groups, $call.new_parameters.width, $call.new_parameters.step,
+            $call.new_parameters.bits, $call.new_parameters.load, $call.new_parameters.pages, $call.new_parameters.multiplier,
+            $call.new_record.growth.expansions, $call.new_record.growth.expanded, $call.new_record.open.into(),
+            $call.new_record.steps,
+        ] $($rest)*)
+    };
+    (@ $exports:ident $reply:ident $call:ident $lent:ident [$($t:tt)*] [$($v:tt)*] read $($rest:ident)*) => {
+        c!(@ $exports $reply $call $lent [$($t)* *const u8, usize, *const u32, usize, *const u64, usize, *const u8, usize,] [$($v)*
+            $lent.file.separators.as_ptr(), $lent.file.separators.len(), $lent.file.numbers.as_ptr(), $lent.file.numbers.len(),
+            $lent.file.words.as_ptr(), $lent.file.words.len(), $lent.file.owners.as_ptr(), $lent.file.owners.len(),
+        ] $($rest)*)
+    };
+    // A change writes words alone.
+    (@ $exports:ident $reply:ident $call:ident $lent:ident [$($t:tt)*] [$($v:tt)*] changed $($rest:ident)*) => {
+        c!(@ $exports $reply $call $lent [$($t)* *const u8, usize, *const u32, usize, *mut u64, usize, *const u8, usize,] [$($v)*
+            $lent.file.separators.as_ptr(), $lent.file.separators.len(), $lent.file.numbers.as_ptr(), $lent.file.numbers.len(),
+            $lent.file.words.as_mut_ptr(), $lent.file.words.len(), $lent.file.owners.as_ptr(), $lent.file.owners.len(),
+        ] $($rest)*)
+    };
+    (@ $exports:ident $reply:ident $call:ident $lent:ident $t:tt $v:tt written $($rest:ident)*) => {
+        c!(@ $exports $reply $call $lent $t $v pages file $($rest)*)
+    };
+    (@ $exports:ident $reply:ident $call:ident $lent:ident $t:tt $v:tt second $($rest:ident)*) => {
+        c!(@ $exports $reply $call $lent $t $v pages second $($rest)*)
+    };
+    (@ $exports:ident $reply:ident $call:ident $lent:ident [$($t:tt)*] [$($v:tt)*] pages $set:ident $($rest:ident)*) => {
+        c!(@ $exports $reply $call $lent [$($t)* *mut u8, usize, *mut u32, usize, *mut u64, usize, *mut u8, usize,] [$($v)*
+            $lent.$set.separators.as_mut_ptr(), $lent.$set.separators.len(),
+            $lent.$set.numbers.as_mut_ptr(), $lent.$set.numbers.len(),
+            $lent.$set.words.as_mut_ptr(), $lent.$set.words.len(),
+            $lent.$set.owners.as_mut_ptr(), $lent.$set.owners.len(),
+        ] $($rest)*)
+    };
+    (@ $exports:ident $reply:ident $call:ident $lent:ident [$($t:tt)*] [$($v:tt)*] pool $($rest:ident)*) => {
+        c!(@ $exports $reply $call $lent [$($t)* *mut u32, usize, *mut u64, usize, *mut u8, usize,] [$($v)*
+            $lent.pool_numbers.as_mut_ptr(), $lent.pool_numbers.len(), $lent.pool_words.as_mut_ptr(), $lent.pool_words.len(),
+            $lent.pool_owners.as_mut_ptr(), $lent.pool_owners.len(),
+        ] $($rest)*)
+    };
+    (@ $exports:ident $reply:ident $call:ident $lent:ident [$($t:tt)*] [$($v:tt)*] out $($rest:ident)*) => {
+        c!(@ $exports $reply $call $lent [$($t)* *mut u8, usize,] [$($v)* $lent.table.as_mut_ptr(), $lent.table.len(),] $($rest)*)
+    };
+    (@ $exports:ident $reply:ident $call:ident $lent:ident [$($t:tt)*] [$($v:tt)*] given $($rest:ident)*) => {
+        c!(@ $exports $reply $call $lent [$($t)* *const u8, usize,] [$($v)* $lent.table.as_ptr(), $lent.table.len(),] $($rest)*)
+    };
+    (@ $exports:ident $reply:ident $call:ident $lent:ident [$($t:tt)*] [$($v:tt)*] caller $($rest:ident)*) => {
+        c!(@ $exports $reply $call $lent [$($t)* u8,] [$($v)* $call.caller,] $($rest)*)
+    };
+    (@ $exports:ident $reply:ident $call:ident $lent:ident [$($t:tt)*] [$($v:tt)*] number $($rest:ident)*) => {
+        c!(@ $exports $reply $call $lent [$($t)* u32,] [$($v)* $call.number,] $($rest)*)
+    };
+    (@ $exports:ident $reply:ident $call:ident $lent:ident [$($t:tt)*] [$($v:tt)*] position $($rest:ident)*) => {
+        c!(@ $exports $reply $call $lent [$($t)* u32, i32,] [$($v)* $call.ra, $call.dec,] $($rest)*)
+    };
+    (@ $exports:ident $reply:ident $call:ident $lent:ident [$($t:tt)*] [$($v:tt)*] stores $($rest:ident)*) => {
+        c!(@ $exports $reply $call $lent [$($t)* u32,] [$($v)* $call.stores,] $($rest)*)
+    };
+}
+
 #[rustfmt::skip]
 extern "C" {
-    fn sft_make(
-        parameters: Parameters,
-        separators: *mut u8, separators_length: usize,
-        numbers: *mut u32, numbers_length: usize,
-        words: *mut u64, words_length: usize,
-        owners: *mut u8, owners_length: usize,
-    ) -> Reply;
-    fn sft_look_up(
-        parameters: Parameters, record: Record,
-        separators: *const u8, separators_length: usize,
-        numbers: *const u32, numbers_length: usize,
-        words: *const u64, words_length: usize,
-        owners: *const u8, owners_length: usize,
-        number: u32,
-    ) -> Reply;
-    fn sft_enter(
-        parameters: Parameters, record: Record,
-        separators: *mut u8, separators_length: usize,
-        numbers: *mut u32, numbers_length: usize,
-        words: *mut u64, words_length: usize,
-        owners: *mut u8, owners_length: usize,
-        pool_numbers: *mut u32, pool_numbers_length: usize,
-        pool_words: *mut u64, pool_words_length: usize,
-        pool_owners: *mut u8, pool_owners_length: usize,
-        caller: u8, number: u32, ra: u32, dec: i32,
-    ) -> Reply;
-    fn sft_cascade(
-        parameters: Parameters, record: Record,
-        separators: *mut u8, separators_length: usize,
-        numbers: *mut u32, numbers_length: usize,
-        words: *mut u64, words_length: usize,
-        owners: *mut u8, owners_length: usize,
-        pool_numbers: *mut u32, pool_numbers_length: usize,
-        pool_words: *mut u64, pool_words_length: usize,
-        pool_owners: *mut u8, pool_owners_length: usize,
-        caller: u8, number: u32, ra: u32, dec: i32,
-    ) -> Reply;
-    fn sft_change(
-        parameters: Parameters, record: Record,
-        separators: *const u8, separators_length: usize,
-        numbers: *const u32, numbers_length: usize,
-        words: *mut u64, words_length: usize,
-        owners: *const u8, owners_length: usize,
-        caller: u8, number: u32, ra: u32, dec: i32,
-    ) -> Reply;
-    fn sft_remove(
-        parameters: Parameters, record: Record,
-        separators: *mut u8, separators_length: usize,
-        numbers: *mut u32, numbers_length: usize,
-        words: *mut u64, words_length: usize,
-        owners: *mut u8, owners_length: usize,
-        pool_numbers: *mut u32, pool_numbers_length: usize,
-        pool_words: *mut u64, pool_words_length: usize,
-        pool_owners: *mut u8, pool_owners_length: usize,
-        caller: u8, number: u32,
-    ) -> Reply;
-    fn sft_grow(
-        parameters: Parameters, record: Record,
-        separators: *mut u8, separators_length: usize,
-        numbers: *mut u32, numbers_length: usize,
-        words: *mut u64, words_length: usize,
-        owners: *mut u8, owners_length: usize,
-        pool_numbers: *mut u32, pool_numbers_length: usize,
-        pool_words: *mut u64, pool_words_length: usize,
-        pool_owners: *mut u8, pool_owners_length: usize,
-    ) -> Reply;
-    fn sft_shrink(
-        parameters: Parameters, record: Record,
-        separators: *mut u8, separators_length: usize,
-        numbers: *mut u32, numbers_length: usize,
-        words: *mut u64, words_length: usize,
-        owners: *mut u8, owners_length: usize,
-        pool_numbers: *mut u32, pool_numbers_length: usize,
-        pool_words: *mut u64, pool_words_length: usize,
-        pool_owners: *mut u8, pool_owners_length: usize,
-    ) -> Reply;
-    fn sft_due(
-        parameters: Parameters, record: Record,
-        separators: *const u8, separators_length: usize,
-        numbers: *const u32, numbers_length: usize,
-        words: *const u64, words_length: usize,
-        owners: *const u8, owners_length: usize,
-    ) -> Reply;
-    fn sft_check(
-        parameters: Parameters, record: Record,
-        separators: *const u8, separators_length: usize,
-        numbers: *const u32, numbers_length: usize,
-        words: *const u64, words_length: usize,
-        owners: *const u8, owners_length: usize,
-        pool_numbers: *mut u32, pool_numbers_length: usize,
-        pool_words: *mut u64, pool_words_length: usize,
-        pool_owners: *mut u8, pool_owners_length: usize,
-    ) -> Reply;
-    fn sft_open(
-        parameters: Parameters, record: Record,
-        separators: *const u8, separators_length: usize,
-        numbers: *const u32, numbers_length: usize,
-        words: *const u64, words_length: usize,
-        owners: *const u8, owners_length: usize,
-        second_separators: *mut u8, second_separators_length: usize,
-        second_numbers: *mut u32, second_numbers_length: usize,
-        second_words: *mut u64, second_words_length: usize,
-        second_owners: *mut u8, second_owners_length: usize,
-        pool_numbers: *mut u32, pool_numbers_length: usize,
-        pool_words: *mut u64, pool_words_length: usize,
-        pool_owners: *mut u8, pool_owners_length: usize,
-    ) -> Reply;
-    fn sft_step(
-        parameters: Parameters, record: Record,
-        separators: *const u8, separators_length: usize,
-        numbers: *const u32, numbers_length: usize,
-        words: *const u64, words_length: usize,
-        owners: *const u8, owners_length: usize,
-        second_separators: *mut u8, second_separators_length: usize,
-        second_numbers: *mut u32, second_numbers_length: usize,
-        second_words: *mut u64, second_words_length: usize,
-        second_owners: *mut u8, second_owners_length: usize,
-        pool_numbers: *mut u32, pool_numbers_length: usize,
-        pool_words: *mut u64, pool_words_length: usize,
-        pool_owners: *mut u8, pool_owners_length: usize,
-    ) -> Reply;
-    fn sft_enter_stopped(
-        parameters: Parameters, record: Record,
-        separators: *mut u8, separators_length: usize,
-        numbers: *mut u32, numbers_length: usize,
-        words: *mut u64, words_length: usize,
-        owners: *mut u8, owners_length: usize,
-        pool_numbers: *mut u32, pool_numbers_length: usize,
-        pool_words: *mut u64, pool_words_length: usize,
-        pool_owners: *mut u8, pool_owners_length: usize,
-        caller: u8, number: u32, ra: u32, dec: i32, stores: u32,
-    ) -> Reply;
-    fn sft_change_stopped(
-        parameters: Parameters, record: Record,
-        separators: *const u8, separators_length: usize,
-        numbers: *const u32, numbers_length: usize,
-        words: *mut u64, words_length: usize,
-        owners: *const u8, owners_length: usize,
-        caller: u8, number: u32, ra: u32, dec: i32, stores: u32,
-    ) -> Reply;
-    fn sft_remove_stopped(
-        parameters: Parameters, record: Record,
-        separators: *mut u8, separators_length: usize,
-        numbers: *mut u32, numbers_length: usize,
-        words: *mut u64, words_length: usize,
-        owners: *mut u8, owners_length: usize,
-        pool_numbers: *mut u32, pool_numbers_length: usize,
-        pool_words: *mut u64, pool_words_length: usize,
-        pool_owners: *mut u8, pool_owners_length: usize,
-        caller: u8, number: u32, stores: u32,
-    ) -> Reply;
-    fn sft_mend(
-        parameters: Parameters, record: Record,
-        separators: *mut u8, separators_length: usize,
-        numbers: *mut u32, numbers_length: usize,
-        words: *mut u64, words_length: usize,
-        owners: *mut u8, owners_length: usize,
-        pool_numbers: *mut u32, pool_numbers_length: usize,
-        pool_words: *mut u64, pool_words_length: usize,
-        pool_owners: *mut u8, pool_owners_length: usize,
-    ) -> Reply;
-    // The length of the table comes as `stars`.
-    fn sft_write(
-        parameters: Parameters, record: Record,
-        separators: *const u8, separators_length: usize,
-        numbers: *const u32, numbers_length: usize,
-        words: *const u64, words_length: usize,
-        owners: *const u8, owners_length: usize,
-        out: *mut u8, out_length: usize,
-    ) -> Reply;
-    fn sft_read(
-        parameters: Parameters, record: Record,
-        separators: *mut u8, separators_length: usize,
-        numbers: *mut u32, numbers_length: usize,
-        words: *mut u64, words_length: usize,
-        owners: *mut u8, owners_length: usize,
-        pool_numbers: *mut u32, pool_numbers_length: usize,
-        pool_words: *mut u64, pool_words_length: usize,
-        pool_owners: *mut u8, pool_owners_length: usize,
-        given: *const u8, given_length: usize,
-    ) -> Reply;
-    fn sft_carry(
-        parameters: Parameters, record: Record,
-        separators: *const u8, separators_length: usize,
-        numbers: *const u32, numbers_length: usize,
-        words: *const u64, words_length: usize,
-        owners: *const u8, owners_length: usize,
-        new_parameters: Parameters, new_record: Record,
-        second_separators: *mut u8, second_separators_length: usize,
-        second_numbers: *mut u32, second_numbers_length: usize,
-        second_words: *mut u64, second_words_length: usize,
-        second_owners: *mut u8, second_owners_length: usize,
-        pool_numbers: *mut u32, pool_numbers_length: usize,
-        pool_words: *mut u64, pool_words_length: usize,
-        pool_owners: *mut u8, pool_owners_length: usize,
-    ) -> Reply;
-    fn sft_mark_changed(
-        parameters: Parameters, growth: Growth,
+    fn heatherplane_mark_changed(
+        places: u32, groups: u32, width: u32, step: u32, bits: u32, load: u32, pages: u32, multiplier: u32,
+        expansions: u32, expanded: u32,
         old: *const u8, old_length: usize,
         new: *const u8, new_length: usize,
         marks: *mut u8, marks_length: usize,
@@ -240,9 +152,31 @@ extern "C" {
 
 /// Marks the pages that a growth may have altered; the refusal, if any.
 pub fn mark_changed(p: &Parameters, growth: &Growth, old: &[u8], new: &[u8], marks: &mut [u8]) -> u32 {
+    let Parameters { places, groups, width, step, bits, load, pages, multiplier } = *p;
+    let Growth { expansions, expanded } = *growth;
     let (old, old_length, new, new_length) = (old.as_ptr(), old.len(), new.as_ptr(), new.len());
+    let (marks, marks_length) = (marks.as_mut_ptr(), marks.len());
     // SAFETY: each pointer and length is that of a slice which lives through the call.
-    unsafe { sft_mark_changed(*p, *growth, old, old_length, new, new_length, marks.as_mut_ptr(), marks.len()) }
+    unsafe {
+        heatherplane_mark_changed(
+            places,
+            groups,
+            width,
+            step,
+            bits,
+            load,
+            pages,
+            multiplier,
+            expansions,
+            expanded,
+            old,
+            old_length,
+            new,
+            new_length,
+            marks,
+            marks_length,
+        )
+    }
 }
 
 /// Xj(K) under a multiplier, 0 unless it is one of the two and j is from 1 to 2,049.
@@ -257,93 +191,185 @@ pub fn rank(step: u64, groups: u64, group: u64) -> u64 {
     unsafe { sft_rank(step as u32, groups as u32, group as u32) }.into()
 }
 
-/// Runs one call of the library.
-pub fn run(call: &Call, lent: &mut Buffers) -> Outcome {
-    let Call { kind, parameters: p, record: g, caller: c, number, ra, dec, stores, new_parameters, new_record, .. } =
-        *call;
-    let Buffers { file, second, .. } = lent;
-    let (s, sl) = (file.separators.as_mut_ptr(), file.separators.len());
-    let (n, nl) = (file.numbers.as_mut_ptr(), file.numbers.len());
-    let (w, wl) = (file.words.as_mut_ptr(), file.words.len());
-    let (o, ol) = (file.owners.as_mut_ptr(), file.owners.len());
-    let (pn, pnl) = (lent.pool_numbers.as_mut_ptr(), lent.pool_numbers.len());
-    let (pw, pwl) = (lent.pool_words.as_mut_ptr(), lent.pool_words.len());
-    let (po, pol) = (lent.pool_owners.as_mut_ptr(), lent.pool_owners.len());
-    let (t, tl) = (lent.table.as_mut_ptr(), lent.table.len());
-    let (ss, ssl) = (second.separators.as_mut_ptr(), second.separators.len());
-    let (sn, snl) = (second.numbers.as_mut_ptr(), second.numbers.len());
-    let (sw, swl) = (second.words.as_mut_ptr(), second.words.len());
-    let (so, sol) = (second.owners.as_mut_ptr(), second.owners.len());
-    // SAFETY: each pointer and length is that of a vector of its own, which lives through the call.
-    let reply = unsafe {
-        match kind {
-            Kind::Make => sft_make(p, s, sl, n, nl, w, wl, o, ol),
-            Kind::LookUp => sft_look_up(p, g, s, sl, n, nl, w, wl, o, ol, number),
-            Kind::Enter => sft_enter(p, g, s, sl, n, nl, w, wl, o, ol, pn, pnl, pw, pwl, po, pol, c, number, ra, dec),
-            Kind::Change => sft_change(p, g, s, sl, n, nl, w, wl, o, ol, c, number, ra, dec),
-            Kind::Remove => sft_remove(p, g, s, sl, n, nl, w, wl, o, ol, pn, pnl, pw, pwl, po, pol, c, number),
-            Kind::Grow => sft_grow(p, g, s, sl, n, nl, w, wl, o, ol, pn, pnl, pw, pwl, po, pol),
-            Kind::Shrink => sft_shrink(p, g, s, sl, n, nl, w, wl, o, ol, pn, pnl, pw, pwl, po, pol),
-            Kind::Due => sft_due(p, g, s, sl, n, nl, w, wl, o, ol),
-            Kind::Check => sft_check(p, g, s, sl, n, nl, w, wl, o, ol, pn, pnl, pw, pwl, po, pol),
-            Kind::Cascade => {
-                sft_cascade(p, g, s, sl, n, nl, w, wl, o, ol, pn, pnl, pw, pwl, po, pol, c, number, ra, dec)
+type Address = unsafe extern "C" fn();
+
+/// How a library takes parameters and record, and answers.
+#[derive(Clone, Copy, PartialEq, Eq)]
+enum Form {
+    /// As include/heatherplane.h declares it.
+    Numbers,
+    /// As crate starfile_tests exported all calls before.
+    Structs,
+}
+
+/// The functions of a library.
+pub struct Exports {
+    form: Form,
+    addresses: [Option<Address>; Kind::ALL.len()],
+}
+
+/// What follows `heatherplane_` and, in older libraries, `sft_`.
+const NAMES: [(Kind, &str, &str); 19] = [
+    (Kind::Make, "make", "make"),
+    (Kind::LookUp, "look_up", "look_up"),
+    (Kind::Enter, "enter", "enter"),
+    (Kind::Cascade, "cascade", "cascade"),
+    (Kind::Change, "change", "change"),
+    (Kind::Remove, "remove", "remove"),
+    (Kind::Grow, "grow", "grow"),
+    (Kind::Shrink, "shrink", "shrink"),
+    (Kind::Due, "due", "due"),
+    (Kind::Check, "check", "check"),
+    (Kind::Open, "open_growth", "open"),
+    (Kind::Step, "step_growth", "step"),
+    (Kind::EnterStopped, "enter_stopped", "enter_stopped"),
+    (Kind::ChangeStopped, "change_stopped", "change_stopped"),
+    (Kind::RemoveStopped, "remove_stopped", "remove_stopped"),
+    (Kind::Mend, "mend", "mend"),
+    (Kind::Write, "write_table", "write"),
+    (Kind::Read, "read_table", "read"),
+    (Kind::Carry, "carry", "carry"),
+];
+
+impl Exports {
+    /// Those of a library that tells its functions' addresses by name; none if it has no look-up.
+    ///
+    /// # Safety
+    /// A name of the header, or of crate starfile_tests before version 0.9, has that function's address.
+    pub unsafe fn find(address: impl Fn(&str) -> Option<Address>) -> Option<Exports> {
+        let form = match (address("heatherplane_look_up"), address("sft_look_up")) {
+            (Some(_), _) => Form::Numbers,
+            (None, Some(_)) => Form::Structs,
+            (None, None) => return None,
+        };
+        let mut addresses = [None; Kind::ALL.len()];
+        for (kind, name, older) in NAMES {
+            addresses[kind as usize] = match form {
+                Form::Numbers => address(&format!("heatherplane_{name}")),
+                Form::Structs => address(&format!("sft_{older}")),
+            };
+        }
+        Some(Exports { form, addresses })
+    }
+
+    pub fn has(&self, kind: Kind) -> bool {
+        self.addresses[kind as usize].is_some()
+    }
+
+    /// Runs one call.
+    pub fn run(&self, call: &Call, lent: &mut Buffers) -> Outcome {
+        let outcome = match self.form {
+            Form::Numbers => numbers(self, call, lent).outcome(),
+            Form::Structs => structs(self, call, lent).outcome(),
+        };
+        match call.kind {
+            Kind::Write => Outcome { length: outcome.stars, stars: 0, ..outcome },
+            // A carrying answers the new file's record, which it leaves as lent; the old file's is only read.
+            Kind::Carry => {
+                assert_eq!(outcome.record, call.new_record, "a carrying changed the new file's record");
+                Outcome { record: call.record, ..outcome }
             }
-            Kind::Open => sft_open(
-                p, g, s, sl, n, nl, w, wl, o, ol, ss, ssl, sn, snl, sw, swl, so, sol, pn, pnl, pw, pwl, po, pol,
-            ),
-            Kind::Step => sft_step(
-                p, g, s, sl, n, nl, w, wl, o, ol, ss, ssl, sn, snl, sw, swl, so, sol, pn, pnl, pw, pwl, po, pol,
-            ),
-            Kind::EnterStopped => sft_enter_stopped(
-                p, g, s, sl, n, nl, w, wl, o, ol, pn, pnl, pw, pwl, po, pol, c, number, ra, dec, stores,
-            ),
-            Kind::ChangeStopped => sft_change_stopped(p, g, s, sl, n, nl, w, wl, o, ol, c, number, ra, dec, stores),
-            Kind::RemoveStopped => {
-                sft_remove_stopped(p, g, s, sl, n, nl, w, wl, o, ol, pn, pnl, pw, pwl, po, pol, c, number, stores)
-            }
-            Kind::Mend => sft_mend(p, g, s, sl, n, nl, w, wl, o, ol, pn, pnl, pw, pwl, po, pol),
-            Kind::Write => sft_write(p, g, s, sl, n, nl, w, wl, o, ol, t, tl),
-            Kind::Read => sft_read(p, g, s, sl, n, nl, w, wl, o, ol, pn, pnl, pw, pwl, po, pol, t, tl),
-            Kind::Carry => sft_carry(
-                p,
-                g,
-                s,
-                sl,
-                n,
-                nl,
-                w,
-                wl,
-                o,
-                ol,
-                new_parameters,
-                new_record,
-                ss,
-                ssl,
-                sn,
-                snl,
-                sw,
-                swl,
-                so,
-                sol,
-                pn,
-                pnl,
-                pw,
-                pwl,
-                po,
-                pol,
-            ),
-            _ => panic!("the library has no {}", kind.name()),
+            _ => outcome,
+        }
+    }
+}
+
+fn numbers(e: &Exports, call: &Call, lent: &mut Buffers) -> Reply {
+    match call.kind {
+        Kind::Make => c!(e, call, lent -> Reply: parameters written),
+        Kind::LookUp => c!(e, call, lent -> Reply: parameters record read number),
+        Kind::Enter | Kind::Cascade => {
+            c!(e, call, lent -> Reply: parameters record written pool caller number position)
+        }
+        Kind::Change => c!(e, call, lent -> Reply: parameters record changed caller number position),
+        Kind::Remove => c!(e, call, lent -> Reply: parameters record written pool caller number),
+        Kind::Grow | Kind::Shrink | Kind::Mend => c!(e, call, lent -> Reply: parameters record written pool),
+        Kind::Due => c!(e, call, lent -> Reply: parameters record read),
+        Kind::Check => c!(e, call, lent -> Reply: parameters record read pool),
+        Kind::Open | Kind::Step => c!(e, call, lent -> Reply: parameters record read second pool),
+        Kind::EnterStopped => c!(e, call, lent -> Reply: parameters record written pool caller number position stores),
+        Kind::ChangeStopped => c!(e, call, lent -> Reply: parameters record changed caller number position stores),
+        Kind::RemoveStopped => c!(e, call, lent -> Reply: parameters record written pool caller number stores),
+        Kind::Write => c!(e, call, lent -> Reply: parameters record read out),
+        Kind::Read => c!(e, call, lent -> Reply: parameters record written pool given),
+        Kind::Carry => c!(e, call, lent -> Reply: parameters record read new second pool),
+        kind => panic!("the library has no {}", kind.name()),
+    }
+}
+
+/// What an older library answers.
+#[repr(C)]
+struct OlderReply {
+    refusal: u32,
+    page: u32,
+    place: u32,
+    found: u32,
+    ra: u32,
+    dec: i32,
+    due: u32,
+    stars: u32,
+    record: Record,
+}
+
+impl OlderReply {
+    fn outcome(self) -> Outcome {
+        let OlderReply { refusal, page, place, found, ra, dec, due, stars, record } = self;
+        Outcome { refusal, page, place, found, ra, dec, due, stars, record, ..Outcome::default() }
+    }
+}
+
+fn structs(e: &Exports, call: &Call, lent: &mut Buffers) -> OlderReply {
+    match call.kind {
+        Kind::Make => c!(e, call, lent -> OlderReply: parameters_struct written),
+        Kind::LookUp => c!(e, call, lent -> OlderReply: parameters_struct record_struct read number),
+        Kind::Enter | Kind::Cascade => {
+            c!(e, call, lent -> OlderReply: parameters_struct record_struct written pool caller number position)
+        }
+        Kind::Change => c!(e, call, lent -> OlderReply: parameters_struct record_struct changed caller number position),
+        Kind::Remove => c!(e, call, lent -> OlderReply: parameters_struct record_struct written pool caller number),
+        Kind::Grow | Kind::Shrink | Kind::Mend => {
+            c!(e, call, lent -> OlderReply: parameters_struct record_struct written pool)
+        }
+        Kind::Due => c!(e, call, lent -> OlderReply: parameters_struct record_struct read),
+        Kind::Check => c!(e, call, lent -> OlderReply: parameters_struct record_struct read pool),
+        Kind::Open | Kind::Step => c!(e, call, lent -> OlderReply: parameters_struct record_struct read second pool),
+        Kind::Write => c!(e, call, lent -> OlderReply: parameters_struct record_struct read out),
+        Kind::Read => c!(e, call, lent -> OlderReply: parameters_struct record_struct written pool given),
+        Kind::Carry => c!(e, call, lent -> OlderReply: parameters_struct record_struct read new_structs second pool),
+        kind => panic!("an older library is not asked for {}", kind.name()),
+    }
+}
+
+/// Declares functions of the linked library, and finds their addresses.
+macro_rules! linked_functions {
+    ($($name:ident)*) => {
+        extern "C" {
+            $(fn $name();)*
+        }
+        fn linked_address(name: &str) -> Option<Address> {
+            $(if name == stringify!($name) {
+                return Some($name);
+            })*
+            None
         }
     };
-    let outcome = reply.outcome();
-    match kind {
-        Kind::Write => Outcome { length: outcome.stars, stars: 0, ..outcome },
-        // A carrying answers the new file's record, which it leaves as lent; the old file's is only read.
-        Kind::Carry => {
-            assert_eq!(outcome.record, new_record, "a carrying changed the new file's record");
-            Outcome { record: g, ..outcome }
-        }
-        _ => outcome,
-    }
+}
+
+linked_functions! {
+    heatherplane_make heatherplane_look_up heatherplane_enter heatherplane_cascade heatherplane_change heatherplane_remove
+    heatherplane_grow heatherplane_shrink heatherplane_due heatherplane_check heatherplane_open_growth heatherplane_step_growth
+    heatherplane_enter_stopped heatherplane_change_stopped heatherplane_remove_stopped heatherplane_mend
+    heatherplane_write_table heatherplane_read_table heatherplane_carry
+}
+
+/// The library that is linked.
+pub fn linked() -> &'static Exports {
+    static LINKED: OnceLock<Exports> = OnceLock::new();
+    // SAFETY: the names are those of the functions themselves.
+    LINKED.get_or_init(|| unsafe { Exports::find(linked_address) }.expect("the library is linked"))
+}
+
+/// Runs one call of the linked library.
+pub fn run(call: &Call, lent: &mut Buffers) -> Outcome {
+    linked().run(call, lent)
 }

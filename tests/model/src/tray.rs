@@ -47,10 +47,15 @@ impl Tray {
         mark(&mut self.filter, multiplier, report.number);
     }
 
+    /// Whether the filter does not say "no" of a star.
+    pub fn passes(&self, multiplier: u32, number: u32) -> bool {
+        let set = |bit: usize| self.filter[bit / 64] >> (bit % 64) & 1 == 1;
+        hash_bits(multiplier, number).into_iter().all(set)
+    }
+
     /// The latest report on a star, if the filter does not say "no".
     pub fn latest(&self, multiplier: u32, number: u32) -> Option<Report> {
-        let set = |bit: usize| self.filter[bit / 64] >> (bit % 64) & 1 == 1;
-        let says_no = !hash_bits(multiplier, number).into_iter().all(set);
+        let says_no = !self.passes(multiplier, number);
         self.waiting().iter().rev().copied().find(|report| !says_no && report.number == number)
     }
 

@@ -36,7 +36,7 @@ same-length-7 c = search needs
 
 returns : tie.Need-returns
 returns c =
-    let called = c .before .before .before .before .before .before .before .before .before .before .before .before .before .before .before .before in
+    let called = c .before .before .before .before .before .before .before .before .before .before .before .before .before .before .before .before .before in
     rw (c .unmoved .ensures)
     (grow-steps _ _ _ _ _ _ _ (c .before .placed-answer .ensures) _ _ (called .before .before .before .before .before .before .before .before .if1 .taken) _
     (called .grow .ensures .1)
@@ -74,7 +74,7 @@ same-length-14 c = search needs
 
 returns-2 : tie.Need-returns-2
 returns-2 c =
-    let called = c .before .before .before .before .before .before .before .before .before .before .before .before .before .before .before .before in
+    let called = c .before .before .before .before .before .before .before .before .before .before .before .before .before .before .before .before .before in
     rw (c .unmoved2 .ensures)
     (shrink-steps _ _ _ _ _ _ _ (c .before .placed-answer2 .ensures) _ _ (called .before .before .before .before .before .before .before .before .if2 .taken) _
     (called .shrink .ensures .1)

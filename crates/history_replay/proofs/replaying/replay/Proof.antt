@@ -1,7 +1,9 @@
 -- `history_replay::replaying::replay` meets its contract. Each refusal is that of the definition, and a run starts from what make left.
 use denote.Ref.{now}
+use mathlib.Core.Path.{ap}
 use Rattle.hashing.proofs.Bounds.{passed, failed}
 use Rattle.placement.specs.File.{File}
+use Rattle.calls.specs.declared.records.GrowthRecord.{GrowthRecord}
 use Rattle.calls.specs.Answers.{Pool, lent, pooled}
 use Rattle.history_replay.specs.Replay.{LentHistory, lentHistory}
 use Rattle.history_replay.proofs.Known.{even}
@@ -100,7 +102,7 @@ returns-4 c =
     (passed _ _ (one .before .lengths-agree .ensures) (one .if1 .left))
     (passed _ _ (three .before .before .before .pool-agrees .ensures) (three .before .before .if2 .left))
     (passed _ _ (three .before .kinds-known .ensures) (three .if3 .left))
-    _ _ (made .make .ensures .0) _ _ (told .enum-told .given .1) _ (made .make .ensures .1) _ _ _ _
+    _ _ (made .make .ensures .0) _ _ (told .enum-told .given .1) _ (ap (λ (r : GrowthRecord). r .state) (made .make .ensures .1)) _ _ _ _
     (c .before .before .before .before .before .before .before .before .before .before .before .before .before .before .before .before .run .ensures)
 
 same-length-9 : tie.Need-same-length-9

@@ -30,58 +30,58 @@ loop-holds c = (ongoing-none _ _ _ _ _ _, same-lengths _ _ _)
 
 mul-replay-step : tie.Need-mul-replay-step Inv-loop μ-loop
 mul-replay-step c =
-    let s = c .before .before .before .before .before .before .before .before .before .before .before .before .before .before in
+    let s = c .before .before .before .before .before .before .before .before .before .before .before .before .before .before .before in
     omega (arith, s .pre, s .good)
 
 shared-slice-read-replay-step : tie.Need-shared-slice-read-replay-step Inv-loop μ-loop
 shared-slice-read-replay-step c =
-    let s = c .before .before .before .before .before .before .before .before .before .before .before .before .before .before .before in
+    let s = c .before .before .before .before .before .before .before .before .before .before .before .before .before .before .before .before in
     omega (arith, s .pre)
 
 mul-t23 : tie.Need-mul-t23 Inv-loop μ-loop
 mul-t23 c =
-    let s = c .before .before .before .before .before .before .before .before .before .before .before .before .before .before .before in
+    let s = c .before .before .before .before .before .before .before .before .before .before .before .before .before .before .before .before in
     omega (arith, s .pre, s .good)
 
 shared-slice-copy-out-t25 : tie.Need-shared-slice-copy-out-t25 Inv-loop μ-loop
 shared-slice-copy-out-t25 c =
-    let s = c .before .before .before .before .before .before .before .before .before .before .before .before .before .before .before in
+    let s = c .before .before .before .before .before .before .before .before .before .before .before .before .before .before .before .before in
     omega (arith, s .pre)
 
 shared-slice-read-replay-step-2 : tie.Need-shared-slice-read-replay-step-2 Inv-loop μ-loop
 shared-slice-read-replay-step-2 c =
-    let s = c .before .before .before .before .before .before .before .before .before .before .before .before .before .before .before .before .before .before .before .before .before .before .before .before in
+    let s = c .before .before .before .before .before .before .before .before .before .before .before .before .before .before .before .before .before .before .before .before .before .before .before .before .before in
     omega (arith, s .pre)
 
 shared-slice-read-replay-step-3 : tie.Need-shared-slice-read-replay-step-3 Inv-loop μ-loop
 shared-slice-read-replay-step-3 c =
-    let s = c .before .before .before .before .before .before .before .before .before .before .before .before .before .before .before .before .before .before .before .before .before .before .before .before .before in
-    omega (arith, s .pre)
+    let s = c .before .before .before .before .before .before .before .before .before .before .before .before .before .before .before .before .before .before .before .before .before .before .before .before .before .before in
+    omega (arith, c .before .before .before .before .before .before .before .before .before .before .before .loop-test .taken, s .pre)
 
 mul-replay-step-2 : tie.Need-mul-replay-step-2 Inv-loop μ-loop
 mul-replay-step-2 c =
-    let s = c .before .before .before .before .before .before .before .before .before .before .before .before .before .before .before .before .before .before .before .before .before .before .before .before .before in
-    omega (arith, s .pre, s .good)
+    let s = c .before .before .before .before .before .before .before .before .before .before .before .before .before .before .before .before .before .before .before .before .before .before .before .before .before .before in
+    omega (arith, c .before .before .before .before .before .before .before .before .before .before .before .loop-test .taken, s .pre, s .good)
 
 shared-slice-read-replay-step-4 : tie.Need-shared-slice-read-replay-step-4 Inv-loop μ-loop
 shared-slice-read-replay-step-4 c =
-    let s = c .before .before .before .before .before .before .before .before .before .before .before .before .before .before .before .before .before .before .before .before .before .before .before .before .before .before in
-    omega (arith, s .pre)
+    let s = c .before .before .before .before .before .before .before .before .before .before .before .before .before .before .before .before .before .before .before .before .before .before .before .before .before .before .before in
+    omega (arith, c .before .before .before .before .before .before .before .before .before .before .before .before .loop-test .taken, s .pre)
 
 mul-replay-step-3 : tie.Need-mul-replay-step-3 Inv-loop μ-loop
 mul-replay-step-3 c =
-    let s = c .before .before .before .before .before .before .before .before .before .before .before .before .before .before .before .before .before .before .before .before .before .before .before .before .before .before .before in
+    let s = c .before .before .before .before .before .before .before .before .before .before .before .before .before .before .before .before .before .before .before .before .before .before .before .before .before .before .before .before in
     omega (arith, c .before .before .before .before .before .before .before .before .before .before .before .before .before .loop-test .taken, s .pre, s .good)
 
 replay-step-requires : tie.Need-replay-step-requires Inv-loop μ-loop
 replay-step-requires c κs =
     let turn = c .before .before .before .before .before .before .before .before .before .before .before .before .before .before in
-    omega (arith, turn .before .before .before .before .before .before .before .before .before .before .before .before .before .pre, turn .loop .inv)
+    omega (arith, turn .before .before .before .before .before .before .before .before .before .before .before .before .before .before .pre, turn .loop .inv)
 
 add-i : tie.Need-add-i Inv-loop μ-loop
 add-i c =
     let turn = c .before .before .before .before .before .before .before .before .before .before .before .before .before .before .before .before .before .before .before .before .before .before .before .before .before .before .before .before .before .before in
-    omega (arith, turn .loop-test .taken, turn .before .before .before .before .before .before .before .before .before .before .before .before .before .before .good)
+    omega (arith, turn .loop-test .taken, turn .before .before .before .before .before .before .before .before .before .before .before .before .before .before .before .good)
 
 loop-less : tie.Need-loop-less Inv-loop μ-loop
 loop-less c = omega (arith, c .before .before .before .before .before .before .before .before .before .before .before .before .before .before .before .before .before .before .before .before .before .before .before .before .before .before .before .before .before .before .loop-test .taken)
@@ -91,7 +91,7 @@ loop-again c =
     let called = c .before .before .before .before .before .before .before .before .before .before .before .before .before .before .before .before in
     let copied = called .before .before .before .before .before .before .before .before .before .before .before .before in
     let turn = copied .before .before .before in
-    let decs = now (turn .before .before .before .before .before .before .before .before .before .before .before .before .before .args .decs) in
+    let decs = now (turn .before .before .before .before .before .before .before .before .before .before .before .before .before .before .args .decs) in
     let i = turn .loop .i in
     let t = turn .loop .inv in
     let k = called .replay-step .kept .1 .1 in
@@ -134,7 +134,7 @@ same-length-8 : tie.Need-same-length-8 Inv-loop μ-loop
 same-length-8 c = c .before .loop .inv .1 .ofAnswers
 
 returns : tie.Need-returns Inv-loop μ-loop
-returns c = ongoing-all _ _ _ _ _ _ _ _ _ _ _ (c .before .loop .inv .0) (c .loop-test .left) (c .before .before .before .before .before .before .before .before .before .before .before .before .before .before .pre)
+returns c = ongoing-all _ _ _ _ _ _ _ _ _ _ _ (c .before .loop .inv .0) (c .loop-test .left) (c .before .before .before .before .before .before .before .before .before .before .before .before .before .before .before .pre)
 
 pub run-spec : {M : Type 1} → statement M
 run-spec =

@@ -27,8 +27,8 @@ make-requires c κs = search needs
 returns : tie.Need-returns
 unfolding stateOf newFile makeOf fileFits starline validParameters validMultiplier within
 returns c =
-    let made = rw (c .before .before .before .before .before .before .before .before .before .before .parameters .ensures) at (c .before .before .before .before .before .make .ensures) in
-    λ i. record { growth = made .1 i; file = made .0 .files i }
+    let made = rw (c .before .before .before .before .before .before .before .before .before .before .before .parameters .ensures) at (c .before .before .before .before .before .before .make .ensures) in
+    λ i. record { growth = made .1 i .state; file = made .0 .files i }
 
 pub empty-file-spec : {M : Type 1} → statement M
 empty-file-spec =

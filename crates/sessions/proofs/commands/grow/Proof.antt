@@ -1,5 +1,7 @@
 use mathlib.Core.Path.{ap, _∙_}
+use Rattle.calls.specs.declared.records.GrowthRecord.{GrowthRecord}
 use Rattle.calls.specs.Answers.{placed}
+use Rattle.calls.specs.Records.{validSteps, growUnder}
 use Rattle.sessions.specs.Commands.{stateOf, pool, called, placedReply, replyWith}
 use Rattle.sessions.proofs.Replying.{follows}
 use borrow.Author.Needs.{needs}
@@ -40,12 +42,12 @@ placed-reply-requires : tie.Need-placed-reply-requires
 placed-reply-requires c κs = search needs
 
 returns : tie.Need-returns
-unfolding stateOf pool called replyWith
+unfolding stateOf pool called replyWith growUnder validSteps
 returns c =
-    let called = c .before .before .before .before .before .before .before .before .before .before in
+    let called = c .before .before .before .before .before .before .before .before .before .before .before in
     let made = called .before .before .before .before .before .before .before .before in
     let grown = rw (made .parameters .ensures) at (called .grow .ensures) in
-    follows _ _ _ (placed (called .grow .result .answer)) _ (grown .0) (grown .1)
+    follows _ _ _ (placed (called .grow .result .answer)) _ (grown .0) (ap (λ (r : GrowthRecord). r .state) (grown .1))
     (c .placed-reply .ensures ∙ ap placedReply (c .before .placed-answer .ensures))
 
 pub grow-spec : {M : Type 1} → statement M

@@ -1,5 +1,6 @@
 use mathlib.Core.Path.{sym, ap, _∙_}
 use Rattle.calls.specs.Answers.{placed}
+use Rattle.calls.specs.Records.{validSteps, removeUnder}
 use Rattle.sessions.specs.Commands.{stateOf, pool, called, placedReply, replyWith}
 use Rattle.sessions.proofs.Replying.{remove-keeps, follows}
 use borrow.Author.Needs.{needs}
@@ -40,7 +41,7 @@ placed-reply-requires : tie.Need-placed-reply-requires
 placed-reply-requires c κs = search needs
 
 returns : tie.Need-returns
-unfolding stateOf pool called replyWith
+unfolding stateOf pool called replyWith removeUnder validSteps
 returns c =
     let called = c .before .before .before .before .before .before .before .before .before in
     let made = called .before .before .before .before .before .before .before .before in
