@@ -5,6 +5,7 @@ use mathlib.Core.List.{List, [], _∷_, map, map-append}
 use Prim.Native.Nat.{ℕ, zero, suc, _+_, _-_, _*_, _≤_, _<_}
 use native.Mathlib.Nat.{le-refl}
 use native.Mathlib.Numerals.{add-one}
+use native.Mathlib.Decide.{decLt}
 use native.Mathlib.Omega.{arith}
 use lib.Dec.{leb, ltb, eqb}
 use lib.ListN.{length, getD, take, drop, set, length-map, length-set, length-take, drop-of-length-le}
@@ -36,6 +37,15 @@ pub item-at : (f : ℕ → ℕ) (ns hs : List ℕ) (n i : ℕ) → n ≤ length 
 item-at f ns hs n i h b e =
     sym (getD-take n hs i 0 b)
     ∙ rw e (map-at f (take n ns) i (omega (arith, length-take-le n ns h)) ∙ rw (getD-take n ns i 0 b))
+
+-- the stars of one item more are homed at `low` or above, if none is counted
+pub far-next : (number home : ℕ → ℕ) (low i far r : ℕ) → (far ≡ 0 → (j : ℕ) → j < i → (number j ≡ 0 → ⊥) → low ≤ home j)
+    → (r ≡ 0 → (number i ≡ 0 → ⊥) → low ≤ home i) → far + r ≡ 0 → (j : ℕ) → j < i + 1 → (number j ≡ 0 → ⊥) → low ≤ home j
+far-next number home low i far r done here e j h star = go (decLt j i)
+  where
+    go : Dec (j < i) → low ≤ home j
+    go (yes d) = done (omega arith) j d star
+    go (no d) = let same : j ≡ i = omega arith in rw same (here (omega arith) (λ z. star (rw same z)))
 
 module _ (p : Parameters) (g : Growth) (seps : List ℕ) (page : ℕ) where
   -- one item, then the others

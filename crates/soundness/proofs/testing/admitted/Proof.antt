@@ -33,14 +33,16 @@ returns-2 c =
     }
 
 stands-on-requires : tie.Need-stands-on-requires
-stands-on-requires c κs = search needs
+stands-on-requires c κs =
+    let p = c .before .before .before .before .before .pre in
+    (p .0, (p .1 .0, ((p .1 .1 .0, p .1 .1 .1 .1 (c .before .before .if1 .left)), p .1 .1 .1 .0)))
 
 returns-3 : tie.Need-returns-3
 returns-3 c =
     let star = c .before .before .before .if1 .left in
     record {
       sound = c .stands-on .ensures ∙ sym (passed-item _ _ _ _ _ _ _ _ star (passed _ _ (c .before .before .ordered .ensures) (c .before .if2 .left)));
-      home = λ e. rw (ne-eqb _ _ star) (c .before .before .before .before .before .pre .1 .1 .1);
+      home = λ e. rw (ne-eqb _ _ star) (c .before .before .before .before .before .before .pre .1 .1 .1 .0);
       last = λ e. rw (ne-eqb _ _ star);
     }
 
