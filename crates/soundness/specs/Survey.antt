@@ -1,8 +1,8 @@
 -- The soundness of a page by its items, as it is tested: each item after the one before.
 use mathlib.Core.Path.{_≡_}
 use mathlib.Core.Bool.{Bool, true, cond, _&&_}
-use mathlib.Core.List.{List, map}
-use Prim.Native.Nat.{ℕ, _+_, _-_, _*_, _<_}
+use mathlib.Core.List.{List}
+use Prim.Native.Nat.{ℕ, _+_, _-_, _*_, _≤_, _<_}
 use lib.Dec.{leb, ltb, eqb}
 use lib.ListN.{length, getD, take}
 use lib.Seq.{paste}
@@ -45,9 +45,11 @@ pub record TestedItem (p : Parameters) (g : Growth) (seps : List ℕ) (page low 
   pub home : r .sound ≡ true → r .home ≡ homeIn p g n
   pub last : r .sound ≡ true → r .last ≡ lastAfter n
 
--- hs has the homes of a page's numbers ns
+-- hs has the homes of a page's numbers ns before the first empty place
 abbrev pub Found : Geometry → List ℕ → List ℕ → Type 0
-Found g ns hs = take (g .parameters .places) hs ≡ map (home (multiplierOf (g .parameters)) (g .parameters) (g .growth)) (take (g .parameters .places) ns)
+Found g ns hs =
+    (i : ℕ) → i < g .parameters .places → ((j : ℕ) → j ≤ i → getD ns j 0 ≡ 0 → ⊥)
+    → getD hs i 0 ≡ home (multiplierOf (g .parameters)) (g .parameters) (g .growth) (getD ns i 0)
 
 -- a table of n entries has what signs each star on the page, by its home
 abbrev pub Signable : ℕ → ℕ → List ℕ → List ℕ → Type 0

@@ -49,7 +49,8 @@ pub fn page_sound<'a>(
         return false;
     }
     let mut found = [0u16; 32];
-    homes::of_page(table, geometry, numbers, places, &mut found);
+    let stars = count_stars(numbers, places);
+    homes::of_page(table, geometry, numbers, stars, &mut found);
     if count_far(numbers, &found, page) == 0 {
         return items_sound(
             table,
@@ -75,6 +76,21 @@ pub fn page_sound<'a>(
         page,
         homes,
     )
+}
+
+// How many places stand before the first empty one: a sound page has no star behind it.
+fn count_stars(numbers: &[u32; 32], places: usize) -> usize
+    requires { ⌜ places ≤ 32 ⌝ }
+    ensures { λ r. ⌜ (r ≤ places) × (r < places → getD (now (numbers .entry)) r 0 ≡ 0) ⌝ }
+{
+    let mut i = 0;
+    while i < places {
+        if numbers[i] == 0 {
+            return i;
+        }
+        i += 1;
+    }
+    i
 }
 
 // How many stars of a page are 44 pages or more above their home, so that the first ninety multipliers do not sign them on it.
@@ -169,7 +185,7 @@ fn admitted(
     requires { ⌜ Signers (geometry .parameters) (now table) ⌝ }
     requires { ⌜ length (now separators) ≡ geometry .parameters .pages ⌝ }
     requires { ⌜ page < geometry .parameters .pages ⌝ }
-    requires { ⌜ home ≡ Home·home (multiplierOf (geometry .parameters)) (geometry .parameters) (geometry .growth) number ⌝ }
+    requires { ⌜ (last < number → number ≤ greatest → home ≡ Home·home (multiplierOf (geometry .parameters)) (geometry .parameters) (geometry .growth) number) ⌝ }
     requires { ⌜ ((number ≡ 0 → ⊥) → 2 * (page + 1 - home) < length (now table)) ⌝ }
     ensures { λ r. ⌜ TestedItem (geometry .parameters) (geometry .growth) (now (separators .entry)) page last number word owner r ⌝ }
 {

@@ -2,20 +2,25 @@
 -- Assumes nothing.
 use mathlib.Core.Path.{_≡_, refl, sym, _∙_}
 use mathlib.Core.Bool.{false≢true, and-false}
-use Prim.Native.Nat.{_-_, _≤_}
+use Prim.Native.Nat.{ℕ, _-_, _≤_, _<_}
+use lib.ListN.{getD}
+use Rattle.placement.specs.File.{greatest}
 use native.Mathlib.Omega.{arith}
 use borrow.Author.Needs.{needs}
 use borrow.Author.Tests.{not-false, le-leb}
 use denote.Ref.{now}
 use Rattle.hashing.proofs.Bounds.{limits, failed}
 use Rattle.soundness.specs.Survey.{soundIn}
-use Rattle.soundness.proofs.Items.{Surveyed, surveyed-none, surveyed-refused, surveyed-more, surveyed-all, item-at}
+use Rattle.soundness.proofs.Items.{Surveyed, surveyed-none, surveyed-refused, surveyed-more, surveyed-all, first-led, led-next}
 use Rattle.soundness.proofs.testing.items_sound.Statement.{statement}
 use Rattle.soundness.proofs.testing.items_sound.Tie as tie
 
 abbrev Inv-loop : tie.InvT-loop
 Inv-loop table geometry separators numbers words owners found page homes₀ places last₀ i₀ homes last i =
-    (i ≤ places) × (places ≤ 32) × Surveyed (geometry .parameters) (geometry .growth) separators page numbers words owners places i last homes
+    (i ≤ places)
+    × (places ≤ 32)
+    × Surveyed (geometry .parameters) (geometry .growth) separators page numbers words owners places i last homes
+    × ((j : ℕ) → j < i → getD numbers j 0 ≡ 0 → last ≡ greatest)
 
 abbrev μ-loop : tie.MeasureT-loop
 μ-loop table geometry separators numbers words owners found page homes₀ places last₀ i₀ homes last i = places - i
@@ -31,6 +36,7 @@ loop-holds c =
       search needs,
       l .places-most,
       surveyed-none _ _ _ _ _ _ _ _ _ (omega (arith, l .places-most, whole .0)) (omega (arith, l .places-most, whole .0)) (omega (arith, l .places-most, whole .0)) (whole .1 .0),
+      λ j h. omega arith,
     )
 
 mul-admitted : tie.Need-mul-admitted Inv-loop μ-loop
@@ -59,8 +65,9 @@ admitted-requires c κs =
     let s = c .before .before .before .before .before .before .before .before .before in
     let loop = c .before .before .before .before .before .loop in
     let p = s .pre .1 .1 .1 .1 .1 in
-    let home = item-at _ (now (s .args .numbers)) _ _ (loop .i) (loop .inv .2 .numbered) (c .before .before .before .before .loop-test .taken) (p .1 .0) in
-    (s .pre .0, (s .pre .1 .0, (s .pre .1 .1 .0, (home, p .1 .1 (loop .i) (omega arith)))))
+    let ns = now (s .args .numbers) in
+    let inside = c .before .before .before .before .loop-test .taken in
+    (s .pre .0, (s .pre .1 .0, (s .pre .1 .1 .0, (λ h m. p .1 .0 (loop .i) inside (first-led ns (loop .i) (loop .last) (loop .inv .3) h m), p .1 .1 (loop .i) (omega arith)))))
 
 returns : tie.Need-returns Inv-loop μ-loop
 unfolding soundIn
@@ -83,6 +90,9 @@ add-i c = search needs
 loop-less : tie.Need-loop-less Inv-loop μ-loop
 loop-less c = search needs
 
+abbrev start-of : tie.Else1 Inv-loop μ-loop → tie.Start Inv-loop μ-loop
+start-of c = c .before .before .before .before .before .before .before .before .before .before .before .before
+
 loop-again : tie.Need-loop-again Inv-loop μ-loop
 loop-again c =
     let item = c .before .before .admitted in
@@ -90,6 +100,7 @@ loop-again c =
       search needs,
       search needs,
       surveyed-more _ _ _ _ (c .before .before .before .before .before .before .before .before .loop .inv .2) (search needs) (search needs) (sym (item .ensures .sound) ∙ taken) (item .ensures .home taken) (item .ensures .last taken),
+      led-next _ _ _ _ (now (start-of c .args .numbers)) _ _ _ _ _ (c .before .before .before .before .before .before .before .before .loop .inv .3) (sym (item .ensures .sound) ∙ taken) (item .ensures .last taken),
     )
 
 returns-2 : tie.Need-returns-2 Inv-loop μ-loop

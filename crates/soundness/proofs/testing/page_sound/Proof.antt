@@ -9,7 +9,8 @@ use borrow.Author.Tests.{lt-leb}
 use Rattle.hashing.specs.Geometry.{multiplierOf}
 use Rattle.hashing.proofs.Bounds.{limits}
 use Rattle.placement.proofs.Prepared.{first-long, whole-long, first-signers, whole-signers}
-use Rattle.soundness.specs.Survey.{soundIn}
+use Rattle.soundness.specs.Survey.{soundIn, Found}
+use Rattle.soundness.proofs.Items.{found-led}
 use Rattle.soundness.proofs.testing.page_sound.Statement.{statement}
 use Rattle.soundness.proofs.testing.page_sound.Tie as tie
 
@@ -31,17 +32,28 @@ returns c =
       homed = λ e. absurd (false≢true e);
     }
 
+count-stars-requires : tie.Need-count-stars-requires
+count-stars-requires c κs = limits _ (c .before .before .before .before .before .pre .0 .valid) .places-most
+
 of-page-requires : tie.Need-of-page-requires
 of-page-requires c κs =
-    let s = c .before .before .before .before .before .before in
+    let s = c .before .before .before .before .before .before .before in
     let ready = s .pre .0 in
-    (ready .table, (ready .valid, (ready .growth, (limits (s .args .geometry .parameters) (ready .valid) .places-most, (s .pre .1 .1 .1 .0 .0, refl)))))
+    (ready .table, (ready .valid, (ready .growth, (omega (arith, c .before .count-stars .ensures .0, limits (s .args .geometry .parameters) (ready .valid) .places-most), (s .pre .1 .1 .1 .0 .0, refl)))))
 
 abbrev start : tie.After-of-page → tie.Start
-start c = c .before .before .before .before .before .before .before
+start c = c .before .before .before .before .before .before .before .before
 
 low-page : (c : tie.After-of-page) → start c .args .page < 1024
 low-page c = omega (arith, start c .pre .1 .1 .0, limits _ (start c .pre .0 .valid) .pages-most)
+
+-- the homes before the first empty place are found
+homed : (c : tie.After-of-page) → Found (start c .args .geometry) (start c .args .numbers .now) (c .of-page .last .1 .1 .1 .1 .0)
+homed c =
+    let s = start c in
+    let led = c .before .before .count-stars .ensures in
+    let most = limits (s .args .geometry .parameters) (s .pre .0 .valid) .places-most in
+    found-led _ _ _ _ _ (omega (arith, led .0, most, s .pre .1 .1 .1 .0 .0)) (led .1) (c .of-page .ensures)
 
 count-far-requires : tie.Need-count-far-requires
 count-far-requires c κs = low-page (c .before)
@@ -62,8 +74,8 @@ items-sound-requires c κs =
             (
               p .1 .1 .1 .1,
               (
-                rw (found .before .before .before .before .top-of .ensures) at (found .before .before .if1 .left),
-                (found .of-page .ensures, λ i h star. omega (arith, first-long (multiplierOf (start found .args .geometry .parameters)) table, near i h star)),
+                rw (found .before .before .before .before .before .top-of .ensures) at (found .before .before .before .if1 .left),
+                (homed found, λ i h star. omega (arith, first-long (multiplierOf (start found .args .geometry .parameters)) table, near i h star)),
               ),
             ),
           ),
@@ -95,8 +107,8 @@ items-sound-requires-2 c κs =
             (
               p .1 .1 .1 .1,
               (
-                rw (found .before .before .before .before .top-of .ensures) at (found .before .before .if1 .left),
-                (found .of-page .ensures, λ i h star. omega (arith, low-page found, whole-long (multiplierOf (start found .args .geometry .parameters)) table)),
+                rw (found .before .before .before .before .before .top-of .ensures) at (found .before .before .before .if1 .left),
+                (homed found, λ i h star. omega (arith, low-page found, whole-long (multiplierOf (start found .args .geometry .parameters)) table)),
               ),
             ),
           ),
@@ -115,6 +127,7 @@ page-sound-spec =
     top-of-requires
     shared-slice-read-if1
     returns
+    count-stars-requires
     of-page-requires
     count-far-requires
     items-sound-requires
