@@ -5,7 +5,7 @@ use mathlib.Core.List.{List, [], _∷_}
 use Prim.Native.Nat.{ℕ, zero, suc, _+_, _-_, _*_, _≤_, _<_}
 use native.Mathlib.Nat.{add-zero, suc-mul, mul-le-mul-right}
 use native.Mathlib.Numerals.{add-one}
-use native.Mathlib.Decide.{decLe}
+use native.Mathlib.Decide.{decLe, decLt}
 use native.Mathlib.Omega.{arith}
 use lib.Dec.{leb, ltb, eqb}
 use lib.ListN.{length, getD, set, take, drop, length-set, length-drop}
@@ -17,7 +17,7 @@ use Rattle.pages.specs.Page.{part}
 use Rattle.placement.specs.Rule.{Hash, keep, filter}
 use Rattle.placement.specs.Hash.{hashOf, homesOf, homeUnder}
 use Rattle.reach.specs.Reach.{firstSuch}
-use Rattle.clean_test.specs.Raising.{passed, passedFrom, countsOn, countedItem, countOn, countFrom, mayRise, raisableFrom, hashUnder, firstRaisable, firstRising, one, Counts, Added, Homed}
+use Rattle.clean_test.specs.Raising.{passed, countsOn, countedItem, countOn, countFrom, mayRise, raisableFrom, hashUnder, firstRaisable, firstRising, one, Counts, Added, Homed, HomedFrom, Signable}
 
 one-most : (t : Bool) → one t ≤ 1
 one-most true = omega arith
@@ -90,77 +90,6 @@ module _ (H : Hash) (vs : List ℕ) (k : ℕ) where
           rw (now, before, all-of t) (omega arith)
       go false r = rw (passed-other p q (eqb-false q p r), none t) (omega arith)
 
-  -- of the pages from `first` on, those below it are none
-  from-low : (first p q : ℕ) → p < first → passedFrom H vs first p q k ≡ false
-  unfolding passedFrom
-  from-low first p q h = rw (lt-leb first p h)
-
-  from-here : (first p q : ℕ) → first ≤ p → passedFrom H vs first p q k ≡ passed H vs p q k
-  unfolding passedFrom
-  from-here first p q h = rw (le-leb first p h)
-
-  from-next : (first q : ℕ) → first ≤ q → H .home k ≤ q → (t : Bool) → eqb (H .signature k q) (getD vs q 0) ≡ t
-      → (p : ℕ) → one (passedFrom H vs first p (q + 1) k) ≡ one (passedFrom H vs first p q k) + one (t && eqb q p)
-  from-next first q f h t e p = go (decLe first p)
-    where
-      go : Dec (first ≤ p) → one (passedFrom H vs first p (q + 1) k) ≡ one (passedFrom H vs first p q k) + one (t && eqb q p)
-      go (yes d) = rw (from-here first p (q + 1) d, from-here first p q d) (passed-next q h t e p)
-      go (no d) = rw (from-low first p (q + 1) (omega arith), from-low first p q (omega arith), ne-eqb q p (λ r. omega arith), none t) (omega arith)
-
-  -- up to `first`, then from there on
-  from-then : (first last p : ℕ) → first ≤ last → one (passed H vs p last k) ≡ one (passed H vs p first k) + one (passedFrom H vs first p last k)
-  from-then first last p h = go (decLe first p)
-    where
-      go : Dec (first ≤ p) → one (passed H vs p last k) ≡ one (passed H vs p first k) + one (passedFrom H vs first p last k)
-      go (yes d) = rw (passed-high p first d, from-here first p last d) (omega arith)
-      go (no d) = rw (passed-below p first last (omega arith) h, from-low first p last (omega arith)) (omega arith)
-
-  -- the pages from `first` up to the one before `next` are counted
-  pub record BlockCounted (first next : ℕ) (entry exit : List ℕ) : Type 0 where
-    pub low : H .home k ≤ next
-    pub begun : first ≤ next
-    pub added : Added 0 (λ p. one (passedFrom H vs first p next k)) entry exit
-
-  pub block-none : (first : ℕ) (l : List ℕ) → H .home k ≤ first → length l ≡ 1024 → BlockCounted first first l l
-  block-none first l h size =
-      record {
-        low = h;
-        begun = omega arith;
-        added = added-none 0 _ l size (λ p o. go p (decLe first p));
-      }
-    where
-      go : (p : ℕ) → Dec (first ≤ p) → one (passedFrom H vs first p first k) ≡ 0
-      go p (yes d) = rw (from-here first p first d, passed-high p first d)
-      go p (no d) = rw (from-low first p first (omega arith))
-
-  module _ (first next : ℕ) (entry exit : List ℕ) (c : BlockCounted first next entry exit) where
-    pub block-counted : next < 1024 → H .signature k next ≡ getD vs next 0 → BlockCounted first (next + 1) entry (set exit next (getD exit next 0 + 1))
-    block-counted h e =
-        record {
-          low = omega (arith, c .low);
-          begun = omega (arith, c .begun);
-          added =
-              added-then 0 (λ p. one (passedFrom H vs first p next k)) (λ p. one (eqb next p)) (λ p. one (passedFrom H vs first p (next + 1) k)) entry exit (set exit next (getD exit next 0 + 1))
-              (c .added) (added-one 0 exit next (c .added .size) h)
-              (from-next first next (c .begun) (c .low) true (eq-eqb (H .signature k next) (getD vs next 0) e));
-        }
-
-    pub block-skipped : (H .signature k next ≡ getD vs next 0 → ⊥) → BlockCounted first (next + 1) entry exit
-    block-skipped e =
-        record {
-          low = omega (arith, c .low);
-          begun = omega (arith, c .begun);
-          added =
-              added-same 0 (λ p. one (passedFrom H vs first p next k)) (λ p. one (passedFrom H vs first p (next + 1) k)) entry exit (c .added)
-              (λ p _. from-next first next (c .begun) (c .low) false (ne-eqb (H .signature k next) (getD vs next 0) e) p ∙ add-zero (one (passedFrom H vs first p next k)));
-        }
-
-    pub block-fits : (n : ℕ) → ((p : ℕ) → first ≤ p → p < 1024 → getD entry p 0 ≤ n) → (p : ℕ) → first ≤ p → p < 1024 → getD exit p 0 ≤ n + 1
-    block-fits n most p o h = omega (arith, c .added .each p (omega arith) h, most p o h, one-most (passedFrom H vs first p next k))
-
-    pub block-all : (last : ℕ) → next ≡ last → Added 0 (λ p. one (passedFrom H vs first p last k)) entry exit
-    block-all last e = rw e at (c .added)
-
   -- the pages from home and `from` up to the one before `next` are counted; none is where the later of them is not below `page`
   pub record ProbesCounted (from page next : ℕ) (entry exit : List ℕ) : Type 0 where
     pub low : H .home k ≤ next
@@ -181,16 +110,26 @@ module _ (H : Hash) (vs : List ℕ) (k : ℕ) where
       go p o (no d) = rw (passed-low p start (omega (arith, e, m (omega arith))))
 
   module _ (from page next : ℕ) (entry exit : List ℕ) (c : ProbesCounted from page next entry exit) where
-    -- the pages of the next block are counted too
-    pub probes-block : (last : ℕ) (after : List ℕ) → next < last → last ≤ page → Added 0 (λ p. one (passedFrom H vs next p last k)) exit after → ProbesCounted from page last entry after
-    probes-block last after h m a =
+    -- the next page is counted too, or is none that counts
+    pub probes-counted : next < page → next < 1024 → H .signature k next ≡ getD vs next 0 → ProbesCounted from page (next + 1) entry (set exit next (getD exit next 0 + 1))
+    probes-counted h m e =
         record {
           low = omega (arith, c .low);
           high = λ g _. absurd (omega arith);
           added =
-              added-then from (λ p. one (passed H vs p next k)) (λ p. one (passedFrom H vs next p last k)) (λ p. one (passed H vs p last k)) entry exit after
-              (c .added) (record { size = a .size; each = λ p o. a .each p (omega arith) })
-              (λ p. from-then next last p (omega arith));
+              added-then from (λ p. one (passed H vs p next k)) (λ p. one (eqb next p)) (λ p. one (passed H vs p (next + 1) k)) entry exit (set exit next (getD exit next 0 + 1))
+              (c .added) (added-one from exit next (c .added .size) m)
+              (passed-next next (c .low) true (eq-eqb (H .signature k next) (getD vs next 0) e));
+        }
+
+    pub probes-skipped : next < page → (H .signature k next ≡ getD vs next 0 → ⊥) → ProbesCounted from page (next + 1) entry exit
+    probes-skipped h e =
+        record {
+          low = omega (arith, c .low);
+          high = λ g _. absurd (omega arith);
+          added =
+              added-same from (λ p. one (passed H vs p next k)) (λ p. one (passed H vs p (next + 1) k)) entry exit (c .added)
+              (λ p _. passed-next next (c .low) false (ne-eqb (H .signature k next) (getD vs next 0) e) p ∙ add-zero (one (passed H vs p next k)));
         }
 
     pub probes-fits : (n : ℕ) → ((p : ℕ) → from ≤ p → p < 1024 → getD entry p 0 ≤ n) → (p : ℕ) → from ≤ p → p < 1024 → getD exit p 0 ≤ n + 1
@@ -402,3 +341,24 @@ rising-raisable g vs ns entry counts from stop low few none c =
   where
     counter : (q : ℕ) → from ≤ q → q < 1024 → getD counts q 0 ≡ countFrom (hashUnder g) vs ns from q (stop - from)
     counter q o h = omega (arith, c .each q o h, none .1 q o h)
+
+-- one item more is looked at
+pub below-next : (number home : ℕ → ℕ) (low first i below r : ℕ) → (below ≡ 0 → (j : ℕ) → first ≤ j → j < i → (number j ≡ 0 → ⊥) → low ≤ home j)
+    → (r ≡ 0 → (number i ≡ 0 → ⊥) → low ≤ home i) → below + r ≡ 0 → (j : ℕ) → first ≤ j → j < i + 1 → (number j ≡ 0 → ⊥) → low ≤ home j
+below-next number home low first i below r done here e j f h star = go (decLt j i)
+  where
+    go : Dec (j < i) → low ≤ home j
+    go (yes d) = done (omega arith) j f d star
+    go (no d) = let same : j ≡ i = omega arith in rw same (here (omega arith) (λ z. star (rw same z)))
+
+-- .. and one page more
+pub near-next : (places : ℕ) (ns hs : List ℕ) (from page low : ℕ) → Signable 90 places ns hs from page → low + 44 ≡ page → HomedFrom low ns hs (page * places) (page * places + places)
+    → Signable 90 places ns hs from (page + 1)
+near-next places ns hs from page low done e here q i f h l star = go (decLt q page)
+  where
+    go : Dec (q < page) → 2 * (q - getD hs (q * places + i) 0) < 90
+    go (yes d) = done q i f d l star
+    go (no d) =
+        let same : q ≡ page = omega arith in
+        let home : low ≤ getD hs (q * places + i) 0 = rw same (here (page * places + i) (omega arith) (omega arith) (λ z. star (rw same z))) in
+        omega (arith, home, e)

@@ -19,10 +19,6 @@ use Rattle.reach.specs.Reach.{firstSuch}
 unfoldable pub passed : Hash → List ℕ → ℕ → ℕ → ℕ → Bool
 passed H vs p q k = leb (H .home k) p && (ltb p q && eqb (H .signature k p) (getD vs p 0))
 
--- the same of a page from `first` on
-unfoldable pub passedFrom : Hash → List ℕ → ℕ → ℕ → ℕ → ℕ → Bool
-passedFrom H vs first p q k = leb first p && passed H vs p q k
-
 -- it counts on page p: it stands there, or would if the separator were one greater
 unfoldable pub countsOn : Hash → List ℕ → ℕ → ℕ → ℕ → Bool
 countsOn H vs p q k = eqb q p || passed H vs p q k
@@ -87,3 +83,12 @@ pub record Homed (g : Geometry) (vs ns hs : List ℕ) (from stop : ℕ) : Type 0
   pub low : from ≤ stop
   pub high : stop ≤ g .parameters .pages
   pub kept : (q : ℕ) → from ≤ q → q < stop → part (g .parameters .places) q hs ≡ homesOf (g .parameters) (g .growth) (part (g .parameters .places) q ns)
+
+-- the stars of the items from `first` up to the one before `last` are homed at page `low` or above
+abbrev pub HomedFrom : ℕ → List ℕ → List ℕ → ℕ → ℕ → Type 0
+HomedFrom low ns hs first last = (j : ℕ) → first ≤ j → j < last → (getD ns j 0 ≡ 0 → ⊥) → low ≤ getD hs j 0
+
+-- a table of n entries has what signs the stars of these pages on each page that they passed, by their homes
+abbrev pub Signable : ℕ → ℕ → List ℕ → List ℕ → ℕ → ℕ → Type 0
+Signable n places ns hs from stop =
+    (q i : ℕ) → from ≤ q → q < stop → i < places → (getD ns (q * places + i) 0 ≡ 0 → ⊥) → 2 * (q - getD hs (q * places + i) 0) < n

@@ -10,7 +10,7 @@ use page_plan::settle_under;
 
 // Settles the page under its stored separator, `most`. The words carried on stand from the answer up to `reach`.
 pub fn settle_page(
-    table: &[u32; 63],
+    table: &[u32; 90],
     parameters: Parameters,
     most: u32,
     pool: &mut [u32],

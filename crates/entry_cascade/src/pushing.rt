@@ -3,7 +3,6 @@ ghost use mathlib.Core.Path.{_≡_};
 ghost use Prim.Native.Nat.{_*_, _≤_};
 ghost use lib.ListN.{length};
 ghost use Rattle.placement.specs.Lent.{held, before};
-ghost use Rattle.placement.specs.Ready.{Signers};
 ghost use Rattle.entry_cascade.specs.Arriving.{KnownTo};
 ghost use Rattle.entry_reach.specs.Entry.{Enters};
 ghost use Rattle.entry_cascade.specs.Cascade.{Plans};
@@ -18,7 +17,6 @@ use hashing::Geometry;
 // when it is taken in, and the homes of the known pages after it stand.
 fn push_along(
     table: &[u32; 90],
-    signs: &[u32; 63],
     geometry: Geometry,
     separators: &[u8],
     numbers: &[u32],
@@ -33,7 +31,6 @@ fn push_along(
     tested: usize,
 ) -> Reach
     requires { ⌜ Enters geometry (now table) (held separators numbers words owners) number home page ⌝ }
-    requires { ⌜ Signers (geometry .parameters) (now signs) ⌝ }
     requires { ⌜ (length (now pool) ≡ geometry .parameters .pages * geometry .parameters .places) × (length (now waiting) ≡ geometry .parameters .pages * geometry .parameters .places) ⌝ }
     requires { ⌜ geometry .parameters .pages ≤ length (now planned) ⌝ }
     requires { ⌜ KnownTo (geometry .parameters) (geometry .growth) (held separators numbers words owners) (now pool) page tested ⌝ }
@@ -64,7 +61,7 @@ fn push_along(
             Taken::Joined(reach) => {
                 let most = separators[at] as u32;
                 from = settle_page(
-                    signs,
+                    table,
                     parameters,
                     most,
                     pool,
@@ -85,7 +82,7 @@ fn push_along(
     Reach::Overflows
 }
 
-// The table of signatures is made only where the first page is full. The pages from `page` up to the one before `tested` are known.
+// A first page with room takes the star and carries nothing on. The pages from `page` up to the one before `tested` are known.
 pub fn push(
     table: &[u32; 90],
     geometry: Geometry,
@@ -125,10 +122,8 @@ pub fn push(
         );
         return Reach::Ends(page);
     }
-    let signs = generator::probe_multipliers(geometry.parameters.multiplier);
     push_along(
         table,
-        &signs,
         geometry,
         separators,
         numbers,

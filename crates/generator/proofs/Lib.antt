@@ -1,4 +1,3 @@
 pub mod Numbers
 pub mod Powers
-pub mod Products
 pub mod Scrambling

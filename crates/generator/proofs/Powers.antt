@@ -1,12 +1,12 @@
 -- The tables of multipliers: one test over a whole table, lifted to the powers of any multiplier.
-use mathlib.Core.Path.{_≡_, _∙_, refl, ap}
+use mathlib.Core.Path.{_≡_, _∙_, refl, sym, ap}
 use mathlib.Core.Bool.{Bool, true, false, _&&_, _||_, false≢true}
 use mathlib.Core.List.{List, [], _∷_}
 use Prim.Native.Nat.{ℕ, zero, suc, _+_, _-_, _*_, _%_, _^_, _≤_, _<_}
 use native.Mathlib.Nat.{pow-zero, pow-suc, pow-succ', one-mul, mul-assoc, not-suc-le-zero, le-of-suc-le-suc}
 use native.Mathlib.Omega.{arith}
 use lib.Dec.{T, eqb, eqb→eq}
-use lib.ListN.{getD}
+use lib.ListN.{getD, length}
 use lib.Pow.{pow-add}
 use borrow.Author.Tests.{eqb-true}
 use Rattle.generator.specs.Generator.{modulus, power, scrambled, chain, firstMultipliers, validMultiplier}
@@ -84,6 +84,22 @@ entry-below a n i h = rw (entry-at a n i h) (power-below a (i + 1))
 pub times-entry : (a n i k : ℕ) → i < n → getD (chain a 1 n) i 0 * k % modulus ≡ scrambled a (i + 1) k
 unfolding scrambled power
 times-entry a n i k h = rw (entry-at a n i h) (mul-mod (a ^ (i + 1)) modulus k)
+
+pub length-chain : (a p n : ℕ) → length (chain a p n) ≡ n
+unfolding chain
+length-chain a p zero = refl
+length-chain a p (suc n) = ap suc (length-chain a (p * a % modulus) n)
+
+-- a lent table is as long as it is: the first ninety, or all
+pub lent-chain : (a n : ℕ) (t : List ℕ) → t ≡ chain a 1 n → t ≡ chain a 1 (length t)
+lent-chain a n t e = e ∙ ap (chain a 1) (sym (ap length e ∙ length-chain a 1 n))
+
+module _ (a : ℕ) (t : List ℕ) (e : t ≡ chain a 1 (length t)) (i : ℕ) (h : i < length t) where
+  pub lent-entry : getD t i 0 ≡ power a (i + 1)
+  lent-entry = ap (λ (l : List ℕ). getD l i 0) e ∙ entry-at a (length t) i h
+
+  pub lent-below : getD t i 0 < modulus
+  lent-below = rw lent-entry (power-below a (i + 1))
 
 -- the first ninety: each is below the modulus, X1, and the multiplier of step i + 1
 

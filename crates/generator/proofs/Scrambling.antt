@@ -1,11 +1,14 @@
 -- The laws of scrambled numbers and signatures, for any multiplier.
-use mathlib.Core.Path.{_≡_}
-use Prim.Native.Nat.{ℕ, _+_, _-_, _*_, _%_, _^_, _≤_, _<_}
+use mathlib.Core.Path.{_≡_, _∙_, ap}
+use Prim.Native.Nat.{ℕ, suc, _+_, _-_, _*_, _%_, _^_, _≤_, _<_}
 use native.Mathlib.Nat.{mod-lt}
 use native.Mathlib.Omega.{arith}
+use mathlib.Core.List.{List}
+use lib.ListN.{getD, length}
 use lib.Pow.{pow-mono}
-use Rattle.generator.specs.Generator.{modulus, power, scrambled, topOf, signature}
+use Rattle.generator.specs.Generator.{modulus, power, scrambled, chain, topOf, signature}
 use Rattle.generator.proofs.Numbers.{mul-mod, mul-mod-right, shifted}
+use Rattle.generator.proofs.Powers.{lent-entry}
 
 pub top-least : (bits : ℕ) → 1 ≤ bits → 1 ≤ topOf bits
 unfolding topOf
@@ -42,3 +45,12 @@ scrambled-below a j k = omega arith
 pub scrambled-key : (a j k : ℕ) → scrambled a j (k % modulus) ≡ scrambled a j k
 unfolding scrambled
 scrambled-key a j k = mul-mod-right (a ^ j) modulus k
+
+-- a signature by its multiplier
+pub signature-by : (a bits k t : ℕ) → power a (2 * t + 1) * k % modulus % topOf bits ≡ signature a bits k t
+unfolding signature scrambled power
+signature-by a bits k t = ap (λ (x : ℕ). x % topOf bits) (mul-mod (a ^ (2 * t + 1)) modulus k)
+
+-- .. which a lent table has
+pub lent-signature : (a bits k t : ℕ) (l : List ℕ) → l ≡ chain a 1 (length l) → 2 * t < length l → getD l (2 * t) 0 * k % modulus % topOf bits ≡ signature a bits k t
+lent-signature a bits k t l e h = ap (λ (x : ℕ). x * k % modulus % topOf bits) (lent-entry a l e (2 * t) h) ∙ signature-by a bits k t

@@ -1,12 +1,10 @@
 // Which multipliers there are, and their tables.
 ghost use mathlib.Core.Path.{_≡_};
 ghost use mathlib.Core.Bool.{true};
-ghost use Rattle.generator.specs.Generator.{validMultiplier, firstMultipliers, probeMultipliers};
+ghost use Rattle.generator.specs.Generator.{validMultiplier, firstMultipliers};
 ghost use Rattle.generator.specs.Generator.{multipliers as Generator·multipliers};
 use crate::firsts::FIRST_16807;
 use crate::firsts::FIRST_48271;
-use crate::probes::PROBES_16807;
-use crate::probes::PROBES_48271;
 use crate::table::MULTIPLIERS_16807;
 use crate::table::MULTIPLIERS_48271;
 
@@ -16,7 +14,7 @@ pub fn multiplier_valid(multiplier: u32) -> bool
     multiplier == 16807 || multiplier == 48271
 }
 
-// A copy of the multiplier's table, for a caller that must know no more of it than that it is the table.
+// A copy of the multiplier's table, 8 KB: for a caller that probes a page past the 44th from a home, which lends it on by reference.
 pub fn multipliers(multiplier: u32) -> [u32; 2049]
     requires { ⌜ validMultiplier multiplier ≡ true ⌝ }
     ensures { λ r. ⌜ r ≡ Generator·multipliers multiplier ⌝ }
@@ -27,7 +25,7 @@ pub fn multipliers(multiplier: u32) -> [u32; 2049]
     MULTIPLIERS_16807
 }
 
-// The same of its first ninety.
+// The same of its first ninety: those of every home, and of the signatures on the first 44 pages probed.
 pub fn first_multipliers(multiplier: u32) -> [u32; 90]
     requires { ⌜ validMultiplier multiplier ≡ true ⌝ }
     ensures { λ r. ⌜ r ≡ firstMultipliers multiplier ⌝ }
@@ -36,15 +34,4 @@ pub fn first_multipliers(multiplier: u32) -> [u32; 90]
         return FIRST_48271;
     }
     FIRST_16807
-}
-
-// The same of those of signatures.
-pub fn probe_multipliers(multiplier: u32) -> [u32; 63]
-    requires { ⌜ validMultiplier multiplier ≡ true ⌝ }
-    ensures { λ r. ⌜ r ≡ probeMultipliers multiplier ⌝ }
-{
-    if multiplier == 48271 {
-        return PROBES_48271;
-    }
-    PROBES_16807
 }

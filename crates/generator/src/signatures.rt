@@ -2,7 +2,7 @@
 ghost use mathlib.Core.Path.{_≡_};
 ghost use mathlib.Core.Bool.{true};
 ghost use Prim.Native.Nat.{_+_, _*_, _%_, _≤_, _<_};
-ghost use Rattle.generator.specs.Generator.{validMultiplier, modulus, power, topOf, probeMultipliers};
+ghost use Rattle.generator.specs.Generator.{validMultiplier, modulus, topOf};
 ghost use Rattle.generator.specs.Generator.{scrambled as Generator·scrambled};
 
 // A product mod m. As 2^31 is 1 mod m, the product's two halves are added in place of a division.
@@ -55,20 +55,6 @@ pub fn below_top(number: u32, bits: u32) -> u32
         return number % 3;
     }
     0
-}
-
-// The multiplier of a number's signature on the probe-th page probed. Past page 32 it is a product of two entries.
-pub fn probe_multiplier(table: &[u32; 63], multiplier: u32, probe: usize) -> u32
-    requires { ⌜ now table ≡ probeMultipliers multiplier ⌝ }
-    requires { ⌜ (1 ≤ probe) × (probe ≤ 1024) ⌝ }
-    ensures { λ r. ⌜ r ≡ power multiplier (2 * probe + 1) ⌝ }
-{
-    let passed = probe - 1;
-    let near = table[passed % 32];
-    if passed < 32 {
-        return near;
-    }
-    residue(table[31 + passed / 32], near)
 }
 
 // A signature by the multiplier of its page.

@@ -1,5 +1,5 @@
 // The tables of multipliers, one for each multiplier: each entry is the one before times the multiplier mod 2,147,483,647, the first
-// the multiplier itself. A constant is copied wherever it is named, so functions take a table by reference, and a call copies it once.
+// the multiplier itself. A constant is copied wherever it is named: copies.rt alone names them, and who has the copy lends it by reference.
 pub const MULTIPLIERS_16807: [u32; 2049] = [
     16807,
     282475249,

@@ -11,7 +11,7 @@ use Rattle.hashing.specs.declared.Parameters.{Parameters}
 use Rattle.generator.specs.Generator.{modulus, topOf}
 use Rattle.hashing.specs.Geometry.{multiplierOf}
 use Rattle.generator.proofs.Powers.{power-below}
-use Rattle.generator.proofs.Products.{signature-by}
+use Rattle.generator.proofs.Scrambling.{signature-by}
 use Rattle.page_separator.specs.declared.signatures.Factor.{Factor}
 use Rattle.page_separator.specs.Words.{homeOf, numberIn}
 use Rattle.page_separator.specs.Probes.{Signed, factorOf, signatureOf}

@@ -4,6 +4,7 @@ use mathlib.Core.Bool.{Bool, true, false, cond}
 use mathlib.Core.List.{List, [], _∷_, _++_}
 use Prim.Native.Nat.{ℕ, zero, suc, _+_, _-_, _≤_, _<_, zero-le}
 use native.Mathlib.Nat.{not-suc-le-zero, le-of-suc-le-suc}
+use native.Mathlib.Decide.{decLt}
 use native.Mathlib.Omega.{arith}
 use lib.ListN.{length, getD, take}
 use lib.Seq.{slice, length-slice, getD-drop, getD-take}
@@ -110,3 +111,11 @@ slice-all q f t l i e ht hf hi =
     let there : getD (slice f t l) (i - f) 0 ≡ getD l i 0
     = getD-drop f (take t l) (i - f) 0 ∙ ap (λ (k : ℕ). getD (take t l) k 0) back ∙ getD-take t l i 0 hi in
     rw there at (all-getD q (slice f t l) (i - f) e (omega arith))
+
+-- one item more is not below the least
+pub least-next : (item : ℕ → ℕ) (least from i : ℕ) → ((j : ℕ) → from ≤ j → j < i → least ≤ item j) → least ≤ item i → (j : ℕ) → from ≤ j → j < i + 1 → least ≤ item j
+least-next item least from i done here j f h = go (decLt j i)
+  where
+    go : Dec (j < i) → least ≤ item j
+    go (yes d) = done j f d
+    go (no d) = let same : j ≡ i = omega arith in rw same here

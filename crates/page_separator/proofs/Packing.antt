@@ -37,3 +37,8 @@ source-low w = omega arith
 pub number-mono : (x y : ℕ) → lowOf x ≤ lowOf y → numberIn x ≤ numberIn y
 unfolding numberIn lowOf
 number-mono x y h = omega arith
+
+-- a word that is not below the least of a home has that home or a higher one
+pub home-least : (h w : ℕ) → pack h 0 0 ≤ w → h ≤ homeOf w
+unfolding pack homeOf
+home-least h w l = omega arith

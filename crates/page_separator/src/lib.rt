@@ -5,6 +5,7 @@ mod words;
 
 pub use separating::separator_under;
 pub use signatures::Factor;
+pub use signatures::all_near;
 pub use signatures::factor_for;
 pub use signatures::first_factor;
 pub use signatures::signature_kept;

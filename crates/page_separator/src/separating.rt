@@ -5,7 +5,7 @@ ghost use lib.ListN.{length};
 ghost use lib.Seq.{slice};
 ghost use Rattle.placement.specs.Ready.{Signers};
 ghost use Rattle.page_separator.specs.Lists.{sumTo};
-ghost use Rattle.page_separator.specs.Probes.{Probing, Signed, wordsSeparatorFrom};
+ghost use Rattle.page_separator.specs.Probes.{Probing, Signed, Signable, wordsSeparatorFrom};
 use crate::signatures::tally_signatures;
 use hashing::Parameters;
 use placement::top_of;
@@ -42,7 +42,7 @@ fn cut(counts: &[u16; 256], top: u32, all: usize, room: usize) -> u32
 
 // The greatest separator up to `most` under which there is room for the words that stay. The signatures of the last words are kept.
 pub fn separator_under(
-    table: &[u32; 63],
+    table: &[u32],
     parameters: Parameters,
     most: u32,
     waiting: &[u64],
@@ -54,6 +54,7 @@ pub fn separator_under(
     requires { ⌜ Signers parameters (now table) ⌝ }
     requires { ⌜ Probing page from reach (now waiting) ⌝ }
     requires { ⌜ (most ≤ 255) × (length (now signatures) ≡ 256) ⌝ }
+    requires { ⌜ Signable (length (now table)) page from reach (now waiting) ⌝ }
     ensures { λ r. ⌜ r ≡ wordsSeparatorFrom parameters page (slice from reach (now (waiting .entry))) most ⌝ }
     ensures { λ _. ⌜ Signed parameters page from reach (now (waiting .entry)) (now (signatures .exit)) ⌝ }
 {

@@ -2,18 +2,19 @@
 use mathlib.Core.Path.{_≡_}
 use mathlib.Core.Bool.{true}
 use mathlib.Core.List.{List}
-use Prim.Native.Nat.{ℕ, _*_}
+use Prim.Native.Nat.{ℕ, _*_, _≤_}
 use lib.ListN.{length}
 use Rattle.hashing.specs.declared.Parameters.{Parameters}
 use Rattle.hashing.specs.declared.Geometry.{Geometry}
-use Rattle.generator.specs.Generator.{firstMultipliers, probeMultipliers}
+use Rattle.generator.specs.Generator.{chain, firstMultipliers}
 use Rattle.hashing.specs.Geometry.{multiplierOf}
 use Rattle.hashing.specs.Limits.{validParameters, validGrowth}
 use Rattle.placement.specs.File.{File, Sized}
 
--- for signatures: the table is that of the parameters' own multiplier, and these are valid
+-- for signatures: the table is that of the parameters' own multiplier, its first ninety entries or more, and the parameters are valid
 pub record Signers (p : Parameters) (t : List ℕ) : Type 0 where
-  pub table : t ≡ probeMultipliers (multiplierOf p)
+  pub table : t ≡ chain (multiplierOf p) 1 (length t)
+  pub long : 90 ≤ length t
   pub valid : validParameters p ≡ true
 
 -- for homes and the naming of pages, which need the table's first ninety: the growth state is valid too

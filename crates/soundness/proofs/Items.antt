@@ -5,11 +5,12 @@ use mathlib.Core.List.{List, [], _∷_, map, map-append}
 use Prim.Native.Nat.{ℕ, zero, suc, _+_, _-_, _*_, _≤_, _<_}
 use native.Mathlib.Nat.{le-refl}
 use native.Mathlib.Numerals.{add-one}
+use native.Mathlib.Decide.{decLt}
 use native.Mathlib.Omega.{arith}
 use lib.Dec.{leb, ltb, eqb}
 use lib.ListN.{length, getD, take, drop, set, length-map, length-set, length-take, drop-of-length-le}
 use lib.Seq.{drop-cons, length-take-le, getD-take, take-suc, take-suc-set, take-take, paste}
-use borrow.Author.Tests.{eq-eqb, ne-eqb}
+use borrow.Author.Tests.{eq-eqb, ne-eqb, eqb-false, ltb-true, leb-true}
 use Rattle.hashing.specs.declared.Parameters.{Parameters}
 use Rattle.hashing.specs.declared.Growth.{Growth}
 use Rattle.generator.specs.Generator.{topOf}
@@ -21,6 +22,7 @@ use Rattle.pages.proofs.Parts.{take-filled}
 use Rattle.placement.specs.Rule.{Star, keep, starWith}
 use Rattle.placement.specs.File.{File, starsOf, starsAt, greatest, orderly, every, sound}
 use Rattle.placement.specs.Hash.{hashOf, soundAt, namedPage, homeIn, homesOf}
+use Rattle.placement.proofs.Filters.{and-true}
 use Rattle.soundness.specs.Survey.{admits, soundIn, admitsItem, lastAfter}
 
 -- a function of all items at once, by one item
@@ -36,6 +38,38 @@ pub item-at : (f : ℕ → ℕ) (ns hs : List ℕ) (n i : ℕ) → n ≤ length 
 item-at f ns hs n i h b e =
     sym (getD-take n hs i 0 b)
     ∙ rw e (map-at f (take n ns) i (omega (arith, length-take-le n ns h)) ∙ rw (getD-take n ns i 0 b))
+
+-- .. of the items before the first empty place
+pub found-led : (f : ℕ → ℕ) (ns hs : List ℕ) (stars places : ℕ) → stars ≤ length ns → (stars < places → getD ns stars 0 ≡ 0) → take stars hs ≡ map f (take stars ns)
+    → (i : ℕ) → i < places → ((j : ℕ) → j ≤ i → getD ns j 0 ≡ 0 → ⊥) → getD hs i 0 ≡ f (getD ns i 0)
+found-led f ns hs stars places h empty e i l led = go (decLt i stars)
+  where
+    go : Dec (i < stars) → getD hs i 0 ≡ f (getD ns i 0)
+    go (yes d) = item-at f ns hs stars i h d e
+    go (no d) = absurd (led stars (omega arith) (empty (omega arith)))
+
+-- a star in order has no empty place before it
+pub first-led : (ns : List ℕ) (i last : ℕ) → ((j : ℕ) → j < i → getD ns j 0 ≡ 0 → last ≡ greatest) → last < getD ns i 0 → getD ns i 0 ≤ greatest
+    → (j : ℕ) → j ≤ i → getD ns j 0 ≡ 0 → ⊥
+first-led ns i last led high low j h empty = go (decLt j i)
+  where
+    go : Dec (j < i) → ⊥
+    go (yes d) = omega (arith, led j d empty, high, low)
+    go (no d) = let same : j ≡ i = omega arith in omega (arith, high, ap (λ (k : ℕ). getD ns k 0) same, empty)
+
+pub in-order : (last n : ℕ) (valid : Bool) → ltb last n && (leb n greatest && valid) ≡ true → (last < n) × (n ≤ greatest)
+in-order last n valid e =
+    let both = and-true (ltb last n) (leb n greatest && valid) e in
+    (ltb-true last n (both .0), leb-true n greatest (and-true (leb n greatest) valid (both .1) .0))
+
+-- the stars of one item more are homed at `low` or above, if none is counted
+pub far-next : (number home : ℕ → ℕ) (low i far r : ℕ) → (far ≡ 0 → (j : ℕ) → j < i → (number j ≡ 0 → ⊥) → low ≤ home j)
+    → (r ≡ 0 → (number i ≡ 0 → ⊥) → low ≤ home i) → far + r ≡ 0 → (j : ℕ) → j < i + 1 → (number j ≡ 0 → ⊥) → low ≤ home j
+far-next number home low i far r done here e j h star = go (decLt j i)
+  where
+    go : Dec (j < i) → low ≤ home j
+    go (yes d) = done (omega arith) j d star
+    go (no d) = let same : j ≡ i = omega arith in rw same (here (omega arith) (λ z. star (rw same z)))
 
 module _ (p : Parameters) (g : Growth) (seps : List ℕ) (page : ℕ) where
   -- one item, then the others
@@ -95,6 +129,28 @@ module _ (p : Parameters) (g : Growth) (seps : List ℕ) (page : ℕ) where
         go true true false t e = absurd (false≢true e)
         go true false d t e = absurd (false≢true e)
         go false c d t e = absurd (false≢true e)
+
+  -- behind an empty place no star is admitted
+  pub led-next : (ns : List ℕ) (i last next w o : ℕ) → ((j : ℕ) → j < i → getD ns j 0 ≡ 0 → last ≡ greatest)
+      → admitsItem p g seps page last (getD ns i 0) w o ≡ true → next ≡ lastAfter (getD ns i 0) → (j : ℕ) → j < i + 1 → getD ns j 0 ≡ 0 → next ≡ greatest
+  unfolding admitsItem
+  led-next ns i last next w o led taken e j h empty = go (eqb (getD ns i 0) 0) refl
+    where
+      star : eqb (getD ns i 0) 0 ≡ false → ⊥
+      star f =
+          let n = getD ns i 0 in
+          let other : n ≡ 0 → ⊥ = eqb-false n 0 f in
+          let full : ltb last n && (leb n greatest && (validWord w && eqb (namedPage p g seps n) page)) ≡ true = rw f at taken in
+          let placed = in-order last n (validWord w && eqb (namedPage p g seps n) page) full in
+          earlier (decLt j i) other (placed .0) (placed .1)
+        where
+          earlier : Dec (j < i) → (getD ns i 0 ≡ 0 → ⊥) → last < getD ns i 0 → getD ns i 0 ≤ greatest → ⊥
+          earlier (yes d) other high low = omega (arith, led j d empty, high, low)
+          earlier (no d) other high low = let same : j ≡ i = omega arith in other (rw (← same) empty)
+
+      go : (t : Bool) → eqb (getD ns i 0) 0 ≡ t → next ≡ greatest
+      go true f = e ∙ rw f
+      go false f = absurd (star f)
 
   -- of a page's value the first i items were admitted, and their homes are kept
   pub record Surveyed (ns ws os : List ℕ) (places i last : ℕ) (homes : List ℕ) : Type 0 where

@@ -1,5 +1,5 @@
 -- Probing from home upward, and that no page above the one asked about matters.
-use mathlib.Core.Path.{_≡_, refl, sym, _∙_}
+use mathlib.Core.Path.{_≡_, refl, sym, ap, _∙_}
 use mathlib.Core.Bool.{true, false, cond, true≢false}
 use mathlib.Core.List.{List, []}
 use Prim.Native.Nat.{ℕ, suc, _+_, _-_, _≤_, _<_}
@@ -8,8 +8,8 @@ use native.Mathlib.Numerals.{add-one}
 use native.Mathlib.Decide.{decLt}
 use native.Mathlib.Omega.{arith}
 use lib.Dec.{eqb, ltb}
-use lib.ListN.{length, getD, take, drop}
-use lib.Seq.{drop-cons, drop-length, take-length, length-take-le, getD-take}
+use lib.ListN.{length, getD, take, drop, take-append-drop}
+use lib.Seq.{drop-cons, drop-length, take-length, length-take-le, getD-take, take-take}
 use borrow.Author.Tests.{eq-eqb, ne-eqb, le-leb, lt-ltb}
 use Rattle.hashing.specs.declared.Parameters.{Parameters}
 use Rattle.hashing.specs.declared.Growth.{Growth}
@@ -21,7 +21,7 @@ use Rattle.hashing.proofs.Bounds.{limits}
 use Rattle.generator.proofs.Scrambling.{signature-below}
 use Rattle.placement.specs.Rule.{Hash, below, first}
 use Rattle.placement.specs.Hash.{hashOf, hashFrom, namedPage}
-use Rattle.placement.proofs.Standing.{first-le, first-home, first-home-on, first-within, first-below, first-before}
+use Rattle.placement.proofs.Standing.{first-le, first-home, first-home-on, first-later, first-within, first-below, first-before, first-append}
 use Rattle.placement.proofs.Probing.{first-from}
 
 -- the first page is not above one that keeps the number, nor above the first of fewer pages
@@ -108,18 +108,56 @@ below-top p g k page v ok h t =
     rw (le-leb (home (multiplierOf p) p g k) page h, lt-ltb (signature (multiplierOf p) (p .bits) k (page - home (multiplierOf p) p g k + 1)) v (omega (arith, low, t)))
 
 -- from home to home no page is probed
-pub none-probed : (p : Parameters) (seps : List ℕ) (k h page : ℕ) → h ≡ page → page ≤ length seps → eqb (first (hashFrom p h) 0 (take page seps) k) page ≡ true
+pub none-first : (p : Parameters) (seps : List ℕ) (k h : ℕ) → h ≤ length seps → first (hashFrom p h) 0 (take h seps) k ≡ h
 unfolding hashFrom
-none-probed p seps k h page e i =
-    let long = length-take-le page seps i in
-    let here = probed-none (hashFrom p h) (take page seps) k page (omega (arith, long)) (omega arith) in
-    eq-eqb (first (hashFrom p h) 0 (take page seps) k) page (sym (probed-all (hashFrom p h) (take page seps) k page (sym long) here))
+none-first p seps k h i =
+    let long = length-take-le h seps i in
+    let here = probed-none (hashFrom p h) (take h seps) k h (omega (arith, long)) (omega arith) in
+    sym (probed-all (hashFrom p h) (take h seps) k h (sym long) here)
+
+pub none-probed : (p : Parameters) (seps : List ℕ) (k h page : ℕ) → h ≡ page → page ≤ length seps → eqb (first (hashFrom p h) 0 (take page seps) k) page ≡ true
+none-probed p seps k h page e i = rw (← e) (eq-eqb (first (hashFrom p h) 0 (take h seps) k) h (none-first p seps k h (omega (arith, e, i))))
+
+-- pages that were probed without success need not be probed again
+pub probed-from : (H : Hash) (seps : List ℕ) (k start stop : ℕ) → start ≤ stop → stop ≤ length seps → first H 0 (take start seps) k ≡ start → Probed H (take stop seps) k start
+probed-from H seps k start stop h l e =
+    record {
+      is =
+          sym
+          (rw (zero-add start) at
+          (first-later H 0 start (take stop seps) k (omega (arith, length-take-le stop seps l)) (rw (zero-add start) (go (decLt (first H 0 (take stop seps) k) start)))));
+    }
+  where
+    go : Dec (first H 0 (take stop seps) k < start) → start ≤ first H 0 (take stop seps) k
+    go (yes d) =
+        omega (
+          arith,
+          e,
+          first-within H 0 start (take stop seps) k (rw (zero-add start) d),
+          ap (λ (vs : List ℕ). first H 0 vs k) (take-take start stop seps h),
+        )
+    go (no d) = omega arith
+
+-- a page found below n is found among all
+first-found : (H : Hash) (vs : List ℕ) (k n : ℕ) → n ≤ length vs → first H 0 (take n vs) k < n → first H 0 (take n vs) k ≡ first H 0 vs k
+first-found H vs k n l h =
+    sym
+    (ap (λ (us : List ℕ). first H 0 us k) (sym (take-append-drop n vs))
+    ∙ first-append H 0 (take n vs) (drop n vs) k (omega (arith, h, length-take-le n vs l)))
+
+-- a number that stays on none of the first n pages
+pub none-found : (H : Hash) (vs : List ℕ) (k n r : ℕ) → n ≤ length vs → r ≡ first H 0 (take n vs) k → n ≤ r → first H 0 (take n vs) k ≡ n
+none-found H vs k n r l e h = omega (arith, e, h, first-le H 0 (take n vs) k, length-take-le n vs l)
 
 -- What a probe of a number from its home finds: of all pages the named one, of those up to a page whether that is named.
 module _ (p : Parameters) (g : Growth) (seps : List ℕ) (k h : ℕ) (at-home : h ≡ home (multiplierOf p) p g k) where
   pub named-is : first (hashFrom p h) 0 (take (length seps) seps) k ≡ namedPage p g seps k
   unfolding namedPage
   named-is = rw (at-home, take-length seps) (first-from p g 0 seps k)
+
+  pub named-found : (n r : ℕ) → r ≡ first (hashFrom p h) 0 (take n seps) k → n ≤ length seps → r < n → r ≡ namedPage p g seps k
+  unfolding namedPage
+  named-found n r e i l = e ∙ first-found (hashFrom p h) seps k n i (omega (arith, e, l)) ∙ rw at-home (first-from p g 0 seps k)
 
   pub named-here : (page : ℕ) → page < length seps → eqb (first (hashFrom p h) 0 (take (page + 1) seps) k) page ≡ eqb (namedPage p g seps k) page
   unfolding namedPage

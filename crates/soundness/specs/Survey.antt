@@ -2,7 +2,7 @@
 use mathlib.Core.Path.{_≡_}
 use mathlib.Core.Bool.{Bool, true, cond, _&&_}
 use mathlib.Core.List.{List}
-use Prim.Native.Nat.{ℕ, _*_}
+use Prim.Native.Nat.{ℕ, _+_, _-_, _*_, _≤_, _<_}
 use lib.Dec.{leb, ltb, eqb}
 use lib.ListN.{length, getD, take}
 use lib.Seq.{paste}
@@ -10,6 +10,8 @@ use Rattle.hashing.specs.declared.Parameters.{Parameters}
 use Rattle.hashing.specs.declared.Growth.{Growth}
 use Rattle.hashing.specs.declared.Geometry.{Geometry}
 use Rattle.generator.specs.Generator.{topOf}
+use Rattle.hashing.specs.Geometry.{multiplierOf}
+use Rattle.hashing.specs.Home.{home}
 use Rattle.pages.specs.Page.{part}
 use Rattle.pages.specs.Position.{validWord}
 use Rattle.placement.specs.Rule.{Star}
@@ -42,6 +44,16 @@ pub record TestedItem (p : Parameters) (g : Growth) (seps : List ℕ) (page low 
   pub sound : r .sound ≡ admitsItem p g seps page low n w o
   pub home : r .sound ≡ true → r .home ≡ homeIn p g n
   pub last : r .sound ≡ true → r .last ≡ lastAfter n
+
+-- hs has the homes of a page's numbers ns before the first empty place
+abbrev pub Found : Geometry → List ℕ → List ℕ → Type 0
+Found g ns hs =
+    (i : ℕ) → i < g .parameters .places → ((j : ℕ) → j ≤ i → getD ns j 0 ≡ 0 → ⊥)
+    → getD hs i 0 ≡ home (multiplierOf (g .parameters)) (g .parameters) (g .growth) (getD ns i 0)
+
+-- a table of n entries has what signs each star on the page, by its home
+abbrev pub Signable : ℕ → ℕ → List ℕ → List ℕ → Type 0
+Signable n page ns hs = (i : ℕ) → i < 32 → (getD ns i 0 ≡ 0 → ⊥) → 2 * (page + 1 - getD hs i 0) < n
 
 -- What is told of a page, by the values of its places.
 pub record Tested (g : Geometry) (seps : List ℕ) (page : ℕ) (ns ws os homes : List ℕ) (r : Bool) : Type 0 where

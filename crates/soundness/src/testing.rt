@@ -1,17 +1,18 @@
 // The soundness of a page. Its stars' homes are computed once and at once, for the test, and kept.
 ghost use mathlib.Core.Path.{_≡_};
 ghost use mathlib.Core.Bool.{true, _&&_};
-ghost use Prim.Native.Nat.{_*_, _<_};
+ghost use Prim.Native.Nat.{_+_, _-_, _*_, _≤_, _<_};
 ghost use lib.Dec.{eqb, leb, ltb};
-ghost use lib.ListN.{length};
+ghost use lib.ListN.{length, getD};
+ghost use Rattle.generator.specs.Generator.{topOf};
 ghost use Rattle.hashing.specs.Geometry.{multiplierOf};
 ghost use Rattle.hashing.specs.Home.{home as Home·home};
 ghost use Rattle.pages.specs.Position.{validWord};
 ghost use Rattle.placement.specs.File.{greatest};
 ghost use Rattle.placement.specs.Hash.{soundAt};
 ghost use Rattle.placement.specs.Lent.{held, before};
-ghost use Rattle.placement.specs.Ready.{Homing, Ready};
-ghost use Rattle.soundness.specs.Survey.{TestedItem, Tested, surveyed};
+ghost use Rattle.placement.specs.Ready.{Signers, Homing, Ready};
+ghost use Rattle.soundness.specs.Survey.{TestedItem, Found, Signable, Tested, surveyed};
 use crate::probing::stands_on;
 use hashing::Geometry;
 use placement::top_of;
@@ -48,7 +49,104 @@ pub fn page_sound<'a>(
         return false;
     }
     let mut found = [0u16; 32];
-    homes::of_page(table, geometry, numbers, places, &mut found);
+    let stars = count_stars(numbers, places);
+    homes::of_page(table, geometry, numbers, stars, &mut found);
+    if count_far(numbers, &found, page) == 0 {
+        return items_sound(
+            table,
+            geometry,
+            separators,
+            numbers,
+            words,
+            owners,
+            &found,
+            page,
+            homes,
+        );
+    }
+    let whole = generator::multipliers(geometry.parameters.multiplier);
+    items_sound(
+        &whole,
+        geometry,
+        separators,
+        numbers,
+        words,
+        owners,
+        &found,
+        page,
+        homes,
+    )
+}
+
+// How many places stand before the first empty one: a sound page has no star behind it.
+fn count_stars(numbers: &[u32; 32], places: usize) -> usize
+    requires { ⌜ places ≤ 32 ⌝ }
+    ensures { λ r. ⌜ (r ≤ places) × (r < places → getD (now (numbers .entry)) r 0 ≡ 0) ⌝ }
+{
+    let mut i = 0;
+    while i < places {
+        if numbers[i] == 0 {
+            return i;
+        }
+        i += 1;
+    }
+    i
+}
+
+// How many stars of a page are 44 pages or more above their home, so that the first ninety multipliers do not sign them on it.
+fn count_far(numbers: &[u32; 32], found: &[u16; 32], page: usize) -> u32
+    requires { ⌜ page < 1024 ⌝ }
+    ensures { λ r. ⌜ (r ≡ 0 → Signable 90 page (now (numbers .entry)) (now (found .entry))) ⌝ }
+{
+    if page < 44 {
+        return 0;
+    }
+    let low = (page - 43) as u16;
+    let mut far: u32 = 0;
+    let mut i = 0;
+    while i < 32 {
+        far += homed_below(numbers[i], found[i], low);
+        i += 1;
+    }
+    far
+}
+
+// 1 for a star homed below page `low`, else 0.
+fn homed_below(number: u32, home: u16, low: u16) -> u32
+    ensures { λ r. ⌜ (r ≤ 1) × (r ≡ 0 → (number ≡ 0 → ⊥) → low ≤ home) ⌝ }
+{
+    if number == 0 {
+        return 0;
+    }
+    if low <= home {
+        return 0;
+    }
+    1
+}
+
+// The items of a page, by a table that signs its stars on it.
+fn items_sound<'a>(
+    table: &[u32],
+    geometry: Geometry,
+    separators: &[u8],
+    numbers: &'a [u32; 32],
+    words: &'a [u64; 32],
+    owners: &'a [u8; 32],
+    found: &[u16; 32],
+    page: usize,
+    homes: &mut [u32; 32],
+) -> bool
+    requires { ⌜ Signers (geometry .parameters) (now table) ⌝ }
+    requires { ⌜ length (now separators) ≡ geometry .parameters .pages ⌝ }
+    requires { ⌜ page < geometry .parameters .pages ⌝ }
+    requires { ⌜ (length (now numbers) ≡ 32) × ((length (now words) ≡ 32) × (length (now owners) ≡ 32)) ⌝ }
+    requires { ⌜ length (now homes) ≡ 32 ⌝ }
+    requires { ⌜ getD (now separators) page 0 ≤ topOf (geometry .parameters .bits) ⌝ }
+    requires { ⌜ Found geometry (now numbers) (now found) ⌝ }
+    requires { ⌜ Signable (length (now table)) page (now numbers) (now found) ⌝ }
+    ensures { λ r. ⌜ Tested geometry (now (separators .entry)) page (now (numbers .entry)) (now (words .entry)) (now (owners .entry)) (now (homes .exit)) r ⌝ }
+{
+    let places = geometry.parameters.places as usize;
     let mut last: u32 = 0;
     let mut i = 0;
     while i < places {
@@ -74,7 +172,7 @@ pub fn page_sound<'a>(
 }
 
 fn admitted(
-    table: &[u32; 90],
+    table: &[u32],
     geometry: Geometry,
     separators: &[u8],
     page: usize,
@@ -84,10 +182,11 @@ fn admitted(
     owner: u8,
     home: u16,
 ) -> Item
-    requires { ⌜ Homing geometry (now table) ⌝ }
+    requires { ⌜ Signers (geometry .parameters) (now table) ⌝ }
     requires { ⌜ length (now separators) ≡ geometry .parameters .pages ⌝ }
     requires { ⌜ page < geometry .parameters .pages ⌝ }
-    requires { ⌜ home ≡ Home·home (multiplierOf (geometry .parameters)) (geometry .parameters) (geometry .growth) number ⌝ }
+    requires { ⌜ (last < number → number ≤ greatest → home ≡ Home·home (multiplierOf (geometry .parameters)) (geometry .parameters) (geometry .growth) number) ⌝ }
+    requires { ⌜ ((number ≡ 0 → ⊥) → 2 * (page + 1 - home) < length (now table)) ⌝ }
     ensures { λ r. ⌜ TestedItem (geometry .parameters) (geometry .growth) (now (separators .entry)) page last number word owner r ⌝ }
 {
     if number == 0 {

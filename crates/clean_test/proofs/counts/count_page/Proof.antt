@@ -1,7 +1,7 @@
 -- The first i numbers of the page are counted.
 use mathlib.Core.Path.{_≡_, refl}
 use Prim.Native.Nat.{_+_, _-_, _*_, _≤_, _<_}
-use native.Mathlib.Nat.{suc-mul, mul-le-mul-right}
+use native.Mathlib.Nat.{le-refl, suc-mul, mul-le-mul-right}
 use native.Mathlib.Omega.{arith}
 use lib.ListN.{length, getD}
 use Rattle.hashing.proofs.Bounds.{limits}
@@ -21,7 +21,7 @@ abbrev μ-loop : tie.MeasureT-loop
 μ-loop table geometry separators numbers homes counts₀ from page places first i₀ counts i = places - i
 
 abbrev start : tie.At-loop Inv-loop μ-loop → tie.Start Inv-loop μ-loop
-start k = k .before .before .before .before .before
+start k = k .before .before .before .before .before .before
 
 -- the item is one of the file's
 within : (c : tie.In-loop Inv-loop μ-loop) →
@@ -45,15 +45,15 @@ low-page : (s : tie.Start Inv-loop μ-loop) → s .args .page < 1024
 low-page s = omega (arith, s .pre .1 .0 .high, limits (s .args .geometry .parameters) (s .pre .0 .valid) .pages-most)
 
 cast-places : tie.Need-cast-places Inv-loop μ-loop
-cast-places c = omega (arith, limits _ (c .before .before .before .before .pre .0 .valid) .places-most)
+cast-places c = omega (arith, limits _ (c .before .before .before .before .before .pre .0 .valid) .places-most)
 
 mul-first : tie.Need-mul-first Inv-loop μ-loop
 mul-first c =
-    let s = c .before .before .before .before in
+    let s = c .before .before .before .before .before in
     omega (arith, mul-le-mul-right (s .args .geometry .parameters .places) (s .pre .1 .0 .high), suc-mul (s .args .page) (s .args .geometry .parameters .places), items-most _ (s .pre .0 .valid))
 
 loop-holds : tie.Need-loop-holds Inv-loop μ-loop
-loop-holds c = (omega arith, places-none _ _ _ _ _ _ (c .before .before .before .before .pre .1 .1 .0 .0))
+loop-holds c = (omega arith, places-none _ _ _ _ _ _ (c .before .before .before .before .before .pre .1 .1 .0 .0))
 
 add-number : tie.Need-add-number Inv-loop μ-loop
 add-number c = omega (arith, few c)
@@ -79,7 +79,7 @@ cast-home : tie.Need-cast-home Inv-loop μ-loop
 cast-home c =
     let k = c .before .before .before in
     let a = start k .args in
-    omega (arith, c .shared-slice-known5 .given (a .page * a .geometry .parameters .places + k .loop .i))
+    omega (arith, c .shared-slice-known6 .given (a .page * a .geometry .parameters .places + k .loop .i))
 
 add-i : tie.Need-add-i Inv-loop μ-loop
 add-i c = omega arith
@@ -96,7 +96,7 @@ add-counts c =
     let s = start k in
     omega (
       arith,
-      places-fits _ _ _ _ _ _ 32768 _ _ (k .loop .inv .1) (s .pre .1 .1 .0 .1) (s .args .page) (s .pre .1 .1 .1) (low-page s),
+      places-fits _ _ _ _ _ _ 32768 _ _ (k .loop .inv .1) (s .pre .1 .1 .0 .1) (s .args .page) (s .pre .1 .1 .1 .0) (low-page s),
       limits (s .args .geometry .parameters) (s .pre .0 .valid) .places-most,
     )
 
@@ -124,7 +124,10 @@ count-passed-requires c κs =
         (omega (arith, s .pre .1 .0 .separators, s .pre .1 .0 .high), omega (arith, low-page s)),
         (
           places-counts _ _ _ _ _ _ 32768 65535 _ _ (k .loop .inv .1) (s .pre .1 .1 .0) (low-page s) (omega (arith, few-places)),
-          homed (c .before .before .before),
+          (
+            homed (c .before .before .before),
+            s .pre .1 .1 .1 .1 (s .args .page) (k .loop .i) (le-refl (s .args .page)) (omega arith) (c .before .before .before .before .before .before .loop-test .taken) (c .before .before .before .if1 .taken),
+          ),
         ),
       ),
     )

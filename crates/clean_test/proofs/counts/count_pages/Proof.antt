@@ -18,21 +18,21 @@ abbrev μ-loop : tie.MeasureT-loop
 
 loop-holds : tie.Need-loop-holds Inv-loop μ-loop
 loop-holds c =
-    let pre = c .before .before .before .pre in
-    pages-none _ _ _ _ _ _ (pre .1 .0 .low) (pre .1 .1 .0)
+    let pre = c .before .before .before .before .pre in
+    pages-none _ _ _ _ _ _ (pre .1 .0 .low) (pre .1 .1 .0 .0)
 
 count-page-requires : tie.Need-count-page-requires Inv-loop μ-loop
 unfolding hashOf
 count-page-requires c κs =
     let k = c .before .before in
-    let s = k .before .before .before .before in
+    let s = k .before .before .before .before .before in
     let few = items-most (s .args .geometry .parameters) (s .pre .0 .valid) in (
       s .pre .0,
       (
         homed-page _ _ _ _ _ _ _ (s .pre .1 .0) (k .loop .inv .low) (c .before .loop-test .taken),
         (
-          pages-counts _ _ _ _ _ _ _ _ (k .loop .inv) 32768 (s .pre .1 .1) (omega (arith, few, mul-le-mul-right (s .args .geometry .parameters .places) (s .pre .1 .0 .high))),
-          k .loop .inv .low,
+          pages-counts _ _ _ _ _ _ _ _ (k .loop .inv) 32768 (s .pre .1 .1 .0) (omega (arith, few, mul-le-mul-right (s .args .geometry .parameters .places) (s .pre .1 .0 .high))),
+          (k .loop .inv .low, λ q i f h l star. s .pre .1 .1 .1 q i (omega (arith, k .loop .inv .low)) (omega (arith, c .before .loop-test .taken)) l star),
         ),
       ),
     )

@@ -63,13 +63,10 @@ same-length-3 c = search needs
 returns : tie.Need-returns
 returns c = c .before .before .before .before .before .before .fill-page .ensures
 
-probe-multipliers-requires : tie.Need-probe-multipliers-requires
-probe-multipliers-requires c κs = bounds (c .before .before .before .before .before .before .before .before .before .before) .multiplier-valid
-
 push-along-requires : tie.Need-push-along-requires
 push-along-requires c κs =
-    let s = c .before .before .before .before .before .before .before .before .before .before .before .before .before .before .before in
-    (s .pre .0, (record { table = c .before .before .before .before .probe-multipliers .ensures; valid = s .pre .0 .ready .homing .valid }, s .pre .1))
+    let s = c .before .before .before .before .before .before .before .before .before .before .before .before .before in
+    (s .pre .0, s .pre .1)
 
 same-length-4 : tie.Need-same-length-4
 same-length-4 c = search needs
@@ -98,7 +95,6 @@ push-spec =
     same-length-2
     same-length-3
     returns
-    probe-multipliers-requires
     push-along-requires
     same-length-4
     same-length-5

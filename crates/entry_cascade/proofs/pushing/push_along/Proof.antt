@@ -12,6 +12,7 @@ use Rattle.hashing.proofs.Homes.{home-pages}
 use Rattle.pages.proofs.Parts.{page-fits}
 use Rattle.placement.specs.File.{File}
 use Rattle.placement.specs.Hash.{lent}
+use Rattle.placement.proofs.Prepared.{first-signers}
 use Rattle.entry_reach.proofs.Reached.{some-items}
 use Rattle.entry_cascade.specs.declared.arriving.Taken.{Taken}
 use Rattle.entry_cascade.specs.declared.arriving.Taken.the-variants.{Joined, Unsound, Crowded}
@@ -22,7 +23,7 @@ use Rattle.entry_cascade.proofs.pushing.push_along.Statement.{statement
 use Rattle.entry_cascade.proofs.pushing.push_along.Tie as tie
 
 abbrev Inv-loop : tie.InvT-loop
-Inv-loop table signs geometry separators numbers words owners pool₀ waiting₀ planned₀ number home page tested parameters pages at₀ from₀ end₀ pool waiting planned at from end =
+Inv-loop table geometry separators numbers words owners pool₀ waiting₀ planned₀ number home page tested parameters pages at₀ from₀ end₀ pool waiting planned at from end =
     (length pool ≡ length pool₀)
     × ((length waiting ≡ length waiting₀)
     × ((length planned ≡ length planned₀)
@@ -30,7 +31,7 @@ Inv-loop table signs geometry separators numbers words owners pool₀ waiting₀
     × Rolling (geometry .parameters) (geometry .growth) (lent separators numbers words owners) number page pool planned waiting at from end)))
 
 abbrev μ-loop : tie.MeasureT-loop
-μ-loop table signs geometry separators numbers words owners pool₀ waiting₀ planned₀ number home page tested parameters pages at₀ from₀ end₀ pool waiting planned at from end =
+μ-loop table geometry separators numbers words owners pool₀ waiting₀ planned₀ number home page tested parameters pages at₀ from₀ end₀ pool waiting planned at from end =
     geometry .parameters .pages - at
 
 abbrev Start : Type 0
@@ -43,7 +44,7 @@ bounds : (s : Start) → Limits (s .args .geometry .parameters)
 bounds s = limits (s .args .geometry .parameters) (s .pre .0 .ready .homing .valid)
 
 items : (s : Start) → 0 < length (now (s .args .waiting))
-items s = omega (arith, s .pre .1 .1 .0 .1, some-items (s .args .geometry .parameters) (s .args .geometry .growth) (s .pre .0 .ready .homing .valid) (s .pre .0 .ready .homing .growth) (s .args .number))
+items s = omega (arith, s .pre .1 .0 .1, some-items (s .args .geometry .parameters) (s .args .geometry .growth) (s .pre .0 .ready .homing .valid) (s .pre .0 .ready .homing .growth) (s .args .number))
 
 -- at the loop's head
 abbrev Head : Type 0
@@ -56,16 +57,16 @@ rolls : (h : Head) → Rolling (begun h .args .geometry .parameters) (begun h .a
 rolls h = h .loop .inv .1 .1 .1 .1
 
 pool-long : (h : Head) → length (h .loop .pool) ≡ begun h .args .geometry .parameters .pages * begun h .args .geometry .parameters .places
-pool-long h = h .loop .inv .0 ∙ begun h .pre .1 .1 .0 .0
+pool-long h = h .loop .inv .0 ∙ begun h .pre .1 .0 .0
 
 waiting-same : (h : Head) → length (h .loop .waiting) ≡ length (now (begun h .args .waiting))
 waiting-same h = h .loop .inv .1 .0 ∙ simp length-set
 
 waiting-long : (h : Head) → length (h .loop .waiting) ≡ begun h .args .geometry .parameters .pages * begun h .args .geometry .parameters .places
-waiting-long h = waiting-same h ∙ begun h .pre .1 .1 .0 .1
+waiting-long h = waiting-same h ∙ begun h .pre .1 .0 .1
 
 planned-long : (h : Head) → begun h .args .geometry .parameters .pages ≤ length (h .loop .planned)
-planned-long h = omega (arith, h .loop .inv .1 .1 .0, begun h .pre .1 .1 .1 .0)
+planned-long h = omega (arith, h .loop .inv .1 .1 .0, begun h .pre .1 .1 .0)
 
 -- from the page's stars on
 abbrev Place : Type 0
@@ -124,7 +125,7 @@ loop-holds c =
         (
           refl,
           (
-            s .pre .1 .1 .1 .1,
+            s .pre .1 .1 .1,
             rw (c .pack .ensures ∙ new-packed p g (file s) (s .args .number) (s .args .page) (e .ready .homing .valid) (e .ready .sized) (e .number) (e .unheld) (e .here) (s .args .home) (e .homed))
                 (rolling-none p g (file s) (s .args .number) (s .args .page) (e .ready .homing .valid) (e .ready .sized) (e .number) (e .unheld) (e .here) (now (s .args .pool)) (now (s .args .planned)) (now (s .args .waiting)) (items s)),
           ),
@@ -195,10 +196,10 @@ settle-page-requires c κs =
     let s = start x in
     let e = s .pre .0 in
     let v = c .before .before .before .before .before .reach .given in (
-      s .pre .1 .0,
+      first-signers (e .ready .homing .table) (e .ready .homing .valid),
       (
         rolling-probing (s .args .geometry .parameters) (s .args .geometry .growth) (file s) (s .args .number) (s .args .page) (e .ready .homing .valid) (e .ready .sized) (e .number) (e .unheld) (e .here)
-            (h .loop .pool) (h .loop .planned) (h .loop .waiting) (h .loop .at) (h .loop .from) (h .loop .end) (rolls h) (inside x) (x .take-in .last .1 .1 .1 .1 .1 .1 .1 .0) (v .0 .0) (joins x (v .0 .0) (v .1)) (waiting-kept x ∙ s .pre .1 .1 .0 .1),
+            (h .loop .pool) (h .loop .planned) (h .loop .waiting) (h .loop .at) (h .loop .from) (h .loop .end) (rolls h) (inside x) (x .take-in .last .1 .1 .1 .1 .1 .1 .1 .0) (v .0 .0) (joins x (v .0 .0) (v .1)) (waiting-kept x ∙ s .pre .1 .0 .1),
         (
           omega (arith, c .before .before .before .shared-slice-known5 .given (h .loop .at)),
           (omega (arith, inside x, planned-long h), page-fits _ _ _ (inside x) (pool-long h)),

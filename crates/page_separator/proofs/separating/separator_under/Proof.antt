@@ -16,7 +16,7 @@ use Rattle.page_separator.proofs.separating.separator_under.Statement.{
 use Rattle.page_separator.proofs.separating.separator_under.Tie as tie
 
 abbrev start : tie.After-tally-signatures → tie.Start
-start k = k .before .before .before .before
+start k = k .before .before .before .before .before
 
 abbrev probing : tie.Start → List ℕ
 probing s = slice (s .args .from) (s .args .reach) (s .args .waiting .now)
@@ -38,8 +38,8 @@ full k v h u =
 
 tally-signatures-requires : tie.Need-tally-signatures-requires
 tally-signatures-requires c κs =
-    let p = c .before .before .before .pre in
-    (p .0, (p .1 .0, ((refl, λ v h. getD-replicate 256 v 0 0 h), p .1 .1 .1)))
+    let p = c .before .before .before .before .pre in
+    (p .0, (p .1 .0, ((refl, λ v h. getD-replicate 256 v 0 0 h), (p .1 .1 .0 .1, p .1 .1 .1))))
 
 sub-counted-below : tie.Need-sub-counted-below
 sub-counted-below c = search needs
@@ -55,7 +55,7 @@ counted-below-requires c κs =
     let k = c .before .before in
     let s = start k in (
       (
-        s .pre .1 .1 .0,
+        s .pre .1 .1 .0 .0,
         (omega (arith, c .top-of .ensures, top-most (s .args .parameters .bits) (bounds s .bits-most)), omega (arith, s .pre .1 .0 .most)),
       ),
       λ v h u. full k v (omega (arith, c .top-of .ensures)) u,
@@ -68,13 +68,13 @@ cut-requires : tie.Need-cut-requires
 cut-requires c κs =
     let k = c .before .before .before .before .before in
     let s = start k in (
-      s .pre .1 .1 .0,
+      s .pre .1 .1 .0 .0,
       (
         c .before .before .counted-below .ensures,
         omega (
           arith,
           c .before .before .counted-below .ensures,
-          sums k (s .args .most) (omega (arith, s .pre .1 .1 .0)),
+          sums k (s .args .most) (omega (arith, s .pre .1 .1 .0 .0)),
           staying-length (s .args .parameters) (s .args .page) (s .args .most) (probing s),
           length-slice (s .args .from) (s .args .reach) (s .args .waiting .now) (s .pre .1 .0 .inside),
           s .pre .1 .0 .most,
@@ -86,7 +86,7 @@ returns : tie.Need-returns
 returns c =
     let k = c .before .before .before .before .before .before in
     let s = start k in
-    let low : c .cut .result ≤ 255 = omega (arith, c .cut .ensures .0, s .pre .1 .1 .0) in (
+    let low : c .cut .result ≤ 255 = omega (arith, c .cut .ensures .0, s .pre .1 .1 .0 .0) in (
       sym
           (separator-found (s .args .parameters) (s .args .page) (probing s) (s .args .most) (c .cut .result) (c .cut .ensures .0 .0)
           (omega (arith, c .cut .ensures .0, sums k (c .cut .result) (omega arith)))

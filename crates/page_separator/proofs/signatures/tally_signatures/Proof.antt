@@ -24,7 +24,7 @@ abbrev μ-loop : tie.MeasureT-loop
 μ-loop table parameters waiting from reach page counts₀ signatures₀ factor₀ i₀ counts signatures factor i = reach - i
 
 abbrev start : tie.At-loop Inv-loop μ-loop → tie.Start Inv-loop μ-loop
-start k = k .before .before .before
+start k = k .before .before .before .before
 
 -- a signature is one of 255
 below : (c : tie.After-signature-of Inv-loop μ-loop) → c .signature-of .result < 255
@@ -35,13 +35,13 @@ below c =
     omega (arith, c .signature-of .ensures, signature-small (a .args .parameters) (a .args .page) (l .bits-least) (getD (a .args .waiting .now) (k .loop .i) 0), top-most (a .args .parameters .bits) (l .bits-most))
 
 first-factor-requires : tie.Need-first-factor-requires Inv-loop μ-loop
-first-factor-requires c κs = c .before .pre .0
+first-factor-requires c κs = c .before .before .pre .0
 
 loop-holds : tie.Need-loop-holds Inv-loop μ-loop
 loop-holds c =
-    let p = c .before .before .pre in (
+    let p = c .before .before .before .pre in (
       factor-kept _ _ _ (c .first-factor .ensures),
-      (lacking-none _ _ _ _ _ _ (p .1 .0 .order) (p .1 .0 .inside) (p .1 .1 .0 .0) (p .1 .1 .0 .1), signed-none _ _ _ _ _ (p .1 .1 .1)),
+      (lacking-none _ _ _ _ _ _ (p .1 .0 .order) (p .1 .0 .inside) (p .1 .1 .0 .0) (p .1 .1 .0 .1), signed-none _ _ _ _ _ (p .1 .1 .1 .0)),
     )
 
 mul-word : tie.Need-mul-word Inv-loop μ-loop
@@ -58,9 +58,12 @@ factor-for-requires c κs =
       (
         k .loop .inv .0,
         (
-          leb-true _ _
-              (slice-all (λ w. leb (homeOf w) (start k .args .page)) _ _ _ (k .loop .i) (p .1 .0 .homes) (p .1 .0 .inside) (k .loop .inv .1 .0 .least) (omega arith)),
-          p .1 .0 .page,
+          (
+            leb-true _ _
+                (slice-all (λ w. leb (homeOf w) (start k .args .page)) _ _ _ (k .loop .i) (p .1 .0 .homes) (p .1 .0 .inside) (k .loop .inv .1 .0 .least) (omega arith)),
+            p .1 .0 .page,
+          ),
+          p .1 .1 .1 .1 (k .loop .i) (k .loop .inv .1 .0 .least) (omega arith),
         ),
       ),
     )

@@ -5,7 +5,7 @@ use Prim.Native.Nat.{_≤_}
 use native.Mathlib.Omega.{arith}
 use borrow.Author.Needs.{needs}
 use Rattle.hashing.proofs.Bounds.{limits}
-use Rattle.soundness.proofs.Probed.{named-here, named-before-top, named-above}
+use Rattle.soundness.proofs.Probed.{none-first, named-here, named-before-top, named-above}
 use Rattle.soundness.proofs.probing.stands_on.Statement.{statement}
 use Rattle.soundness.proofs.probing.stands_on.Tie as tie
 
@@ -14,7 +14,7 @@ pages-most c = limits (c .args .geometry .parameters) (c .pre .0 .valid) .pages-
 
 returns : tie.Need-returns
 returns c =
-    let s = c .before .before .before in
+    let s = c .before .before .before .before in
     sym (named-above _ _ _ _ _ (s .pre .1 .1 .1) (s .args .page) (omega arith) (c .if1 .taken))
 
 top-of-requires : tie.Need-top-of-requires
@@ -25,12 +25,12 @@ shared-slice-read-if2 c = search needs
 
 passes-requires : tie.Need-passes-requires
 passes-requires c κs =
-    let s = c .before .before .before .before .before .before in
-    ((s .pre .0 .table, s .pre .0 .valid), (omega (arith, pages-most s), omega arith))
+    let s = c .before .before .before .before .before .before .before in
+    (s .pre .0, ((omega arith, (omega (arith, pages-most s), omega (arith, s .pre .1))), omega (arith, s .pre .1 .1 .0 .1)))
 
 returns-2 : tie.Need-returns-2
 returns-2 c =
-    let s = c .before .before .before .before .before .before .before in
+    let s = c .before .before .before .before .before .before .before .before in
     rw (c .passes .ensures)
     (named-before-top _ _ _ _ _ (s .pre .1 .1 .1) (s .pre .0 .valid) (s .args .page) (omega arith) (omega arith)
     (rw (c .before .before .before .top-of .ensures) at (c .before .if2 .taken)))
@@ -40,12 +40,15 @@ add-probe c = search needs
 
 probe-requires : tie.Need-probe-requires
 probe-requires c κs =
-    let s = c .before .before .before .before .before .before in
-    ((s .pre .0 .table, s .pre .0 .valid), (omega (arith, pages-most s), omega arith))
+    let s = c .before .before .before .before .before .before .before in
+    let low : s .args .home ≤ s .args .page = omega arith in (
+      s .pre .0,
+      ((omega arith, (omega arith, omega (arith, s .pre .1))), ((omega (arith, pages-most s, s .pre .1 .1 .0 .0), omega (arith, s .pre .1 .1 .0 .1)), none-first _ _ _ _ (omega (arith, s .pre .1)))),
+    )
 
 returns-3 : tie.Need-returns-3
 returns-3 c =
-    let s = c .before .before .before .before .before .before .before in
+    let s = c .before .before .before .before .before .before .before .before in
     rw (c .probe .ensures) (named-here _ _ _ _ _ (s .pre .1 .1 .1) (s .args .page) (omega arith))
 
 pub stands-on-spec : {M : Type 1} → statement M

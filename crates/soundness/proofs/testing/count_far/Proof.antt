@@ -1,0 +1,85 @@
+-- `soundness::testing::count_far` meets its contract. The invariant: if none of the first i is counted, none is homed below `low`.
+-- Assumes nothing.
+use mathlib.Core.Path.{_≡_}
+use Prim.Native.Nat.{ℕ, _-_, _≤_, _<_}
+use lib.ListN.{getD}
+use native.Mathlib.Omega.{arith}
+use borrow.Author.Needs.{needs}
+use Rattle.soundness.proofs.Items.{far-next}
+use Rattle.soundness.proofs.testing.count_far.Statement.{statement}
+use Rattle.soundness.proofs.testing.count_far.Tie as tie
+
+abbrev Inv-loop : tie.InvT-loop
+Inv-loop numbers found page low far₀ i₀ far i =
+    (i ≤ 32) × ((far ≤ i) × (far ≡ 0 → (j : ℕ) → j < i → (getD numbers j 0 ≡ 0 → ⊥) → low ≤ getD found j 0))
+
+abbrev μ-loop : tie.MeasureT-loop
+μ-loop numbers found page low far₀ i₀ far i = 32 - i
+
+returns : tie.Need-returns Inv-loop μ-loop
+returns c = λ e i h star. omega arith
+
+sub-low : tie.Need-sub-low Inv-loop μ-loop
+sub-low c = search needs
+
+cast-low : tie.Need-cast-low Inv-loop μ-loop
+cast-low c = search needs
+
+loop-holds : tie.Need-loop-holds Inv-loop μ-loop
+loop-holds c = (omega arith, (omega arith, λ e j h star. omega arith))
+
+mul-homed-below : tie.Need-mul-homed-below Inv-loop μ-loop
+mul-homed-below c = search needs
+
+element-copy-out-homed-below : tie.Need-element-copy-out-homed-below Inv-loop μ-loop
+element-copy-out-homed-below c = search needs
+
+mul-homed-below-2 : tie.Need-mul-homed-below-2 Inv-loop μ-loop
+mul-homed-below-2 c = search needs
+
+element-copy-out-homed-below-2 : tie.Need-element-copy-out-homed-below-2 Inv-loop μ-loop
+element-copy-out-homed-below-2 c = search needs
+
+homed-below-requires : tie.Need-homed-below-requires Inv-loop μ-loop
+homed-below-requires c κs = tt
+
+add-far : tie.Need-add-far Inv-loop μ-loop
+add-far c = omega (arith, c .homed-below .ensures .0, c .before .before .before .before .loop .inv .1 .0)
+
+add-i : tie.Need-add-i Inv-loop μ-loop
+add-i c = search needs
+
+loop-less : tie.Need-loop-less Inv-loop μ-loop
+loop-less c = search needs
+
+loop-again : tie.Need-loop-again Inv-loop μ-loop
+loop-again c =
+    let r = c .homed-below .ensures in
+    let loop = c .before .before .before .before .loop in
+    (omega arith, (omega (arith, r .0, loop .inv .1 .0), far-next _ _ _ _ _ _ (loop .inv .1 .1) (r .1)))
+
+returns-2 : tie.Need-returns-2 Inv-loop μ-loop
+returns-2 c =
+    let loop = c .before .loop in
+    λ e i h star. omega (arith, loop .inv .1 .1 e i (omega arith) star)
+
+pub count-far-spec : {M : Type 1} → statement M
+count-far-spec =
+    tie.close
+    (tie.spec
+    Inv-loop
+    μ-loop
+    returns
+    sub-low
+    cast-low
+    loop-holds
+    mul-homed-below
+    element-copy-out-homed-below
+    mul-homed-below-2
+    element-copy-out-homed-below-2
+    homed-below-requires
+    add-far
+    add-i
+    loop-less
+    loop-again
+    returns-2)
