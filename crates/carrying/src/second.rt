@@ -16,9 +16,9 @@ use page_plan::Outcome;
 
 // What the sources in the pool name of the old file, with the planned separators.
 fn write_second(
-    numbers: &[u32],
-    words: &[u64],
-    owners: &[u8],
+    oldnumbers: &[u32],
+    oldwords: &[u64],
+    oldowners: &[u8],
     secondseparators: &mut [u8],
     secondnumbers: &mut [u32],
     secondwords: &mut [u64],
@@ -31,15 +31,15 @@ fn write_second(
     requires { ⌜ length (now secondwords) ≡ length (now pool) ⌝ }
     requires { ⌜ length (now secondowners) ≡ length (now pool) ⌝ }
     ensures { λ _. ⌜ after secondseparators secondnumbers secondwords secondowners ≡ lent (take (length (now (secondseparators .entry))) (now (planned .entry)))
-        (map (namedItem (now (numbers .entry)) 0) (now (pool .entry))) (map (namedItem (now (words .entry)) 0) (now (pool .entry)))
-        (map (namedItem (now (owners .entry)) 0) (now (pool .entry))) ⌝ }
+        (map (namedItem (now (oldnumbers .entry)) 0) (now (pool .entry))) (map (namedItem (now (oldwords .entry)) 0) (now (pool .entry)))
+        (map (namedItem (now (oldowners .entry)) 0) (now (pool .entry))) ⌝ }
 {
     let items = pool.len();
     buffers::copy_32(secondnumbers, 0, pool, 0, items);
     plan_transfer::fetch(
-        numbers,
-        words,
-        owners,
+        oldnumbers,
+        oldwords,
+        oldowners,
         secondnumbers,
         secondwords,
         secondowners,

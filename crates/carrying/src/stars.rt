@@ -33,7 +33,7 @@ fn plan_stars(
     let parameters = geometry.parameters;
     let pages = parameters.pages as usize;
     let mut ends = [0u32; 1024];
-    let stars = key_stars(table, geometry, numbers, pool);
+    let stars = key_stars(table, geometry, numbers, pool, waiting);
     gather_stars(numbers, pool, waiting, &mut ends, stars, pages);
     settle_pages(
         parameters,

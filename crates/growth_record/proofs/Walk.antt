@@ -66,11 +66,11 @@ use Rattle.growth_record.proofs.kept.Symbol.{name as #growth-record·ke
 use Rattle.growth_record.proofs.grow as f
 
 -- parameters that were passed on for good: what the callee said of their last values is had
-abbrev passed : {n : ℕ} (ss : List (Slot n)) → Stays ss (all yes ss)
+abbrev pub passed : {n : ℕ} (ss : List (Slot n)) → Stays ss (all yes ss)
 passed [] = tt
 passed (s ∷ ss) = (record { fit = λ κs x w. Unit {0}; has = λ κs x w vs. left (s .row κs .exit yes) x w }, passed ss)
 
-goes-passed : {M : Type 1} (𝓤 : URA M) (H : Heap 𝓤) (A : Atoms 𝓤) (W : Given 𝓤 H A) (n : ℕ) (ss : List (Slot n)) → AllGo 𝓤 H A W n ss (all yes ss) (passed ss)
+pub goes-passed : {M : Type 1} (𝓤 : URA M) (H : Heap 𝓤) (A : Atoms 𝓤) (W : Given 𝓤 H A) (n : ℕ) (ss : List (Slot n)) → AllGo 𝓤 H A W n ss (all yes ss) (passed ss)
 goes-passed 𝓤 H A W n [] = tt
 goes-passed 𝓤 H A W n (s ∷ ss) = ((λ κs x w vs fits. W .laws .⇛-intro (sem 𝓤 H A (left (s .row κs .exit yes) x w))), goes-passed 𝓤 H A W n ss)
 

@@ -1,10 +1,10 @@
-// Growth and shrinking for a caller who lends the growth record.
+// Growth, at once and in steps, and shrinking for a caller who lends the growth record.
 ghost use mathlib.Core.Path.{_≡_};
 ghost use Rattle.placement.specs.Lent.{before, after};
 ghost use Rattle.calls.specs.Answers.{Leaves, placed};
 ghost use Rattle.calls.specs.Lent.{poolBefore, poolAfter};
-ghost use Rattle.calls.specs.Records.{growUnder, shrinkUnder, recordAfter};
-ghost use Rattle.growth_record.specs.Record.{keptBy};
+ghost use Rattle.calls.specs.Records.{growUnder, shrinkUnder, recordAfter, openUnder, stepUnder, LeavesStep};
+ghost use Rattle.growth_record.specs.Record.{keptBy, recorded};
 use calls::answers::Placed;
 use calls::records::GrowthRecord;
 use calls::records::Recorded;
@@ -74,6 +74,86 @@ pub fn shrink(
     );
     *growth = kept(old, shrunk);
     shrunk.answer
+}
+
+// Opens a growth into the second set, and tells the record.
+pub fn open_growth(
+    parameters: Parameters,
+    growth: &mut GrowthRecord,
+    separators: &[u8],
+    numbers: &[u32],
+    words: &[u64],
+    owners: &[u8],
+    secondseparators: &mut [u8],
+    secondnumbers: &mut [u32],
+    secondwords: &mut [u64],
+    secondowners: &mut [u8],
+    poolnumbers: &mut [u32],
+    poolwords: &mut [u64],
+    poolowners: &mut [u8],
+) -> Placed
+    ensures { λ r. ⌜ LeavesStep (openUnder parameters (now (growth .entry)) (before separators numbers words owners)
+        (before secondseparators secondnumbers secondwords secondowners) (poolBefore poolnumbers poolwords poolowners))
+        (recorded r (now (growth .exit))) (after secondseparators secondnumbers secondwords secondowners) (poolAfter poolnumbers poolwords poolowners) ⌝ }
+{
+    let old = *growth;
+    let opened = starfile::open_growth(
+        parameters,
+        old,
+        separators,
+        numbers,
+        words,
+        owners,
+        secondseparators,
+        secondnumbers,
+        secondwords,
+        secondowners,
+        poolnumbers,
+        poolwords,
+        poolowners,
+    );
+    *growth = opened.growth;
+    opened.answer
+}
+
+// One of its steps.
+pub fn step_growth(
+    parameters: Parameters,
+    growth: &mut GrowthRecord,
+    separators: &[u8],
+    numbers: &[u32],
+    words: &[u64],
+    owners: &[u8],
+    secondseparators: &mut [u8],
+    secondnumbers: &mut [u32],
+    secondwords: &mut [u64],
+    secondowners: &mut [u8],
+    poolnumbers: &mut [u32],
+    poolwords: &mut [u64],
+    poolowners: &mut [u8],
+) -> Placed
+    ensures { λ r. ⌜ LeavesStep (stepUnder parameters (now (growth .entry)) (before separators numbers words owners)
+        (before secondseparators secondnumbers secondwords secondowners) (poolBefore poolnumbers poolwords poolowners))
+        (recorded r (now (growth .exit))) (after secondseparators secondnumbers secondwords secondowners) (poolAfter poolnumbers poolwords poolowners) ⌝ }
+{
+    let old = *growth;
+    let stepped = starfile::step_growth(
+        parameters,
+        old,
+        separators,
+        numbers,
+        words,
+        owners,
+        secondseparators,
+        secondnumbers,
+        secondwords,
+        secondowners,
+        poolnumbers,
+        poolwords,
+        poolowners,
+    );
+    *growth = stepped.growth;
+    stepped.answer
 }
 
 // The record after the call: the new one if it was accepted, the old one if it was refused.

@@ -7,10 +7,10 @@ use native.Mathlib.Nat.{zero-add, zero-mul, mul-le-mul}
 use native.Mathlib.Omega.{arith}
 use lib.Dec.{eqb, ltb}
 use lib.ListN.{length, getD, take, drop, length-map, List·getD-map}
-use lib.Seq.{length-take-le, getD-take, getD-drop}
+use lib.Seq.{length-take-le, getD-take, getD-drop, take-all, paste}
 use borrow.Author.Tests.{eq-eqb, ne-eqb, lt-ltb, ltb-true}
 use Rattle.buffers.proofs.Lists.{map-take, map-drop}
-use Rattle.buffers.proofs.Written.{written-whole}
+use Rattle.buffers.proofs.Written.{written-whole, paste-written, pasted-whole}
 use Rattle.pages.specs.Page.{stretch}
 use Rattle.hashing.specs.declared.Parameters.{Parameters}
 use Rattle.hashing.specs.declared.Growth.{Growth}
@@ -19,7 +19,8 @@ use Rattle.hashing.proofs.Bounds.{limits, growth-within, spread}
 use Rattle.placement.specs.Rule.{Star, Hash, Contents, pages, left, separators}
 use Rattle.placement.specs.File.{File, Sized, replaced, laid, fileOf, column}
 use Rattle.placement.specs.Distinct.{distinct}
-use Rattle.placement.specs.Hash.{hashOf, homeIn, homesOf}
+use Rattle.placement.specs.Hash.{hashOf, homeIn, homesOf, lent}
+use Rattle.plan_transfer.specs.Sources.{namedItem}
 use Rattle.placement.proofs.Composition.{length-pages}
 use Rattle.placement.proofs.Standing.{length-separators}
 use Rattle.placement.proofs.Writing.{length-column}
@@ -143,6 +144,55 @@ module _ (p : Parameters) (valid : validParameters p ≡ true) (f : File) (x : L
               (layout p 0 (p .pages) [] x pool pool′ planned planned′ W′ r P (omega (arith, whole)) (omega (arith, limits p valid .pages-most)))
               (unfold sourced all in refl) s,
         )
+
+-- What writing back leaves.
+pub written-back : (ns ws os ss pool W po planned pool₁ W₁ po₁ ns′ ws′ os′ ss′ : List ℕ)
+    → length ss ≤ length planned → length ns ≡ length pool → length ws ≡ length pool → length os ≡ length pool → length W ≡ length pool → length po ≡ length pool
+    → pool₁ ≡ paste pool 0 (map (namedItem ns 0) (drop 0 pool)) (length pool)
+    → W₁ ≡ paste W 0 (map (namedItem ws 0) (drop 0 pool)) (length pool)
+    → po₁ ≡ paste po 0 (map (namedItem os 0) (drop 0 pool)) (length pool)
+    → ns′ ≡ paste ns 0 (drop 0 pool₁) (length pool)
+    → ws′ ≡ paste ws 0 (drop 0 W₁) (length pool)
+    → os′ ≡ paste os 0 (drop 0 po₁) (length pool)
+    → ss′ ≡ paste ss 0 (drop 0 planned) (length ss)
+    → lent ss′ ns′ ws′ os′ ≡ lent (take (length ss) planned) (map (namedItem ns 0) pool) (map (namedItem ws 0) pool) (map (namedItem os 0) pool)
+written-back ns ws os ss pool W po planned pool₁ W₁ po₁ ns′ ws′ os′ ss′ ls ln lw lo lW lp e₁ e₂ e₃ en ew eo es =
+    let n : ns′ ≡ map (namedItem ns 0) pool = back ns pool pool₁ ns ns′ refl ln e₁ en in
+    let w : ws′ ≡ map (namedItem ws 0) pool = back ws W W₁ ws ws′ lW lw e₂ ew in
+    let o : os′ ≡ map (namedItem os 0) pool = back os po po₁ os os′ lp lo e₃ eo in
+    let s : ss′ ≡ take (length ss) planned
+    = es ∙ paste-written ss 0 planned (length ss) ls ∙ written-whole (take (length ss) planned) ss (length-take-le (length ss) planned ls) in
+    rw (n, w, o, s)
+  where
+    back : (l d d₁ e e′ : List ℕ) → length d ≡ length pool → length e ≡ length pool → d₁ ≡ paste d 0 (map (namedItem l 0) (drop 0 pool)) (length pool) → e′ ≡ paste e 0 (drop 0 d₁) (length pool)
+        → e′ ≡ map (namedItem l 0) pool
+    back l d d₁ e e′ ld le h k =
+        let fetched : d₁ ≡ map (namedItem l 0) pool = h ∙ pasted-whole d (map (namedItem l 0) pool) (length pool) ld (length-map pool (namedItem l 0)) in
+        k ∙ rw fetched (pasted-whole e (map (namedItem l 0) pool) (length pool) le (length-map pool (namedItem l 0)))
+
+-- All pages applied: nothing of the file stays.
+pub applied-whole : (places M : ℕ) (pool planned ss ns ws os : List ℕ) → length pool ≡ M * places → M ≤ length planned → Sized places M (lent ss ns ws os)
+    → lent (take (length ss) planned) (map (namedItem ns 0) pool) (map (namedItem ws 0) pool) (map (namedItem os 0) pool) ≡ applied places 0 M 0 0 0 pool planned (lent ss ns ws os)
+unfolding applied
+applied-whole places M pool planned ss ns ws os lp ld z =
+    λ i. record {
+      separators = sep i;
+      numbers = sym (items ns ns (z .ofNumbers)) i;
+      words = sym (items ws ws (z .ofWords)) i;
+      owners = sym (items os os (z .ofOwners)) i;
+    }
+  where
+    sep : take (length ss) planned ≡ Rattle.buffers.specs.Lists.written 0 (take M planned) ss
+    sep = ap (λ (n : ℕ). take n planned) (z .ofSeparators) ∙ sym (written-whole (take M planned) ss (length-take-le M planned ld ∙ sym (z .ofSeparators)))
+
+    all-pages : stretch places 0 M pool ≡ pool
+    all-pages = rw (zero-mul places) (take-all (M * places) pool (omega arith))
+
+    items : (l d : List ℕ) → length d ≡ M * places → Rattle.buffers.specs.Lists.written (0 * places) (map (namedItem l 0) (stretch places 0 M pool)) d ≡ map (namedItem l 0) pool
+    items l d e =
+        ap (λ (n : ℕ). Rattle.buffers.specs.Lists.written n (map (namedItem l 0) (stretch places 0 M pool)) d) (zero-mul places)
+        ∙ ap (λ (s : List ℕ). Rattle.buffers.specs.Lists.written 0 (map (namedItem l 0) s) d) all-pages
+        ∙ written-whole (map (namedItem l 0) pool) d (length-map pool (namedItem l 0) ∙ lp ∙ sym e)
 
 none-left : (w : List Star) → eqb (length w) 0 ≡ isEmpty w
 none-left [] = refl

@@ -15,13 +15,14 @@ use tester::Tester;
 /// A name, how often a quick run repeats it and a round of a soak, and what to do.
 type Scenario = (&'static str, u64, u64, fn(&mut Tester));
 
-const SCENARIOS: [Scenario; 28] = [
+const SCENARIOS: [Scenario; 29] = [
     ("tiny files", 12, 3, scenarios::tiny_files),
     ("edge histories", 20, 10, scenarios::edge_histories),
     ("small histories", 3_000, 1_000, scenarios::small_history),
     ("every size, edges", 3, 1, scenarios::every_edge_size),
     ("every size", 500, 150, scenarios::every_size),
     ("growths in steps", 600, 200, scenarios::growths_in_steps),
+    ("growths in steps, sound files", 600, 200, scenarios::sound_growths_in_steps),
     ("single-bit damage", 45, 20, scenarios::single_bit_damage),
     ("single-bit arguments", 40, 10, scenarios::single_bit_arguments),
     ("damaged sessions", 15_000, 4_000, scenarios::damaged_session),

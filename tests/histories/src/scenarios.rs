@@ -121,6 +121,32 @@ pub fn growths_in_steps(tester: &mut Tester) {
     }
 }
 
+/// A growth in steps of a file whose pages are sound under separators that the rule need not give: after every step the finished
+/// pages and an empty rest, and after the last the growth at once.
+pub fn sound_growths_in_steps(tester: &mut Tester) {
+    let parameters = small_parameters(&mut tester.random);
+    let growth = random_growth(&mut tester.random, &parameters);
+    let mut lent = sound_file(&mut tester.random, &parameters, &growth);
+    random_second(&mut tester.random, &mut lent);
+    random_pool(&mut tester.random, &mut lent);
+    let grow = Call::new(Kind::Grow, parameters, Record::closed(growth));
+    let (grown, finished) = tester.compare(&grow, &lent);
+    let (mut last, mut after) = tester.compare(&Call { kind: Kind::Open, ..grow }, &lent);
+    tester.expect(last.refusal == grown.refusal, "opening is refused otherwise than growing");
+    if grown.refusal != 0 {
+        return;
+    }
+    for steps in 0..parameters.pages {
+        tester.expect(after.second == second_after(&parameters, &finished.file, steps), "other pages are done than the first");
+        tester.expect(last.record == Record { growth, open: true, steps }, "another record than after so many steps");
+        lent.second = after.second;
+        random_pool(&mut tester.random, &mut lent);
+        (last, after) = tester.compare(&Call { kind: Kind::Step, record: last.record, ..grow }, &lent);
+    }
+    tester.expect(after.second == finished.file, "the last step leaves another file than the growth at once");
+    tester.expect((last.page, last.record) == (grown.page, grown.record), "the last step answers otherwise than the growth at once");
+}
+
 /// The first, a middle and the last steps of a growth of a large file.
 pub fn large_steps(tester: &mut Tester) {
     let list = tester.random.pick(&LARGE);

@@ -32,7 +32,7 @@ returns c =
     let g = e .before .before .before .before .before .before .before .before .before in
     let d = g .before .before .before .before .before .before in
     let s = d .before .before .before .before .before .before .before .before .before .before in
-    second-written (now (s .args .numbers)) (now (s .args .words)) (now (s .args .owners)) (now (s .args .secondseparators)) (now (s .args .secondnumbers))
+    second-written (now (s .args .oldnumbers)) (now (s .args .oldwords)) (now (s .args .oldowners)) (now (s .args .secondseparators)) (now (s .args .secondnumbers))
     (now (s .args .secondwords)) (now (s .args .secondowners)) (now (s .args .pool)) (now (s .args .planned)) _ _ _ _ _
     (s .pre .1 .0) (s .pre .1 .1 .0) (s .pre .1 .1 .1) (s .pre .0) (d .copy-32 .ensures) (g .fetch .ensures .0) (g .fetch .ensures .1 .0) (g .fetch .ensures .1 .1)
     (e .copy-8 .ensures)

@@ -12,7 +12,7 @@ use Rattle.carrying.proofs.stars.plan_stars.Statement.{statement}
 use Rattle.carrying.proofs.stars.plan_stars.Tie as tie
 
 abbrev start : tie.After-key-stars → tie.Start
-start c = c .before .before .before .before .before .before .before
+start c = c .before .before .before .before .before .before .before .before
 
 -- the keys fit the pool
 inside : (c : tie.After-key-stars) → c .key-stars .result ≤ length (c .key-stars .last .1 .1 .1 .0)
@@ -24,21 +24,23 @@ items s =
     mul-le-mul (l .pages-most) (l .places-most)
 
 -- .. and so do the words
-wide : (c : tie.After-key-stars) → c .key-stars .result ≤ length (now (start c .args .waiting))
-wide c = omega (arith, inside c, c .key-stars .kept .1 .1 .1 .0, start c .pre .1 .1 .0, start c .pre .1 .1 .1 .0)
+wide : (c : tie.After-key-stars) → c .key-stars .result ≤ length (c .key-stars .last .1 .1 .1 .1 .0)
+wide c = omega (arith, inside c, c .key-stars .kept .1 .1 .1 .0, c .key-stars .kept .1 .1 .1 .1 .0, start c .pre .1 .1 .0, start c .pre .1 .1 .1 .0)
 
 cast-pages : tie.Need-cast-pages
 cast-pages c = search needs
 
 key-stars-requires : tie.Need-key-stars-requires
-key-stars-requires c κs = search needs
+key-stars-requires c κs =
+    let s = c .before .before .before .before .before .before .before in
+    (s .pre .0, (s .pre .1 .0, (s .pre .1 .1 .1 .1 .1, omega (arith, s .pre .1 .1 .0, s .pre .1 .1 .1 .0, s .pre .1 .1 .1 .1 .1))))
 
 slice-aggregate-gather-stars : tie.Need-slice-aggregate-gather-stars
 slice-aggregate-gather-stars c = search needs
 
 gather-stars-requires : tie.Need-gather-stars-requires
 gather-stars-requires c κs =
-    let k = c .before .before .before .before .before in
+    let k = c .before .before .before .before .before .before .before in
     let s = start k in (
       stars-keyed (s .args .geometry) (s .pre .0 .valid) (s .pre .0 .growth) (now (s .args .numbers)) (s .pre .1 .0 .0) _ _ (k .key-stars .ensures .0) (k .key-stars .ensures .1) (inside k),
       ((limits _ (s .pre .0 .valid) .pages-most, wide k), s .pre .1 .0 .1),
@@ -50,11 +52,11 @@ slice-aggregate-settle-pages c = search needs
 settle-pages-requires : tie.Need-settle-pages-requires
 settle-pages-requires c κs =
     let t = c .before .before .before .before .before .before .before in
-    let k = t .before .before .before .before .before .before in
+    let k = t .before .before .before .before .before .before .before .before in
     let s = start k in
     stars-settleable (s .args .geometry) (s .pre .0 .valid) (s .pre .0 .growth) (now (s .args .numbers)) (s .pre .1 .0 .0) _ _ (k .key-stars .ensures .0) (k .key-stars .ensures .1) (inside k)
-    (now (s .args .waiting)) _ _ (t .gather-stars .ensures) (wide k) (t .gather-stars .kept .1 .1 .0) _ _
-    (omega (arith, k .key-stars .kept .1 .1 .1 .0, s .pre .1 .1 .0)) (omega (arith, t .gather-stars .kept .1 .1 .0, s .pre .1 .1 .1 .0, items s))
+    (k .key-stars .last .1 .1 .1 .1 .0) _ _ (t .gather-stars .ensures) (wide k) (t .gather-stars .kept .1 .1 .0) _ _
+    (omega (arith, k .key-stars .kept .1 .1 .1 .0, s .pre .1 .1 .0)) (omega (arith, t .gather-stars .kept .1 .1 .0, k .key-stars .kept .1 .1 .1 .1 .0, s .pre .1 .1 .1 .0, items s))
     (omega (arith, s .pre .1 .1 .1 .1 .0)) (omega (arith, t .gather-stars .kept .1 .1 .1 .0))
 
 same-length : tie.Need-same-length
@@ -67,13 +69,13 @@ returns : tie.Need-returns
 returns c =
     let e = c .before .before .before .before in
     let t = e .before .before .before .before .before .before .before .before in
-    let k = t .before .before .before .before .before .before in
+    let k = t .before .before .before .before .before .before .before .before in
     let s = start k in
     let L = limits (s .args .geometry .parameters) (s .pre .0 .valid) in
     planned-whole (s .args .geometry .parameters) _ _ _ _ _ _ _
     (planned-again _ _ _ _ _ _ _ _ _ _ _
     (rw (stars-grouped (s .args .geometry) (s .pre .0 .valid) (s .pre .0 .growth) (now (s .args .numbers)) (s .pre .1 .0 .0) _ _ (k .key-stars .ensures .0) (k .key-stars .ensures .1) (inside k)
-    (now (s .args .waiting)) _ _ (t .gather-stars .ensures) (wide k) (t .gather-stars .kept .1 .1 .0)) at (e .settle-pages .ensures)))
+    (k .key-stars .last .1 .1 .1 .1 .0) _ _ (t .gather-stars .ensures) (wide k) (t .gather-stars .kept .1 .1 .0)) at (e .settle-pages .ensures)))
     (omega (arith, k .key-stars .kept .1 .1 .1 .0, s .pre .1 .1 .0)) (omega (arith, L .pages-most, s .pre .1 .1 .1 .1 .0))
 
 pub plan-stars-spec : {M : Type 1} → statement M

@@ -1,13 +1,10 @@
 use mathlib.Core.Path.{_≡_, _∙_}
-use Prim.Native.Nat.{_+_, _*_}
-use native.Mathlib.Nat.{zero-add}
 use native.Mathlib.Omega.{arith}
 use denote.Ref.{now}
 use Rattle.hashing.proofs.Bounds.{limits}
 use Rattle.placement.specs.File.{File}
 use Rattle.placement.specs.Hash.{lent}
-use Rattle.removal_reach.proofs.Ruled.{applied-lists}
-use Rattle.mending.proofs.Renewed.{settleable, renew-kept, renew-placed}
+use Rattle.mending.proofs.Renewed.{settleable, renew-kept, renew-placed, applied-whole}
 use borrow.Author.Needs.{needs}
 use Rattle.mending.proofs.renewing.renew.Statement.{statement}
 use Rattle.mending.proofs.renewing.renew.Tie as tie
@@ -39,27 +36,18 @@ returns c =
     let s = start k in
     renew-kept (s .args .parameters) (s .pre .0) (file s) _ _ _ _ _ _ _ (k .settle-pages .ensures) (c .if1 .taken)
 
-slice-aggregate-apply : tie.Need-slice-aggregate-apply
-slice-aggregate-apply c = search needs
-
-cast-apply : tie.Need-cast-apply
-cast-apply c = search needs
-
-apply-requires : tie.Need-apply-requires
-apply-requires c κs =
-    let k = c .before .before .before .before .before .before .before .before .before .before .before .before .before .before .before in
+write-back-requires : tie.Need-write-back-requires
+write-back-requires c κs =
+    let k = c .before .before .before .before .before .before .before .before .before .before .before .before .before .before in
     let s = start k in
     let l = limits (s .args .parameters) (s .pre .0) in
     let z = s .pre .1 .0 in
     let o = s .pre .1 .1 .0 in
-    let whole : (0 + s .args .parameters .pages) * s .args .parameters .places ≡ s .args .parameters .pages * s .args .parameters .places = rw (zero-add (s .args .parameters .pages)) in (
-      (l .places-most, omega (arith, l .pages-most)),
+    let e = k .settle-pages .kept .1 .0 in (
+      omega (arith, z .ofSeparators, l .pages-most, k .settle-pages .kept .1 .1 .1 .0),
       (
-        (omega (arith, z .ofSeparators), omega (arith, l .pages-most, k .settle-pages .kept .1 .1 .1 .0)),
-        (
-          (omega (arith, whole, z .ofNumbers), omega (arith, whole, z .ofWords)),
-          ((omega (arith, whole, o .ofNumbers, k .settle-pages .kept .1 .0), omega (arith, whole, o .ofWords, k .settle-pages .kept .1 .1 .0)), (omega (arith, whole, z .ofOwners), omega (arith, whole, o .ofOwners))),
-        ),
+        (omega (arith, z .ofNumbers, o .ofNumbers, e), (omega (arith, z .ofWords, o .ofNumbers, e), omega (arith, z .ofOwners, o .ofNumbers, e))),
+        (omega (arith, o .ofWords, o .ofNumbers, e, k .settle-pages .kept .1 .1 .0), omega (arith, o .ofOwners, o .ofNumbers, e)),
       ),
     )
 
@@ -86,13 +74,18 @@ same-length-9 c = search needs
 
 returns-2 : tie.Need-returns-2
 returns-2 c =
-    let applying = c .before .before .before .before .before .before .before .before .before .before .before .before .before .before in
-    let chosen = applying .before .before .before .before .before .before .before .before .before .before in
+    let back = c .before .before .before .before .before .before .before .before .before .before .before .before .before .before in
+    let chosen = back .before .before .before .before .before .before .before .before .before in
     let k = chosen .before .before .before .before .before .before in
     let s = start k in
     let done = renew-placed (s .args .parameters) (s .pre .0) (file s) _ _ _ _ _ _ _ (k .settle-pages .ensures) (chosen .if1 .left) (s .pre .1 .1 .0 .ofNumbers) (omega arith) (s .pre .1 .1 .1 .1) in
-    let left = applying .apply .ensures in
-    (done .0, applied-lists _ _ _ _ _ _ _ _ _ _ _ _ _ (left .0) (left .1 .0) (left .1 .1 .0) (left .1 .1 .1 .0) ∙ done .1)
+    let l = limits (s .args .parameters) (s .pre .0) in (
+      done .0,
+      back .write-back .ensures
+          ∙ applied-whole (s .args .parameters .places) (s .args .parameters .pages) _ _ _ _ _ _ (omega (arith, s .pre .1 .1 .0 .ofNumbers, k .settle-pages .kept .1 .0))
+          (omega (arith, l .pages-most, k .settle-pages .kept .1 .1 .1 .0)) (s .pre .1 .0)
+          ∙ done .1,
+    )
 
 pub renew-spec : {M : Type 1} → statement M
 renew-spec =
@@ -104,9 +97,7 @@ renew-spec =
     same-length
     same-length-2
     returns
-    slice-aggregate-apply
-    cast-apply
-    apply-requires
+    write-back-requires
     same-length-3
     same-length-4
     same-length-5
