@@ -14,7 +14,7 @@ help:
 	@echo "make stack      the stack that each call from C needs, and the size of the code: seconds, proving first"
 	@echo "make soak       random histories for as long as you like, proving first"
 	@echo "make library    the library for C, static and shared: seconds, proving first"
-	@echo "make install    library, header, starline, manual and examples below PREFIX (/usr/local); make uninstall removes them"
+	@echo "make install    library, header, programs, manual and examples below PREFIX (/usr/local); make uninstall removes them"
 	@echo "make python     the library for the Python package and command (docs/GUIDE.md): seconds, proving first"
 	@echo "make catalogue  41,673 stars of Debian's kstars-data through a file's life: ten seconds, proving first; apt installs them"
 	@echo "make pictures   the pictures of docs/pictures/"
@@ -68,7 +68,7 @@ soak:
 library:
 	@tools/shared
 
-# Library, header, program, man pages and examples below DESTDIR and PREFIX (/usr/local).
+# Library, header, programs, man pages and examples below DESTDIR and PREFIX (/usr/local).
 install:
 	@PREFIX=$(PREFIX) DESTDIR=$(DESTDIR) tools/install
 

@@ -117,13 +117,14 @@ returns-4 c =
     let e = t .before .before in
     let k = e .before .before in
     let s = start k in
-    let rows = k .before .rows .given .0 .0 in
-    (rw (← part-listed (s .args .part) (s .args .given .now) (k .before .before .before .table-rows .ensures) rows (k .before .rows .given .1) (good e)
-    (sym (t .before .pad-zero .ensures) ∙ not-false _ (t .if2 .left)) (m .before .at-most .result) (m .at-most2 .result)
-    (least-is (m .before .at-most .result) (8192 * s .args .part) rows (m .before .at-most .ensures .1 .1 .0) (m .before .at-most .ensures .1 .1 .1))
-    (least-is (m .at-most2 .result) (rows - m .before .at-most .result) 8192 (m .at-most2 .ensures .1 .1 .0) (m .at-most2 .ensures .1 .1 .1)))
-    (c .before .before .put-lines .ensures .0),
-    omega (arith, c .before .before .put-lines .ensures .1, m .at-most2 .ensures))
+    let rows = k .before .rows .given .0 .0 in (
+      rw (← part-listed (s .args .part) (s .args .given .now) (k .before .before .before .table-rows .ensures) rows (k .before .rows .given .1) (good e)
+          (sym (t .before .pad-zero .ensures) ∙ not-false _ (t .if2 .left)) (m .before .at-most .result) (m .at-most2 .result)
+          (least-is (m .before .at-most .result) (8192 * s .args .part) rows (m .before .at-most .ensures .1 .1 .0) (m .before .at-most .ensures .1 .1 .1))
+          (least-is (m .at-most2 .result) (rows - m .before .at-most .result) 8192 (m .at-most2 .ensures .1 .1 .0) (m .at-most2 .ensures .1 .1 .1)))
+          (c .before .before .put-lines .ensures .0),
+      omega (arith, c .before .before .put-lines .ensures .1, m .at-most2 .ensures),
+    )
 
 pub list-spec : {M : Type 1} → statement M
 list-spec =
