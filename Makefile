@@ -15,7 +15,7 @@ help:
 	@echo "make stack      the stack that each call from C needs, and the size of the code: seconds, proving first"
 	@echo "make soak       random histories for as long as you like, proving first"
 	@echo "make library    the library for C, static and shared: seconds, proving first"
-	@echo "make install    library, header, starline, Python package and command, manual, examples below PREFIX (/usr/local); make uninstall"
+	@echo "make install    library, header, programs, Python package and command, manual, examples below PREFIX (/usr/local); make uninstall"
 	@echo "make python     the library for the Python package and command (docs/GUIDE.md): seconds, proving first"
 	@echo "make catalogue  41,673 stars of Debian's kstars-data through a file's life: ten seconds, proving first; apt installs them"
 	@echo "make pictures   the pictures of docs/pictures/"

@@ -1,27 +1,22 @@
 -- A row's number and word in the columns, by its source.
 use mathlib.Core.Path.{_≡_, refl, sym, ap, _∙_}
-use mathlib.Core.Bool.{Bool, true, false, _&&_, false≢true}
+use mathlib.Core.Bool.{true}
 use mathlib.Core.List.{List, [], _∷_, map}
 use Prim.Native.Nat.{ℕ, zero, suc, _+_, _-_, _*_, _≤_, _<_}
 use native.Mathlib.Nat.{zero-add}
 use native.Mathlib.Omega.{arith}
-use lib.Dec.{ltb}
 use lib.ListN.{length, getD, set, take, drop, length-map, length-drop, List·getD-eq-default}
 use lib.Seq.{paste, getD-drop, take-paste}
-use borrow.Author.Tests.{ltb-true, lt-ltb}
 use Rattle.buffers.proofs.Copies.{Copied, turn}
-use Rattle.buffers.proofs.Tests.{and-true}
 use Rattle.buffers.proofs.Written.{pasted-whole}
-use Rattle.pages.specs.Position.{validNumber, validPosition, packed}
+use Rattle.pages.specs.Position.{packed}
 use Rattle.plan_transfer.specs.Sources.{namedItem}
 use Rattle.fits_table.specs.declared.rows.Row.{Row}
 use Rattle.fits_table.specs.declared.rows.Row.the-variants.{Star, Wrong}
-use Rattle.fits_table.specs.Rows.{from32, positionAt, rowAnswer, rowAt, goodAfter, goodRows, rowsRead}
+use Rattle.fits_table.specs.Rows.{from32, positionAt, rowAt, goodRows, rowsRead}
+use Rattle.fits_table.proofs.GoodRows.{step, good-row}
 use Rattle.fits_table.proofs.Reading.{length-read}
 use Rattle.fits_pages.specs.Columns.{numbersRead, wordsRead}
-
-step : (at i : ℕ) → at + 12 + 12 * i ≡ at + 12 * suc i
-step at i = omega arith
 
 pub number-of-row : (l : List ℕ) (at n i : ℕ) → i < n → getD (map (λ (r : ℕ × ℕ). r .0) (rowsRead l at n)) i 0 ≡ from32 l (at + 12 * i)
 unfolding rowsRead
@@ -61,30 +56,6 @@ number-named l n s h k = sym (named-item (numbersRead l n) s h ∙ number-of-row
 
 pub word-named : (l : List ℕ) (n s : ℕ) → (s ≡ 0 → ⊥) → s ≤ n → packed (positionAt l (5760 + 12 * (s - 1))) ≡ namedItem (wordsRead l n) 0 s
 word-named l n s h k = sym (named-item (wordsRead l n) s h ∙ word-of-row l 5760 n (s - 1) (omega arith))
-
--- each of the good rows is read as it is by itself
-pub good-row : (l : List ℕ) (n last at i : ℕ) → goodRows last l at n ≡ true → i < n
-    → rowAt 0 l (at + 12 * i) ≡ Star (from32 l (at + 12 * i)) (packed (positionAt l (at + 12 * i)))
-unfolding goodRows rowAt
-good-row l zero last at i g h = absurd (omega arith)
-good-row l (suc n) last at i g h =
-    go (ltb last (from32 l at) && (validNumber (from32 l at) && validPosition (positionAt l at))) refl g i h
-    (λ j e k. good-row l n (from32 l at) (at + 12) j e k)
-  where
-    first : ltb last (from32 l at) && (validNumber (from32 l at) && validPosition (positionAt l at)) ≡ true
-        → rowAnswer (ltb 0 (from32 l at) && (validNumber (from32 l at) && validPosition (positionAt l at))) (from32 l at) (packed (positionAt l at)) ≡ Star (from32 l at) (packed (positionAt l at))
-    first t =
-        let p = and-true (ltb last (from32 l at)) (validNumber (from32 l at) && validPosition (positionAt l at)) t in
-        rw (lt-ltb 0 (from32 l at) (omega (arith, ltb-true last (from32 l at) (p .0))), p .1)
-
-    go : (t : Bool) → ltb last (from32 l at) && (validNumber (from32 l at) && validPosition (positionAt l at)) ≡ t
-        → goodAfter (rowAnswer t (from32 l at) (packed (positionAt l at))) (λ (k : ℕ). goodRows k l (at + 12) n) ≡ true
-        → (i : ℕ) → i < suc n
-        → ((j : ℕ) → goodRows (from32 l at) l (at + 12) n ≡ true → j < n → rowAt 0 l (at + 12 + 12 * j) ≡ Star (from32 l (at + 12 + 12 * j)) (packed (positionAt l (at + 12 + 12 * j))))
-        → rowAt 0 l (at + 12 * i) ≡ Star (from32 l (at + 12 * i)) (packed (positionAt l (at + 12 * i)))
-    go false t e i h ih = absurd (false≢true e)
-    go true t e zero h ih = let z : at + 12 * 0 ≡ at = omega arith in rw z (first t)
-    go true t e (suc i) h ih = rw (← step at i) (ih i e (omega arith))
 
 -- so the word read of it is its own
 module _ (l : List ℕ) (n s : ℕ) (g : goodRows 0 l 5760 n ≡ true) (h : s ≡ 0 → ⊥) (k : s ≤ n) {r : Row} (e : r ≡ rowAt 0 l (5760 + 12 * (s - 1))) where

@@ -31,7 +31,7 @@ map-insert {A} {B} f g h e x (y ∷ ys) = go (leb (f x) (f y)) refl (map-insert 
     go true t ih = rw (same, t)
     go false t ih = rw (same, t) (ap (λ (l : List B). h y ∷ l) ih)
 
-map-sort : {A B : Type 0} (f : A → ℕ) (g : B → ℕ) (h : A → B) → ((x : A) → g (h x) ≡ f x) → (l : List A) → map h (sortBy f l) ≡ sortBy g (map h l)
+pub map-sort : {A B : Type 0} (f : A → ℕ) (g : B → ℕ) (h : A → B) → ((x : A) → g (h x) ≡ f x) → (l : List A) → map h (sortBy f l) ≡ sortBy g (map h l)
 unfolding sortBy
 map-sort f g h e [] = refl
 map-sort f g h e (x ∷ l) = map-insert f g h e x (sortBy f l) ∙ ap (insertBy g (h x)) (map-sort f g h e l)

@@ -17,7 +17,7 @@ use Rattle.lines.specs.declared.Reply.{Reply}
 use Rattle.lines.specs.declared.Reply.the-variants.{Accepted, Found, Missing, Refused, Malformed}
 use Rattle.lines.proofs.Digits.{length-digits, length-field}
 
-length-signed : (z : ℤ) → length (signedDigits z) ≤ 11
+pub length-signed : (z : ℤ) → length (signedDigits z) ≤ 11
 unfolding signedDigits
 length-signed (pos n) = omega (arith, length-digits n)
 length-signed (negsuc n) = omega (arith, length-digits (suc n))

@@ -251,7 +251,7 @@ pub fn format(out: &mut [u8], at: usize, reply: Reply) -> usize
     }
 }
 
-fn put(out: &mut [u8], at: usize, text: &[u8]) -> usize
+pub fn put(out: &mut [u8], at: usize, text: &[u8]) -> usize
     requires { ⌜ at + length (now text) ≤ length (now out) ⌝ }
     ensures { λ r. ⌜ Written at (now (text .entry)) (now (out .entry)) (now (out .exit)) r ⌝ }
 {
@@ -277,7 +277,7 @@ fn put_digits(out: &mut [u8], at: usize, n: u32) -> usize
 }
 
 // A number and the byte after it.
-fn put_field(out: &mut [u8], at: usize, n: u32, end: u8) -> usize
+pub fn put_field(out: &mut [u8], at: usize, n: u32, end: u8) -> usize
     requires { ⌜ at + 11 ≤ length (now out) ⌝ }
     ensures { λ r. ⌜ Written at (fieldBytes n end) (now (out .entry)) (now (out .exit)) r ⌝ }
 {
@@ -287,7 +287,7 @@ fn put_field(out: &mut [u8], at: usize, n: u32, end: u8) -> usize
 }
 
 // A declination and the newline after it.
-fn put_declination(out: &mut [u8], at: usize, dec: i32) -> usize
+pub fn put_declination(out: &mut [u8], at: usize, dec: i32) -> usize
     requires { ⌜ at + 12 ≤ length (now out) ⌝ }
     ensures { λ r. ⌜ Written at (signedDigits dec ++ (10 ∷ [])) (now (out .entry)) (now (out .exit)) r ⌝ }
 {

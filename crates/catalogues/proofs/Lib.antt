@@ -1,0 +1,6 @@
+pub mod Held
+pub mod Entering
+pub mod Rising
+pub mod Running
+pub mod Ending
+pub mod Listed
