@@ -42,7 +42,7 @@ use Rattle.reach.proofs.Surveyed.{unsound}
 use Rattle.page_edit.specs.Shift.{numberAt, Ordered}
 use Rattle.page_edit.proofs.Shifted.{of-numbers}
 use Rattle.page_edit.proofs.OnePage.{named-home}
-use Rattle.growth_in_place.specs.Expansion.{joins, joinsAt, joinersIn, joinersBelow, NoneJoins, pageStars, runsTo, isNear, NoneAway, NoneCounted, RoomFor, homeOn, Underway, KeptStars, SettledBelow, Moved}
+use Rattle.growth_in_place.specs.Expansion.{joins, joinsAt, joinersIn, joinersBelow, NoneJoins, pageStars, runsTo, isNear, NoneAway, NoneCounted, RoomFor, homeOn, Underway, KeptStars, SettledBelow, Spacious, Moved}
 use Rattle.growth_in_place.proofs.TwoPages.{part-here, part-there, written-long}
 use Rattle.growth_in_place.proofs.Step.{ordered, numbered}
 use Rattle.growth_in_place.proofs.Joiners.{length-homes, joiners-none}
@@ -98,7 +98,7 @@ module _ (p : Parameters) (g : Growth) (f : File) (valid : validParameters p ≡
   abbrev P : ℕ
   P = pageCount p g
 
-  facts : (q : ℕ) → q < p .pages → Sound validWord (hashOf p g) f q
+  pub facts : (q : ℕ) → q < p .pages → Sound validWord (hashOf p g) f q
   unfolding firstUnsound
   facts q h = real-facts p g f q (not-false (soundAt p g f q) (such (unsound p g f) 0 (p .pages) .before q (omega arith) (omega (arith, all))))
 
@@ -106,11 +106,11 @@ module _ (p : Parameters) (g : Growth) (f : File) (valid : validParameters p ≡
   unfolding hashOf
   in-order q h = facts q h .inOrder
 
-  here-before : (q : ℕ) → q < p .pages → (s : Star) → List·Memᴰ s (pageStars p (f .numbers) (f .words) (f .owners) q) → first (hashOf p g) 0 (f .separators) (s .number) ≡ q
+  pub here-before : (q : ℕ) → q < p .pages → (s : Star) → List·Memᴰ s (pageStars p (f .numbers) (f .words) (f .owners) q) → first (hashOf p g) 0 (f .separators) (s .number) ≡ q
   unfolding hashOf starsAt
   here-before q h s m = facts q h .here s m
 
-  ordered-before : (q : ℕ) → q < p .pages → Ordered (p .places) q (f .numbers) (f .words) (f .owners)
+  pub ordered-before : (q : ℕ) → q < p .pages → Ordered (p .places) q (f .numbers) (f .words) (f .owners)
   ordered-before q h =
       record {
         inNumbers = page-fits (p .places) (p .pages) q h (sized .ofNumbers);
@@ -119,7 +119,7 @@ module _ (p : Parameters) (g : Growth) (f : File) (valid : validParameters p ≡
         inOrder = in-order q h;
       }
 
-  numbered-before : (q : ℕ) → q < p .pages → Numbered (pageStars p (f .numbers) (f .words) (f .owners) q)
+  pub numbered-before : (q : ℕ) → q < p .pages → Numbered (pageStars p (f .numbers) (f .words) (f .owners) q)
   unfolding hashOf starsAt
   numbered-before q h s m = sound-proper validWord (hashOf p g) f q (facts q h) s m .0
 
@@ -127,12 +127,12 @@ module _ (p : Parameters) (g : Growth) (f : File) (valid : validParameters p ≡
   unfolding hashOf
   top-there = top
 
-  home-low : (k : ℕ) → hashOf p g .home k < P
+  pub home-low : (k : ℕ) → hashOf p g .home k < P
   unfolding hashOf
   home-low k = home-below (multiplierOf p) p g k valid
 
   -- no star stands above the new page
-  low-before : (q : ℕ) → q < p .pages → (s : Star) → List·Memᴰ s (pageStars p (f .numbers) (f .words) (f .owners) q) → q ≤ P
+  pub low-before : (q : ℕ) → q < p .pages → (s : Star) → List·Memᴰ s (pageStars p (f .numbers) (f .words) (f .owners) q) → q ≤ P
   low-before q h s m = go (decLt P q)
     where
       go : Dec (P < q) → q ≤ P
@@ -207,37 +207,57 @@ module _ (p : Parameters) (g : Growth) (f : File) (valid : validParameters p ≡
       go [] n = joiners-none p g
       go (s ∷ l) n = rw (n s (List·Memᴰ·head refl), and-false (not (eqb (s .number) 0))) (go l (λ t m. n t (List·Memᴰ·tail m)))
 
+  -- the stars that stand on the new page, and those that come
+  pub few : (count : ℕ) → RoomFor (p .places) P count (f .numbers) → length (pageStars p (f .numbers) (f .words) (f .owners) P) + count ≤ p .places
+  few count fits = go fits
+    where
+      most : length (pageStars p (f .numbers) (f .words) (f .owners) P) ≤ p .places
+      most =
+          omega (
+            arith,
+            length-starsOf (part (p .places) P (f .numbers)) (part (p .places) P (f .words)) (part (p .places) P (f .owners)),
+            part-length (p .places) P (f .numbers) (ordered-before P room .inNumbers),
+          )
+
+      item : getD (map numberOf (pageStars p (f .numbers) (f .words) (f .owners) P)) (p .places - count) 0 ≡ numberAt (p .places) P (p .places - count) (f .numbers)
+      item =
+          sym
+          (ap (λ (l : List ℕ). getD l (p .places - count) 0) (of-numbers (p .places) P (f .numbers) (f .words) (f .owners) (ordered-before P room) .1)
+          ∙ padded-item (p .places) (map numberOf (pageStars p (f .numbers) (f .words) (f .owners) P)) (p .places - count))
+
+      later : count ≤ p .places → numberAt (p .places) P (p .places - count) (f .numbers) ≡ 0
+          → Dec (p .places - count < length (pageStars p (f .numbers) (f .words) (f .owners) P)) → length (pageStars p (f .numbers) (f .words) (f .owners) P) + count ≤ p .places
+      later c e (yes d) =
+          absurd (omega (arith, item, e, full-item (pageStars p (f .numbers) (f .words) (f .owners) P) (p .places - count) d (numbered-before P room)))
+      later c e (no d) = omega arith
+
+      go : RoomFor (p .places) P count (f .numbers) → length (pageStars p (f .numbers) (f .words) (f .owners) P) + count ≤ p .places
+      go (inl e) = omega (arith, e, most)
+      go (inr (c, e)) = later c e (decLt (p .places - count) (length (pageStars p (f .numbers) (f .words) (f .owners) P)))
+
+  -- stars that do not join the new page keep their homes
+  pub home-kept : (k : ℕ) → joins p g k ≡ false → home (multiplierOf p) p (grown p g) k ≡ home (multiplierOf p) p g k
+  unfolding joins
+  home-kept k j =
+      ⊎-elim
+      (λ (e : home (multiplierOf p) p (grown p g) k ≡ home (multiplierOf p) p g k). e)
+      (λ (e : home (multiplierOf p) p (grown p g) k ≡ pageCount p g). absurd (eqb-false (home (multiplierOf p) p (grown p g) k) (pageCount p g) j e))
+      (home-grown (multiplierOf p) p g k valid grows)
+
+  pub named-joined : (k : ℕ) → joins p g k ≡ true → first (hashOf p (grown p g)) 0 (f .separators) k ≡ P
+  unfolding joins hashOf namedPage
+  named-joined k j = named-home p (grown p g) f sized P room valid k (eqb-true (home (multiplierOf p) p (grown p g) k) P j) top
+
+  pub named-kept : (k : ℕ) → joins p g k ≡ false → first (hashOf p (grown p g)) 0 (f .separators) k ≡ first (hashOf p g) 0 (f .separators) k
+  named-kept k j =
+      sym (first-from p (grown p g) 0 (f .separators) k)
+      ∙ ap (λ (h : ℕ). first (hashFrom p h) 0 (f .separators) k) (home-kept k j)
+      ∙ first-from p g 0 (f .separators) k
+
   -- before the first move
   module _ (hs hs₁ : List ℕ) (homes : hs ≡ homesOf p g (f .numbers)) (count : ℕ) (counted : count ≡ joinersBelow p g (f .numbers) P)
       (fits : RoomFor (p .places) P count (f .numbers))
       (rehomed : hs₁ ≡ paste hs (P * p .places) (drop (P * p .places) (homesOf p (grown p g) (f .numbers))) (p .places)) where
-    few : length (pageStars p (f .numbers) (f .words) (f .owners) P) + count ≤ p .places
-    few = go fits
-      where
-        most : length (pageStars p (f .numbers) (f .words) (f .owners) P) ≤ p .places
-        most =
-            omega (
-              arith,
-              length-starsOf (part (p .places) P (f .numbers)) (part (p .places) P (f .words)) (part (p .places) P (f .owners)),
-              part-length (p .places) P (f .numbers) (ordered-before P room .inNumbers),
-            )
-
-        item : getD (map numberOf (pageStars p (f .numbers) (f .words) (f .owners) P)) (p .places - count) 0 ≡ numberAt (p .places) P (p .places - count) (f .numbers)
-        item =
-            sym
-            (ap (λ (l : List ℕ). getD l (p .places - count) 0) (of-numbers (p .places) P (f .numbers) (f .words) (f .owners) (ordered-before P room) .1)
-            ∙ padded-item (p .places) (map numberOf (pageStars p (f .numbers) (f .words) (f .owners) P)) (p .places - count))
-
-        later : count ≤ p .places → numberAt (p .places) P (p .places - count) (f .numbers) ≡ 0
-            → Dec (p .places - count < length (pageStars p (f .numbers) (f .words) (f .owners) P)) → length (pageStars p (f .numbers) (f .words) (f .owners) P) + count ≤ p .places
-        later c e (yes d) =
-            absurd (omega (arith, item, e, full-item (pageStars p (f .numbers) (f .words) (f .owners) P) (p .places - count) d (numbered-before P room)))
-        later c e (no d) = omega arith
-
-        go : RoomFor (p .places) P count (f .numbers) → length (pageStars p (f .numbers) (f .words) (f .owners) P) + count ≤ p .places
-        go (inl e) = omega (arith, e, most)
-        go (inr (c, e)) = later c e (decLt (p .places - count) (length (pageStars p (f .numbers) (f .words) (f .owners) P)))
-
     long : length hs ≡ p .pages * p .places
     long = length-homes p g hs (f .numbers) homes ∙ sized .ofNumbers
 
@@ -296,7 +316,7 @@ module _ (p : Parameters) (g : Growth) (f : File) (valid : validParameters p ≡
           inOrder = in-order;
           low = λ q h s m j. low-before q h s m;
           once = λ q r hq hr s t ms mt e. sym (here-before q hq s ms) ∙ ap (first (hashOf p g) 0 (f .separators)) e ∙ here-before r hr t mt;
-          few = omega (arith, few, counted);
+          few = omega (arith, few count fits, counted);
           homes = λ q h. home-column q h (eqb q P) refl;
         }
 
@@ -315,25 +335,6 @@ module _ (p : Parameters) (g : Growth) (f : File) (valid : validParameters p ≡
         go : Dec (q < P) → q ≡ P
         go (yes d) = absurd (true≢false (sym j ∙ settled q d s m))
         go (no d) = omega (arith, u .low q h s m j)
-
-    -- the others keep their homes
-    home-kept : (k : ℕ) → joins p g k ≡ false → home (multiplierOf p) p (grown p g) k ≡ home (multiplierOf p) p g k
-    unfolding joins
-    home-kept k j =
-        ⊎-elim
-        (λ (e : home (multiplierOf p) p (grown p g) k ≡ home (multiplierOf p) p g k). e)
-        (λ (e : home (multiplierOf p) p (grown p g) k ≡ pageCount p g). absurd (eqb-false (home (multiplierOf p) p (grown p g) k) (pageCount p g) j e))
-        (home-grown (multiplierOf p) p g k valid grows)
-
-    named-joined : (k : ℕ) → joins p g k ≡ true → first (hashOf p (grown p g)) 0 (f .separators) k ≡ P
-    unfolding joins hashOf namedPage
-    named-joined k j = named-home p (grown p g) after sized-after P room valid k (eqb-true (home (multiplierOf p) p (grown p g) k) P j) top
-
-    named-kept : (k : ℕ) → joins p g k ≡ false → first (hashOf p (grown p g)) 0 (f .separators) k ≡ first (hashOf p g) 0 (f .separators) k
-    named-kept k j =
-        sym (first-from p (grown p g) 0 (f .separators) k)
-        ∙ ap (λ (h : ℕ). first (hashFrom p h) 0 (f .separators) k) (home-kept k j)
-        ∙ first-from p g 0 (f .separators) k
 
     here-after : (q : ℕ) → q < p .pages → (s : Star) → List·Memᴰ s (pageStars p ns ws os q) → first (hashOf p (grown p g)) 0 (f .separators) (s .number) ≡ q
     here-after q h s m = go (joins p g (s .number)) refl
@@ -412,18 +413,15 @@ module _ (p : Parameters) (g : Growth) (f : File) (valid : validParameters p ≡
 
 -- the same, with the new page as the code has it
 module _ (p : Parameters) (g : Growth) (f : File) (valid : validParameters p ≡ true) (grows : validGrowth p g ≡ true) (sized : Sized (p .places) (p .pages) f)
-    (all : firstUnsound p g f 0 (p .pages) ≡ p .pages) (room : pageCount p g < p .pages) (added : ℕ) (is : added ≡ pageCount p g) (top : getD (f .separators) added 0 ≡ topOf (p .bits)) where
-  pub begun-at : (hs hs₁ : List ℕ) → hs ≡ homesOf p g (f .numbers) → (count : ℕ) → count ≡ joinersBelow p g (f .numbers) added → RoomFor (p .places) added count (f .numbers)
+    (all : firstUnsound p g f 0 (p .pages) ≡ p .pages) (room : pageCount p g < p .pages) (spacious : Spacious p g (f .separators) (f .numbers))
+    (added : ℕ) (is : added ≡ pageCount p g) where
+  pub begun-at : (hs hs₁ : List ℕ) → hs ≡ homesOf p g (f .numbers)
       → hs₁ ≡ paste hs (added * p .places) (drop (added * p .places) (homesOf p (grown p g) (f .numbers))) (p .places) → Underway p g (f .numbers) (f .words) (f .owners) hs₁
-  begun-at hs hs₁ homes count counted fits rehomed =
-      begun p g f valid grows sized all room (rw is at top) hs hs₁ homes count (rw is at counted) (rw is at fits) (rw is at rehomed)
+  begun-at hs hs₁ homes rehomed = begun p g f valid grows sized all room (spacious .top) hs hs₁ homes _ refl (spacious .room) (rw is at rehomed)
 
   pub none-away-at : NoneAway p g (f .separators) (f .numbers) (f .words) (f .owners)
-  none-away-at = none-away p g f valid grows sized all room (rw is at top)
-
-  pub none-counted-at : NoneCounted p g (f .separators) (f .numbers)
-  none-counted-at = none-counted p g f valid grows sized all room (rw is at top)
+  none-away-at = none-away p g f valid grows sized all room (spacious .top)
 
   pub moved-at : (ns ws os hs : List ℕ) → Underway p g ns ws os hs → KeptStars p g (f .numbers) (f .words) (f .owners) ns ws os → SettledBelow p g added ns ws os
       → Moved p g f (lent (f .separators) ns ws os) hs
-  moved-at ns ws os hs u kept settled = all-moved p g f valid grows sized all room (rw is at top) ns ws os hs u kept (λ r h. settled r (omega (arith, is)))
+  moved-at ns ws os hs u kept settled = all-moved p g f valid grows sized all room (spacious .top) ns ws os hs u kept (λ r h. settled r (omega (arith, is)))

@@ -67,6 +67,11 @@ NoneCounted p g separators ns = (q : ℕ) → q < pageCount p g → isNear p g s
 abbrev pub RoomFor : ℕ → ℕ → ℕ → List ℕ → Type 0
 RoomFor places page count ns = (count ≡ 0) ⊎ ((count ≤ places) × (numberAt places page (places - count) ns ≡ 0))
 
+-- the new page has not overflowed, and has room for the stars of the pages below it that join it
+pub record Spacious (p : Parameters) (g : Growth) (separators ns : List ℕ) : Type 0 where
+  pub top : getD separators (pageCount p g) 0 ≡ topOf (p .bits)
+  pub room : RoomFor (p .places) (pageCount p g) (joinersBelow p g ns (pageCount p g)) ns
+
 -- a page in order, whose last place is empty
 pub record Vacancy (places page : ℕ) (ns ws os : List ℕ) : Type 0 where
   pub ordered : Ordered places page ns ws os

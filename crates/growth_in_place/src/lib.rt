@@ -7,4 +7,5 @@ mod tallying;
 mod walking;
 
 pub use renewing::replace_blocks;
+pub use stars::is_spacious;
 pub use stars::move_stars;

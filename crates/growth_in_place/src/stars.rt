@@ -2,14 +2,15 @@
 ghost use mathlib.Core.Path.{_≡_};
 ghost use mathlib.Core.Bool.{true, false};
 ghost use Prim.Native.Nat.{_+_, _*_, _≤_, _<_};
-ghost use lib.ListN.{length, drop};
+ghost use lib.ListN.{length, drop, getD};
 ghost use lib.Seq.{paste};
+ghost use Rattle.generator.specs.Generator.{topOf};
 ghost use Rattle.hashing.specs.Geometry.{pageCount, grown};
 ghost use Rattle.placement.specs.Hash.{homesOf};
 ghost use Rattle.placement.specs.Lent.{held};
 ghost use Rattle.placement.specs.Ready.{Homing, Ready};
 ghost use Rattle.reach.specs.Reach.{firstUnsound};
-ghost use Rattle.growth_in_place.specs.Expansion.{Underway, Stepped, NoneJoins, pageStars, SettledBelow, NoneAway, Expanded};
+ghost use Rattle.growth_in_place.specs.Expansion.{Underway, Stepped, NoneJoins, pageStars, SettledBelow, NoneAway, NoneCounted, Spacious, Expanded};
 use crate::joining::joins;
 use crate::moving::move_star;
 use crate::tallying::count_stars;
@@ -111,6 +112,33 @@ fn move_below(
     }
 }
 
+// Whether the new page has not overflowed and has room for all stars whose home it becomes; `homes` are those of the items.
+pub fn is_spacious(
+    table: &[u32; 90],
+    geometry: Geometry,
+    separators: &[u8],
+    numbers: &[u32],
+    homes: &[u32],
+) -> bool
+    requires { ⌜ Homing geometry (now table) ⌝ }
+    requires { ⌜ pageCount (geometry .parameters) (geometry .growth) < geometry .parameters .pages ⌝ }
+    requires { ⌜ length (now separators) ≡ geometry .parameters .pages ⌝ }
+    requires { ⌜ length (now numbers) ≡ geometry .parameters .pages * geometry .parameters .places ⌝ }
+    requires { ⌜ now homes ≡ homesOf (geometry .parameters) (geometry .growth) (now numbers) ⌝ }
+    requires { ⌜ (getD (now separators) (pageCount (geometry .parameters) (geometry .growth)) 0 ≡ topOf (geometry .parameters .bits)
+        → NoneCounted (geometry .parameters) (geometry .growth) (now separators) (now numbers)) ⌝ }
+    ensures { λ r. ⌜ (r ≡ true → Spacious (geometry .parameters) (geometry .growth) (now (separators .entry)) (now (numbers .entry))) ⌝ }
+{
+    let places = geometry.parameters.places as usize;
+    let added = geometry.highest_address() + 1;
+    let page = added as usize;
+    if separators[page] != placement::top_of(geometry.parameters) {
+        return false;
+    }
+    let count = count_stars(table, geometry, separators, numbers, homes, added);
+    has_room(numbers, places, page, count)
+}
+
 // Moves the stars whose home becomes the new page to it, if it has not overflowed and has room for them all. The pool holds the items' homes,
 // and afterwards those under the next growth state.
 pub fn move_stars(
@@ -128,17 +156,11 @@ pub fn move_stars(
     requires { ⌜ pageCount (geometry .parameters) (geometry .growth) < geometry .parameters .pages ⌝ }
     ensures { λ r. ⌜ Expanded (geometry .parameters) (geometry .growth) separators numbers words owners homes r ⌝ }
 {
-    let places = geometry.parameters.places as usize;
+    if !is_spacious(table, geometry, separators, numbers, homes) {
+        return false;
+    }
     let added = geometry.highest_address() + 1;
-    let page = added as usize;
-    if separators[page] != placement::top_of(geometry.parameters) {
-        return false;
-    }
-    let count = count_stars(table, geometry, separators, numbers, homes, added);
-    if !has_room(numbers, places, page, count) {
-        return false;
-    }
-    rehome_page(table, geometry, numbers, homes, page);
+    rehome_page(table, geometry, numbers, homes, added as usize);
     move_below(
         table,
         geometry,

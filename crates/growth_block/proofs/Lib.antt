@@ -1,0 +1,5 @@
+pub mod Holding
+pub mod OneBlock
+pub mod Starting
+pub mod Named
+pub mod Planned
