@@ -89,6 +89,41 @@ pub still-done : (p : Parameters) (g next : Growth) (f f₁ f′ : File) (page :
     → (r ≡ growthAnswer p g f₁ next page) × (f′ ≡ growthFile p g f₁ next) → (r ≡ growthAnswer p g f next page) × (f′ ≡ growthFile p g f next)
 still-done p g next f f₁ f′ page r e d = subst (λ (x : File). (r ≡ growthAnswer p g x next page) × (f′ ≡ growthFile p g x next)) e d
 
+-- the homes of all items under a growth state
+module _ (p : Parameters) (next : Growth) (ns pool : List ℕ) (valid : validParameters p ≡ true) (later : validGrowth p next ≡ true)
+    (many : length ns ≡ p .pages * p .places) (e : pool ≡ homesOf p next ns) where
+  pub some-pages : 0 < p .pages
+  some-pages =
+      let state = growth-within p next later in
+      omega (arith, state .pages-fit, spread p next (limits p valid) state .pages-low)
+
+  pub homes-size : length pool ≡ p .pages * p .places
+  unfolding homesOf
+  homes-size = ap length e ∙ length-map ns (homeIn p next) ∙ many
+
+  pub true-homes : stretch (p .places) 0 (p .pages) pool ≡ map (itemHome (hashOf p next)) (stretch (p .places) 0 (p .pages) ns)
+  true-homes =
+      let home : ℕ → ℕ = itemHome (hashOf p next) in
+      ap (stretch (p .places) 0 (p .pages)) (e ∙ homes-real p next ns)
+      ∙ ap (take (p .pages * p .places)) (map-drop home (0 * p .places) ns)
+      ∙ map-take home (p .pages * p .places) (drop (0 * p .places) ns)
+
+  home-inside : (x : ℕ) → itemHome (hashOf p next) x < 0 + p .pages
+  unfolding itemHome
+  home-inside x = go (eqb x 0)
+    where
+      go : (t : Bool) → cond t 0 (hashOf p next .home x) < 0 + p .pages
+      go true = omega (arith, some-pages)
+      go false = omega (arith, homed-real p next valid later x)
+
+  pub homes-within : allBelow (0 + p .pages) (stretch (p .places) 0 (p .pages) pool) ≡ true
+  unfolding itemHome
+  homes-within =
+      let items : List ℕ = stretch (p .places) 0 (p .pages) ns in
+      rw true-homes
+      (all-below (0 + p .pages) (map (itemHome (hashOf p next)) items)
+      (λ i h. rw (List·getD-map (itemHome (hashOf p next)) items i 0) (home-inside (getD items i 0))))
+
 -- the file
 
 module _ (p : Parameters) (g : Growth) (f : File) (valid : validParameters p ≡ true) (sized : Sized (p .places) (p .pages) f) where
@@ -122,46 +157,24 @@ module _ (p : Parameters) (g : Growth) (f : File) (valid : validParameters p ≡
     surveyed-sound = omega (arith, sound-pages, such (unsound p g f) 0 (p .pages) .high)
 
     module _ (next : Growth) (later : validGrowth p next ≡ true) (pool : List ℕ) (e : pool ≡ homesOf p next (f .numbers)) where
-      some-pages : 0 < p .pages
-      some-pages =
-          let state = growth-within p next later in
-          omega (arith, state .pages-fit, spread p next (limits p valid) state .pages-low)
+      some : 0 < p .pages
+      some = some-pages p next (f .numbers) pool valid later (sized .ofNumbers) e
 
       size : length pool ≡ p .pages * p .places
-      unfolding homesOf
-      size = ap length e ∙ length-map (f .numbers) (homeIn p next) ∙ sized .ofNumbers
+      size = homes-size p next (f .numbers) pool valid later (sized .ofNumbers) e
+
+      within : allBelow (0 + p .pages) (stretch (p .places) 0 (p .pages) pool) ≡ true
+      within = homes-within p next (f .numbers) pool valid later (sized .ofNumbers) e
 
       below : allBelow (2 ^ 31) (stretch (p .places) 0 (p .pages) (f .numbers)) ≡ true
       below = numbers-below p f valid sized 0 (p .pages) (omega arith) g (all-sound p g f 0 (p .pages) sound-pages)
-
-      true-homes : stretch (p .places) 0 (p .pages) pool ≡ map (itemHome (hashOf p next)) (stretch (p .places) 0 (p .pages) (f .numbers))
-      true-homes =
-          let home : ℕ → ℕ = itemHome (hashOf p next) in
-          ap (stretch (p .places) 0 (p .pages)) (e ∙ homes-real p next (f .numbers))
-          ∙ ap (take (p .pages * p .places)) (map-drop home (0 * p .places) (f .numbers))
-          ∙ map-take home (p .pages * p .places) (drop (0 * p .places) (f .numbers))
-
-      home-inside : (x : ℕ) → itemHome (hashOf p next) x < 0 + p .pages
-      unfolding itemHome
-      home-inside x = go (eqb x 0)
-        where
-          go : (t : Bool) → cond t 0 (hashOf p next .home x) < 0 + p .pages
-          go true = omega (arith, some-pages)
-          go false = omega (arith, homed-real p next valid later x)
-
-      within : allBelow (0 + p .pages) (stretch (p .places) 0 (p .pages) pool) ≡ true
-      unfolding itemHome
-      within =
-          let ns : List ℕ = stretch (p .places) 0 (p .pages) (f .numbers) in
-          rw true-homes
-          (all-below (0 + p .pages) (map (itemHome (hashOf p next)) ns)
-          (λ i h. rw (List·getD-map (itemHome (hashOf p next)) ns i 0) (home-inside (getD ns i 0))))
 
       none-out : without 0 (gathered (p .places) f 0 (p .pages)) ≡ gathered (p .places) f 0 (p .pages)
       none-out = all-numbered p g f 0 (p .pages) (all-sound p g f 0 (p .pages) sound-pages)
 
       ready : Gatherable (hashOf p next) (p .places) 0 (p .pages) f pool
-      ready = ready-stretch p f valid sized 0 (p .pages) (omega arith) (omega (arith, some-pages)) pool size below within (hashOf p next) true-homes
+      ready = ready-stretch p f valid sized 0 (p .pages) (omega arith) some pool size below within (hashOf p next)
+          (true-homes p next (f .numbers) pool valid later (sized .ofNumbers) e)
 
       all-are-sound : ltb (firstUnsound p g f 0 (p .pages)) (p .pages) ≡ false
       all-are-sound = le-ltb (firstUnsound p g f 0 (p .pages)) (p .pages) (omega (arith, sound-pages))
@@ -169,7 +182,7 @@ module _ (p : Parameters) (g : Growth) (f : File) (valid : validParameters p ≡
       pub growth-plannable : (waiting poolowners : List ℕ) → length waiting ≡ p .pages * p .places → length poolowners ≡ p .pages * p .places
           → StretchReady p 0 (p .pages) f pool waiting poolowners
       growth-plannable waiting poolowners ew eo =
-          plannable-stretch p f valid sized 0 (p .pages) (omega arith) (omega (arith, some-pages)) pool size below within waiting poolowners ew eo
+          plannable-stretch p f valid sized 0 (p .pages) (omega arith) some pool size below within waiting poolowners ew eo
 
       pub growth-done : (page : ℕ) (r : Bool) → r ≡ fitting p 0 (p .pages) 0 f pool → (f′ : File) → f′ ≡ restretched p 0 (p .pages) 0 f pool
           → (cond r (On page) Overflows ≡ growthAnswer p g f next page) × (f′ ≡ growthFile p g f next)

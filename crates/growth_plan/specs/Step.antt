@@ -1,12 +1,18 @@
--- A growth planned over all pages, and one page of it in a second set of pages: document 02 (xiii).
+-- A growth planned, and one page of it in a second set of pages: document 02 (xiii).
 use mathlib.Core.Path.{_≡_}
-use mathlib.Core.List.{List}
+use mathlib.Core.List.{List, []}
 use Prim.Native.Nat.{ℕ}
+use lib.ListN.{getD}
 use Rattle.hashing.specs.declared.Parameters.{Parameters}
 use Rattle.hashing.specs.declared.Growth.{Growth}
 use Rattle.hashing.specs.Geometry.{grown}
 use Rattle.placement.specs.File.{File, pagesAt, replaced}
-use Rattle.page_plan.proofs.Applying.{applied}
+use Rattle.placement.specs.Rule.{pages, blank}
+use Rattle.placement.specs.Hash.{hashOf, homesOf}
+use Rattle.reach.specs.Reach.{allStars}
+use Rattle.page_plan.specs.Gather.{stretchWords}
+use Rattle.page_plan.specs.Plans.{Planned}
+use Rattle.growth_block.specs.Block.{NamesPage}
 use Rattle.page_plan.specs.declared.outcome.Outcome.{Outcome}
 use Rattle.page_plan.specs.declared.outcome.Outcome.the-variants.{On}
 use Rattle.growth_plan.specs.Growth.{byGrowth, growthFile}
@@ -16,7 +22,14 @@ unfoldable pub pageStepped : Parameters → Growth → File → Growth → File 
 pageStepped p g f next second step =
     byGrowth p g f next second second (replaced (p .places) second step (pagesAt (p .places) (growthFile p g f next) step 1))
 
--- where the growth is accepted, the sources in the pool and the planned separators are its plan
-abbrev pub PlansGrowth : Parameters → Growth → File → List ℕ → List ℕ → Outcome → Type 0
-PlansGrowth p g f pool planned r =
-    (page : ℕ) → r ≡ On page → applied (p .places) 0 (p .pages) 0 0 0 pool planned f ≡ growthFile p g f (grown p g)
+-- the plan of all pages under the next growth state: the rule carries r stars past them
+pub record PlansAll (p : Parameters) (g : Growth) (ns pool′ planned planned′ : List ℕ) (r : ℕ) : Type 0 where
+  pub homes : List ℕ
+  pub homes-are : homes ≡ homesOf p (grown p g) ns
+  pub waiting : List ℕ
+  pub plan : Planned p 0 (p .pages) [] (stretchWords (p .places) 0 (p .pages) 0 ns homes) homes pool′ planned planned′ waiting r
+
+-- where the growth is accepted, the sources in the pool and the planned separator of page `step` are its page
+abbrev pub PlansStep : Parameters → Growth → File → List ℕ → List ℕ → ℕ → Outcome → Type 0
+PlansStep p g f pool planned step r =
+    (page : ℕ) → r ≡ On page → NamesPage p f pool planned step (getD (pages (hashOf p (grown p g)) 0 (p .pages) (allStars p f)) step blank)

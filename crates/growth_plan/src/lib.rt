@@ -3,6 +3,5 @@ mod growth;
 mod steps;
 
 pub use growth::regrow;
-pub use growth::rehome;
-pub use steps::plan_growth;
+pub use steps::accept_growth;
 pub use steps::step_page;

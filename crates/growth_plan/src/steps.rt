@@ -1,24 +1,49 @@
-// The plan of a growth over all pages, and one page of it written to a second set of pages. The file is only read.
+// A growth done in steps: whether it is accepted, and one page of it written to a second set of pages. The file is only read.
 ghost use mathlib.Core.Path.{_≡_};
-ghost use mathlib.Core.Bool.{false};
+ghost use mathlib.Core.Bool.{true, false};
 ghost use mathlib.Core.List.{map};
-ghost use Prim.Native.Nat.{_+_, _*_, _≤_, _<_};
+ghost use Prim.Native.Nat.{ℕ, _+_, _*_, _^_, _≤_, _<_};
 ghost use lib.ListN.{length, take, drop};
-ghost use Rattle.pages.specs.Page.{part};
+ghost use Rattle.pages.specs.Page.{part, stretch};
 ghost use Rattle.buffers.specs.Lists.{written};
 ghost use Rattle.plan_transfer.specs.Sources.{namedItem};
 ghost use Rattle.hashing.specs.Geometry.{grown};
 ghost use Rattle.placement.specs.File.{Sized};
+ghost use Rattle.placement.specs.Hash.{homesOf};
 ghost use Rattle.placement.specs.Lent.{held, before, after};
-ghost use Rattle.placement.specs.Ready.{Ready, Pooled};
+ghost use Rattle.placement.specs.Ready.{Homing, Ready, Pooled};
+ghost use Rattle.page_separator.specs.Lists.{allBelow};
 ghost use Rattle.growth_plan.specs.Growth.{Movable, growthAnswer};
-ghost use Rattle.growth_plan.specs.Step.{pageStepped, PlansGrowth};
+ghost use Rattle.growth_plan.specs.Step.{pageStepped, PlansAll, PlansStep};
 use hashing::Geometry;
 use page_plan::Outcome;
 
-// The stars of all pages, planned under the next growth state: their sources in the pool, the separators in `planned`.
-// The answer is that of the growth, with the page given, which comes.
-pub fn plan_growth(
+// The stars of all pages, which are sound, planned under the next growth state; the pool holds the homes of the items under this one. The answer is
+// how many are carried past the last page.
+fn plan_all(
+    table: &[u32; 90],
+    geometry: Geometry,
+    numbers: &[u32],
+    pool: &mut [u32],
+    waiting: &mut [u64],
+    planned: &mut [u8],
+) -> usize
+    requires { ⌜ Homing geometry (now table) ⌝ }
+    requires { ⌜ Movable false (geometry .parameters) (geometry .growth) ⌝ }
+    requires { ⌜ (length (now numbers) ≡ geometry .parameters .pages * geometry .parameters .places) × (length (now waiting) ≡ geometry .parameters .pages * geometry .parameters .places) ⌝ }
+    requires { ⌜ geometry .parameters .pages ≤ length (now planned) ⌝ }
+    requires { ⌜ allBelow (2 ^ 31) (stretch (geometry .parameters .places) 0 (geometry .parameters .pages) (now numbers)) ≡ true ⌝ }
+    requires { ⌜ now pool ≡ homesOf (geometry .parameters) (geometry .growth) (now numbers) ⌝ }
+    ensures { λ r. ⌜ PlansAll (geometry .parameters) (geometry .growth) (now (numbers .entry)) (now (pool .exit)) (now (planned .entry)) (now (planned .exit)) r ⌝ }
+{
+    let parameters = geometry.parameters;
+    let pages = parameters.pages as usize;
+    crate::growth::rehome(table, geometry, false, numbers, pool);
+    page_plan::plan(parameters, numbers, pool, waiting, planned, 0, pages, 0, 0)
+}
+
+// The answer of the growth, with the page given, which comes. Where the new page has room for the stars whose home it becomes, nothing is planned.
+pub fn accept_growth(
     table: &[u32; 90],
     geometry: Geometry,
     separators: &[u8],
@@ -27,20 +52,15 @@ pub fn plan_growth(
     owners: &[u8],
     pool: &mut [u32],
     waiting: &mut [u64],
-    planned: &mut [u8; 1024],
     page: usize,
 ) -> Outcome
     requires { ⌜ Ready geometry (now table) (held separators numbers words owners) ⌝ }
     requires { ⌜ length (now pool) ≡ geometry .parameters .pages * geometry .parameters .places ⌝ }
     requires { ⌜ length (now waiting) ≡ geometry .parameters .pages * geometry .parameters .places ⌝ }
     requires { ⌜ Movable false (geometry .parameters) (geometry .growth) ⌝ }
-    requires { ⌜ length (now planned) ≡ 1024 ⌝ }
     ensures { λ r. ⌜ r ≡ growthAnswer (geometry .parameters) (geometry .growth) (before separators numbers words owners) (grown (geometry .parameters) (geometry .growth)) page ⌝ }
-    ensures { λ r. ⌜ PlansGrowth (geometry .parameters) (geometry .growth) (before separators numbers words owners) (now (pool .exit)) (now (planned .exit)) r ⌝ }
-    ensures { λ _. ⌜ length (now (planned .exit)) ≡ 1024 ⌝ }
 {
-    let parameters = geometry.parameters;
-    let pages = parameters.pages as usize;
+    let pages = geometry.parameters.pages as usize;
     let bad = reach::survey_pages(
         table,
         geometry,
@@ -56,9 +76,68 @@ pub fn plan_growth(
     if bad < pages {
         return Outcome::Unsound(bad);
     }
-    crate::growth::rehome(table, geometry, false, numbers, pool);
-    let left = page_plan::plan(parameters, numbers, pool, waiting, planned, 0, pages, 0, 0);
-    if left != 0 {
+    if growth_in_place::is_spacious(table, geometry, separators, numbers, pool) {
+        return Outcome::On(page);
+    }
+    let mut planned = [0u8; 1024];
+    if plan_all(table, geometry, numbers, pool, waiting, &mut planned) != 0 {
+        return Outcome::Overflows;
+    }
+    Outcome::On(page)
+}
+
+// The same, with the sources of page `step` in the pool and its separator in `planned`. Where the new page has room, another one's block is all that is planned.
+fn plan_step(
+    table: &[u32; 90],
+    geometry: Geometry,
+    separators: &[u8],
+    numbers: &[u32],
+    words: &[u64],
+    owners: &[u8],
+    pool: &mut [u32],
+    waiting: &mut [u64],
+    planned: &mut [u8],
+    step: usize,
+    page: usize,
+) -> Outcome
+    requires { ⌜ Ready geometry (now table) (held separators numbers words owners) ⌝ }
+    requires { ⌜ length (now pool) ≡ geometry .parameters .pages * geometry .parameters .places ⌝ }
+    requires { ⌜ length (now waiting) ≡ geometry .parameters .pages * geometry .parameters .places ⌝ }
+    requires { ⌜ Movable false (geometry .parameters) (geometry .growth) ⌝ }
+    requires { ⌜ (geometry .parameters .pages ≤ length (now planned)) × (step < geometry .parameters .pages) ⌝ }
+    ensures { λ r. ⌜ r ≡ growthAnswer (geometry .parameters) (geometry .growth) (before separators numbers words owners) (grown (geometry .parameters) (geometry .growth)) page ⌝ }
+    ensures { λ r. ⌜ PlansStep (geometry .parameters) (geometry .growth) (before separators numbers words owners) (now (pool .exit)) (now (planned .exit)) step r ⌝ }
+{
+    let pages = geometry.parameters.pages as usize;
+    let bad = reach::survey_pages(
+        table,
+        geometry,
+        separators,
+        numbers,
+        words,
+        owners,
+        pool,
+        0,
+        pages,
+        pages,
+    );
+    if bad < pages {
+        return Outcome::Unsound(bad);
+    }
+    if growth_block::is_local(table, geometry, separators, numbers, pool, step) {
+        growth_block::plan_block(
+            table,
+            geometry,
+            separators,
+            numbers,
+            pool,
+            waiting,
+            planned,
+            step,
+        );
+        return Outcome::On(page);
+    }
+    if plan_all(table, geometry, numbers, pool, waiting, planned) != 0 {
         return Outcome::Overflows;
     }
     Outcome::On(page)
@@ -110,7 +189,7 @@ fn write_planned(
     buffers::copy_8(secondowners, at, poolowners, at, places);
 }
 
-// The growth planned anew, and page `step` of it written to the second set of pages, whose other pages stay. The pool is scratch.
+// The growth planned anew as far as page `step` needs, and that page written to the second set of pages, whose other pages stay. The pool is scratch.
 pub fn step_page(
     table: &[u32; 90],
     geometry: Geometry,
@@ -139,7 +218,7 @@ pub fn step_page(
 {
     let places = geometry.parameters.places as usize;
     let mut planned = [0u8; 1024];
-    match plan_growth(
+    match plan_step(
         table,
         geometry,
         separators,
@@ -149,6 +228,7 @@ pub fn step_page(
         pool,
         waiting,
         &mut planned,
+        step,
         page,
     ) {
         Outcome::Unsound(bad) => Outcome::Unsound(bad),

@@ -39,8 +39,7 @@ pub fn plan_whole(
         Step::Not(refusal) => unmoved(growth, refusal),
         Step::To(next, page) => {
             let table = generator::first_multipliers(parameters.multiplier);
-            let mut planned = [0u8; 1024];
-            let outcome = growth_plan::plan_growth(
+            let outcome = growth_plan::accept_growth(
                 &table,
                 geometry,
                 separators,
@@ -49,7 +48,6 @@ pub fn plan_whole(
                 owners,
                 poolnumbers,
                 poolwords,
-                &mut planned,
                 page as usize,
             );
             grown_by(outcome, growth, next)

@@ -25,16 +25,19 @@ inside : (s : tie.Start) → s .args .step * s .args .geometry .parameters .plac
 inside s = rw (← suc-mul (s .args .step) (s .args .geometry .parameters .places)) (mul-le-mul-right (s .args .geometry .parameters .places) (s .pre .1 .1 .1 .1))
 
 -- from the plan on
-abbrev start : tie.After-plan-growth → tie.Start
+abbrev start : tie.After-plan-step → tie.Start
 start c = c .before .before .before .before .before .before .before .before .before .before .before .before .before .before .before .before
 
 cast-places : tie.Need-cast-places
 cast-places c = search needs
 
-plan-growth-requires : tie.Need-plan-growth-requires
-plan-growth-requires c κs =
+slice-aggregate-plan-step : tie.Need-slice-aggregate-plan-step
+slice-aggregate-plan-step c = search needs
+
+plan-step-requires : tie.Need-plan-step-requires
+plan-step-requires c κs =
     let s = c .before .before .before .before .before .before .before .before .before .before .before .before .before .before .before in
-    (s .pre .0, (s .pre .1 .1 .0 .ofNumbers, (s .pre .1 .1 .0 .ofWords, (s .pre .1 .1 .1 .0, refl))))
+    (s .pre .0, (s .pre .1 .1 .0 .ofNumbers, (s .pre .1 .1 .0 .ofWords, (s .pre .1 .1 .1 .0, (omega (arith, bounds s .pages-most), s .pre .1 .1 .1 .1)))))
 
 enum-known-bad : tie.Need-enum-known-bad
 enum-known-bad c = search needs
@@ -46,19 +49,19 @@ enum-known-new : tie.Need-enum-known-new
 enum-known-new c = search needs
 
 slice-aggregate-write-planned : tie.Need-slice-aggregate-write-planned
-slice-aggregate-write-planned c = sym (c .before .before .before .before .before .before .before .before .before .before .before .before .before .before .before .plan-growth .ensures .1 .1)
+slice-aggregate-write-planned c = search needs
 
 write-planned-requires : tie.Need-write-planned-requires
 write-planned-requires c κs =
-    let x = c .before .before .before .before .before .before .before .before .before .before .before .before .before .before .before in
+    let x = c .before .before .before .before .before .before .before .before .before .before .before .before .before .before .before .before in
     let s = start x in
     let l = bounds s in
     let size = s .pre .1 .0 in
     let pool = s .pre .1 .1 .0 in
-    let kept = x .plan-growth .kept .1 .1 .1 .1 .1 .1 in (
+    let kept = x .plan-step .kept .1 .1 .1 .1 .1 .1 in (
       (l .places-most, omega (arith, l .pages-most, s .pre .1 .1 .1 .1)),
       (
-        (omega (arith, size .ofSeparators, s .pre .1 .1 .1 .1), omega (arith, l .pages-most, s .pre .1 .1 .1 .1, x .plan-growth .ensures .1 .1)),
+        (omega (arith, size .ofSeparators, s .pre .1 .1 .1 .1), omega (arith, l .pages-most, s .pre .1 .1 .1 .1, kept .1 .1 .0)),
         (
           (omega (arith, inside s, size .ofNumbers), omega (arith, inside s, pool .ofNumbers, kept .0)),
           (
@@ -77,10 +80,10 @@ same-length-2 c = search needs
 
 returns : tie.Need-returns
 returns c =
-    let x = c .before .before .before .before .before .before .before in
+    let x = c .before .before .before .before .before .before .before .before in
     let s = start x in
     let v = c .before .bad .given in
-    let answer = sym (v .1) ∙ x .plan-growth .ensures .0 in
+    let answer = sym (v .1) ∙ x .plan-step .ensures .0 in
     (answer, unsound-stepped _ _ _ (file s) (second s) (s .args .step) _ (v .0 .0) answer)
 
 same-length-3 : tie.Need-same-length-3
@@ -91,9 +94,9 @@ same-length-4 c = search needs
 
 returns-2 : tie.Need-returns-2
 returns-2 c =
-    let x = c .before .before .before .before .before .before in
+    let x = c .before .before .before .before .before .before .before in
     let s = start x in
-    let answer = sym (c .enum-told .given .1) ∙ x .plan-growth .ensures .0 in
+    let answer = sym (c .enum-told .given .1) ∙ x .plan-step .ensures .0 in
     (answer, overflows-stepped _ _ _ (file s) (second s) (s .args .step) _ answer)
 
 same-length-5 : tie.Need-same-length-5
@@ -119,16 +122,14 @@ same-length-11 c = search needs
 
 returns-3 : tie.Need-returns-3
 returns-3 c =
-    let x = c .before .before .before .before .before .before .before .before .before .before .before .before .before .before .before .before .before .before .before .before .before .before .before .before .before .before .before .before .before .before in
+    let x = c .before .before .before .before .before .before .before .before .before .before .before .before .before .before .before .before .before .before .before .before .before .before .before .before .before .before .before .before .before .before .before in
     let s = start x in
     let v = c .before .before .before .before .before .before .before .before .before .before .before .before .before .before .before .before .before .before .before .before .before .before .before .before .new .given in
     let y = c .before .before .before .before .before .before .before .before .before .before .before .before .before .before .write-planned .ensures in
-    let answer = sym (v .1) ∙ x .plan-growth .ensures .0 in
-    let kept = x .plan-growth .kept .1 .1 .1 .1 .1 .1 in (
+    let answer = sym (v .1) ∙ x .plan-step .ensures .0 in (
       answer,
       on-stepped _ _ _ (file s) (second s) (s .args .step) _ (v .0 .0) (s .pre .0 .sized) (s .pre .1 .1 .1 .1) answer
-          _ _ (kept .0 ∙ s .pre .1 .1 .0 .ofNumbers) (omega (arith, bounds s .pages-most, x .plan-growth .ensures .1 .1)) (x .plan-growth .ensures .1 .0 (v .0 .0) (v .1))
-          _ _ _ _ (y .0) (y .1 .0) (y .1 .1 .0) (y .1 .1 .1),
+          _ _ (x .plan-step .ensures .1 (v .0 .0) (v .1)) _ _ _ _ (y .0) (y .1 .0) (y .1 .1 .0) (y .1 .1 .1),
     )
 
 pub step-page-spec : {M : Type 1} → statement M
@@ -136,7 +137,8 @@ step-page-spec =
     tie.close
     (tie.spec
     cast-places
-    plan-growth-requires
+    slice-aggregate-plan-step
+    plan-step-requires
     enum-known-bad
     enum-told
     enum-known-new

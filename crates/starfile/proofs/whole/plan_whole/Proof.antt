@@ -1,5 +1,5 @@
 -- `starfile::whole::plan_whole` meets its contract.
-use mathlib.Core.Path.{refl, sym, _∙_}
+use mathlib.Core.Path.{sym, _∙_}
 use denote.Ref.{now}
 use Rattle.placement.specs.File.{File}
 use Rattle.placement.specs.Hash.{lent}
@@ -29,20 +29,20 @@ enum-known-step-2 c = search needs
 first-multipliers-requires : tie.Need-first-multipliers-requires
 first-multipliers-requires c κs = tabled (c .before .before .before .before .before .before .before .before .before .before .pre .0)
 
-cast-plan-growth : tie.Need-cast-plan-growth
-cast-plan-growth c = search needs
+cast-accept-growth : tie.Need-cast-accept-growth
+cast-accept-growth c = search needs
 
-plan-growth-requires : tie.Need-plan-growth-requires
-plan-growth-requires c κs =
-    let pre = c .before .before .before .before .before .before .before .before .before .before .before .before .before .before .before .pre in
-    let e = sym (c .before .before .before .before .before .before .before .before .step-of .ensures) ∙ c .before .before .before .before .before .before .step2 .given .1 in
-    (prepared (c .before .before .before .before .first-multipliers .ensures) (pre .0), (pre .1 .0, (pre .1 .1, (step-movable _ _ _ e (pre .0 .homing .growth), refl))))
+accept-growth-requires : tie.Need-accept-growth-requires
+accept-growth-requires c κs =
+    let pre = c .before .before .before .before .before .before .before .before .before .before .before .before .before .before .pre in
+    let e = sym (c .before .before .before .before .before .before .before .step-of .ensures) ∙ c .before .before .before .before .before .step2 .given .1 in
+    (prepared (c .before .before .before .first-multipliers .ensures) (pre .0), (pre .1 .0, (pre .1 .1, step-movable _ _ _ e (pre .0 .homing .growth))))
 
 grown-by-requires : tie.Need-grown-by-requires
 grown-by-requires c κs =
-    let s = c .before .before .before .before .before .before .before .before .before .before .before .before .before .before .before .before .before .before .before .before in
-    let e = sym (c .before .before .before .before .before .before .before .before .before .before .before .before .before .step-of .ensures) ∙ c .before .before .before .before .before .before .before .before .before .before .before .step2 .given .1 in
-    rw (c .before .before .before .before .plan-growth .ensures .0)
+    let s = c .before .before .before .before .before .before .before .before .before .before .before .before .before .before .before .before .before .before .before in
+    let e = sym (c .before .before .before .before .before .before .before .before .before .before .before .before .step-of .ensures) ∙ c .before .before .before .before .before .before .before .before .before .before .step2 .given .1 in
+    rw (c .before .before .before .before .accept-growth .ensures)
     (growth-small (s .args .parameters) (s .args .growth) (fileOf s) (s .pre .0 .homing .valid) _ _ (step-small _ _ _ e (s .pre .0 .homing .valid) (s .pre .0 .homing .growth)))
 
 returns : tie.Need-returns
@@ -55,7 +55,7 @@ same-length-2 : tie.Need-same-length-2
 same-length-2 c = search needs
 
 returns-2 : tie.Need-returns-2
-returns-2 c = growth-planned _ _ (fileOf (c .before .before .before .before .before .before .before .before .before .before .before .before .before .before .before .before .before .before .before .before .before)) (sym (c .before .before .before .before .before .before .before .before .before .before .before .before .before .before .step-of .ensures) ∙ c .before .before .before .before .before .before .before .before .before .before .before .before .step2 .given .1) (c .before .before .before .before .before .plan-growth .ensures .0) (c .grown-by .ensures)
+returns-2 c = growth-planned _ _ (fileOf (c .before .before .before .before .before .before .before .before .before .before .before .before .before .before .before .before .before .before .before .before)) (sym (c .before .before .before .before .before .before .before .before .before .before .before .before .before .step-of .ensures) ∙ c .before .before .before .before .before .before .before .before .before .before .before .step2 .given .1) (c .before .before .before .before .before .accept-growth .ensures) (c .grown-by .ensures)
 
 pub plan-whole-spec : {M : Type 1} → statement M
 plan-whole-spec =
@@ -66,8 +66,8 @@ plan-whole-spec =
     unmoved-requires
     enum-known-step-2
     first-multipliers-requires
-    cast-plan-growth
-    plan-growth-requires
+    cast-accept-growth
+    accept-growth-requires
     grown-by-requires
     returns
     same-length

@@ -1,0 +1,145 @@
+use mathlib.Core.Path.{_≡_, refl, sym, _∙_}
+use mathlib.Core.Bool.{true, false}
+use Prim.Native.Nat.{ℕ, _+_, _*_, _^_, _≤_}
+use native.Mathlib.Nat.{le-refl}
+use native.Mathlib.Omega.{arith}
+use denote.Ref.{now}
+use Rattle.hashing.specs.Limits.{validGrowth}
+use Rattle.hashing.specs.Geometry.{grown}
+use Rattle.hashing.proofs.Bounds.{limits}
+use Rattle.pages.specs.Page.{stretch}
+use Rattle.placement.specs.File.{File}
+use Rattle.placement.specs.Hash.{homesOf, lent}
+use Rattle.page_separator.specs.Lists.{allBelow}
+use Rattle.reach.specs.Reach.{firstUnsound}
+use Rattle.reach.proofs.Surveyed.{known-none}
+use Rattle.removal_reach.proofs.Items.{all-sound, numbers-below}
+use Rattle.growth_in_place.proofs.Whole.{none-counted}
+use Rattle.growth_plan.proofs.PlannedGrowth.{plan-overflows, plan-fits, spacious-answer}
+use Rattle.growth_plan.proofs.Growing.{next-valid, growth-refused, surveyed-all, surveyed-sound}
+use borrow.Author.Needs.{needs}
+use Rattle.growth_plan.proofs.steps.accept_growth.Statement.{statement}
+use Rattle.growth_plan.proofs.steps.accept_growth.Tie as tie
+
+abbrev start : tie.After-survey-pages → tie.Start
+start c = c .before .before .before .before .before .before .before .before .before
+
+abbrev file : tie.Start → File
+file s = lent (now (s .args .separators)) (now (s .args .numbers)) (now (s .args .words)) (now (s .args .owners))
+
+later : (s : tie.Start) → validGrowth (s .args .geometry .parameters) (grown (s .args .geometry .parameters) (s .args .geometry .growth)) ≡ true
+later s = next-valid false _ _ (s .pre .0 .homing .valid) (s .pre .0 .homing .growth) (s .pre .1 .1 .1)
+
+-- all pages are sound, and the pool holds the homes of their items
+homed : (c : tie.Else1)
+    → let s = start (c .before .before .before) in
+    c .before .before .before .survey-pages .last .1 .1 .1 .1 .1 .1 .0 ≡ homesOf (s .args .geometry .parameters) (s .args .geometry .growth) (now (s .args .numbers))
+homed c =
+    let x = c .before .before .before in
+    let s = start x in
+    surveyed-all _ _ (file s) (s .pre .0 .homing .valid) (s .pre .0 .sized) _ (x .survey-pages .ensures .0) (c .if1 .left) _ _ (s .pre .1 .0) (x .survey-pages .ensures .1)
+
+sound : (c : tie.Else1)
+    → let s = start (c .before .before .before) in
+    let p = s .args .geometry .parameters in
+    firstUnsound p (s .args .geometry .growth) (file s) 0 (p .pages) ≡ p .pages
+sound c =
+    let s = start (c .before .before .before) in
+    surveyed-sound _ _ (file s) (s .pre .0 .homing .valid) (s .pre .0 .sized) _ (c .before .before .before .survey-pages .ensures .0) (c .if1 .left)
+
+numbered : (c : tie.Else1)
+    → let s = start (c .before .before .before) in
+    let p = s .args .geometry .parameters in
+    (lo n : ℕ) → lo + n ≤ p .pages → allBelow (2 ^ 31) (stretch (p .places) lo n (now (s .args .numbers))) ≡ true
+numbered c lo n h =
+    let s = start (c .before .before .before) in
+    numbers-below _ (file s) (s .pre .0 .homing .valid) (s .pre .0 .sized) lo n h (s .args .geometry .growth)
+    (λ q a b. all-sound (s .args .geometry .parameters) (s .args .geometry .growth) (file s) 0 (s .args .geometry .parameters .pages) (omega (arith, sound c)) q (omega arith) (omega arith))
+
+cast-pages : tie.Need-cast-pages
+cast-pages c = search needs
+
+survey-pages-requires : tie.Need-survey-pages-requires
+survey-pages-requires c κs =
+    let pre = c .before .before .before .before .before .before .before .before .pre in
+    (pre .0, (pre .1 .0, (omega arith, (omega arith, known-none _ _ _ _ _ (le-refl _)))))
+
+same-length : tie.Need-same-length
+same-length c = search needs
+
+returns : tie.Need-returns
+returns c =
+    let x = c .before .before .before in
+    let s = start x in
+    growth-refused _ _ (file s) (s .pre .0 .homing .valid) (s .pre .0 .sized) _ _ _ (x .survey-pages .ensures .0) (c .if1 .taken) .0
+
+is-spacious-requires : tie.Need-is-spacious-requires
+is-spacious-requires c κs =
+    let x = c .before in
+    let s = start (x .before .before .before) in
+    (s .pre .0 .homing, (s .pre .1 .1 .1, (s .pre .0 .sized .ofSeparators, (s .pre .0 .sized .ofNumbers, (homed x, λ top. none-counted _ _ (file s) (s .pre .0 .homing .valid) (s .pre .0 .homing .growth) (s .pre .0 .sized) (sound x) (s .pre .1 .1 .1) top)))))
+
+same-length-2 : tie.Need-same-length-2
+same-length-2 c = search needs
+
+returns-2 : tie.Need-returns-2
+returns-2 c =
+    let x = c .before .before .before in
+    let s = start (x .before .before .before) in
+    spacious-answer _ _ (file s) (s .pre .0 .homing .valid) (s .pre .0 .homing .growth) (s .pre .0 .sized) (sound x) (s .pre .1 .1 .1)
+    (c .before .is-spacious .ensures (c .if2 .taken)) _
+
+slice-aggregate-plan-all : tie.Need-slice-aggregate-plan-all
+slice-aggregate-plan-all c = search needs
+
+plan-all-requires : tie.Need-plan-all-requires
+plan-all-requires c κs =
+    let x = c .before .before .before .before .before .before in
+    let s = start (x .before .before .before) in
+    (s .pre .0 .homing, (s .pre .1 .1 .1, ((s .pre .0 .sized .ofNumbers, s .pre .1 .1 .0), (omega (arith, limits _ (s .pre .0 .homing .valid) .pages-most), (numbered x 0 _ (omega arith), homed x)))))
+
+same-length-3 : tie.Need-same-length-3
+same-length-3 c = search needs
+
+same-length-4 : tie.Need-same-length-4
+same-length-4 c = search needs
+
+returns-3 : tie.Need-returns-3
+returns-3 c =
+    let x = c .before .before .before .before .before .before .before .before .before .before .before .before .before in
+    let s = start (x .before .before .before) in
+    let P = c .before .before .before .before .before .before .plan-all .ensures in
+    plan-overflows _ _ _ (file s) (s .pre .0 .homing .valid) (s .pre .0 .sized) (later s) _ (x .before .before .before .survey-pages .ensures .0) (x .if1 .left) _ (P .homes-are) _ _ _ _ _ _ (P .plan) (c .if3 .taken)
+
+same-length-5 : tie.Need-same-length-5
+same-length-5 c = search needs
+
+same-length-6 : tie.Need-same-length-6
+same-length-6 c = search needs
+
+returns-4 : tie.Need-returns-4
+returns-4 c =
+    let x = c .before .before .before .before .before .before .before .before .before .before .before .before .before in
+    let s = start (x .before .before .before) in
+    let P = c .before .before .before .before .before .before .plan-all .ensures in
+    plan-fits _ _ _ (file s) (s .pre .0 .homing .valid) (s .pre .0 .sized) (later s) _ (x .before .before .before .survey-pages .ensures .0) (x .if1 .left) _ (P .homes-are) _ _ _ _ _ _ (P .plan) (c .if3 .left) (omega (arith, limits _ (s .pre .0 .homing .valid) .pages-most)) .0
+
+pub accept-growth-spec : {M : Type 1} → statement M
+accept-growth-spec =
+    tie.close
+    (tie.spec
+    cast-pages
+    survey-pages-requires
+    same-length
+    returns
+    is-spacious-requires
+    same-length-2
+    returns-2
+    slice-aggregate-plan-all
+    plan-all-requires
+    same-length-3
+    same-length-4
+    returns-3
+    same-length-5
+    same-length-6
+    returns-4)
