@@ -4,18 +4,22 @@ use mathlib.Core.Bool.{true, false}
 use mathlib.Core.List.{List, [], _∷_}
 use Prim.Native.Nat.{ℕ, suc, _+_, _≤_, _<_}
 use native.Mathlib.Nat.{zero-add, add-zero, add-suc, suc-add}
+use native.Mathlib.Numerals.{add-one}
 use native.Mathlib.Omega.{arith}
 use lib.Dec.{eqb}
-use lib.ListN.{length, drop, getD, drop-of-length-le}
-use lib.Seq.{drop-cons}
-use borrow.Author.Tests.{ne-eqb}
+use lib.ListN.{length, take, drop, getD, length-replicate, drop-of-length-le}
+use lib.Seq.{drop-cons, getD-take, length-take-le}
+use borrow.Author.Tests.{eq-eqb, ne-eqb}
 use Rattle.hashing.specs.declared.Parameters.{Parameters}
-use Rattle.placement.specs.File.{File}
+use Rattle.placement.specs.File.{File, Sized}
+use Rattle.placement.specs.Ready.{Pooled}
 use Rattle.calls.specs.declared.answers.Answer.{Answer}
 use Rattle.calls.specs.declared.answers.Refusal.{Refusal}
+use Rattle.calls.specs.declared.answers.Placed.{Placed}
 use Rattle.calls.specs.declared.answers.Placed.the-variants.{On, Refused}
 use Rattle.calls.specs.declared.records.GrowthRecord.{GrowthRecord}
-use Rattle.calls.specs.Answers.{Pool, Stores, placed, refusedBy, refusalNumber, spotted}
+use Rattle.calls.specs.Answers.{Pool, Stores, placed, refusedBy, refusalNumber, spotted, pooled, cleared, zeros}
+use Rattle.calls.specs.Calls.{poolFits}
 use Rattle.calls.proofs.Numbers.{numbered}
 use Rattle.reports.specs.declared.Report.{Report}
 use Rattle.reports.specs.Filing.{reportFiled, Filed, oneMore, filedFrom}
@@ -48,6 +52,13 @@ module _ (p : Parameters) (r : GrowthRecord) (pool : Pool) (f : File) (x : Repor
   unfolding filedFrom
   one-refused e = rw e
 
+-- a pool of these lengths, cleared
+pub cleared-fits : {p : Parameters} {numbers words owners : List ℕ} → Pooled p numbers words owners → poolFits p (cleared (pooled numbers words owners)) ≡ true
+unfolding poolFits cleared zeros
+cleared-fits t =
+    simp length-replicate
+    (rw (eq-eqb _ _ (t .ofNumbers), eq-eqb _ _ (t .ofWords), eq-eqb _ _ (t .ofOwners)))
+
 -- what is filed, by an equation for the definition
 files : (d e : Filed) (t : Told) (l : File) → d ≡ e → t .filed ≡ e .filed → placed (t .answer) ≡ e .answer → l ≡ e .file → Files d t l
 files d e t l is n a m =
@@ -66,33 +77,59 @@ module _ (p : Parameters) (r : GrowthRecord) (pool : Pool) (f₀ : File) (xs : L
   unfolding Ordered
   ordered-none = rw (zero-add (filedFrom p r f₀ pool xs .filed))
 
-  module _ (i : ℕ) (f : File) (done : Ordered i f) where
-    pub ordered-all : length xs ≤ i → Files (filedFrom p r f₀ pool xs) (record { filed = i; answer = On 0 0 }) f
-    unfolding Ordered filedFrom placed
-    ordered-all h =
-        files _ (further i (filedFrom p r f pool [])) _ _
-        (done ∙ ap (λ (l : List Report). further i (filedFrom p r f pool l)) (drop-of-length-le xs h))
+-- the loop over the first `count` reports of a list, with what the next report needs
+pub record Ongoing (p : Parameters) (r : GrowthRecord) (pool : Pool) (f₀ : File) (reports : List Report) (count i : ℕ) (f : File) (left : Pool) : Type 0 where
+  pub long : length reports ≡ 256
+  pub most : count ≤ 256
+  pub upto : i ≤ count
+  pub ordered : Ordered p r pool f₀ (take count reports) i f
+  pub sized : Sized (p .places) (p .pages) f
+  pub pooled : Pooled p (left .numbers) (left .words) (left .owners)
+
+module _ (p : Parameters) (r : GrowthRecord) (pool : Pool) (f₀ : File) (reports : List Report) (count i : ℕ) (f : File) (left : Pool)
+    (inv : Ongoing p r pool f₀ reports count i f left) where
+  abbrev xs : List Report
+  xs = take count reports
+
+  length-is : length xs ≡ count
+  length-is = length-take-le count reports (omega (arith, inv .most, inv .long))
+
+  pub ordered-all : count ≤ i → Files (filedFrom p r f₀ pool xs) (record { filed = i; answer = On 0 0 }) f
+  unfolding Ordered filedFrom placed
+  ordered-all h =
+      files _ (further i (filedFrom p r f pool [])) _ _
+      (inv .ordered ∙ ap (λ (l : List Report). further i (filedFrom p r f pool l)) (drop-of-length-le xs {i = i} (rw length-is h)))
+      (sym (add-zero i))
+      refl
+      refl
+
+  module _ (h : i < count) (d : Report) where
+    abbrev x : Report
+    x = getD reports i d
+
+    tried : filedFrom p r f₀ pool xs ≡ further i (filedFrom p r f pool (x ∷ drop (suc i) xs))
+    unfolding Ordered
+    tried =
+        inv .ordered
+        ∙ ap (λ (l : List Report). further i (filedFrom p r f pool l))
+        (drop-cons xs i d (rw length-is h) ∙ ap (λ (y : Report). y ∷ drop (suc i) xs) (getD-take count reports i d h))
+
+    pub ordered-more : (page place : ℕ) (answer : Placed) (f′ : File) → answer ≡ On page place → Stores (reportFiled p r f pool x) (placed answer) f′
+        → Ordered p r pool f₀ xs (i + 1) f′
+    unfolding Ordered
+    ordered-more page place answer f′ e s =
+        rw (add-one i)
+        (tried
+        ∙ ap (further i)
+        (one-filed p r pool f x (drop (suc i) xs) f′ (ap (λ (a : Answer). eqb (a .refusal) 0) (sym (s .answers) ∙ ap placed e) ∙ went-on page place) (s .files))
+        ∙ one-further i (filedFrom p r f′ pool (drop (suc i) xs)))
+
+    pub ordered-stop : (refusal : Refusal) (place : ℕ) (answer : Placed) (f′ : File) → answer ≡ Refused refusal place
+        → Stores (reportFiled p r f pool x) (placed answer) f′ → Files (filedFrom p r f₀ pool xs) (record { filed = i; answer = Refused refusal place }) f′
+    ordered-stop refusal place answer f′ e s =
+        files _ (further i (record { filed = 0; answer = reportFiled p r f pool x .answer; file = reportFiled p r f pool x .file; rest = x ∷ drop (suc i) xs })) _ _
+        (tried
+        ∙ ap (further i) (one-refused p r pool f x (drop (suc i) xs) (ap (λ (a : Answer). eqb (a .refusal) 0) (sym (s .answers) ∙ ap placed e) ∙ came-to-rest refusal place)))
         (sym (add-zero i))
-        refl
-        refl
-
-    module _ (x : Report) (h : i < length xs) (is : getD xs i x ≡ x) where
-      tried : filedFrom p r f₀ pool xs ≡ further i (filedFrom p r f pool (x ∷ drop (suc i) xs))
-      unfolding Ordered
-      tried = done ∙ ap (λ (l : List Report). further i (filedFrom p r f pool l)) (drop-cons xs i x h ∙ ap (λ (y : Report). y ∷ drop (suc i) xs) is)
-
-      pub ordered-more : (page place : ℕ) (f′ : File) → Stores (reportFiled p r f pool x) (placed (On page place)) f′ → Ordered (suc i) f′
-      unfolding Ordered
-      ordered-more page place f′ s =
-          tried
-          ∙ ap (further i) (one-filed p r pool f x (drop (suc i) xs) f′ (ap (λ (a : Answer). eqb (a .refusal) 0) (sym (s .answers)) ∙ went-on page place) (s .files))
-          ∙ one-further i (filedFrom p r f′ pool (drop (suc i) xs))
-
-      pub ordered-stop : (refusal : Refusal) (place : ℕ) (f′ : File) → Stores (reportFiled p r f pool x) (placed (Refused refusal place)) f′
-          → Files (filedFrom p r f₀ pool xs) (record { filed = i; answer = Refused refusal place }) f′
-      ordered-stop refusal place f′ s =
-          files _ (further i (record { filed = 0; answer = reportFiled p r f pool x .answer; file = reportFiled p r f pool x .file; rest = x ∷ drop (suc i) xs })) _ _
-          (tried ∙ ap (further i) (one-refused p r pool f x (drop (suc i) xs) (ap (λ (a : Answer). eqb (a .refusal) 0) (sym (s .answers)) ∙ came-to-rest refusal place)))
-          (sym (add-zero i))
-          (s .answers)
-          (s .files)
+        (sym (ap placed e) ∙ s .answers)
+        (s .files)

@@ -1,8 +1,9 @@
 -- One report by what its search found: the laws of crate reports, below the guards of the calls that it is tried as.
-use mathlib.Core.Path.{_≡_, refl, sym, ap, _∙_}
-use mathlib.Core.Bool.{Bool, true, false, cond, not, _&&_, _||_, false≢true}
+use mathlib.Core.Path.{_≡_, refl, sym, ap, subst, _∙_}
+use mathlib.Core.Bool.{Bool, true, false, cond, _&&_, _||_, false≢true}
+use mathlib.Core.List.{List}
 use Prim.Native.Nat.{ℕ}
-use lib.Dec.{eqb}
+use native.Mathlib.Nat.{le-refl}
 use lib.ListN.{set}
 use borrow.Author.Tests.{eq-eqb}
 use Rattle.hashing.specs.declared.Parameters.{Parameters}
@@ -12,13 +13,18 @@ use Rattle.pages.specs.declared.position.Position.{Position}
 use Rattle.pages.specs.Position.{validNumber, validPosition, packed}
 use Rattle.placement.specs.File.{File, Sized}
 use Rattle.placement.specs.Hash.{hashOf, lent}
-use Rattle.placement.specs.Rule.{Star}
+use Rattle.placement.specs.Rule.{Star, starWith}
 use Rattle.reach.specs.Reach.{removalEnd, entryEnd}
+use Rattle.page_plan.specs.declared.outcome.Outcome.{Outcome}
 use Rattle.calls.specs.declared.answers.Answer.{Answer}
-use Rattle.calls.specs.Answers.{Pool, After, Stores, cleared, accepted, acceptedAt, refused, refusedAt, spotted}
+use Rattle.calls.specs.declared.answers.Placed.{Placed}
+use Rattle.calls.specs.Answers.{Pool, After, Stores, placed, cleared, unpooled, accepted, acceptedAt, refused, refusedAt, spotted}
 use Rattle.calls.specs.Calls.{fileFits, poolFits, unlent, unchanged, readable, named, holds, placeFor, itemOf, ownerFor, mayAlter, allowed, entered, enterTo, enterOn, enterOf, changeOn, changeOf, removeTo, removeOn, removeOf}
 use Rattle.calls.specs.Records.{validSteps, closedRecord, enterUnder, changeUnder, removeUnder}
+use Rattle.calls.specs.Stores.{stoppedFile}
 use Rattle.calls.proofs.Refusals.{well-lent}
+use Rattle.calls.proofs.Stored.{whole-stopped}
+use Rattle.outcome_answer.specs.Outcomes.{outcomePlaced}
 use Rattle.reports.specs.declared.Report.{Report}
 use Rattle.reports.specs.Reports.{positionOf, isRemoval}
 use Rattle.reports.specs.Filing.{removalFiled, positionFiled, reportFiled}
@@ -38,6 +44,28 @@ left-out false t e h = e
 none : (s t : Bool) → s || t ≡ false → (s ≡ false) × (t ≡ false)
 none true t e = absurd (false≢true (sym e))
 none false t e = (refl, e)
+
+-- the same answer and the same words, said otherwise
+pub told : {after : After} {a b : Answer} {f : File} → a ≡ b → Stores after b f → Stores after a f
+told e s = record { answers = e ∙ s .answers; files = s .files }
+
+pub answered-at : {page page′ place place′ : ℕ} → page ≡ page′ → place ≡ place′ → acceptedAt page place ≡ acceptedAt page′ place′
+answered-at {page} {page′} {place} {place′} e h = ap (λ (q : ℕ). acceptedAt q place) e ∙ ap (λ (q : ℕ). acceptedAt page′ q) h
+
+pub written : (ws : List ℕ) {after : After} {a b : Answer} {ss ns os : List ℕ} {item item′ word word′ : ℕ} → a ≡ b → item ≡ item′ → word ≡ word′
+    → Stores after b (lent ss ns (set ws item′ word′) os) → Stores after a (lent ss ns (set ws item word) os)
+written ws {after} {a} {b} {ss} {ns} {os} {item} {item′} {word} {word′} e i w s =
+    record {
+      answers = e ∙ s .answers;
+      files = ap (λ (q : ℕ). lent ss ns (set ws q word) os) i ∙ ap (λ (v : ℕ). lent ss ns (set ws item′ v) os) w ∙ s .files;
+    }
+
+pub outcome-told : {r : Placed} {o o′ : Outcome} {place place′ : ℕ} → r ≡ outcomePlaced o place → o ≡ o′ → place ≡ place′ → placed r ≡ placed (outcomePlaced o′ place′)
+outcome-told {r} {o} {o′} {place} {place′} e a b = ap placed (e ∙ ap (λ (y : Outcome). outcomePlaced y place) a ∙ ap (λ (q : ℕ). outcomePlaced o′ q) b)
+
+-- with a store for every page nothing is stopped
+pub whole-file : (lowest : Bool) (p : Parameters) (g : Growth) (f l : File) → stoppedFile lowest p f l (p .pages) ≡ l
+whole-file lowest p g f l = ap (λ (a : After). a .file) (whole-stopped lowest p f (p .pages) (unchanged g l unpooled (accepted 0)) (le-refl (p .pages)))
 
 -- what a valid report that is no removal has
 pub placed-well : (x : Report) → isRemoval x || validPosition (positionOf x) ≡ true → isRemoval x ≡ false → validPosition (positionOf x) ≡ true
@@ -123,9 +151,16 @@ module _ (p : Parameters) (g : Growth) (f : File) (pool : Pool) (x : Report) (v 
       nothing e new = as-removal e (stores _ _ g _ pool (removal-nothing p (closedRecord g) f pool x (admitted n) good new))
 
       -- a star not held is entered
-      pub enters : isRemoval x ≡ false → validPosition (positionOf x) ≡ true → holds p f page (x .number) ≡ false → {answer : Answer} {l : File}
-          → Stores (enterTo p g f (cleared pool) star place (entryEnd (hashOf p g) (p .pages) f star)) answer l → Stores filed answer l
-      enters e q new done = as-position e (rw is done)
+      pub enters : isRemoval x ≡ false → validPosition (positionOf x) ≡ true → holds p f page (x .number) ≡ false → (word : ℕ) → word ≡ packed (positionOf x) → {answer : Answer} {l : File}
+          → Stores (enterTo p g f (cleared pool) (starWith (x .number) word (x .owner)) place (entryEnd (hashOf p g) (p .pages) f (starWith (x .number) word (x .owner)))) answer l
+          → Stores filed answer l
+      enters e q new word same {answer} {l} done =
+          as-position e
+          (rw is
+          (subst
+          (λ (w : ℕ). Stores (enterTo p g f (cleared pool) (starWith (x .number) w (x .owner)) place (entryEnd (hashOf p g) (p .pages) f (starWith (x .number) w (x .owner)))) answer l)
+          same
+          done))
         where
           is : positionFiled p (closedRecord g) f pool x ≡ enterTo p g f (cleared pool) star place (entryEnd (hashOf p g) (p .pages) f star)
           is =
