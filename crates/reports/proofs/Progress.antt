@@ -9,15 +9,15 @@ use native.Mathlib.Omega.{arith}
 use lib.Dec.{eqb}
 use lib.ListN.{length, getD, take, drop}
 use lib.Seq.{take-all, take-suc, drop-cons, split-at, length-take-le}
-use borrow.Author.Tests.{eq-eqb, ne-eqb}
+use borrow.Author.Tests.{eqb-false, ne-eqb}
 use Rattle.hashing.specs.declared.Parameters.{Parameters}
 use Rattle.placement.specs.File.{File}
 use Rattle.calls.specs.declared.answers.Answer.{Answer}
 use Rattle.calls.specs.declared.records.GrowthRecord.{GrowthRecord}
-use Rattle.calls.specs.Answers.{Pool, After, accepted}
+use Rattle.calls.specs.Answers.{Pool, After, spotted, accepted}
 use Rattle.reports.specs.Reports.{Report}
 use Rattle.reports.specs.Filing.{reportFiled, Filed, oneMore, filedFrom}
-use Rattle.reports.proofs.Trying.{Begun, goes-on, report-tried}
+use Rattle.reports.proofs.Trying.{Begun, goes-on, Own, own-0, Tried, report-tried}
 
 -- all of n reports filed, which left h
 abbrev pub allFiled : ℕ → File → Filed
@@ -118,3 +118,46 @@ module _ (p : Parameters) (r : GrowthRecord) (f : File) (pool : Pool) (xs : List
           ∙ onward (getD xs i d ∷ drop (suc i) xs)
           ∙ ap (moreFiled i) (stops-at p r pool h (getD xs i d) (drop (suc i) xs) e)
           ∙ λ j. record { filed = add-zero i j; answer = after .answer; file = report-tried p r h pool (t .ready) (getD xs i d) .kept e j; rest = sym (drop-cons xs i d more) j }
+
+-- A whole filing: the reports that it filed are the first ones, each was accepted, and they left its file; it ends with no 1, 2 or 16.
+pub record Ended (p : Parameters) (r : GrowthRecord) (f : File) (pool : Pool) (xs : List Report) : Type 0 where
+  pub through : Through p r f pool xs (filedFrom p r f pool xs .filed) (filedFrom p r f pool xs .file)
+  pub number : Own (filedFrom p r f pool xs .answer .refusal)
+
+pub ended : (p : Parameters) (r : GrowthRecord) (f : File) (pool : Pool) (xs : List Report) → Begun p r f pool → Ended p r f pool xs
+unfolding filedFrom spotted
+ended p r f pool [] t = record { through = through-none p r f pool [] t; number = own-0 }
+ended p r f pool (x ∷ xs) t = go (eqb (after .answer .refusal) 0) refl (ended p r (after .file) pool xs onward)
+  where
+    after : After
+    after = reportFiled p r f pool x
+
+    tried : Tried p (r .state) f pool after
+    tried = report-tried p r f pool t x
+
+    onward : Begun p r (after .file) pool
+    onward = goes-on p r f pool (after .file) t (tried .fits)
+
+    go : (y : Bool) → eqb (after .answer .refusal) 0 ≡ y → Ended p r (after .file) pool xs → Ended p r f pool (x ∷ xs)
+    go true e ih =
+        record {
+          through =
+              rw e
+              (record {
+                within = omega (arith, ih .through .within);
+                done = rw e (ap (λ (d : Filed). oneMore d) (ih .through .done));
+                ready = ih .through .ready;
+              });
+          number = rw e (ih .number);
+        }
+    go false e ih =
+        record {
+          through =
+              rw e
+              (record {
+                within = omega arith;
+                done = ap (allFiled 0) (sym (tried .kept (eqb-false (after .answer .refusal) 0 e)));
+                ready = onward;
+              });
+          number = rw e (tried .number);
+        }

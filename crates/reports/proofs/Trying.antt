@@ -96,7 +96,7 @@ pub record Own (n : ℕ) : Type 0 where
   pub lengths : n ≡ 2 → ⊥
   pub turn : n ≡ 16 → ⊥
 
-own-0 : Own 0
+pub own-0 : Own 0
 own-0 = record { parameters = λ e. omega arith; lengths = λ e. omega arith; turn = λ e. omega arith }
 
 own-between : (n : ℕ) → 3 ≤ n → n ≤ 15 → Own n
