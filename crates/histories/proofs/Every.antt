@@ -42,7 +42,7 @@ use Rattle.calls.specs.Records.{
 use Rattle.reports.specs.declared.Report.{Report}
 use Rattle.reports.specs.Reports.{Tray, waiting, trayFits, latestOr}
 use Rattle.reports.specs.TrayCalls.{soughtRefusal, plainAnswer, unfilteredOf}
-use Rattle.reports.specs.Filing.{AfterFiling, leftBy}
+use Rattle.reports.specs.Filing.{AfterFiling, leftBy, filingOf}
 use Rattle.reports.specs.Exact.{fromZeros, calledAll, Exact}
 use Rattle.reports.proofs.Exact.{filter-exact}
 use Rattle.reports.proofs.Trying.{cleared-fits, cleared-twice, Begun}
@@ -94,7 +94,7 @@ use Rattle.histories.proofs.Histories.{Agrees, each-event, end-agrees, 
 use Rattle.histories.proofs.Make.{initial-agrees}
 use Rattle.histories.proofs.Under.{step-accepted, is-closed, is-opened}
 use Rattle.histories.proofs.GoesOn.{survives, mend-stays, mended-as-it-is}
-use Rattle.histories.proofs.Filing.{tray-lent, file-lent, filing-open, filing-begun}
+use Rattle.histories.proofs.Filing.{tray-lent, file-lent, filing-unlent, filing-open, filing-begun}
 use Rattle.histories.proofs.Elements.{conforming}
 
 pub every-history : EveryHistory
@@ -381,9 +381,23 @@ module _ (s : HistoryState) (agrees : Agrees s) (second : File) (pool : Pool) (t
   abbrev filingCall : Call
   filingCall = elementOf pool second (fileReports t bits)
 
-  tray-calls-stay : ((k : ℕ) → next s (elementOf pool second (combinedLookUp t bits k)) ≡ s) × ((x : Report) → next s (elementOf pool second (addReport t bits x)) ≡ s)
+  filing-stays : begins here (s .growth) (s .file) pool t bits ≡ false → next s filingCall ≡ s
+  unfolding next fedThen outcome effect feeding fedBy fedAll filingMade
+  filing-stays e = go (poolFits here pool && trayFits t bits) refl (s .growth .growing) refl
+    where
+      none : filingOf here (s .growth) (s .file) pool t bits .file ≡ s .file → next s filingCall ≡ s
+      none h = rw e (ap (λ (l : File). record { parameters = here; growth = s .growth; file = l; second = s .second; model = s .model }) h)
+
+      go : (b : Bool) → poolFits here pool && trayFits t bits ≡ b → (y : Bool) → s .growth .growing ≡ y → next s filingCall ≡ s
+      go false b y g = none (ap (λ (a : AfterFiling). a .file) (filing-unlent here (s .model) (s .growth) (s .file) (s .second) agrees pool t bits b .0))
+      go true b true g = none (ap (λ (a : AfterFiling). a .file) (filing-open here (s .model) (s .growth) (s .file) (s .second) agrees pool t bits b g .0))
+      go true b false g = absurd (true≢false (sym (filing-begun here (s .model) (s .growth) (s .file) (s .second) agrees pool t bits b g .1) ∙ e))
+
+  tray-calls-stay : ((k : ℕ) → next s (elementOf pool second (combinedLookUp t bits k)) ≡ s)
+      × ((x : Report) → next s (elementOf pool second (addReport t bits x)) ≡ s)
+      × (begins here (s .growth) (s .file) pool t bits ≡ false → next s filingCall ≡ s)
   unfolding next fedThen outcome effect feeding fedBy fedAll
-  tray-calls-stay = ((λ k. refl), λ x. refl)
+  tray-calls-stay = ((λ k. refl), (λ x. refl), filing-stays)
 
   combined-answers : Exact (here .multiplier) t bits → (k : ℕ) → validNumber k ≡ true
       → outcome s (elementOf pool second (combinedLookUp t bits k)) .answer ≡ latestOr (here .pages) k (waiting t) (answered here (s .model) k)
@@ -398,10 +412,10 @@ module _ (s : HistoryState) (agrees : Agrees s) (second : File) (pool : Pool) (t
     both-fit = rw (fit, lent)
 
     filing-turned-away : s .growth .growing ≡ true → OutOfTurn s filingCall
-    unfolding next fedThen outcome effect feeding fedBy fedAll filingMade
+    unfolding outcome effect
     filing-turned-away g =
         let e = filing-open here (s .model) (s .growth) (s .file) (s .second) agrees pool t bits both-fit g in
-        (ap (λ (a : AfterFiling). a .answer) (e .0), rw (e .0, e .1))
+        (ap (λ (a : AfterFiling). a .answer) (e .0), filing-stays (e .1))
 
     filing-tries : s .growth .growing ≡ false → (begins here (s .growth) (s .file) pool t bits ≡ true) × MeetsNoOwn s filingCall
     unfolding outcome effect leftBy

@@ -33,7 +33,7 @@ use Rattle.histories.proofs.Remove.{remove-conforms}
 use Rattle.histories.proofs.Under.{is-closed, request-conforms}
 
 -- the model fed one call
-abbrev fedOne : Parameters → Made → Model → Model
+abbrev pub fedOne : Parameters → Made → Model → Model
 fedOne p c m = fed p (c .request) (eqb (c .refusal) 0) m
 
 -- What a report leaves is the file of the model fed with the call it made.

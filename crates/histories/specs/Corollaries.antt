@@ -155,11 +155,12 @@ pub record InHistory (now : HistoryState) (second : File) : Type 0 where
       × (poolFits (now .parameters) pool ≡ true → now .growth .growing ≡ false → outcome now (elementOf pool second mend) .answer ≡ accepted 0)
   -- after a power loss the history goes on
   pub survives : (pool : Pool) (l : Loss) → lossFits (now .parameters) l ≡ true → Mended now (elementOf pool second (lost l)) l
-  -- a combined look-up and an addition are no step, whatever tray and filter hold
+  -- a combined look-up and an addition are no step, whatever tray and filter hold, nor is a filing that meets a refusal of its own
   pub trays :
       (pool : Pool) (t : Tray) (bits : List ℕ)
       → ((k : ℕ) → next now (elementOf pool second (combinedLookUp t bits k)) ≡ now)
       × ((x : Report) → next now (elementOf pool second (addReport t bits x)) ≡ now)
+      × (begins (now .parameters) (now .growth) (now .file) pool t bits ≡ false → next now (elementOf pool second (fileReports t bits)) ≡ now)
   -- with a tray and filter left by their calls alone, under the file's multiplier, a combined look-up answers by the latest report, else as the model
   pub combined :
       (pool : Pool) (cs : List TrayCall) → OneMultiplier (now .parameters .multiplier) cs → (k : ℕ) → validNumber k ≡ true
