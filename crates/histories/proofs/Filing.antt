@@ -1,9 +1,9 @@
 -- Reports in a history: what is tried of a filing conforms, call by call; adding a report and the combined look-up are refused for no damage.
-use mathlib.Core.Path.{_≡_, refl, sym, ap, _∙_, subst}
-use mathlib.Core.Bool.{Bool, true, false, cond, not, _&&_, _||_, true≢false}
+use mathlib.Core.Path.{_≡_, refl, sym, _∙_, subst}
+use mathlib.Core.Bool.{Bool, true, false, cond, _&&_, _||_}
 use mathlib.Core.List.{List, [], _∷_, List·Memᴰ, List·Memᴰ·not-nil, List·Memᴰ·cases-cons}
 use mathlib.Core.Logic.{⊎-elim}
-use Prim.Native.Nat.{ℕ, zero, suc}
+use Prim.Native.Nat.{ℕ}
 use native.Mathlib.Omega.{arith}
 use lib.Dec.{eqb, ltb}
 use borrow.Author.Tests.{eqb-true}
@@ -15,12 +15,12 @@ use Rattle.calls.specs.declared.answers.Answer.{Answer}
 use Rattle.calls.specs.declared.records.GrowthRecord.{GrowthRecord}
 use Rattle.calls.specs.Answers.{Pool, After, spotted, accepted, foundAt, unpooled, cleared}
 use Rattle.calls.specs.Calls.{fileFits, poolFits, unless, orElse, unlent, unchanged, enterOf, changeOf, removeOf}
-use Rattle.calls.specs.Records.{validSteps, closedRecord, lookUpUnder, enterUnder, changeUnder, removeUnder}
+use Rattle.calls.specs.Records.{validSteps, closedRecord, enterUnder, changeUnder, removeUnder}
 use Rattle.reports.specs.Bits.{marked, passes}
 use Rattle.reports.specs.declared.Report.{Report}
 use Rattle.reports.specs.Reports.{Tray, waiting, trayFits, withReport, positionOf, isRemoval, reported, latestOr}
 use Rattle.reports.specs.TrayCalls.{trayRefusal, addRefusal, addedUnless, AfterAdding, addOf, answeredUnless, soughtRefusal, plainAnswer, combinedOf}
-use Rattle.reports.specs.Filing.{removalFiled, positionFiled, reportFiled, oneMore, filedFrom, notFiled, filedUnless, leftBy, filingOf}
+use Rattle.reports.specs.Filing.{removalFiled, positionFiled, reportFiled, filedFrom, notFiled, filedUnless, leftBy, filingOf}
 use Rattle.histories.specs.Model.{Model, Request, lookUp, enter, change, remove, updated, fed, Made, made, fedAll, modelFile}
 use Rattle.histories.specs.Call.{isAccepted, step}
 use Rattle.histories.specs.Filing.{positionMade, removalMade, callMade, callsTried, begins}

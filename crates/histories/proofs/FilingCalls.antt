@@ -13,11 +13,10 @@ use Rattle.hashing.proofs.Bounds.{both}
 use Rattle.pages.specs.declared.position.Position.{Position}
 use Rattle.pages.specs.Position.{validNumber, validPosition, packed}
 use Rattle.placement.specs.File.{File}
-use Rattle.calls.specs.declared.answers.Answer.{Answer}
 use Rattle.calls.specs.declared.records.GrowthRecord.{GrowthRecord}
 use Rattle.calls.specs.Answers.{Pool, After, unpooled, cleared, accepted, acceptedAt, refused, refusedAt}
 use Rattle.calls.specs.Calls.{fileFits, poolFits, unless, orElse, unlent, guarded, unchanged, readable, named, holds, placeFor, itemOf, mayAlter, ownerFor, allowed, changeOn, changeOf}
-use Rattle.calls.specs.Records.{validSteps, enterUnder, changeUnder, removeUnder, recordAfter}
+use Rattle.calls.specs.Records.{enterUnder, changeUnder, removeUnder}
 use Rattle.reports.specs.declared.Report.{Report}
 use Rattle.reports.specs.Reports.{Tray, waiting, trayFits, positionOf, isRemoval}
 use Rattle.reports.specs.TrayCalls.{trayRefusal}
@@ -25,7 +24,7 @@ use Rattle.reports.specs.Filing.{removalFiled, positionFiled, reportFiled, oneM
 use Rattle.reports.proofs.Trying.{Begun, begun, goes-on, Tried, entered-tried, changed-tried, removed-tried, report-tried}
 use Rattle.histories.specs.Model.{Model, Request, enter, change, remove, grow, fed, Made, made, fedAll, fedBy}
 use Rattle.histories.specs.Filing.{positionMade, removalMade, callMade, callsTried, begins, filingMade}
-use Rattle.histories.specs.Call.{fileReports, Call, elementOf, callOf, isAccepted, finishes, countsAs, keepingPool, onFile, Outcome, step, effect, feeding}
+use Rattle.histories.specs.Call.{Call, callOf, isAccepted, finishes, countsAs, keepingPool, onFile, Outcome, step, effect, feeding}
 use Rattle.histories.specs.Run.{HistoryState, outcome, fedThen, next, end}
 use Rattle.histories.specs.FilingCalls.{oneByOne, FilingIsCalls}
 use Rattle.histories.proofs.Filing.{fedOne}

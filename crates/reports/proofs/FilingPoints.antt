@@ -1,6 +1,5 @@
 -- A filing on a small file, by computation.
 use mathlib.Core.Path.{_≡_, refl}
-use mathlib.Core.Bool.{false}
 use mathlib.Core.List.{List, [], _∷_}
 use Prim.Native.Nat.{ℕ}
 use lib.IntN.{pos}
@@ -16,7 +15,6 @@ use Rattle.placement.specs.Rule.{filter, below, staying, passing, separatorFrom
 use Rattle.placement.specs.File.{File, starsOf, starsAt, gathered, orderly, every, sound, column, replaced}
 use Rattle.placement.specs.Hash.{hashOf, soundAt, namedPage}
 use Rattle.reach.specs.Reach.{firstSuch, removalEnd, entering, entersWithin, entryEnd, firstUnsound, hasNumber, holding}
-use Rattle.calls.specs.declared.records.GrowthRecord.{GrowthRecord}
 use Rattle.calls.specs.Answers.{Pool, spotted, zeros, cleared}
 use Rattle.calls.specs.Calls.{fileFits, poolFits, unlent, readable, holds, itemOf, mayAlter, allowed, enterTo, enteredAgain, enterOn, enterOf, changeOn, changeOf, removeTo, removeOn, removeOf}
 use Rattle.calls.specs.Records.{closedRecord, validSteps, enterUnder, changeUnder, removeUnder}

@@ -1,12 +1,12 @@
 -- What a report leaves, past the filing's own refusals: the pool's zeros, the file's lengths, the file itself where it is refused, and no 1, 2 or 16.
-use mathlib.Core.Path.{_≡_, refl, sym, ap, _∙_}
-use mathlib.Core.Bool.{Bool, true, false, cond, not, _&&_}
+use mathlib.Core.Path.{_≡_, refl, _∙_}
+use mathlib.Core.Bool.{Bool, true, false, cond, _&&_}
 use mathlib.Core.List.{List}
 use Prim.Native.Nat.{ℕ, zero, suc, _+_, _≤_, _<_}
 use native.Mathlib.Omega.{arith}
 use lib.Dec.{eqb, ltb}
 use lib.ListN.{length, getD, set, replicate, length-set, length-replicate}
-use borrow.Author.Tests.{eqb-true, eq-eqb}
+use borrow.Author.Tests.{eq-eqb}
 use Rattle.hashing.specs.declared.Parameters.{Parameters}
 use Rattle.hashing.specs.declared.Growth.{Growth}
 use Rattle.hashing.specs.Limits.{validParameters, validGrowth}
@@ -22,11 +22,11 @@ use Rattle.placement.proofs.Probing.{homed-real}
 use Rattle.reach.specs.Reach.{pagesTo, removalEnd, entering, entersWithin, entryEnd, firstUnsound}
 use Rattle.reach.proofs.Reaching.{entry-reach, removal-reach}
 use Rattle.calls.specs.declared.records.GrowthRecord.{GrowthRecord}
-use Rattle.calls.specs.Answers.{Pool, After, zeros, cleared, spotted, accepted, acceptedAt, refusedAt}
+use Rattle.calls.specs.Answers.{Pool, After, zeros, cleared, spotted, acceptedAt, refusedAt}
 use Rattle.calls.specs.Calls.{fileFits, poolFits, unless, orElse, unlent, guarded, unchanged, readable, named, holds, placeFor, itemOf, ownerFor, mayAlter, allowed, enterTo, enteredAgain, enterOn, entered, enterOf, changeOn, changeOf, removeTo, removeOn, removeOf}
 use Rattle.calls.specs.Records.{validSteps, enterUnder, changeUnder, removeUnder}
 use Rattle.calls.proofs.Refusals.{well-lent, sized, unlent-facts}
-use Rattle.reports.specs.Reports.{Report, Tray, trayFits, positionOf, isRemoval}
+use Rattle.reports.specs.Reports.{Report, positionOf, isRemoval}
 use Rattle.reports.specs.TrayCalls.{trayRefusal}
 use Rattle.reports.specs.Filing.{removalFiled, positionFiled, reportFiled}
 use Rattle.reports.proofs.Filing.{Admitted}
