@@ -46,7 +46,7 @@ use Rattle.reports.specs.Filing.{AfterFiling, leftBy, filingOf}
 use Rattle.reports.specs.Exact.{fromZeros, calledAll, Exact}
 use Rattle.reports.proofs.Exact.{filter-exact}
 use Rattle.reports.proofs.Trying.{cleared-fits, cleared-twice, Begun}
-use Rattle.reports.proofs.Progress.{ended}
+use Rattle.reports.proofs.Ended.{ended}
 use Rattle.histories.specs.Model.{
   Model,
   Request,

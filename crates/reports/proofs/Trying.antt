@@ -29,7 +29,6 @@ use Rattle.calls.proofs.Refusals.{well-lent, sized, unlent-facts}
 use Rattle.reports.specs.Reports.{Report, positionOf, isRemoval}
 use Rattle.reports.specs.TrayCalls.{trayRefusal}
 use Rattle.reports.specs.Filing.{removalFiled, positionFiled, reportFiled}
-use Rattle.reports.proofs.Filing.{Admitted}
 
 -- Lengths.
 
@@ -79,52 +78,41 @@ begun p r f pool t e shut = go (validSteps p r) refl e
 pub goes-on : (p : Parameters) (r : GrowthRecord) (f : File) (pool : Pool) (h : File) → Begun p r f pool → fileFits p h ≡ true → Begun p r h pool
 goes-on p r f pool h t e = record { steps = t .steps; closed = t .closed; state = t .state; file = e; pooled = t .pooled; clear = t .clear }
 
-pub admits : (p : Parameters) (r : GrowthRecord) (f : File) (pool : Pool) (k : ℕ) → Begun p r f pool → validNumber k ≡ true → Admitted p r f pool k
-admits p r f pool k t v =
-    record {
-      steps = t .steps;
-      closed = t .closed;
-      state = t .state;
-      file = t .file;
-      pooled = rw (t .file, t .pooled);
-      number = v;
-    }
-
--- neither 1 nor 2 nor 16
-pub record Own (n : ℕ) : Type 0 where
+-- none of the refusals that a filing meets before its reports
+pub record NotOwn (n : ℕ) : Type 0 where
   pub parameters : n ≡ 1 → ⊥
   pub lengths : n ≡ 2 → ⊥
   pub turn : n ≡ 16 → ⊥
 
-pub own-0 : Own 0
-own-0 = record { parameters = λ e. omega arith; lengths = λ e. omega arith; turn = λ e. omega arith }
+pub not-own-0 : NotOwn 0
+not-own-0 = record { parameters = λ e. omega arith; lengths = λ e. omega arith; turn = λ e. omega arith }
 
-own-between : (n : ℕ) → 3 ≤ n → n ≤ 15 → Own n
-own-between n l h = record { parameters = λ e. omega arith; lengths = λ e. omega arith; turn = λ e. omega arith }
+not-own : (n : ℕ) → 3 ≤ n → n ≤ 15 → NotOwn n
+not-own n l h = record { parameters = λ e. omega arith; lengths = λ e. omega arith; turn = λ e. omega arith }
 
 -- what a report leaves of growth state, file and pool
 pub record Tried (p : Parameters) (g : Growth) (f : File) (pool : Pool) (a : After) : Type 0 where
   pub growth : a .growth ≡ g
   pub fits : fileFits p (a .file) ≡ true
   pub pools : a .pool ≡ pool
-  -- "a refusal changes no page"
+  -- where it is refused
   pub kept : (a .answer .refusal ≡ 0 → ⊥) → a .file ≡ f
-  pub number : Own (a .answer .refusal)
+  pub number : NotOwn (a .answer .refusal)
 
 module _ (p : Parameters) (g : Growth) (f : File) (pool : Pool) (state : validParameters p && validGrowth p g ≡ true) (file : fileFits p f ≡ true) where
   either : (t : Bool) (a b : After) → (t ≡ true → Tried p g f pool a) → (t ≡ false → Tried p g f pool b) → Tried p g f pool (cond t a b)
   either true a b h k = h refl
   either false a b h k = k refl
 
-  stays : (n page place : ℕ) → Own n → Tried p g f pool (unchanged g f pool (spotted n page place))
+  stays : (n page place : ℕ) → NotOwn n → Tried p g f pool (unchanged g f pool (spotted n page place))
   unfolding spotted
   stays n page place own = record { growth = refl; fits = file; pools = refl; kept = λ _. refl; number = own }
 
   puts : (h : File) (page place : ℕ) → fileFits p h ≡ true → Tried p g f pool (record { answer = acceptedAt page place; growth = g; file = h; pool = pool })
   unfolding spotted
-  puts h page place e = record { growth = refl; fits = e; pools = refl; kept = λ n. absurd (n refl); number = own-0 }
+  puts h page place e = record { growth = refl; fits = e; pools = refl; kept = λ n. absurd (n refl); number = not-own-0 }
 
-  past : (n : ℕ) (a : After) → Own n → (n ≡ 0 → Tried p g f pool a) → Tried p g f pool (guarded g f pool n a)
+  past : (n : ℕ) (a : After) → NotOwn n → (n ≡ 0 → Tried p g f pool a) → Tried p g f pool (guarded g f pool n a)
   past zero a own h = h refl
   past (suc n) a own h = stays (suc n) 0 0 own
 
@@ -143,11 +131,11 @@ module _ (p : Parameters) (g : Growth) (f : File) (pool : Pool) (state : validPa
   unfolding enterTo
   entry-tried s place =
       either (ltb (firstUnsound p g f from n) (from + n)) _ _
-      (λ _. stays 5 (firstUnsound p g f from n) place (own-between 5 (omega arith) (omega arith)))
+      (λ _. stays 5 (firstUnsound p g f from n) place (not-own 5 (omega arith) (omega arith)))
       (λ _.
       either (entersWithin (hashOf p g) f s to) _ _
       (λ _. puts _ _ place (lays from n (entering (hashOf p g) f s to) (entry-reach (hashOf p g) (p .pages) f s (home (s .number)) .high)))
-      (λ _. stays 8 0 place (own-between 8 (omega arith) (omega arith))))
+      (λ _. stays 8 0 place (not-own 8 (omega arith) (omega arith))))
     where
       to : ℕ
       to = entryEnd (hashOf p g) (p .pages) f s
@@ -162,7 +150,7 @@ module _ (p : Parameters) (g : Growth) (f : File) (pool : Pool) (state : validPa
   unfolding removeTo
   removal-tried page k place =
       either (ltb (firstUnsound p g f from n) (from + n)) _ _
-      (λ _. stays 5 (firstUnsound p g f from n) place (own-between 5 (omega arith) (omega arith)))
+      (λ _. stays 5 (firstUnsound p g f from n) place (not-own 5 (omega arith) (omega arith)))
       (λ _. puts _ page place (lays from n (without k (gathered (p .places) f from n)) (removal-reach (hashOf p g) (p .pages) f from (home k) .high)))
     where
       from : ℕ
@@ -176,35 +164,35 @@ module _ (p : Parameters) (g : Growth) (f : File) (pool : Pool) (state : validPa
   again-tried page s = go (eqb (getD (f .words) (itemOf p f page (s .number)) 0) (s .payload .word))
     where
       go : (y : Bool) → Tried p g f pool (unchanged g f pool (cond y (acceptedAt page (placeFor p f page (s .number))) (refusedAt 6 0 (placeFor p f page (s .number)))))
-      go true = stays 0 page (placeFor p f page (s .number)) own-0
-      go false = stays 6 0 (placeFor p f page (s .number)) (own-between 6 (omega arith) (omega arith))
+      go true = stays 0 page (placeFor p f page (s .number)) not-own-0
+      go false = stays 6 0 (placeFor p f page (s .number)) (not-own 6 (omega arith) (omega arith))
 
   -- the named page: 5, or what else the call does
   read : (page : ℕ) (a : After) → Tried p g f pool a → Tried p g f pool (cond (readable p g f page) a (unchanged g f pool (spotted 5 page 0)))
-  read page a h = either (readable p g f page) _ _ (λ _. h) (λ _. stays 5 page 0 (own-between 5 (omega arith) (omega arith)))
+  read page a h = either (readable p g f page) _ _ (λ _. h) (λ _. stays 5 page 0 (not-own 5 (omega arith) (omega arith)))
 
   allows : (page caller k : ℕ) (a : After) → Tried p g f pool a → Tried p g f pool (allowed p g f pool page caller k a)
   unfolding allowed
   allows page caller k a h =
-      either (mayAlter caller (ownerFor p f page k)) _ _ (λ _. h) (λ _. stays 13 0 (placeFor p f page k) (own-between 13 (omega arith) (omega arith)))
+      either (mayAlter caller (ownerFor p f page k)) _ _ (λ _. h) (λ _. stays 13 0 (placeFor p f page k) (not-own 13 (omega arith) (omega arith)))
 
   -- a star not held is 7
   unheld : (page k : ℕ) (a : After) → Tried p g f pool a → Tried p g f pool (cond (holds p f page k) a (unchanged g f pool (refusedAt 7 0 (placeFor p f page k))))
-  unheld page k a h = either (holds p f page k) _ _ (λ _. h) (λ _. stays 7 0 (placeFor p f page k) (own-between 7 (omega arith) (omega arith)))
+  unheld page k a h = either (holds p f page k) _ _ (λ _. h) (λ _. stays 7 0 (placeFor p f page k) (not-own 7 (omega arith) (omega arith)))
 
   word-fits : (item word : ℕ) → fileFits p (record { separators = f .separators; numbers = f .numbers; words = set (f .words) item word; owners = f .owners }) ≡ true
   word-fits item word =
       let z = sized p f file in
       sized-fits p _ (record { ofSeparators = z .ofSeparators; ofNumbers = z .ofNumbers; ofWords = length-set (f .words) item word ∙ z .ofWords; ofOwners = z .ofOwners })
 
-  number-valid : (s : Bool) → Own (unless s 3)
-  number-valid true = own-0
-  number-valid false = own-between 3 (omega arith) (omega arith)
+  number-valid : (s : Bool) → NotOwn (unless s 3)
+  number-valid true = not-own-0
+  number-valid false = not-own 3 (omega arith) (omega arith)
 
-  numbered : (s t : Bool) → Own (orElse (unless s 3) (unless t 4))
-  numbered true true = own-0
-  numbered true false = own-between 4 (omega arith) (omega arith)
-  numbered false t = own-between 3 (omega arith) (omega arith)
+  numbered : (s t : Bool) → NotOwn (orElse (unless s 3) (unless t 4))
+  numbered true true = not-own-0
+  numbered true false = not-own 4 (omega arith) (omega arith)
+  numbered false t = not-own 3 (omega arith) (omega arith)
 
   pub change-tried : (caller k : ℕ) (q : Position) → Tried p g f pool (changeOf p g f pool caller k q)
   unfolding changeOf changeOn
@@ -263,7 +251,7 @@ module _ (p : Parameters) (r : GrowthRecord) (f : File) (pool : Pool) (t : Begun
       either p (r .state) f pool (t .state) (t .file) (isRemoval x) _ _
       (λ _.
       either p (r .state) f pool (t .state) (t .file) (eqb (removeUnder p r f pool (x .owner) (x .number) .answer .refusal) 7) _ _
-      (λ _. stays p (r .state) f pool (t .state) (t .file) 0 0 0 own-0)
+      (λ _. stays p (r .state) f pool (t .state) (t .file) 0 0 0 not-own-0)
       (λ _. removed-tried (x .owner) (x .number)))
       (λ _.
       either p (r .state) f pool (t .state) (t .file) (eqb (changeUnder p r f pool (x .owner) (x .number) (positionOf x) .answer .refusal) 7) _ _
