@@ -7,7 +7,7 @@ use native.Mathlib.Nat.{zero-add, add-zero, add-suc, suc-add}
 use native.Mathlib.Numerals.{add-one}
 use native.Mathlib.Omega.{arith}
 use lib.Dec.{eqb}
-use lib.ListN.{length, take, drop, getD, length-replicate, drop-of-length-le}
+use lib.ListN.{length, take, drop, getD, drop-of-length-le}
 use lib.Seq.{drop-cons, getD-take, length-take-le}
 use borrow.Author.Tests.{eq-eqb, ne-eqb}
 use Rattle.hashing.specs.declared.Parameters.{Parameters}
@@ -18,11 +18,12 @@ use Rattle.calls.specs.declared.answers.Refusal.{Refusal}
 use Rattle.calls.specs.declared.answers.Placed.{Placed}
 use Rattle.calls.specs.declared.answers.Placed.the-variants.{On, Refused}
 use Rattle.calls.specs.declared.records.GrowthRecord.{GrowthRecord}
-use Rattle.calls.specs.Answers.{Pool, Stores, placed, refusedBy, refusalNumber, spotted, pooled, cleared, zeros}
+use Rattle.calls.specs.Answers.{Pool, Stores, placed, refusedBy, refusalNumber, spotted, pooled, cleared}
 use Rattle.calls.specs.Calls.{poolFits}
 use Rattle.calls.proofs.Numbers.{numbered}
 use Rattle.reports.specs.declared.Report.{Report}
 use Rattle.reports.specs.Filing.{reportFiled, Filed, oneMore, filedFrom}
+use Rattle.reports.proofs.Trying.{cleared-fits}
 use Rattle.report_filing.specs.Filing.{Files}
 use Rattle.report_filing.specs.declared.filing.Filed.{Filed as Told}
 
@@ -33,13 +34,13 @@ further i d = record { filed = i + d .filed; answer = d .answer; file = d .file;
 one-further : (i : ℕ) (d : Filed) → further i (oneMore d) ≡ further (suc i) d
 one-further i d = rw (add-suc i (d .filed), suc-add i (d .filed))
 
-went-on : (page place : ℕ) → eqb (placed (On page place) .refusal) 0 ≡ true
+accepted-goes-on : (page place : ℕ) → eqb (placed (On page place) .refusal) 0 ≡ true
 unfolding placed spotted
-went-on page place = refl
+accepted-goes-on page place = refl
 
-came-to-rest : (refusal : Refusal) (place : ℕ) → eqb (placed (Refused refusal place) .refusal) 0 ≡ false
+refused-stops : (refusal : Refusal) (place : ℕ) → eqb (placed (Refused refusal place) .refusal) 0 ≡ false
 unfolding placed refusedBy spotted
-came-to-rest refusal place = ne-eqb (refusalNumber refusal) 0 (λ e. omega (arith, numbered refusal))
+refused-stops refusal place = ne-eqb (refusalNumber refusal) 0 (λ e. omega (arith, numbered refusal))
 
 module _ (p : Parameters) (r : GrowthRecord) (pool : Pool) (f : File) (x : Report) (xs : List Report) where
   one-filed : (f′ : File) → eqb (reportFiled p r f pool x .answer .refusal) 0 ≡ true → f′ ≡ reportFiled p r f pool x .file
@@ -53,11 +54,11 @@ module _ (p : Parameters) (r : GrowthRecord) (pool : Pool) (f : File) (x : Repor
   one-refused e = rw e
 
 -- a pool of these lengths, cleared
-pub cleared-fits : {p : Parameters} {numbers words owners : List ℕ} → Pooled p numbers words owners → poolFits p (cleared (pooled numbers words owners)) ≡ true
-unfolding poolFits cleared zeros
-cleared-fits t =
-    simp length-replicate
-    (rw (eq-eqb _ _ (t .ofNumbers), eq-eqb _ _ (t .ofWords), eq-eqb _ _ (t .ofOwners)))
+pub cleared-pool : {p : Parameters} {numbers words owners : List ℕ} → Pooled p numbers words owners → poolFits p (cleared (pooled numbers words owners)) ≡ true
+cleared-pool {p} {numbers} {words} {owners} t = cleared-fits p (pooled numbers words owners) ∙ fits
+  where
+    fits : poolFits p (pooled numbers words owners) ≡ true
+    fits = unfold poolFits in rw (eq-eqb _ _ (t .ofNumbers), eq-eqb _ _ (t .ofWords), eq-eqb _ _ (t .ofOwners))
 
 -- what is filed, by an equation for the definition
 files : (d e : Filed) (t : Told) (l : File) → d ≡ e → t .filed ≡ e .filed → placed (t .answer) ≡ e .answer → l ≡ e .file → Files d t l
@@ -121,7 +122,7 @@ module _ (p : Parameters) (r : GrowthRecord) (pool : Pool) (f₀ : File) (report
         rw (add-one i)
         (tried
         ∙ ap (further i)
-        (one-filed p r pool f x (drop (suc i) xs) f′ (ap (λ (a : Answer). eqb (a .refusal) 0) (sym (s .answers) ∙ ap placed e) ∙ went-on page place) (s .files))
+        (one-filed p r pool f x (drop (suc i) xs) f′ (ap (λ (a : Answer). eqb (a .refusal) 0) (sym (s .answers) ∙ ap placed e) ∙ accepted-goes-on page place) (s .files))
         ∙ one-further i (filedFrom p r f′ pool (drop (suc i) xs)))
 
     pub ordered-stop : (refusal : Refusal) (place : ℕ) (answer : Placed) (f′ : File) → answer ≡ Refused refusal place
@@ -129,7 +130,7 @@ module _ (p : Parameters) (r : GrowthRecord) (pool : Pool) (f₀ : File) (report
     ordered-stop refusal place answer f′ e s =
         files _ (further i (record { filed = 0; answer = reportFiled p r f pool x .answer; file = reportFiled p r f pool x .file; rest = x ∷ drop (suc i) xs })) _ _
         (tried
-        ∙ ap (further i) (one-refused p r pool f x (drop (suc i) xs) (ap (λ (a : Answer). eqb (a .refusal) 0) (sym (s .answers) ∙ ap placed e) ∙ came-to-rest refusal place)))
+        ∙ ap (further i) (one-refused p r pool f x (drop (suc i) xs) (ap (λ (a : Answer). eqb (a .refusal) 0) (sym (s .answers) ∙ ap placed e) ∙ refused-stops refusal place)))
         (sym (add-zero i))
         (sym (ap placed e) ∙ s .answers)
         (s .files)

@@ -5,11 +5,9 @@ use mathlib.Core.List.{List}
 use Prim.Native.Nat.{ℕ}
 use native.Mathlib.Nat.{le-refl}
 use lib.ListN.{set}
-use borrow.Author.Tests.{eq-eqb}
 use Rattle.hashing.specs.declared.Parameters.{Parameters}
 use Rattle.hashing.specs.declared.Growth.{Growth}
 use Rattle.hashing.specs.Limits.{validParameters, validGrowth}
-use Rattle.pages.specs.declared.position.Position.{Position}
 use Rattle.pages.specs.Position.{validNumber, validPosition, packed}
 use Rattle.placement.specs.File.{File, Sized}
 use Rattle.placement.specs.Hash.{hashOf, lent}
@@ -28,6 +26,7 @@ use Rattle.outcome_answer.specs.Outcomes.{outcomePlaced}
 use Rattle.reports.specs.declared.Report.{Report}
 use Rattle.reports.specs.Reports.{positionOf, isRemoval}
 use Rattle.reports.specs.Filing.{removalFiled, positionFiled, reportFiled}
+use Rattle.reports.proofs.Trying.{sized-fits}
 use Rattle.reports.proofs.Filing.{Admitted, position-damaged, position-entered, position-changed, removal-damaged, removal-nothing, removal-removed}
 
 stores : (after : After) (a : Answer) (g : Growth) (f : File) (pool : Pool) → after ≡ record { answer = a; growth = g; file = f; pool = pool } → Stores after a f
@@ -89,8 +88,7 @@ module _ (p : Parameters) (g : Growth) (f : File) (pool : Pool) (x : Report) (v 
   state = rw (v, w)
 
   file : fileFits p f ≡ true
-  unfolding fileFits
-  file = rw (eq-eqb _ _ (sized .ofSeparators), eq-eqb _ _ (sized .ofNumbers), eq-eqb _ _ (sized .ofWords), eq-eqb _ _ (sized .ofOwners))
+  file = sized-fits p f sized
 
   both-fit : fileFits p f && poolFits p pool ≡ true
   both-fit = rw (file, fits)

@@ -1,5 +1,4 @@
 // The reports of a tray in order.
-ghost use mathlib.Core.Path.{_≡_};
 ghost use Prim.Native.Nat.{_≤_};
 ghost use lib.ListN.{take};
 ghost use Rattle.placement.specs.Lent.{held, before, after};

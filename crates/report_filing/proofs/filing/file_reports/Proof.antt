@@ -1,19 +1,17 @@
 -- `report_filing::filing::file_reports` meets its contract.
 use mathlib.Core.Path.{_≡_, sym, _∙_}
 use mathlib.Core.Bool.{true}
-use Prim.Native.Nat.{ℕ, _-_, _≤_}
+use Prim.Native.Nat.{_-_}
 use native.Mathlib.Omega.{arith}
-use lib.ListN.{length, take}
+use lib.ListN.{length}
 use denote.Ref.{now}
-use Rattle.placement.specs.File.{File, Sized}
 use Rattle.placement.specs.Hash.{lent}
-use Rattle.placement.specs.Ready.{Pooled}
 use Rattle.placement.proofs.Prepared.{ready}
 use Rattle.calls.specs.Answers.{Pool, pooled, cleared}
 use Rattle.calls.specs.Calls.{poolFits}
 use Rattle.calls.specs.Records.{closedRecord}
 use Rattle.call_guard.proofs.Admitting.{tabled}
-use Rattle.report_filing.proofs.Ordered.{Ongoing, ordered-none, ordered-more, ordered-stop, ordered-all, cleared-fits}
+use Rattle.report_filing.proofs.Ordered.{Ongoing, ordered-none, ordered-more, ordered-stop, ordered-all, cleared-pool}
 use borrow.Author.Needs.{needs}
 use Rattle.report_filing.proofs.filing.file_reports.Statement.{statement}
 use Rattle.report_filing.proofs.filing.file_reports.Tie as tie
@@ -33,7 +31,7 @@ abbrev poolOf : Start → Pool
 poolOf s = cleared (pooled (now (s .args .poolnumbers)) (now (s .args .poolwords)) (now (s .args .poolowners)))
 
 fits : (s : Start) → poolFits (s .args .geometry .parameters) (poolOf s) ≡ true
-fits s = cleared-fits (s .pre .1 .0)
+fits s = cleared-pool (s .pre .1 .0)
 
 long : (s : Start) → length (s .args .t9) ≡ 256
 long s = search needs
