@@ -14,12 +14,12 @@ use Rattle.placement.specs.File.{File}
 use Rattle.pages.specs.Position.{validNumber, validPosition}
 use Rattle.calls.specs.declared.records.GrowthRecord.{GrowthRecord}
 use Rattle.calls.specs.declared.answers.Answer.{Answer}
-use Rattle.calls.specs.Answers.{Pool, After, cleared}
+use Rattle.calls.specs.Answers.{Pool, cleared}
 use Rattle.calls.specs.Calls.{unless, orElse, fileFits, poolFits}
 use Rattle.reports.specs.Bits.{noBits, bitAt, marked, passes}
-use Rattle.reports.specs.Reports.{Report, Tray, blank, stored, emptyTray, waiting, trayFits, withReport, closedUp, filterOf, isBitOfAny, namesStar, latestOr, positionOf, isRemoval}
+use Rattle.reports.specs.Reports.{Report, Tray, blank, stored, emptyTray, waiting, trayFits, withReport, closedUp, filterOf, isBitOfAny, latestOr, positionOf, isRemoval}
 use Rattle.reports.specs.TrayCalls.{trayRefusal, addRefusal, addedUnless, AfterAdding, addOf, answeredUnless, soughtRefusal, plainAnswer, combinedOf, unfilteredOf}
-use Rattle.reports.specs.Filing.{reportFiled, Filed, oneMore, filedFrom, AfterFiling, filedUnless, leftBy, notFiled, filingOf}
+use Rattle.reports.specs.Filing.{reportFiled, oneMore, filedFrom, AfterFiling, filedUnless, leftBy, notFiled, filingOf}
 use Rattle.reports.specs.Exact.{TrayCall, add, seek, filing, multiplierOf, Kept, fromZeros, called, calledAll, OneMultiplier, Exact, FilterExact}
 use Rattle.reports.proofs.Words.{words-filterOf}
 use Rattle.reports.proofs.BitCount.{shown-is}

@@ -1,23 +1,23 @@
 -- "changing or removing held stars and entering the rest": which call a report is tried as, and what lies below its guards.
-use mathlib.Core.Path.{_≡_, refl, sym, ap, _∙_}
+use mathlib.Core.Path.{_≡_, refl}
 use mathlib.Core.Bool.{Bool, true, false, cond, _&&_}
 use Prim.Native.Nat.{ℕ, _+_}
 use lib.Dec.{eqb, ltb}
 use Rattle.hashing.specs.declared.Parameters.{Parameters}
 use Rattle.hashing.specs.declared.Growth.{Growth}
 use Rattle.hashing.specs.Limits.{validParameters, validGrowth}
-use Rattle.pages.specs.Position.{validNumber, validPosition, packed}
+use Rattle.pages.specs.Position.{validNumber, validPosition}
 use Rattle.placement.specs.Rule.{pages, without}
 use Rattle.placement.specs.File.{File, gathered, replaced}
 use Rattle.placement.specs.Hash.{hashOf}
 use Rattle.reach.specs.Reach.{pagesTo, removalEnd, firstUnsound}
 use Rattle.calls.specs.declared.records.GrowthRecord.{GrowthRecord}
 use Rattle.calls.specs.Answers.{Pool, After, cleared, accepted, acceptedAt, refused, refusedAt, spotted}
-use Rattle.calls.specs.Calls.{fileFits, poolFits, unchanged, readable, named, holds, placeFor, ownerFor, mayAlter, allowed, entered, enteredAgain, enterOn, enterOf, changeOn, changeOf, removeTo, removeOn, removeOf}
+use Rattle.calls.specs.Calls.{fileFits, poolFits, unchanged, readable, named, holds, placeFor, ownerFor, mayAlter, allowed, changeOn, changeOf, removeTo, removeOn, removeOf}
 use Rattle.calls.specs.Records.{validSteps, enterUnder, changeUnder, removeUnder}
 use Rattle.calls.proofs.Refusals.{well-lent}
 use Rattle.reports.specs.Reports.{Report, positionOf}
-use Rattle.reports.specs.Filing.{removalFiled, positionFiled, reportFiled}
+use Rattle.reports.specs.Filing.{removalFiled, positionFiled}
 
 -- what a filing past its own refusals has, and a report whose number is valid
 pub record Admitted (p : Parameters) (r : GrowthRecord) (f : File) (pool : Pool) (k : ℕ) : Type 0 where

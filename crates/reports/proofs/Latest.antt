@@ -1,10 +1,9 @@
 -- Which report answers, and which reports stay after a filing.
-use mathlib.Core.Path.{_≡_, refl, sym, ap, _∙_}
+use mathlib.Core.Path.{_≡_, refl, ap, _∙_}
 use mathlib.Core.Bool.{Bool, true, false, cond}
 use mathlib.Core.List.{List, [], _∷_, _++_}
-use Prim.Native.Nat.{ℕ, zero, suc, _+_}
+use Prim.Native.Nat.{ℕ, suc, _+_}
 use native.Mathlib.Nat.{zero-add, suc-add}
-use native.Mathlib.Omega.{arith}
 use lib.Dec.{eqb}
 use lib.ListN.{length, drop}
 use Rattle.hashing.specs.declared.Parameters.{Parameters}
@@ -13,7 +12,7 @@ use Rattle.calls.specs.declared.records.GrowthRecord.{GrowthRecord}
 use Rattle.calls.specs.declared.answers.Answer.{Answer}
 use Rattle.calls.specs.Answers.{Pool}
 use Rattle.reports.specs.Reports.{Report, reported, latestOr}
-use Rattle.reports.specs.Filing.{reportFiled, Filed, oneMore, filedFrom}
+use Rattle.reports.specs.Filing.{reportFiled, oneMore, filedFrom}
 
 -- "the latest on a star answers": the last report does if it is on the star, and otherwise the others
 pub latest : (M k : ℕ) (xs : List Report) (x : Report) (plain : Answer)

@@ -1,9 +1,8 @@
 -- Worked numbers of the filter, by computation.
 use mathlib.Core.Path.{_≡_, refl}
-use mathlib.Core.List.{List, [], _∷_}
-use Prim.Native.Nat.{ℕ}
+use mathlib.Core.List.{[], _∷_}
 use Rattle.generator.specs.Generator.{scrambled}
-use Rattle.reports.specs.Bits.{bitOf, withBit, bitAt, bitSet, noBits, hashBit, marked, passes, ones, bitsSet}
+use Rattle.reports.specs.Bits.{bitOf, withBit, bitAt, bitSet, noBits, hashBit, marked, ones, bitsSet}
 
 -- star 1 under the multiplier of 1988
 bits-of-1 : (hashBit 16807 1 1 ∷ hashBit 16807 2 1 ∷ hashBit 16807 3 1 ∷ []) ≡ 423 ∷ 753 ∷ 1241 ∷ []

@@ -1,6 +1,6 @@
 -- "For a tray and filter left by these calls alone, from zeros and under one multiplier, the bits set are exactly those of the waiting reports": document 02 (xi).
 use mathlib.Core.Path.{_≡_}
-use mathlib.Core.Bool.{Bool, true, false}
+use mathlib.Core.Bool.{false}
 use mathlib.Core.List.{List, [], _∷_}
 use Prim.Native.Nat.{ℕ, _^_, _<_, _≤_}
 use lib.ListN.{length, getD}
