@@ -25,7 +25,7 @@ later-answers : (M k : ℕ) (l : Latest) (x : Report) (plain : Answer) → orPla
 unfolding later orPlain
 later-answers M k l x plain = go (eqb (x .number) k)
   where
-    go : (t : Bool) → cond (cond t (record { found = true; report = x }) l .found) (reported M (cond t (record { found = true; report = x }) l .report)) plain ≡ cond t (reported M x) (cond (l .found) (reported M (l .report)) plain)
+    go : (t : Bool) → cond (cond t (record { found = t; report = x }) l .found) (reported M (cond t (record { found = t; report = x }) l .report)) plain ≡ cond t (reported M x) (cond (l .found) (reported M (l .report)) plain)
     go true = refl
     go false = refl
 

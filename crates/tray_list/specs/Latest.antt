@@ -1,5 +1,5 @@
 -- The latest report on a star among those read so far, as a value.
-use mathlib.Core.Bool.{true, false, cond}
+use mathlib.Core.Bool.{false, cond}
 use mathlib.Core.List.{List, [], _∷_}
 use Prim.Native.Nat.{ℕ}
 use lib.Dec.{eqb}
@@ -11,8 +11,12 @@ use Rattle.tray_list.specs.declared.reading.Latest.{Latest}
 unfoldable pub nothing : Latest
 nothing = record { found = false; report = blank }
 
+-- the report, if it is on the star
+abbrev pub ifOn : ℕ → Report → Latest
+ifOn k x = record { found = eqb (x .number) k; report = x }
+
 unfoldable pub later : ℕ → Latest → Report → Latest
-later k latest x = cond (eqb (x .number) k) (record { found = true; report = x }) latest
+later k latest x = cond (ifOn k x .found) (ifOn k x) latest
 
 -- after these reports
 unfoldable pub latestIn : ℕ → Latest → List Report → Latest

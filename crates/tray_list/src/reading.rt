@@ -1,8 +1,9 @@
 // "the latest on a star answers"
 ghost use mathlib.Core.Path.{_≡_};
+ghost use mathlib.Core.Bool.{cond};
 ghost use Prim.Native.Nat.{_≤_};
 ghost use lib.ListN.{length, take};
-ghost use Rattle.tray_list.specs.Latest.{latestIn, later as Latest·later, nothing as Latest·nothing};
+ghost use Rattle.tray_list.specs.Latest.{latestIn, ifOn, later as Latest·later, nothing as Latest·nothing};
 use reports::Report;
 
 // The latest report on a star, if there is one.
@@ -44,11 +45,23 @@ fn nothing() -> Latest
 fn later(latest: Latest, number: u32, report: Report) -> Latest
     ensures { λ r. ⌜ r ≡ Latest·later number latest report ⌝ }
 {
-    if report.number == number {
-        return Latest {
-            found: true,
-            report,
-        };
+    let newer = if_on(number, report);
+    prefer(newer, latest)
+}
+
+// The report, if it is on the star.
+fn if_on(number: u32, report: Report) -> Latest
+    ensures { λ r. ⌜ r ≡ ifOn number report ⌝ }
+{
+    let found = report.number == number;
+    Latest { found, report }
+}
+
+fn prefer(one: Latest, other: Latest) -> Latest
+    ensures { λ r. ⌜ r ≡ cond (one .found) one other ⌝ }
+{
+    if one.found {
+        return one;
     }
-    latest
+    other
 }
