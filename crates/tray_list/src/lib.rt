@@ -1,0 +1,8 @@
+// The lent list of reports: the thin functions that read a report of it or store one.
+mod reading;
+mod storing;
+
+pub use reading::Latest;
+pub use reading::latest_on;
+pub use storing::close_up;
+pub use storing::put;
