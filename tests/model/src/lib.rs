@@ -250,8 +250,8 @@ pub struct Call {
     pub number: u32,
     pub ra: u32,
     pub dec: i32,
-    /// A report's mark.
-    pub removed: bool,
+    /// A report's mark for "removed": any number but 0.
+    pub removed: u8,
     /// After how many stores a stopped form stops.
     pub stores: u32,
     /// The new file's, of a carrying.
@@ -324,7 +324,7 @@ impl Call {
     /// With zeros for all else; a carrying is to a file like this one under the other multiplier.
     pub fn new(kind: Kind, parameters: Parameters, record: Record) -> Call {
         let (new_parameters, new_record) = (parameters.carried(), Record::closed(record.growth));
-        let (caller, number, ra, dec, removed, stores) = (0, 0, 0, 0, false, 0);
+        let (caller, number, ra, dec, removed, stores) = (0, 0, 0, 0, 0, 0);
         Call { kind, parameters, record, caller, number, ra, dec, removed, stores, new_parameters, new_record }
     }
 
