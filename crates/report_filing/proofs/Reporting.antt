@@ -1,28 +1,24 @@
 -- One report by what its search found: the laws of crate reports, below the guards of the calls that it is tried as.
-use mathlib.Core.Path.{_≡_, refl, sym, ap, subst, _∙_}
+use mathlib.Core.Path.{_≡_, refl, sym, ap, _∙_}
 use mathlib.Core.Bool.{Bool, true, false, cond, _&&_, _||_, false≢true}
 use mathlib.Core.List.{List}
 use Prim.Native.Nat.{ℕ}
-use native.Mathlib.Nat.{le-refl}
 use lib.ListN.{set}
 use Rattle.hashing.specs.declared.Parameters.{Parameters}
 use Rattle.hashing.specs.declared.Growth.{Growth}
+use Rattle.hashing.specs.declared.Geometry.{Geometry}
 use Rattle.hashing.specs.Limits.{validParameters, validGrowth}
 use Rattle.pages.specs.Position.{validNumber, validPosition, packed}
-use Rattle.placement.specs.File.{File, Sized}
+use Rattle.placement.specs.File.{File}
+use Rattle.placement.specs.Ready.{Ready}
 use Rattle.placement.specs.Hash.{hashOf, lent}
-use Rattle.placement.specs.Rule.{Star, starWith}
+use Rattle.placement.specs.Rule.{Star}
 use Rattle.reach.specs.Reach.{removalEnd, entryEnd}
-use Rattle.page_plan.specs.declared.outcome.Outcome.{Outcome}
 use Rattle.calls.specs.declared.answers.Answer.{Answer}
-use Rattle.calls.specs.declared.answers.Placed.{Placed}
-use Rattle.calls.specs.Answers.{Pool, After, Stores, placed, cleared, unpooled, accepted, acceptedAt, refused, refusedAt, spotted}
+use Rattle.calls.specs.Answers.{Pool, After, Stores, cleared, accepted, acceptedAt, refused, refusedAt, spotted}
 use Rattle.calls.specs.Calls.{fileFits, poolFits, unlent, unchanged, readable, named, holds, placeFor, itemOf, ownerFor, mayAlter, allowed, entered, enterTo, enterOn, enterOf, changeOn, changeOf, removeTo, removeOn, removeOf}
 use Rattle.calls.specs.Records.{validSteps, closedRecord, enterUnder, changeUnder, removeUnder}
-use Rattle.calls.specs.Stores.{stoppedFile}
 use Rattle.calls.proofs.Refusals.{well-lent}
-use Rattle.calls.proofs.Stored.{whole-stopped}
-use Rattle.outcome_answer.specs.Outcomes.{outcomePlaced}
 use Rattle.reports.specs.declared.Report.{Report}
 use Rattle.reports.specs.Reports.{positionOf, isRemoval}
 use Rattle.reports.specs.Filing.{removalFiled, positionFiled, reportFiled}
@@ -44,34 +40,18 @@ none : (s t : Bool) → s || t ≡ false → (s ≡ false) × (t ≡ false)
 none true t e = absurd (false≢true (sym e))
 none false t e = (refl, e)
 
--- the same answer and the same words, said otherwise
-pub told : {after : After} {a b : Answer} {f : File} → a ≡ b → Stores after b f → Stores after a f
-told e s = record { answers = e ∙ s .answers; files = s .files }
-
-pub answered-at : {page page′ place place′ : ℕ} → page ≡ page′ → place ≡ place′ → acceptedAt page place ≡ acceptedAt page′ place′
-answered-at {page} {page′} {place} {place′} e h = ap (λ (q : ℕ). acceptedAt q place) e ∙ ap (λ (q : ℕ). acceptedAt page′ q) h
-
-pub written : (ws : List ℕ) {after : After} {a b : Answer} {ss ns os : List ℕ} {item item′ word word′ : ℕ} → a ≡ b → item ≡ item′ → word ≡ word′
-    → Stores after b (lent ss ns (set ws item′ word′) os) → Stores after a (lent ss ns (set ws item word) os)
-written ws {after} {a} {b} {ss} {ns} {os} {item} {item′} {word} {word′} e i w s =
-    record {
-      answers = e ∙ s .answers;
-      files = ap (λ (q : ℕ). lent ss ns (set ws q word) os) i ∙ ap (λ (v : ℕ). lent ss ns (set ws item′ v) os) w ∙ s .files;
-    }
-
-pub outcome-told : {r : Placed} {o o′ : Outcome} {place place′ : ℕ} → r ≡ outcomePlaced o place → o ≡ o′ → place ≡ place′ → placed r ≡ placed (outcomePlaced o′ place′)
-outcome-told {r} {o} {o′} {place} {place′} e a b = ap placed (e ∙ ap (λ (y : Outcome). outcomePlaced y place) a ∙ ap (λ (q : ℕ). outcomePlaced o′ q) b)
-
--- with a store for every page nothing is stopped
-pub whole-file : (lowest : Bool) (p : Parameters) (g : Growth) (f l : File) → stoppedFile lowest p f l (p .pages) ≡ l
-whole-file lowest p g f l = ap (λ (a : After). a .file) (whole-stopped lowest p f (p .pages) (unchanged g l unpooled (accepted 0)) (le-refl (p .pages)))
-
 -- what a valid report that is no removal has
 pub placed-well : (x : Report) → isRemoval x || validPosition (positionOf x) ≡ true → isRemoval x ≡ false → validPosition (positionOf x) ≡ true
 placed-well x e h = left-out (isRemoval x) (validPosition (positionOf x)) e h
 
-module _ (p : Parameters) (g : Growth) (f : File) (pool : Pool) (x : Report) (v : validParameters p ≡ true) (w : validGrowth p g ≡ true)
-    (sized : Sized (p .places) (p .pages) f) (fits : poolFits p pool ≡ true) where
+module _ {geometry : Geometry} {table : List ℕ} {f : File} (ready : Ready geometry table f) (pool : Pool) (x : Report)
+    (fits : poolFits (geometry .parameters) pool ≡ true) where
+  abbrev p : Parameters
+  p = geometry .parameters
+
+  abbrev g : Growth
+  g = geometry .growth
+
   abbrev page : ℕ
   page = named p g f (x .number)
 
@@ -85,10 +65,10 @@ module _ (p : Parameters) (g : Growth) (f : File) (pool : Pool) (x : Report) (v 
   filed = reportFiled p (closedRecord g) f pool x
 
   state : validParameters p && validGrowth p g ≡ true
-  state = rw (v, w)
+  state = rw (ready .homing .valid, ready .homing .growth)
 
   file : fileFits p f ≡ true
-  file = sized-fits p f sized
+  file = sized-fits p f (ready .sized)
 
   both-fit : fileFits p f && poolFits p pool ≡ true
   both-fit = rw (file, fits)
@@ -103,13 +83,13 @@ module _ (p : Parameters) (g : Growth) (f : File) (pool : Pool) (x : Report) (v 
   unfolding validSteps
   admitted n = record { steps = refl; closed = refl; state = state; file = file; pooled = both-fit; number = n }
 
-  as-removal : isRemoval x ≡ true → {answer : Answer} {l : File} → Stores (removalFiled p (closedRecord g) f pool x) answer l → Stores filed answer l
+  as-removal : isRemoval x ≡ true → filed ≡ removalFiled p (closedRecord g) f pool x
   unfolding reportFiled
-  as-removal e s = rw e s
+  as-removal e = rw e
 
-  as-position : isRemoval x ≡ false → {answer : Answer} {l : File} → Stores (positionFiled p (closedRecord g) f pool x) answer l → Stores filed answer l
+  as-position : isRemoval x ≡ false → filed ≡ positionFiled p (closedRecord g) f pool x
   unfolding reportFiled
-  as-position e s = rw e s
+  as-position e = rw e
 
   by-kind : {answer : Answer} {l : File} → (isRemoval x ≡ true → Stores (removalFiled p (closedRecord g) f pool x) answer l)
       → (isRemoval x ≡ false → Stores (positionFiled p (closedRecord g) f pool x) answer l) → Stores filed answer l
@@ -131,7 +111,7 @@ module _ (p : Parameters) (g : Growth) (f : File) (pool : Pool) (x : Report) (v 
     pub bad-position : isRemoval x || validPosition (positionOf x) ≡ false → Stores filed (refused 4 0) f
     bad-position bad =
         let t = none (isRemoval x) (validPosition (positionOf x)) bad in
-        as-position (t .0) (stores _ _ g _ pool (is (t .1)))
+        stores _ _ g _ pool (as-position (t .0) ∙ is (t .1))
       where
         is : validPosition (positionOf x) ≡ false → positionFiled p (closedRecord g) f pool x ≡ unchanged g f pool (refused 4 0)
         is q = unfold positionFiled changeUnder changeOf validSteps spotted in rw (file-lent, n, q)
@@ -146,24 +126,15 @@ module _ (p : Parameters) (g : Growth) (f : File) (pool : Pool) (x : Report) (v 
     module _ (good : readable p g f page ≡ true) where
       -- "a removal of a star not held does nothing and counts as filed"
       pub nothing : isRemoval x ≡ true → holds p f page (x .number) ≡ false → Stores filed (accepted 0) f
-      nothing e new = as-removal e (stores _ _ g _ pool (removal-nothing p (closedRecord g) f pool x (admitted n) good new))
+      nothing e new = stores _ _ g _ pool (as-removal e ∙ removal-nothing p (closedRecord g) f pool x (admitted n) good new)
 
       -- a star not held is entered
-      pub enters : isRemoval x ≡ false → validPosition (positionOf x) ≡ true → holds p f page (x .number) ≡ false → (word : ℕ) → word ≡ packed (positionOf x) → {answer : Answer} {l : File}
-          → Stores (enterTo p g f (cleared pool) (starWith (x .number) word (x .owner)) place (entryEnd (hashOf p g) (p .pages) f (starWith (x .number) word (x .owner)))) answer l
-          → Stores filed answer l
-      enters e q new word same {answer} {l} done =
+      pub enters : isRemoval x ≡ false → validPosition (positionOf x) ≡ true → holds p f page (x .number) ≡ false
+          → filed ≡ enterTo p g f (cleared pool) star place (entryEnd (hashOf p g) (p .pages) f star)
+      enters e q new =
           as-position e
-          (rw is
-          (subst
-          (λ (w : ℕ). Stores (enterTo p g f (cleared pool) (starWith (x .number) w (x .owner)) place (entryEnd (hashOf p g) (p .pages) f (starWith (x .number) w (x .owner)))) answer l)
-          same
-          done))
-        where
-          is : positionFiled p (closedRecord g) f pool x ≡ enterTo p g f (cleared pool) star place (entryEnd (hashOf p g) (p .pages) f star)
-          is =
-              position-entered p (closedRecord g) f pool x (admitted n) q good new
-              ∙ (unfold enterUnder enterOf enterOn validSteps in rw (all-lent, n, q, good, new))
+          ∙ position-entered p (closedRecord g) f pool x (admitted n) q good new
+          ∙ (unfold enterUnder enterOf enterOn validSteps in rw (all-lent, n, q, good, new))
 
       module _ (old : holds p f page (x .number) ≡ true) where
         removal : removalFiled p (closedRecord g) f pool x ≡ allowed p g f (cleared pool) page (x .owner) (x .number) (removeTo p g f (cleared pool) page (x .number) place (removalEnd (hashOf p g) (p .pages) f (hashOf p g .home (x .number))))
@@ -185,23 +156,16 @@ module _ (p : Parameters) (g : Growth) (f : File) (pool : Pool) (x : Report) (v 
             refused-change : validPosition (positionOf x) ≡ true → positionFiled p (closedRecord g) f pool x ≡ unchanged g f pool (refusedAt 13 0 place)
             refused-change v = position v ∙ (unfold changeOn allowed in rw (good, old, may))
 
-        pub removes : isRemoval x ≡ true → mayAlter (x .owner) (ownerFor p f page (x .number)) ≡ true → {answer : Answer} {l : File}
-            → Stores (removeTo p g f (cleared pool) page (x .number) place (removalEnd (hashOf p g) (p .pages) f (hashOf p g .home (x .number)))) answer l
-            → Stores filed answer l
-        removes e may done = as-removal e (rw is done)
-          where
-            is : removalFiled p (closedRecord g) f pool x ≡ removeTo p g f (cleared pool) page (x .number) place (removalEnd (hashOf p g) (p .pages) f (hashOf p g .home (x .number)))
-            is = removal ∙ (unfold allowed in rw may)
+        pub removes : isRemoval x ≡ true → mayAlter (x .owner) (ownerFor p f page (x .number)) ≡ true
+            → filed ≡ removeTo p g f (cleared pool) page (x .number) place (removalEnd (hashOf p g) (p .pages) f (hashOf p g .home (x .number)))
+        removes e may = as-removal e ∙ removal ∙ (unfold allowed in rw may)
 
         pub changes : isRemoval x ≡ false → validPosition (positionOf x) ≡ true → mayAlter (x .owner) (ownerFor p f page (x .number)) ≡ true
-            → Stores filed (acceptedAt page place) (lent (f .separators) (f .numbers) (set (f .words) (itemOf p f page (x .number)) (packed (positionOf x))) (f .owners))
-        changes e q may = as-position e (stores _ _ g _ pool is)
-          where
-            is : positionFiled p (closedRecord g) f pool x
-                ≡ record {
-                  answer = acceptedAt page place;
-                  growth = g;
-                  file = lent (f .separators) (f .numbers) (set (f .words) (itemOf p f page (x .number)) (packed (positionOf x))) (f .owners);
-                  pool = pool;
-                }
-            is = position q ∙ (unfold changeOn allowed in rw (good, old, may))
+            → filed
+            ≡ record {
+              answer = acceptedAt page place;
+              growth = g;
+              file = lent (f .separators) (f .numbers) (set (f .words) (itemOf p f page (x .number)) (packed (positionOf x))) (f .owners);
+              pool = pool;
+            }
+        changes e q may = as-position e ∙ position q ∙ (unfold changeOn allowed in rw (good, old, may))

@@ -14,7 +14,7 @@ use Rattle.reports.specs.declared.Report.{Report}
 use Rattle.reports.specs.Reports.{blank}
 use Rattle.tray_list.specs.Closing.{sourceOf, keptOr, placesAfter, closedTo}
 
-length-places : (m n i : ℕ) (ys : List Report) → length (placesAfter m n i ys) ≡ i
+pub length-places : (m n i : ℕ) (ys : List Report) → length (placesAfter m n i ys) ≡ i
 unfolding placesAfter
 length-places m n zero ys = refl
 length-places m n (suc i) ys = length-append (placesAfter m n i ys) (keptOr i n (getD ys (m + i) blank) ∷ []) ∙ rw (length-places m n i ys) (omega arith)

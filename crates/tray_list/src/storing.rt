@@ -41,14 +41,14 @@ fn source_of(i: usize, from: usize, stay: usize) -> usize
 fn kept_or_blank(i: usize, stay: usize, report: Report) -> Report
     ensures { λ r. ⌜ r ≡ keptOr i stay report ⌝ }
 {
-    if i < stay {
-        return report;
+    if stay <= i {
+        return Report {
+            number: 0,
+            ra: 0,
+            dec: 0,
+            owner: 0,
+            removed: 0,
+        };
     }
-    Report {
-        number: 0,
-        ra: 0,
-        dec: 0,
-        owner: 0,
-        removed: 0,
-    }
+    report
 }

@@ -5,32 +5,18 @@ use Prim.Native.Nat.{ℕ}
 use native.Mathlib.Omega.{arith}
 use borrow.Author.Tests.{ne-eqb, not-true, not-false}
 use denote.Ref.{now}
-use Rattle.hashing.specs.declared.Parameters.{Parameters}
-use Rattle.hashing.specs.declared.Growth.{Growth}
 use Rattle.hashing.proofs.Bounds.{limits, passed, failed}
 use Rattle.pages.specs.Position.{validNumber, validPosition}
-use Rattle.placement.specs.File.{File}
 use Rattle.placement.specs.Hash.{lent}
 use Rattle.placement.specs.Ready.{Pooled}
 use Rattle.calls.specs.Answers.{placed, refusedBy, refused}
 use Rattle.reports.specs.Reports.{positionOf, isRemoval}
 use Rattle.report_filing.specs.Filing.{Sought}
-use Rattle.report_filing.proofs.Reporting.{told, bad-number, bad-position, damaged, nothing}
+use Rattle.report_filing.proofs.Reporting.{bad-number, bad-position, damaged}
+use Rattle.report_filing.proofs.Searched.{filed-nothing}
 use borrow.Author.Needs.{needs}
 use Rattle.report_filing.proofs.one_report.file_report.Statement.{statement}
 use Rattle.report_filing.proofs.one_report.file_report.Tie as tie
-
-abbrev fileOf : tie.Start → File
-fileOf s = lent (now (s .args .separators)) (now (s .args .numbers)) (now (s .args .words)) (now (s .args .owners))
-
-abbrev p : tie.Start → Parameters
-p s = s .args .geometry .parameters
-
-abbrev g : tie.Start → Growth
-g s = s .args .geometry .growth
-
-abbrev k : tie.Start → ℕ
-k s = s .args .report .number
 
 number-valid-requires : tie.Need-number-valid-requires
 number-valid-requires c κs = search needs
@@ -39,9 +25,9 @@ returns : tie.Need-returns
 unfolding placed refusedBy
 returns c pool fits =
     let s = c .before .before .before .before .before .before .before .before .before in
-    bad-number (p s) (g s) (fileOf s) pool (s .args .report) (s .pre .0 .homing .valid) (s .pre .0 .homing .growth) (s .pre .0 .sized) fits (failed _ _ (c .before .number-valid .ensures) (c .if1 .taken))
+    bad-number (s .pre .0) pool (s .args .report) fits (failed _ _ (c .before .number-valid .ensures) (c .if1 .taken))
 
-numbered : (c : tie.Else1) → validNumber (k (c .before .before .before .before .before .before .before .before .before)) ≡ true
+numbered : (c : tie.Else1) → validNumber (c .before .before .before .before .before .before .before .before .before .args .report .number) ≡ true
 numbered c = passed _ _ (c .before .number-valid .ensures) (c .if1 .left)
 
 position-fits-requires : tie.Need-position-fits-requires
@@ -51,31 +37,37 @@ returns-2 : tie.Need-returns-2
 unfolding placed refusedBy
 returns-2 c pool fits =
     let s = c .before .before .before .before .before .before .before .before .before .before .before in
-    bad-position (p s) (g s) (fileOf s) pool (s .args .report) (s .pre .0 .homing .valid) (s .pre .0 .homing .growth) (s .pre .0 .sized) fits (numbered (c .before .before)) (failed _ _ (c .before .position-fits .ensures) (c .if2 .taken))
+    bad-position (s .pre .0) pool (s .args .report) fits (numbered (c .before .before)) (failed _ _ (c .before .position-fits .ensures) (c .if2 .taken))
 
-positioned : (c : tie.Else2) → isRemoval (c .before .before .before .before .before .before .before .before .before .before .before .args .report) || validPosition (positionOf (c .before .before .before .before .before .before .before .before .before .before .before .args .report)) ≡ true
+-- the report meets neither 3 nor 4
+abbrev start : tie.Else2 → tie.Start
+start c = c .before .before .before .before .before .before .before .before .before .before .before
+
+positioned : (c : tie.Else2) → isRemoval (start c .args .report) || validPosition (positionOf (start c .args .report)) ≡ true
 positioned c = passed _ _ (c .before .position-fits .ensures) (c .if2 .left)
 
 find-kept-requires : tie.Need-find-kept-requires
 find-kept-requires c κs =
-    let s = c .before .before .before .before .before .before .before .before .before .before .before .before .before .before .before .before in
+    let s = start (c .before .before .before .before .before) in
     (s .pre .0, (s .pre .1 .ofNumbers, numbered (c .before .before .before .before .before .before .before)))
 
 -- from the search on
-abbrev begun : tie.After-find-kept → tie.Start
-begun c = c .before .before .before .before .before .before .before .before .before .before .before .before .before .before .before .before .before
-
 abbrev valid : tie.After-find-kept → tie.Else2
 valid c = c .before .before .before .before .before .before
 
+abbrev begun : tie.After-find-kept → tie.Start
+begun c = start (valid c)
+
 -- it left the pool as long as it was
-pooled-still : (c : tie.After-find-kept) → Pooled (p (begun c)) (c .find-kept .last .1 .1 .1 .1 .1 .1 .0) (now (begun c .args .poolwords)) (now (begun c .args .poolowners))
+pooled-still : (c : tie.After-find-kept) → Pooled (begun c .args .geometry .parameters) (c .find-kept .last .1 .1 .1 .1 .1 .1 .0) (now (begun c .args .poolwords)) (now (begun c .args .poolowners))
 pooled-still c =
     let pools = begun c .pre .1 in
     record { ofNumbers = c .find-kept .kept .1 .1 .1 .1 .1 .1 .0 ∙ pools .ofNumbers; ofWords = pools .ofWords; ofOwners = pools .ofOwners }
 
 sought : (c : tie.After-find-kept) → c .find-kept .result .readable ≡ true
-    → Sought (p (begun c)) (g (begun c)) (fileOf (begun c)) (c .find-kept .last .1 .1 .1 .1 .1 .1 .0) (begun c .args .report) (c .find-kept .result)
+    → Sought (begun c .args .geometry .parameters) (begun c .args .geometry .growth)
+    (lent (now (begun c .args .separators)) (now (begun c .args .numbers)) (now (begun c .args .words)) (now (begun c .args .owners)))
+    (c .find-kept .last .1 .1 .1 .1 .1 .1 .0) (begun c .args .report) (c .find-kept .result)
 sought c e =
     record {
       number = numbered (valid c .before .before);
@@ -86,7 +78,7 @@ sought c e =
     }
 
 cast-page : tie.Need-cast-page
-cast-page c = omega (arith, c .before .before .before .find-kept .ensures .0 .pageMost, limits _ (c .before .before .before .before .before .before .before .before .before .before .before .before .before .before .before .before .before .before .before .before .pre .0 .homing .valid) .pages-most)
+cast-page c = omega (arith, c .before .before .before .find-kept .ensures .0 .pageMost, limits _ (begun (c .before .before .before) .pre .0 .homing .valid) .pages-most)
 
 same-length : tie.Need-same-length
 same-length c = search needs
@@ -109,13 +101,14 @@ returns-3 c pool fits =
     let f = c .before .before .before .before .before in
     let s = begun f in
     let found = f .find-kept .ensures .0 in
-    told (ap (λ (q : ℕ). refused 5 q) (found .pageIs))
-    (damaged (p s) (g s) (fileOf s) pool (s .args .report) (s .pre .0 .homing .valid) (s .pre .0 .homing .growth) (s .pre .0 .sized) fits (numbered (valid f .before .before)) (positioned (valid f)) (sym (found .readableIs) ∙ not-true _ (c .if3 .taken)))
+    let d = damaged (s .pre .0) pool (s .args .report) fits (numbered (valid f .before .before)) (positioned (valid f)) (sym (found .readableIs) ∙ not-true _ (c .if3 .taken)) in
+    record { answers = ap (λ (q : ℕ). refused 5 q) (found .pageIs) ∙ d .answers; files = d .files }
 
 file-held-requires : tie.Need-file-held-requires
 file-held-requires c κs =
-    let f = c .before .before .before .before .before .before .before .before .before .before .before .before .before in
-    (begun f .pre .0, (pooled-still f, (sought f (not-false _ (c .before .before .before .before .before .before .before .before .if3 .left)), c .before .before .before .before .before .before .before .if4 .taken)))
+    let taken = c .before .before .before .before .before .before .before in
+    let f = taken .before .before .before .before .before .before in
+    (begun f .pre .0, (pooled-still f, (sought f (not-false _ (taken .before .if3 .left)), taken .if4 .taken)))
 
 same-length-6 : tie.Need-same-length-6
 same-length-6 c = search needs
@@ -160,16 +153,13 @@ returns-5 : tie.Need-returns-5
 unfolding placed
 returns-5 c pool fits =
     let f = c .before .before .before .before .before .before .before .before in
-    let s = begun f in
-    let found = f .find-kept .ensures .0 in
-    let opened = not-false _ (c .before .before .before .if3 .left) in
-    nothing (p s) (g s) (fileOf s) pool (s .args .report) (s .pre .0 .homing .valid) (s .pre .0 .homing .growth) (s .pre .0 .sized) fits (numbered (valid f .before .before)) (sym (found .readableIs) ∙ opened)
-    (ap not (ne-eqb _ 0 (c .if5 .taken))) (sym (found .heldIs opened) ∙ c .before .before .if4 .left)
+    filed-nothing (begun f .pre .0) (sought f (not-false _ (c .before .before .before .if3 .left))) pool fits (c .before .before .if4 .left) (ap not (ne-eqb _ 0 (c .if5 .taken)))
 
 file-new-requires : tie.Need-file-new-requires
 file-new-requires c κs =
-    let f = c .before .before .before .before .before .before .before .before .before .before .before .before .before .before .before in
-    (begun f .pre .0, (pooled-still f, (sought f (not-false _ (c .before .before .before .before .before .before .before .before .before .before .if3 .left)), (c .before .before .before .before .before .before .before .before .before .if4 .left, c .before .before .before .before .before .before .before .if5 .left))))
+    let left = c .before .before .before .before .before .before .before in
+    let f = left .before .before .before .before .before .before .before .before in
+    (begun f .pre .0, (pooled-still f, (sought f (not-false _ (left .before .before .before .if3 .left)), (left .before .before .if4 .left, left .if5 .left))))
 
 same-length-18 : tie.Need-same-length-18
 same-length-18 c = search needs

@@ -6,12 +6,12 @@ use Rattle.tray_list.proofs.storing.kept_or_blank.Statement.{statement}
 use Rattle.tray_list.proofs.storing.kept_or_blank.Tie as tie
 
 returns : tie.Need-returns
-unfolding keptOr
-returns c = rw (lt-ltb _ _ (c .if1 .taken))
+unfolding keptOr blank
+returns c = rw (le-ltb _ _ (c .if1 .taken))
 
 returns-2 : tie.Need-returns-2
-unfolding keptOr blank
-returns-2 c = rw (le-ltb _ _ (c .if1 .left))
+unfolding keptOr
+returns-2 c = rw (lt-ltb _ _ (c .if1 .left))
 
 pub kept-or-blank-spec : {M : Type 1} → statement M
 kept-or-blank-spec = tie.close (tie.spec returns returns-2)
