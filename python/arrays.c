@@ -5,10 +5,13 @@
 #define ARRAYS __attribute__((visibility("default")))
 typedef struct heatherplane_file File;
 typedef struct heatherplane_reply Reply;
+typedef struct heatherplane_tray Tray;
 
-/* Python mirrors both structures and compares these sizes when it loads the library. */
+/* Python mirrors these structures and compares their sizes when it loads the library. */
 ARRAYS size_t arrays_file_size(void) { return sizeof(File); }
 ARRAYS size_t arrays_reply_size(void) { return sizeof(Reply); }
+ARRAYS size_t arrays_tray_size(void) { return sizeof(Tray); }
+ARRAYS size_t arrays_report_size(void) { return sizeof(struct heatherplane_report); }
 ARRAYS uint32_t arrays_version(void) { return heatherplane_version(); }
 
 ARRAYS Reply arrays_make(File *file) { return heatherplane_make_in(file); }
@@ -53,6 +56,20 @@ ARRAYS Reply arrays_carry(const File *old, const File *file)
     const struct heatherplane_view view = heatherplane_view_in(old);
     return heatherplane_carry_in(&view, file);
 }
+
+ARRAYS uint32_t arrays_add_report(const File *file, Tray *tray, const struct heatherplane_report *report)
+{
+    const struct heatherplane_view view = heatherplane_view_in(file);
+    return heatherplane_add_report_in(&view, tray, *report).refusal;
+}
+
+ARRAYS Reply arrays_look_up_with_tray(const File *file, const Tray *tray, uint32_t number)
+{
+    const struct heatherplane_view view = heatherplane_view_in(file);
+    return heatherplane_look_up_with_tray_view(&view, tray, number);
+}
+
+ARRAYS struct heatherplane_bits arrays_filter_bits(const Tray *tray) { return heatherplane_filter_bits_in(tray); }
 
 ARRAYS uint32_t arrays_mark_changed(
     const File *file, const struct heatherplane_growth *before, const uint8_t *old_separators, uint8_t *marks)

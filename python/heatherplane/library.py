@@ -52,6 +52,18 @@ class Handle(ctypes.Structure):
     ]
 
 
+class TrayHandle(ctypes.Structure):
+    """struct heatherplane_tray: the list's and the filter's address and length, and the count."""
+
+    _fields_ = [
+        ("reports", c_void_p), ("reports_length", c_size_t), ("filter", c_void_p), ("filter_length", c_size_t), ("count", c_uint32),
+    ]  # fmt: skip
+
+
+class Bits(ctypes.Structure):
+    _fields_ = [("refusal", c_uint32), ("bits", c_uint32)]
+
+
 class ImageHeader(ctypes.Structure):
     _fields_ = [
         ("magic", c_uint8 * 8), ("version", c_uint32), ("flags", c_uint32), ("parameters", Parameters), ("growth", Growth),
@@ -71,10 +83,15 @@ def _find() -> Path:
 
 def _load() -> ctypes.CDLL:
     library = ctypes.CDLL(str(_find()))
-    file, numbers, arrays, octet = POINTER(Handle), c_void_p, c_void_p, c_uint8
+    file, tray, numbers, arrays, octet = POINTER(Handle), POINTER(TrayHandle), c_void_p, c_void_p, c_uint8
     for name, answer, arguments in (
         ("file_size", c_size_t, []),
         ("reply_size", c_size_t, []),
+        ("tray_size", c_size_t, []),
+        ("report_size", c_size_t, []),
+        ("add_report", c_uint32, [file, tray, c_void_p]),
+        ("look_up_with_tray", Reply, [file, tray, c_uint32]),
+        ("filter_bits", Bits, [tray]),
         ("version", c_uint32, []),
         ("make", Reply, [file]),
         ("make_for", Reply, [file, c_uint32]),
@@ -103,7 +120,8 @@ def _load() -> ctypes.CDLL:
     ):
         function = getattr(library, "arrays_" + name)
         function.restype, function.argtypes = answer, arguments
-    if library.arrays_file_size() != ctypes.sizeof(Handle) or library.arrays_reply_size() != ctypes.sizeof(Reply):
+    sizes = (library.arrays_file_size(), library.arrays_reply_size(), library.arrays_tray_size())
+    if sizes != (ctypes.sizeof(Handle), ctypes.sizeof(Reply), ctypes.sizeof(TrayHandle)):
         raise ImportError(f"{library._name} is of another version than this package")
     return library
 

@@ -2,6 +2,7 @@
 
 use crate::history::History;
 use crate::tester::Tester;
+use interface::LIBRARY;
 use model::files::*;
 use model::placement::{pack, unpack, Star};
 use model::tray::{bits_set, filter_of, Report, PLACES};
@@ -11,6 +12,16 @@ use model::{Call, Kind, Outcome, Parameters, Record};
 fn adding(parameters: Parameters, record: Record, report: Report) -> Call {
     let Report { number, ra, dec, owner: caller, removed } = report;
     Call { number, ra, dec, caller, removed, ..Call::new(Kind::Report, parameters, record) }
+}
+
+/// One of the tray's calls that the library has.
+fn tray_kind(tester: &mut Tester) -> Kind {
+    let kind = tester.random.pick(&[Kind::Report, Kind::Combined, Kind::Filing]);
+    if LIBRARY.has(kind) {
+        kind
+    } else {
+        Kind::Combined
+    }
 }
 
 /// How many bits of a filter are set, by library and model.
@@ -24,11 +35,11 @@ impl History {
         match tester.random.below(12) {
             0..=5 => self.add_report(tester),
             6..=8 => self.look_up_with_tray(tester),
-            9 => self.file_reports(tester),
+            9 if LIBRARY.has(Kind::Filing) => self.file_reports(tester),
             _ => self.step(tester),
         }
         if tester.random.once_in(8) {
-            let kind = tester.random.pick(&[Kind::Report, Kind::Combined, Kind::Filing]);
+            let kind = tray_kind(tester);
             let number = tester.random.pick(&self.numbers);
             let star = Star { number, ..random_star(&mut tester.random) };
             tester.deviating_call(self.make_call(kind, star), self.lent.clone());
@@ -153,7 +164,9 @@ pub fn full_trays(tester: &mut Tester) {
         for _ in 0..4 {
             history.tray_step(tester);
         }
-        history.file_reports(tester);
+        if LIBRARY.has(Kind::Filing) {
+            history.file_reports(tester);
+        }
         history.check_tray(tester);
     }
 }
@@ -178,7 +191,7 @@ pub fn any_trays(tester: &mut Tester) {
         let waiting = lent.tray.waiting();
         let number = if waiting.is_empty() { report.number } else { tester.random.pick(waiting).number };
         let number = tester.random.pick(&[number, report.number]);
-        let kind = tester.random.pick(&[Kind::Report, Kind::Combined, Kind::Filing]);
+        let kind = tray_kind(tester);
         let call = match kind {
             Kind::Report => adding(parameters, record, report),
             _ => Call { number, ..Call::new(kind, parameters, record) },
@@ -198,6 +211,9 @@ pub fn any_trays(tester: &mut Tester) {
 
 /// Filings of 256 reports into large files.
 pub fn large_filings(tester: &mut Tester) {
+    if !LIBRARY.has(Kind::Filing) {
+        return;
+    }
     let list = tester.random.pick(&LARGE);
     let parameters = Parameters::new(list).under(random_multiplier(&mut tester.random));
     let growth = random_growth(&mut tester.random, &parameters);

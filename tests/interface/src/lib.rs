@@ -8,7 +8,7 @@ use std::sync::OnceLock;
 /// The requests of document 02 that have landed in the library.
 pub const LANDED: &[u32] = &[1, 2, 3, 4, 5, 6, 7, 8, 9, 10, 11, 12, 13, 14];
 
-pub const LIBRARY: Implementation = Implementation { run, landed: LANDED };
+pub const LIBRARY: Implementation = Implementation { run, landed: LANDED, missing: &[Kind::Filing] };
 
 /// include/heatherplane.h's growth record and reply.
 #[repr(C)]
@@ -17,6 +17,13 @@ struct CRecord {
     expanded: u32,
     open: u32,
     steps: u32,
+}
+
+impl CRecord {
+    fn of(record: &Record) -> CRecord {
+        let Record { growth: Growth { expansions, expanded }, open, steps } = *record;
+        CRecord { expansions, expanded, open: open.into(), steps }
+    }
 }
 
 #[repr(C)]
@@ -84,6 +91,10 @@ macro_rules! c {
     };
     (@ $exports:ident $reply:ident $call:ident $lent:ident [$($t:tt)*] [$($v:tt)*] record_struct $($rest:ident)*) => {
         c!(@ $exports $reply $call $lent [$($t)* Record,] [$($v)* $call.record,] $($rest)*)
+    };
+    // As the tray's calls take them.
+    (@ $exports:ident $reply:ident $call:ident $lent:ident [$($t:tt)*] [$($v:tt)*] values $($rest:ident)*) => {
+        c!(@ $exports $reply $call $lent [$($t)* Parameters, CRecord,] [$($v)* $call.parameters, CRecord::of(&$call.record),] $($rest)*)
     };
     (@ $exports:ident $reply:ident $call:ident $lent:ident [$($t:tt)*] [$($v:tt)*] new_structs $($rest:ident)*) => {
         c!(@ $exports $reply $call $lent [$($t)* Parameters, Record,] [$($v)* $call.new_parameters, $call.new_record,] $($rest)*)
@@ -159,8 +170,9 @@ macro_rules! c {
         ] $($rest)*)
     };
     (@ $exports:ident $reply:ident $call:ident $lent:ident [$($t:tt)*] [$($v:tt)*] report $($rest:ident)*) => {
-        c!(@ $exports $reply $call $lent [$($t)* u32, u32, i32, u8, u8,]
-            [$($v)* $call.number, $call.ra, $call.dec, $call.caller, $call.removed,] $($rest)*)
+        c!(@ $exports $reply $call $lent [$($t)* Report,] [$($v)*
+            Report { number: $call.number, ra: $call.ra, dec: $call.dec, owner: $call.caller, removed: $call.removed },
+        ] $($rest)*)
     };
     (@ $exports:ident $reply:ident $call:ident $lent:ident [$($t:tt)*] [$($v:tt)*] caller $($rest:ident)*) => {
         c!(@ $exports $reply $call $lent [$($t)* u8,] [$($v)* $call.caller,] $($rest)*)
@@ -345,20 +357,20 @@ fn numbers(e: &Exports, call: &Call, lent: &mut Buffers) -> Reply {
         Kind::Write => c!(e, call, lent -> Reply: parameters record read out),
         Kind::Read => c!(e, call, lent -> Reply: parameters record written pool given),
         Kind::Carry => c!(e, call, lent -> Reply: parameters record read new second pool),
-        Kind::Combined => c!(e, call, lent -> Reply: parameters record read read_tray number),
+        Kind::Combined => c!(e, call, lent -> Reply: values read read_tray number),
         kind => panic!("the library has no {}", kind.name()),
     }
 }
 
 fn add_report(e: &Exports, call: &Call, lent: &mut Buffers) -> Outcome {
-    let Added { refusal, count } = c!(e, call, lent -> Added: parameters record tray report);
+    let Added { refusal, count } = c!(e, call, lent -> Added: values tray report);
     lent.tray.count = count;
     Outcome { refusal, record: call.record, ..Outcome::default() }
 }
 
 /// The filing's own refusals are 1, 2 and 16; any other is that of the report at which it stopped.
 fn file_reports(e: &Exports, call: &Call, lent: &mut Buffers) -> Outcome {
-    let Filed { refusal, page, place, filed, count } = c!(e, call, lent -> Filed: parameters record written pool tray);
+    let Filed { refusal, page, place, filed, count } = c!(e, call, lent -> Filed: values written pool tray);
     lent.tray.count = count;
     let none = Outcome { filed, record: call.record, ..Outcome::default() };
     match refusal {
@@ -430,7 +442,7 @@ linked_functions! {
     heatherplane_grow heatherplane_shrink heatherplane_due heatherplane_check heatherplane_open_growth heatherplane_step_growth
     heatherplane_enter_stopped heatherplane_change_stopped heatherplane_remove_stopped heatherplane_mend
     heatherplane_write_table heatherplane_read_table heatherplane_carry heatherplane_add_report
-    heatherplane_look_up_with_tray heatherplane_file_reports
+    heatherplane_look_up_with_tray
 }
 
 /// The library that is linked.

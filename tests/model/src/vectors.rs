@@ -218,6 +218,7 @@ pub fn run_files(files: impl Iterator<Item = String>, run: Implementation) -> bo
         };
         for (line, vector) in vectors {
             let differences = match vector {
+                Ok(vector) if !run.has(vector.call.kind) => vec![format!("no {} yet", vector.call.kind.name())],
                 Ok(vector) => vector.differences(run),
                 Err(error) => vec![error],
             };
