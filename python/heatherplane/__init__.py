@@ -2,5 +2,6 @@
 from .library import Growth, Parameters, version
 from .refusals import ImageRefused, NotHeld, Refused
 from .starfile import Found, Position, StarFile
+from .tray import Tray
 
-__all__ = ["Found", "Growth", "ImageRefused", "NotHeld", "Parameters", "Position", "Refused", "StarFile", "version"]
+__all__ = ["Found", "Growth", "ImageRefused", "NotHeld", "Parameters", "Position", "Refused", "StarFile", "Tray", "version"]
