@@ -90,3 +90,9 @@ module _ (p : Parameters) (r : GrowthRecord) (f : File) (pool : Pool) (reports :
         trays = λ i. record { reports = closes i; count = sym length-rest i };
         filters = filters ∙ rw (filed, is-copy, taken-loaded count reports (omega (arith, size, most)), rest-is p r f (cleared pool) (take count reports));
       })
+
+-- no more reports are filed than were tried
+pub filed-few : (p : Parameters) (r : GrowthRecord) (f : File) (pool : Pool) (copy : List Report) (count n : ℕ) → length copy ≡ 256 → count ≤ 256
+    → n ≡ filedFrom p r f pool (take count copy) .filed → n ≤ count
+filed-few p r f pool copy count n size most e =
+    omega (arith, e, filed-and-rest p r f pool (take count copy), length-take-le count copy (omega (arith, size, most)))
