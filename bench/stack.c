@@ -85,13 +85,14 @@ static uint32_t look_up_with_tray(uint32_t number)
     const struct heatherplane_view view = heatherplane_view_in(&file);
     return heatherplane_look_up_with_tray_view(&view, &tray, number).refusal;
 }
+static uint32_t file_reports(uint32_t number) { (void)number; return heatherplane_file_reports_in(&file, &tray).refusal; }
 static uint32_t filter_bits(uint32_t number) { (void)number; return heatherplane_filter_bits_in(&tray).refusal; }
 static uint32_t version(uint32_t number) { (void)number; return heatherplane_version() != HEATHERPLANE_VERSION; }
 
 enum call {
     NOTHING, MAKE, STATE_FOR, LOOK_UP, ENTER, CASCADE, CHANGE, REMOVE, DUE, GROW, SHRINK, CHECK, OPEN, STEP, ENTER_STOPPED,
-    CHANGE_STOPPED, REMOVE_STOPPED, MEND, WRITE_TABLE, READ_TABLE, CARRY, REPLAY, ADD_REPORT, LOOK_UP_WITH_TRAY, FILTER_BITS,
-    MARK, VERSION, CALLS
+    CHANGE_STOPPED, REMOVE_STOPPED, MEND, WRITE_TABLE, READ_TABLE, CARRY, REPLAY, ADD_REPORT, LOOK_UP_WITH_TRAY, FILE_REPORTS,
+    FILTER_BITS, MARK, VERSION, CALLS
 };
 static const struct {
     const char *name;
@@ -102,7 +103,8 @@ static const struct {
     {"open_growth", open_growth}, {"step_growth", step_growth}, {"enter_stopped", enter_stopped},
     {"change_stopped", change_stopped}, {"remove_stopped", remove_stopped}, {"mend", mend}, {"write_table", write_table},
     {"read_table", read_table}, {"carry", carry}, {"replay", replay}, {"add_report", add_report},
-    {"look_up_with_tray", look_up_with_tray}, {"filter_bits", filter_bits}, {"mark_changed", mark}, {"version", version},
+    {"look_up_with_tray", look_up_with_tray}, {"file_reports", file_reports}, {"filter_bits", filter_bits}, {"mark_changed", mark},
+    {"version", version},
 };
 
 struct job {
@@ -188,6 +190,10 @@ static void whole_files(void)
     }
     measure(FILTER_BITS, 0);
     measure(MEND, 0);
+    measure(FILE_REPORTS, 0);
+    for (uint32_t number = 1; number <= 256; number++)
+        measure(ADD_REPORT, 2 * STARS + number);
+    measure(FILE_REPORTS, 0);
     measure(WRITE_TABLE, 0);
     measure(READ_TABLE, 0);
     measure(CARRY, 0);
