@@ -7,11 +7,14 @@ use lib.Dec.{eqb, leb}
 use lib.ListN.{take, drop}
 use Rattle.placement.specs.File.{File}
 use Rattle.calls.specs.declared.answers.Placed.{Placed}
+use Rattle.calls.specs.declared.answers.Placed.the-variants.{Refused}
+use Rattle.calls.specs.declared.answers.Refusal.{Refusal}
 use Rattle.calls.specs.Answers.{Pool, placed}
 use Rattle.reports.specs.declared.Report.{Report}
 use Rattle.reports.specs.Reports.{filterOf}
 use Rattle.reports.specs.Filing.{Filed, AfterFiling}
 use Rattle.tray.specs.declared.filing.Filing.{Filing}
+use Rattle.tray.specs.declared.filing.Closing.{Closing}
 use Rattle.tray.specs.Lent.{trayOf}
 
 -- how many reports of the list are taken in: none if the list or the count is wrong
@@ -36,3 +39,8 @@ pub record FiledBelow (a count : ℕ) (copy : List Report) (d : Filed) (pool : P
   pub counts : r .count ≡ count - r .filed
   pub most : r .filed ≤ count
   pub filters : filter ≡ filterOf a (drop (r .filed) (take count copy))
+
+-- refused: none is filed, the count stays, and nothing closes up
+abbrev pub notClosed : Refusal → ℕ → Closing
+notClosed refusal count =
+    record { filing = record { answer = Refused refusal 0; filed = 0; count = count }; from = 0; stay = 0; places = 0 }

@@ -14,7 +14,7 @@ ghost use Rattle.reports.specs.Filing.{filedFrom, filingOf};
 ghost use Rattle.tray_list.specs.Closing.{closedTo};
 ghost use Rattle.tray_list.specs.Loading.{loaded as Loading·loaded};
 ghost use Rattle.tray.specs.Lent.{trayOf};
-ghost use Rattle.tray.specs.Filing.{limitOf, FiledBelow, FilesTray};
+ghost use Rattle.tray.specs.Filing.{limitOf, notClosed, FiledBelow, FilesTray};
 use crate::adding::tray_fits;
 use crate::seeking::all_fit;
 use calls::answers::Admission;
@@ -209,7 +209,10 @@ fn file_loaded(
     }
 }
 
-fn not_filed(refusal: Refusal, count: u32) -> Closing {
+// Refused: the list, its count with it, stays.
+fn not_filed(refusal: Refusal, count: u32) -> Closing
+    ensures { λ r. ⌜ r ≡ notClosed refusal count ⌝ }
+{
     let answer = Placed::Refused(refusal, 0);
     let filing = Filing {
         answer,
