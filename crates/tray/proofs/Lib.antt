@@ -2,3 +2,4 @@ pub mod Given
 pub mod Refused
 pub mod Sought
 pub mod Filed
+pub mod LentRead

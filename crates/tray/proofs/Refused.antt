@@ -166,7 +166,7 @@ pub report-turned : (p : Parameters) (r : GrowthRecord) (lengths : Bool) (count 
 unfolding reportRefusal
 report-turned p r lengths count x a e = rw (← e) (first-is (refusalNumber a) _ (numbered a))
 
-lengths-are : (places count n : ℕ) → trayLengths places count n ≡ true → (places ≡ 256) × ((n ≡ 32) × (count ≤ 256))
+pub lengths-are : (places count n : ℕ) → trayLengths places count n ≡ true → (places ≡ 256) × ((n ≡ 32) × (count ≤ 256))
 unfolding trayLengths
 lengths-are places count n e =
     let one = and-true (eqb places 256) (eqb n 32 && leb count 256) e in

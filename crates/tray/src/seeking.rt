@@ -108,7 +108,7 @@ fn screen(
     }
 }
 
-fn all_fit(file: bool, tray: bool) -> bool
+pub fn all_fit(file: bool, tray: bool) -> bool
     ensures { λ r. ⌜ r ≡ (file && tray) ⌝ }
 {
     if !file {
