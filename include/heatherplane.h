@@ -580,6 +580,15 @@ struct heatherplane_added {
     uint32_t count;   /* after the call */
 };
 
+/* What a filing answers. */
+struct heatherplane_filed {
+    uint32_t refusal; /* an enum heatherplane_refusal: the call's, or that of the report at which it stopped */
+    uint32_t page;    /* of that report, as are page and place of a reply */
+    uint32_t place;
+    uint32_t filed;   /* how many reports were filed */
+    uint32_t count;   /* how many wait after the call */
+};
+
 /* How many bits of a filter are set. */
 struct heatherplane_bits {
     uint32_t refusal; /* an enum heatherplane_refusal */
@@ -617,6 +626,27 @@ HEATHERPLANE_NODISCARD struct heatherplane_reply heatherplane_look_up_with_tray(
     const struct heatherplane_report *reports, size_t reports_length, uint32_t count,
     const uint64_t *filter, size_t filter_length,
     uint32_t number);
+
+/* Files the reports that wait, in order, each for its own owner: a star that the file holds is changed or removed, another is entered.
+ * A removal of a star not held does nothing and counts as filed. It stops at the first refusal.
+ *
+ * Buffers: the file's four, the pool's three, the tray's list and its filter.
+ * Refused: BAD_PARAMETERS, BAD_LENGTH, OUT_OF_TURN: filed is 0, and file and tray stay as they were. Any other refusal is that of the
+ * report at which it stopped, with its page and place, as its own call would have answered.
+ * Afterwards: filed reports are in the file and have left the tray; the others have closed up, zeros stand behind them, count is their
+ * number, and the filter is theirs. A report that is refused again and again (NOT_OWNER, FULL) holds up those behind it.
+ * Threads: writes the file and the tray. */
+HEATHERPLANE_NODISCARD struct heatherplane_filed heatherplane_file_reports(
+    struct heatherplane_parameters parameters, struct heatherplane_growth growth,
+    uint8_t *separators, size_t separators_length,
+    uint32_t *numbers, size_t numbers_length,
+    uint64_t *words, size_t words_length,
+    uint8_t *owners, size_t owners_length,
+    uint32_t *pool_numbers, size_t pool_numbers_length,
+    uint64_t *pool_words, size_t pool_words_length,
+    uint8_t *pool_owners, size_t pool_owners_length,
+    struct heatherplane_report *reports, size_t reports_length, uint32_t count,
+    uint64_t *filter, size_t filter_length);
 
 /* How many of the filter's 2,048 bits are set.
  *
@@ -1132,6 +1162,21 @@ HEATHERPLANE_NODISCARD static inline struct heatherplane_reply heatherplane_look
         view->words, view->words_length, view->owners, view->owners_length,
         tray->reports, tray->reports_length, tray->count, tray->filter, tray->filter_length,
         number);
+}
+
+/* Files the tray's reports, and stores the new count in it. */
+HEATHERPLANE_NODISCARD static inline struct heatherplane_filed heatherplane_file_reports_in(
+    const struct heatherplane_file *file, struct heatherplane_tray *tray)
+{
+    const struct heatherplane_filed filed = heatherplane_file_reports(
+        file->parameters, file->growth,
+        file->separators, file->separators_length, file->numbers, file->numbers_length,
+        file->words, file->words_length, file->owners, file->owners_length,
+        file->pool_numbers, file->pool_numbers_length, file->pool_words, file->pool_words_length,
+        file->pool_owners, file->pool_owners_length,
+        tray->reports, tray->reports_length, tray->count, tray->filter, tray->filter_length);
+    tray->count = filed.count;
+    return filed;
 }
 
 HEATHERPLANE_NODISCARD static inline struct heatherplane_bits heatherplane_filter_bits_in(const struct heatherplane_tray *tray)

@@ -74,6 +74,10 @@ class Added(ctypes.Structure):
     _fields_ = [("refusal", c_uint32), ("count", c_uint32)]
 
 
+class Filed(ctypes.Structure):
+    _fields_ = [("refusal", c_uint32), ("page", c_uint32), ("place", c_uint32), ("filed", c_uint32), ("count", c_uint32)]
+
+
 class Bits(ctypes.Structure):
     _fields_ = [("refusal", c_uint32), ("bits", c_uint32)]
 
@@ -123,9 +127,10 @@ _SIGNATURES = {
     "mark_changed": _PARAMETERS + [c_uint32] * 2 + _BYTES * 3,
     "add_report": [Parameters, Growth] + _BYTES + [c_uint32] + _BYTES + [Report],
     "look_up_with_tray": [Parameters, Growth] + _FILE + _BYTES + [c_uint32] + _BYTES + [c_uint32],
+    "file_reports": [Parameters, Growth] + _FILE + _POOL + _BYTES + [c_uint32] + _BYTES,
     "filter_bits": _BYTES,
 }
-_ANSWERS = {"version": c_uint32, "mark_changed": c_uint32, "add_report": Added, "filter_bits": Bits}
+_ANSWERS = {"version": c_uint32, "mark_changed": c_uint32, "add_report": Added, "file_reports": Filed, "filter_bits": Bits}
 
 
 class Calls:
@@ -239,6 +244,12 @@ class Calls:
     def look_up_with_tray(self, handle: Handle, tray: TrayHandle, number: int) -> Reply:
         lent = (tray.reports, tray.reports_length, tray.count, tray.filter, tray.filter_length)
         return self._look_up_with_tray(handle.parameters, handle.growth, *self._lent(handle)[:8], *lent, number)
+
+    def file_reports(self, handle: Handle, tray: TrayHandle) -> Filed:
+        lent = (tray.reports, tray.reports_length, tray.count, tray.filter, tray.filter_length)
+        filed = self._file_reports(handle.parameters, handle.growth, *self._lent(handle), *lent)
+        tray.count = filed.count
+        return filed
 
     def filter_bits(self, tray: TrayHandle) -> Bits:
         return self._filter_bits(tray.filter, tray.filter_length)

@@ -2,11 +2,12 @@
 from __future__ import annotations
 
 import ctypes
+from typing import NamedTuple
 
 import numpy as np
 
 from .library import Report, TrayHandle, calls
-from .refusals import refuse
+from .refusals import BAD_LENGTH, BAD_PARAMETERS, OUT_OF_TURN, Refused, refuse
 from .starfile import Position, StarFile
 
 PLACES, WORDS = 256, 32
@@ -25,6 +26,13 @@ def _within(value: int, low: int, high: int, substitute: int) -> int:
     return value if low <= value <= high else substitute
 
 
+class Filing(NamedTuple):
+    """How many reports were filed, and the refusal of the one at which it stopped."""
+
+    filed: int
+    refusal: Refused | None
+
+
 class Tray:
     """Up to 256 reports on the stars of one file that wait to be filed, with a filter of 2,048 bits before them.
 
@@ -38,6 +46,10 @@ class Tray:
     Position(ra=365137051, dec=-60170925)
     >>> file.get(48915) is None, len(tray), tray.bits()
     (True, 1, 3)
+    >>> tray.file_reports()
+    Filing(filed=1, refusal=None)
+    >>> 48915 in file, len(tray)
+    (True, 0)
     """
 
     def __init__(self, file: StarFile):
@@ -86,6 +98,17 @@ class Tray:
         reply = calls.look_up_with_tray(self.file._handle, self._handle, _within(number, 0, 2**32 - 1, 0))
         refuse(reply.refusal, reply.page, reply.place, number)
         return Position(reply.ra, reply.dec) if reply.found else default
+
+    def file_reports(self) -> Filing:
+        """Files the reports in order, each for its owner: a star of the file is changed or removed, another is entered.
+
+        It stops at the first report that is refused, which then is the first to wait, and answers how many were filed and that refusal.
+        """
+        filed = calls.file_reports(self.file._handle, self._handle)
+        if filed.refusal in (BAD_PARAMETERS, BAD_LENGTH, OUT_OF_TURN):
+            refuse(filed.refusal)
+        stopped = Refused(filed.refusal, filed.page, filed.place, int(self._reports[0]["number"])) if filed.refusal else None
+        return Filing(filed.filed, stopped)
 
     def bits(self) -> int:
         """How many of the filter's 2,048 bits are set."""

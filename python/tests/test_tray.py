@@ -62,6 +62,32 @@ class Trays(unittest.TestCase):
         words = [int(word) for word in self.tray.filter]
         self.assertEqual({64 * i + j for i, word in enumerate(words) for j in range(64) if word >> j & 1}, expected)
 
+    def test_filing_is_the_calls_of_the_reports(self):
+        self.file.enter(7, 10, -5)
+        other = self.file.copy()
+        self.tray.add(7, 11, 5)
+        self.tray.add(8, 12, 6, owner=3)
+        self.tray.remove(9)
+        self.tray.remove(7)
+        other.change(7, 11, 5)
+        other.enter(8, 12, 6, caller=3)
+        other.remove(7)
+        self.assertEqual(self.tray.file_reports(), (4, None))
+        self.assertEqual(dict(self.file.items()), dict(other.items()))
+        self.assertEqual((len(self.tray), self.tray.bits(), self.tray.file_reports()), (0, 0, (0, None)))
+
+    def test_filing_stops_at_a_report_of_another_owner(self):
+        self.file.enter(7, 10, -5)
+        self.tray.add(8, 1, 2)
+        self.tray.add(7, 11, 5, owner=3)
+        self.tray.add(9, 3, 4)
+        for filed in (1, 0):
+            stopped = self.tray.file_reports()
+            self.assertEqual((stopped.filed, stopped.refusal.number, stopped.refusal.star), (filed, r.NOT_OWNER, 7))
+            self.assertEqual(self.tray.reports["number"].tolist(), [7, 9])
+            self.assertEqual(self.tray.bits(), len(hash_bits(7, 48271) | hash_bits(9, 48271)))
+        self.assertEqual(dict(self.file.items()), {7: (10, -5), 8: (1, 2)})
+
 
 if __name__ == "__main__":
     unittest.main()

@@ -608,6 +608,35 @@ static void replays(struct heatherplane_file *file, uint32_t stars)
     group("replays");
 }
 
+/* The full tray of `collects`, filed into a copy of the file: owner 3 may not change star 0, which is the institute's. */
+static void files(const struct heatherplane_file *file, struct heatherplane_tray *tray)
+{
+    struct heatherplane_file filed = heatherplane_file_of(
+        file->parameters, file->growth, copy.separators, copy.numbers, copy.words, copy.owners, pool_numbers, pool_words, pool_owners);
+    struct heatherplane_tray none = heatherplane_tray_of(NULL, NULL);
+    const uint32_t bits = heatherplane_filter_bits_in(tray).bits;
+    copy_of(file);
+    EXPECT(heatherplane_file_reports_in(&filed, &none).refusal == HEATHERPLANE_BAD_LENGTH && none.count == 0);
+    filed.growth.open = 1;
+    EXPECT(heatherplane_file_reports_in(&filed, tray).refusal == HEATHERPLANE_OUT_OF_TURN && tray->count == 256);
+    filed.growth.open = 0;
+    const struct heatherplane_reply own = heatherplane_change_in(&filed, 3, tray->reports[0].number, 17, -18);
+    struct heatherplane_filed answer = heatherplane_file_reports_in(&filed, tray);
+    EXPECT(answer.refusal == HEATHERPLANE_NOT_OWNER && answer.filed == 0 && answer.count == 256 && tray->count == 256);
+    EXPECT(answer.refusal == own.refusal && answer.page == own.page && answer.place == own.place);
+    EXPECT(same_file(&filed, file) && heatherplane_filter_bits_in(tray).bits == bits && pool_is_zero());
+    tray->reports[0].owner = tray->reports[1].owner = 0;
+    answer = heatherplane_file_reports_in(&filed, tray);
+    EXPECT(answer.refusal == 0 && answer.filed == 256 && answer.count == 0 && tray->count == 0);
+    EXPECT(!heatherplane_look_up_in(&filed, number_of(0)).found && heatherplane_filter_bits_in(tray).bits == 0 && pool_is_zero());
+    for (uint32_t i = 1; i < 255; i++)
+        EXPECT(heatherplane_look_up_in(&filed, number_of(0) + i).ra == 17 && tray->reports[i].number == 0);
+    EXPECT(heatherplane_check_in(&filed).refusal == 0);
+    answer = heatherplane_file_reports_in(&filed, tray);
+    EXPECT(answer.refusal == 0 && answer.filed == 0 && answer.count == 0);
+    group("reports filed");
+}
+
 /* Reports on held stars and others, until no more are taken. */
 static void collects(const struct heatherplane_file *file)
 {
@@ -638,6 +667,7 @@ static void collects(const struct heatherplane_file *file)
     }
     EXPECT(heatherplane_add_report_in(&view, &tray, report).refusal == HEATHERPLANE_TRAY_FULL && tray.count == 256);
     group("reports collected");
+    files(file, &tray);
 }
 
 static void save(const char *name)

@@ -1,14 +1,16 @@
 // The tray of reports and its filter. The functions that hold the list are thin: each calls crate tray and answers in numbers. They take
 // parameters and growth record by value as structs.
 ghost use mathlib.Core.Path.{_≡_};
-ghost use Rattle.placement.specs.Lent.{before};
+ghost use Rattle.placement.specs.Lent.{before, after};
 ghost use Rattle.calls.specs.Answers.{sought};
+ghost use Rattle.calls.specs.Lent.{poolBefore, poolAfter};
 ghost use Rattle.reports.specs.Bits.{bitsOf};
+ghost use Rattle.reports.specs.Filing.{filingOf};
 ghost use Rattle.reports.specs.TrayCalls.{addOf, combinedOf};
 ghost use Rattle.tray.specs.Lent.{trayOf};
 ghost use Rattle.tray_filter.specs.Shown.{shown as Shown·shown};
 ghost use Rattle.heatherplane.specs.Reply.{replyOf};
-ghost use Rattle.heatherplane.specs.Trays.{RepliesAdding, numbered, recorded, askedOf, addedReply, bitsReply};
+ghost use Rattle.heatherplane.specs.Trays.{RepliesAdding, RepliesFiling, numbered, recorded, askedOf, addedReply, filedReply, bitsReply};
 use crate::replies::Growth;
 use crate::replies::Reply;
 use crate::replies::record_of;
@@ -25,6 +27,16 @@ use tray_filter::Shown;
 #[repr(C)]
 pub struct Added {
     pub refusal: u32,
+    pub count: u32,
+}
+
+// The refusal of the call or of the report at which it stopped, with its page and place, how many reports were filed, and the count after the call.
+#[repr(C)]
+pub struct Filed {
+    pub refusal: u32,
+    pub page: u32,
+    pub place: u32,
+    pub filed: u32,
     pub count: u32,
 }
 
@@ -111,6 +123,44 @@ pub extern "C" fn heatherplane_look_up_with_tray(
     found_reply(found, asked.growth)
 }
 
+// "Filing works through the reports in order, each for its own owner"
+#[no_mangle]
+pub extern "C" fn heatherplane_file_reports(
+    parameters: Parameters,
+    growth: Growth,
+    separators: &mut [u8],
+    numbers: &mut [u32],
+    words: &mut [u64],
+    owners: &mut [u8],
+    poolnumbers: &mut [u32],
+    poolwords: &mut [u64],
+    poolowners: &mut [u8],
+    reports: &mut [Report],
+    count: u32,
+    filter: &mut [u64],
+) -> Filed
+    ensures { λ r. ⌜ RepliesFiling (filingOf (numbered parameters) (recorded growth)
+        (before separators numbers words owners) (poolBefore poolnumbers poolwords poolowners) (trayOf (now (reports .entry)) count) (now (filter .entry))) r
+        (after separators numbers words owners) (poolAfter poolnumbers poolwords poolowners) (now (reports .exit)) (now (filter .exit)) ⌝ }
+{
+    let asked = asked_of(parameters, growth);
+    let filing = tray::file_tray(
+        asked.parameters,
+        asked.growth,
+        separators,
+        numbers,
+        words,
+        owners,
+        poolnumbers,
+        poolwords,
+        poolowners,
+        reports,
+        count,
+        filter,
+    );
+    filed_reply(filing)
+}
+
 // "The screen shows how many of the filter's bits are set."
 #[no_mangle]
 pub extern "C" fn heatherplane_filter_bits(filter: &[u64]) -> Bits
@@ -167,6 +217,20 @@ fn added_reply(added: tray::Added) -> Added
     Added {
         refusal: answer.refusal,
         count: added.count,
+    }
+}
+
+fn filed_reply(filing: tray::Filing) -> Filed
+    ensures { λ r. ⌜ r ≡ filedReply filing ⌝ }
+{
+    let placed = filing.answer;
+    let answer = placed_answer(placed);
+    Filed {
+        refusal: answer.refusal,
+        page: answer.page,
+        place: answer.place,
+        filed: filing.filed,
+        count: filing.count,
     }
 }
 

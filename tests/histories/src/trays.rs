@@ -2,7 +2,6 @@
 
 use crate::history::History;
 use crate::tester::Tester;
-use interface::LIBRARY;
 use model::files::*;
 use model::placement::{pack, unpack, Star};
 use model::tray::{bits_set, filter_of, Report, PLACES};
@@ -14,14 +13,9 @@ fn adding(parameters: Parameters, record: Record, report: Report) -> Call {
     Call { number, ra, dec, caller, removed, ..Call::new(Kind::Report, parameters, record) }
 }
 
-/// One of the tray's calls that the library has.
+/// One of the tray's calls.
 fn tray_kind(tester: &mut Tester) -> Kind {
-    let kind = tester.random.pick(&[Kind::Report, Kind::Combined, Kind::Filing]);
-    if LIBRARY.has(kind) {
-        kind
-    } else {
-        Kind::Combined
-    }
+    tester.random.pick(&[Kind::Report, Kind::Combined, Kind::Filing])
 }
 
 /// How many bits of a filter are set, by library and model.
@@ -35,7 +29,7 @@ impl History {
         match tester.random.below(12) {
             0..=5 => self.add_report(tester),
             6..=8 => self.look_up_with_tray(tester),
-            9 if LIBRARY.has(Kind::Filing) => self.file_reports(tester),
+            9 => self.file_reports(tester),
             _ => self.step(tester),
         }
         if tester.random.once_in(8) {
@@ -164,9 +158,7 @@ pub fn full_trays(tester: &mut Tester) {
         for _ in 0..4 {
             history.tray_step(tester);
         }
-        if LIBRARY.has(Kind::Filing) {
-            history.file_reports(tester);
-        }
+        history.file_reports(tester);
         history.check_tray(tester);
     }
 }
@@ -211,9 +203,6 @@ pub fn any_trays(tester: &mut Tester) {
 
 /// Filings of 256 reports into large files.
 pub fn large_filings(tester: &mut Tester) {
-    if !LIBRARY.has(Kind::Filing) {
-        return;
-    }
     let list = tester.random.pick(&LARGE);
     let parameters = Parameters::new(list).under(random_multiplier(&mut tester.random));
     let growth = random_growth(&mut tester.random, &parameters);

@@ -8,7 +8,7 @@ use std::sync::OnceLock;
 /// The requests of document 02 that have landed in the library.
 pub const LANDED: &[u32] = &[1, 2, 3, 4, 5, 6, 7, 8, 9, 10, 11, 12, 13, 14];
 
-pub const LIBRARY: Implementation = Implementation { run, landed: LANDED, missing: &[Kind::Filing] };
+pub const LIBRARY: Implementation = Implementation { run, landed: LANDED, missing: &[] };
 
 /// include/heatherplane.h's growth record and reply.
 #[repr(C)]
@@ -442,7 +442,7 @@ linked_functions! {
     heatherplane_grow heatherplane_shrink heatherplane_due heatherplane_check heatherplane_open_growth heatherplane_step_growth
     heatherplane_enter_stopped heatherplane_change_stopped heatherplane_remove_stopped heatherplane_mend
     heatherplane_write_table heatherplane_read_table heatherplane_carry heatherplane_add_report
-    heatherplane_look_up_with_tray
+    heatherplane_look_up_with_tray heatherplane_file_reports
 }
 
 /// The library that is linked.
