@@ -129,11 +129,6 @@ and-assoc : (a b c : Bool) → (a && b) && c ≡ a && (b && c)
 and-assoc true b c = refl
 and-assoc false b c = refl
 
--- zeros of the lengths that the pool had
-pub zeroed : (ns ws os ns′ ws′ os′ : List ℕ) → ns′ ≡ replicate (length ns) 0 → ws′ ≡ replicate (length ws) 0 → os′ ≡ replicate (length os) 0 → pooled ns′ ws′ os′ ≡ cleared (pooled ns ws os)
-unfolding cleared zeros
-zeroed ns ws os ns′ ws′ os′ en ew eo = rw (en, ew, eo)
-
 module _ (p : Parameters) (r : GrowthRecord) (f : File) (pool : Pool) (places count : ℕ) (filter : List ℕ) where
   abbrev pub measured : Bool
   measured = (fileFits p f && poolFits p pool) && trayLengths places count (length filter)

@@ -1,5 +1,5 @@
 -- `tray::filing::file_loaded` meets its contract.
-use mathlib.Core.Path.{_≡_, sym, ap, _∙_}
+use mathlib.Core.Path.{_≡_, refl, sym, ap, _∙_}
 use mathlib.Core.Bool.{Bool, _&&_}
 use native.Mathlib.Omega.{arith}
 use denote.Ref.{now}
@@ -10,7 +10,8 @@ use Rattle.calls.specs.Answers.{Pool, pooled, admissionNumber}
 use Rattle.calls.specs.Calls.{fileFits, poolFits}
 use Rattle.reports.specs.TrayCalls.{trayRefusal}
 use Rattle.tray.proofs.Refused.{record-is}
-use Rattle.tray.proofs.Filed.{measured, zeroed, refused-measured, open-measured, filing-admitted, filed-measured}
+use Rattle.outcome_answer.proofs.Pools.{cleared-is}
+use Rattle.tray.proofs.Filed.{measured, refused-measured, open-measured, filing-admitted, filed-measured}
 use Rattle.tray.proofs.filing.file_loaded.Statement.{statement}
 use Rattle.tray.proofs.filing.file_loaded.Tie as tie
 
@@ -114,7 +115,7 @@ returns-2 c =
       (omega arith, omega arith),
       λ reports size copied.
           open-measured (a .parameters) (a .growth) (fileOf s) (poolOf s) (a .places) (a .count) (now (a .filter)) (none (g .before)) (g .if1 .taken) _
-          (zeroed _ _ _ _ _ _ (zeros .clear .ensures .0) (zeros .clear .ensures .1 .0) (zeros .clear .ensures .1 .1)) reports size,
+          (cleared-is _ _ _ _ _ _ _ _ _ (zeros .clear .ensures .0) (zeros .clear .ensures .1 .0) (zeros .clear .ensures .1 .1) refl refl refl) reports size,
     )
 
 abbrev rest-from : tie.After-file-admitted-arg → tie.Else1
