@@ -22,6 +22,9 @@ static uint8_t table[5760 + 12 * ITEMS + 2880];
 static size_t table_length;
 
 static struct heatherplane_file file, second, carried;
+static struct heatherplane_report reports[HEATHERPLANE_TRAY_REPORTS];
+static uint64_t filter[HEATHERPLANE_TRAY_WORDS];
+static struct heatherplane_tray tray;
 static struct heatherplane_growth before;
 
 static uint32_t nothing(uint32_t number) { (void)number; return 0; }
@@ -71,11 +74,25 @@ static uint32_t replay(uint32_t number)
     uint32_t answers[56];
     return heatherplane_replay_in(&file, 7, kinds, callers, stars, ras, decs, answers).refusal;
 }
+static uint32_t add_report(uint32_t number)
+{
+    const struct heatherplane_view view = heatherplane_view_in(&file);
+    const struct heatherplane_report report = {number, 1, 0, 0, 0};
+    return heatherplane_add_report_in(&view, &tray, report).refusal;
+}
+static uint32_t look_up_with_tray(uint32_t number)
+{
+    const struct heatherplane_view view = heatherplane_view_in(&file);
+    return heatherplane_look_up_with_tray_view(&view, &tray, number).refusal;
+}
+static uint32_t file_reports(uint32_t number) { (void)number; return heatherplane_file_reports_in(&file, &tray).refusal; }
+static uint32_t filter_bits(uint32_t number) { (void)number; return heatherplane_filter_bits_in(&tray).refusal; }
 static uint32_t version(uint32_t number) { (void)number; return heatherplane_version() != HEATHERPLANE_VERSION; }
 
 enum call {
     NOTHING, MAKE, STATE_FOR, LOOK_UP, ENTER, CASCADE, CHANGE, REMOVE, DUE, GROW, SHRINK, CHECK, OPEN, STEP, ENTER_STOPPED,
-    CHANGE_STOPPED, REMOVE_STOPPED, MEND, WRITE_TABLE, READ_TABLE, CARRY, REPLAY, MARK, VERSION, CALLS
+    CHANGE_STOPPED, REMOVE_STOPPED, MEND, WRITE_TABLE, READ_TABLE, CARRY, REPLAY, ADD_REPORT, LOOK_UP_WITH_TRAY, FILE_REPORTS,
+    FILTER_BITS, MARK, VERSION, CALLS
 };
 static const struct {
     const char *name;
@@ -85,7 +102,9 @@ static const struct {
     {"change", change}, {"remove", take_out}, {"due", due}, {"grow", grow}, {"shrink", shrink}, {"check", check},
     {"open_growth", open_growth}, {"step_growth", step_growth}, {"enter_stopped", enter_stopped},
     {"change_stopped", change_stopped}, {"remove_stopped", remove_stopped}, {"mend", mend}, {"write_table", write_table},
-    {"read_table", read_table}, {"carry", carry}, {"replay", replay}, {"mark_changed", mark}, {"version", version},
+    {"read_table", read_table}, {"carry", carry}, {"replay", replay}, {"add_report", add_report},
+    {"look_up_with_tray", look_up_with_tray}, {"file_reports", file_reports}, {"filter_bits", filter_bits}, {"mark_changed", mark},
+    {"version", version},
 };
 
 struct job {
@@ -164,7 +183,17 @@ static void whole_files(void)
         if (number % 3 == 2)
             measure(MEND, 0);
     }
+    for (uint32_t number = 1; number <= 300; number++) {
+        measure(ADD_REPORT, number);
+        measure(LOOK_UP_WITH_TRAY, number);
+        measure(LOOK_UP_WITH_TRAY, number + 300);
+    }
+    measure(FILTER_BITS, 0);
     measure(MEND, 0);
+    measure(FILE_REPORTS, 0);
+    for (uint32_t number = 1; number <= 256; number++)
+        measure(ADD_REPORT, 2 * STARS + number);
+    measure(FILE_REPORTS, 0);
     measure(WRITE_TABLE, 0);
     measure(READ_TABLE, 0);
     measure(CARRY, 0);
@@ -195,6 +224,7 @@ int main(void)
     const struct heatherplane_growth none = {0, 0, 0, 0};
     file = heatherplane_file_of(parameters, none, separators, numbers, words, owners, pool_numbers, pool_words, pool_owners);
     second = heatherplane_file_of(parameters, none, second_separators, second_numbers, second_words, second_owners, NULL, NULL, NULL);
+    tray = heatherplane_tray_of(reports, filter);
     carried = file;
     carried.separators = second_separators, carried.numbers = second_numbers, carried.words = second_words;
     carried.owners = second_owners, carried.parameters.multiplier = HEATHERPLANE_MULTIPLIER_1993;
@@ -205,8 +235,8 @@ int main(void)
     entries();
     whole_files();
     growths();
-    printf("%-14s %14s %8s %8s\n", "call", "bytes of stack", "calls", "refused");
+    printf("%-18s %14s %8s %8s\n", "call", "bytes of stack", "calls", "refused");
     for (int call = 0; call < CALLS; call++)
-        printf("%-14s %14zu %8zu %8zu\n", calls[call].name, greatest[call], made[call], refused[call]);
+        printf("%-18s %14zu %8zu %8zu\n", calls[call].name, greatest[call], made[call], refused[call]);
     return 0;
 }

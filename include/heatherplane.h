@@ -560,6 +560,100 @@ HEATHERPLANE_NODISCARD struct heatherplane_reply heatherplane_replay(
     const int32_t *decs, size_t decs_length,
     uint32_t *answers, size_t answers_length);
 
+/* A star report, for surveys that collect first and file afterwards. */
+struct heatherplane_report {
+    uint32_t number;
+    uint32_t ra;
+    int32_t dec;
+    uint8_t owner;   /* for whom it is filed: 0 for the institute, 1 to 255 for observers */
+    uint8_t removed; /* 0: a position; any other number: a removal, whose position is not read and is stored as 0, 0 */
+};
+
+/* A tray is a list of 256 reports, of which the first count wait, and beside it a filter of 32 words, all zeros at first. Its calls keep
+ * it under the file's multiplier; with the other one, or after any other change of list, count or filter, waiting reports may be missed. */
+#define HEATHERPLANE_TRAY_REPORTS 256
+#define HEATHERPLANE_TRAY_WORDS 32
+
+/* What adding a report answers. */
+struct heatherplane_added {
+    uint32_t refusal; /* an enum heatherplane_refusal */
+    uint32_t count;   /* after the call */
+};
+
+/* What a filing answers. */
+struct heatherplane_filed {
+    uint32_t refusal; /* an enum heatherplane_refusal: the call's, or that of the report at which it stopped */
+    uint32_t page;    /* of that report, as are page and place of a reply */
+    uint32_t place;
+    uint32_t filed;   /* how many reports were filed */
+    uint32_t count;   /* how many wait after the call */
+};
+
+/* How many bits of a filter are set. */
+struct heatherplane_bits {
+    uint32_t refusal; /* an enum heatherplane_refusal */
+    uint32_t bits;    /* 0 to 2048 */
+};
+
+/* The tray's calls take parameters, growth record and report as values. */
+
+/* Adds a report behind the others that wait. No file is lent, and a growth may be open.
+ *
+ * Buffers: the tray's list and its filter.
+ * Refused: BAD_PARAMETERS, BAD_LENGTH (the list's, the filter's, or a count above 256), BAD_NUMBER, BAD_POSITION (not of a removal),
+ * TRAY_FULL; refused, list and filter stay as they were.
+ * Accepted: count is one more.
+ * Threads: writes the tray. */
+HEATHERPLANE_NODISCARD struct heatherplane_added heatherplane_add_report(
+    struct heatherplane_parameters parameters, struct heatherplane_growth growth,
+    struct heatherplane_report *reports, size_t reports_length, uint32_t count,
+    uint64_t *filter, size_t filter_length,
+    struct heatherplane_report report);
+
+/* Looks a star up in filter, tray and file: the latest report on it answers, or else the file.
+ *
+ * Buffers: the file's four, the tray's list and its filter, which are only read.
+ * Refused: BAD_PARAMETERS, BAD_LENGTH (also of the list or the filter, or a count above 256), BAD_NUMBER; then, if no report answers,
+ * DAMAGED, as heatherplane_look_up. Never OUT_OF_TURN.
+ * Accepted: a report that answers has page M (pages) and place 0; found is false if it is a removal. Else as heatherplane_look_up.
+ * Threads: reads the file and the tray. */
+HEATHERPLANE_NODISCARD struct heatherplane_reply heatherplane_look_up_with_tray(
+    struct heatherplane_parameters parameters, struct heatherplane_growth growth,
+    const uint8_t *separators, size_t separators_length,
+    const uint32_t *numbers, size_t numbers_length,
+    const uint64_t *words, size_t words_length,
+    const uint8_t *owners, size_t owners_length,
+    const struct heatherplane_report *reports, size_t reports_length, uint32_t count,
+    const uint64_t *filter, size_t filter_length,
+    uint32_t number);
+
+/* Files the reports that wait, in order, each for its own owner: a star that the file holds is changed or removed, another is entered.
+ * A removal of a star not held does nothing and counts as filed. It stops at the first refusal.
+ *
+ * Buffers: the file's four, the pool's three, the tray's list and its filter.
+ * Refused: BAD_PARAMETERS, BAD_LENGTH, OUT_OF_TURN: filed is 0, and file and tray stay as they were. Any other refusal is that of the
+ * report at which it stopped, with its page and place, as its own call would have answered.
+ * Afterwards: filed reports are in the file and have left the tray; the others have closed up, zeros stand behind them, count is their
+ * number, and the filter is theirs. A report that is refused again and again (NOT_OWNER, FULL) holds up those behind it.
+ * Threads: writes the file and the tray. */
+HEATHERPLANE_NODISCARD struct heatherplane_filed heatherplane_file_reports(
+    struct heatherplane_parameters parameters, struct heatherplane_growth growth,
+    uint8_t *separators, size_t separators_length,
+    uint32_t *numbers, size_t numbers_length,
+    uint64_t *words, size_t words_length,
+    uint8_t *owners, size_t owners_length,
+    uint32_t *pool_numbers, size_t pool_numbers_length,
+    uint64_t *pool_words, size_t pool_words_length,
+    uint8_t *pool_owners, size_t pool_owners_length,
+    struct heatherplane_report *reports, size_t reports_length, uint32_t count,
+    uint64_t *filter, size_t filter_length);
+
+/* How many of the filter's 2,048 bits are set.
+ *
+ * Refused: BAD_LENGTH.
+ * Threads: reads the filter. */
+HEATHERPLANE_NODISCARD struct heatherplane_bits heatherplane_filter_bits(const uint64_t *filter, size_t filter_length);
+
 /* The library's version, as HEATHERPLANE_VERSION is the header's.
  * Threads: touches no memory of the caller. */
 HEATHERPLANE_NODISCARD uint32_t heatherplane_version(void);
@@ -1021,6 +1115,73 @@ HEATHERPLANE_NODISCARD static inline struct heatherplane_reply heatherplane_repl
     if (!reply.refusal)
         file->growth = reply.growth;
     return reply;
+}
+
+/* A tray as one value: its list, count and filter. All zeros but the pointers, it is empty. */
+struct heatherplane_tray {
+    struct heatherplane_report *reports;
+    size_t reports_length;
+    uint64_t *filter;
+    size_t filter_length;
+    uint32_t count;
+};
+
+/* An empty tray in a list of 256 reports and a filter of 32 words, which are set to zeros; the length of a null pointer is 0, which the
+ * calls refuse with BAD_LENGTH. */
+static inline struct heatherplane_tray heatherplane_tray_of(struct heatherplane_report *reports, uint64_t *filter)
+{
+    struct heatherplane_tray tray;
+    memset(&tray, 0, sizeof tray);
+    if (reports)
+        memset(reports, 0, HEATHERPLANE_TRAY_REPORTS * sizeof *reports);
+    if (filter)
+        memset(filter, 0, HEATHERPLANE_TRAY_WORDS * sizeof *filter);
+    tray.reports = reports;
+    tray.reports_length = reports ? HEATHERPLANE_TRAY_REPORTS : 0;
+    tray.filter = filter;
+    tray.filter_length = filter ? HEATHERPLANE_TRAY_WORDS : 0;
+    return tray;
+}
+
+/* Adds a report on a star of this file, and stores the new count in the tray. */
+HEATHERPLANE_NODISCARD static inline struct heatherplane_added heatherplane_add_report_in(
+    const struct heatherplane_view *view, struct heatherplane_tray *tray, struct heatherplane_report report)
+{
+    const struct heatherplane_added added = heatherplane_add_report(
+        view->parameters, view->growth, tray->reports, tray->reports_length, tray->count, tray->filter, tray->filter_length, report);
+    tray->count = added.count;
+    return added;
+}
+
+HEATHERPLANE_NODISCARD static inline struct heatherplane_reply heatherplane_look_up_with_tray_view(
+    const struct heatherplane_view *view, const struct heatherplane_tray *tray, uint32_t number)
+{
+    return heatherplane_look_up_with_tray(
+        view->parameters, view->growth,
+        view->separators, view->separators_length, view->numbers, view->numbers_length,
+        view->words, view->words_length, view->owners, view->owners_length,
+        tray->reports, tray->reports_length, tray->count, tray->filter, tray->filter_length,
+        number);
+}
+
+/* Files the tray's reports, and stores the new count in it. */
+HEATHERPLANE_NODISCARD static inline struct heatherplane_filed heatherplane_file_reports_in(
+    const struct heatherplane_file *file, struct heatherplane_tray *tray)
+{
+    const struct heatherplane_filed filed = heatherplane_file_reports(
+        file->parameters, file->growth,
+        file->separators, file->separators_length, file->numbers, file->numbers_length,
+        file->words, file->words_length, file->owners, file->owners_length,
+        file->pool_numbers, file->pool_numbers_length, file->pool_words, file->pool_words_length,
+        file->pool_owners, file->pool_owners_length,
+        tray->reports, tray->reports_length, tray->count, tray->filter, tray->filter_length);
+    tray->count = filed.count;
+    return filed;
+}
+
+HEATHERPLANE_NODISCARD static inline struct heatherplane_bits heatherplane_filter_bits_in(const struct heatherplane_tray *tray)
+{
+    return heatherplane_filter_bits(tray->filter, tray->filter_length);
 }
 
 /* Marks after a growth, from the record and the separators before it; old_separators and marks have as many bytes as pages. */

@@ -2,5 +2,8 @@
 from .library import Growth, Parameters, version
 from .refusals import ImageRefused, NotHeld, Refused
 from .starfile import Found, Position, StarFile
+from .tray import Filing, Tray
 
-__all__ = ["Found", "Growth", "ImageRefused", "NotHeld", "Parameters", "Position", "Refused", "StarFile", "version"]
+__all__ = [
+    "Filing", "Found", "Growth", "ImageRefused", "NotHeld", "Parameters", "Position", "Refused", "StarFile", "Tray", "version",
+]  # fmt: skip

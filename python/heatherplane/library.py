@@ -58,6 +58,30 @@ class Handle(ctypes.Structure):
         self.lent = (c_size_t * 14).from_buffer(self, Handle.separators.offset)
 
 
+class TrayHandle(ctypes.Structure):
+    """struct heatherplane_tray: the list's and the filter's address and length, and the count."""
+
+    _fields_ = [
+        ("reports", c_void_p), ("reports_length", c_size_t), ("filter", c_void_p), ("filter_length", c_size_t), ("count", c_uint32),
+    ]  # fmt: skip
+
+
+class Report(ctypes.Structure):
+    _fields_ = [("number", c_uint32), ("ra", c_uint32), ("dec", c_int32), ("owner", c_uint8), ("removed", c_uint8)]
+
+
+class Added(ctypes.Structure):
+    _fields_ = [("refusal", c_uint32), ("count", c_uint32)]
+
+
+class Filed(ctypes.Structure):
+    _fields_ = [("refusal", c_uint32), ("page", c_uint32), ("place", c_uint32), ("filed", c_uint32), ("count", c_uint32)]
+
+
+class Bits(ctypes.Structure):
+    _fields_ = [("refusal", c_uint32), ("bits", c_uint32)]
+
+
 class ImageHeader(ctypes.Structure):
     _fields_ = [
         ("magic", c_uint8 * 8), ("version", c_uint32), ("flags", c_uint32), ("parameters", Parameters), ("growth", Growth),
@@ -101,7 +125,12 @@ _SIGNATURES = {
     "step_growth": _PARAMETERS + _RECORD + _FILE + _FILE + _POOL,
     "replay": _PARAMETERS + [c_uint32] * 2 + _FILE + _POOL + _BYTES * 6,
     "mark_changed": _PARAMETERS + [c_uint32] * 2 + _BYTES * 3,
+    "add_report": [Parameters, Growth] + _BYTES + [c_uint32] + _BYTES + [Report],
+    "look_up_with_tray": [Parameters, Growth] + _FILE + _BYTES + [c_uint32] + _BYTES + [c_uint32],
+    "file_reports": [Parameters, Growth] + _FILE + _POOL + _BYTES + [c_uint32] + _BYTES,
+    "filter_bits": _BYTES,
 }
+_ANSWERS = {"version": c_uint32, "mark_changed": c_uint32, "add_report": Added, "file_reports": Filed, "filter_bits": Bits}
 
 
 class Calls:
@@ -116,7 +145,7 @@ class Calls:
             function = getattr(library, "heatherplane_" + name, None)
             if function is None:
                 raise ImportError(f"{path} is of another version than this package: it has no heatherplane_{name}")
-            function.argtypes, function.restype = arguments, c_uint32 if name in ("version", "mark_changed") else Reply
+            function.argtypes, function.restype = arguments, _ANSWERS.get(name, Reply)
             setattr(self, "_" + name, function)
 
     @staticmethod
@@ -205,6 +234,25 @@ class Calls:
     def mark_changed(self, handle: Handle, before: Growth, old: int, marks: int) -> int:
         pages, lent = handle.parameters.pages, self._lent(handle)
         return self._mark_changed(*self._numbers(handle)[:8], before.expansions, before.expanded, old, pages, *lent[:2], marks, pages)
+
+    def add_report(self, handle: Handle, tray: TrayHandle, report: Report) -> Added:
+        lent = (tray.reports, tray.reports_length, tray.count, tray.filter, tray.filter_length)
+        added = self._add_report(handle.parameters, handle.growth, *lent, report)
+        tray.count = added.count
+        return added
+
+    def look_up_with_tray(self, handle: Handle, tray: TrayHandle, number: int) -> Reply:
+        lent = (tray.reports, tray.reports_length, tray.count, tray.filter, tray.filter_length)
+        return self._look_up_with_tray(handle.parameters, handle.growth, *self._lent(handle)[:8], *lent, number)
+
+    def file_reports(self, handle: Handle, tray: TrayHandle) -> Filed:
+        lent = (tray.reports, tray.reports_length, tray.count, tray.filter, tray.filter_length)
+        filed = self._file_reports(handle.parameters, handle.growth, *self._lent(handle), *lent)
+        tray.count = filed.count
+        return filed
+
+    def filter_bits(self, tray: TrayHandle) -> Bits:
+        return self._filter_bits(tray.filter, tray.filter_length)
 
 
 calls = Calls(_find())

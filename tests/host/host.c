@@ -608,6 +608,68 @@ static void replays(struct heatherplane_file *file, uint32_t stars)
     group("replays");
 }
 
+/* The full tray of `collects`, filed into a copy of the file: owner 3 may not change star 0, which is the institute's. */
+static void files(const struct heatherplane_file *file, struct heatherplane_tray *tray)
+{
+    struct heatherplane_file filed = heatherplane_file_of(
+        file->parameters, file->growth, copy.separators, copy.numbers, copy.words, copy.owners, pool_numbers, pool_words, pool_owners);
+    struct heatherplane_tray none = heatherplane_tray_of(NULL, NULL);
+    const uint32_t bits = heatherplane_filter_bits_in(tray).bits;
+    copy_of(file);
+    EXPECT(heatherplane_file_reports_in(&filed, &none).refusal == HEATHERPLANE_BAD_LENGTH && none.count == 0);
+    filed.growth.open = 1;
+    EXPECT(heatherplane_file_reports_in(&filed, tray).refusal == HEATHERPLANE_OUT_OF_TURN && tray->count == 256);
+    filed.growth.open = 0;
+    const struct heatherplane_reply own = heatherplane_change_in(&filed, 3, tray->reports[0].number, 17, -18);
+    struct heatherplane_filed answer = heatherplane_file_reports_in(&filed, tray);
+    EXPECT(answer.refusal == HEATHERPLANE_NOT_OWNER && answer.filed == 0 && answer.count == 256 && tray->count == 256);
+    EXPECT(answer.refusal == own.refusal && answer.page == own.page && answer.place == own.place);
+    EXPECT(same_file(&filed, file) && heatherplane_filter_bits_in(tray).bits == bits && pool_is_zero());
+    tray->reports[0].owner = tray->reports[1].owner = 0;
+    answer = heatherplane_file_reports_in(&filed, tray);
+    EXPECT(answer.refusal == 0 && answer.filed == 256 && answer.count == 0 && tray->count == 0);
+    EXPECT(!heatherplane_look_up_in(&filed, number_of(0)).found && heatherplane_filter_bits_in(tray).bits == 0 && pool_is_zero());
+    for (uint32_t i = 1; i < 255; i++)
+        EXPECT(heatherplane_look_up_in(&filed, number_of(0) + i).ra == 17 && tray->reports[i].number == 0);
+    EXPECT(heatherplane_check_in(&filed).refusal == 0);
+    answer = heatherplane_file_reports_in(&filed, tray);
+    EXPECT(answer.refusal == 0 && answer.filed == 0 && answer.count == 0);
+    group("reports filed");
+}
+
+/* Reports on held stars and others, until no more are taken. */
+static void collects(const struct heatherplane_file *file)
+{
+    static struct heatherplane_report reports[HEATHERPLANE_TRAY_REPORTS];
+    static uint64_t filter[HEATHERPLANE_TRAY_WORDS];
+    const struct heatherplane_view view = heatherplane_view_in(file);
+    struct heatherplane_tray tray = heatherplane_tray_of(reports, filter), none = heatherplane_tray_of(NULL, NULL);
+    struct heatherplane_report report = {number_of(0), 17, -18, 3, 0};
+    EXPECT(heatherplane_add_report_in(&view, &none, report).refusal == HEATHERPLANE_BAD_LENGTH && none.count == 0);
+    EXPECT(heatherplane_filter_bits_in(&none).refusal == HEATHERPLANE_BAD_LENGTH);
+    EXPECT(heatherplane_look_up_with_tray_view(&view, &none, report.number).refusal == HEATHERPLANE_BAD_LENGTH);
+    EXPECT(heatherplane_look_up_with_tray_view(&view, &tray, report.number).ra == heatherplane_look_up_in(file, report.number).ra);
+    EXPECT(heatherplane_add_report_in(&view, &tray, report).refusal == 0 && tray.count == 1);
+    struct heatherplane_reply reply = heatherplane_look_up_with_tray_view(&view, &tray, report.number);
+    EXPECT(reply.found && reply.ra == 17 && reply.dec == -18 && reply.page == file->parameters.pages && reply.place == 0);
+    report.removed = 1;
+    EXPECT(heatherplane_add_report_in(&view, &tray, report).refusal == 0 && tray.count == 2);
+    EXPECT(reports[1].ra == 0 && reports[1].dec == 0 && reports[1].owner == 3 && reports[1].removed == 1);
+    EXPECT(!heatherplane_look_up_with_tray_view(&view, &tray, report.number).found);
+    EXPECT(heatherplane_filter_bits_in(&tray).bits == 3);
+    report.removed = 0;
+    report.dec = 324000001;
+    EXPECT(heatherplane_add_report_in(&view, &tray, report).refusal == HEATHERPLANE_BAD_POSITION && tray.count == 2);
+    report.dec = 0;
+    while (tray.count < HEATHERPLANE_TRAY_REPORTS) {
+        report.number++;
+        EXPECT(heatherplane_add_report_in(&view, &tray, report).refusal == 0);
+    }
+    EXPECT(heatherplane_add_report_in(&view, &tray, report).refusal == HEATHERPLANE_TRAY_FULL && tray.count == 256);
+    group("reports collected");
+    files(file, &tray);
+}
+
 static void save(const char *name)
 {
     FILE *out = fopen(name, "wb");
@@ -628,6 +690,7 @@ int main(int count, char **arguments)
     shrink(&file, stars);
     steps(&file, &second, stars);
     states(stars);
+    collects(&file);
     images(&file, stars);
     struct heatherplane_file whole = file_in(file.separators == first.separators ? &other : &first, 8);
     whole.growth = file.growth;

@@ -211,6 +211,53 @@ fn whole_file_rows(report: &mut Report, table: &mut Table, file: &File) {
     ));
 }
 
+/// Rows for the tray, whose reports are on the stars to be entered and on held ones: adding, a combined look-up of held stars that have no
+/// report, and a filing beside the calls that its reports make.
+fn tray_rows(report: &mut Report, table: &mut Table, file: &File, held: &[u32], entered: &[u32]) {
+    const PLACES: usize = 256;
+    let entries = entered.len().min(PLACES / 4);
+    let changed = held.len().min(PLACES - entries);
+    let reported: Vec<u32> = entered[..entries].iter().chain(&held[..changed]).copied().collect();
+    let others = &held[changed..];
+    let add = |library: &mut dyn Library| {
+        reported.iter().for_each(|&number| assert_eq!(library.call(Kind::Report, number, 2, 0).refusal, 0))
+    };
+    let mut libraries = prepared(file, &[Kind::Report, Kind::Combined, Kind::Filing], &[]);
+    let [adding] = in_turn(RUNS, &mut libraries, |library| {
+        let mut copy = library.copy();
+        [nanoseconds(|| add(copy.as_mut())) / reported.len() as f64]
+    });
+    libraries.iter_mut().for_each(|library| add(library.as_mut()));
+    let [look_up, combined] = in_turn(RUNS, &mut libraries, |library| {
+        [Kind::LookUp, Kind::Combined].map(|kind| {
+            let run = || others.iter().for_each(|&number| _ = black_box(library.call(kind, number, 0, 0)));
+            nanoseconds(run) / others.len() as f64
+        })
+    });
+    let [filing, calls] = in_turn(RUNS, &mut libraries, |library| {
+        let (mut filed, mut called) = (library.copy(), library.copy());
+        let filing = nanoseconds(|| _ = black_box(filed.call(Kind::Filing, 0, 0, 0)));
+        let calls = nanoseconds(|| {
+            for (i, &number) in reported.iter().enumerate() {
+                let kind = if i < entries { Kind::Enter } else { Kind::Change };
+                assert_eq!(called.call(kind, number, 2, 0).refusal, 0);
+            }
+        });
+        assert!(filed.file() == called.file(), "a filing leaves what the calls of its reports leave");
+        [filing, calls]
+    });
+    table.row("add a report", &adding);
+    table.row("combined look-up, no report", &combined);
+    table.row("file the tray", &filing);
+    table.row("the calls of its reports", &calls);
+    report.note(format!(
+        "{}, a tray of {entries} entries and {changed} changes: filing by the calls {:.2}; combined look-up by a look-up {:.2}",
+        file.size(),
+        filing.by(&calls),
+        combined.by(&look_up)
+    ));
+}
+
 /// Some of the stars that can be entered one after the other.
 fn entered(libraries: &Libraries, stars: &[u32], count: usize) -> Vec<u32> {
     let mut library = libraries[0].copy();
@@ -257,6 +304,7 @@ fn calls(report: &mut Report, random: &mut Random, empty: File, shown: bool) -> 
     table.row("enter", &entries);
     cascade_row(report, &mut table, "", &file, &entered, entries_and_cascades(&file, &entered));
     table.row("remove", &removals);
+    tray_rows(report, &mut table, &file, &held, &entered);
     whole_file_rows(report, &mut table, &file);
     table.rows
 }

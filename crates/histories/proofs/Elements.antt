@@ -1,6 +1,6 @@
 -- Every element of a history conforms.
 use mathlib.Core.Path.{_≡_, refl, sym, ap, _∙_}
-use mathlib.Core.Bool.{Bool, true, false, cond, true≢false}
+use mathlib.Core.Bool.{Bool, true, false, cond, _&&_, true≢false}
 use mathlib.Core.List.{List, [], _∷_, List·Memᴰ, List·Memᴰ·not-nil, List·Memᴰ·eq-of-singleton, List·Memᴰ·cases-cons}
 use mathlib.Core.Logic.{_⊎_, inl, ⊎-elim}
 use Prim.Native.Nat.{ℕ}
@@ -14,8 +14,8 @@ use Rattle.placement.specs.File.{File}
 use Rattle.reach.specs.Reach.{allStars}
 use Rattle.calls.specs.declared.answers.Answer.{Answer}
 use Rattle.calls.specs.declared.records.GrowthRecord.{GrowthRecord}
-use Rattle.calls.specs.Answers.{Pool, After, spotted, accepted, refused}
-use Rattle.calls.specs.Calls.{unchanged}
+use Rattle.calls.specs.Answers.{Pool, After, spotted, accepted, refused, cleared}
+use Rattle.calls.specs.Calls.{poolFits, unchanged}
 use Rattle.calls.specs.Records.{validSteps, recordAfter, AfterStep}
 use Rattle.calls.specs.Mend.{mendUnder}
 use Rattle.calls.specs.Carry.{carryOf}
@@ -23,15 +23,20 @@ use Rattle.fits_table.specs.Header.{tableIn}
 use Rattle.fits_table.specs.declared.cards.Table.{Table}
 use Rattle.exchange.specs.Tables.{readUnder}
 use Rattle.exchange.proofs.Exchanged.{was-read}
+use Rattle.reports.specs.declared.Report.{Report}
+use Rattle.reports.specs.Reports.{Tray, trayFits}
+use Rattle.reports.specs.Filing.{notFiled, leftBy, filingOf}
 use Rattle.histories.specs.Model.{Model, Request, lookUp, Made, made, starsEntered, fedAll, callsMade, fedBy}
-use Rattle.histories.specs.Call.{plain, mend, lost, carriedInto, carriedFrom, readFrom, writtenTo, isAccepted, onFile, step, effect, feeding, givenState, tableStars, tellsOfFile}
+use Rattle.histories.specs.Call.{plain, mend, lost, carriedInto, carriedFrom, readFrom, writtenTo, fileReports, combinedLookUp, addReport, isAccepted, onFile, step, effect, feeding, givenState, tableStars, tellsOfFile}
 use Rattle.histories.specs.Loss.{Loss, Underway, noCall, anEntry, aChange, aRemoval, lossFits, wholeCall, mendedAfter, sameFile, madeOf, counted}
+use Rattle.histories.specs.Filing.{begins, filingMade}
 use Rattle.histories.proofs.Matching.{Matches, ElementConforms}
 use Rattle.histories.proofs.Histories.{Conforming}
 use Rattle.histories.proofs.Under.{request-conforms}
 use Rattle.histories.proofs.GoesOn.{mend-stays, survives}
 use Rattle.histories.proofs.Cleaned.{Modelled}
 use Rattle.histories.proofs.Tables.{read-begins, read-undamaged, write-undamaged}
+use Rattle.histories.proofs.Filing.{sought-undamaged, added-undamaged, filing-unlent, filing-open, filing-begun, filed}
 use Rattle.histories.proofs.Carrying.{past, own-order, carried-on, carried-closed, carried-undamaged}
 
 same-request : (q : Request) (k : ℕ) → plain q ≡ plain (lookUp k) → q ≡ lookUp k
@@ -246,6 +251,81 @@ module _ (p : Parameters) (m : Model) (r : GrowthRecord) (f second : File) (x : 
         found = λ k z. absurd (not-output out k z);
       }
 
+  -- Filing the reports of a tray, the combined look-up, and adding a report: document 02 (xi).
+  module _ (t : Tray) (filter : List ℕ) where
+    not-filing : (k : ℕ) → fileReports t filter ≡ plain (lookUp k) → ⊥
+    not-filing k e = let z : _≡_ {A = ℕ} 0 1 = cc in omega arith
+
+    -- a filing that is refused before any report is tried
+    refuses : (l : Pool) (n : ℕ) → (n ≡ 5 → ⊥) → filingOf p r f pool t filter ≡ notFiled f l t filter n → begins p r f pool t filter ≡ false
+        → ElementConforms p m r f pool (fileReports t filter) (effect p r f second set pool (fileReports t filter))
+    unfolding effect feeding fedBy fedAll callsMade filingMade spotted
+    refuses l n h e d =
+        rw e
+        (record {
+          matches = rw d x;
+          undamaged = λ _. h;
+          each = rw d (λ c n z. absurd (List·Memᴰ·not-nil n));
+          found = λ k z. absurd (not-filing k z);
+        })
+
+    filing-conforms : ElementConforms p m r f pool (fileReports t filter) (effect p r f second set pool (fileReports t filter))
+    unfolding effect feeding fedBy callsMade filingMade leftBy
+    filing-conforms = go (poolFits p pool && trayFits t filter) refl (r .growing) refl
+      where
+        go : (b : Bool) → poolFits p pool && trayFits t filter ≡ b → (y : Bool) → r .growing ≡ y
+            → ElementConforms p m r f pool (fileReports t filter) (effect p r f second set pool (fileReports t filter))
+        go false b y g =
+            let e = filing-unlent p m r f second x pool t filter b in
+            refuses pool 2 (λ z. omega arith) (e .0) (e .1)
+        go true b true g =
+            let e = filing-open p m r f second x pool t filter b g in
+            refuses (cleared pool) 16 (λ z. omega arith) (e .0) (e .1)
+        go true b false g =
+            let e = filing-begun p m r f second x pool t filter b g in
+            let all = filed p m r f second x pool t filter g in
+            rw (e .0)
+            (record {
+              matches =
+                  rw (e .1)
+                  (record {
+                    growth = x .growth ∙ sym (all .growth);
+                    file = all .file;
+                    fitting = all .fitting;
+                    steps = x .steps;
+                    unfinished = λ z. absurd (true≢false (sym z ∙ g));
+                  });
+              undamaged = λ _. all .undamaged;
+              each = rw (e .1) (all .each);
+              found = λ k z. absurd (not-filing k z);
+            })
+
+    not-combined : (j k : ℕ) → combinedLookUp t filter j ≡ plain (lookUp k) → ⊥
+    not-combined j k e = let z : _≡_ {A = ℕ} 0 1 = cc in omega arith
+
+    combined-conforms : (k : ℕ) → ElementConforms p m r f pool (combinedLookUp t filter k) (effect p r f second set pool (combinedLookUp t filter k))
+    unfolding effect feeding fedBy fedAll callsMade
+    combined-conforms k =
+        record {
+          matches = x;
+          undamaged = λ _. sought-undamaged p m r f second x t filter k;
+          each = λ c n e. absurd (List·Memᴰ·not-nil n);
+          found = λ j z. absurd (not-combined k j z);
+        }
+
+    not-adding : (y : Report) (k : ℕ) → addReport t filter y ≡ plain (lookUp k) → ⊥
+    not-adding y k e = let z : _≡_ {A = ℕ} 0 1 = cc in omega arith
+
+    adding-conforms : (y : Report) → ElementConforms p m r f pool (addReport t filter y) (effect p r f second set pool (addReport t filter y))
+    unfolding effect feeding fedBy fedAll callsMade
+    adding-conforms y =
+        record {
+          matches = x;
+          undamaged = λ _. added-undamaged p m r f second x t filter y;
+          each = λ c n e. absurd (List·Memᴰ·not-nil n);
+          found = λ k z. absurd (not-adding y k z);
+        }
+
 -- one law for every element
 pub conforming : Conforming
 unfolding effect
@@ -256,3 +336,6 @@ conforming p m r f second x set pool (carriedInto old s source q g) = carried-co
 conforming p m r f second x set pool (carriedFrom q s) = read-conforms p m r f second x set pool q s
 conforming p m r f second x set pool (readFrom given q g) = table-conforms p m r f second x set pool given q g
 conforming p m r f second x set pool (writtenTo out) = written-conforms p m r f second x set pool out
+conforming p m r f second x set pool (fileReports t filter) = filing-conforms p m r f second x set pool t filter
+conforming p m r f second x set pool (combinedLookUp t filter k) = combined-conforms p m r f second x set pool t filter k
+conforming p m r f second x set pool (addReport t filter y) = adding-conforms p m r f second x set pool t filter y

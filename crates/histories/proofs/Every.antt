@@ -1,12 +1,14 @@
 -- Demand 3 and its corollaries.
 use mathlib.Core.Path.{_≡_, refl, sym, ap, subst, _∙_}
 use mathlib.Core.Bool.{Bool, true, false, not, cond, _&&_, true≢false}
+use mathlib.Core.List.{List}
 use mathlib.Core.Logic.{_⊎_}
 use mathlib.Core.Option.{some}
 use Prim.Native.Nat.{ℕ}
 use native.Mathlib.Omega.{arith}
 use lib.Dec.{eqb}
-use borrow.Author.Tests.{eqb-true}
+use lib.ListN.{length}
+use borrow.Author.Tests.{eqb-true, eq-eqb, le-leb}
 use Rattle.hashing.specs.declared.Parameters.{Parameters}
 use Rattle.pages.specs.declared.position.Position.{Position}
 use Rattle.pages.specs.Position.{validNumber, validPosition, validWord}
@@ -37,6 +39,14 @@ use Rattle.calls.specs.Records.{
   openUnder,
   stepUnder,
 }
+use Rattle.reports.specs.declared.Report.{Report}
+use Rattle.reports.specs.Reports.{Tray, waiting, trayFits, latestOr}
+use Rattle.reports.specs.TrayCalls.{soughtRefusal, plainAnswer, unfilteredOf}
+use Rattle.reports.specs.Filing.{AfterFiling, leftBy, filingOf}
+use Rattle.reports.specs.Exact.{fromZeros, calledAll, Exact}
+use Rattle.reports.proofs.Exact.{filter-exact}
+use Rattle.reports.proofs.Trying.{cleared-fits, cleared-twice, Begun}
+use Rattle.reports.proofs.Ended.{ended}
 use Rattle.histories.specs.Model.{
   Model,
   Request,
@@ -63,11 +73,12 @@ use Rattle.histories.specs.Model.{
   placeOn,
   answered,
 }
-use Rattle.histories.specs.Call.{mend, lost, Call, elementOf, callOf, isAccepted, finishes, Outcome, keepingPool, onFile, onOpening, onStep, step, effect, countsAs, feeding}
+use Rattle.histories.specs.Filing.{begins, filingMade}
+use Rattle.histories.specs.Call.{mend, lost, fileReports, combinedLookUp, addReport, Call, elementOf, callOf, isAccepted, finishes, Outcome, keepingPool, onFile, onOpening, onStep, step, effect, countsAs, feeding}
 use Rattle.histories.specs.Loss.{Loss, lossFits}
 use Rattle.histories.specs.Run.{HistoryState, Event, initial, outcome, fedThen, next, end}
 use Rattle.histories.specs.Theorem.{EveryHistory}
-use Rattle.histories.specs.Corollaries.{NotOwner, AcceptedAt, OutOfTurn, writes, AtRest, Mended, InHistory, EachState, SameContents, SameState, HistoryIndependence}
+use Rattle.histories.specs.Corollaries.{NotOwner, AcceptedAt, OutOfTurn, MeetsNoOwn, writes, AtRest, Mended, InHistory, EachState, SameContents, SameState, HistoryIndependence}
 use Rattle.histories.proofs.Entries.{determined, position-valid}
 use Rattle.histories.proofs.Fitting.{Fitting, hashFor, starsFor, rising-from, proper, in-range}
 use Rattle.histories.proofs.Guards.{lent, lent-pool}
@@ -83,6 +94,7 @@ use Rattle.histories.proofs.Histories.{Agrees, each-event, end-agrees, 
 use Rattle.histories.proofs.Make.{initial-agrees}
 use Rattle.histories.proofs.Under.{step-accepted, is-closed, is-opened}
 use Rattle.histories.proofs.GoesOn.{survives, mend-stays, mended-as-it-is}
+use Rattle.histories.proofs.Filing.{tray-lent, file-lent, filing-unlent, filing-open, filing-begun}
 use Rattle.histories.proofs.Elements.{conforming}
 
 pub every-history : EveryHistory
@@ -348,6 +360,81 @@ module _ (s : HistoryState) (agrees : Agrees s) (second : File) (pool : Pool) wh
         (sym (is-opened p (s .model) (s .growth) (s .file) (s .second) agrees growing))
         (step-accepted p (s .model) t (s .second) (s .growth .steps) (agrees .unfinished growing) pool fit))
 
+looked-up : (s : HistoryState) → Agrees s → (pool : Pool) (k : ℕ) → validNumber k ≡ true
+    → lookUpUnder (s .parameters) (s .growth) (s .file) pool k .answer ≡ answered (s .parameters) (s .model) k
+unfolding lookUpUnder
+looked-up s agrees pool k v = rw (agrees .steps, agrees .growth, agrees .file) (look-up-accepts (s .parameters) (s .model) (agrees .fitting) pool k v)
+
+plain-answer : (s : HistoryState) → Agrees s → (k : ℕ) → validNumber k ≡ true → plainAnswer (s .parameters) (s .growth) (s .file) k ≡ answered (s .parameters) (s .model) k
+unfolding plainAnswer
+plain-answer s agrees k v = looked-up s agrees unpooled k v
+
+-- Trays.
+tray-fits : (a : ℕ) (t : Tray) (bits : List ℕ) → Exact a t bits → trayFits t bits ≡ true
+unfolding trayFits
+tray-fits a t bits e = rw (eq-eqb (length (t .reports)) 256 (e .reportsLent), eq-eqb (length bits) 32 (e .filterLent), le-leb (t .count) 256 (e .counted))
+
+module _ (s : HistoryState) (agrees : Agrees s) (second : File) (pool : Pool) (t : Tray) (bits : List ℕ) where
+  abbrev here : Parameters
+  here = s .parameters
+
+  abbrev filingCall : Call
+  filingCall = elementOf pool second (fileReports t bits)
+
+  filing-stays : begins here (s .growth) (s .file) pool t bits ≡ false → next s filingCall ≡ s
+  unfolding next fedThen outcome effect feeding fedBy fedAll filingMade
+  filing-stays e = go (poolFits here pool && trayFits t bits) refl (s .growth .growing) refl
+    where
+      none : filingOf here (s .growth) (s .file) pool t bits .file ≡ s .file → next s filingCall ≡ s
+      none h = rw e (ap (λ (l : File). record { parameters = here; growth = s .growth; file = l; second = s .second; model = s .model }) h)
+
+      go : (b : Bool) → poolFits here pool && trayFits t bits ≡ b → (y : Bool) → s .growth .growing ≡ y → next s filingCall ≡ s
+      go false b y g = none (ap (λ (a : AfterFiling). a .file) (filing-unlent here (s .model) (s .growth) (s .file) (s .second) agrees pool t bits b .0))
+      go true b true g = none (ap (λ (a : AfterFiling). a .file) (filing-open here (s .model) (s .growth) (s .file) (s .second) agrees pool t bits b g .0))
+      go true b false g = absurd (true≢false (sym (filing-begun here (s .model) (s .growth) (s .file) (s .second) agrees pool t bits b g .1) ∙ e))
+
+  tray-calls-stay : ((k : ℕ) → next s (elementOf pool second (combinedLookUp t bits k)) ≡ s)
+      × ((x : Report) → next s (elementOf pool second (addReport t bits x)) ≡ s)
+      × (begins here (s .growth) (s .file) pool t bits ≡ false → next s filingCall ≡ s)
+  unfolding next fedThen outcome effect feeding fedBy fedAll
+  tray-calls-stay = ((λ k. refl), (λ x. refl), filing-stays)
+
+  combined-answers : Exact (here .multiplier) t bits → (k : ℕ) → validNumber k ≡ true
+      → outcome s (elementOf pool second (combinedLookUp t bits k)) .answer ≡ latestOr (here .pages) k (waiting t) (answered here (s .model) k)
+  unfolding outcome effect unfilteredOf soughtRefusal
+  combined-answers e k v =
+      e .looks here (s .growth) (s .file) k refl
+      ∙ rw (file-lent here (s .model) (s .growth) (s .file) (s .second) agrees, tray-lent here (s .model) (s .growth) (s .file) (s .second) agrees (trayFits t bits), tray-fits (here .multiplier) t bits e, v)
+      (ap (latestOr (here .pages) k (waiting t)) (plain-answer s agrees k v))
+
+  module _ (fit : poolFits here pool ≡ true) (lent : trayFits t bits ≡ true) where
+    both-fit : poolFits here pool && trayFits t bits ≡ true
+    both-fit = rw (fit, lent)
+
+    filing-turned-away : s .growth .growing ≡ true → OutOfTurn s filingCall
+    unfolding outcome effect
+    filing-turned-away g =
+        let e = filing-open here (s .model) (s .growth) (s .file) (s .second) agrees pool t bits both-fit g in
+        (ap (λ (a : AfterFiling). a .answer) (e .0), filing-stays (e .1))
+
+    filing-tries : s .growth .growing ≡ false → (begins here (s .growth) (s .file) pool t bits ≡ true) × MeetsNoOwn s filingCall
+    unfolding outcome effect leftBy
+    filing-tries g =
+        let e = filing-begun here (s .model) (s .growth) (s .file) (s .second) agrees pool t bits both-fit g in
+        let own = ended here (s .growth) (s .file) (cleared pool) (waiting t) ready .number in
+        (e .1, record { parameters = rw (e .0) (own .parameters); lengths = rw (e .0) (own .lengths); turn = rw (e .0) (own .turn) })
+      where
+        ready : Begun here (s .growth) (s .file) (cleared pool)
+        ready =
+            record {
+              steps = agrees .steps;
+              closed = g;
+              state = rw (agrees .growth, agrees .fitting .parameters, agrees .fitting .growth);
+              file = file-lent here (s .model) (s .growth) (s .file) (s .second) agrees;
+              pooled = cleared-fits here pool ∙ fit;
+              clear = cleared-twice pool;
+            }
+
 at-rest : (s : HistoryState) → Agrees s → (second : File) → s .growth .growing ≡ false → AtRest s second
 at-rest s agrees second rest =
     record {
@@ -360,6 +447,7 @@ at-rest s agrees second rest =
       shrinkFull = λ pool l d. rw (shrinks s agrees second pool rest, agrees .growth, agrees .file) (shrink-full (s .parameters) (s .model) (agrees .fitting) pool l d);
       opening = λ pool. opening s agrees second pool rest;
       stepping = λ pool. stepping s agrees second pool rest;
+      filing = λ pool t bits fit lent. filing-tries s agrees second pool t bits fit lent rest;
     }
 
 -- Mending, by itself and after a loss.
@@ -398,20 +486,24 @@ module _ (s : HistoryState) (agrees : Agrees s) (second : File) (pool : Pool) wh
       }
 
 in-history : (s : HistoryState) → Agrees s → (second : File) → InHistory s second
-unfolding outcome effect step checkUnder lookUpUnder
+unfolding outcome effect step checkUnder
 in-history s agrees second =
     record {
       clean = rw (agrees .growth, agrees .file) (clean-file (s .parameters) (s .model) (agrees .fitting));
       checked = λ pool e. rw (agrees .steps, agrees .growth, agrees .file) (check-accepts (s .parameters) (s .model) (agrees .fitting) pool e);
-      sought = λ pool k e. rw (agrees .steps, agrees .growth, agrees .file) (look-up-accepts (s .parameters) (s .model) (agrees .fitting) pool k e);
+      sought = λ pool k e. looked-up s agrees pool k e;
       cascades = λ pool caller k q. (does-as-entry s agrees second pool caller k q, counts-as-entry s agrees second pool caller k q);
       mends = λ pool. (mended-stays s agrees second pool, mended-accepted s agrees second pool);
       survives = λ pool. survived s agrees second pool;
+      trays = λ pool t bits. tray-calls-stay s agrees second pool t bits;
+      combined = λ pool cs one k v.
+          combined-answers s agrees second pool (calledAll fromZeros cs .tray) (calledAll fromZeros cs .filter) (filter-exact (s .parameters .multiplier) cs one) k v;
       steps = agrees .steps;
       atRest = at-rest s agrees second;
       whileOpen = λ e. record {
         writing = λ pool. written s agrees second pool e;
         opening = λ pool. reopened s agrees second pool e;
+        filing = λ pool t bits fit lent. filing-turned-away s agrees second pool t bits fit lent e;
         stepping = λ pool. steps-on s agrees second pool e;
       };
     }

@@ -1,7 +1,7 @@
 -- An observer's entries, changes and removals leave the stars of others, on every file.
 use mathlib.Core.Path.{_≡_, refl, sym, ap, _∙_}
 use mathlib.Core.Bool.{Bool, true, false, not, cond, _&&_}
-use mathlib.Core.List.{List, [], _∷_, List·Memᴰ, List·Memᴰ·eq-of-singleton}
+use mathlib.Core.List.{List, [], _∷_, List·Memᴰ, List·Memᴰ·head, List·Memᴰ·tail, List·Memᴰ·eq-of-singleton}
 use mathlib.Core.Logic.{⊎-elim}
 use mathlib.Core.Option.{none, some}
 use Prim.Native.Nat.{ℕ, zero, suc, _+_, _-_, _≤_}
@@ -34,9 +34,13 @@ use Rattle.calls.specs.Calls.{fileFits, poolFits, unless, orElse, unlent, guard
 use Rattle.calls.specs.declared.records.GrowthRecord.{GrowthRecord}
 use Rattle.calls.specs.Records.{validSteps, unlessOpen, enterUnder, cascadeUnder, changeUnder, removeUnder}
 use Rattle.calls.proofs.Refusals.{unlent-facts, sized}
+use Rattle.reports.specs.declared.Report.{Report}
+use Rattle.reports.specs.Reports.{waiting, trayFits, positionOf, isRemoval}
+use Rattle.reports.specs.TrayCalls.{trayRefusal}
+use Rattle.reports.specs.Filing.{removalFiled, positionFiled, reportFiled, oneMore, filedFrom, notFiled, filedUnless, leftBy, filingOf}
 use Rattle.histories.specs.Model.{lookUp, enter, cascade, change, remove, grow, shrink, due, check, openGrowth, stepGrowth, callerOf}
 use Rattle.histories.specs.Call.{step}
-use Rattle.histories.specs.Others.{copies, OthersUntouched}
+use Rattle.histories.specs.Others.{copies, OthersUntouched, ReportUntouched, FilingUntouched}
 use Rattle.histories.proofs.Copies.{count, same-owner, even, count-insert, count-kept, count-other, count-set, ruled-copies, cascaded-copies}
 use Rattle.histories.proofs.Alike.{place-below}
 use Rattle.histories.proofs.Fitting.{homed, in-range}
@@ -261,6 +265,57 @@ module _ (p : Parameters) (r : GrowthRecord) (f : File) (caller : ℕ) (observer
       either p (r .state) f caller observer s other (r .growing) _ _
       (λ _. past p (r .state) f caller observer s other pool (unlent p (r .state) lengths) _ (λ _. record { same = refl }))
       (λ _. h))
+
+-- A report, for its owner.
+pub report-untouched : ReportUntouched
+unfolding reportFiled removalFiled positionFiled enterUnder changeUnder removeUnder
+report-untouched p r f pool x observer s other =
+    split (isRemoval x) _ _
+    (λ _.
+    split (eqb (removeUnder p r f pool (x .owner) (x .number) .answer .refusal) 7) _ _
+    (λ _. record { same = refl })
+    (λ _. under-kept p r f (x .owner) observer s other _ pool _ (remove-kept p (r .state) f (x .owner) observer s other pool (x .number))))
+    (λ _.
+    split (eqb (changeUnder p r f pool (x .owner) (x .number) (positionOf x) .answer .refusal) 7) _ _
+    (λ _. under-kept p r f (x .owner) observer s other _ pool _ (enter-kept p (r .state) f (x .owner) observer s other pool (x .number) (positionOf x)))
+    (λ _. under-kept p r f (x .owner) observer s other _ pool _ (change-kept p (r .state) f (x .owner) observer s other pool (x .number) (positionOf x))))
+    .same
+  where
+    split : (t : Bool) (a b : After)
+        → (t ≡ true → Kept p (r .state) f (x .owner) observer s other a) → (t ≡ false → Kept p (r .state) f (x .owner) observer s other b)
+        → Kept p (r .state) f (x .owner) observer s other (cond t a b)
+    split = either p (r .state) f (x .owner) observer s other
+
+-- The reports of a filing.
+Strange : Star → List Report → Type 0
+Strange s xs = (x : Report) → List·Memᴰ x xs → (x .owner ≡ 0 → ⊥) × (s .payload .owner ≡ x .owner → ⊥)
+
+filed-untouched : (p : Parameters) (r : GrowthRecord) (pool : Pool) (s : Star) (xs : List Report) (f : File) → Strange s xs → copies s (filedFrom p r f pool xs .file) ≡ copies s f
+unfolding filedFrom Strange
+filed-untouched p r pool s [] f h = refl
+filed-untouched p r pool s (x ∷ xs) f h = go (eqb (after .answer .refusal) 0) (filed-untouched p r pool s xs (after .file) (λ y m. h y (List·Memᴰ·tail m)))
+  where
+    after : After
+    after = reportFiled p r f pool x
+
+    one : copies s (after .file) ≡ copies s f
+    one = report-untouched p r f pool x (h x (List·Memᴰ·head refl) .0) s (h x (List·Memᴰ·head refl) .1)
+
+    go : (b : Bool) → copies s (filedFrom p r (after .file) pool xs .file) ≡ copies s (after .file)
+        → copies s (cond b (oneMore (filedFrom p r (after .file) pool xs)) (record { filed = 0; answer = after .answer; file = after .file; rest = x ∷ xs }) .file) ≡ copies s f
+    go true ih = ih ∙ one
+    go false ih = one
+
+pub filing-untouched : FilingUntouched
+unfolding filingOf filedUnless leftBy Strange
+filing-untouched p r f pool t bits s h = go (trayRefusal p r (fileFits p f && (poolFits p pool && trayFits t bits))) (r .growing)
+  where
+    go : (n : ℕ) (b : Bool)
+        → copies s (filedUnless n f pool t bits (cond b (notFiled f (cleared pool) t bits 16) (leftBy (p .multiplier) (filedFrom p r f (cleared pool) (waiting t)) (cleared pool))) .file)
+        ≡ copies s f
+    go (suc n) b = refl
+    go zero true = refl
+    go zero false = filed-untouched p r (cleared pool) s (waiting t) f h
 
 pub others-untouched : OthersUntouched
 unfolding step callerOf enterUnder cascadeUnder changeUnder removeUnder

@@ -19,12 +19,18 @@ use Rattle.fits_table.specs.Header.{tableIn}
 use Rattle.fits_table.specs.declared.cards.Table.{Table}
 use Rattle.fits_table.specs.declared.cards.Table.the-variants.{Rows, Nothing}
 use Rattle.exchange.specs.Tables.{starsRead, readUnder, writeUnder}
+use Rattle.reports.specs.declared.Report.{Report}
+use Rattle.reports.specs.Reports.{Tray}
+use Rattle.reports.specs.TrayCalls.{addOf, combinedOf}
+use Rattle.reports.specs.Filing.{AfterFiling, filingOf}
 use Rattle.histories.specs.Model.{Request, lookUp, enter, cascade, change, remove, grow, shrink, due, check, openGrowth, stepGrowth, made, starsEntered, Feeding, goesOn, anew}
 use Rattle.histories.specs.Loss.{Loss, lossFits, wholeCall, mendedAfter, counted}
+use Rattle.histories.specs.Filing.{filingMade}
 
 -- A call that the book is fed as it is. A mending, and power lost, then a mending: document 02 (xii). Carrying another file, under its parameters and record,
 -- into this one, under given parameters and (e, x), and carrying this one into another, under its parameters and record: document 02 (viii). Reading a
--- table into this one, under given parameters and (e, x), and writing this one as a table: document 02 (vi).
+-- table into this one, under given parameters and (e, x), and writing this one as a table: document 02 (vi). Filing the reports of a tray, the combined
+-- look-up and adding a report, under this file's parameters and record, with whatever tray and filter: document 02 (xi).
 pub data Element : Type 0 where
   plain : Request → Element
   mend : Element
@@ -33,6 +39,9 @@ pub data Element : Type 0 where
   carriedFrom : Parameters → GrowthRecord → Element
   readFrom : List ℕ → Parameters → Growth → Element
   writtenTo : List ℕ → Element
+  fileReports : Tray → List ℕ → Element
+  combinedLookUp : Tray → List ℕ → ℕ → Element
+  addReport : Tray → List ℕ → Report → Element
 
 -- "any number, position and pool", and any caller: look-ups, changes and Dues leave the pool alone. `second` is the set of pages that is lent besides, of
 -- any contents and lengths: to an opening, to a step while nothing is open (02 (xiii)), to a carrying and to a reading.
@@ -150,6 +159,18 @@ unfoldable pub tableStars : List ℕ → Table → List Star
 tableStars given Nothing = []
 tableStars given (Rows n) = starsRead given n
 
+-- a filing leaves the record and the second set
+abbrev pub onFiling : Parameters → GrowthRecord → File → AfterFiling → Outcome
+onFiling p r second after =
+    record {
+      answer = after .answer;
+      parameters = p;
+      growth = r;
+      file = after .file;
+      second = second;
+      pool = after .pool;
+    }
+
 -- "a history goes on only after mending": a loss with other separators than M, or a pool that does not fit the mending, is no step
 unfoldable pub effect : Parameters → GrowthRecord → File → File → File → Pool → Element → Outcome
 effect p r f second lent pool (plain q) = step p r f second lent pool q
@@ -163,6 +184,9 @@ effect p r f second lent pool (carriedFrom q s) =
     onlyRead p r f second (carryOf p r f q s lent pool .pool) (carryOf p r f q s lent pool .answer)
 effect p r f second lent pool (readFrom given q g) = beginning p r f second q (asLent (givenState r g) (readUnder q (givenState r g) lent pool given))
 effect p r f second lent pool (writtenTo out) = onlyRead p r f second pool (writeUnder p r f out .answer)
+effect p r f second lent pool (fileReports t filter) = onFiling p r second (filingOf p r f pool t filter)
+effect p r f second lent pool (combinedLookUp t filter k) = onlyRead p r f second pool (combinedOf p r f t filter k)
+effect p r f second lent pool (addReport t filter x) = onlyRead p r f second pool (addOf p r t filter x .answer)
 
 -- "Histories read an unfinished growth as not begun, a finished one as accepted at step M": document 02 (xiii)
 unfoldable pub countsAs : GrowthRecord → Request → Outcome → Request
@@ -177,6 +201,9 @@ feeding p r f pool o (carriedInto old s source q g) = cond (isAccepted (o .answe
 feeding p r f pool o (carriedFrom q s) = goesOn []
 feeding p r f pool o (readFrom given q g) = cond (isAccepted (o .answer)) (anew g (starsEntered (tableStars given (tableIn given)))) (goesOn [])
 feeding p r f pool o (writtenTo out) = goesOn []
+feeding p r f pool o (fileReports t filter) = goesOn (filingMade p r f pool t filter)
+feeding p r f pool o (combinedLookUp t filter k) = goesOn []
+feeding p r f pool o (addReport t filter x) = goesOn []
 
 -- whether a 5 tells of this file: that of a carrying into it tells of the file it read
 unfoldable pub tellsOfFile : Element → Bool
@@ -187,3 +214,6 @@ tellsOfFile (carriedInto old s source q g) = false
 tellsOfFile (carriedFrom q s) = true
 tellsOfFile (readFrom given q g) = true
 tellsOfFile (writtenTo out) = true
+tellsOfFile (fileReports t filter) = true
+tellsOfFile (combinedLookUp t filter k) = true
+tellsOfFile (addReport t filter x) = true

@@ -15,9 +15,13 @@ use Rattle.placement.specs.File.{File, Clean}
 use Rattle.calls.specs.Answers.{Pool, accepted, refused, acceptedAt, refusedAt}
 use Rattle.calls.specs.Calls.{fileFits, poolFits, makeOf}
 use Rattle.calls.specs.Records.{validSteps, closedRecord}
+use Rattle.reports.specs.declared.Report.{Report}
+use Rattle.reports.specs.Reports.{Tray, waiting, trayFits, latestOr}
+use Rattle.reports.specs.Exact.{TrayCall, fromZeros, calledAll, OneMultiplier}
 use Rattle.histories.specs.Model.{Request, lookUp, enter, cascade, change, remove, grow, shrink, due, check, openGrowth, stepGrowth, setPosition, heldPosition, heldOwner, heldEntry, entryStars, pageFor, placeOn, answered}
 use Rattle.histories.specs.Loss.{Loss, lossFits, wholeCall}
-use Rattle.histories.specs.Call.{mend, lost, Call, elementOf, callOf}
+use Rattle.histories.specs.Filing.{begins}
+use Rattle.histories.specs.Call.{mend, lost, fileReports, combinedLookUp, addReport, Call, elementOf, callOf}
 use Rattle.histories.specs.Run.{HistoryState, Event, initial, outcome, next, events, end}
 
 -- refused with 13 and the place of star k, and no step: file, growth state and model stay
@@ -31,6 +35,12 @@ AcceptedAt now c k = outcome now c .answer ≡ acceptedAt (pageFor (now .paramet
 -- refused with 16, and no step
 abbrev pub OutOfTurn : HistoryState → Call → Type 0
 OutOfTurn now c = (outcome now c .answer ≡ refused 16 0) × (next now c ≡ now)
+
+-- refused with none of a filing's own refusals
+pub record MeetsNoOwn (now : HistoryState) (c : Call) : Type 0 where
+  pub parameters : outcome now c .answer .refusal ≡ 1 → ⊥
+  pub lengths : outcome now c .answer .refusal ≡ 2 → ⊥
+  pub turn : outcome now c .answer .refusal ≡ 16 → ⊥
 
 -- the kinds that write the file, but for a step
 unfoldable pub writes : Request → Bool
@@ -93,6 +103,10 @@ pub record AtRest (now : HistoryState) (second : File) : Type 0 where
   pub stepping :
       (pool : Pool) → poolFits (now .parameters) pool ≡ true → fileFits (now .parameters) second ≡ true
       → OutOfTurn now (callOf pool second stepGrowth)
+  -- a filing tries its reports, and none of 1, 2 and 16 stops it
+  pub filing :
+      (pool : Pool) (t : Tray) (bits : List ℕ) → poolFits (now .parameters) pool ≡ true → trayFits t bits ≡ true
+      → (begins (now .parameters) (now .growth) (now .file) pool t bits ≡ true) × MeetsNoOwn now (elementOf pool second (fileReports t bits))
 
 -- what holds between opening and step M
 pub record WhileOpen (now : HistoryState) (second : File) : Type 0 where
@@ -103,6 +117,10 @@ pub record WhileOpen (now : HistoryState) (second : File) : Type 0 where
   pub opening :
       (pool : Pool) → poolFits (now .parameters) pool ≡ true → fileFits (now .parameters) second ≡ true
       → OutOfTurn now (callOf pool second openGrowth)
+  -- so is a filing
+  pub filing :
+      (pool : Pool) (t : Tray) (bits : List ℕ) → poolFits (now .parameters) pool ≡ true → trayFits t bits ≡ true
+      → OutOfTurn now (elementOf pool second (fileReports t bits))
   -- a step is accepted, so the growth comes to its end
   pub stepping : (pool : Pool) → poolFits (now .parameters) pool ≡ true → outcome now (callOf pool second stepGrowth) .answer .refusal ≡ 0
 
@@ -137,6 +155,17 @@ pub record InHistory (now : HistoryState) (second : File) : Type 0 where
       × (poolFits (now .parameters) pool ≡ true → now .growth .growing ≡ false → outcome now (elementOf pool second mend) .answer ≡ accepted 0)
   -- after a power loss the history goes on
   pub survives : (pool : Pool) (l : Loss) → lossFits (now .parameters) l ≡ true → Mended now (elementOf pool second (lost l)) l
+  -- a combined look-up and an addition are no step, whatever tray and filter hold, nor is a filing that meets a refusal of its own
+  pub trays :
+      (pool : Pool) (t : Tray) (bits : List ℕ)
+      → ((k : ℕ) → next now (elementOf pool second (combinedLookUp t bits k)) ≡ now)
+      × ((x : Report) → next now (elementOf pool second (addReport t bits x)) ≡ now)
+      × (begins (now .parameters) (now .growth) (now .file) pool t bits ≡ false → next now (elementOf pool second (fileReports t bits)) ≡ now)
+  -- with a tray and filter left by their calls alone, under the file's multiplier, a combined look-up answers by the latest report, else as the model
+  pub combined :
+      (pool : Pool) (cs : List TrayCall) → OneMultiplier (now .parameters .multiplier) cs → (k : ℕ) → validNumber k ≡ true
+      → outcome now (elementOf pool second (combinedLookUp (calledAll fromZeros cs .tray) (calledAll fromZeros cs .filter) k)) .answer
+      ≡ latestOr (now .parameters .pages) k (waiting (calledAll fromZeros cs .tray)) (answered (now .parameters) (now .model) k)
   -- the steps done are "below M and 0 if none is open"
   pub steps : validSteps (now .parameters) (now .growth) ≡ true
   pub atRest : now .growth .growing ≡ false → AtRest now second

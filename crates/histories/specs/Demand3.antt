@@ -1,6 +1,7 @@
 -- Demand 3, all of it, and what follows of every history with it.
 use Rattle.histories.specs.Theorem.{EveryHistory}
 use Rattle.histories.specs.Corollaries.{EachState, HistoryIndependence}
+use Rattle.histories.specs.FilingCalls.{FilingIsCalls}
 use Rattle.histories.specs.Alike.{LookUpsAlike}
 
 pub record Demand3 : Type 0 where
@@ -15,8 +16,11 @@ pub record Demand3 : Type 0 where
   -- the entry, and "histories count it as one" (02 (ix)), a change or a removal of a held star is 13 "when the caller .. is neither the star's
   -- owner nor 0" and else accepted (02 (x)), and a shrink is refused with 9 exactly "when (e, x) is (0, 0)", and else with 8 exactly "if a star
   -- is carried past M−1" (02 (i)); "between opening and step M" every call that writes the file or opens a growth is 16 and no step, a step is accepted,
-  -- and else a step is 16 and an opening is refused as a growth (02 (xiii))
+  -- and else a step is 16 and an opening is refused as a growth (02 (xiii)); with a tray and filter "left by these calls alone" a combined look-up
+  -- answers by the latest report, else as the book, and it and an addition are no step (02 (xi))
   pub eachState : EachState
+  -- a filing, "each report tried as the call it made" (02 (xi)), leaves the file and the book that these calls leave
+  pub filingIsCalls : FilingIsCalls
   -- look-ups "that are alike" (02 (xiii)) get one answer: alike in number, parameters, "the whole growth record", lengths, separators
   -- and the page named
   pub lookUpsAlike : LookUpsAlike

@@ -134,7 +134,7 @@ impl History {
     }
 
     /// A call with the star's number and position, for its owner.
-    fn make_call(&self, kind: Kind, star: Star) -> Call {
+    pub fn make_call(&self, kind: Kind, star: Star) -> Call {
         let (ra, dec) = unpack(star.word);
         let (parameters, record) = (self.parameters, self.record);
         Call { caller: star.owner, number: star.number, ra, dec, ..Call::new(kind, parameters, record) }
@@ -386,7 +386,7 @@ impl History {
         lay_out(&self.parameters, growth, self.book.values().copied().collect())
     }
 
-    fn check_file(&self, tester: &mut Tester) {
+    pub fn check_file(&self, tester: &mut Tester) {
         let same = self.laid_out(&self.book_growth).is_some_and(|expected| self.same_file(&expected));
         tester.expect(same && self.record.growth == self.book_growth, "the file is not the book's");
         if self.record.open {

@@ -5,6 +5,7 @@ mod history;
 mod scenarios;
 mod tables;
 mod tester;
+mod trays;
 
 use interface::LIBRARY;
 use std::panic::{catch_unwind, AssertUnwindSafe};
@@ -15,7 +16,7 @@ use tester::Tester;
 /// A name, how often a quick run repeats it and a round of a soak, and what to do.
 type Scenario = (&'static str, u64, u64, fn(&mut Tester));
 
-const SCENARIOS: [Scenario; 29] = [
+const SCENARIOS: [Scenario; 33] = [
     ("tiny files", 12, 3, scenarios::tiny_files),
     ("edge histories", 20, 10, scenarios::edge_histories),
     ("small histories", 3_000, 1_000, scenarios::small_history),
@@ -45,10 +46,14 @@ const SCENARIOS: [Scenario; 29] = [
     ("carryings", 5_000, 1_500, carryings::carryings),
     ("large carryings", 8, 3, carryings::large_carryings),
     ("histories with carryings", 400, 150, carryings::histories_with_carryings),
+    ("histories with trays", 600, 200, trays::histories_with_trays),
+    ("any trays", 8_000, 2_500, trays::any_trays),
+    ("full trays", 60, 20, trays::full_trays),
+    ("large filings", 4, 2, trays::large_filings),
 ];
 
 /// The refusals that calls meet, after 0 for none.
-const REFUSALS: [usize; 16] = [0, 1, 2, 3, 4, 5, 6, 7, 8, 9, 10, 11, 12, 13, 15, 16];
+const REFUSALS: [usize; 17] = [0, 1, 2, 3, 4, 5, 6, 7, 8, 9, 10, 11, 12, 13, 14, 15, 16];
 
 struct Totals {
     tester: Tester,

@@ -300,7 +300,8 @@ fn session(tester: &mut Tester, parameters: Parameters, growth: Growth, mut lent
         let (ra, dec) = resent.unwrap_or_else(|| tester.random.position());
         let caller = random_caller(&mut tester.random);
         let stores = random_stores(&mut tester.random);
-        let call = Call { caller, number, ra, dec, stores, ..Call::new(kind, parameters, record) };
+        let removed = tester.random.pick(&[0, 0, 1, 2]);
+        let call = Call { caller, number, ra, dec, removed, stores, ..Call::new(kind, parameters, record) };
         let (outcome, after) = tester.compare(&call, &lent);
         (lent, record) = (after, outcome.record);
         if finishes(&call, &outcome) {

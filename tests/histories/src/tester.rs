@@ -148,7 +148,7 @@ impl Tester {
     pub fn every_call(&mut self, parameters: Parameters, record: Record, lent: &Buffers, numbers: &[u32]) {
         for kind in LIBRARY.kinds() {
             let mut lent = lent.clone();
-            if kind.takes_table() {
+            if kind.takes_table() || kind.takes_tray() {
                 lend(&mut self.random, kind, &mut lent);
             }
             let lent = &lent;
@@ -157,7 +157,8 @@ impl Tester {
                 let (ra, dec) = self.random.position();
                 let caller = random_caller(&mut self.random);
                 let stores = random_stores(&mut self.random);
-                let call = Call { caller, number, ra, dec, stores, ..Call::new(kind, parameters, record) };
+                let removed = self.random.pick(&[0, 0, 1, 255]);
+                let call = Call { caller, number, ra, dec, removed, stores, ..Call::new(kind, parameters, record) };
                 self.compare(&call, lent);
                 let enters = kind.enters() || kind == Kind::EnterStopped;
                 if let (true, Some((ra, dec))) = (enters, stored(lent, number)) {
@@ -181,7 +182,7 @@ impl Tester {
         let small = random.below(40) as u32;
         let value = random.pick(&[0, 1, 8, 9, 32, 33, 99, 100, 256, 257, 1_024, 1_025, u32::MAX, any, small, small]);
         let p = &mut call.parameters;
-        match random.below(33) {
+        match random.below(37) {
             0 => p.places = value,
             1 => p.groups = value,
             2 => p.width = value,
@@ -214,6 +215,10 @@ impl Tester {
             29 => call.new_parameters.pages = value,
             30 => call.new_record.steps = random.pick(&[0, 1, value]),
             31 => (call.new_record.open, call.new_record.growth.expanded) = (random.once_in(2), small),
+            32 => resize(random, &mut lent.tray.reports),
+            33 => resize(random, &mut lent.tray.filter),
+            34 => lent.tray.count = random.pick(&[0, 255, 256, 257, value]),
+            35 => call.removed = random.pick(&[0, 1, 2, 255]),
             _ => {
                 call.ra = random.pick(&[0, 1_295_999_999, 1_296_000_000, u32::MAX, any]);
                 call.dec = random.pick(&[-324_000_001, -324_000_000, 324_000_000, 324_000_001, i32::MIN, any as i32]);

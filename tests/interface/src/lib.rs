@@ -1,13 +1,14 @@
 //! The calls of the library that ships, crate heatherplane's, linked from its static archive; and two functions of crate
 //! starfile_tests, which no host needs.
 
-use model::{Buffers, Call, Growth, Implementation, Kind, Outcome, Parameters, Record};
+use model::tray::Report;
+use model::{Buffers, Call, Growth, Implementation, Kind, Outcome, Parameters, Record, Refused};
 use std::sync::OnceLock;
 
 /// The requests of document 02 that have landed in the library.
-pub const LANDED: &[u32] = &[1, 2, 3, 4, 5, 6, 7, 8, 9, 10, 12, 13, 14];
+pub const LANDED: &[u32] = &[1, 2, 3, 4, 5, 6, 7, 8, 9, 10, 11, 12, 13, 14];
 
-pub const LIBRARY: Implementation = Implementation { run, landed: LANDED };
+pub const LIBRARY: Implementation = Implementation { run, landed: LANDED, missing: &[] };
 
 /// include/heatherplane.h's growth record and reply.
 #[repr(C)]
@@ -16,6 +17,13 @@ struct CRecord {
     expanded: u32,
     open: u32,
     steps: u32,
+}
+
+impl CRecord {
+    fn of(record: &Record) -> CRecord {
+        let Record { growth: Growth { expansions, expanded }, open, steps } = *record;
+        CRecord { expansions, expanded, open: open.into(), steps }
+    }
 }
 
 #[repr(C)]
@@ -41,6 +49,28 @@ impl Reply {
     }
 }
 
+/// What adding a report and a filing answer.
+#[repr(C)]
+struct Added {
+    refusal: u32,
+    count: u32,
+}
+
+#[repr(C)]
+struct Filed {
+    refusal: u32,
+    page: u32,
+    place: u32,
+    filed: u32,
+    count: u32,
+}
+
+#[repr(C)]
+struct Bits {
+    refusal: u32,
+    bits: u32,
+}
+
 /// Calls a function of a library by the parts that it takes, in their order, with those of a call and of the lent buffers. Each slice is
 /// a pointer and a length in items.
 macro_rules! c {
@@ -61,6 +91,10 @@ macro_rules! c {
     };
     (@ $exports:ident $reply:ident $call:ident $lent:ident [$($t:tt)*] [$($v:tt)*] record_struct $($rest:ident)*) => {
         c!(@ $exports $reply $call $lent [$($t)* Record,] [$($v)* $call.record,] $($rest)*)
+    };
+    // As the tray's calls take them.
+    (@ $exports:ident $reply:ident $call:ident $lent:ident [$($t:tt)*] [$($v:tt)*] values $($rest:ident)*) => {
+        c!(@ $exports $reply $call $lent [$($t)* Parameters, CRecord,] [$($v)* $call.parameters, CRecord::of(&$call.record),] $($rest)*)
     };
     (@ $exports:ident $reply:ident $call:ident $lent:ident [$($t:tt)*] [$($v:tt)*] new_structs $($rest:ident)*) => {
         c!(@ $exports $reply $call $lent [$($t)* Parameters, Record,] [$($v)* $call.new_parameters, $call.new_record,] $($rest)*)
@@ -123,6 +157,23 @@ macro_rules! c {
     (@ $exports:ident $reply:ident $call:ident $lent:ident [$($t:tt)*] [$($v:tt)*] given $($rest:ident)*) => {
         c!(@ $exports $reply $call $lent [$($t)* *const u8, usize,] [$($v)* $lent.table.as_ptr(), $lent.table.len(),] $($rest)*)
     };
+    (@ $exports:ident $reply:ident $call:ident $lent:ident [$($t:tt)*] [$($v:tt)*] tray $($rest:ident)*) => {
+        c!(@ $exports $reply $call $lent [$($t)* *mut Report, usize, u32, *mut u64, usize,] [$($v)*
+            $lent.tray.reports.as_mut_ptr(), $lent.tray.reports.len(), $lent.tray.count,
+            $lent.tray.filter.as_mut_ptr(), $lent.tray.filter.len(),
+        ] $($rest)*)
+    };
+    (@ $exports:ident $reply:ident $call:ident $lent:ident [$($t:tt)*] [$($v:tt)*] read_tray $($rest:ident)*) => {
+        c!(@ $exports $reply $call $lent [$($t)* *const Report, usize, u32, *const u64, usize,] [$($v)*
+            $lent.tray.reports.as_ptr(), $lent.tray.reports.len(), $lent.tray.count,
+            $lent.tray.filter.as_ptr(), $lent.tray.filter.len(),
+        ] $($rest)*)
+    };
+    (@ $exports:ident $reply:ident $call:ident $lent:ident [$($t:tt)*] [$($v:tt)*] report $($rest:ident)*) => {
+        c!(@ $exports $reply $call $lent [$($t)* Report,] [$($v)*
+            Report { number: $call.number, ra: $call.ra, dec: $call.dec, owner: $call.caller, removed: $call.removed },
+        ] $($rest)*)
+    };
     (@ $exports:ident $reply:ident $call:ident $lent:ident [$($t:tt)*] [$($v:tt)*] caller $($rest:ident)*) => {
         c!(@ $exports $reply $call $lent [$($t)* u8,] [$($v)* $call.caller,] $($rest)*)
     };
@@ -146,6 +197,7 @@ extern "C" {
         new: *const u8, new_length: usize,
         marks: *mut u8, marks_length: usize,
     ) -> u32;
+    fn heatherplane_filter_bits(filter: *const u64, filter_length: usize) -> Bits;
     fn sft_scrambled(multiplier: u32, j: usize, number: u32) -> u32;
     fn sft_rank(step: u32, count: u32, group: u32) -> u32;
 }
@@ -179,6 +231,13 @@ pub fn mark_changed(p: &Parameters, growth: &Growth, old: &[u8], new: &[u8], mar
     }
 }
 
+/// The refusal, if any, and how many bits of a filter are set.
+pub fn filter_bits(filter: &[u64]) -> (u32, u32) {
+    // SAFETY: pointer and length are those of a slice which lives through the call.
+    let Bits { refusal, bits } = unsafe { heatherplane_filter_bits(filter.as_ptr(), filter.len()) };
+    (refusal, bits)
+}
+
 /// Xj(K) under a multiplier, 0 unless it is one of the two and j is from 1 to 2,049.
 pub fn x(multiplier: u32, j: u64, number: u64) -> u64 {
     // SAFETY: the library takes any numbers.
@@ -209,7 +268,7 @@ pub struct Exports {
 }
 
 /// What follows `heatherplane_` and, in older libraries, `sft_`.
-const NAMES: [(Kind, &str, &str); 19] = [
+const NAMES: [(Kind, &str, &str); 22] = [
     (Kind::Make, "make", "make"),
     (Kind::LookUp, "look_up", "look_up"),
     (Kind::Enter, "enter", "enter"),
@@ -229,6 +288,9 @@ const NAMES: [(Kind, &str, &str); 19] = [
     (Kind::Write, "write_table", "write"),
     (Kind::Read, "read_table", "read"),
     (Kind::Carry, "carry", "carry"),
+    (Kind::Report, "add_report", "add_report"),
+    (Kind::Combined, "look_up_with_tray", "look_up_with_tray"),
+    (Kind::Filing, "file_reports", "file_reports"),
 ];
 
 impl Exports {
@@ -259,6 +321,8 @@ impl Exports {
     /// Runs one call.
     pub fn run(&self, call: &Call, lent: &mut Buffers) -> Outcome {
         let outcome = match self.form {
+            _ if call.kind == Kind::Report => return add_report(self, call, lent),
+            _ if call.kind == Kind::Filing => return file_reports(self, call, lent),
             Form::Numbers => numbers(self, call, lent).outcome(),
             Form::Structs => structs(self, call, lent).outcome(),
         };
@@ -293,7 +357,25 @@ fn numbers(e: &Exports, call: &Call, lent: &mut Buffers) -> Reply {
         Kind::Write => c!(e, call, lent -> Reply: parameters record read out),
         Kind::Read => c!(e, call, lent -> Reply: parameters record written pool given),
         Kind::Carry => c!(e, call, lent -> Reply: parameters record read new second pool),
+        Kind::Combined => c!(e, call, lent -> Reply: values read read_tray number),
         kind => panic!("the library has no {}", kind.name()),
+    }
+}
+
+fn add_report(e: &Exports, call: &Call, lent: &mut Buffers) -> Outcome {
+    let Added { refusal, count } = c!(e, call, lent -> Added: values tray report);
+    lent.tray.count = count;
+    Outcome { refusal, record: call.record, ..Outcome::default() }
+}
+
+/// The filing's own refusals are 1, 2 and 16; any other is that of the report at which it stopped.
+fn file_reports(e: &Exports, call: &Call, lent: &mut Buffers) -> Outcome {
+    let Filed { refusal, page, place, filed, count } = c!(e, call, lent -> Filed: values written pool tray);
+    lent.tray.count = count;
+    let none = Outcome { filed, record: call.record, ..Outcome::default() };
+    match refusal {
+        1 | 2 | 16 => Outcome { refusal, page, place, ..none },
+        _ => Outcome { inner: Refused { refusal, page, place }, ..none },
     }
 }
 
@@ -359,7 +441,8 @@ linked_functions! {
     heatherplane_make heatherplane_look_up heatherplane_enter heatherplane_cascade heatherplane_change heatherplane_remove
     heatherplane_grow heatherplane_shrink heatherplane_due heatherplane_check heatherplane_open_growth heatherplane_step_growth
     heatherplane_enter_stopped heatherplane_change_stopped heatherplane_remove_stopped heatherplane_mend
-    heatherplane_write_table heatherplane_read_table heatherplane_carry
+    heatherplane_write_table heatherplane_read_table heatherplane_carry heatherplane_add_report
+    heatherplane_look_up_with_tray heatherplane_file_reports
 }
 
 /// The library that is linked.

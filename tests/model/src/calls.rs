@@ -64,7 +64,7 @@ fn attempt(call: &Call, lent: &mut Buffers) -> Result<Outcome, Refusal> {
     if call.kind.takes_number() && !(1..=HIGHEST_NUMBER).contains(&call.number) {
         return refuse(3);
     }
-    let position_read = call.kind.takes_position() && !(call.kind == Kind::Report && call.removed);
+    let position_read = call.kind.takes_position() && !(call.kind == Kind::Report && call.removed != 0);
     if position_read && !position_valid(call.ra, call.dec) {
         return refuse(4);
     }
@@ -112,8 +112,8 @@ fn add_report(call: &Call, lent: &mut Buffers) -> Result<(), Refusal> {
     if lent.tray.count as usize == PLACES {
         return refuse(14);
     }
-    let star = Star { number: call.number, word: pack(call.ra, call.dec), owner: call.caller };
-    lent.tray.add(call.parameters.multiplier, Report::new(star, call.removed));
+    let Call { number, ra, dec, caller: owner, removed, .. } = *call;
+    lent.tray.add(call.parameters.multiplier, Report { number, ra, dec, owner, removed }.stored());
     Ok(())
 }
 
@@ -124,8 +124,8 @@ fn combined(call: &Call, file: &mut File) -> Result<Outcome, Refusal> {
     };
     let none = Outcome { page: call.parameters.pages, ..unchanged(call) };
     match report {
-        Report { removed: true, .. } => Ok(none),
-        Report { ra, dec, .. } => Ok(Outcome { found: 1, ra, dec, ..none }),
+        Report { removed: 0, ra, dec, .. } => Ok(Outcome { found: 1, ra, dec, ..none }),
+        _ => Ok(none),
     }
 }
 
@@ -147,6 +147,7 @@ fn file_reports(call: &Call, lent: &mut Buffers) -> Outcome {
 /// A held star is changed or removed, another entered; a removal of a star not held does nothing.
 fn file_report(call: &Call, report: Report, lent: &mut Buffers) -> Outcome {
     let Report { number, ra, dec, owner: caller, removed } = report;
+    let removed = removed != 0;
     let mut run = |kind| run(&Call { kind, caller, number, ra, dec, ..*call }, lent);
     match run(if removed { Kind::Remove } else { Kind::Change }) {
         Outcome { refusal: 7, .. } if removed => unchanged(call),

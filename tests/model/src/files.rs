@@ -4,6 +4,7 @@ use crate::fits;
 use crate::hashing::{grown, highest_address, home, signature, MULTIPLIERS};
 use crate::placement::{lay_out, pack, word_valid, write, Page, Star};
 use crate::random::Random;
+use crate::tray::{filter_of, Report, Tray, PLACES, WORDS};
 use crate::{Buffers, Growth, Kind, Pages, Parameters, Record};
 
 /// One of the two multipliers.
@@ -192,12 +193,47 @@ pub fn second_after(parameters: &Parameters, grown: &Pages, steps: u32) -> Pages
     second
 }
 
-/// What a kind takes beside the file: anything in the pool, and a table or room for one.
+/// A report on a star of the file or another, seldom one that no call would have added.
+pub fn random_report(random: &mut Random, lent: &Buffers) -> Report {
+    let held = lent.file.numbers.get(random.below(lent.file.numbers.len().max(1) as u64) as usize);
+    let number = held.copied().filter(|&number| number != 0 && random.once_in(2));
+    let (ra, dec) = random.position();
+    let removed = random.pick(&[0, 0, 0, 1, 1, 2, 255]);
+    let number = number.unwrap_or_else(|| random.star_number());
+    let report = Report { number, ra, dec, owner: random_caller(random), removed };
+    match random.below(60) {
+        0 => Report { number: random.pick(&[0, 2_147_483_647, u32::MAX]), ..report },
+        1 => Report { ra: random.pick(&[1_296_000_000, u32::MAX]), ..report },
+        2 => Report { dec: random.pick(&[-324_000_001, 324_000_001, i32::MIN]), ..report },
+        _ => report.stored(),
+    }
+}
+
+/// A tray of the right lengths with any reports, also behind the count, and any filter or the one of its reports.
+pub fn random_tray(random: &mut Random, lent: &mut Buffers) {
+    let few = random.below(7) as usize;
+    let many = random.pick(&[20, 20, 20, PLACES]);
+    let count = random.pick(&[0, 1, few, few, few, few, few, few, many]);
+    let behind = random.once_in(3);
+    let mut tray = Tray { count: count as u32, ..Tray::zeros() };
+    for place in (0..PLACES).filter(|&place| place < count || behind) {
+        tray.reports[place] = random_report(random, lent);
+    }
+    tray.filter = match random.below(5) {
+        0 => (0..WORDS).map(|_| random.draw()).collect(),
+        1 => vec![random.pick(&[0, u64::MAX]); WORDS],
+        _ => filter_of(random_multiplier(random), tray.waiting()),
+    };
+    lent.tray = tray;
+}
+
+/// What a kind takes beside the file: anything in the pool, a table or room for one, and now and then another tray.
 pub fn lend(random: &mut Random, kind: Kind, lent: &mut Buffers) {
     random_pool(random, lent);
     match kind {
         Kind::Write => random_output(random, lent),
         Kind::Read => random_table(random, lent),
+        kind if kind.takes_tray() && random.once_in(2) => random_tray(random, lent),
         _ => {}
     }
 }

@@ -25,7 +25,7 @@ pub const LANDED: &[u32] = &[1, 2, 3, 4, 5, 6, 7, 8, 9, 10, 11, 12, 13, 14];
 /// Of a star.
 pub const HIGHEST_NUMBER: u32 = 2_147_483_646;
 
-pub const MODEL: Implementation = Implementation { run, landed: LANDED };
+pub const MODEL: Implementation = Implementation { run, landed: LANDED, missing: &[] };
 
 /// The documents' b, N, n0, s, k, A and M, and the generator's multiplier.
 #[repr(C)]
@@ -250,8 +250,8 @@ pub struct Call {
     pub number: u32,
     pub ra: u32,
     pub dec: i32,
-    /// A report's mark.
-    pub removed: bool,
+    /// A report's mark for "removed": any number but 0.
+    pub removed: u8,
     /// After how many stores a stopped form stops.
     pub stores: u32,
     /// The new file's, of a carrying.
@@ -264,13 +264,19 @@ pub struct Call {
 pub struct Implementation {
     pub run: fn(&Call, &mut Buffers) -> Outcome,
     pub landed: &'static [u32],
+    /// The calls of these requests that are not there yet.
+    pub missing: &'static [Kind],
 }
 
 impl Implementation {
     /// The calls that it has.
     pub fn kinds(&self) -> Vec<Kind> {
-        let has = |kind: &Kind| kind.request() == 0 || self.landed.contains(&kind.request());
-        Kind::ALL.into_iter().filter(has).collect()
+        Kind::ALL.into_iter().filter(|&kind| self.has(kind)).collect()
+    }
+
+    pub fn has(&self, kind: Kind) -> bool {
+        let landed = kind.request() == 0 || self.landed.contains(&kind.request());
+        landed && !self.missing.contains(&kind)
     }
 }
 
@@ -324,7 +330,7 @@ impl Call {
     /// With zeros for all else; a carrying is to a file like this one under the other multiplier.
     pub fn new(kind: Kind, parameters: Parameters, record: Record) -> Call {
         let (new_parameters, new_record) = (parameters.carried(), Record::closed(record.growth));
-        let (caller, number, ra, dec, removed, stores) = (0, 0, 0, 0, false, 0);
+        let (caller, number, ra, dec, removed, stores) = (0, 0, 0, 0, 0, 0);
         Call { kind, parameters, record, caller, number, ra, dec, removed, stores, new_parameters, new_record }
     }
 

@@ -1,7 +1,6 @@
 //! The tray of star reports and the filter beside it: document 02 (xi).
 
 use crate::hashing::x;
-use crate::placement::Star;
 
 /// The places of a tray.
 pub const PLACES: usize = 256;
@@ -15,7 +14,8 @@ pub struct Report {
     pub ra: u32,
     pub dec: i32,
     pub owner: u8,
-    pub removed: bool,
+    /// The mark for "removed": any number but 0.
+    pub removed: u8,
 }
 
 #[derive(Clone, Debug, Default, PartialEq, Eq)]
@@ -97,8 +97,8 @@ pub fn filter_of(multiplier: u32, reports: &[Report]) -> Vec<u64> {
 
 impl Report {
     /// The position of a removal is not read, and stored as 0, 0.
-    pub fn new(star: Star, removed: bool) -> Report {
-        let (ra, dec) = if removed { (0, 0) } else { crate::placement::unpack(star.word) };
-        Report { number: star.number, ra, dec, owner: star.owner, removed }
+    pub fn stored(self) -> Report {
+        let (ra, dec) = if self.removed == 0 { (self.ra, self.dec) } else { (0, 0) };
+        Report { ra, dec, ..self }
     }
 }

@@ -171,7 +171,7 @@ impl<'a> Reader<'a> {
         (call.number, call.ra, call.dec) = (value(args[0])?, value(args[1])?, value(args[2])?);
         if self.owned {
             call.caller = value(args[3])?;
-            (call.removed, call.stores) = (value::<u8>(args[4])? != 0, value(args[5])?);
+            (call.removed, call.stores) = (value(args[4])?, value(args[5])?);
         }
         let mut outcome = self.outcome()?;
         let mut afterwards = call;
@@ -193,8 +193,8 @@ fn report(fields: &[&str]) -> Result<Report, String> {
     let [number, ra, dec, owner, removed] = fields else {
         return Err("reports: five values each were expected".to_string());
     };
-    let (number, ra, dec, owner) = (value(number)?, value(ra)?, value(dec)?, value(owner)?);
-    Ok(Report { number, ra, dec, owner, removed: value::<u8>(removed)? != 0 })
+    let (number, ra, dec) = (value(number)?, value(ra)?, value(dec)?);
+    Ok(Report { number, ra, dec, owner: value(owner)?, removed: value(removed)? })
 }
 
 /// Each vector of a text with the line at which it starts, or what hinders an implementation with these requests from
@@ -218,6 +218,7 @@ pub fn run_files(files: impl Iterator<Item = String>, run: Implementation) -> bo
         };
         for (line, vector) in vectors {
             let differences = match vector {
+                Ok(vector) if !run.has(vector.call.kind) => vec![format!("no {} yet", vector.call.kind.name())],
                 Ok(vector) => vector.differences(run),
                 Err(error) => vec![error],
             };
@@ -264,7 +265,7 @@ impl Vector {
         put(&mut text, "landed", landed);
         put(&mut text, "call", &[kind.name()]);
         put_lent(&mut text, &self.call, &record, &self.before, false);
-        writeln!(text, "args {number} {ra} {dec} {caller} {} {stores}", removed as u8).unwrap();
+        writeln!(text, "args {number} {ra} {dec} {caller} {removed} {stores}").unwrap();
         let Outcome { refusal, page, place, found, ra, dec, due, stars, length, filed, inner, record } = self.outcome;
         write!(text, "answer {refusal} {page} {place} {found} {ra} {dec} {due} {stars}").unwrap();
         writeln!(text, " {length} {filed} {} {} {}", inner.refusal, inner.page, inner.place).unwrap();
@@ -314,7 +315,7 @@ fn put_tray(text: &mut String, tray: &Tray) {
     write!(text, "reports {}", tray.reports.len()).unwrap();
     let last = tray.reports.iter().rposition(|report| *report != Report::default());
     for Report { number, ra, dec, owner, removed } in &tray.reports[..last.map_or(0, |last| last + 1)] {
-        write!(text, " {number} {ra} {dec} {owner} {}", *removed as u8).unwrap();
+        write!(text, " {number} {ra} {dec} {owner} {removed}").unwrap();
     }
     text.push('\n');
     put(text, "filter", &tray.filter);

@@ -1,0 +1,5 @@
+pub mod Given
+pub mod Refused
+pub mod Sought
+pub mod Filed
+pub mod LentRead

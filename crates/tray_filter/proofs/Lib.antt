@@ -1,0 +1,3 @@
+pub mod Anew
+pub mod Hashing
+pub mod Ones
