@@ -20,7 +20,7 @@ pub fn mark_changed(
     new: &[u8],
     marks: &mut [u8],
 ) -> u32
-    ensures { λ r. ⌜ told r (now (marks .exit)) ≡ markingOf parameters growth (now (old .entry)) (now (new .entry)) (now (marks .entry)) ⌝ }
+    ensures answer { λ r. ⌜ told r (now (marks .exit)) ≡ markingOf parameters growth (now (old .entry)) (now (new .entry)) (now (marks .entry)) ⌝ }
 {
     let refusal = refusal_of(parameters, growth, old.len(), new.len(), marks.len());
     if refusal != 0 {

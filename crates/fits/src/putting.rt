@@ -74,7 +74,7 @@ pub fn write_table(
     owners: &[u8],
     out: &mut [u8],
 ) -> Written
-    ensures { λ r. ⌜ Writes (writeUnder parameters growth (before separators numbers words owners) (now (out .entry))) (lengthSaid r) (now (out .exit)) ⌝ }
+    ensures leaves { λ r. ⌜ Writes (writeUnder parameters growth (before separators numbers words owners) (now (out .entry))) (lengthSaid r) (now (out .exit)) ⌝ }
 {
     let fits = file_fits(
         parameters,

@@ -137,7 +137,7 @@ pub fn read_table(
     poolowners: &mut [u8],
     given: &[u8],
 ) -> Placed
-    ensures { λ r. ⌜ Leaves (readUnder parameters growth (before separators numbers words owners) (poolBefore poolnumbers poolwords poolowners) (now (given .entry)))
+    ensures leaves { λ r. ⌜ Leaves (readUnder parameters growth (before separators numbers words owners) (poolBefore poolnumbers poolwords poolowners) (now (given .entry)))
         (placed r) (after separators numbers words owners) (poolAfter poolnumbers poolwords poolowners) ⌝ }
 {
     if !at_rest(growth) {

@@ -22,9 +22,9 @@ pub fn grow(
     poolwords: &mut [u64],
     poolowners: &mut [u8],
 ) -> Placed
-    ensures { λ r. ⌜ Leaves (growUnder parameters (now (growth .entry)) (before separators numbers words owners) (poolBefore poolnumbers poolwords poolowners))
+    ensures leaves { λ r. ⌜ Leaves (growUnder parameters (now (growth .entry)) (before separators numbers words owners) (poolBefore poolnumbers poolwords poolowners))
         (placed r) (after separators numbers words owners) (poolAfter poolnumbers poolwords poolowners) ⌝ }
-    ensures { λ _. ⌜ now (growth .exit) ≡ recordAfter (now (growth .entry))
+    ensures growth_after { λ _. ⌜ now (growth .exit) ≡ recordAfter (now (growth .entry))
         (growUnder parameters (now (growth .entry)) (before separators numbers words owners) (poolBefore poolnumbers poolwords poolowners)) ⌝ }
 {
     let old = *growth;
@@ -55,9 +55,9 @@ pub fn shrink(
     poolwords: &mut [u64],
     poolowners: &mut [u8],
 ) -> Placed
-    ensures { λ r. ⌜ Leaves (shrinkUnder parameters (now (growth .entry)) (before separators numbers words owners) (poolBefore poolnumbers poolwords poolowners))
+    ensures leaves { λ r. ⌜ Leaves (shrinkUnder parameters (now (growth .entry)) (before separators numbers words owners) (poolBefore poolnumbers poolwords poolowners))
         (placed r) (after separators numbers words owners) (poolAfter poolnumbers poolwords poolowners) ⌝ }
-    ensures { λ _. ⌜ now (growth .exit) ≡ recordAfter (now (growth .entry))
+    ensures growth_after { λ _. ⌜ now (growth .exit) ≡ recordAfter (now (growth .entry))
         (shrinkUnder parameters (now (growth .entry)) (before separators numbers words owners) (poolBefore poolnumbers poolwords poolowners)) ⌝ }
 {
     let old = *growth;
@@ -92,7 +92,7 @@ pub fn open_growth(
     poolwords: &mut [u64],
     poolowners: &mut [u8],
 ) -> Placed
-    ensures { λ r. ⌜ LeavesStep (openUnder parameters (now (growth .entry)) (before separators numbers words owners)
+    ensures leaves { λ r. ⌜ LeavesStep (openUnder parameters (now (growth .entry)) (before separators numbers words owners)
         (before secondseparators secondnumbers secondwords secondowners) (poolBefore poolnumbers poolwords poolowners))
         (recorded r (now (growth .exit))) (after secondseparators secondnumbers secondwords secondowners) (poolAfter poolnumbers poolwords poolowners) ⌝ }
 {
@@ -132,7 +132,7 @@ pub fn step_growth(
     poolwords: &mut [u64],
     poolowners: &mut [u8],
 ) -> Placed
-    ensures { λ r. ⌜ LeavesStep (stepUnder parameters (now (growth .entry)) (before separators numbers words owners)
+    ensures leaves { λ r. ⌜ LeavesStep (stepUnder parameters (now (growth .entry)) (before separators numbers words owners)
         (before secondseparators secondnumbers secondwords secondowners) (poolBefore poolnumbers poolwords poolowners))
         (recorded r (now (growth .exit))) (after secondseparators secondnumbers secondwords secondowners) (poolAfter poolnumbers poolwords poolowners) ⌝ }
 {

@@ -48,7 +48,7 @@ pub fn replay(
     decs: &[i32],
     answers: &mut [u32],
 ) -> Replayed
-    ensures { λ r. ⌜ Replays
+    ensures leaves { λ r. ⌜ Replays
         (replayOf parameters (before separators numbers words owners) (poolBefore poolnumbers poolwords poolowners) (historyBefore kinds callers stars ras decs) (now (answers .entry)))
         r (now (answers .exit)) (after separators numbers words owners) (poolAfter poolnumbers poolwords poolowners) ⌝ }
 {
@@ -117,7 +117,7 @@ pub fn resume(
     decs: &[i32],
     answers: &mut [u32],
 ) -> Resumed
-    ensures { λ r. ⌜ Resumes
+    ensures leaves { λ r. ⌜ Resumes
         (resumeOf parameters growth (before separators numbers words owners) (poolBefore poolnumbers poolwords poolowners) (historyBefore kinds callers stars ras decs) (now (answers .entry)))
         r (now (answers .exit)) (after separators numbers words owners) (poolAfter poolnumbers poolwords poolowners) ⌝ }
 {

@@ -20,9 +20,9 @@ pub fn make(
     words: &mut [u64],
     owners: &mut [u8],
 ) -> Recorded
-    ensures { λ r. ⌜ Leaves (makeOf parameters (before separators numbers words owners) unpooled)
+    ensures leaves { λ r. ⌜ Leaves (makeOf parameters (before separators numbers words owners) unpooled)
         (placed (r .answer)) (after separators numbers words owners) unpooled ⌝ }
-    ensures { λ r. ⌜ r .growth ≡ closedRecord (makeOf parameters (before separators numbers words owners) unpooled .growth) ⌝ }
+    ensures growth_after { λ r. ⌜ r .growth ≡ closedRecord (makeOf parameters (before separators numbers words owners) unpooled .growth) ⌝ }
 {
     at_rest_after(call_make::make(parameters, separators, numbers, words, owners))
 }
@@ -39,9 +39,9 @@ pub fn grow(
     poolwords: &mut [u64],
     poolowners: &mut [u8],
 ) -> Recorded
-    ensures { λ r. ⌜ Leaves (growUnder parameters growth (before separators numbers words owners) (poolBefore poolnumbers poolwords poolowners))
+    ensures leaves { λ r. ⌜ Leaves (growUnder parameters growth (before separators numbers words owners) (poolBefore poolnumbers poolwords poolowners))
         (placed (r .answer)) (after separators numbers words owners) (poolAfter poolnumbers poolwords poolowners) ⌝ }
-    ensures { λ r. ⌜ r .growth ≡ recordAfter growth (growUnder parameters growth (before separators numbers words owners) (poolBefore poolnumbers poolwords poolowners)) ⌝ }
+    ensures growth_after { λ r. ⌜ r .growth ≡ recordAfter growth (growUnder parameters growth (before separators numbers words owners) (poolBefore poolnumbers poolwords poolowners)) ⌝ }
 {
     if !at_rest(growth) {
         let answer = turn_away(
@@ -82,9 +82,9 @@ pub fn shrink(
     poolwords: &mut [u64],
     poolowners: &mut [u8],
 ) -> Recorded
-    ensures { λ r. ⌜ Leaves (shrinkUnder parameters growth (before separators numbers words owners) (poolBefore poolnumbers poolwords poolowners))
+    ensures leaves { λ r. ⌜ Leaves (shrinkUnder parameters growth (before separators numbers words owners) (poolBefore poolnumbers poolwords poolowners))
         (placed (r .answer)) (after separators numbers words owners) (poolAfter poolnumbers poolwords poolowners) ⌝ }
-    ensures { λ r. ⌜ r .growth ≡ recordAfter growth (shrinkUnder parameters growth (before separators numbers words owners) (poolBefore poolnumbers poolwords poolowners)) ⌝ }
+    ensures growth_after { λ r. ⌜ r .growth ≡ recordAfter growth (shrinkUnder parameters growth (before separators numbers words owners) (poolBefore poolnumbers poolwords poolowners)) ⌝ }
 {
     if !at_rest(growth) {
         let answer = turn_away(

@@ -38,7 +38,7 @@ pub fn open_growth(
     poolwords: &mut [u64],
     poolowners: &mut [u8],
 ) -> Recorded
-    ensures { λ r. ⌜ LeavesStep (openUnder parameters growth (before separators numbers words owners)
+    ensures leaves { λ r. ⌜ LeavesStep (openUnder parameters growth (before separators numbers words owners)
         (before secondseparators secondnumbers secondwords secondowners) (poolBefore poolnumbers poolwords poolowners))
         r (after secondseparators secondnumbers secondwords secondowners) (poolAfter poolnumbers poolwords poolowners) ⌝ }
 {

@@ -22,7 +22,7 @@ pub fn look_up(
     owners: &[u8],
     number: u32,
 ) -> Found
-    ensures { λ r. ⌜ sought r ≡ lookUpUnder parameters growth (before separators numbers words owners) unpooled number .answer ⌝ }
+    ensures answer { λ r. ⌜ sought r ≡ lookUpUnder parameters growth (before separators numbers words owners) unpooled number .answer ⌝ }
 {
     if !steps_valid(parameters, growth) {
         return Found::Refused(Refusal::BadParameters, 0);
@@ -46,7 +46,7 @@ pub fn due(
     words: &[u64],
     owners: &[u8],
 ) -> Due
-    ensures { λ r. ⌜ dueSaid r ≡ dueUnder parameters growth (before separators numbers words owners) unpooled .answer ⌝ }
+    ensures answer { λ r. ⌜ dueSaid r ≡ dueUnder parameters growth (before separators numbers words owners) unpooled .answer ⌝ }
 {
     if !steps_valid(parameters, growth) {
         return Due::Refused(Refusal::BadParameters);
@@ -66,7 +66,7 @@ pub fn check(
     poolwords: &mut [u64],
     poolowners: &mut [u8],
 ) -> Checked
-    ensures { λ r. ⌜ Leaves (checkUnder parameters growth (before separators numbers words owners) (poolBefore poolnumbers poolwords poolowners))
+    ensures leaves { λ r. ⌜ Leaves (checkUnder parameters growth (before separators numbers words owners) (poolBefore poolnumbers poolwords poolowners))
         (checked r) (before separators numbers words owners) (poolAfter poolnumbers poolwords poolowners) ⌝ }
 {
     if !steps_valid(parameters, growth) {

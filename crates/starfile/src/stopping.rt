@@ -28,7 +28,7 @@ pub fn enter_stopped(
     position: Position,
     stores: u32,
 ) -> Placed
-    ensures { λ r. ⌜ Leaves (enterStoppedUnder parameters growth (before separators numbers words owners) (poolBefore poolnumbers poolwords poolowners) caller number position stores)
+    ensures leaves { λ r. ⌜ Leaves (enterStoppedUnder parameters growth (before separators numbers words owners) (poolBefore poolnumbers poolwords poolowners) caller number position stores)
         (placed r) (after separators numbers words owners) (poolAfter poolnumbers poolwords poolowners) ⌝ }
 {
     if !at_rest(growth) {
@@ -74,7 +74,7 @@ pub fn change_stopped(
     position: Position,
     stores: u32,
 ) -> Placed
-    ensures { λ r. ⌜ Leaves (changeStoppedUnder parameters growth (before separators numbers words owners) unpooled caller number position stores)
+    ensures leaves { λ r. ⌜ Leaves (changeStoppedUnder parameters growth (before separators numbers words owners) unpooled caller number position stores)
         (placed r) (held (separators .entry) (numbers .entry) (words .exit) (owners .entry)) unpooled ⌝ }
 {
     if !at_rest(growth) {
@@ -116,7 +116,7 @@ pub fn remove_stopped(
     number: u32,
     stores: u32,
 ) -> Placed
-    ensures { λ r. ⌜ Leaves (removeStoppedUnder parameters growth (before separators numbers words owners) (poolBefore poolnumbers poolwords poolowners) caller number stores)
+    ensures leaves { λ r. ⌜ Leaves (removeStoppedUnder parameters growth (before separators numbers words owners) (poolBefore poolnumbers poolwords poolowners) caller number stores)
         (placed r) (after separators numbers words owners) (poolAfter poolnumbers poolwords poolowners) ⌝ }
 {
     if !at_rest(growth) {

@@ -27,7 +27,7 @@ pub fn enter(
     number: u32,
     position: Position,
 ) -> Placed
-    ensures { λ r. ⌜ Leaves (enterUnder parameters growth (before separators numbers words owners) (poolBefore poolnumbers poolwords poolowners) caller number position)
+    ensures leaves { λ r. ⌜ Leaves (enterUnder parameters growth (before separators numbers words owners) (poolBefore poolnumbers poolwords poolowners) caller number position)
         (placed r) (after separators numbers words owners) (poolAfter poolnumbers poolwords poolowners) ⌝ }
 {
     if !at_rest(growth) {
@@ -74,7 +74,7 @@ pub fn cascade(
     number: u32,
     position: Position,
 ) -> Placed
-    ensures { λ r. ⌜ Leaves (cascadeUnder parameters growth (before separators numbers words owners) (poolBefore poolnumbers poolwords poolowners) caller number position)
+    ensures leaves { λ r. ⌜ Leaves (cascadeUnder parameters growth (before separators numbers words owners) (poolBefore poolnumbers poolwords poolowners) caller number position)
         (placed r) (after separators numbers words owners) (poolAfter poolnumbers poolwords poolowners) ⌝ }
 {
     if !at_rest(growth) {
@@ -118,7 +118,7 @@ pub fn change(
     number: u32,
     position: Position,
 ) -> Placed
-    ensures { λ r. ⌜ Leaves (changeUnder parameters growth (before separators numbers words owners) unpooled caller number position)
+    ensures leaves { λ r. ⌜ Leaves (changeUnder parameters growth (before separators numbers words owners) unpooled caller number position)
         (placed r) (held (separators .entry) (numbers .entry) (words .exit) (owners .entry)) unpooled ⌝ }
 {
     if !at_rest(growth) {
@@ -158,7 +158,7 @@ pub fn remove(
     caller: u8,
     number: u32,
 ) -> Placed
-    ensures { λ r. ⌜ Leaves (removeUnder parameters growth (before separators numbers words owners) (poolBefore poolnumbers poolwords poolowners) caller number)
+    ensures leaves { λ r. ⌜ Leaves (removeUnder parameters growth (before separators numbers words owners) (poolBefore poolnumbers poolwords poolowners) caller number)
         (placed r) (after separators numbers words owners) (poolAfter poolnumbers poolwords poolowners) ⌝ }
 {
     if !at_rest(growth) {

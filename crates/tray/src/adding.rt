@@ -40,7 +40,7 @@ pub fn add(
     filter: &mut [u64],
     report: Report,
 ) -> Added
-    ensures { λ r. ⌜ Adds (addOf parameters growth (trayOf (now (reports .entry)) count) (now (filter .entry)) report) r (now (reports .exit)) (now (filter .exit)) ⌝ }
+    ensures leaves { λ r. ⌜ Adds (addOf parameters growth (trayOf (now (reports .entry)) count) (now (filter .entry)) report) r (now (reports .exit)) (now (filter .exit)) ⌝ }
 {
     let adding = decide(parameters, growth, reports.len(), count, filter, report);
     put(reports, adding.at, adding.report);

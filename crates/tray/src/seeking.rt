@@ -41,7 +41,7 @@ pub fn look_up(
     filter: &[u64],
     number: u32,
 ) -> Found
-    ensures { λ r. ⌜ sought r ≡ combinedOf parameters growth (before separators numbers words owners) (trayOf (now (reports .entry)) count) (now (filter .entry)) number ⌝ }
+    ensures answer { λ r. ⌜ sought r ≡ combinedOf parameters growth (before separators numbers words owners) (trayOf (now (reports .entry)) count) (now (filter .entry)) number ⌝ }
 {
     let screened = screen(
         parameters,

@@ -12,7 +12,7 @@ pub enum Shown {
 }
 
 pub fn bits(filter: &[u64]) -> Shown
-    ensures { λ r. ⌜ shown r ≡ bitsOf (now (filter .entry)) ⌝ }
+    ensures answer { λ r. ⌜ shown r ≡ bitsOf (now (filter .entry)) ⌝ }
 {
     if filter.len() != 32 {
         return Shown::Refused(Refusal::BadLength);
