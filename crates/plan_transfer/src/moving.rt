@@ -7,12 +7,6 @@ ghost use lib.Seq.{paste};
 ghost use Rattle.pages.specs.Page.{stretch};
 ghost use Rattle.buffers.specs.Lists.{written};
 ghost use Rattle.plan_transfer.specs.Sources.{namedItem};
-use crate::clearing::clear_8;
-use crate::clearing::clear_32;
-use crate::clearing::clear_64;
-
-// From so many items on, lists are looked at before they are cleared.
-const LONG: usize = 16384;
 
 pub fn word_named(words: &[u64], source: u32, newword: u64) -> u64
     ensures { λ r. ⌜ r ≡ namedItem (now (words .entry)) newword source ⌝ }
@@ -195,13 +189,7 @@ pub fn clear(pool: &mut [u32], waiting: &mut [u64], poolowners: &mut [u8])
     ensures { λ _. ⌜ now (waiting .exit) ≡ replicate (length (now (waiting .entry))) 0 ⌝ }
     ensures { λ _. ⌜ now (poolowners .exit) ≡ replicate (length (now (poolowners .entry))) 0 ⌝ }
 {
-    if pool.len() < LONG {
-        buffers::fill_32(pool, 0);
-        buffers::fill_64(waiting, 0);
-        buffers::fill_8(poolowners, 0);
-        return;
-    }
-    clear_32(pool);
-    clear_64(waiting);
-    clear_8(poolowners);
+    buffers::fill_32(pool, 0);
+    buffers::fill_64(waiting, 0);
+    buffers::fill_8(poolowners, 0);
 }
