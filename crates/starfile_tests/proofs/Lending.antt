@@ -21,9 +21,16 @@ use denote.Lend.{lends-ref, ref-back}
 use denote.Steps.{owned, peeks}
 use denote.Struct.Steps.{spelt}
 use denote.Struct.Laws as LL
+use denote.Enum.Laws as EL
 use Rattle.calls.specs.declared.records.GrowthRecord.{GrowthRecord}
+use Rattle.calls.specs.declared.records.Recorded.{Recorded}
+use Rattle.calls.specs.declared.answers.Placed.{Placed}
 use Rattle.calls.proofs.records.GrowthRecord as G
 use Rattle.calls.proofs.records.GrowthRecord.Laws as G′
+use Rattle.calls.proofs.records.Recorded as R
+use Rattle.calls.proofs.records.Recorded.Laws as R′
+use Rattle.calls.proofs.answers.Placed as Q
+use Rattle.calls.proofs.answers.Placed.Laws as Q′
 
 -- a record's machine value, its cell in a local at l, and the reference to it for the lifetime α under the name γ
 abbrev pub machine : GrowthRecord → Val
@@ -70,6 +77,13 @@ module _ {M : Type 1} {𝓤 : URA M} {H : Heap 𝓤} {A : Atoms 𝓤} {K : Type 
   taken-back t z l α γ g next =
       lft-end t z $ use3 W (later (‵ (partAt G.the-row fullShare g l 0))) (ref-back 𝓤 H A W G.the-row (α ∷ []) γ g l 0) $ await t z $
       use1 W (given (Known g) (‵ (cell l g))) (lies-out 𝓤 H A W l g) $ learn t next
+
+-- the answer and the record together
+abbrev pub result : Placed → GrowthRecord → Recorded
+result a g = record { answer = a; growth = g }
+
+pub joins : (a : Placed) (g : GrowthRecord) {vs : List Val} → Is Q.the-row a vs → Known g → Is R.the-row (result a g) (LL.vals R.the-type R′.the-laws (result a g))
+joins a g is-a known = LL.owes R.the-type R′.the-laws (result a g) (EL.owes Q.the-type Q′.the-laws a (EL.owed Q.the-type Q′.the-laws a _ is-a), (known, tt))
 
 -- MIR: a local's value or its memory, a pointer, what a local holds, and a slice of local i lent on, its pointer in j and the slice in k
 abbrev pub value : Mir.Ty → Mir.Local
