@@ -20,9 +20,9 @@ pub fn grow(
     poolwords: &mut [u64],
     poolowners: &mut [u8],
 ) -> Recorded
-    ensures { λ r. ⌜ Leaves (growUnder parameters growth (before separators numbers words owners) (poolBefore poolnumbers poolwords poolowners))
+    ensures leaves { λ r. ⌜ Leaves (growUnder parameters growth (before separators numbers words owners) (poolBefore poolnumbers poolwords poolowners))
         (placed (r .answer)) (after separators numbers words owners) (poolAfter poolnumbers poolwords poolowners) ⌝ }
-    ensures { λ r. ⌜ r .growth ≡ recordAfter growth (growUnder parameters growth (before separators numbers words owners) (poolBefore poolnumbers poolwords poolowners)) ⌝ }
+    ensures growth_after { λ r. ⌜ r .growth ≡ recordAfter growth (growUnder parameters growth (before separators numbers words owners) (poolBefore poolnumbers poolwords poolowners)) ⌝ }
 {
     let answer = growth_record::grow(
         parameters,
@@ -49,9 +49,9 @@ pub fn shrink(
     poolwords: &mut [u64],
     poolowners: &mut [u8],
 ) -> Recorded
-    ensures { λ r. ⌜ Leaves (shrinkUnder parameters growth (before separators numbers words owners) (poolBefore poolnumbers poolwords poolowners))
+    ensures leaves { λ r. ⌜ Leaves (shrinkUnder parameters growth (before separators numbers words owners) (poolBefore poolnumbers poolwords poolowners))
         (placed (r .answer)) (after separators numbers words owners) (poolAfter poolnumbers poolwords poolowners) ⌝ }
-    ensures { λ r. ⌜ r .growth ≡ recordAfter growth (shrinkUnder parameters growth (before separators numbers words owners) (poolBefore poolnumbers poolwords poolowners)) ⌝ }
+    ensures growth_after { λ r. ⌜ r .growth ≡ recordAfter growth (shrinkUnder parameters growth (before separators numbers words owners) (poolBefore poolnumbers poolwords poolowners)) ⌝ }
 {
     let answer = growth_record::shrink(
         parameters,
@@ -82,7 +82,7 @@ pub fn open_growth(
     poolwords: &mut [u64],
     poolowners: &mut [u8],
 ) -> Recorded
-    ensures { λ r. ⌜ LeavesStep (openUnder parameters growth (before separators numbers words owners)
+    ensures leaves { λ r. ⌜ LeavesStep (openUnder parameters growth (before separators numbers words owners)
         (before secondseparators secondnumbers secondwords secondowners) (poolBefore poolnumbers poolwords poolowners))
         r (after secondseparators secondnumbers secondwords secondowners) (poolAfter poolnumbers poolwords poolowners) ⌝ }
 {
@@ -119,7 +119,7 @@ pub fn step_growth(
     poolwords: &mut [u64],
     poolowners: &mut [u8],
 ) -> Recorded
-    ensures { λ r. ⌜ LeavesStep (stepUnder parameters growth (before separators numbers words owners)
+    ensures leaves { λ r. ⌜ LeavesStep (stepUnder parameters growth (before separators numbers words owners)
         (before secondseparators secondnumbers secondwords secondowners) (poolBefore poolnumbers poolwords poolowners))
         r (after secondseparators secondnumbers secondwords secondowners) (poolAfter poolnumbers poolwords poolowners) ⌝ }
 {
