@@ -1,4 +1,15 @@
-// Two functions below the calls, for the Rust tests alone: no host needs them.
+// For the Rust tests alone, which call the library of heatherplane for all else: two functions below the calls, and crate growth_record's.
+mod lent_record;
+mod record_calls;
+mod replies;
+
+pub use record_calls::sft_record_grow;
+pub use record_calls::sft_record_open_growth;
+pub use record_calls::sft_record_shrink;
+pub use record_calls::sft_record_step_growth;
+pub use replies::FileParameters;
+pub use replies::Record;
+pub use replies::Reply;
 
 // Xj of a number; 0 if there is no such multiplier or its table has no j-th entry.
 #[no_mangle]

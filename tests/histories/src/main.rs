@@ -16,7 +16,7 @@ use tester::Tester;
 /// A name, how often a quick run repeats it and a round of a soak, and what to do.
 type Scenario = (&'static str, u64, u64, fn(&mut Tester));
 
-const SCENARIOS: [Scenario; 33] = [
+const SCENARIOS: [Scenario; 34] = [
     ("tiny files", 12, 3, scenarios::tiny_files),
     ("edge histories", 20, 10, scenarios::edge_histories),
     ("small histories", 3_000, 1_000, scenarios::small_history),
@@ -50,6 +50,7 @@ const SCENARIOS: [Scenario; 33] = [
     ("any trays", 8_000, 2_500, trays::any_trays),
     ("full trays", 60, 20, trays::full_trays),
     ("large filings", 4, 2, trays::large_filings),
+    ("growth records", 4_000, 1_200, scenarios::growth_records),
 ];
 
 /// The refusals that calls meet, after 0 for none.
@@ -145,6 +146,7 @@ fn main() {
     println!(
         "{cuts} stopped calls mended, {torn} of them from files that were neither the one before nor the one after"
     );
+    println!("{} growths, shrinks, openings and steps ran on a lent growth record too", totals.tester.on_records);
     println!("{} calls compared in {:.1} s", totals.tester.calls, start.elapsed().as_secs_f64());
     println!("{} passed, {} failed", totals.passed, totals.failed);
     exit((totals.failed > 0) as i32);

@@ -2,7 +2,7 @@
 
 use crate::history::{finishes, History};
 use crate::tester::{stored, stores, Tester};
-use interface::LIBRARY;
+use interface::{LIBRARY, RECORD_KINDS};
 use model::files::*;
 use model::hashing::home;
 use model::placement::Star;
@@ -194,6 +194,42 @@ fn large_history_of(tester: &mut Tester, list: [u32; 7]) {
     let mut history = History::from(tester, parameters, growth, lent);
     for _ in 0..12 {
         history.step(tester);
+    }
+}
+
+/// Growths, shrinks, openings and steps of a clean, sound or damaged file, each under the record that the one before left, and beside it
+/// with wrong values or lengths.
+pub fn growth_records(tester: &mut Tester) {
+    let parameters = small_parameters(&mut tester.random);
+    let growth = random_growth(&mut tester.random, &parameters);
+    let percent = tester.random.pick(&[20, 60, 90, 120]);
+    let mut lent = match tester.random.below(3) {
+        0 => sound_file(&mut tester.random, &parameters, &growth),
+        _ => clean_file(&mut tester.random, &parameters, &growth, percent),
+    };
+    if tester.random.once_in(4) {
+        let bit = tester.random.below(bits(&lent) as u64) as usize;
+        flip(&mut lent, bit);
+    }
+    random_second(&mut tester.random, &mut lent);
+    let mut record = random_record(&mut tester.random, &parameters, growth);
+    for _ in 0..12 {
+        random_pool(&mut tester.random, &mut lent);
+        let any = tester.random.pick(&RECORD_KINDS);
+        // While a growth is open all but a step are refused.
+        let kind = if record.open { tester.random.pick(&[Kind::Step, Kind::Step, Kind::Step, any]) } else { any };
+        let call = Call::new(kind, parameters, record);
+        tester.deviating_call(call, lent.clone());
+        let (outcome, after) = tester.compare(&call, &lent);
+        (lent, record) = (after, outcome.record);
+        if finishes(&call, &outcome) {
+            std::mem::swap(&mut lent.file, &mut lent.second);
+        }
+        // Most open growths would take more steps than there are calls.
+        if record.open && tester.random.once_in(6) {
+            let last = Record { steps: parameters.pages - 1, ..record };
+            record = tester.random.pick(&[last, Record::closed(record.growth)]);
+        }
     }
 }
 

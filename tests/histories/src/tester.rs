@@ -1,6 +1,6 @@
 //! Runs a call on the library and on the model and compares everything afterwards.
 
-use interface::LIBRARY;
+use interface::{LIBRARY, RECORD_CALLS, RECORD_KINDS};
 use model::files::{lend, random_caller, random_pool, random_stores};
 use model::placement::{unpack, Star};
 use model::random::Random;
@@ -15,6 +15,8 @@ const FOLDER: &str = concat!(env!("CARGO_MANIFEST_DIR"), "/../../target/historie
 pub struct Tester {
     pub random: Random,
     pub calls: u64,
+    /// How many of them ran again by crate growth_record's functions, on a lent growth record.
+    pub on_records: u64,
     /// How often each kind of call got each refusal.
     pub refusals: [[u64; 17]; Kind::ALL.len()],
     /// How many pairs of histories ended in the same stars, positions, owners and growth state.
@@ -28,8 +30,8 @@ pub struct Tester {
 
 impl Tester {
     pub fn new() -> Tester {
-        let refusals = [[0; 17]; Kind::ALL.len()];
-        Tester { random: Random(0), calls: 0, refusals, alike: 0, cuts: 0, torn: 0, failures: Vec::new(), saved: 0 }
+        let (refusals, failures) = ([[0; 17]; Kind::ALL.len()], Vec::new());
+        Tester { random: Random(0), calls: 0, on_records: 0, refusals, alike: 0, cuts: 0, torn: 0, failures, saved: 0 }
     }
 
     /// The outcome, with the growth record after the call, and the buffers that the model leaves.
@@ -40,7 +42,12 @@ impl Tester {
         self.refusals[call.kind as usize][outcome.refusal as usize] += 1;
         outcome.record = call.record_after(&outcome);
         let vector = Vector { call: *call, before: before.clone(), outcome, after };
-        let differences = vector.differences(LIBRARY);
+        let mut differences = vector.differences(LIBRARY);
+        if RECORD_KINDS.contains(&call.kind) {
+            self.on_records += 1;
+            let others = vector.differences(RECORD_CALLS);
+            differences.extend(others.iter().map(|difference| format!("on a lent record, {difference}")));
+        }
         if !differences.is_empty() {
             let kept = self.keep(&vector).map_or(String::new(), |path| format!(" ({})", path.display()));
             self.fail(format!("{}{kept}", differences.join("; ")));

@@ -1,5 +1,5 @@
-//! The calls of the library that ships, crate heatherplane's, linked from its static archive; and two functions of crate
-//! starfile_tests, which no host needs.
+//! The calls of the library that ships, crate heatherplane's, linked from its static archive; and what crate starfile_tests exports, which
+//! no host needs.
 
 use model::tray::Report;
 use model::{Buffers, Call, Growth, Implementation, Kind, Outcome, Parameters, Record, Refused};
@@ -9,6 +9,11 @@ use std::sync::OnceLock;
 pub const LANDED: &[u32] = &[1, 2, 3, 4, 5, 6, 7, 8, 9, 10, 11, 12, 13, 14];
 
 pub const LIBRARY: Implementation = Implementation { run, landed: LANDED, missing: &[] };
+
+/// The calls that crate growth_record has, whose functions update a lent growth record.
+pub const RECORD_KINDS: [Kind; 4] = [Kind::Grow, Kind::Shrink, Kind::Open, Kind::Step];
+
+pub const RECORD_CALLS: Implementation = Implementation { run: run_on_record, ..LIBRARY };
 
 /// include/heatherplane.h's growth record and reply.
 #[repr(C)]
@@ -49,6 +54,15 @@ impl Reply {
     }
 }
 
+/// What the functions of crate growth_record answer, with the record that they leave.
+#[repr(C)]
+struct RecordReply {
+    refusal: u32,
+    page: u32,
+    place: u32,
+    record: Record,
+}
+
 /// What adding a report and a filing answer.
 #[repr(C)]
 struct Added {
@@ -85,7 +99,7 @@ macro_rules! c {
             std::mem::transmute::<Address, unsafe extern "C" fn($($type),*) -> $reply>(address)($($value),*)
         }
     };
-    // Parameters and record as structs by value, as libraries before version 0.9 took them.
+    // Parameters and record as structs by value, as crate starfile_tests takes them, and libraries before version 0.9 did.
     (@ $exports:ident $reply:ident $call:ident $lent:ident [$($t:tt)*] [$($v:tt)*] parameters_struct $($rest:ident)*) => {
         c!(@ $exports $reply $call $lent [$($t)* Parameters,] [$($v)* $call.parameters,] $($rest)*)
     };
@@ -200,6 +214,10 @@ extern "C" {
     fn heatherplane_filter_bits(filter: *const u64, filter_length: usize) -> Bits;
     fn sft_scrambled(multiplier: u32, j: usize, number: u32) -> u32;
     fn sft_rank(step: u32, count: u32, group: u32) -> u32;
+    fn sft_record_grow();
+    fn sft_record_shrink();
+    fn sft_record_open_growth();
+    fn sft_record_step_growth();
 }
 
 /// Marks the pages that a growth may have altered; the refusal, if any.
@@ -455,4 +473,19 @@ pub fn linked() -> &'static Exports {
 /// Runs one call of the linked library.
 pub fn run(call: &Call, lent: &mut Buffers) -> Outcome {
     linked().run(call, lent)
+}
+
+/// Runs one of crate growth_record's four functions on a copy of the call's record, and answers what it left of it.
+pub fn run_on_record(call: &Call, lent: &mut Buffers) -> Outcome {
+    let mut addresses = [None; Kind::ALL.len()];
+    addresses[Kind::Grow as usize] = Some(sft_record_grow as Address);
+    addresses[Kind::Shrink as usize] = Some(sft_record_shrink as Address);
+    addresses[Kind::Open as usize] = Some(sft_record_open_growth as Address);
+    addresses[Kind::Step as usize] = Some(sft_record_step_growth as Address);
+    let e = Exports { form: Form::Structs, addresses };
+    let RecordReply { refusal, page, place, record } = match call.kind {
+        Kind::Grow | Kind::Shrink => c!(e, call, lent -> RecordReply: parameters_struct record_struct written pool),
+        _ => c!(e, call, lent -> RecordReply: parameters_struct record_struct read second pool),
+    };
+    Outcome { refusal, page, place, record, ..Outcome::default() }
 }

@@ -1,0 +1,4 @@
+pub mod Lending
+pub mod Telling
+pub mod Walk
+pub mod WalkSteps
