@@ -12,7 +12,8 @@ use hashing::Geometry;
 use hashing::Parameters;
 use placement::top_of;
 
-// For a number whose home is known. The first ninety multipliers serve for the first 44 pages.
+// For a number whose home is known. The first ninety multipliers serve for the first 44 pages. The pages beyond have a call for each
+// multiplier: a function that is called once is inlined, and the whole table would stand in the frame of every look-up.
 pub fn named_from(
     table: &[u32; 90],
     geometry: Geometry,
@@ -35,7 +36,10 @@ pub fn named_from(
     if end == separators.len() {
         return page;
     }
-    probe_beyond(parameters, separators, number, from, end)
+    if parameters.multiplier == 48271 {
+        return probe_beyond(48271, parameters, separators, number, from, end);
+    }
+    probe_beyond(16807, parameters, separators, number, from, end)
 }
 
 // Where the first 44 pages from home end, `pages` if it comes first.
@@ -49,20 +53,21 @@ fn near_end(home: usize, pages: usize) -> usize
     pages
 }
 
-// Probes the pages from `start` on, none before it having been the one, by the whole table.
+// Probes the pages from `start` on, none before it having been the one, by the multiplier's whole table.
 fn probe_beyond(
+    multiplier: u32,
     parameters: Parameters,
     separators: &[u8],
     number: u32,
     home: usize,
     start: usize,
 ) -> usize
-    requires { ⌜ validParameters parameters ≡ true ⌝ }
+    requires { ⌜ (validParameters parameters ≡ true) × (multiplier ≡ parameters .multiplier) ⌝ }
     requires { ⌜ (home ≤ start) × ((start ≤ length (now separators)) × (length (now separators) ≤ 1024)) ⌝ }
     requires { ⌜ first (hashFrom parameters home) 0 (take start (now separators)) number ≡ start ⌝ }
     ensures { λ r. ⌜ r ≡ first (hashFrom parameters home) 0 (take (length (now (separators .entry))) (now (separators .entry))) number ⌝ }
 {
-    let table = generator::multipliers(parameters.multiplier);
+    let table = generator::multipliers(multiplier);
     probe(
         &table,
         parameters,

@@ -1,7 +1,9 @@
 -- `soundness::probing::probe_beyond` meets its contract.
 -- Assumes nothing.
+use mathlib.Core.Path.{_∙_, ap}
 use native.Mathlib.Omega.{arith}
 use borrow.Author.Needs.{needs}
+use Rattle.generator.specs.Generator.{multipliers}
 use Rattle.hashing.specs.Geometry.{multiplierOf}
 use Rattle.hashing.proofs.Bounds.{limits}
 use Rattle.placement.proofs.Prepared.{whole-long, whole-signers}
@@ -9,7 +11,9 @@ use Rattle.soundness.proofs.probing.probe_beyond.Statement.{statement}
 use Rattle.soundness.proofs.probing.probe_beyond.Tie as tie
 
 multipliers-requires : tie.Need-multipliers-requires
-multipliers-requires c κs = limits _ (c .before .pre .0) .multiplier-valid
+multipliers-requires c κs =
+    let p = c .before .pre .0 in
+    rw (p .1) (limits _ (p .0) .multiplier-valid)
 
 slice-aggregate-probe : tie.Need-slice-aggregate-probe
 slice-aggregate-probe c = search needs
@@ -18,8 +22,8 @@ probe-requires : tie.Need-probe-requires
 probe-requires c κs =
     let s = c .before .before .before in
     let p = s .pre in
-    let table = c .before .multipliers .ensures in (
-      whole-signers table (p .0),
+    let table = c .before .multipliers .ensures ∙ ap multipliers (p .0 .1) in (
+      whole-signers table (p .0 .0),
       ((p .1 .0 .0, (p .1 .0 .1 .0, omega arith)), ((p .1 .0 .1 .1, omega (arith, p .1 .0, whole-long (multiplierOf (s .args .parameters)) table)), p .1 .1)),
     )
 
