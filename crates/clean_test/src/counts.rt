@@ -273,9 +273,9 @@ fn first_rising(
     page
 }
 
-// The same with the pages from `start` on counted by the multiplier's whole table.
+// The same with the pages from `start` on counted by the whole table. Each table has a function of its own: inlined here, their copies share one
+// place, and with both this function is too long to be inlined where no star is so far from home.
 fn first_raisable_beyond(
-    multiplier: u32,
     geometry: Geometry,
     separators: &[u8],
     numbers: &[u32],
@@ -285,13 +285,84 @@ fn first_raisable_beyond(
     start: usize,
     stop: usize,
 ) -> usize
-    requires { ⌜ (validParameters (geometry .parameters) ≡ true) × (multiplier ≡ geometry .parameters .multiplier) ⌝ }
+    requires { ⌜ validParameters (geometry .parameters) ≡ true ⌝ }
     requires { ⌜ Homed geometry (now separators) (now numbers) (now homes) from stop ⌝ }
     requires { ⌜ (from ≤ start) × (start ≤ stop) ⌝ }
     requires { ⌜ Counted (hashUnder geometry) (now separators) (now numbers) from start (now counts) ⌝ }
     ensures { λ r. ⌜ r ≡ firstRaisable geometry (now (separators .entry)) (now (numbers .entry)) from stop ⌝ }
 {
-    let table = generator::multipliers(multiplier);
+    if geometry.parameters.multiplier == 48271 {
+        return first_raisable_by_48271(
+            geometry,
+            separators,
+            numbers,
+            homes,
+            counts,
+            from,
+            start,
+            stop,
+        );
+    }
+    first_raisable_by_16807(
+        geometry,
+        separators,
+        numbers,
+        homes,
+        counts,
+        from,
+        start,
+        stop,
+    )
+}
+
+fn first_raisable_by_48271(
+    geometry: Geometry,
+    separators: &[u8],
+    numbers: &[u32],
+    homes: &[u32],
+    counts: &mut [u32; 1024],
+    from: usize,
+    start: usize,
+    stop: usize,
+) -> usize
+    requires { ⌜ (validParameters (geometry .parameters) ≡ true) × (geometry .parameters .multiplier ≡ 48271) ⌝ }
+    requires { ⌜ Homed geometry (now separators) (now numbers) (now homes) from stop ⌝ }
+    requires { ⌜ (from ≤ start) × (start ≤ stop) ⌝ }
+    requires { ⌜ Counted (hashUnder geometry) (now separators) (now numbers) from start (now counts) ⌝ }
+    ensures { λ r. ⌜ r ≡ firstRaisable geometry (now (separators .entry)) (now (numbers .entry)) from stop ⌝ }
+{
+    let table = generator::multipliers(48271);
+    let end = count_pages(
+        &table,
+        geometry,
+        separators,
+        numbers,
+        homes,
+        counts,
+        from,
+        start,
+        stop,
+    );
+    first_rising(geometry.parameters, separators, counts, from, end)
+}
+
+fn first_raisable_by_16807(
+    geometry: Geometry,
+    separators: &[u8],
+    numbers: &[u32],
+    homes: &[u32],
+    counts: &mut [u32; 1024],
+    from: usize,
+    start: usize,
+    stop: usize,
+) -> usize
+    requires { ⌜ (validParameters (geometry .parameters) ≡ true) × (geometry .parameters .multiplier ≡ 16807) ⌝ }
+    requires { ⌜ Homed geometry (now separators) (now numbers) (now homes) from stop ⌝ }
+    requires { ⌜ (from ≤ start) × (start ≤ stop) ⌝ }
+    requires { ⌜ Counted (hashUnder geometry) (now separators) (now numbers) from start (now counts) ⌝ }
+    ensures { λ r. ⌜ r ≡ firstRaisable geometry (now (separators .entry)) (now (numbers .entry)) from stop ⌝ }
+{
+    let table = generator::multipliers(16807);
     let end = count_pages(
         &table,
         geometry,
@@ -307,8 +378,7 @@ fn first_raisable_beyond(
 }
 
 // The first page from `from` up to the one before `stop` whose separator could be one greater, by the stars of these pages; `stop` if there is none.
-// The first ninety multipliers serve up to a page with a star more than 44 pages above its home. Each whole table has a call of its own: a
-// function that is called once is inlined, and the table would stand in the frame of every call.
+// The first ninety multipliers serve up to a page with a star more than 44 pages above its home.
 pub fn first_raisable(
     geometry: Geometry,
     separators: &[u8],
@@ -321,8 +391,7 @@ pub fn first_raisable(
     requires { ⌜ Homed geometry (now separators) (now numbers) (now homes) from stop ⌝ }
     ensures { λ r. ⌜ r ≡ firstRaisable geometry (now (separators .entry)) (now (numbers .entry)) from stop ⌝ }
 {
-    let multiplier = geometry.parameters.multiplier;
-    let table = generator::first_multipliers(multiplier);
+    let table = generator::first_multipliers(geometry.parameters.multiplier);
     let mut counts = [0u32; 1024];
     let near = count_pages(
         &table,
@@ -338,21 +407,7 @@ pub fn first_raisable(
     if near == stop {
         return first_rising(geometry.parameters, separators, &counts, from, stop);
     }
-    if multiplier == 48271 {
-        return first_raisable_beyond(
-            48271,
-            geometry,
-            separators,
-            numbers,
-            homes,
-            &mut counts,
-            from,
-            near,
-            stop,
-        );
-    }
     first_raisable_beyond(
-        16807,
         geometry,
         separators,
         numbers,

@@ -12,8 +12,7 @@ use hashing::Geometry;
 use hashing::Parameters;
 use placement::top_of;
 
-// For a number whose home is known. The first ninety multipliers serve for the first 44 pages. The pages beyond have a call for each
-// multiplier: a function that is called once is inlined, and the whole table would stand in the frame of every look-up.
+// For a number whose home is known. The first ninety multipliers serve for the first 44 pages.
 pub fn named_from(
     table: &[u32; 90],
     geometry: Geometry,
@@ -36,10 +35,7 @@ pub fn named_from(
     if end == separators.len() {
         return page;
     }
-    if parameters.multiplier == 48271 {
-        return probe_beyond(48271, parameters, separators, number, from, end);
-    }
-    probe_beyond(16807, parameters, separators, number, from, end)
+    probe_beyond(parameters, separators, number, from, end)
 }
 
 // Where the first 44 pages from home end, `pages` if it comes first.
@@ -53,21 +49,63 @@ fn near_end(home: usize, pages: usize) -> usize
     pages
 }
 
-// Probes the pages from `start` on, none before it having been the one, by the multiplier's whole table.
+// Probes the pages from `start` on, none before it having been the one, by the whole table. Each table has a function of its own: inlined here,
+// their copies share one place, and with both this function is too long to be inlined where no probe goes so far.
 fn probe_beyond(
-    multiplier: u32,
     parameters: Parameters,
     separators: &[u8],
     number: u32,
     home: usize,
     start: usize,
 ) -> usize
-    requires { ⌜ (validParameters parameters ≡ true) × (multiplier ≡ parameters .multiplier) ⌝ }
+    requires { ⌜ validParameters parameters ≡ true ⌝ }
     requires { ⌜ (home ≤ start) × ((start ≤ length (now separators)) × (length (now separators) ≤ 1024)) ⌝ }
     requires { ⌜ first (hashFrom parameters home) 0 (take start (now separators)) number ≡ start ⌝ }
     ensures { λ r. ⌜ r ≡ first (hashFrom parameters home) 0 (take (length (now (separators .entry))) (now (separators .entry))) number ⌝ }
 {
-    let table = generator::multipliers(multiplier);
+    if parameters.multiplier == 48271 {
+        return probe_by_48271(parameters, separators, number, home, start);
+    }
+    probe_by_16807(parameters, separators, number, home, start)
+}
+
+fn probe_by_48271(
+    parameters: Parameters,
+    separators: &[u8],
+    number: u32,
+    home: usize,
+    start: usize,
+) -> usize
+    requires { ⌜ (validParameters parameters ≡ true) × (parameters .multiplier ≡ 48271) ⌝ }
+    requires { ⌜ (home ≤ start) × ((start ≤ length (now separators)) × (length (now separators) ≤ 1024)) ⌝ }
+    requires { ⌜ first (hashFrom parameters home) 0 (take start (now separators)) number ≡ start ⌝ }
+    ensures { λ r. ⌜ r ≡ first (hashFrom parameters home) 0 (take (length (now (separators .entry))) (now (separators .entry))) number ⌝ }
+{
+    let table = generator::multipliers(48271);
+    probe(
+        &table,
+        parameters,
+        separators,
+        number,
+        home,
+        start,
+        separators.len(),
+    )
+}
+
+fn probe_by_16807(
+    parameters: Parameters,
+    separators: &[u8],
+    number: u32,
+    home: usize,
+    start: usize,
+) -> usize
+    requires { ⌜ (validParameters parameters ≡ true) × (parameters .multiplier ≡ 16807) ⌝ }
+    requires { ⌜ (home ≤ start) × ((start ≤ length (now separators)) × (length (now separators) ≤ 1024)) ⌝ }
+    requires { ⌜ first (hashFrom parameters home) 0 (take start (now separators)) number ≡ start ⌝ }
+    ensures { λ r. ⌜ r ≡ first (hashFrom parameters home) 0 (take (length (now (separators .entry))) (now (separators .entry))) number ⌝ }
+{
+    let table = generator::multipliers(16807);
     probe(
         &table,
         parameters,

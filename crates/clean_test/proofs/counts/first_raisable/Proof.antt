@@ -1,7 +1,6 @@
-use mathlib.Core.Path.{sym, _∙_}
+use mathlib.Core.Path.{_∙_}
 use native.Mathlib.Omega.{arith}
 use borrow.Author.Needs.{needs}
-use Rattle.generator.proofs.Powers.{the-other}
 use Rattle.hashing.proofs.Bounds.{limits}
 use Rattle.placement.proofs.Prepared.{first-signers}
 use Rattle.clean_test.proofs.Counters.{counted-none, rising-raisable}
@@ -36,22 +35,13 @@ returns c =
     ∙ rising-raisable (s .args .geometry) _ _ _ _ _ (homed .low) (omega (arith, homed .high, limits _ (s .pre .0) .pages-most)) (rw done at (k .count-pages .ensures .1 .1))
 
 first-raisable-beyond-requires : tie.Need-first-raisable-beyond-requires
-first-raisable-beyond-requires c κs = search needs
+first-raisable-beyond-requires c κs =
+    let k = c .before .before in
+    let s = start (k .before .before .before) in
+    (s .pre .0, (s .pre .1, (k .count-pages .ensures .0, k .count-pages .ensures .1 .1)))
 
 returns-2 : tie.Need-returns-2
 returns-2 c = search needs
-
-first-raisable-beyond-requires-2 : tie.Need-first-raisable-beyond-requires-2
-first-raisable-beyond-requires-2 c κs =
-    let k = c .before .before .before in
-    let s = start (k .before .before .before) in
-    let p = s .args .geometry .parameters in (
-      (s .pre .0, sym (the-other (p .multiplier) (limits p (s .pre .0) .multiplier-valid) (c .before .if2 .left))),
-      (s .pre .1, (k .count-pages .ensures .0, k .count-pages .ensures .1 .1)),
-    )
-
-returns-3 : tie.Need-returns-3
-returns-3 c = search needs
 
 pub first-raisable-spec : {M : Type 1} → statement M
 first-raisable-spec =
@@ -63,6 +53,4 @@ first-raisable-spec =
     first-rising-requires
     returns
     first-raisable-beyond-requires
-    returns-2
-    first-raisable-beyond-requires-2
-    returns-3)
+    returns-2)

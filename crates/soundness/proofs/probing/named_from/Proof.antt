@@ -1,11 +1,10 @@
 -- `soundness::probing::named_from` meets its contract.
 -- Assumes nothing.
-use mathlib.Core.Path.{_≡_, _∙_, ap, sym}
+use mathlib.Core.Path.{_∙_, ap}
 use Prim.Native.Nat.{ℕ, _≤_}
 use native.Mathlib.Omega.{arith}
 use lib.ListN.{length, take}
 use denote.Ref.{now}
-use Rattle.generator.proofs.Powers.{the-other}
 use Rattle.hashing.specs.Geometry.{multiplierOf}
 use Rattle.hashing.proofs.Bounds.{limits}
 use Rattle.hashing.proofs.Homes.{home-pages}
@@ -56,35 +55,16 @@ returns-2 c =
     ∙ ap (λ (n : ℕ). first (hashFrom (a .geometry .parameters) (a .home)) 0 (take n (now (a .separators))) (a .number)) (c .if2 .taken)
     ∙ named-is _ _ _ _ _ (s .pre .1 .1)
 
-abbrev start : tie.Else2 → tie.Start
-start c = c .before .before .before .before .before .before .before
-
--- the near pages do not keep the number
-passed : (c : tie.Else2) →
-    let a = start c .args in
-    let e = c .before .before .before .before .near-end in
-    ((a .home ≤ e .result) × ((e .result ≤ length (now (a .separators))) × (length (now (a .separators)) ≤ 1024)))
-    × (first (hashFrom (a .geometry .parameters) (a .home)) 0 (take (e .result) (now (a .separators))) (a .number) ≡ e .result)
-passed c =
-    let e = c .before .before .before .before .near-end .ensures in
-    ((e .0, (e .1 .0, within (start c) .1)), none-found _ _ _ _ _ (e .1 .0) (c .before .before .probe .ensures) (c .before .if1 .left))
-
 probe-beyond-requires : tie.Need-probe-beyond-requires
-probe-beyond-requires c κs = ((start (c .before .before) .pre .0 .valid, sym (c .if3 .taken)), passed (c .before .before))
+probe-beyond-requires c κs =
+    let s = c .before .before .before .before .before .before .before in
+    let e = c .before .before .before .before .near-end .ensures in
+    (s .pre .0 .valid, ((e .0, (e .1 .0, within s .1)), none-found _ _ _ _ _ (e .1 .0) (c .before .before .probe .ensures) (c .before .if1 .left)))
 
 returns-3 : tie.Need-returns-3
-returns-3 c = c .probe-beyond .ensures ∙ named-is _ _ _ _ _ (start (c .before .before .before) .pre .1 .1)
-
-probe-beyond-requires-2 : tie.Need-probe-beyond-requires-2
-probe-beyond-requires-2 c κs =
-    let s = start (c .before .before) in
-    let p = s .args .geometry .parameters in
-    ((s .pre .0 .valid, sym (the-other (p .multiplier) (limits p (s .pre .0 .valid) .multiplier-valid) (c .if3 .left))), passed (c .before .before))
-
-returns-4 : tie.Need-returns-4
-returns-4 c = c .probe-beyond2 .ensures ∙ named-is _ _ _ _ _ (start (c .before .before .before) .pre .1 .1)
+returns-3 c = c .probe-beyond .ensures ∙ named-is _ _ _ _ _ (c .before .before .before .before .before .before .before .before .pre .1 .1)
 
 pub named-from-spec : {M : Type 1} → statement M
 named-from-spec =
     tie.close
-    (tie.spec near-end-requires probe-requires returns returns-2 probe-beyond-requires returns-3 probe-beyond-requires-2 returns-4)
+    (tie.spec near-end-requires probe-requires returns returns-2 probe-beyond-requires returns-3)
