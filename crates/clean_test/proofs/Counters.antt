@@ -1,6 +1,6 @@
 -- One counter for each page: what the loops over pages, places and passed pages add to them.
 use mathlib.Core.Path.{_≡_, refl, sym, ap, _∙_}
-use mathlib.Core.Bool.{Bool, true, false, _&&_, _||_, and-false}
+use mathlib.Core.Bool.{Bool, true, false, cond, _&&_, _||_, and-false, false≢true}
 use mathlib.Core.List.{List, [], _∷_}
 use Prim.Native.Nat.{ℕ, zero, suc, _+_, _-_, _*_, _≤_, _<_}
 use native.Mathlib.Nat.{add-zero, suc-mul, mul-le-mul-right}
@@ -8,7 +8,7 @@ use native.Mathlib.Numerals.{add-one}
 use native.Mathlib.Decide.{decLe, decLt}
 use native.Mathlib.Omega.{arith}
 use lib.Dec.{leb, ltb, eqb}
-use lib.ListN.{length, getD, set, take, drop, length-set, length-drop}
+use lib.ListN.{length, getD, set, take, drop, replicate, length-set, length-drop, getD-replicate}
 use lib.Seq.{getD-set-same, getD-set-other, getD-drop, getD-take}
 use borrow.Author.Tests.{le-leb, lt-leb, lt-ltb, le-ltb, eq-eqb, ne-eqb, eqb-true, eqb-false}
 use Rattle.hashing.specs.declared.Geometry.{Geometry}
@@ -17,9 +17,9 @@ use Rattle.pages.specs.Page.{part}
 use Rattle.placement.specs.Rule.{Hash, keep, filter}
 use Rattle.placement.specs.Hash.{hashOf, homesOf, homeUnder}
 use Rattle.reach.specs.Reach.{firstSuch}
-use Rattle.clean_test.specs.Raising.{passed, countsOn, countedItem, countOn, countFrom, mayRise, raisableFrom, hashUnder, firstRaisable, firstRising, one, Counts, Added, Homed, HomedFrom, Signable}
+use Rattle.clean_test.specs.Raising.{passed, countsOn, isStar, countedItem, countOn, passedOn, starsAmong, countFrom, mayRise, raisableFrom, hashUnder, firstRaisable, firstRising, one, Counts, Added, Counted, Homed, HomedFrom, Signable}
 
-one-most : (t : Bool) → one t ≤ 1
+pub one-most : (t : Bool) → one t ≤ 1
 one-most true = omega arith
 one-most false = omega arith
 
@@ -37,15 +37,15 @@ module _ (from : ℕ) where
   pub added-then : (a b d : ℕ → ℕ) (l m n : List ℕ) → Added from a l m → Added from b m n → ((p : ℕ) → d p ≡ a p + b p) → Added from d l n
   added-then a b d l m n c e h = record { size = e .size; each = λ p o k. omega (arith, c .each p o k, e .each p o k, h p) }
 
--- the counter of page g is one more
-pub added-one : (from : ℕ) (l : List ℕ) (g : ℕ) → length l ≡ 1024 → g < 1024 → Added from (λ p. one (eqb g p)) l (set l g (getD l g 0 + 1))
-added-one from l g e h = record { size = length-set l g (getD l g 0 + 1) ∙ e; each = λ p o k. go p k (eqb g p) refl }
+-- the counter of page g is n more
+pub added-some : (from : ℕ) (l : List ℕ) (g n : ℕ) → length l ≡ 1024 → g < 1024 → Added from (λ p. cond (eqb g p) n 0) l (set l g (getD l g 0 + n))
+added-some from l g n e h = record { size = length-set l g (getD l g 0 + n) ∙ e; each = λ p o k. go p k (eqb g p) refl }
   where
-    go : (p : ℕ) → p < 1024 → (t : Bool) → eqb g p ≡ t → getD (set l g (getD l g 0 + 1)) p 0 ≡ getD l p 0 + one t
+    go : (p : ℕ) → p < 1024 → (t : Bool) → eqb g p ≡ t → getD (set l g (getD l g 0 + n)) p 0 ≡ getD l p 0 + cond t n 0
     go p k true q =
         let same : g ≡ p = eqb-true g p q in
-        rw same (getD-set-same l p (getD l p 0 + 1) 0 (omega (arith, e)))
-    go p k false q = getD-set-other l g p (getD l g 0 + 1) 0 (λ r. eqb-false g p q (sym r)) ∙ sym (add-zero (getD l p 0))
+        rw same (getD-set-same l p (getD l p 0 + n) 0 (omega (arith, e)))
+    go p k false q = getD-set-other l g p (getD l g 0 + n) 0 (λ r. eqb-false g p q (sym r)) ∙ sym (add-zero (getD l p 0))
 
 module _ (H : Hash) (vs : List ℕ) (k : ℕ) where
   -- those below home and from q on are none of them
@@ -118,7 +118,7 @@ module _ (H : Hash) (vs : List ℕ) (k : ℕ) where
           high = λ g _. absurd (omega arith);
           added =
               added-then from (λ p. one (passed H vs p next k)) (λ p. one (eqb next p)) (λ p. one (passed H vs p (next + 1) k)) entry exit (set exit next (getD exit next 0 + 1))
-              (c .added) (added-one from exit next (c .added .size) m)
+              (c .added) (added-some from exit next 1 (c .added .size) m)
               (passed-next next (c .low) true (eq-eqb (H .signature k next) (getD vs next 0) e));
         }
 
@@ -194,7 +194,7 @@ count-taken q (x ∷ l) (suc i) h = go (q x) (count-taken q l i (omega arith))
     go true ih = omega (arith, ih)
     go false ih = ih
 
-taken-most : (q : ℕ → Bool) (l : List ℕ) (i : ℕ) → length (filter q (take i l)) ≤ i
+pub taken-most : (q : ℕ → Bool) (l : List ℕ) (i : ℕ) → length (filter q (take i l)) ≤ i
 unfolding filter
 taken-most q l zero = omega arith
 taken-most q [] (suc i) = omega arith
@@ -204,6 +204,12 @@ taken-most q (x ∷ l) (suc i) = go (q x) (taken-most q l i)
     go true ih = omega (arith, ih)
     go false ih = omega (arith, ih)
 
+-- one item more is counted if it is a star
+pub stars-next : (ns : List ℕ) (first i stars r : ℕ) → first + i < length ns → stars ≡ starsAmong (take i (drop first ns))
+    → r ≡ one (isStar (getD ns (first + i) 0)) → stars + r ≡ starsAmong (take (i + 1) (drop first ns))
+stars-next ns first i stars r h e f =
+    rw (e, f, add-one i, ← getD-drop first ns i 0) (sym (count-taken isStar (drop first ns) i (omega (arith, length-drop first ns))))
+
 pub count-most : (H : Hash) (vs ns : List ℕ) (from p n : ℕ) → countFrom H vs ns from p n ≤ n * H .room
 unfolding countFrom countOn part
 count-most H vs ns from p zero = omega arith
@@ -212,9 +218,9 @@ count-most H vs ns from p (suc n) =
 
 module _ (H : Hash) (vs ns : List ℕ) (from page : ℕ) where
   abbrev some : ℕ → ℕ → ℕ
-  some i p = length (filter (countedItem H vs p page) (take i (drop (page * H .room) ns)))
+  some i p = length (filter (λ (n : ℕ). isStar n && passed H vs p page n) (take i (drop (page * H .room) ns)))
 
-  -- the first i numbers of the page are counted
+  -- those of the first i numbers of the page are counted that passed a page
   pub record PlacesCounted (i : ℕ) (entry exit : List ℕ) : Type 0 where
     pub upto : i ≤ H .room
     pub added : Added from (some i) entry exit
@@ -223,19 +229,11 @@ module _ (H : Hash) (vs ns : List ℕ) (from page : ℕ) where
   unfolding filter
   places-none l e = record { upto = omega arith; added = added-none from _ l e (λ p _. refl) }
 
-  item-counts : (p n : ℕ) → (n ≡ 0 → ⊥) → one (countedItem H vs p page n) ≡ one (eqb page p) + one (passed H vs p page n)
-  unfolding countsOn
-  item-counts p n h = rw (ne-eqb n 0 h) (go (eqb page p) refl)
-    where
-      go : (t : Bool) → eqb page p ≡ t → one (t || passed H vs p page n) ≡ one t + one (passed H vs p page n)
-      go true e = rw (passed-high H vs n p page (omega (arith, eqb-true page p e)))
-      go false e = omega arith
-
   module _ (i : ℕ) (entry exit : List ℕ) (c : PlacesCounted i entry exit) (h : i < H .room) (long : page * H .room + i < length ns) where
-    some-next : (p : ℕ) → some (i + 1) p ≡ some i p + one (countedItem H vs p page (getD ns (page * H .room + i) 0))
+    some-next : (p : ℕ) → some (i + 1) p ≡ some i p + one (isStar (getD ns (page * H .room + i) 0) && passed H vs p page (getD ns (page * H .room + i) 0))
     some-next p =
         rw (add-one i, ← getD-drop (page * H .room) ns i 0)
-        (count-taken (countedItem H vs p page) (drop (page * H .room) ns) i (omega (arith, length-drop (page * H .room) ns)))
+        (count-taken (λ (n : ℕ). isStar n && passed H vs p page n) (drop (page * H .room) ns) i (omega (arith, length-drop (page * H .room) ns)))
 
     pub places-empty : getD ns (page * H .room + i) 0 ≡ 0 → PlacesCounted (i + 1) entry exit
     places-empty e =
@@ -244,86 +242,145 @@ module _ (H : Hash) (vs ns : List ℕ) (from page : ℕ) where
           added = added-same from (some i) (some (i + 1)) entry exit (c .added) (λ p _. some-next p ∙ rw e (add-zero (some i p)));
         }
 
-    -- a star: it stands on the page, and counts where it passed
-    pub places-star : (n : ℕ) (after : List ℕ) → n ≡ getD ns (page * H .room + i) 0 → (n ≡ 0 → ⊥) → page < 1024
-        → Added from (λ p. one (passed H vs p page n)) (set exit page (getD exit page 0 + 1)) after → PlacesCounted (i + 1) entry after
-    places-star n after e some-number inside a =
+    -- a star counts where it passed
+    pub places-star : (n : ℕ) (after : List ℕ) → n ≡ getD ns (page * H .room + i) 0 → (n ≡ 0 → ⊥) → Added from (λ p. one (passed H vs p page n)) exit after
+        → PlacesCounted (i + 1) entry after
+    places-star n after e some-number a =
         record {
           upto = omega arith;
           added =
-              added-then from (some i) (λ p. one (countedItem H vs p page n)) (some (i + 1)) entry exit after (c .added)
-              (added-then from (λ p. one (eqb page p)) (λ p. one (passed H vs p page n)) (λ p. one (countedItem H vs p page n)) exit (set exit page (getD exit page 0 + 1)) after
-              (added-one from exit page (c .added .size) inside) a (λ p. item-counts p n some-number))
-              (λ p. some-next p ∙ rw e);
+              added-then from (some i) (λ p. one (passed H vs p page n)) (some (i + 1)) entry exit after (c .added) a
+              (λ p. some-next p ∙ rw (← e, ne-eqb n 0 some-number));
         }
 
     -- at home: it passed none
-    pub places-home : (n : ℕ) → n ≡ getD ns (page * H .room + i) 0 → (n ≡ 0 → ⊥) → page < 1024 → page ≤ H .home n → PlacesCounted (i + 1) entry (set exit page (getD exit page 0 + 1))
-    places-home n e some-number inside low =
-        places-star n (set exit page (getD exit page 0 + 1)) e some-number inside
-        (added-none from _ (set exit page (getD exit page 0 + 1)) (length-set exit page (getD exit page 0 + 1) ∙ c .added .size) (λ p _. go p (decLe page p)))
+    pub places-home : (n : ℕ) → n ≡ getD ns (page * H .room + i) 0 → (n ≡ 0 → ⊥) → page ≤ H .home n → PlacesCounted (i + 1) entry exit
+    places-home n e some-number low =
+        places-star n exit e some-number (added-none from _ exit (c .added .size) (λ p _. go p (decLe page p)))
       where
         go : (p : ℕ) → Dec (page ≤ p) → one (passed H vs p page n) ≡ 0
         go p (yes d) = rw (passed-high H vs n p page d)
         go p (no d) = rw (passed-low H vs n p page (omega arith))
 
-  pub places-fits : (i n : ℕ) (entry exit : List ℕ) → PlacesCounted i entry exit → ((p : ℕ) → from ≤ p → p < 1024 → getD entry p 0 ≤ n) → (p : ℕ) → from ≤ p → p < 1024 → getD exit p 0 ≤ n + i
-  places-fits i n entry exit c most p o h =
-      omega (arith, c .added .each p o h, most p o h, taken-most (countedItem H vs p page) (drop (page * H .room) ns) i)
-
-  pub places-counts : (i n m : ℕ) (entry exit : List ℕ) → PlacesCounted i entry exit → Counts from n entry → page < 1024 → n + i < m → Counts from m (set exit page (getD exit page 0 + 1))
-  places-counts i n m entry exit c most inside h =
-      let a = added-one from exit page (c .added .size) inside in
-      (a .size, λ p o k. omega (arith, a .each p o k, one-most (eqb page p), places-fits i n entry exit c (most .1) p o k))
-
-  pub places-all : (i : ℕ) (entry exit : List ℕ) → PlacesCounted i entry exit → H .room ≤ i → Added from (λ p. countOn H vs ns p page) entry exit
-  unfolding countOn part
-  places-all i entry exit c h =
-      let e : H .room ≡ i = omega (arith, c .upto) in
-      added-same from (some i) (some (H .room)) entry exit (c .added) (λ p _. ap (λ (j : ℕ). some j p) e)
-
--- the pages from `from` up to the one before `page` are counted
-pub record PagesCounted (H : Hash) (vs ns : List ℕ) (from stop page : ℕ) (entry exit : List ℕ) : Type 0 where
-  pub low : from ≤ page
-  pub high : page ≤ stop
-  pub added : Added from (λ p. countFrom H vs ns from p (page - from)) entry exit
-
-pub pages-none : (H : Hash) (vs ns : List ℕ) (from stop : ℕ) (l : List ℕ) → from ≤ stop → length l ≡ 1024 → PagesCounted H vs ns from stop from l l
-unfolding countFrom
-pages-none H vs ns from stop l h e =
-    let none : from - from ≡ 0 = omega arith in
-    record { low = omega arith; high = h; added = added-none from _ l e (λ p _. ap (countFrom H vs ns from p) none) }
-
-module _ (H : Hash) (vs ns : List ℕ) (from stop page : ℕ) (entry exit : List ℕ) (c : PagesCounted H vs ns from stop page entry exit) where
-  pub pages-next : page < stop → (after : List ℕ) → Added from (λ p. countOn H vs ns p page) exit after → PagesCounted H vs ns from stop (page + 1) entry after
-  unfolding countFrom
-  pages-next h after a =
-      let one-more : page + 1 - from ≡ suc (page - from) = omega (arith, c .low) in
-      let here : from + (page - from) ≡ page = omega (arith, c .low) in
-      record {
-        low = omega (arith, c .low);
-        high = omega arith;
-        added =
-            added-then from (λ p. countFrom H vs ns from p (page - from)) (λ p. countOn H vs ns p page) (λ p. countFrom H vs ns from p (page + 1 - from)) entry exit after (c .added) a
-            (λ p. ap (countFrom H vs ns from p) one-more ∙ ap (λ (q : ℕ). countFrom H vs ns from p (page - from) + countOn H vs ns p q) here);
-      }
-
-  pub pages-counts : (m : ℕ) → Counts from 0 entry → stop * H .room ≤ m → Counts from m exit
-  pages-counts m none h = (
+  pub places-counts : (i n m : ℕ) (entry exit : List ℕ) → PlacesCounted i entry exit → Counts from n entry → n + i ≤ m → Counts from m exit
+  places-counts i n m entry exit c most h = (
     c .added .size,
     λ p o k. omega (
       arith,
       c .added .each p o k,
-      none .1 p o k,
-      count-most H vs ns from p (page - from),
-      mul-le-mul-right {m = page - from} {n = stop} (H .room) (omega (arith, c .high)),
+      most .1 p o k,
+      taken-most (λ (x : ℕ). isStar x && passed H vs p page x) (drop (page * H .room) ns) i,
     ),
   )
 
-  pub pages-all : stop ≤ page → Added from (λ p. countFrom H vs ns from p (stop - from)) entry exit
-  pages-all h =
-      let e : stop - from ≡ page - from = omega (arith, c .high) in
-      added-same from (λ p. countFrom H vs ns from p (page - from)) (λ p. countFrom H vs ns from p (stop - from)) entry exit (c .added) (λ p _. ap (countFrom H vs ns from p) e)
+  pub places-all : (i : ℕ) (entry exit : List ℕ) → PlacesCounted i entry exit → H .room ≤ i → Added from (λ p. passedOn H vs ns p page) entry exit
+  unfolding passedOn part
+  places-all i entry exit c h =
+      let e : H .room ≡ i = omega (arith, c .upto) in
+      added-same from (some i) (some (H .room)) entry exit (c .added) (λ p _. ap (λ (j : ℕ). some j p) e)
+
+  -- where all stars are at home none is counted
+  module _ (l : List ℕ) (size : length l ≡ 1024) (long : page * H .room + H .room ≤ length ns)
+      (home : (i : ℕ) → i < H .room → (getD ns (page * H .room + i) 0 ≡ 0 → ⊥) → page ≤ H .home (getD ns (page * H .room + i) 0)) where
+    still : (i : ℕ) → i ≤ H .room → PlacesCounted i l l
+    still zero h = places-none l size
+    still (suc i) h = rw (← add-one i) (go (decLe (getD ns (page * H .room + i) 0) 0) (still i (omega arith)))
+      where
+        go : Dec (getD ns (page * H .room + i) 0 ≤ 0) → PlacesCounted i l l → PlacesCounted (i + 1) l l
+        go (yes d) c = places-empty i l l c (omega arith) (omega arith) (omega arith)
+        go (no d) c = places-home i l l c (omega arith) (omega arith) _ refl (λ e. d (omega arith)) (home i (omega arith) (λ e. d (omega arith)))
+
+    pub places-still : Added from (λ p. passedOn H vs ns p page) l l
+    places-still = places-all (H .room) l l (still (H .room) (omega arith)) (omega arith)
+
+-- an item counts on a page as one that stands there or as one that passed it
+item-parts : (s t u : Bool) → (t ≡ true → u ≡ false) → one (s && (t || u)) ≡ cond t (one s) 0 + one (s && u)
+item-parts false true u h = refl
+item-parts false false u h = refl
+item-parts true true u h = rw (h refl)
+item-parts true false u h = omega arith
+
+length-keep : (t : Bool) (x : ℕ) (l : List ℕ) → length (keep t x l) ≡ one t + length l
+length-keep true x l = omega arith
+length-keep false x l = omega arith
+
+count-parts : (H : Hash) (vs : List ℕ) (p q : ℕ) (l : List ℕ)
+    → length (filter (countedItem H vs p q) l) ≡ cond (eqb q p) (starsAmong l) 0 + length (filter (λ (n : ℕ). isStar n && passed H vs p q n) l)
+unfolding filter countsOn
+count-parts H vs p q [] = go (eqb q p)
+  where
+    go : (t : Bool) → 0 ≡ cond t 0 0 + 0
+    go true = refl
+    go false = refl
+count-parts H vs p q (x ∷ l) =
+    rw (
+      length-keep (countedItem H vs p q x) x (filter (countedItem H vs p q) l),
+      length-keep (isStar x) x (filter isStar l),
+      length-keep (isStar x && passed H vs p q x) x (filter (λ (n : ℕ). isStar n && passed H vs p q n) l),
+    )
+    (go (eqb q p) refl (count-parts H vs p q l))
+  where
+    go : (t : Bool) → eqb q p ≡ t
+        → length (filter (countedItem H vs p q) l) ≡ cond t (starsAmong l) 0 + length (filter (λ (n : ℕ). isStar n && passed H vs p q n) l)
+        → one (isStar x && (t || passed H vs p q x)) + length (filter (countedItem H vs p q) l)
+        ≡ cond t (one (isStar x) + starsAmong l) 0 + (one (isStar x && passed H vs p q x) + length (filter (λ (n : ℕ). isStar n && passed H vs p q n) l))
+    go true e ih = omega (arith, ih, item-parts (isStar x) true (passed H vs p q x) (λ _. passed-high H vs x p q (omega (arith, eqb-true q p e))))
+    go false e ih = omega (arith, ih, item-parts (isStar x) false (passed H vs p q x) (λ f. absurd (false≢true f)))
+
+cond-most : (t : Bool) (n : ℕ) → cond t n 0 ≤ n
+cond-most true n = omega arith
+cond-most false n = omega arith
+
+-- a page is counted: its stars on it, and those that passed others
+module _ (H : Hash) (vs ns : List ℕ) (from page : ℕ) (entry : List ℕ) (stars : ℕ) (e : stars ≡ starsAmong (part (H .room) page ns)) (inside : page < 1024) where
+  pub stars-counts : (n m : ℕ) → Counts from n entry → n + H .room ≤ m → Counts from m (set entry page (getD entry page 0 + stars))
+  unfolding part
+  stars-counts n m most h =
+      let a = added-some from entry page stars (most .0) inside in (
+        a .size,
+        λ p o k. omega (arith, a .each p o k, most .1 p o k, cond-most (eqb page p) stars, e, taken-most isStar (drop (page * H .room) ns) (H .room)),
+      )
+
+  pub page-counted : length entry ≡ 1024 → (after : List ℕ) → Added from (λ p. passedOn H vs ns p page) (set entry page (getD entry page 0 + stars)) after
+      → Added from (λ p. countOn H vs ns p page) entry after
+  unfolding countOn passedOn
+  page-counted size after a =
+      added-then from (λ p. cond (eqb page p) stars 0) (λ p. passedOn H vs ns p page) (λ p. countOn H vs ns p page) entry (set entry page (getD entry page 0 + stars)) after
+      (added-some from entry page stars size inside) a
+      (λ p. rw e (count-parts H vs p page (part (H .room) page ns)))
+
+pub counted-none : (H : Hash) (vs ns : List ℕ) (from : ℕ) → Counted H vs ns from from (replicate {A = ℕ} 1024 0)
+unfolding countFrom
+counted-none H vs ns from =
+    let none : from - from ≡ 0 = omega arith in
+    record { size = refl; each = λ p o h. getD-replicate {A = ℕ} 1024 p 0 0 h ∙ sym (ap (countFrom H vs ns from p) none) }
+
+module _ (H : Hash) (vs ns : List ℕ) (from page : ℕ) (counts : List ℕ) (c : Counted H vs ns from page counts) where
+  pub counted-next : from ≤ page → (after : List ℕ) → Added from (λ p. countOn H vs ns p page) counts after → Counted H vs ns from (page + 1) after
+  unfolding countFrom
+  counted-next low after a =
+      let one-more : page + 1 - from ≡ suc (page - from) = omega arith in
+      let here : from + (page - from) ≡ page = omega arith in
+      record {
+        size = a .size;
+        each = λ p o k.
+            a .each p o k
+            ∙ ap (λ (n : ℕ). n + countOn H vs ns p page) (c .each p o k)
+            ∙ sym
+            (ap (countFrom H vs ns from p) one-more
+            ∙ ap (λ (q : ℕ). countFrom H vs ns from p (page - from) + countOn H vs ns p q) here);
+      }
+
+  pub counted-most : (stop m : ℕ) → page ≤ stop → stop * H .room ≤ m → Counts from m counts
+  counted-most stop m high h = (
+    c .size,
+    λ p o k. omega (
+      arith,
+      c .each p o k,
+      count-most H vs ns from p (page - from),
+      mul-le-mul-right {m = page - from} {n = stop} (H .room) (omega arith),
+    ),
+  )
 
 -- a search goes by what the test says of the numbers from `from` on
 such-alike : (t u : ℕ → Bool) (from n : ℕ) → ((q : ℕ) → from ≤ q → q < from + n → t q ≡ u q) → firstSuch t from n ≡ firstSuch u from n
@@ -332,15 +389,12 @@ such-alike t u from zero h = refl
 such-alike t u from (suc n) h = rw (h from (omega arith) (omega arith), such-alike t u (suc from) n (λ q a k. h q (omega arith) (omega arith)))
 
 -- the counters tell which separators could be one greater
-pub rising-raisable : (g : Geometry) (vs ns entry counts : List ℕ) (from stop : ℕ) → from ≤ stop → stop ≤ 1024 → Counts from 0 entry
-    → Added from (λ p. countFrom (hashUnder g) vs ns from p (stop - from)) entry counts → firstRising (g .parameters) vs counts from stop ≡ firstRaisable g vs ns from stop
+pub rising-raisable : (g : Geometry) (vs ns counts : List ℕ) (from stop : ℕ) → from ≤ stop → stop ≤ 1024
+    → Counted (hashUnder g) vs ns from stop counts → firstRising (g .parameters) vs counts from stop ≡ firstRaisable g vs ns from stop
 unfolding raisableFrom hashOf
-rising-raisable g vs ns entry counts from stop low few none c =
+rising-raisable g vs ns counts from stop low few c =
     such-alike _ (raisableFrom (hashUnder g) from (stop - from) vs ns) from (stop - from)
-    (λ q o h. ap (mayRise (topOf (g .parameters .bits)) (g .parameters .places) (getD vs q 0)) (counter q o (omega arith)))
-  where
-    counter : (q : ℕ) → from ≤ q → q < 1024 → getD counts q 0 ≡ countFrom (hashUnder g) vs ns from q (stop - from)
-    counter q o h = omega (arith, c .each q o h, none .1 q o h)
+    (λ q o h. ap (mayRise (topOf (g .parameters .bits)) (g .parameters .places) (getD vs q 0)) (c .each q o (omega arith)))
 
 -- one item more is looked at
 pub below-next : (number home : ℕ → ℕ) (low first i below r : ℕ) → (below ≡ 0 → (j : ℕ) → first ≤ j → j < i → (number j ≡ 0 → ⊥) → low ≤ home j)
@@ -351,14 +405,10 @@ below-next number home low first i below r done here e j f h star = go (decLt j 
     go (yes d) = done (omega arith) j f d star
     go (no d) = let same : j ≡ i = omega arith in rw same (here (omega arith) (λ z. star (rw same z)))
 
--- .. and one page more
-pub near-next : (places : ℕ) (ns hs : List ℕ) (from page low : ℕ) → Signable 90 places ns hs from page → low + 44 ≡ page → HomedFrom low ns hs (page * places) (page * places + places)
-    → Signable 90 places ns hs from (page + 1)
-near-next places ns hs from page low done e here q i f h l star = go (decLt q page)
-  where
-    go : Dec (q < page) → 2 * (q - getD hs (q * places + i) 0) < 90
-    go (yes d) = done q i f d l star
-    go (no d) =
-        let same : q ≡ page = omega arith in
-        let home : low ≤ getD hs (q * places + i) 0 = rw same (here (page * places + i) (omega arith) (omega arith) (λ z. star (rw same z))) in
-        omega (arith, home, e)
+-- a table of so many entries signs the stars of a page that are homed at page `low` or above
+pub page-signable : (entries places : ℕ) (ns hs : List ℕ) (page low : ℕ) → 2 * (page - low) < entries → HomedFrom low ns hs (page * places) (page * places + places)
+    → Signable entries places ns hs page (suc page)
+page-signable entries places ns hs page low few here q i f h l star =
+    let same : q ≡ page = omega arith in
+    let home : low ≤ getD hs (q * places + i) 0 = rw same (here (page * places + i) (omega arith) (omega arith) (λ z. star (rw same z))) in
+    omega (arith, home, few)

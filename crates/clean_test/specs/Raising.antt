@@ -24,12 +24,23 @@ unfoldable pub countsOn : Hash → List ℕ → ℕ → ℕ → ℕ → Bool
 countsOn H vs p q k = eqb q p || passed H vs p q k
 
 -- "0 marks an empty place"
+abbrev pub isStar : ℕ → Bool
+isStar n = not (eqb n 0)
+
 abbrev pub countedItem : Hash → List ℕ → ℕ → ℕ → ℕ → Bool
-countedItem H vs p q n = not (eqb n 0) && countsOn H vs p q n
+countedItem H vs p q n = isStar n && countsOn H vs p q n
 
 -- how many of the numbers ns of page q count on page p
 unfoldable pub countOn : Hash → List ℕ → List ℕ → ℕ → ℕ → ℕ
 countOn H vs ns p q = length (filter (countedItem H vs p q) (part (H .room) q ns))
+
+-- how many of the numbers ns of page q passed page p so
+unfoldable pub passedOn : Hash → List ℕ → List ℕ → ℕ → ℕ → ℕ
+passedOn H vs ns p q = length (filter (λ (n : ℕ). isStar n && passed H vs p q n) (part (H .room) q ns))
+
+-- how many items are stars
+abbrev pub starsAmong : List ℕ → ℕ
+starsAmong l = length (filter isStar l)
 
 -- how many of the numbers of the n pages from `from` on
 unfoldable pub countFrom : Hash → List ℕ → List ℕ → ℕ → ℕ → ℕ → ℕ
@@ -74,6 +85,11 @@ pub record Added (from : ℕ) (more : ℕ → ℕ) (entry exit : List ℕ) : Typ
 
 abbrev pub Adds : ℕ → (ℕ → ℕ) → Lent → Type 0
 Adds from more counts = Added from more (now (counts .entry)) (now (counts .exit))
+
+-- the counters from page `from` on tell how many of the numbers of the pages up to the one before `page` count there
+pub record Counted (H : Hash) (vs ns : List ℕ) (from page : ℕ) (counts : List ℕ) : Type 0 where
+  pub size : length counts ≡ 1024
+  pub each : (p : ℕ) → from ≤ p → p < 1024 → getD counts p 0 ≡ countFrom H vs ns from p (page - from)
 
 -- the separators and numbers of a file, and the homes of the items of the pages from `from` up to the one before `stop`
 pub record Homed (g : Geometry) (vs ns hs : List ℕ) (from stop : ℕ) : Type 0 where

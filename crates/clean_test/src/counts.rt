@@ -1,12 +1,12 @@
 // A local test for pages that are the rule's: sound pages are so exactly if no separator could be one greater.
 ghost use mathlib.Core.Path.{_≡_};
-ghost use mathlib.Core.Bool.{true};
+ghost use mathlib.Core.Bool.{true, false};
 ghost use Prim.Native.Nat.{suc, _+_, _-_, _*_, _≤_, _<_};
-ghost use lib.ListN.{length};
+ghost use lib.ListN.{length, take, drop};
 ghost use Rattle.hashing.specs.Limits.{validParameters};
 ghost use Rattle.placement.specs.Hash.{homeUnder};
 ghost use Rattle.placement.specs.Ready.{Signers};
-ghost use Rattle.clean_test.specs.Raising.{passed, countOn, countFrom, mayRise, one, Counts, Adds, Homed, HomedFrom, Signable, hashUnder, firstRaisable, firstRising};
+ghost use Rattle.clean_test.specs.Raising.{passed, passedOn, countOn, mayRise, one, isStar, starsAmong, Counts, Counted, Adds, Homed, HomedFrom, Signable, hashUnder, firstRaisable, firstRising};
 use hashing::Geometry;
 use hashing::Parameters;
 
@@ -51,8 +51,8 @@ fn count_passed(
     }
 }
 
-// Counts the stars of a page: on it, and on those from `from` on that they passed. A star at home passed none.
-fn count_page(
+// Counts the stars of a page that stand above their home, on the pages from `from` on that they passed.
+fn count_off_home(
     table: &[u32],
     geometry: Geometry,
     separators: &[u8],
@@ -64,10 +64,9 @@ fn count_page(
 )
     requires { ⌜ Signers (geometry .parameters) (now table) ⌝ }
     requires { ⌜ Homed geometry (now separators) (now numbers) (now homes) page (suc page) ⌝ }
-    requires { ⌜ Counts from 32768 (now counts) ⌝ }
-    requires { ⌜ from ≤ page ⌝ }
+    requires { ⌜ Counts from 32800 (now counts) ⌝ }
     requires { ⌜ Signable (length (now table)) (geometry .parameters .places) (now numbers) (now homes) page (suc page) ⌝ }
-    ensures { λ _. ⌜ Adds from (λ p. countOn (hashUnder geometry) (now (separators .entry)) (now (numbers .entry)) p page) counts ⌝ }
+    ensures { λ _. ⌜ Adds from (λ p. passedOn (hashUnder geometry) (now (separators .entry)) (now (numbers .entry)) p page) counts ⌝ }
 {
     let places = geometry.parameters.places as usize;
     let first = page * places;
@@ -77,7 +76,6 @@ fn count_page(
         let home = homes[first + i] as usize;
         i += 1;
         if number != 0 {
-            counts[page] += 1;
             if home < page {
                 count_passed(
                     table,
@@ -94,36 +92,28 @@ fn count_page(
     }
 }
 
-fn count_pages(
-    table: &[u32],
-    geometry: Geometry,
-    separators: &[u8],
-    numbers: &[u32],
-    homes: &[u32],
-    counts: &mut [u32; 1024],
-    from: usize,
-    stop: usize,
-)
-    requires { ⌜ Signers (geometry .parameters) (now table) ⌝ }
-    requires { ⌜ Homed geometry (now separators) (now numbers) (now homes) from stop ⌝ }
-    requires { ⌜ Counts from 0 (now counts) ⌝ }
-    requires { ⌜ Signable (length (now table)) (geometry .parameters .places) (now numbers) (now homes) from stop ⌝ }
-    ensures { λ _. ⌜ Adds from (λ p. countFrom (hashUnder geometry) (now (separators .entry)) (now (numbers .entry)) from p (stop - from)) counts ⌝ }
+// How many of the items from `first` on are stars.
+fn count_stars(numbers: &[u32], first: usize, places: usize) -> u32
+    requires { ⌜ (first + places ≤ length (now numbers)) × (places ≤ 32) ⌝ }
+    ensures { λ r. ⌜ r ≡ starsAmong (take places (drop first (now (numbers .entry)))) ⌝ }
 {
-    let mut page = from;
-    while page < stop {
-        count_page(
-            table,
-            geometry,
-            separators,
-            numbers,
-            homes,
-            counts,
-            from,
-            page,
-        );
-        page += 1;
+    let mut stars: u32 = 0;
+    let mut i = 0;
+    while i < places {
+        stars += one_star(numbers[first + i]);
+        i += 1;
     }
+    stars
+}
+
+// 1 for a star, 0 for an empty place.
+fn one_star(number: u32) -> u32
+    ensures { λ r. ⌜ r ≡ one (isStar number) ⌝ }
+{
+    if number == 0 {
+        return 0;
+    }
+    1
 }
 
 // How many stars from item `first` up to the one before `last` are homed below page `low`.
@@ -154,65 +144,103 @@ fn homed_below(number: u32, home: u32, low: u32) -> u32
     1
 }
 
-// Whether no star is more than 44 pages above its home, so that the first ninety multipliers sign all of them on the pages that they passed.
-fn all_near(numbers: &[u32], homes: &[u32], places: usize, from: usize, stop: usize) -> bool
-    requires { ⌜ (stop * places ≤ length (now numbers)) × (stop * places ≤ length (now homes)) ⌝ }
-    requires { ⌜ (stop ≤ 1024) × (places ≤ 32) ⌝ }
-    ensures { λ r. ⌜ (r ≡ true → Signable 90 places (now (numbers .entry)) (now (homes .entry)) from stop) ⌝ }
+// Whether a table of so many entries signs the stars of a page on each page that they passed.
+fn signs_page(entries: usize, numbers: &[u32], homes: &[u32], places: usize, page: usize) -> bool
+    requires { ⌜ (0 < entries) × ((page < 1024) × (places ≤ 32)) ⌝ }
+    requires { ⌜ (page * places + places ≤ length (now numbers)) × (page * places + places ≤ length (now homes)) ⌝ }
+    ensures { λ r. ⌜ (r ≡ true → Signable entries places (now (numbers .entry)) (now (homes .entry)) page (suc page)) ⌝ }
+    ensures { λ r. ⌜ (2 * page < entries → r ≡ true) ⌝ }
 {
-    let mut page = later(from, 45);
-    while page < stop {
-        let first = page * places;
-        let low = (page - 44) as u32;
-        if count_below(numbers, homes, first, first + places, low) != 0 {
-            return false;
-        }
-        page += 1;
+    let reach = (entries - 1) / 2;
+    if page <= reach {
+        return true;
     }
-    true
+    let first = page * places;
+    let low = (page - reach) as u32;
+    count_below(numbers, homes, first, first + places, low) == 0
 }
 
-// Counts the stars of the pages by the first ninety multipliers, or by the whole table where a star has passed more than 44 pages.
-fn count_stars(
+// Counts the stars of a page: on it, and on those from `from` on that they passed. A star at home passed none. If the table does not sign
+// them all, none is counted.
+fn count_page(
+    table: &[u32],
     geometry: Geometry,
     separators: &[u8],
     numbers: &[u32],
     homes: &[u32],
     counts: &mut [u32; 1024],
     from: usize,
-    stop: usize,
-)
-    requires { ⌜ validParameters (geometry .parameters) ≡ true ⌝ }
-    requires { ⌜ Homed geometry (now separators) (now numbers) (now homes) from stop ⌝ }
-    requires { ⌜ Counts from 0 (now counts) ⌝ }
-    ensures { λ _. ⌜ Adds from (λ p. countFrom (hashUnder geometry) (now (separators .entry)) (now (numbers .entry)) from p (stop - from)) counts ⌝ }
+    page: usize,
+) -> bool
+    requires { ⌜ Signers (geometry .parameters) (now table) ⌝ }
+    requires { ⌜ Homed geometry (now separators) (now numbers) (now homes) page (suc page) ⌝ }
+    requires { ⌜ Counts from 32768 (now counts) ⌝ }
+    requires { ⌜ from ≤ page ⌝ }
+    ensures { λ r. ⌜ (r ≡ true → Adds from (λ p. countOn (hashUnder geometry) (now (separators .entry)) (now (numbers .entry)) p page) counts) ⌝ }
+    ensures { λ r. ⌜ (r ≡ false → now (counts .exit) ≡ now (counts .entry)) ⌝ }
+    ensures { λ r. ⌜ (2 * page < length (now (table .entry)) → r ≡ true) ⌝ }
 {
-    let parameters = geometry.parameters;
-    if all_near(numbers, homes, parameters.places as usize, from, stop) {
-        let table = generator::first_multipliers(parameters.multiplier);
-        count_pages(
-            &table,
-            geometry,
-            separators,
-            numbers,
-            homes,
-            counts,
-            from,
-            stop,
-        );
-        return;
+    let places = geometry.parameters.places as usize;
+    let first = page * places;
+    let stars = count_stars(numbers, first, places);
+    if count_below(numbers, homes, first, first + places, page as u32) == 0 {
+        counts[page] += stars;
+        return true;
     }
-    let table = generator::multipliers(parameters.multiplier);
-    count_pages(
-        &table,
+    if !signs_page(table.len(), numbers, homes, places, page) {
+        return false;
+    }
+    counts[page] += stars;
+    count_off_home(
+        table,
         geometry,
         separators,
         numbers,
         homes,
         counts,
         from,
-        stop,
+        page,
     );
+    true
+}
+
+// Counts the stars of the pages from `start` up to the first one with a star that the table does not sign, which is answered; `stop` if there is none.
+fn count_pages(
+    table: &[u32],
+    geometry: Geometry,
+    separators: &[u8],
+    numbers: &[u32],
+    homes: &[u32],
+    counts: &mut [u32; 1024],
+    from: usize,
+    start: usize,
+    stop: usize,
+) -> usize
+    requires { ⌜ Signers (geometry .parameters) (now table) ⌝ }
+    requires { ⌜ Homed geometry (now separators) (now numbers) (now homes) from stop ⌝ }
+    requires { ⌜ (from ≤ start) × (start ≤ stop) ⌝ }
+    requires { ⌜ Counted (hashUnder geometry) (now separators) (now numbers) from start (now counts) ⌝ }
+    ensures { λ r. ⌜ (start ≤ r) × (r ≤ stop) ⌝ }
+    ensures { λ r. ⌜ (2 * stop < length (now (table .entry)) → r ≡ stop) ⌝ }
+    ensures { λ r. ⌜ Counted (hashUnder geometry) (now (separators .entry)) (now (numbers .entry)) from r (now (counts .exit)) ⌝ }
+{
+    let mut page = start;
+    while page < stop {
+        if !count_page(
+            table,
+            geometry,
+            separators,
+            numbers,
+            homes,
+            counts,
+            from,
+            page,
+        ) {
+            return page;
+        }
+        page += 1;
+    }
+    page
 }
 
 fn could_rise(separator: u8, top: u8, count: u32, places: u32) -> bool
@@ -245,7 +273,112 @@ fn first_rising(
     page
 }
 
+// The same with the pages from `start` on counted by the whole table. Each table has a function of its own: inlined here, their copies share one
+// place, and with both this function is too long to be inlined where no star is so far from home.
+fn first_raisable_beyond(
+    geometry: Geometry,
+    separators: &[u8],
+    numbers: &[u32],
+    homes: &[u32],
+    counts: &mut [u32; 1024],
+    from: usize,
+    start: usize,
+    stop: usize,
+) -> usize
+    requires { ⌜ validParameters (geometry .parameters) ≡ true ⌝ }
+    requires { ⌜ Homed geometry (now separators) (now numbers) (now homes) from stop ⌝ }
+    requires { ⌜ (from ≤ start) × (start ≤ stop) ⌝ }
+    requires { ⌜ Counted (hashUnder geometry) (now separators) (now numbers) from start (now counts) ⌝ }
+    ensures { λ r. ⌜ r ≡ firstRaisable geometry (now (separators .entry)) (now (numbers .entry)) from stop ⌝ }
+{
+    if geometry.parameters.multiplier == 48271 {
+        return first_raisable_by_48271(
+            geometry,
+            separators,
+            numbers,
+            homes,
+            counts,
+            from,
+            start,
+            stop,
+        );
+    }
+    first_raisable_by_16807(
+        geometry,
+        separators,
+        numbers,
+        homes,
+        counts,
+        from,
+        start,
+        stop,
+    )
+}
+
+fn first_raisable_by_48271(
+    geometry: Geometry,
+    separators: &[u8],
+    numbers: &[u32],
+    homes: &[u32],
+    counts: &mut [u32; 1024],
+    from: usize,
+    start: usize,
+    stop: usize,
+) -> usize
+    requires { ⌜ (validParameters (geometry .parameters) ≡ true) × (geometry .parameters .multiplier ≡ 48271) ⌝ }
+    requires { ⌜ Homed geometry (now separators) (now numbers) (now homes) from stop ⌝ }
+    requires { ⌜ (from ≤ start) × (start ≤ stop) ⌝ }
+    requires { ⌜ Counted (hashUnder geometry) (now separators) (now numbers) from start (now counts) ⌝ }
+    ensures { λ r. ⌜ r ≡ firstRaisable geometry (now (separators .entry)) (now (numbers .entry)) from stop ⌝ }
+{
+    let table = generator::multipliers(48271);
+    let end = count_pages(
+        &table,
+        geometry,
+        separators,
+        numbers,
+        homes,
+        counts,
+        from,
+        start,
+        stop,
+    );
+    first_rising(geometry.parameters, separators, counts, from, end)
+}
+
+fn first_raisable_by_16807(
+    geometry: Geometry,
+    separators: &[u8],
+    numbers: &[u32],
+    homes: &[u32],
+    counts: &mut [u32; 1024],
+    from: usize,
+    start: usize,
+    stop: usize,
+) -> usize
+    requires { ⌜ (validParameters (geometry .parameters) ≡ true) × (geometry .parameters .multiplier ≡ 16807) ⌝ }
+    requires { ⌜ Homed geometry (now separators) (now numbers) (now homes) from stop ⌝ }
+    requires { ⌜ (from ≤ start) × (start ≤ stop) ⌝ }
+    requires { ⌜ Counted (hashUnder geometry) (now separators) (now numbers) from start (now counts) ⌝ }
+    ensures { λ r. ⌜ r ≡ firstRaisable geometry (now (separators .entry)) (now (numbers .entry)) from stop ⌝ }
+{
+    let table = generator::multipliers(16807);
+    let end = count_pages(
+        &table,
+        geometry,
+        separators,
+        numbers,
+        homes,
+        counts,
+        from,
+        start,
+        stop,
+    );
+    first_rising(geometry.parameters, separators, counts, from, end)
+}
+
 // The first page from `from` up to the one before `stop` whose separator could be one greater, by the stars of these pages; `stop` if there is none.
+// The first ninety multipliers serve up to a page with a star more than 44 pages above its home.
 pub fn first_raisable(
     geometry: Geometry,
     separators: &[u8],
@@ -258,15 +391,30 @@ pub fn first_raisable(
     requires { ⌜ Homed geometry (now separators) (now numbers) (now homes) from stop ⌝ }
     ensures { λ r. ⌜ r ≡ firstRaisable geometry (now (separators .entry)) (now (numbers .entry)) from stop ⌝ }
 {
+    let table = generator::first_multipliers(geometry.parameters.multiplier);
     let mut counts = [0u32; 1024];
-    count_stars(
+    let near = count_pages(
+        &table,
         geometry,
         separators,
         numbers,
         homes,
         &mut counts,
         from,
+        from,
         stop,
     );
-    first_rising(geometry.parameters, separators, &counts, from, stop)
+    if near == stop {
+        return first_rising(geometry.parameters, separators, &counts, from, stop);
+    }
+    first_raisable_beyond(
+        geometry,
+        separators,
+        numbers,
+        homes,
+        &mut counts,
+        from,
+        near,
+        stop,
+    )
 }

@@ -49,7 +49,8 @@ fn near_end(home: usize, pages: usize) -> usize
     pages
 }
 
-// Probes the pages from `start` on, none before it having been the one, by the whole table.
+// Probes the pages from `start` on, none before it having been the one, by the whole table. Each table has a function of its own: inlined here,
+// their copies share one place, and with both this function is too long to be inlined where no probe goes so far.
 fn probe_beyond(
     parameters: Parameters,
     separators: &[u8],
@@ -62,7 +63,49 @@ fn probe_beyond(
     requires { ⌜ first (hashFrom parameters home) 0 (take start (now separators)) number ≡ start ⌝ }
     ensures { λ r. ⌜ r ≡ first (hashFrom parameters home) 0 (take (length (now (separators .entry))) (now (separators .entry))) number ⌝ }
 {
-    let table = generator::multipliers(parameters.multiplier);
+    if parameters.multiplier == 48271 {
+        return probe_by_48271(parameters, separators, number, home, start);
+    }
+    probe_by_16807(parameters, separators, number, home, start)
+}
+
+fn probe_by_48271(
+    parameters: Parameters,
+    separators: &[u8],
+    number: u32,
+    home: usize,
+    start: usize,
+) -> usize
+    requires { ⌜ (validParameters parameters ≡ true) × (parameters .multiplier ≡ 48271) ⌝ }
+    requires { ⌜ (home ≤ start) × ((start ≤ length (now separators)) × (length (now separators) ≤ 1024)) ⌝ }
+    requires { ⌜ first (hashFrom parameters home) 0 (take start (now separators)) number ≡ start ⌝ }
+    ensures { λ r. ⌜ r ≡ first (hashFrom parameters home) 0 (take (length (now (separators .entry))) (now (separators .entry))) number ⌝ }
+{
+    let table = generator::multipliers(48271);
+    probe(
+        &table,
+        parameters,
+        separators,
+        number,
+        home,
+        start,
+        separators.len(),
+    )
+}
+
+fn probe_by_16807(
+    parameters: Parameters,
+    separators: &[u8],
+    number: u32,
+    home: usize,
+    start: usize,
+) -> usize
+    requires { ⌜ (validParameters parameters ≡ true) × (parameters .multiplier ≡ 16807) ⌝ }
+    requires { ⌜ (home ≤ start) × ((start ≤ length (now separators)) × (length (now separators) ≤ 1024)) ⌝ }
+    requires { ⌜ first (hashFrom parameters home) 0 (take start (now separators)) number ≡ start ⌝ }
+    ensures { λ r. ⌜ r ≡ first (hashFrom parameters home) 0 (take (length (now (separators .entry))) (now (separators .entry))) number ⌝ }
+{
+    let table = generator::multipliers(16807);
     probe(
         &table,
         parameters,

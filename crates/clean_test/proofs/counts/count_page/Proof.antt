@@ -1,201 +1,180 @@
--- The first i numbers of the page are counted.
-use mathlib.Core.Path.{_≡_, refl}
-use Prim.Native.Nat.{_+_, _-_, _*_, _≤_, _<_}
-use native.Mathlib.Nat.{le-refl, suc-mul, mul-le-mul-right}
+-- A page whose stars are all at home is counted at once; of another those are counted one by one that stand above their home.
+use mathlib.Core.Path.{_≡_, refl, sym, _∙_}
+use mathlib.Core.Bool.{true≢false, false≢true}
+use Prim.Native.Nat.{ℕ, _+_, _*_, _≤_, _<_}
+use native.Mathlib.Nat.{suc-mul, mul-le-mul-right}
 use native.Mathlib.Omega.{arith}
-use lib.ListN.{length, getD}
+use borrow.Author.Needs.{needs}
+use borrow.Author.Tests.{not-true, not-false}
+use lib.ListN.{length, getD, set, drop, length-set}
 use Rattle.hashing.proofs.Bounds.{limits}
-use Rattle.placement.specs.Hash.{hashOf, homeUnder}
-use Rattle.clean_test.specs.Raising.{hashUnder}
-use Rattle.calls.proofs.Spots.{item-within}
-use Rattle.clean_test.proofs.Counters.{PlacesCounted, places-none, places-empty, places-star, places-fits, places-counts, places-home, places-all, home-item}
+use Rattle.pages.specs.Page.{part}
+use Rattle.placement.specs.Hash.{hashOf}
+use Rattle.calls.proofs.Refusals.{items-most}
+use Rattle.clean_test.specs.Raising.{hashUnder, isStar, starsAmong, Added, passedOn}
+use Rattle.clean_test.proofs.Counters.{taken-most, home-item, places-still, stars-counts, page-counted}
 use Rattle.clean_test.proofs.counts.count_page.Statement.{statement}
 use Rattle.clean_test.proofs.counts.count_page.Tie as tie
-use Rattle.calls.proofs.Refusals.{items-most}
 
-abbrev Inv-loop : tie.InvT-loop
-Inv-loop table geometry separators numbers homes counts₀ from page places first i₀ counts i =
-    (i ≤ places) × PlacesCounted (hashUnder geometry) separators numbers from page i counts₀ counts
-
-abbrev μ-loop : tie.MeasureT-loop
-μ-loop table geometry separators numbers homes counts₀ from page places first i₀ counts i = places - i
-
-abbrev start : tie.At-loop Inv-loop μ-loop → tie.Start Inv-loop μ-loop
-start k = k .before .before .before .before .before .before
-
--- the item is one of the file's
-within : (c : tie.In-loop Inv-loop μ-loop) →
-    let a = start (c .before) .args in
-    a .page * a .geometry .parameters .places + c .before .loop .i < a .geometry .parameters .pages * a .geometry .parameters .places
-within c =
-    let s = start (c .before) in
-    item-within (s .args .geometry .parameters .pages) (s .args .geometry .parameters .places) (s .args .page) (c .before .loop .i) (s .pre .1 .0 .high) (c .loop-test .taken)
-
-inside : (c : tie.In-loop Inv-loop μ-loop) →
-    let a = start (c .before) .args in
-    a .page * a .geometry .parameters .places + c .before .loop .i < length (a .numbers .now)
-inside c = omega (arith, within c, start (c .before) .pre .1 .0 .numbers)
-
-few : (c : tie.In-loop Inv-loop μ-loop) →
-    let a = start (c .before) .args in
-    a .page * a .geometry .parameters .places + c .before .loop .i < 32768
-few c = omega (arith, within c, items-most (start (c .before) .args .geometry .parameters) (start (c .before) .pre .0 .valid))
-
-low-page : (s : tie.Start Inv-loop μ-loop) → s .args .page < 1024
+low-page : (s : tie.Start) → s .args .page < 1024
 low-page s = omega (arith, s .pre .1 .0 .high, limits (s .args .geometry .parameters) (s .pre .0 .valid) .pages-most)
 
-cast-places : tie.Need-cast-places Inv-loop μ-loop
-cast-places c = omega (arith, limits _ (c .before .before .before .before .before .pre .0 .valid) .places-most)
+-- where the page ends
+last : (s : tie.Start) →
+    let p = s .args .geometry .parameters in
+    s .args .page * p .places + p .places ≤ p .pages * p .places
+last s =
+    let p = s .args .geometry .parameters in
+    omega (arith, mul-le-mul-right (p .places) (s .pre .1 .0 .high), suc-mul (s .args .page) (p .places))
 
-mul-first : tie.Need-mul-first Inv-loop μ-loop
-mul-first c =
-    let s = c .before .before .before .before .before in
-    omega (arith, mul-le-mul-right (s .args .geometry .parameters .places) (s .pre .1 .0 .high), suc-mul (s .args .page) (s .args .geometry .parameters .places), items-most _ (s .pre .0 .valid))
+few : (s : tie.Start) → s .args .page * s .args .geometry .parameters .places + s .args .geometry .parameters .places ≤ 32768
+few s = omega (arith, last s, items-most (s .args .geometry .parameters) (s .pre .0 .valid))
 
-loop-holds : tie.Need-loop-holds Inv-loop μ-loop
-loop-holds c = (omega arith, places-none _ _ _ _ _ _ (c .before .before .before .before .before .pre .1 .1 .0 .0))
+inside : (s : tie.Start) →
+    let e = s .args .page * s .args .geometry .parameters .places + s .args .geometry .parameters .places in
+    (e ≤ length (s .args .numbers .now)) × (e ≤ length (s .args .homes .now))
+inside s = (omega (arith, last s, s .pre .1 .0 .numbers), omega (arith, last s, s .pre .1 .0 .homes))
 
-add-number : tie.Need-add-number Inv-loop μ-loop
-add-number c = omega (arith, few c)
+abbrev start : tie.After-count-stars → tie.Start
+start c = c .before .before .before .before .before .before
 
-mul-number : tie.Need-mul-number Inv-loop μ-loop
-mul-number c = omega (arith, few c)
+-- the page's stars
+counted : (c : tie.After-count-stars) → c .count-stars .result ≡ starsAmong (part (start c .args .geometry .parameters .places) (start c .args .page) (start c .args .numbers .now))
+unfolding part
+counted c = c .count-stars .ensures
 
-shared-slice-read-number : tie.Need-shared-slice-read-number Inv-loop μ-loop
-shared-slice-read-number c = inside (c .before)
-
-add-home : tie.Need-add-home Inv-loop μ-loop
-add-home c = omega (arith, few (c .before))
-
-mul-home : tie.Need-mul-home Inv-loop μ-loop
-mul-home c = omega (arith, few (c .before))
-
-shared-slice-read-home : tie.Need-shared-slice-read-home Inv-loop μ-loop
-shared-slice-read-home c =
-    let s = start (c .before .before .before) in
-    omega (arith, within (c .before .before), s .pre .1 .0 .homes)
-
-cast-home : tie.Need-cast-home Inv-loop μ-loop
-cast-home c =
-    let k = c .before .before .before in
-    let a = start k .args in
-    omega (arith, c .shared-slice-known6 .given (a .page * a .geometry .parameters .places + k .loop .i))
-
-add-i : tie.Need-add-i Inv-loop μ-loop
-add-i c = omega arith
-
-mul-counts : tie.Need-mul-counts Inv-loop μ-loop
-mul-counts c = omega (arith, low-page (start (c .before .before .before .before)))
-
-element-copy-out-counts : tie.Need-element-copy-out-counts Inv-loop μ-loop
-element-copy-out-counts c = low-page (start (c .before .before .before .before))
-
-add-counts : tie.Need-add-counts Inv-loop μ-loop
-add-counts c =
-    let k = c .before .before .before .before .before in
-    let s = start k in
+more : (c : tie.After-count-stars) → getD (start c .args .counts .now) (start c .args .page) 0 + c .count-stars .result ≤ 32800
+more c =
+    let s = start c in
+    let a = s .args in
     omega (
       arith,
-      places-fits _ _ _ _ _ _ 32768 _ _ (k .loop .inv .1) (s .pre .1 .1 .0 .1) (s .args .page) (s .pre .1 .1 .1 .0) (low-page s),
-      limits (s .args .geometry .parameters) (s .pre .0 .valid) .places-most,
+      s .pre .1 .1 .0 .1 (a .page) (s .pre .1 .1 .1) (low-page s),
+      c .count-stars .ensures,
+      taken-most isStar (drop (a .page * a .geometry .parameters .places) (a .numbers .now)) (a .geometry .parameters .places),
+      limits (a .geometry .parameters) (s .pre .0 .valid) .places-most,
     )
 
-element-write-counts : tie.Need-element-write-counts Inv-loop μ-loop
-element-write-counts c = low-page (start (c .before .before .before .before .before))
+cast-places : tie.Need-cast-places
+cast-places c = search needs
 
--- the star's home
-homed : (c : tie.Then1 Inv-loop μ-loop) →
-    let k = c .before .before .before .before in
-    let a = start k .args in
-    let j = a .page * a .geometry .parameters .places + k .loop .i in
-    getD (a .homes .now) j 0 ≡ homeUnder (a .geometry) (getD (a .numbers .now) j 0)
-homed c =
-    let k = c .before .before .before .before in
-    let s = start k in
-    home-item (s .args .geometry) (s .args .separators .now) (s .args .numbers .now) (s .args .homes .now) (s .args .page) (s .pre .1 .0) (k .loop .i) (c .before .before .before .loop-test .taken) (c .if1 .taken)
+mul-first : tie.Need-mul-first
+mul-first c = omega (arith, few (c .before .before .before .before .before))
 
-count-passed-requires : tie.Need-count-passed-requires Inv-loop μ-loop
-count-passed-requires c κs =
-    let k = c .before .before .before .before .before .before .before in
+count-stars-requires : tie.Need-count-stars-requires
+count-stars-requires c κs =
+    let s = c .before .before .before .before .before in
+    (inside s .0, limits (s .args .geometry .parameters) (s .pre .0 .valid) .places-most)
+
+add-count-below : tie.Need-add-count-below
+add-count-below c = omega (arith, few (start c))
+
+cast-count-below : tie.Need-cast-count-below
+cast-count-below c = omega (arith, low-page (start c))
+
+count-below-requires : tie.Need-count-below-requires
+count-below-requires c κs = ((omega arith, inside (start c)), few (start c))
+
+mul-counts : tie.Need-mul-counts
+mul-counts c = omega (arith, low-page (start (c .before .before)))
+
+element-copy-out-counts : tie.Need-element-copy-out-counts
+element-copy-out-counts c = low-page (start (c .before .before))
+
+add-counts : tie.Need-add-counts
+add-counts c = omega (arith, more (c .before .before .before))
+
+element-write-counts : tie.Need-element-write-counts
+element-write-counts c = low-page (start (c .before .before .before))
+
+-- all stars are at home
+unmoved : (c : tie.Then1) →
+    let s = start (c .before .before) in
+    let l = set (s .args .counts .now) (s .args .page) (getD (s .args .counts .now) (s .args .page) 0 + c .before .before .count-stars .result) in
+    Added (s .args .from) (λ (p : ℕ). passedOn (hashUnder (s .args .geometry)) (s .args .separators .now) (s .args .numbers .now) p (s .args .page)) l l
+unfolding hashOf
+unmoved c =
+    let s = start (c .before .before) in
+    let a = s .args in
+    let first = a .page * a .geometry .parameters .places in
+    places-still _ _ _ _ _ _ (length-set (a .counts .now) (a .page) _ ∙ s .pre .1 .1 .0 .0) (inside s .0)
+    (λ i h star.
+    omega (
+      arith,
+      c .before .count-below .ensures (c .if1 .taken) (first + i) (omega arith) (omega arith) star,
+      home-item (a .geometry) (a .separators .now) (a .numbers .now) (a .homes .now) (a .page) (s .pre .1 .0) i h star,
+    ))
+
+returns : tie.Need-returns
+unfolding hashOf
+returns c =
+    let k = c .before .before .before in
     let s = start k in
-    let few-places = limits (s .args .geometry .parameters) (s .pre .0 .valid) .places-most in (
+    (λ _. page-counted _ _ _ _ _ _ _ (counted k) (low-page s) (s .pre .1 .1 .0 .0) _ (unmoved (c .before)), (λ e. absurd (true≢false e), λ _. refl))
+
+signs-page-requires : tie.Need-signs-page-requires
+signs-page-requires c κs =
+    let s = start (c .before .before) in
+    ((omega (arith, s .pre .0 .long), (low-page s, limits (s .args .geometry .parameters) (s .pre .0 .valid) .places-most)), inside s)
+
+returns-2 : tie.Need-returns-2
+returns-2 c = (λ e. absurd (false≢true e), (λ _. refl, λ h. sym (not-true _ (c .if2 .taken)) ∙ c .before .signs-page .ensures .1 h))
+
+mul-counts-2 : tie.Need-mul-counts-2
+mul-counts-2 c = omega (arith, low-page (start (c .before .before .before .before)))
+
+element-copy-out-counts-2 : tie.Need-element-copy-out-counts-2
+element-copy-out-counts-2 c = low-page (start (c .before .before .before .before))
+
+add-counts-2 : tie.Need-add-counts-2
+add-counts-2 c = omega (arith, more (c .before .before .before .before .before))
+
+element-write-counts-2 : tie.Need-element-write-counts-2
+element-write-counts-2 c = low-page (start (c .before .before .before .before .before))
+
+count-off-home-requires : tie.Need-count-off-home-requires
+unfolding hashOf
+count-off-home-requires c κs =
+    let k = c .before .before .before .before .before .before in
+    let s = start k in
+    let places = limits (s .args .geometry .parameters) (s .pre .0 .valid) .places-most in (
       s .pre .0,
       (
-        (omega (arith, s .pre .1 .0 .separators, s .pre .1 .0 .high), omega (arith, low-page s)),
+        s .pre .1 .0,
         (
-          places-counts _ _ _ _ _ _ 32768 65535 _ _ (k .loop .inv .1) (s .pre .1 .1 .0) (low-page s) (omega (arith, few-places)),
-          (
-            homed (c .before .before .before),
-            s .pre .1 .1 .1 .1 (s .args .page) (k .loop .i) (le-refl (s .args .page)) (omega arith) (c .before .before .before .before .before .before .loop-test .taken) (c .before .before .before .if1 .taken),
-          ),
+          stars-counts (hashUnder (s .args .geometry)) (s .args .separators .now) (s .args .numbers .now) _ _ (s .args .counts .now) _ (counted k) (low-page s) 32768 32800 (s .pre .1 .1 .0) (omega (arith, places)),
+          c .before .before .before .signs-page .ensures .0 (not-false _ (c .before .before .if2 .left)),
         ),
       ),
     )
 
-loop-less : tie.Need-loop-less Inv-loop μ-loop
-loop-less c = omega arith
-
-loop-again : tie.Need-loop-again Inv-loop μ-loop
+returns-3 : tie.Need-returns-3
 unfolding hashOf
-loop-again c =
-    let k = c .before .before .before .before .before .before .before .before in
-    let s = start k in (
-      omega (arith, c .before .before .before .before .before .before .before .loop-test .taken),
-      places-star _ _ _ _ _ _ _ _ (k .loop .inv .1) (c .before .before .before .before .before .before .before .loop-test .taken) (inside (c .before .before .before .before .before .before .before)) _ _ refl (c .before .before .before .before .if1 .taken) (low-page s) (c .count-passed .ensures),
-    )
-
-loop-less-2 : tie.Need-loop-less-2 Inv-loop μ-loop
-loop-less-2 c = omega arith
-
-loop-again-2 : tie.Need-loop-again-2 Inv-loop μ-loop
-unfolding hashOf
-loop-again-2 c =
-    let k = c .before .before .before .before .before .before in
-    let s = start k in (
-      omega (arith, c .before .before .before .before .before .loop-test .taken),
-      places-home _ _ _ _ _ _ _ _ (k .loop .inv .1) (c .before .before .before .before .before .loop-test .taken) (inside (c .before .before .before .before .before)) _ refl (c .before .before .if1 .taken) (low-page s)
-          (omega (arith, homed (c .before .before), c .if2 .left)),
-    )
-
-loop-less-3 : tie.Need-loop-less-3 Inv-loop μ-loop
-loop-less-3 c = omega arith
-
-loop-again-3 : tie.Need-loop-again-3 Inv-loop μ-loop
-unfolding hashOf
-loop-again-3 c =
-    let k = c .before .before .before .before in
-    (omega arith, places-empty _ _ _ _ _ _ _ _ (k .loop .inv .1) (c .before .before .before .loop-test .taken) (inside (c .before .before .before)) (c .if1 .left))
-
-returns : tie.Need-returns Inv-loop μ-loop
-unfolding hashOf
-returns c = places-all _ _ _ _ _ _ _ _ (c .before .loop .inv .1) (c .loop-test .left)
+returns-3 c =
+    let k = c .before .before .before .before .before .before .before in
+    let s = start k in
+    (λ _. page-counted _ _ _ _ _ _ _ (counted k) (low-page s) (s .pre .1 .1 .0 .0) _ (c .count-off-home .ensures), (λ e. absurd (true≢false e), λ _. refl))
 
 pub count-page-spec : {M : Type 1} → statement M
 count-page-spec =
     tie.close
     (tie.spec
-    Inv-loop
-    μ-loop
     cast-places
     mul-first
-    loop-holds
-    add-number
-    mul-number
-    shared-slice-read-number
-    add-home
-    mul-home
-    shared-slice-read-home
-    cast-home
-    add-i
+    count-stars-requires
+    add-count-below
+    cast-count-below
+    count-below-requires
     mul-counts
     element-copy-out-counts
     add-counts
     element-write-counts
-    count-passed-requires
-    loop-less
-    loop-again
-    loop-less-2
-    loop-again-2
-    loop-less-3
-    loop-again-3
-    returns)
+    returns
+    signs-page-requires
+    returns-2
+    mul-counts-2
+    element-copy-out-counts-2
+    add-counts-2
+    element-write-counts-2
+    count-off-home-requires
+    returns-3)

@@ -1,40 +1,57 @@
 -- The pages from `from` up to the one before `page` are counted.
-use Prim.Native.Nat.{_-_}
+use mathlib.Core.Path.{_≡_, sym, _∙_}
+use mathlib.Core.Bool.{false≢true}
+use Prim.Native.Nat.{_-_, _*_, _≤_, _<_}
 use native.Mathlib.Nat.{mul-le-mul-right}
 use native.Mathlib.Omega.{arith}
+use lib.ListN.{length}
+use borrow.Author.Tests.{not-true, not-false}
 use Rattle.placement.specs.Hash.{hashOf}
-use Rattle.clean_test.specs.Raising.{hashUnder}
-use Rattle.clean_test.proofs.Counters.{PagesCounted, pages-none, pages-next, pages-counts, pages-all, homed-page}
+use Rattle.calls.proofs.Refusals.{items-most}
+use Rattle.clean_test.specs.Raising.{hashUnder, Counted}
+use Rattle.clean_test.proofs.Counters.{counted-next, counted-most, homed-page}
 use Rattle.clean_test.proofs.counts.count_pages.Statement.{statement}
 use Rattle.clean_test.proofs.counts.count_pages.Tie as tie
-use Rattle.calls.proofs.Refusals.{items-most}
 
 abbrev Inv-loop : tie.InvT-loop
-Inv-loop table geometry separators numbers homes counts₀ from stop page₀ counts page =
-    PagesCounted (hashUnder geometry) separators numbers from stop page counts₀ counts
+Inv-loop table geometry separators numbers homes counts₀ from start stop page₀ counts page =
+    (start ≤ page) × ((page ≤ stop) × Counted (hashUnder geometry) separators numbers from page counts)
 
 abbrev μ-loop : tie.MeasureT-loop
-μ-loop table geometry separators numbers homes counts₀ from stop page₀ counts page = stop - page
+μ-loop table geometry separators numbers homes counts₀ from start stop page₀ counts page = stop - page
 
 loop-holds : tie.Need-loop-holds Inv-loop μ-loop
 loop-holds c =
     let pre = c .before .before .before .before .pre in
-    pages-none _ _ _ _ _ _ (pre .1 .0 .low) (pre .1 .1 .0 .0)
+    (omega arith, (pre .1 .1 .0 .1, pre .1 .1 .1))
 
 count-page-requires : tie.Need-count-page-requires Inv-loop μ-loop
 unfolding hashOf
 count-page-requires c κs =
     let k = c .before .before in
     let s = k .before .before .before .before .before in
-    let few = items-most (s .args .geometry .parameters) (s .pre .0 .valid) in (
+    let items = items-most (s .args .geometry .parameters) (s .pre .0 .valid) in
+    let low : s .args .from ≤ k .loop .page = omega (arith, s .pre .1 .1 .0 .0, k .loop .inv .0) in (
       s .pre .0,
       (
-        homed-page _ _ _ _ _ _ _ (s .pre .1 .0) (k .loop .inv .low) (c .before .loop-test .taken),
+        homed-page _ _ _ _ _ _ _ (s .pre .1 .0) low (c .before .loop-test .taken),
         (
-          pages-counts _ _ _ _ _ _ _ _ (k .loop .inv) 32768 (s .pre .1 .1 .0) (omega (arith, few, mul-le-mul-right (s .args .geometry .parameters .places) (s .pre .1 .0 .high))),
-          (k .loop .inv .low, λ q i f h l star. s .pre .1 .1 .1 q i (omega (arith, k .loop .inv .low)) (omega (arith, c .before .loop-test .taken)) l star),
+          counted-most _ _ _ _ _ _ (k .loop .inv .1 .1) (s .args .stop) 32768 (k .loop .inv .1 .0)
+              (omega (arith, items, mul-le-mul-right (s .args .geometry .parameters .places) (s .pre .1 .0 .high))),
+          low,
         ),
       ),
+    )
+
+returns : tie.Need-returns Inv-loop μ-loop
+returns c =
+    let m = c .before in
+    let k = m .before .before .before in
+    let s = k .before .before .before .before .before in
+    let refused = not-true _ (c .if1 .taken) in
+    let beyond : 2 * s .args .stop < length (s .args .table .now) → 2 * k .loop .page < length (s .args .table .now) = λ h. omega (arith, m .before .before .loop-test .taken) in (
+      (k .loop .inv .0, k .loop .inv .1 .0),
+      (λ h. absurd (false≢true (sym refused ∙ m .count-page .ensures .1 .1 (beyond h))), rw (m .count-page .ensures .1 .0 refused) (k .loop .inv .1 .1)),
     )
 
 add-page : tie.Need-add-page Inv-loop μ-loop
@@ -45,11 +62,20 @@ loop-less c = omega arith
 
 loop-again : tie.Need-loop-again Inv-loop μ-loop
 loop-again c =
-    let k = c .before .before .before in
-    pages-next _ _ _ _ _ _ _ _ (k .loop .inv) (c .before .before .loop-test .taken) _ (c .count-page .ensures)
+    let m = c .before in
+    let k = m .before .before .before in
+    let s = k .before .before .before .before .before in (
+      omega (arith, k .loop .inv .0),
+      (
+        omega (arith, m .before .before .loop-test .taken),
+        counted-next _ _ _ _ _ _ (k .loop .inv .1 .1) (omega (arith, s .pre .1 .1 .0 .0, k .loop .inv .0)) _ (m .count-page .ensures .0 (not-false _ (c .if1 .left))),
+      ),
+    )
 
-returns : tie.Need-returns Inv-loop μ-loop
-returns c = pages-all _ _ _ _ _ _ _ _ (c .before .loop .inv) (c .loop-test .left)
+returns-2 : tie.Need-returns-2 Inv-loop μ-loop
+returns-2 c =
+    let k = c .before in
+    ((k .loop .inv .0, k .loop .inv .1 .0), (λ _. omega (arith, c .loop-test .left, k .loop .inv .1 .0), k .loop .inv .1 .1))
 
 pub count-pages-spec : {M : Type 1} → statement M
 count-pages-spec =
@@ -59,7 +85,8 @@ count-pages-spec =
     μ-loop
     loop-holds
     count-page-requires
+    returns
     add-page
     loop-less
     loop-again
-    returns)
+    returns-2)

@@ -1,72 +1,85 @@
--- The first ninety multipliers serve where every star is near its home, else the whole table.
-use native.Mathlib.Nat.{mul-le-mul-right}
+-- The stars among the first i items are counted.
+use mathlib.Core.Path.{_≡_, refl, ap, _∙_}
+use Prim.Native.Nat.{ℕ, _+_, _-_, _≤_}
 use native.Mathlib.Omega.{arith}
 use borrow.Author.Needs.{needs}
-use Rattle.hashing.specs.Geometry.{multiplierOf}
-use Rattle.hashing.proofs.Bounds.{limits}
-use Rattle.placement.proofs.Prepared.{first-long, whole-long, first-signers, whole-signers}
+use lib.ListN.{getD, take, drop}
+use Rattle.placement.specs.Rule.{filter}
+use Rattle.clean_test.specs.Raising.{isStar, starsAmong}
+use Rattle.clean_test.proofs.Counters.{one-most, taken-most, stars-next}
 use Rattle.clean_test.proofs.counts.count_stars.Statement.{statement}
 use Rattle.clean_test.proofs.counts.count_stars.Tie as tie
 
-cast-all-near : tie.Need-cast-all-near
-cast-all-near c = search needs
+abbrev Inv-loop : tie.InvT-loop
+Inv-loop numbers first places stars₀ i₀ stars i = (i ≤ places) × (stars ≡ starsAmong (take i (drop first numbers)))
 
-all-near-requires : tie.Need-all-near-requires
-all-near-requires c κs =
-    let s = c .before .before .before .before .before in
-    let l = limits _ (s .pre .0) in
-    let homed = s .pre .1 .0 in
-    let most = mul-le-mul-right (s .args .geometry .parameters .places) (homed .high) in
-    ((omega (arith, homed .numbers, most), omega (arith, homed .homes, most)), (omega (arith, homed .high, l .pages-most), l .places-most))
+abbrev μ-loop : tie.MeasureT-loop
+μ-loop numbers first places stars₀ i₀ stars i = places - i
 
-first-multipliers-requires : tie.Need-first-multipliers-requires
-first-multipliers-requires c κs = limits _ (c .before .before .before .before .before .before .before .pre .0) .multiplier-valid
+abbrev start : tie.At-loop Inv-loop μ-loop → tie.Start Inv-loop μ-loop
+start k = k .before .before
 
-slice-aggregate-count-pages : tie.Need-slice-aggregate-count-pages
-slice-aggregate-count-pages c = search needs
+loop-holds : tie.Need-loop-holds Inv-loop μ-loop
+unfolding filter
+loop-holds c = (omega arith, refl)
 
-count-pages-requires : tie.Need-count-pages-requires
-count-pages-requires c κs =
-    let s = c .before .before .before .before .before .before .before .before .before .before in
+add-one-star : tie.Need-add-one-star Inv-loop μ-loop
+add-one-star c = omega arith
+
+mul-one-star : tie.Need-mul-one-star Inv-loop μ-loop
+mul-one-star c = search needs
+
+shared-slice-read-one-star : tie.Need-shared-slice-read-one-star Inv-loop μ-loop
+shared-slice-read-one-star c = omega arith
+
+one-star-requires : tie.Need-one-star-requires Inv-loop μ-loop
+one-star-requires c κs = tt
+
+add-stars : tie.Need-add-stars Inv-loop μ-loop
+add-stars c =
     let k = c .before .before .before in
-    let near = k .before .all-near .ensures (k .if1 .taken) in
-    let table = c .before .before .first-multipliers .ensures in (
-      first-signers table (s .pre .0),
-      (s .pre .1 .0, (s .pre .1 .1, λ q i f h l star. omega (arith, first-long (multiplierOf (s .args .geometry .parameters)) table, near q i f h l star))),
+    let a = start k .args in
+    omega (
+      arith,
+      c .one-star .ensures,
+      one-most (isStar (getD (a .numbers .now) (a .first + k .loop .i) 0)),
+      k .loop .inv .1,
+      taken-most isStar (drop (a .first) (a .numbers .now)) (k .loop .i),
+      start k .pre .1,
     )
 
-returns : tie.Need-returns
-returns c = search needs
+add-i : tie.Need-add-i Inv-loop μ-loop
+add-i c = search needs
 
-multipliers-requires : tie.Need-multipliers-requires
-multipliers-requires c κs = limits _ (c .before .before .before .before .before .before .before .pre .0) .multiplier-valid
+loop-less : tie.Need-loop-less Inv-loop μ-loop
+loop-less c = search needs
 
-slice-aggregate-count-pages-2 : tie.Need-slice-aggregate-count-pages-2
-slice-aggregate-count-pages-2 c = search needs
+loop-again : tie.Need-loop-again Inv-loop μ-loop
+loop-again c =
+    let k = c .before .before .before in
+    let a = start k .args in
+    (omega arith, stars-next (a .numbers .now) _ _ _ _ (omega arith) (k .loop .inv .1) (c .one-star .ensures))
 
-count-pages-requires-2 : tie.Need-count-pages-requires-2
-count-pages-requires-2 c κs =
-    let s = c .before .before .before .before .before .before .before .before .before .before in
-    let table = c .before .before .multipliers .ensures in
-    let most = limits _ (s .pre .0) .pages-most in (
-      whole-signers table (s .pre .0),
-      (s .pre .1 .0, (s .pre .1 .1, λ q i f h l star. omega (arith, whole-long (multiplierOf (s .args .geometry .parameters)) table, s .pre .1 .0 .high, most))),
-    )
-
-returns-2 : tie.Need-returns-2
-returns-2 c = search needs
+returns : tie.Need-returns Inv-loop μ-loop
+returns c =
+    let k = c .before in
+    let a = start k .args in
+    let done : k .loop .i ≡ a .places = omega arith in
+    k .loop .inv .1 ∙ ap (λ (n : ℕ). starsAmong (take n (drop (a .first) (a .numbers .now)))) done
 
 pub count-stars-spec : {M : Type 1} → statement M
 count-stars-spec =
     tie.close
     (tie.spec
-    cast-all-near
-    all-near-requires
-    first-multipliers-requires
-    slice-aggregate-count-pages
-    count-pages-requires
-    returns
-    multipliers-requires
-    slice-aggregate-count-pages-2
-    count-pages-requires-2
-    returns-2)
+    Inv-loop
+    μ-loop
+    loop-holds
+    add-one-star
+    mul-one-star
+    shared-slice-read-one-star
+    one-star-requires
+    add-stars
+    add-i
+    loop-less
+    loop-again
+    returns)

@@ -1,31 +1,56 @@
-use mathlib.Core.Path.{refl, _∙_}
-use Prim.Native.Nat.{ℕ}
+use mathlib.Core.Path.{_∙_}
 use native.Mathlib.Omega.{arith}
-use lib.ListN.{replicate, getD-replicate}
+use borrow.Author.Needs.{needs}
 use Rattle.hashing.proofs.Bounds.{limits}
-use Rattle.clean_test.specs.Raising.{Counts}
-use Rattle.clean_test.proofs.Counters.{rising-raisable}
+use Rattle.placement.proofs.Prepared.{first-signers}
+use Rattle.clean_test.proofs.Counters.{counted-none, rising-raisable}
 use Rattle.clean_test.proofs.counts.first_raisable.Statement.{statement}
 use Rattle.clean_test.proofs.counts.first_raisable.Tie as tie
 
-none : (from : ℕ) → Counts from 0 (replicate {A = ℕ} 1024 0)
-none from = (refl, λ p o h. omega (arith, getD-replicate {A = ℕ} 1024 p 0 0 h))
+abbrev start : tie.After-first-multipliers → tie.Start
+start c = c .before .before .before .before
 
-count-stars-requires : tie.Need-count-stars-requires
-count-stars-requires c κs =
-    let s = c .before .before .before .before in
-    (s .pre .0, (s .pre .1, none (s .args .from)))
+first-multipliers-requires : tie.Need-first-multipliers-requires
+first-multipliers-requires c κs = limits _ (c .before .before .before .pre .0) .multiplier-valid
+
+slice-aggregate-count-pages : tie.Need-slice-aggregate-count-pages
+slice-aggregate-count-pages c = search needs
+
+count-pages-requires : tie.Need-count-pages-requires
+count-pages-requires c κs =
+    let k = c .before .before in
+    let s = start k in
+    (first-signers (k .first-multipliers .ensures) (s .pre .0), (s .pre .1, ((omega arith, s .pre .1 .low), counted-none _ _ _ _)))
 
 first-rising-requires : tie.Need-first-rising-requires
-first-rising-requires c κs =
-    let s = c .before .before .before .before .before .before in
-    (s .pre .0, ((s .pre .1 .separators, c .before .count-stars .ensures .size), (s .pre .1 .low, s .pre .1 .high)))
+first-rising-requires c κs = search needs
 
 returns : tie.Need-returns
 returns c =
-    let s = c .before .before .before .before .before .before .before in
+    let k = c .before .before .before in
+    let s = start (k .before .before .before) in
+    let homed = s .pre .1 in
+    let done = c .before .before .if1 .taken in
     c .first-rising .ensures
-    ∙ rising-raisable (s .args .geometry) _ _ _ _ _ _ (s .pre .1 .low) (omega (arith, s .pre .1 .high, limits _ (s .pre .0) .pages-most)) (none (s .args .from)) (c .before .before .count-stars .ensures)
+    ∙ rising-raisable (s .args .geometry) _ _ _ _ _ (homed .low) (omega (arith, homed .high, limits _ (s .pre .0) .pages-most)) (rw done at (k .count-pages .ensures .1 .1))
+
+first-raisable-beyond-requires : tie.Need-first-raisable-beyond-requires
+first-raisable-beyond-requires c κs =
+    let k = c .before .before in
+    let s = start (k .before .before .before) in
+    (s .pre .0, (s .pre .1, (k .count-pages .ensures .0, k .count-pages .ensures .1 .1)))
+
+returns-2 : tie.Need-returns-2
+returns-2 c = search needs
 
 pub first-raisable-spec : {M : Type 1} → statement M
-first-raisable-spec = tie.close (tie.spec count-stars-requires first-rising-requires returns)
+first-raisable-spec =
+    tie.close
+    (tie.spec
+    first-multipliers-requires
+    slice-aggregate-count-pages
+    count-pages-requires
+    first-rising-requires
+    returns
+    first-raisable-beyond-requires
+    returns-2)

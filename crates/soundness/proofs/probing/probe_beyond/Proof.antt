@@ -1,31 +1,25 @@
 -- `soundness::probing::probe_beyond` meets its contract.
 -- Assumes nothing.
-use native.Mathlib.Omega.{arith}
 use borrow.Author.Needs.{needs}
-use Rattle.hashing.specs.Geometry.{multiplierOf}
+use Rattle.generator.proofs.Powers.{the-other}
 use Rattle.hashing.proofs.Bounds.{limits}
-use Rattle.placement.proofs.Prepared.{whole-long, whole-signers}
 use Rattle.soundness.proofs.probing.probe_beyond.Statement.{statement}
 use Rattle.soundness.proofs.probing.probe_beyond.Tie as tie
 
-multipliers-requires : tie.Need-multipliers-requires
-multipliers-requires c κs = limits _ (c .before .pre .0) .multiplier-valid
-
-slice-aggregate-probe : tie.Need-slice-aggregate-probe
-slice-aggregate-probe c = search needs
-
-probe-requires : tie.Need-probe-requires
-probe-requires c κs =
-    let s = c .before .before .before in
-    let p = s .pre in
-    let table = c .before .multipliers .ensures in (
-      whole-signers table (p .0),
-      ((p .1 .0 .0, (p .1 .0 .1 .0, omega arith)), ((p .1 .0 .1 .1, omega (arith, p .1 .0, whole-long (multiplierOf (s .args .parameters)) table)), p .1 .1)),
-    )
+probe-by-48271-requires : tie.Need-probe-by-48271-requires
+probe-by-48271-requires c κs = search needs
 
 returns : tie.Need-returns
 returns c = search needs
 
+probe-by-16807-requires : tie.Need-probe-by-16807-requires
+probe-by-16807-requires c κs =
+    let p = c .before .before .before .pre in
+    ((p .0, the-other _ (limits _ (p .0) .multiplier-valid) (c .if1 .left)), p .1)
+
+returns-2 : tie.Need-returns-2
+returns-2 c = search needs
+
 pub probe-beyond-spec : {M : Type 1} → statement M
 probe-beyond-spec =
-    tie.close (tie.spec multipliers-requires slice-aggregate-probe probe-requires returns)
+    tie.close (tie.spec probe-by-48271-requires returns probe-by-16807-requires returns-2)
