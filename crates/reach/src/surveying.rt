@@ -11,40 +11,6 @@ ghost use Rattle.reach.specs.Known.{Known};
 ghost use Rattle.reach.specs.Reach.{firstUnsound, homesKept};
 use hashing::Geometry;
 
-// As `soundness::survey`, but the known page is not tested again.
-fn survey_page(
-    table: &[u32; 90],
-    geometry: Geometry,
-    separators: &[u8],
-    numbers: &[u32],
-    words: &[u64],
-    owners: &[u8],
-    homes: &mut [u32],
-    page: usize,
-    known: usize,
-) -> bool
-    requires { ⌜ Ready geometry (now table) (held separators numbers words owners) ⌝ }
-    requires { ⌜ length (now homes) ≡ geometry .parameters .pages * geometry .parameters .places ⌝ }
-    requires { ⌜ page < geometry .parameters .pages ⌝ }
-    requires { ⌜ (page ≡ known → Known (geometry .parameters) (geometry .growth) (held separators numbers words owners) (now homes) page) ⌝ }
-    ensures { λ r. ⌜ r ≡ soundAt (geometry .parameters) (geometry .growth) (before separators numbers words owners) page ⌝ }
-    ensures { λ r. ⌜ (r ≡ true → now (homes .exit) ≡ surveyed geometry page (now (numbers .entry)) (now (homes .entry))) ⌝ }
-{
-    if page == known {
-        return true;
-    }
-    soundness::survey(
-        table,
-        geometry,
-        separators,
-        numbers,
-        words,
-        owners,
-        homes,
-        page,
-    )
-}
-
 // The first unsound page from `from` up to the one before `stop`, or `stop`.
 pub fn survey_pages(
     table: &[u32; 90],
@@ -66,9 +32,9 @@ pub fn survey_pages(
     ensures { λ r. ⌜ r ≡ firstUnsound (geometry .parameters) (geometry .growth) (before separators numbers words owners) from (stop - from) ⌝ }
     ensures { λ r. ⌜ (r ≡ stop → now (homes .exit) ≡ homesKept geometry from stop (now (numbers .entry)) (now (homes .entry))) ⌝ }
 {
-    let mut page = from;
-    while page < stop {
-        if !survey_page(
+    let places = geometry.parameters.places as usize;
+    if known < from || stop <= known {
+        return soundness::survey(
             table,
             geometry,
             separators,
@@ -76,12 +42,37 @@ pub fn survey_pages(
             words,
             owners,
             homes,
-            page,
-            known,
-        ) {
-            return page;
-        }
-        page += 1;
+            from * places,
+            from,
+            stop,
+        );
     }
-    page
+    let unsound = soundness::survey(
+        table,
+        geometry,
+        separators,
+        numbers,
+        words,
+        owners,
+        homes,
+        from * places,
+        from,
+        known,
+    );
+    if unsound < known {
+        return unsound;
+    }
+    let next = known + 1;
+    soundness::survey(
+        table,
+        geometry,
+        separators,
+        numbers,
+        words,
+        owners,
+        homes,
+        next * places,
+        next,
+        stop,
+    )
 }
