@@ -1,10 +1,11 @@
-// The soundness of all pages, upward, for calls that take no pool.
+// The soundness of all pages, upward, for calls that take no pool: a stretch at a time.
 ghost use mathlib.Core.Path.{_≡_};
-ghost use Prim.Native.Nat.{_<_};
+ghost use Prim.Native.Nat.{_-_, _*_, _≤_, _<_};
 ghost use Rattle.placement.specs.Hash.{soundAt};
 ghost use Rattle.placement.specs.Lent.{held, before};
 ghost use Rattle.placement.specs.Ready.{Ready};
 ghost use Rattle.reach.specs.Reach.{firstUnsound};
+ghost use Rattle.soundness.specs.Stretch.{Lowest};
 use hashing::Geometry;
 
 // A stretch of pages, with the homes of their stars in a local list.
