@@ -18,7 +18,12 @@ fn first_unsound(
     owners: &[u8],
     from: usize,
     stop: usize,
-) -> usize {
+) -> usize
+    requires { ⌜ Ready geometry (now table) (held separators numbers words owners) ⌝ }
+    requires { ⌜ (from ≤ stop) × (stop ≤ geometry .parameters .pages) ⌝ }
+    requires { ⌜ (stop - from) * geometry .parameters .places ≤ 1024 ⌝ }
+    ensures { λ r. ⌜ Lowest (soundAt (geometry .parameters) (geometry .growth) (before separators numbers words owners)) from stop r ⌝ }
+{
     let mut homes = [0u32; 1024];
     soundness::survey(
         table,
@@ -35,7 +40,10 @@ fn first_unsound(
 }
 
 // Where a stretch of `most` pages from `page` on ends, `pages` if it comes first.
-fn stretch_end(page: usize, most: usize, pages: usize) -> usize {
+fn stretch_end(page: usize, most: usize, pages: usize) -> usize
+    requires { ⌜ (page < pages) × (1 ≤ most) ⌝ }
+    ensures { λ r. ⌜ (page < r) × ((r ≤ pages) × (r - page ≤ most)) ⌝ }
+{
     if most < pages - page {
         return page + most;
     }
