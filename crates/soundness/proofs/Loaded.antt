@@ -1,6 +1,5 @@
 -- A page as loaded, tested as a stretch of one page whose items begin at 0.
 use mathlib.Core.Path.{_≡_, sym, ap, subst, _∙_}
-use mathlib.Core.Bool.{Bool}
 use mathlib.Core.List.{List}
 use Prim.Native.Nat.{ℕ, _+_, _-_, _*_, _≤_, _<_}
 use native.Mathlib.Nat.{one-mul, zero-mul, zero-add}

@@ -1,11 +1,11 @@
 -- Items pasted one part after the other are pasted in one.
 use mathlib.Core.Path.{_≡_, sym, ap, _∙_}
 use mathlib.Core.List.{List, _++_, map, append-assoc}
-use Prim.Native.Nat.{ℕ, _+_, _≤_, _<_}
+use Prim.Native.Nat.{ℕ, _+_, _≤_}
 use native.Mathlib.Nat.{add-assoc, le-refl}
 use native.Mathlib.Omega.{arith}
-use lib.ListN.{length, getD, take, drop, length-drop, length-map}
-use lib.Seq.{paste, take-paste, drop-paste, drop-drop, take-add, take-take, getD-take, getD-drop, getD-append-add, length-take-le}
+use lib.ListN.{length, take, drop, length-drop, length-map}
+use lib.Seq.{paste, take-paste, drop-paste, drop-drop, take-add, take-take}
 use Rattle.buffers.proofs.Written.{around}
 use Rattle.buffers.proofs.Lists.{map-drop}
 use Rattle.hashing.specs.declared.Geometry.{Geometry}

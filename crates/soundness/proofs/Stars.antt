@@ -3,12 +3,12 @@ use mathlib.Core.Path.{_≡_, refl, sym, ap, _∙_}
 use mathlib.Core.Bool.{Bool, true, false, cond}
 use mathlib.Core.List.{List, [], _∷_, _++_, map, append-nil}
 use Prim.Native.Nat.{ℕ, zero, suc, _+_, _*_, _%_, _≤_, _<_}
-use native.Mathlib.Nat.{add-zero, zero-add, add-assoc, add-suc, suc-add, mul-zero, mul-one, mod-eq-of-lt, le-refl}
+use native.Mathlib.Nat.{add-zero, zero-add, add-assoc, mul-zero, mul-one, mod-eq-of-lt, le-refl}
 use native.Mathlib.Numerals.{add-one}
 use native.Mathlib.Omega.{arith}
 use lib.Dec.{eqb}
-use lib.ListN.{length, getD, take, drop, set, length-append, length-set, length-map, length-drop}
-use lib.Seq.{take-suc, take-suc-set, take-set-le, take-length, take-all, take-take, length-take-le, paste, paste-zero, paste-suc, getD-take, getD-drop}
+use lib.ListN.{length, getD, take, drop, set, length-append, length-set, length-drop}
+use lib.Seq.{take-suc, take-suc-set, take-set-le, take-length, take-all, length-take-le, paste, paste-zero, paste-suc, getD-take, getD-drop}
 use Rattle.buffers.proofs.Lists.{map-take}
 use Rattle.hashing.specs.declared.Geometry.{Geometry}
 use Rattle.placement.specs.Hash.{homeIn, homesOf, homeUnder}

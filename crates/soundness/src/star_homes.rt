@@ -24,7 +24,8 @@ fn one_if_star(number: u32) -> usize
     1
 }
 
-// Takes the numbers of the stars of `items` items from `first` on, at most 32. Each item is written, and counted if it is a star: no branch depends on it.
+// Takes the numbers of the stars of `items` items from `first` on, at most 32. Each item is written, and counted if it is a star:
+// no branch depends on it.
 fn gather(numbers: &[u32], first: usize, items: usize, block: &mut [u32; 32]) -> Taken
     requires { ⌜ (1 ≤ items) × (first + items ≤ length (now numbers)) ⌝ }
     requires { ⌜ length (now block) ≡ 32 ⌝ }
@@ -50,7 +51,8 @@ pub fn wide(home: u16) -> u32
     home as u32
 }
 
-// Puts the homes found for the stars of `items` items at these items, 0 at empty places. What is read behind the last star is of no meaning.
+// Puts the homes found for the stars of `items` items at these items, 0 at empty places. What is read behind the last star is of
+// no meaning.
 fn spread(
     numbers: &[u32],
     first: usize,

@@ -7,7 +7,7 @@ ghost use lib.Seq.{paste};
 ghost use Rattle.hashing.specs.Limits.{validParameters};
 ghost use Rattle.placement.specs.Hash.{soundAt, homesOf};
 ghost use Rattle.placement.specs.Lent.{held, before};
-ghost use Rattle.placement.specs.Ready.{Signers, Homing, Ready};
+ghost use Rattle.placement.specs.Ready.{Signers, Ready};
 ghost use Rattle.soundness.specs.Stretch.{HomesAt, SignableAt, Items, soundFrom, Lowest, soundOf};
 use crate::star_homes::find_homes;
 use crate::testing::admitted;
@@ -101,7 +101,8 @@ fn homed_below(number: u32, home: u32, low: u32) -> u32
     1
 }
 
-// The first unsound page from `from` up to the one before `stop`, or `stop`, by the whole table. Their items stand from `at` on, the homes from `to` on.
+// The first unsound page from `from` up to the one before `stop`, or `stop`, by the whole table. Their items stand from `at` on,
+// the homes from `to` on.
 fn first_unsound(
     table: &[u32],
     geometry: Geometry,
@@ -239,7 +240,8 @@ fn first_unsound_near(
     page
 }
 
-// The first unsound page from `from` up to the one before `stop`, or `stop`. The homes of these pages' items stand in `homes` from `to` on, 0 for an empty place.
+// The first unsound page from `from` up to the one before `stop`, or `stop`. The homes of these pages' items then stand in `homes`
+// from `to` on, 0 for an empty place.
 pub fn survey(
     table: &[u32; 90],
     geometry: Geometry,

@@ -1,5 +1,5 @@
 -- `survey::lowest_unsound` meets its contract.
-use Prim.Native.Nat.{_-_, _*_, _/_, _≤_, _<_}
+use Prim.Native.Nat.{_-_}
 use native.Mathlib.Nat.{mul-le-mul-right, div-mul-le-self, le-div-iff-mul-le, zero-add}
 use native.Mathlib.Omega.{arith}
 use borrow.Author.Needs.{needs}

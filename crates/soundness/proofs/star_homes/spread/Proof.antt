@@ -1,6 +1,5 @@
 -- `soundness::star_homes::spread` meets its contract.
-use mathlib.Core.Path.{_∙_}
-use Prim.Native.Nat.{_*_, _-_, _≤_}
+use Prim.Native.Nat.{_-_, _≤_}
 use native.Mathlib.Nat.{mul-le-mul}
 use native.Mathlib.Omega.{arith}
 use lib.ListN.{take, drop}

@@ -1,5 +1,4 @@
 -- `soundness::stretches::first_unsound` meets its contract. The invariant: the pages before this one are sound.
-use mathlib.Core.Path.{sym, _∙_}
 use Prim.Native.Nat.{_+_, _-_, _*_, _≤_, _<_}
 use native.Mathlib.Omega.{arith}
 use borrow.Author.Needs.{needs}

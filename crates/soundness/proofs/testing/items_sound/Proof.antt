@@ -1,6 +1,6 @@
 -- `soundness::testing::items_sound` meets its contract. The invariant: the first i items are admitted, and their homes kept.
 -- Assumes nothing.
-use mathlib.Core.Path.{_≡_, refl, sym, _∙_}
+use mathlib.Core.Path.{_≡_, sym, _∙_}
 use mathlib.Core.Bool.{false≢true, and-false}
 use Prim.Native.Nat.{ℕ, _-_, _≤_, _<_}
 use lib.ListN.{getD}
