@@ -1,3 +1,2 @@
-pub mod Homes
 pub mod Collect
 pub mod Renew

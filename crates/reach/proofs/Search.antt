@@ -54,6 +54,13 @@ sought-all test from n i s h =
     let d : from + n - i ≡ 0 = omega (arith, s .high) in
     sym (s .rest ∙ rw d)
 
+-- where none of the first k passes
+pub sought-passed : (test : ℕ → Bool) (from n k : ℕ) → k ≤ n → ((q : ℕ) → from ≤ q → q < from + k → test q ≡ false) → Sought test from n (from + k)
+sought-passed test from n zero h none = rw (add-zero from) (sought-none test from n)
+sought-passed test from n (suc k) h none =
+    rw (add-suc from k)
+    (sought-next test from n (from + k) (sought-passed test from n k (omega arith) (λ q a b. none q a (omega arith))) (omega arith) (none (from + k) (omega arith) (omega arith)))
+
 -- the result's place and what it passed over
 pub record Such (test : ℕ → Bool) (from n r : ℕ) : Type 0 where
   pub low : from ≤ r

@@ -1,26 +1,31 @@
 -- The survey of a stretch, page after page.
 use mathlib.Core.Path.{_≡_, refl, sym, ap, _∙_}
-use mathlib.Core.Bool.{Bool, true, false, not}
+use mathlib.Core.Bool.{Bool, true, not}
 use mathlib.Core.List.{List, _++_}
 use Prim.Native.Nat.{ℕ, suc, _+_, _-_, _*_, _≤_, _<_}
-use native.Mathlib.Nat.{zero-mul, mul-le-mul-right, suc-mul, add-mul}
+use native.Mathlib.Nat.{mul-le-mul-right, suc-mul, add-mul}
 use native.Mathlib.Numerals.{add-one}
+use native.Mathlib.Decide.{decLt}
 use native.Mathlib.Omega.{arith}
 use lib.ListN.{length, take, drop, length-append, length-drop, length-map, take-append-drop}
-use lib.Seq.{paste, paste-zero, drop-paste, take-take, drop-drop, length-take-le}
+use lib.Seq.{paste, drop-paste, take-take, drop-drop, length-take-le}
 use Rattle.buffers.specs.Lists.{written}
 use Rattle.buffers.proofs.Lists.{map-take, map-drop}
 use Rattle.buffers.proofs.Written.{all-written, taken-written}
 use Rattle.hashing.specs.declared.Parameters.{Parameters}
 use Rattle.hashing.specs.declared.Growth.{Growth}
+use Rattle.hashing.specs.declared.Geometry.{Geometry}
 use Rattle.pages.specs.Page.{part}
 use Rattle.pages.proofs.Parts.{page-fits, part-length}
 use Rattle.placement.specs.File.{File, Sized}
 use Rattle.placement.specs.Hash.{soundAt, homesOf, homeIn}
 use Rattle.placement.proofs.Writing.{part-front, part-back}
+use Rattle.soundness.specs.Stretch.{Lowest}
+use Rattle.soundness.proofs.Pastes.{homes-next}
+use Rattle.soundness.proofs.Lent.{Passed, ahead as items-ahead}
 use Rattle.reach.specs.Known.{Known}
-use Rattle.reach.specs.Reach.{firstUnsound}
-use Rattle.reach.proofs.Search.{Sought, sought-none, sought-next, sought-found, sought-all}
+use Rattle.reach.specs.Reach.{firstUnsound, firstSuch, homesKept}
+use Rattle.reach.proofs.Search.{Sought, sought-next, sought-found, sought-all, sought-passed}
 use Rattle.reach.proofs.Pastes.{paste-more, paste-same}
 
 -- the page is unsound
@@ -36,16 +41,6 @@ pub record Surveyed (p : Parameters) (g : Growth) (f : File) (before : List ℕ)
   pub sought : Sought (unsound p g f) from n page
   pub long : length homes ≡ length before
   pub kept : homes ≡ paste before (from * p .places) (homesFrom p g f from) ((page - from) * p .places)
-
-pub surveyed-none : (p : Parameters) (g : Growth) (f : File) (before : List ℕ) (from n : ℕ) → Surveyed p g f before from n before from
-surveyed-none p g f before from n =
-    record {
-      sought = sought-none (unsound p g f) from n;
-      long = refl;
-      kept =
-          let none : (from - from) * p .places ≡ 0 = ap (λ (k : ℕ). k * p .places) (omega arith) ∙ zero-mul (p .places) in
-          rw none (paste-zero before (from * p .places) (homesFrom p g f from));
-    }
 
 module _ (p : Parameters) (g : Growth) (f : File) (before : List ℕ) (from n : ℕ) (homes : List ℕ) (page : ℕ)
     (s : Surveyed p g f before from n homes page) (sized : Sized (p .places) (p .pages) f) (fits : length before ≡ p .pages * p .places)
@@ -105,15 +100,51 @@ module _ (p : Parameters) (g : Growth) (f : File) (before : List ℕ) (from n : 
             ∙ rw more));
       }
 
-pub surveyed-fails : (p : Parameters) (g : Growth) (f : File) (before : List ℕ) (from n : ℕ) (homes : List ℕ) (page : ℕ) → Surveyed p g f before from n homes page
-    → page < from + n → soundAt p g f page ≡ false → page ≡ firstUnsound p g f from n
-unfolding firstUnsound
-surveyed-fails p g f before from n homes page s h e = sought-found (unsound p g f) from n page (s .sought) h (ap not e)
+-- the items of a stretch are among the file's
+pub stretch-fits : (b pages from stop : ℕ) → from ≤ stop → stop ≤ pages → from * b + (stop - from) * b ≤ pages * b
+stretch-fits b pages from stop h k = omega (arith, items-ahead b from stop h, mul-le-mul-right {m = stop} {n = pages} b k)
 
-pub surveyed-all : (p : Parameters) (g : Growth) (f : File) (before : List ℕ) (from n : ℕ) (homes : List ℕ) (page : ℕ) → Surveyed p g f before from n homes page
-    → from + n ≤ page → page ≡ firstUnsound p g f from n
-unfolding firstUnsound
-surveyed-all p g f before from n homes page s h = sought-all (unsound p g f) from n page (s .sought) h
+-- what a search for an unsound page has done when it ends
+module _ (p : Parameters) (g : Growth) (f : File) (from stop r : ℕ) (l : Lowest (soundAt p g f) from stop r) where
+  pub lowest-sought : (n : ℕ) → r ≤ from + n → Sought (unsound p g f) from n r
+  lowest-sought n h =
+      let e : from + (r - from) ≡ r = omega (arith, l .low) in
+      rw e at (sought-passed (unsound p g f) from n (r - from) (omega (arith, l .low)) (λ q a b. ap not (l .passed q a (omega (arith, e)))))
+
+  pub lowest-first : (n : ℕ) → from + n ≡ stop → r ≡ firstUnsound p g f from n
+  unfolding firstUnsound
+  lowest-first n e = go (decLt r stop)
+    where
+      go : Dec (r < stop) → r ≡ firstSuch (unsound p g f) from n
+      go (yes h) = sought-found (unsound p g f) from n r (lowest-sought n (omega arith)) (omega arith) (ap not (l .failed h))
+      go (no h) = sought-all (unsound p g f) from n r (lowest-sought n (omega (arith, l .high))) (omega arith)
+
+  -- an unsound page found in a part of the stretch
+  pub lowest-wider : (end : ℕ) → r < stop → stop ≤ end → Lowest (soundAt p g f) from end r
+  lowest-wider end h k = record { low = l .low; high = omega arith; passed = l .passed; failed = λ _. l .failed h }
+
+-- a stretch is passed whole
+pub passed-on : {test : ℕ → Bool} {from end page stop r : ℕ} → Passed test from end page → Lowest test page stop r → stop ≤ r → stop ≤ end → Passed test from end stop
+passed-on {test} {from} {end} {page} {stop} {r} done l h k =
+    record { low = omega (arith, done .low, l .low, l .high); high = k; passed = λ q a b. go q a b (decLt q page) }
+  where
+    go : (q : ℕ) → from ≤ q → q < stop → Dec (q < page) → test q ≡ true
+    go q a b (yes d) = done .passed q a d
+    go q a b (no d) = l .passed q (omega arith) (omega arith)
+
+-- a stretch is sound up to a page that is known, and searched on behind it
+pub lowest-around : (p : Parameters) (g : Growth) (f : File) (from known stop r s : ℕ) → Lowest (soundAt p g f) from known r → known ≤ r → soundAt p g f known ≡ true
+    → Lowest (soundAt p g f) (known + 1) stop s → Lowest (soundAt p g f) from stop s
+lowest-around p g f from known stop r s front h k back =
+    record { low = omega (arith, front .low, front .high, back .low); high = back .high; passed = λ q a b. go q a b (decLt q known) (decLt known q); failed = back .failed }
+  where
+    here : (q : ℕ) → q ≡ known → soundAt p g f q ≡ true
+    here q e = rw e k
+
+    go : (q : ℕ) → from ≤ q → q < s → Dec (q < known) → Dec (known < q) → soundAt p g f q ≡ true
+    go q a b (yes d) e = front .passed q a (omega arith)
+    go q a b (no d) (yes e) = back .passed q (omega arith) b
+    go q a b (no d) (no e) = here q (omega arith)
 
 homes-long : (p : Parameters) (g : Growth) (ns : List ℕ) → length (homesOf p g ns) ≡ length ns
 unfolding homesOf
@@ -203,3 +234,42 @@ module _ (p : Parameters) (g : Growth) (f : File) (before : List ℕ) (from stop
         sound = λ _. sound q a h;
         kept = λ _. rw e at (kept-page (q - from) (omega arith));
       }
+
+-- the homes up to a known page, then those behind it, are the homes of all
+module _ (G : Geometry) (f : File) (from known stop r : ℕ) (entry front exit : List ℕ) where
+  abbrev P : Parameters
+  P = G .parameters
+
+  abbrev E : Growth
+  E = G .growth
+
+  pub homes-around : Sized (P .places) (P .pages) f → length entry ≡ P .pages * P .places → from ≤ known → known < stop → stop ≤ P .pages
+      → Lowest (soundAt P E f) from known r → known ≤ r → Known P E f entry known → length front ≡ length entry
+      → front ≡ homesKept G from known (f .numbers) entry → exit ≡ homesKept G (known + 1) stop (f .numbers) front
+      → exit ≡ homesKept G from stop (f .numbers) entry
+  homes-around sized fits a b c l h k long e t =
+      homes-next G (f .numbers) entry front exit (from * P .places) (from * P .places) ((known + 1 - from) * P .places) ((stop - (known + 1)) * P .places)
+      (omega (arith, fits, mul-le-mul-right {m = from} {n = P .pages} (P .places) (omega arith)))
+      (omega (arith, sized .ofNumbers, reached, mul-le-mul-right {m = known + 1} {n = P .pages} (P .places) (omega arith)))
+      (upto .kept)
+      (t ∙ rw (← reached))
+      ∙ ap (λ (n : ℕ). paste entry (from * P .places) (homesFrom P E f from) n) whole
+    where
+      same : r ≡ known
+      same = omega (arith, l .high)
+
+      here : Surveyed P E f entry from (stop - from) front known
+      here = record { sought = rw same at (lowest-sought P E f from known r l (stop - from) (omega (arith, l .high))); long = long; kept = e }
+
+      upto : Surveyed P E f entry from (stop - from) front (known + 1)
+      upto =
+          surveyed-next P E f entry from (stop - from) front known here sized fits (omega arith) (omega arith) front (k .sound (omega arith))
+          (known-surveyed P E f front known (omega arith) (still-known P E f entry from (stop - from) front known here sized fits (omega arith) (omega arith) k)) refl
+
+      reached : from * P .places + (known + 1 - from) * P .places ≡ (known + 1) * P .places
+      reached = items-ahead (P .places) from (known + 1) (omega arith)
+
+      whole : (known + 1 - from) * P .places + (stop - (known + 1)) * P .places ≡ (stop - from) * P .places
+      whole =
+          let e : known + 1 - from + (stop - (known + 1)) ≡ stop - from = omega arith in
+          sym (add-mul (known + 1 - from) (stop - (known + 1)) (P .places)) ∙ ap (λ (n : ℕ). n * P .places) e

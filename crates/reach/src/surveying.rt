@@ -1,18 +1,15 @@
-// The survey of a stretch: each page is tested upward, and its stars' homes are kept.
+// The survey of a stretch: its stars' homes are found and kept, and each page is tested upward.
 ghost use mathlib.Core.Path.{_≡_};
-ghost use mathlib.Core.Bool.{true};
 ghost use Prim.Native.Nat.{_-_, _*_, _≤_, _<_};
 ghost use lib.ListN.{length};
-ghost use Rattle.placement.specs.Hash.{soundAt};
 ghost use Rattle.placement.specs.Lent.{held, before};
 ghost use Rattle.placement.specs.Ready.{Ready};
-ghost use Rattle.soundness.specs.Survey.{surveyed};
 ghost use Rattle.reach.specs.Known.{Known};
 ghost use Rattle.reach.specs.Reach.{firstUnsound, homesKept};
 use hashing::Geometry;
 
-// As `soundness::survey`, but the known page is not tested again.
-fn survey_page(
+// The survey of a stretch in which a page is known: that one is not tested again.
+fn survey_around(
     table: &[u32; 90],
     geometry: Geometry,
     separators: &[u8],
@@ -20,19 +17,35 @@ fn survey_page(
     words: &[u64],
     owners: &[u8],
     homes: &mut [u32],
-    page: usize,
+    from: usize,
+    stop: usize,
     known: usize,
-) -> bool
+) -> usize
     requires { ⌜ Ready geometry (now table) (held separators numbers words owners) ⌝ }
     requires { ⌜ length (now homes) ≡ geometry .parameters .pages * geometry .parameters .places ⌝ }
-    requires { ⌜ page < geometry .parameters .pages ⌝ }
-    requires { ⌜ (page ≡ known → Known (geometry .parameters) (geometry .growth) (held separators numbers words owners) (now homes) page) ⌝ }
-    ensures { λ r. ⌜ r ≡ soundAt (geometry .parameters) (geometry .growth) (before separators numbers words owners) page ⌝ }
-    ensures { λ r. ⌜ (r ≡ true → now (homes .exit) ≡ surveyed geometry page (now (numbers .entry)) (now (homes .entry))) ⌝ }
+    requires { ⌜ (from ≤ known) × (known < stop) ⌝ }
+    requires { ⌜ stop ≤ geometry .parameters .pages ⌝ }
+    requires { ⌜ Known (geometry .parameters) (geometry .growth) (held separators numbers words owners) (now homes) known ⌝ }
+    ensures { λ r. ⌜ r ≡ firstUnsound (geometry .parameters) (geometry .growth) (before separators numbers words owners) from (stop - from) ⌝ }
+    ensures { λ r. ⌜ (r ≡ stop → now (homes .exit) ≡ homesKept geometry from stop (now (numbers .entry)) (now (homes .entry))) ⌝ }
 {
-    if page == known {
-        return true;
+    let places = geometry.parameters.places as usize;
+    let unsound = soundness::survey(
+        table,
+        geometry,
+        separators,
+        numbers,
+        words,
+        owners,
+        homes,
+        from * places,
+        from,
+        known,
+    );
+    if unsound < known {
+        return unsound;
     }
+    let next = known + 1;
     soundness::survey(
         table,
         geometry,
@@ -41,7 +54,9 @@ fn survey_page(
         words,
         owners,
         homes,
-        page,
+        next * places,
+        next,
+        stop,
     )
 }
 
@@ -66,9 +81,8 @@ pub fn survey_pages(
     ensures { λ r. ⌜ r ≡ firstUnsound (geometry .parameters) (geometry .growth) (before separators numbers words owners) from (stop - from) ⌝ }
     ensures { λ r. ⌜ (r ≡ stop → now (homes .exit) ≡ homesKept geometry from stop (now (numbers .entry)) (now (homes .entry))) ⌝ }
 {
-    let mut page = from;
-    while page < stop {
-        if !survey_page(
+    if from <= known && known < stop {
+        return survey_around(
             table,
             geometry,
             separators,
@@ -76,12 +90,22 @@ pub fn survey_pages(
             words,
             owners,
             homes,
-            page,
+            from,
+            stop,
             known,
-        ) {
-            return page;
-        }
-        page += 1;
+        );
     }
-    page
+    let places = geometry.parameters.places as usize;
+    soundness::survey(
+        table,
+        geometry,
+        separators,
+        numbers,
+        words,
+        owners,
+        homes,
+        from * places,
+        from,
+        stop,
+    )
 }

@@ -2,7 +2,7 @@
 use mathlib.Core.Path.{_≡_, refl, sym, ap, _∙_}
 use mathlib.Core.Bool.{Bool, true, false, not, cond, _&&_, true≢false, false≢true}
 use mathlib.Core.List.{List, [], _∷_, map, map-append}
-use Prim.Native.Nat.{ℕ, zero, suc, _+_, _-_, _*_, _≤_, _<_}
+use Prim.Native.Nat.{ℕ, zero, suc, _+_, _*_, _≤_, _<_}
 use native.Mathlib.Nat.{le-refl}
 use native.Mathlib.Numerals.{add-one}
 use native.Mathlib.Decide.{decLt}
@@ -26,7 +26,7 @@ use Rattle.placement.proofs.Filters.{and-true}
 use Rattle.soundness.specs.Survey.{admits, soundIn, admitsItem, lastAfter}
 
 -- a function of all items at once, by one item
-map-at : (f : ℕ → ℕ) (l : List ℕ) (i : ℕ) → i < length l → getD (map f l) i 0 ≡ f (getD l i 0)
+pub map-at : (f : ℕ → ℕ) (l : List ℕ) (i : ℕ) → i < length l → getD (map f l) i 0 ≡ f (getD l i 0)
 map-at f [] i h = absurd (omega arith)
 map-at f (x ∷ l) zero h = refl
 map-at f (x ∷ l) (suc i) h = map-at f l i (omega arith)
@@ -152,21 +152,17 @@ module _ (p : Parameters) (g : Growth) (seps : List ℕ) (page : ℕ) where
       go true f = e ∙ rw f
       go false f = absurd (star f)
 
-  -- of a page's value the first i items were admitted, and their homes are kept
-  pub record Surveyed (ns ws os : List ℕ) (places i last : ℕ) (homes : List ℕ) : Type 0 where
+  -- the first i items were admitted
+  pub record Admitting (ns ws os : List ℕ) (places i last : ℕ) : Type 0 where
     pub numbered : places ≤ length ns
     pub worded : places ≤ length ws
     pub owned : places ≤ length os
-    pub long : length homes ≡ 32
     pub is : admits p g seps page 0 (take places ns) (take places ws) (take places os) ≡ admits p g seps page last (drop i (take places ns)) (drop i (take places ws)) (drop i (take places os))
-    pub homed : take i homes ≡ homesOf p g (take i ns)
 
-  pub surveyed-none : (ns ws os : List ℕ) (places : ℕ) (homes : List ℕ) → places ≤ length ns → places ≤ length ws → places ≤ length os → length homes ≡ 32
-      → Surveyed ns ws os places 0 0 homes
-  unfolding homesOf
-  surveyed-none ns ws os places homes n w o h = record { numbered = n; worded = w; owned = o; long = h; is = refl; homed = refl }
+  pub admitting-none : (ns ws os : List ℕ) (places : ℕ) → places ≤ length ns → places ≤ length ws → places ≤ length os → Admitting ns ws os places 0 0
+  admitting-none ns ws os places n w o = record { numbered = n; worded = w; owned = o; is = refl }
 
-  module _ {ns ws os : List ℕ} {places i last : ℕ} {homes : List ℕ} (done : Surveyed ns ws os places i last homes) where
+  module _ {ns ws os : List ℕ} {places i last : ℕ} (done : Admitting ns ws os places i last) where
     -- the next item decides, or is admitted too
     onward : i < places → admits p g seps page 0 (take places ns) (take places ws) (take places os) ≡ admitsItem p g seps page last (getD ns i 0) (getD ws i 0) (getD os i 0) && admits p g seps page (lastAfter (getD ns i 0)) (drop (suc i) (take places ns)) (drop (suc i) (take places ws)) (drop (suc i) (take places os))
     onward h =
@@ -181,34 +177,53 @@ module _ (p : Parameters) (g : Growth) (seps : List ℕ) (page : ℕ) where
         )
         (admits-cons last (getD ns i 0) (getD ws i 0) (getD os i 0) (drop (suc i) (take places ns)) (drop (suc i) (take places ws)) (drop (suc i) (take places os)))
 
-    pub surveyed-refused : i < places → admitsItem p g seps page last (getD ns i 0) (getD ws i 0) (getD os i 0) ≡ false → admits p g seps page 0 (take places ns) (take places ws) (take places os) ≡ false
-    surveyed-refused h e = onward h ∙ rw e
+    pub admitting-refused : i < places → admitsItem p g seps page last (getD ns i 0) (getD ws i 0) (getD os i 0) ≡ false → admits p g seps page 0 (take places ns) (take places ws) (take places os) ≡ false
+    admitting-refused h e = onward h ∙ rw e
 
-    pub surveyed-more : {home next : ℕ} → i < places → i < 32 → admitsItem p g seps page last (getD ns i 0) (getD ws i 0) (getD os i 0) ≡ true → home ≡ homeIn p g (getD ns i 0) → next ≡ lastAfter (getD ns i 0) → Surveyed ns ws os places (i + 1) next (set homes i home)
-    unfolding homesOf
-    surveyed-more {home} {next} h k e t l =
+    pub admitting-more : {next : ℕ} → i < places → admitsItem p g seps page last (getD ns i 0) (getD ws i 0) (getD os i 0) ≡ true → next ≡ lastAfter (getD ns i 0) → Admitting ns ws os places (i + 1) next
+    admitting-more {next} h e l =
         record {
           numbered = done .numbered;
           worded = done .worded;
           owned = done .owned;
-          long = length-set homes i home ∙ done .long;
           is = rw (add-one i, l) (onward h ∙ rw e);
-          homed =
-              rw (
-                add-one i,
-                take-suc-set homes i home (omega (arith, done .long)),
-                take-suc ns i 0 (omega (arith, done .numbered)),
-                map-append (homeIn p g) (take i ns) (getD ns i 0 ∷ []),
-                done .homed,
-                t,
-              );
         }
 
-    pub surveyed-all : i ≡ places → admits p g seps page 0 (take places ns) (take places ws) (take places os) ≡ true
+    pub admitting-all : i ≡ places → admits p g seps page 0 (take places ns) (take places ws) (take places os) ≡ true
     unfolding admits orderly starsOf every
-    surveyed-all e =
+    admitting-all e =
         let none : drop i (take places ns) ≡ [] = drop-of-length-le (take places ns) {i = i} (omega (arith, length-take-le places ns (done .numbered))) in
         done .is ∙ rw none
+
+  -- .. and their homes are kept
+  pub record Surveyed (ns ws os : List ℕ) (places i last : ℕ) (homes : List ℕ) : Type 0 where
+    pub admitting : Admitting ns ws os places i last
+    pub long : length homes ≡ 32
+    pub homed : take i homes ≡ homesOf p g (take i ns)
+
+  pub surveyed-none : (ns ws os : List ℕ) (places : ℕ) (homes : List ℕ) → places ≤ length ns → places ≤ length ws → places ≤ length os → length homes ≡ 32
+      → Surveyed ns ws os places 0 0 homes
+  unfolding homesOf
+  surveyed-none ns ws os places homes n w o h = record { admitting = admitting-none ns ws os places n w o; long = h; homed = refl }
+
+  pub surveyed-more : {ns ws os : List ℕ} {places i last : ℕ} {homes : List ℕ} {home next : ℕ} → Surveyed ns ws os places i last homes → i < places → i < 32
+      → admitsItem p g seps page last (getD ns i 0) (getD ws i 0) (getD os i 0) ≡ true → home ≡ homeIn p g (getD ns i 0) → next ≡ lastAfter (getD ns i 0)
+      → Surveyed ns ws os places (i + 1) next (set homes i home)
+  unfolding homesOf
+  surveyed-more {ns} {ws} {os} {places} {i} {last} {homes} {home} {next} done h k e t l =
+      record {
+        admitting = admitting-more (done .admitting) h e l;
+        long = length-set homes i home ∙ done .long;
+        homed =
+            rw (
+              add-one i,
+              take-suc-set homes i home (omega (arith, done .long)),
+              take-suc ns i 0 (omega (arith, done .admitting .numbered)),
+              map-append (homeIn p g) (take i ns) (getD ns i 0 ∷ []),
+              done .homed,
+              t,
+            );
+      }
 
 module _ (p : Parameters) (g : Growth) (f : File) (page : ℕ) where
   -- by the page's items

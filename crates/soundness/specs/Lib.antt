@@ -1,1 +1,3 @@
 pub mod Survey
+pub mod Stars
+pub mod Stretch

@@ -5,14 +5,12 @@ use mathlib.Core.List.{List}
 use Prim.Native.Nat.{ℕ, _+_, _-_, _*_, _≤_, _<_}
 use lib.Dec.{leb, ltb, eqb}
 use lib.ListN.{length, getD, take}
-use lib.Seq.{paste}
 use Rattle.hashing.specs.declared.Parameters.{Parameters}
 use Rattle.hashing.specs.declared.Growth.{Growth}
 use Rattle.hashing.specs.declared.Geometry.{Geometry}
 use Rattle.generator.specs.Generator.{topOf}
 use Rattle.hashing.specs.Geometry.{multiplierOf}
 use Rattle.hashing.specs.Home.{home}
-use Rattle.pages.specs.Page.{part}
 use Rattle.pages.specs.Position.{validWord}
 use Rattle.placement.specs.Rule.{Star}
 use Rattle.placement.specs.File.{starsOf, greatest, orderly, every}
@@ -60,8 +58,3 @@ pub record Tested (g : Geometry) (seps : List ℕ) (page : ℕ) (ns ws os homes 
   pub sound : r ≡ soundIn (g .parameters) (g .growth) seps page (take (g .parameters .places) ns) (take (g .parameters .places) ws) (take (g .parameters .places) os)
   pub long : length homes ≡ 32
   pub homed : r ≡ true → take (g .parameters .places) homes ≡ homesOf (g .parameters) (g .growth) (take (g .parameters .places) ns)
-
--- The list hs with the homes of a page's numbers at its items.
-abbrev pub surveyed : Geometry → ℕ → List ℕ → List ℕ → List ℕ
-surveyed g page ns hs =
-    paste hs (page * g .parameters .places) (homesOf (g .parameters) (g .growth) (part (g .parameters .places) page ns)) (g .parameters .places)

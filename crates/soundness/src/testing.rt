@@ -9,11 +9,12 @@ ghost use Rattle.hashing.specs.Geometry.{multiplierOf};
 ghost use Rattle.hashing.specs.Home.{home as Home·home};
 ghost use Rattle.pages.specs.Position.{validWord};
 ghost use Rattle.placement.specs.File.{greatest};
-ghost use Rattle.placement.specs.Hash.{soundAt};
-ghost use Rattle.placement.specs.Lent.{held, before};
-ghost use Rattle.placement.specs.Ready.{Signers, Homing, Ready};
-ghost use Rattle.soundness.specs.Survey.{TestedItem, Found, Signable, Tested, surveyed};
+ghost use Rattle.placement.specs.Ready.{Signers, Homing};
+ghost use Rattle.soundness.specs.Survey.{TestedItem, Found, Signable, Tested};
 use crate::probing::stands_on;
+use crate::star_homes::find_homes;
+use crate::star_homes::wide;
+use crate::stretches::first_unsound_far;
 use hashing::Geometry;
 use placement::top_of;
 
@@ -64,18 +65,21 @@ pub fn page_sound<'a>(
             homes,
         );
     }
-    let whole = generator::multipliers(geometry.parameters.multiplier);
-    items_sound(
-        &whole,
+    find_homes(table, geometry, numbers, 0, places, homes, 0);
+    let next = page + 1;
+    first_unsound_far(
         geometry,
         separators,
         numbers,
         words,
         owners,
-        &found,
-        page,
         homes,
+        0,
+        0,
+        page,
+        next,
     )
+        == next
 }
 
 // How many places stand before the first empty one: a sound page has no star behind it.
@@ -159,7 +163,7 @@ fn items_sound<'a>(
             numbers[i],
             words[i],
             owners[i],
-            found[i],
+            wide(found[i]),
         );
         if !item.sound {
             return false;
@@ -171,7 +175,7 @@ fn items_sound<'a>(
     true
 }
 
-fn admitted(
+pub fn admitted(
     table: &[u32],
     geometry: Geometry,
     separators: &[u8],
@@ -180,7 +184,7 @@ fn admitted(
     number: u32,
     word: u64,
     owner: u8,
-    home: u16,
+    home: u32,
 ) -> Item
     requires { ⌜ Signers (geometry .parameters) (now table) ⌝ }
     requires { ⌜ length (now separators) ≡ geometry .parameters .pages ⌝ }
@@ -205,7 +209,7 @@ fn admitted(
     }
     Item {
         sound: stands_on(table, geometry, separators, number, home as usize, page),
-        home: home as u32,
+        home,
         last: number,
     }
 }
@@ -230,40 +234,4 @@ fn ordered(last: u32, number: u32, word: u64) -> bool
         return false;
     }
     pages::position::word_valid(word)
-}
-
-// Loads a page and tests it. If it is sound, its homes stand at its items of `homes`.
-pub fn survey(
-    table: &[u32; 90],
-    geometry: Geometry,
-    separators: &[u8],
-    numbers: &[u32],
-    words: &[u64],
-    owners: &[u8],
-    homes: &mut [u32],
-    page: usize,
-) -> bool
-    requires { ⌜ Ready geometry (now table) (held separators numbers words owners) ⌝ }
-    requires { ⌜ length (now homes) ≡ geometry .parameters .pages * geometry .parameters .places ⌝ }
-    requires { ⌜ page < geometry .parameters .pages ⌝ }
-    ensures { λ r. ⌜ r ≡ soundAt (geometry .parameters) (geometry .growth) (before separators numbers words owners) page ⌝ }
-    ensures { λ r. ⌜ (r ≡ true → now (homes .exit) ≡ surveyed geometry page (now (numbers .entry)) (now (homes .entry))) ⌝ }
-{
-    let places = geometry.parameters.places as usize;
-    let value = pages::page::load(numbers, words, owners, places, page);
-    let mut found = [0u32; 32];
-    if !page_sound(
-        table,
-        geometry,
-        separators,
-        &value.numbers,
-        &value.words,
-        &value.owners,
-        page,
-        &mut found,
-    ) {
-        return false;
-    }
-    buffers::copy_32(homes, page * places, &found, 0, places);
-    true
 }

@@ -1,6 +1,6 @@
 -- `soundness::testing::items_sound` meets its contract. The invariant: the first i items are admitted, and their homes kept.
 -- Assumes nothing.
-use mathlib.Core.Path.{_≡_, refl, sym, _∙_}
+use mathlib.Core.Path.{_≡_, sym, _∙_}
 use mathlib.Core.Bool.{false≢true, and-false}
 use Prim.Native.Nat.{ℕ, _-_, _≤_, _<_}
 use lib.ListN.{getD}
@@ -11,7 +11,7 @@ use borrow.Author.Tests.{not-false, le-leb}
 use denote.Ref.{now}
 use Rattle.hashing.proofs.Bounds.{limits, failed}
 use Rattle.soundness.specs.Survey.{soundIn}
-use Rattle.soundness.proofs.Items.{Surveyed, surveyed-none, surveyed-refused, surveyed-more, surveyed-all, first-led, led-next}
+use Rattle.soundness.proofs.Items.{Surveyed, surveyed-none, surveyed-more, admitting-refused, admitting-all, first-led, led-next}
 use Rattle.soundness.proofs.testing.items_sound.Statement.{statement}
 use Rattle.soundness.proofs.testing.items_sound.Tie as tie
 
@@ -54,28 +54,31 @@ element-copy-out-admitted-2 c = search needs
 element-copy-out-admitted-3 : tie.Need-element-copy-out-admitted-3 Inv-loop μ-loop
 element-copy-out-admitted-3 c = search needs
 
-mul-admitted-3 : tie.Need-mul-admitted-3 Inv-loop μ-loop
-mul-admitted-3 c = search needs
+mul-wide : tie.Need-mul-wide Inv-loop μ-loop
+mul-wide c = search needs
 
-element-copy-out-admitted-4 : tie.Need-element-copy-out-admitted-4 Inv-loop μ-loop
-element-copy-out-admitted-4 c = search needs
+element-copy-out-wide : tie.Need-element-copy-out-wide Inv-loop μ-loop
+element-copy-out-wide c = search needs
+
+wide-requires : tie.Need-wide-requires Inv-loop μ-loop
+wide-requires c κs = tt
 
 admitted-requires : tie.Need-admitted-requires Inv-loop μ-loop
 admitted-requires c κs =
-    let s = c .before .before .before .before .before .before .before .before .before in
-    let loop = c .before .before .before .before .before .loop in
+    let s = c .before .before .before .before .before .before .before .before .before .before in
+    let loop = c .before .before .before .before .before .before .loop in
     let p = s .pre .1 .1 .1 .1 .1 in
     let ns = now (s .args .numbers) in
-    let inside = c .before .before .before .before .loop-test .taken in
-    (s .pre .0, (s .pre .1 .0, (s .pre .1 .1 .0, (λ h m. p .1 .0 (loop .i) inside (first-led ns (loop .i) (loop .last) (loop .inv .3) h m), p .1 .1 (loop .i) (omega arith)))))
+    let inside = c .before .before .before .before .before .loop-test .taken in
+    (s .pre .0, (s .pre .1 .0, (s .pre .1 .1 .0, (λ h m. c .wide .ensures .0 ∙ p .1 .0 (loop .i) inside (first-led ns (loop .i) (loop .last) (loop .inv .3) h m), λ star. omega (arith, c .wide .ensures .0, p .1 .1 (loop .i) (omega arith) star)))))
 
 returns : tie.Need-returns Inv-loop μ-loop
 unfolding soundIn
 returns c =
     let item = c .before .before .admitted .ensures in
-    let inside = c .before .before .before .before .before .before .before .loop-test .taken in
-    let done = c .before .before .before .before .before .before .before .before .loop .inv .2 in
-    let refused = surveyed-refused _ _ _ _ done inside (failed _ _ (item .sound) (c .if1 .taken)) in
+    let inside = c .before .before .before .before .before .before .before .before .loop-test .taken in
+    let done = c .before .before .before .before .before .before .before .before .before .loop .inv .2 in
+    let refused = admitting-refused _ _ _ _ (done .admitting) inside (failed _ _ (item .sound) (c .if1 .taken)) in
     record { sound = simp (refused, and-false); long = done .long; homed = λ e. absurd (false≢true e) }
 
 mul-homes : tie.Need-mul-homes Inv-loop μ-loop
@@ -91,7 +94,7 @@ loop-less : tie.Need-loop-less Inv-loop μ-loop
 loop-less c = search needs
 
 abbrev start-of : tie.Else1 Inv-loop μ-loop → tie.Start Inv-loop μ-loop
-start-of c = c .before .before .before .before .before .before .before .before .before .before .before .before
+start-of c = c .before .before .before .before .before .before .before .before .before .before .before .before .before
 
 loop-again : tie.Need-loop-again Inv-loop μ-loop
 loop-again c =
@@ -99,8 +102,8 @@ loop-again c =
     let taken = not-false _ (c .if1 .left) in (
       search needs,
       search needs,
-      surveyed-more _ _ _ _ (c .before .before .before .before .before .before .before .before .loop .inv .2) (search needs) (search needs) (sym (item .ensures .sound) ∙ taken) (item .ensures .home taken) (item .ensures .last taken),
-      led-next _ _ _ _ (now (start-of c .args .numbers)) _ _ _ _ _ (c .before .before .before .before .before .before .before .before .loop .inv .3) (sym (item .ensures .sound) ∙ taken) (item .ensures .last taken),
+      surveyed-more _ _ _ _ (c .before .before .before .before .before .before .before .before .before .loop .inv .2) (search needs) (search needs) (sym (item .ensures .sound) ∙ taken) (item .ensures .home taken) (item .ensures .last taken),
+      led-next _ _ _ _ (now (start-of c .args .numbers)) _ _ _ _ _ (c .before .before .before .before .before .before .before .before .before .loop .inv .3) (sym (item .ensures .sound) ∙ taken) (item .ensures .last taken),
     )
 
 returns-2 : tie.Need-returns-2 Inv-loop μ-loop
@@ -110,7 +113,7 @@ returns-2 c =
     let s = c .before .before .before .before .before in
     let e : c .before .loop .i ≡ s .args .geometry .parameters .places = omega arith in
     record {
-      sound = rw (le-leb _ _ (s .pre .1 .1 .1 .1 .1 .0)) (sym (surveyed-all _ _ _ _ done e));
+      sound = rw (le-leb _ _ (s .pre .1 .1 .1 .1 .1 .0)) (sym (admitting-all _ _ _ _ (done .admitting) e));
       long = done .long;
       homed = λ t. rw e at (done .homed);
     }
@@ -128,8 +131,9 @@ items-sound-spec =
     mul-admitted-2
     element-copy-out-admitted-2
     element-copy-out-admitted-3
-    mul-admitted-3
-    element-copy-out-admitted-4
+    mul-wide
+    element-copy-out-wide
+    wide-requires
     admitted-requires
     returns
     mul-homes

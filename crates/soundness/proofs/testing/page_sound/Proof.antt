@@ -1,16 +1,18 @@
 -- `soundness::testing::page_sound` meets its contract.
 -- Assumes nothing.
-use mathlib.Core.Path.{refl}
+use mathlib.Core.Path.{_≡_, refl, _∙_}
 use mathlib.Core.Bool.{false≢true}
 use Prim.Native.Nat.{_<_}
 use native.Mathlib.Omega.{arith}
+use lib.ListN.{length}
 use borrow.Author.Needs.{needs}
 use borrow.Author.Tests.{lt-leb}
 use Rattle.hashing.specs.Geometry.{multiplierOf}
 use Rattle.hashing.proofs.Bounds.{limits}
-use Rattle.placement.proofs.Prepared.{first-long, whole-long, first-signers, whole-signers}
+use Rattle.placement.proofs.Prepared.{first-long, first-signers}
 use Rattle.soundness.specs.Survey.{soundIn, Found}
 use Rattle.soundness.proofs.Items.{found-led}
+use Rattle.soundness.proofs.Loaded.{loaded-items, loaded-homes, loaded-kept, loaded-sound}
 use Rattle.soundness.proofs.testing.page_sound.Statement.{statement}
 use Rattle.soundness.proofs.testing.page_sound.Tie as tie
 
@@ -86,38 +88,52 @@ items-sound-requires c κs =
 returns-2 : tie.Need-returns-2
 returns-2 c = search needs
 
-multipliers-requires : tie.Need-multipliers-requires
-multipliers-requires c κs = limits _ (start (c .before .before .before) .pre .0 .valid) .multiplier-valid
+find-homes-requires : tie.Need-find-homes-requires
+find-homes-requires c κs =
+    let s = start (c .before .before .before .before .before) in
+    let most = limits (s .args .geometry .parameters) (s .pre .0 .valid) .places-most in
+    (s .pre .0, (omega (arith, most, s .pre .1 .1 .1 .0 .0), omega (arith, most, s .pre .1 .1 .1 .1)))
 
-slice-aggregate-items-sound : tie.Need-slice-aggregate-items-sound
-slice-aggregate-items-sound c = search needs
+-- where homes are found anew for a star that is far from its own
+abbrev entry : tie.After-find-homes → tie.Start
+entry c = start (c .before .before .before .before .before .before)
 
-items-sound-requires-2 : tie.Need-items-sound-requires-2
-items-sound-requires-2 c κs =
-    let found = c .before .before .before .before .before .before .before in
-    let p = start found .pre in
-    let table = c .before .before .before .multipliers .ensures in (
-      whole-signers table (p .0 .valid),
+homes-long : (c : tie.After-find-homes) → length (c .find-homes .last .1 .1 .1 .1 .1 .0) ≡ 32
+homes-long c = c .find-homes .kept .1 .1 .1 .1 .1 .0 ∙ entry c .pre .1 .1 .1 .1
+
+add-next : tie.Need-add-next
+add-next c = search needs
+
+first-unsound-far-requires : tie.Need-first-unsound-far-requires
+first-unsound-far-requires c κs =
+    let d = c .before .before .before .before .before in
+    let s = entry d in
+    let most = limits (s .args .geometry .parameters) (s .pre .0 .valid) .places-most in
+    let page = s .pre .1 .1 .1 in (
+      s .pre .0 .valid,
       (
-        p .1 .0,
+        s .pre .1 .0,
         (
-          p .1 .1 .0,
+          (omega arith, omega (arith, s .pre .1 .1 .0)),
           (
-            p .1 .1 .1 .0,
-            (
-              p .1 .1 .1 .1,
-              (
-                rw (found .before .before .before .before .before .top-of .ensures) at (found .before .before .before .if1 .left),
-                (homed found, λ i h star. omega (arith, low-page found, whole-long (multiplierOf (start found .args .geometry .parameters)) table)),
-              ),
-            ),
+            loaded-items (s .args .geometry .parameters .places) (s .args .page) _ _ _ _ most (page .0 .0) (page .0 .1 .0) (page .0 .1 .1) (homes-long d),
+            loaded-homes (s .args .geometry) (s .args .numbers .now) (s .args .homes .now) _ (omega (arith, most, page .0 .0)) (omega (arith, most, page .1)) (d .find-homes .ensures) (s .args .page),
           ),
         ),
       ),
     )
 
 returns-3 : tie.Need-returns-3
-returns-3 c = search needs
+returns-3 c =
+    let d = c .before .before .before .before .before .before in
+    let s = entry d in
+    let most = limits (s .args .geometry .parameters) (s .pre .0 .valid) .places-most in
+    let page = s .pre .1 .1 .1 in
+    record {
+      sound = loaded-sound (s .args .geometry) (s .args .separators .now) (s .args .numbers .now) (s .args .words .now) (s .args .owners .now) (s .args .page) _ (c .first-unsound-far .ensures);
+      long = homes-long d;
+      homed = λ e. loaded-kept (s .args .geometry) (s .args .numbers .now) (s .args .homes .now) _ (omega (arith, most, page .0 .0)) (omega (arith, most, page .1)) (d .find-homes .ensures);
+    }
 
 pub page-sound-spec : {M : Type 1} → statement M
 page-sound-spec =
@@ -132,7 +148,7 @@ page-sound-spec =
     count-far-requires
     items-sound-requires
     returns-2
-    multipliers-requires
-    slice-aggregate-items-sound
-    items-sound-requires-2
+    find-homes-requires
+    add-next
+    first-unsound-far-requires
     returns-3)

@@ -1,0 +1,40 @@
+-- A stretch of pages by its items and their homes, as lists that may begin elsewhere.
+use mathlib.Core.Path.{_≡_}
+use mathlib.Core.Bool.{Bool, true, false}
+use mathlib.Core.List.{List}
+use Prim.Native.Nat.{ℕ, _+_, _-_, _*_, _≤_, _<_}
+use lib.ListN.{length, getD, take, drop}
+use Rattle.hashing.specs.declared.Geometry.{Geometry}
+use Rattle.placement.specs.Hash.{homeIn}
+use Rattle.soundness.specs.Survey.{soundIn}
+
+-- hs has, from `to` on, the homes of n items of ns from `at` on
+abbrev pub HomesAt : Geometry → ℕ → ℕ → ℕ → List ℕ → List ℕ → Type 0
+HomesAt g n at to ns hs = (i : ℕ) → i < n → getD hs (to + i) 0 ≡ homeIn (g .parameters) (g .growth) (getD ns (at + i) 0)
+
+-- a table of n entries has what signs each star of a page of b places on it, by its home
+abbrev pub SignableAt : ℕ → ℕ → ℕ → ℕ → ℕ → List ℕ → List ℕ → Type 0
+SignableAt n b page at to ns hs = (i : ℕ) → i < b → (getD ns (at + i) 0 ≡ 0 → ⊥) → 2 * (page + 1 - getD hs (to + i) 0) < n
+
+-- the lists reach to these items and homes
+pub record Items (items homed : ℕ) (ns ws os hs : List ℕ) : Type 0 where
+  pub numbers : items ≤ length ns
+  pub words : items ≤ length ws
+  pub owners : items ≤ length os
+  pub homes : homed ≤ length hs
+
+-- a page is sound, by its items from `at` on
+unfoldable pub soundFrom : Geometry → List ℕ → List ℕ → List ℕ → List ℕ → ℕ → ℕ → Bool
+soundFrom g seps ns ws os at page =
+    soundIn (g .parameters) (g .growth) seps page (take (g .parameters .places) (drop at ns)) (take (g .parameters .places) (drop at ws)) (take (g .parameters .places) (drop at os))
+
+-- .. where the items of page `from` begin at `at`
+abbrev pub soundOf : Geometry → List ℕ → List ℕ → List ℕ → List ℕ → ℕ → ℕ → ℕ → Bool
+soundOf g seps ns ws os at from page = soundFrom g seps ns ws os (at + (page - from) * g .parameters .places) page
+
+-- r is the first number from `from` up to the one before `stop` that fails the test, or `stop`
+pub record Lowest (test : ℕ → Bool) (from stop r : ℕ) : Type 0 where
+  pub low : from ≤ r
+  pub high : r ≤ stop
+  pub passed : (q : ℕ) → from ≤ q → q < r → test q ≡ true
+  pub failed : r < stop → test r ≡ false
