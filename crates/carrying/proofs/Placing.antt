@@ -26,29 +26,35 @@ use Rattle.page_plan.specs.Gather.{starsIn, grouped, groupsBelow, Scattered}
 use Rattle.page_plan.specs.Keys.{Keyed}
 use Rattle.page_plan.proofs.Gathered.{starsIn-most}
 use Rattle.page_plan.proofs.Items.{words-count}
-use Rattle.page_plan.specs.Plans.{homed, waits, plans, remains, Started, Settleable, Planned}
+use Rattle.page_plan.specs.Plans.{homed, waits, plans, remains, Started, Settleable, Planned, AllPlaced}
 use Rattle.page_plan.specs.Sources.{starWord}
 use Rattle.page_plan.proofs.Pouring.{length-waits}
 use Rattle.page_plan.proofs.Sourcing.{itemHome, words-homed, words-grouped}
-use Rattle.page_plan.proofs.Stretch.{started, stands, started-again, length-plans}
+use Rattle.page_plan.proofs.Blocks.{plans-grouped}
+use Rattle.page_plan.proofs.Stretch.{started, stands, started-again, length-plans, planned-again}
 use Rattle.page_plan.proofs.Placed.{probes-real, homes-real, planned-pages, length-sources}
 use Rattle.carrying.specs.Keys.{keysFrom}
-use Rattle.carrying.specs.Carried.{carriedWords, StarsPlanned}
+use Rattle.carrying.specs.Carried.{carriedWords, AllPlanned}
 use Rattle.carrying.proofs.Words.{words-of-keys, keys-below}
 
--- a plan over all pages fills pool and separators
-pub planned-whole : (q : Parameters) (l pool pool′ planned planned′ W′ : List ℕ) (r : ℕ) → Planned q 0 (q .pages) [] l pool pool′ planned planned′ W′ r
-    → length pool ≡ q .pages * q .places → q .pages ≤ length planned → StarsPlanned q l pool′ planned′ r
-planned-whole q l pool pool′ planned planned′ W′ r P lp ln =
+-- a plan over all pages, of words in groups, fills pool and separators
+pub planned-whole : (q : Parameters) (l pool pool′ planned planned′ W′ : List ℕ) (r : Bool)
+    → AllPlaced q (grouped 0 0 (q .pages) l) pool pool′ planned planned′ W′ r
+    → length pool ≡ q .pages * q .places → q .pages ≤ length planned → AllPlanned q l pool′ planned′ r
+planned-whole q l pool pool′ planned planned′ W′ r A lp ln =
     let sources : List ℕ = column (q .places) (λ (s : Star). s .payload .word) (plans q 0 0 (q .pages) [] l) in
     record {
-      sources = P .sources ∙ rw (zero-mul (q .places)) (written-whole sources pool (length-sources q 0 (q .pages) [] l ∙ sym lp));
+      fits = A .fits ∙ ap (λ (x : List ℕ). eqb (length x) 0) (plans-grouped q 0 (q .pages) [] l .1);
+      sources =
+          λ e. plan e .sources ∙ rw (zero-mul (q .places)) (written-whole sources pool (length-sources q 0 (q .pages) [] l ∙ sym lp));
       separators-are =
-          ap (take (q .pages)) (P .separators-are)
+          λ e. ap (take (q .pages)) (plan e .separators-are)
           ∙ taken-written 0 (q .pages) (separators (plans q 0 0 (q .pages) [] l)) planned
           (length-separators (plans q 0 0 (q .pages) [] l) ∙ length-plans q 0 0 (q .pages) [] l) (omega arith);
-      counted = P .counted;
     }
+  where
+    plan : r ≡ true → Planned q 0 (q .pages) [] l pool pool′ planned planned′ W′ 0
+    plan e = planned-again q 0 (q .pages) [] l pool pool′ planned planned′ W′ 0 (A .plan e)
 
 module _ (g : Geometry) (valid : validParameters (g .parameters) ≡ true) (growth : validGrowth (g .parameters) (g .growth) ≡ true) where
   home-below : (k : ℕ) → homeUnder g k < g .parameters .pages

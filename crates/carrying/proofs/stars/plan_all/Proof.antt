@@ -56,13 +56,7 @@ same-length-2 : tie.Need-same-length-2
 same-length-2 c = search needs
 
 returns-2 : tie.Need-returns-2
-returns-2 c =
-    let d = c .before .before .before .before in
-    record {
-      fits = ap (λ (n : ℕ). eqb n 0) (d .plan-stars .ensures .counted);
-      sources = λ _. d .plan-stars .ensures .sources;
-      separators-are = λ _. d .plan-stars .ensures .separators-are;
-    }
+returns-2 c = search needs
 
 pub plan-all-spec : {M : Type 1} → statement M
 plan-all-spec =

@@ -6,7 +6,6 @@ use native.Mathlib.Nat.{mul-le-mul}
 use native.Mathlib.Omega.{arith}
 use denote.Ref.{now}
 use Rattle.hashing.proofs.Bounds.{limits}
-use Rattle.page_plan.proofs.Stretch.{planned-again}
 use Rattle.carrying.proofs.Placing.{planned-whole, stars-keyed, stars-grouped, stars-settleable}
 use Rattle.carrying.proofs.stars.plan_stars.Statement.{statement}
 use Rattle.carrying.proofs.stars.plan_stars.Tie as tie
@@ -46,11 +45,11 @@ gather-stars-requires c κs =
       ((limits _ (s .pre .0 .valid) .pages-most, wide k), s .pre .1 .0 .1),
     )
 
-slice-aggregate-settle-pages : tie.Need-slice-aggregate-settle-pages
-slice-aggregate-settle-pages c = search needs
+slice-aggregate-place-all : tie.Need-slice-aggregate-place-all
+slice-aggregate-place-all c = search needs
 
-settle-pages-requires : tie.Need-settle-pages-requires
-settle-pages-requires c κs =
+place-all-requires : tie.Need-place-all-requires
+place-all-requires c κs =
     let t = c .before .before .before .before .before .before .before in
     let k = t .before .before .before .before .before .before .before .before in
     let s = start k in
@@ -73,9 +72,8 @@ returns c =
     let s = start k in
     let L = limits (s .args .geometry .parameters) (s .pre .0 .valid) in
     planned-whole (s .args .geometry .parameters) _ _ _ _ _ _ _
-    (planned-again _ _ _ _ _ _ _ _ _ _ _
     (rw (stars-grouped (s .args .geometry) (s .pre .0 .valid) (s .pre .0 .growth) (now (s .args .numbers)) (s .pre .1 .0 .0) _ _ (k .key-stars .ensures .0) (k .key-stars .ensures .1) (inside k)
-    (k .key-stars .last .1 .1 .1 .1 .0) _ _ (t .gather-stars .ensures) (wide k) (t .gather-stars .kept .1 .1 .0)) at (e .settle-pages .ensures)))
+    (k .key-stars .last .1 .1 .1 .1 .0) _ _ (t .gather-stars .ensures) (wide k) (t .gather-stars .kept .1 .1 .0)) at (e .place-all .ensures))
     (omega (arith, k .key-stars .kept .1 .1 .1 .0, s .pre .1 .1 .0)) (omega (arith, L .pages-most, s .pre .1 .1 .1 .1 .0))
 
 pub plan-stars-spec : {M : Type 1} → statement M
@@ -86,8 +84,8 @@ plan-stars-spec =
     key-stars-requires
     slice-aggregate-gather-stars
     gather-stars-requires
-    slice-aggregate-settle-pages
-    settle-pages-requires
+    slice-aggregate-place-all
+    place-all-requires
     same-length
     same-length-2
     returns)
