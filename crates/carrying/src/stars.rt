@@ -1,7 +1,7 @@
 // All pages of the new file planned from the stars of the old one.
 ghost use mathlib.Core.Path.{_≡_};
 ghost use mathlib.Core.Bool.{true};
-ghost use Prim.Native.Nat.{_*_, _≤_, _^_};
+ghost use Prim.Native.Nat.{_*_, _≤_, _<_, _^_};
 ghost use lib.ListN.{length};
 ghost use Rattle.hashing.specs.Limits.{validParameters, validGrowth};
 ghost use Rattle.placement.specs.Ready.{Homing};
@@ -9,6 +9,7 @@ ghost use Rattle.page_separator.specs.Lists.{allBelow};
 ghost use Rattle.page_plan.specs.Gather.{starsIn};
 ghost use Rattle.carrying.specs.Carried.{carriedWords, AllPlanned};
 use crate::keys::key_stars;
+use crate::keys::shift_for;
 use hashing::Geometry;
 use page_plan::gather_stars;
 use page_plan::place_all;
@@ -21,8 +22,10 @@ fn plan_stars(
     pool: &mut [u32],
     waiting: &mut [u64],
     planned: &mut [u8; 1024],
+    shift: u32,
 ) -> bool
     requires { ⌜ Homing geometry (now table) ⌝ }
+    requires { ⌜ shift < 32 ⌝ }
     requires { ⌜ (length (now numbers) ≤ 32768) × (allBelow (2 ^ 31) (now numbers) ≡ true) ⌝ }
     requires { ⌜ length (now pool) ≡ geometry .parameters .pages * geometry .parameters .places ⌝ }
     requires { ⌜ length (now waiting) ≡ geometry .parameters .pages * geometry .parameters .places ⌝ }
@@ -33,7 +36,7 @@ fn plan_stars(
     let parameters = geometry.parameters;
     let pages = parameters.pages as usize;
     let mut ends = [0u32; 1024];
-    let stars = key_stars(table, geometry, numbers, pool, waiting);
+    let stars = key_stars(table, geometry, numbers, pool, waiting, shift);
     gather_stars(numbers, pool, waiting, &mut ends, stars, pages);
     place_all(parameters, pool, waiting, planned, &ends, stars)
 }
@@ -57,5 +60,6 @@ pub fn plan_all(
         return false;
     }
     let table = generator::first_multipliers(geometry.parameters.multiplier);
-    plan_stars(&table, geometry, numbers, pool, waiting, planned)
+    let shift = shift_for(numbers);
+    plan_stars(&table, geometry, numbers, pool, waiting, planned, shift)
 }

@@ -40,13 +40,20 @@ first-multipliers-requires c κs =
     let s = start (c .before) in
     limits (s .args .geometry .parameters) (s .pre .0 .0) .multiplier-valid
 
+shift-for-requires : tie.Need-shift-for-requires
+shift-for-requires c κs = tt
+
 plan-stars-requires : tie.Need-plan-stars-requires
 plan-stars-requires c κs =
-    let f = c .before .before .before .before in
+    let h = c .before .before .before .before in
+    let f = h .before in
     let k = f .before .before in
     let s = start k in (
       homing (f .first-multipliers .ensures) (s .pre .0 .0) (s .pre .0 .1),
-      (s .pre .1 .0, (s .pre .1 .1 .0, (s .pre .1 .1 .1 .0, (s .pre .1 .1 .1 .1, omega (arith, f .before .if1 .left, counted k))))),
+      (
+        h .shift-for .ensures,
+        (s .pre .1 .0, (s .pre .1 .1 .0, (s .pre .1 .1 .1 .0, (s .pre .1 .1 .1 .1, omega (arith, f .before .if1 .left, counted k))))),
+      ),
     )
 
 same-length : tie.Need-same-length
@@ -65,6 +72,7 @@ plan-all-spec =
     count-stars-requires
     returns
     first-multipliers-requires
+    shift-for-requires
     plan-stars-requires
     same-length
     same-length-2
