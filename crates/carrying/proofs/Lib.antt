@@ -1,4 +1,5 @@
 pub mod Listing
 pub mod Words
+pub mod Sorted
 pub mod Placing
 pub mod Carried

@@ -14,7 +14,7 @@ use Rattle.hashing.specs.declared.Parameters.{Parameters}
 use Rattle.hashing.specs.declared.Geometry.{Geometry}
 use Rattle.hashing.specs.Limits.{validParameters, validGrowth}
 use Rattle.hashing.proofs.Bounds.{limits}
-use Rattle.placement.specs.Rule.{Star, Hash, separators}
+use Rattle.placement.specs.Rule.{Star, Hash, pages, left, separators}
 use Rattle.placement.specs.File.{column}
 use Rattle.placement.specs.Hash.{hashOf, homeUnder, homeIn, homesOf}
 use Rattle.placement.proofs.Composition.{crowded}
@@ -26,39 +26,40 @@ use Rattle.page_plan.specs.Gather.{starsIn, grouped, groupsBelow, Scattered}
 use Rattle.page_plan.specs.Keys.{Keyed}
 use Rattle.page_plan.proofs.Gathered.{starsIn-most}
 use Rattle.page_plan.proofs.Items.{words-count}
-use Rattle.page_plan.specs.Plans.{homed, waits, plans, remains, Started, Settleable, Planned}
+use Rattle.page_plan.specs.Plans.{homed, waits, plans, remains, Started, Settleable, Planned, AllPlaced}
 use Rattle.page_plan.specs.Sources.{starWord}
 use Rattle.page_plan.proofs.Pouring.{length-waits}
 use Rattle.page_plan.proofs.Sourcing.{itemHome, words-homed, words-grouped}
-use Rattle.page_plan.proofs.Stretch.{started, stands, started-again, length-plans}
+use Rattle.page_plan.proofs.Blocks.{plans-grouped}
+use Rattle.page_plan.proofs.Stretch.{started, stands, started-again, length-plans, planned-again}
 use Rattle.page_plan.proofs.Placed.{probes-real, homes-real, planned-pages, length-sources}
-use Rattle.carrying.specs.Keys.{keysFrom}
-use Rattle.carrying.specs.Carried.{carriedWords, StarsPlanned}
-use Rattle.carrying.proofs.Words.{words-of-keys, keys-below}
+use Rattle.carrying.specs.Keys.{digitWords, wordKey}
+use Rattle.carrying.specs.Carried.{carriedWords, AllPlanned}
+use Rattle.carrying.proofs.Sorted.{sortedWords, sorted-keyed, sorted-homed, sorted-below, sorted-waits}
 
--- a plan over all pages fills pool and separators
-pub planned-whole : (q : Parameters) (l pool pool′ planned planned′ W′ : List ℕ) (r : ℕ) → Planned q 0 (q .pages) [] l pool pool′ planned planned′ W′ r
-    → length pool ≡ q .pages * q .places → q .pages ≤ length planned → StarsPlanned q l pool′ planned′ r
-planned-whole q l pool pool′ planned planned′ W′ r P lp ln =
+-- a plan over all pages, of words in groups, fills pool and separators
+pub planned-whole : (q : Parameters) (l pool pool′ planned planned′ W′ : List ℕ) (r : Bool)
+    → AllPlaced q (grouped 0 0 (q .pages) l) pool pool′ planned planned′ W′ r
+    → length pool ≡ q .pages * q .places → q .pages ≤ length planned → AllPlanned q l pool′ planned′ r
+planned-whole q l pool pool′ planned planned′ W′ r A lp ln =
     let sources : List ℕ = column (q .places) (λ (s : Star). s .payload .word) (plans q 0 0 (q .pages) [] l) in
     record {
-      sources = P .sources ∙ rw (zero-mul (q .places)) (written-whole sources pool (length-sources q 0 (q .pages) [] l ∙ sym lp));
+      fits = A .fits ∙ ap (λ (x : List ℕ). eqb (length x) 0) (plans-grouped q 0 (q .pages) [] l .1);
+      sources =
+          λ e. plan e .sources ∙ rw (zero-mul (q .places)) (written-whole sources pool (length-sources q 0 (q .pages) [] l ∙ sym lp));
       separators-are =
-          ap (take (q .pages)) (P .separators-are)
+          λ e. ap (take (q .pages)) (plan e .separators-are)
           ∙ taken-written 0 (q .pages) (separators (plans q 0 0 (q .pages) [] l)) planned
           (length-separators (plans q 0 0 (q .pages) [] l) ∙ length-plans q 0 0 (q .pages) [] l) (omega arith);
-      counted = P .counted;
     }
+  where
+    plan : r ≡ true → Planned q 0 (q .pages) [] l pool pool′ planned planned′ W′ 0
+    plan e = planned-again q 0 (q .pages) [] l pool pool′ planned planned′ W′ 0 (A .plan e)
 
 module _ (g : Geometry) (valid : validParameters (g .parameters) ≡ true) (growth : validGrowth (g .parameters) (g .growth) ≡ true) where
   home-below : (k : ℕ) → homeUnder g k < g .parameters .pages
   unfolding hashOf
   home-below k = homed-real (g .parameters) (g .growth) valid growth k
-
-  homes-all : (l : List ℕ) → allBelow (g .parameters .pages) (map (homeUnder g) l) ≡ true
-  homes-all [] = unfold all in refl
-  homes-all (k ∷ l) =
-      all-cons (λ x. ltb x (g .parameters .pages)) (homeUnder g k) (map (homeUnder g) l) (lt-ltb (homeUnder g k) (g .parameters .pages) (home-below k)) (homes-all l)
 
   item-below : (k : ℕ) → itemHome (hashOf (g .parameters) (g .growth)) k < g .parameters .pages
   unfolding itemHome hashOf
@@ -104,7 +105,11 @@ module _ (g : Geometry) (valid : validParameters (g .parameters) ≡ true) (grow
           empty [] z = refl
           empty (x ∷ t) z = absurd (omega arith)
 
-    module _ (keys : List ℕ) (stars : ℕ) (count : stars ≡ starsIn 0 ns) (listed : take stars keys ≡ keysFrom 0 ns (map (homeUnder g) ns)) (inside : stars ≤ length keys) where
+    module _ (numbers : allBelow (2 ^ 31) ns ≡ true) (shift : ℕ) (keys : List ℕ) (stars : ℕ) (count : stars ≡ starsIn 0 ns)
+        (listed : take stars keys ≡ map (wordKey g) (digitWords shift ns)) (inside : stars ≤ length keys) where
+      abbrev words : List ℕ
+      words = sortedWords ns few numbers shift g valid growth
+
       pub stars-few : stars ≤ 32768
       stars-few = omega (arith, starsIn-most 0 ns)
 
@@ -115,23 +120,47 @@ module _ (g : Geometry) (valid : validParameters (g .parameters) ≡ true) (grow
             most = limits (g .parameters) valid .pages-most;
             inside = inside;
             few = stars-few;
-            within = rw listed (keys-below (g .parameters .pages) 0 ns (map (homeUnder g) ns) (omega arith) (homes-all ns));
+            within = rw listed (sorted-keyed ns few numbers shift g valid growth);
           }
 
-      words-are : map (starWord ns) (take stars keys) ≡ carriedWords g ns
-      words-are = ap (map (starWord ns)) listed ∙ words-of-keys g ns few
+      words-are : map (starWord ns) (take stars keys) ≡ words
+      unfolding sortedWords
+      words-are = ap (map (starWord ns)) listed
 
-      words-length : length (carriedWords g ns) ≡ stars
+      words-length : length words ≡ stars
       words-length = ap length (sym words-are) ∙ length-map (take stars keys) (starWord ns) ∙ length-take-le stars keys inside
+
+      -- what is planned of the sorted words is the plan of the words in the order of the items
+      pub planned-sorted : (pool planned : List ℕ) (r : Bool) → AllPlanned (g .parameters) words pool planned r
+          → AllPlanned (g .parameters) (carriedWords g ns) pool planned r
+      planned-sorted pool planned r A =
+          let q : Parameters = g .parameters in
+          let H : Hash = hashOf q (g .growth) in
+          let one = planned-pages H q (probes-real q (g .growth)) 0 (q .pages) [] words (unfold homed all in refl) (unfold all in refl)
+          (sorted-homed ns few numbers shift g valid growth) (sorted-below ns few numbers shift g valid growth) in
+          let other = planned-pages H q (probes-real q (g .growth)) 0 (q .pages) [] (carriedWords g ns) (unfold homed all in refl) (unfold all in refl)
+          (words-home numbers) (words-below numbers) in
+          let same : waits words ≡ waits (carriedWords g ns) = sorted-waits ns few numbers shift g valid growth in
+          let plan : plans q 0 0 (q .pages) [] words ≡ plans q 0 0 (q .pages) [] (carriedWords g ns)
+          = one .0 ∙ ap (pages H 0 (q .pages)) same ∙ sym (other .0) in
+          let left-over : length (remains q 0 0 (q .pages) [] words) ≡ length (remains q 0 0 (q .pages) [] (carriedWords g ns))
+          = sym (length-waits (remains q 0 0 (q .pages) [] words))
+          ∙ ap length (one .1 ∙ ap (left H 0 (q .pages)) same ∙ sym (other .1))
+          ∙ length-waits (remains q 0 0 (q .pages) [] (carriedWords g ns)) in
+          record {
+            fits = A .fits ∙ ap (λ (n : ℕ). eqb n 0) left-over;
+            sources = λ e. A .sources e ∙ ap (column (q .places) (λ (s : Star). s .payload .word)) plan;
+            separators-are = λ e. A .separators-are e ∙ ap separators plan;
+          }
 
       module _ (U W ends : List ℕ) (S : Scattered 0 (g .parameters .pages) 0 (map (starWord ns) (take stars keys)) U W ends) (wide : stars ≤ length U)
           (kept : length W ≡ length U) where
-        ready : Started 0 (g .parameters .pages) 0 (carriedWords g ns) W ends
-        ready = started 0 (g .parameters .pages) 0 (carriedWords g ns) U W ends (rw words-are at S) (omega (arith, words-length)) kept
+        ready : Started 0 (g .parameters .pages) 0 (words) W ends
+        ready = started 0 (g .parameters .pages) 0 (words) U W ends (rw words-are at S) (omega (arith, words-length)) kept
 
-        pub stars-grouped : slice 0 stars W ≡ grouped 0 0 (g .parameters .pages) (carriedWords g ns)
+        pub stars-grouped : slice 0 stars W ≡ grouped 0 0 (g .parameters .pages) (words)
         stars-grouped =
-            ap (λ (n : ℕ). slice 0 n W) (sym words-length ∙ sym (zero-add (length (carriedWords g ns)))) ∙ stands 0 (g .parameters .pages) 0 (carriedWords g ns) W ends ready
+            ap (λ (n : ℕ). slice 0 n W) (sym words-length ∙ sym (zero-add (length (words)))) ∙ stands 0 (g .parameters .pages) 0 (words) W ends ready
 
         pub stars-settleable : (pool planned : List ℕ) → length pool ≡ g .parameters .pages * g .parameters .places → length W ≤ 32768
             → 1024 ≤ length planned → 1024 ≤ length ends → Settleable (g .parameters) 0 (g .parameters .pages) 0 stars pool W planned ends
@@ -146,6 +175,6 @@ module _ (g : Geometry) (valid : validParameters (g .parameters) ≡ true) (grow
               few = lw;
               order = omega arith;
               inside = omega arith;
-              grouped-are = rw stars-grouped (started-again 0 (g .parameters .pages) 0 (carriedWords g ns) W ends ready);
+              grouped-are = rw stars-grouped (started-again 0 (g .parameters .pages) 0 (words) W ends ready);
               near = unfold all in refl;
             }

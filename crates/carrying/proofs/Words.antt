@@ -1,15 +1,13 @@
 -- The words of another file's stars, as their keys give them.
-use mathlib.Core.Path.{_≡_, refl, ap, _∙_}
-use mathlib.Core.Bool.{Bool, true, false, cond, _||_}
+use mathlib.Core.Path.{_≡_, refl}
+use mathlib.Core.Bool.{Bool, true, false, cond}
 use mathlib.Core.List.{List, [], _∷_, map}
 use Prim.Native.Nat.{ℕ, suc, _+_, _*_, _/_, _%_, _^_, _≤_, _<_}
-use native.Mathlib.Nat.{add-zero, add-suc, suc-add, zero-add}
+use native.Mathlib.Nat.{add-zero, add-suc, suc-add}
 use native.Mathlib.Omega.{arith}
-use lib.Dec.{eqb, ltb}
+use lib.Dec.{ltb}
 use lib.ListN.{length, getD}
 use borrow.Author.Tests.{ltb-true, lt-ltb}
-use Rattle.hashing.specs.declared.Geometry.{Geometry}
-use Rattle.placement.specs.Hash.{homeUnder, homesOf}
 use Rattle.page_separator.specs.Lists.{all, allBelow}
 use Rattle.page_separator.specs.Words.{pack}
 use Rattle.page_separator.proofs.Lists.{all-head, all-tail, all-cons}
@@ -17,21 +15,20 @@ use Rattle.page_plan.specs.Gather.{skipped, wordsFrom}
 use Rattle.page_plan.specs.Keys.{starKey}
 use Rattle.page_plan.specs.Sources.{namedItem, starWord}
 use Rattle.carrying.specs.Keys.{keysFrom}
-use Rattle.carrying.specs.Carried.{carriedWords}
 
 -- a source names the item before it
 pub named-own : (l : List ℕ) (i : ℕ) → namedItem l 0 (suc i) ≡ getD l i 0
 unfolding namedItem
 named-own l i = refl
 
-star-word : (l : List ℕ) (h n s : ℕ) → s < 2 ^ 16 → namedItem l 0 s ≡ n → starWord l (starKey h s) ≡ pack h n s
+pub star-word : (l : List ℕ) (h n s : ℕ) → s < 2 ^ 16 → namedItem l 0 s ≡ n → starWord l (starKey h s) ≡ pack h n s
 unfolding starWord starKey
 star-word l h n s small e =
     let home : (h * 2 ^ 16 + s) / 2 ^ 16 ≡ h = omega arith in
     let source : (h * 2 ^ 16 + s) % 2 ^ 16 ≡ s = omega arith in
     rw (home, source, e)
 
-keys-words : (l : List ℕ) (at : ℕ) (ns hs : List ℕ) → at + length ns < 2 ^ 16 → ((i : ℕ) → i < length ns → namedItem l 0 (suc (at + i)) ≡ getD ns i 0)
+pub keys-words : (l : List ℕ) (at : ℕ) (ns hs : List ℕ) → at + length ns < 2 ^ 16 → ((i : ℕ) → i < length ns → namedItem l 0 (suc (at + i)) ≡ getD ns i 0)
     → map (starWord l) (keysFrom at ns hs) ≡ wordsFrom at 0 ns hs
 unfolding keysFrom wordsFrom
 keys-words l at [] hs few named = refl
@@ -46,26 +43,6 @@ keys-words l at (n ∷ ns) (h ∷ hs) few named =
         ≡ cond t (wordsFrom (suc at) 0 ns hs) (pack h n (suc at) ∷ wordsFrom (suc at) 0 ns hs)
     go true ih e = ih
     go false ih e = rw (e, ih)
-
--- the home of an empty place does not matter
-same-words : (g : Geometry) (at : ℕ) (ns : List ℕ) → wordsFrom at 0 ns (map (homeUnder g) ns) ≡ wordsFrom at 0 ns (homesOf (g .parameters) (g .growth) ns)
-unfolding wordsFrom homesOf skipped
-same-words g at [] = refl
-same-words g at (n ∷ ns) = go (eqb n 0) (same-words g (suc at) ns)
-  where
-    rest : List ℕ
-    rest = wordsFrom (suc at) 0 ns (map (homeUnder g) ns)
-
-    rest′ : List ℕ
-    rest′ = wordsFrom (suc at) 0 ns (homesOf (g .parameters) (g .growth) ns)
-
-    go : (t : Bool) → rest ≡ rest′
-        → cond (t || t) rest (pack (homeUnder g n) n (suc at) ∷ rest) ≡ cond (t || t) rest′ (pack (cond t 0 (homeUnder g n)) n (suc at) ∷ rest′)
-    go true ih = ih
-    go false ih = ap (λ (l : List ℕ). pack (homeUnder g n) n (suc at) ∷ l) ih
-
-pub words-of-keys : (g : Geometry) (ns : List ℕ) → length ns ≤ 32768 → map (starWord ns) (keysFrom 0 ns (map (homeUnder g) ns)) ≡ carriedWords g ns
-words-of-keys g ns few = keys-words ns 0 ns (map (homeUnder g) ns) (omega arith) (λ i a. named-own ns (0 + i) ∙ rw (zero-add i)) ∙ same-words g 0 ns
 
 pub keys-below : (M at : ℕ) (ns hs : List ℕ) → at + length ns < 2 ^ 16 → allBelow M hs ≡ true → allBelow (M * 2 ^ 16) (keysFrom at ns hs) ≡ true
 unfolding keysFrom starKey

@@ -25,13 +25,7 @@ use Rattle.calls.specs.Records.{AfterStep, notStepped}
 abbrev pub carriedWords : Geometry → List ℕ → List ℕ
 carriedWords g ns = wordsFrom 0 0 ns (homesOf (g .parameters) (g .growth) ns)
 
--- the sources of all pages, their separators, and how many words are left
-pub record StarsPlanned (q : Parameters) (l pool planned : List ℕ) (r : ℕ) : Type 0 where
-  pub sources : pool ≡ column (q .places) (λ (s : Star). s .payload .word) (plans q 0 0 (q .pages) [] l)
-  pub separators-are : take (q .pages) planned ≡ separators (plans q 0 0 (q .pages) [] l)
-  pub counted : r ≡ length (remains q 0 0 (q .pages) [] l)
-
--- .. and whether none is; then the plan stands
+-- whether each of the words l finds a place, and then the sources of all pages and their separators
 pub record AllPlanned (q : Parameters) (l pool planned : List ℕ) (r : Bool) : Type 0 where
   pub fits : r ≡ eqb (length (remains q 0 0 (q .pages) [] l)) 0
   pub sources : r ≡ true → pool ≡ column (q .places) (λ (s : Star). s .payload .word) (plans q 0 0 (q .pages) [] l)

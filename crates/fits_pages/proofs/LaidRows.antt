@@ -29,9 +29,6 @@ not-empty : (w : List Star) → (w ≡ [] → ⊥) → false ≡ isEmpty w
 not-empty [] h = absurd (h refl)
 not-empty (s ∷ w) h = refl
 
-empty : (w : List Star) → w ≡ [] → true ≡ isEmpty w
-empty w e = rw e
-
 module _ (g : Geometry) (given : List ℕ) (n : ℕ) (f : File) where
   -- more rows than places
   pub no-room : g .parameters .pages * g .parameters .places < n → Places g given n f f false
@@ -45,19 +42,16 @@ module _ (g : Geometry) (given : List ℕ) (n : ℕ) (f : File) where
         file = refl;
       }
 
-  module _ (pool planned : List ℕ) (r : ℕ) (P : PlansRows g given n pool planned r) where
-    pub overfull : (r ≡ 0 → ⊥) → Places g given n f f false
-    overfull h =
-        record {
-          fits = not-empty (left (hashOf (g .parameters) (g .growth)) 0 (g .parameters .pages) (rowStars given n)) (P .overflows h);
-          file = refl;
-        }
+  module _ (pool planned : List ℕ) where
+    pub overfull : PlansRows g given n pool planned false → Places g given n f f false
+    overfull P = record { fits = P .fits; file = refl }
 
-    pub all-stored : (s n′ w o : List ℕ) → r ≡ 0 → s ≡ take (g .parameters .pages) planned → n′ ≡ map (namedItem (numbersRead given n) 0) pool
-        → w ≡ map (namedItem (wordsRead given n) 0) pool → o ≡ replicate (length pool) 0 → Places g given n f (lent s n′ w o) true
+    pub all-stored : PlansRows g given n pool planned true → (s n′ w o : List ℕ) → s ≡ take (g .parameters .pages) planned
+        → n′ ≡ map (namedItem (numbersRead given n) 0) pool → w ≡ map (namedItem (wordsRead given n) 0) pool → o ≡ replicate (length pool) 0
+        → Places g given n f (lent s n′ w o) true
     unfolding laid fileOf
-    all-stored s n′ w o z es en ew eo =
+    all-stored P s n′ w o es en ew eo =
         record {
-          fits = empty (left (hashOf (g .parameters) (g .growth)) 0 (g .parameters .pages) (rowStars given n)) (P .fits z);
-          file = rw (es ∙ P .planned-are, en ∙ P .numbers, ew ∙ P .words, eo ∙ P .owners);
+          fits = P .fits;
+          file = rw (es ∙ P .planned-are refl, en ∙ P .numbers refl, ew ∙ P .words refl, eo ∙ P .owners refl);
         }

@@ -28,15 +28,17 @@ use Rattle.placement.proofs.Mapping.{mapped, pages-map, left-map}
 use Rattle.placement.proofs.Order.{Rising, Sorted, rising-sorted, pour-nil}
 use Rattle.placement.proofs.Probing.{homed-real}
 use Rattle.placement.proofs.Writing.{length-column}
+use Rattle.reach.specs.Reach.{isEmpty}
 use Rattle.page_separator.specs.Lists.{all, allBelow}
 use Rattle.page_separator.specs.Words.{pack}
 use Rattle.page_separator.proofs.Lists.{all-items}
 use Rattle.page_plan.specs.Gather.{skipped, wordsFrom, groupsBelow, grouped, Scattered}
 use Rattle.page_plan.specs.Keys.{starKey, keyWords, Keyed}
 use Rattle.page_plan.specs.Sources.{namedItem, renamed, sourced, numbered, starWord}
-use Rattle.page_plan.specs.Plans.{waits, homed, plans, remains, Started, Planned}
+use Rattle.page_plan.specs.Plans.{waits, homed, plans, remains, Started, Planned, AllPlaced}
 use Rattle.page_plan.proofs.Numbered.{stars-gathered, keys-small}
 use Rattle.page_plan.proofs.Stretch.{started, stands, started-again, planned-again}
+use Rattle.page_plan.proofs.Blocks.{plans-grouped}
 use Rattle.page_plan.proofs.Applying.{renamed-keeps, applied}
 use Rattle.page_plan.proofs.Placed.{probes-real, planned-pages, Layout, layout, applied-layout, left-count}
 use Rattle.page_plan.proofs.Sourcing.{itemHome, words-homed, words-grouped, words-sourced, gathered-stretch, true-stars}
@@ -135,9 +137,10 @@ unowned n zero = refl
 unowned zero (suc s) = refl
 unowned (suc n) (suc s) = unowned n s
 
-none : (w : List Star) → length w ≡ 0 → w ≡ []
-none [] e = refl
-none (s ∷ w) e = absurd (omega arith)
+-- none is left exactly if none is counted
+none-counted : (w : List Star) (n : ℕ) → length w ≡ n → eqb n 0 ≡ isEmpty w
+none-counted [] n e = rw (← e)
+none-counted (s ∷ w) n e = ne-eqb n 0 (λ z. omega arith)
 
 one-by-one : (n : ℕ) (l : List ℕ) → length l ≡ n → stretch 1 0 n l ≡ l
 one-by-one n l e = rw (mul-one n) (take-all n l (omega arith))
@@ -253,13 +256,13 @@ module _ (g : Geometry) (given : List ℕ) (n : ℕ) (valid : validParameters (g
       ∙ sym (left-map named (renamed-keeps (wordsRead given n) (replicate n 0) 0 0) H 0 (g .parameters .pages) (waits w))
       ∙ ap (left H 0 (g .parameters .pages)) stars-are
 
-  module _ (pool pool′ planned planned′ W′ : List ℕ) (r : ℕ) (long : length pool ≡ g .parameters .pages * g .parameters .places) (same : length pool′ ≡ length pool)
+  module _ (pool pool′ planned planned′ W′ : List ℕ) (long : length pool ≡ g .parameters .pages * g .parameters .places) (same : length pool′ ≡ length pool)
       (room : g .parameters .pages ≤ length planned) (inside : n ≤ length pool)
-      (P : Planned (g .parameters) 0 (g .parameters .pages) [] w pool pool′ planned planned′ W′ r) where
+      (P : Planned (g .parameters) 0 (g .parameters .pages) [] w pool pool′ planned planned′ W′ 0) where
     E : applied (g .parameters .places) 0 (g .parameters .pages) 0 0 0 pool′ planned′ F ≡ replaced (g .parameters .places) F 0 (pages H 0 (g .parameters .pages) (rowStars given n))
     E =
-        applied-layout (g .parameters) 0 (g .parameters .pages) 0 0 0 F [] w pool′ planned′ W′ r
-        (layout (g .parameters) 0 (g .parameters .pages) [] w pool pool′ planned planned′ W′ r P (omega (arith, long, ap (λ (k : ℕ). k * g .parameters .places) (zero-add (g .parameters .pages)))) (omega arith))
+        applied-layout (g .parameters) 0 (g .parameters .pages) 0 0 0 F [] w pool′ planned′ W′ 0
+        (layout (g .parameters) 0 (g .parameters .pages) [] w pool pool′ planned planned′ W′ 0 P (omega (arith, long, ap (λ (k : ℕ). k * g .parameters .places) (zero-add (g .parameters .pages)))) (omega arith))
         (unfold sourced all in refl) words-named
         ∙ ap (replaced (g .parameters .places) F 0) new-pages
 
@@ -280,27 +283,29 @@ module _ (g : Geometry) (given : List ℕ) (n : ℕ) (valid : validParameters (g
         ∙ (rw (items, zero-mul (g .parameters .places)) at is)
         ∙ written-over (column b h cs) l (omega (arith, full, e, inside, long))
 
-    pub rows-planned : PlansRows g given n pool′ planned′ r
+    none-owned : (l : List ℕ) → map (namedItem (replicate n 0) 0) l ≡ replicate (length l) 0
+    none-owned [] = refl
+    none-owned (x ∷ l) = rw (unowned n x) (ap (λ (y : List ℕ). 0 ∷ y) (none-owned l))
+
+    rows-planned : true ≡ isEmpty (left H 0 (g .parameters .pages) (rowStars given n)) → PlansRows g given n pool′ planned′ true
     unfolding applied replaced
-    rows-planned =
+    rows-planned none =
         record {
-          fits = λ e. none (left H 0 (g .parameters .pages) (rowStars given n)) (counted ∙ e);
-          overflows = λ k e. k (sym counted ∙ ap length e);
-          numbers = column-of (numbersRead given n) (λ (s : Star). s .number) (numbers-long given n) (ap (λ (x : File). x .numbers) E);
-          words = column-of (wordsRead given n) (λ (s : Star). s .payload .word) (words-long given n) (ap (λ (x : File). x .words) E);
-          owners = sym (none-owned pool′) ∙ column-of (replicate n 0) (λ (s : Star). s .payload .owner) (length-replicate {A = ℕ} n 0) (ap (λ (x : File). x .owners) E);
+          fits = none;
+          numbers = λ _. column-of (numbersRead given n) (λ (s : Star). s .number) (numbers-long given n) (ap (λ (x : File). x .numbers) E);
+          words = λ _. column-of (wordsRead given n) (λ (s : Star). s .payload .word) (words-long given n) (ap (λ (x : File). x .words) E);
+          owners =
+              λ _. sym (none-owned pool′) ∙ column-of (replicate n 0) (λ (s : Star). s .payload .owner) (length-replicate {A = ℕ} n 0) (ap (λ (x : File). x .owners) E);
           planned-are =
-              sym (written-over (take (g .parameters .pages) planned′) [] (omega arith))
+              λ _. sym (written-over (take (g .parameters .pages) planned′) [] (omega arith))
               ∙ ap (λ (x : File). x .separators) E
               ∙ written-over (separators (pages H 0 (g .parameters .pages) (rowStars given n))) [] (omega arith);
         }
-      where
-        none-owned : (l : List ℕ) → map (namedItem (replicate n 0) 0) l ≡ replicate (length l) 0
-        none-owned [] = refl
-        none-owned (x ∷ l) = rw (unowned n x) (ap (λ (y : List ℕ). 0 ∷ y) (none-owned l))
 
-        counted : length (left H 0 (g .parameters .pages) (rowStars given n)) ≡ r
-        counted = left-count named (remains (g .parameters) 0 0 (g .parameters .pages) [] w) (left H 0 (g .parameters .pages) (rowStars given n)) past ∙ sym (P .counted)
+  left-none : eqb (length (remains (g .parameters) 0 0 (g .parameters .pages) [] w)) 0 ≡ isEmpty (left H 0 (g .parameters .pages) (rowStars given n))
+  left-none =
+      none-counted (left H 0 (g .parameters .pages) (rowStars given n)) (length (remains (g .parameters) 0 0 (g .parameters .pages) [] w))
+      (left-count named (remains (g .parameters) 0 0 (g .parameters .pages) [] w) (left H 0 (g .parameters .pages) (rowStars given n)) past)
 
   -- the words in their groups
   module _ (keys W₀ W ends : List ℕ) (inside : n ≤ length keys) (front : take n keys ≡ rowKeys g given n) (most : g .parameters .pages ≤ 1024)
@@ -331,9 +336,24 @@ module _ (g : Geometry) (given : List ℕ) (n : ℕ) (valid : validParameters (g
       pub in-groups : Started 0 (g .parameters .pages) 0 (slice 0 n W′) W′ ends
       in-groups = rw groups (started-again 0 (g .parameters .pages) 0 w W′ ends begun)
 
-      pub rows-settled : (pool pool′ planned planned′ W″ : List ℕ) (r : ℕ) → length pool ≡ g .parameters .pages * g .parameters .places → length pool′ ≡ length pool
+      pub rows-settled : (pool pool′ planned planned′ W″ : List ℕ) (r : Bool) → length pool ≡ g .parameters .pages * g .parameters .places → length pool′ ≡ length pool
           → g .parameters .pages ≤ length planned → n ≤ length pool
-          → Planned (g .parameters) 0 (g .parameters .pages) [] (slice 0 n W′) pool pool′ planned planned′ W″ r → PlansRows g given n pool′ planned′ r
-      rows-settled pool pool′ planned planned′ W″ r lp sp rp ip P =
-          rows-planned pool pool′ planned planned′ W″ r lp sp rp ip
-          (planned-again (g .parameters) 0 (g .parameters .pages) [] w pool pool′ planned planned′ W″ r (rw groups at P))
+          → AllPlaced (g .parameters) (slice 0 n W′) pool pool′ planned planned′ W″ r → PlansRows g given n pool′ planned′ r
+      rows-settled pool pool′ planned planned′ W″ r lp sp rp ip A = go r (rw groups at A)
+        where
+          fit : (t : Bool) → AllPlaced (g .parameters) (grouped 0 0 (g .parameters .pages) w) pool pool′ planned planned′ W″ t
+              → t ≡ isEmpty (left H 0 (g .parameters .pages) (rowStars given n))
+          fit t B = B .fits ∙ ap (λ (l : List ℕ). eqb (length l) 0) (plans-grouped (g .parameters) 0 (g .parameters .pages) [] w .1) ∙ left-none
+
+          go : (t : Bool) → AllPlaced (g .parameters) (grouped 0 0 (g .parameters .pages) w) pool pool′ planned planned′ W″ t → PlansRows g given n pool′ planned′ t
+          go true B =
+              rows-planned pool pool′ planned planned′ W″ lp sp rp ip
+              (planned-again (g .parameters) 0 (g .parameters .pages) [] w pool pool′ planned planned′ W″ 0 (B .plan refl)) (fit true B)
+          go false B =
+              record {
+                fits = fit false B;
+                numbers = λ e. absurd (false≢true e);
+                words = λ e. absurd (false≢true e);
+                owners = λ e. absurd (false≢true e);
+                planned-are = λ e. absurd (false≢true e);
+              }

@@ -1,6 +1,6 @@
 -- A table's rows as columns of numbers and words, and what placing them leaves.
 use mathlib.Core.Path.{_≡_}
-use mathlib.Core.Bool.{Bool, cond}
+use mathlib.Core.Bool.{Bool, true, cond}
 use mathlib.Core.List.{List, [], _∷_, map}
 use Prim.Native.Nat.{ℕ, suc, _*_}
 use lib.ListN.{length, take, replicate}
@@ -35,17 +35,17 @@ rowKeys g given n = keysFrom 0 (homesRead g given n)
 abbrev pub rowStars : List ℕ → ℕ → List Star
 rowStars given n = map (λ (r : ℕ × ℕ). starWith (r .0) (r .1) 0) (rowsRead given 5760 n)
 
--- What planning the rows leaves: how many do not fit; where none is left, the sources and separators of the rule's pages.
-pub record PlansRows (g : Geometry) (given : List ℕ) (n : ℕ) (pool planned : List ℕ) (r : ℕ) : Type 0 where
-  pub fits : r ≡ 0 → left (hashOf (g .parameters) (g .growth)) 0 (g .parameters .pages) (rowStars given n) ≡ []
-  pub overflows : (r ≡ 0 → ⊥) → left (hashOf (g .parameters) (g .growth)) 0 (g .parameters .pages) (rowStars given n) ≡ [] → ⊥
-  pub numbers : map (namedItem (numbersRead given n) 0) pool
+-- What planning the rows leaves: whether all of them fit, and then the sources and separators of the rule's pages.
+pub record PlansRows (g : Geometry) (given : List ℕ) (n : ℕ) (pool planned : List ℕ) (r : Bool) : Type 0 where
+  pub fits : r ≡ isEmpty (left (hashOf (g .parameters) (g .growth)) 0 (g .parameters .pages) (rowStars given n))
+  pub numbers : r ≡ true → map (namedItem (numbersRead given n) 0) pool
       ≡ column (g .parameters .places) (λ (s : Star). s .number) (pages (hashOf (g .parameters) (g .growth)) 0 (g .parameters .pages) (rowStars given n))
-  pub words : map (namedItem (wordsRead given n) 0) pool
+  pub words : r ≡ true → map (namedItem (wordsRead given n) 0) pool
       ≡ column (g .parameters .places) (λ (s : Star). s .payload .word) (pages (hashOf (g .parameters) (g .growth)) 0 (g .parameters .pages) (rowStars given n))
-  pub owners : replicate (length pool) 0
+  pub owners : r ≡ true → replicate (length pool) 0
       ≡ column (g .parameters .places) (λ (s : Star). s .payload .owner) (pages (hashOf (g .parameters) (g .growth)) 0 (g .parameters .pages) (rowStars given n))
-  pub planned-are : take (g .parameters .pages) planned ≡ separators (pages (hashOf (g .parameters) (g .growth)) 0 (g .parameters .pages) (rowStars given n))
+  pub planned-are : r ≡ true
+      → take (g .parameters .pages) planned ≡ separators (pages (hashOf (g .parameters) (g .growth)) 0 (g .parameters .pages) (rowStars given n))
 
 -- "replaces the lent file by these stars", or leaves it
 pub record Places (g : Geometry) (given : List ℕ) (n : ℕ) (f f′ : File) (r : Bool) : Type 0 where

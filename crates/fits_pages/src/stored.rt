@@ -16,7 +16,7 @@ use crate::gathered::key_rows;
 use crate::gathered::number_rows;
 use hashing::Geometry;
 
-// The plan of the rows over all pages: the sources in the pool, the separators in `planned`. The answer is how many do not fit.
+// The plan of the rows over all pages: the sources in the pool, the separators in `planned`. The answer is whether all of them fit.
 fn plan_rows(
     table: &[u32; 90],
     geometry: Geometry,
@@ -25,7 +25,7 @@ fn plan_rows(
     pool: &mut [u32],
     waiting: &mut [u64],
     planned: &mut [u8; 1024],
-) -> usize
+) -> bool
     requires { ⌜ Homing geometry (now table) ⌝ }
     requires { ⌜ (rows ≤ 32768) × (5760 + 12 * rows ≤ length (now given)) ⌝ }
     requires { ⌜ goodRows 0 (now given) 5760 rows ≡ true ⌝ }
@@ -40,17 +40,7 @@ fn plan_rows(
     key_rows(table, geometry, given, rows, pool);
     page_plan::gather_keys(pool, waiting, &mut ends, rows, pages);
     number_rows(given, waiting, rows);
-    page_plan::settle_pages(
-        geometry.parameters,
-        pool,
-        waiting,
-        planned,
-        &ends,
-        0,
-        pages,
-        0,
-        rows,
-    )
+    page_plan::place_all(geometry.parameters, pool, waiting, planned, &ends, rows)
 }
 
 // Each place gets the row that its source names, for the institute.
@@ -102,8 +92,7 @@ pub fn place_rows(
         return false;
     }
     let mut planned = [0u8; 1024];
-    let left = plan_rows(table, geometry, given, rows, pool, waiting, &mut planned);
-    if left != 0 {
+    if !plan_rows(table, geometry, given, rows, pool, waiting, &mut planned) {
         return false;
     }
     let pages = geometry.parameters.pages as usize;

@@ -8,7 +8,7 @@ use native.Mathlib.Omega.{arith}
 use lib.Dec.{eqb, ltb}
 use lib.ListN.{length, getD, take, drop, length-map, List·getD-map}
 use lib.Seq.{length-take-le, getD-take, getD-drop, take-all, paste}
-use borrow.Author.Tests.{eq-eqb, ne-eqb, lt-ltb, ltb-true}
+use borrow.Author.Tests.{ne-eqb, lt-ltb, ltb-true}
 use Rattle.buffers.proofs.Lists.{map-take, map-drop}
 use Rattle.buffers.proofs.Written.{written-whole, paste-written, pasted-whole}
 use Rattle.pages.specs.Page.{stretch}
@@ -35,7 +35,7 @@ use Rattle.page_plan.proofs.Items.{words-count}
 use Rattle.page_plan.proofs.Gathered.{starsIn-most}
 use Rattle.reach.specs.Reach.{isEmpty, allStars}
 use Rattle.page_plan.specs.Sources.{renamed, sourced}
-use Rattle.page_plan.specs.Plans.{waits, homed, plans, remains, Planned, Settleable}
+use Rattle.page_plan.specs.Plans.{waits, homed, plans, remains, AllPlaced, Settleable}
 use Rattle.page_plan.proofs.Applying.{applied, renamed-keeps}
 use Rattle.page_plan.proofs.Blocks.{grouped-again}
 use Rattle.page_plan.proofs.Sourcing.{itemHome, length-stretch}
@@ -125,23 +125,21 @@ settleable p valid end pool W planned ends G ep ed =
 
 -- What it leaves.
 module _ (p : Parameters) (valid : validParameters p ≡ true) (f : File) (x : List ℕ) where
-  module _ (pool pool′ planned planned′ W′ : List ℕ) (r : ℕ) (P : Planned p 0 (p .pages) [] x pool pool′ planned planned′ W′ r) where
-    pub renew-kept : (r ≡ 0 → ⊥) → (false ≡ wordsFit p x) × (f ≡ wordsPlaced p f x)
+  module _ (pool pool′ planned planned′ W′ : List ℕ) where
+    pub renew-kept : AllPlaced p x pool pool′ planned planned′ W′ false → (false ≡ wordsFit p x) × (f ≡ wordsPlaced p f x)
     unfolding wordsFit wordsPlaced
-    renew-kept some =
-        let e : eqb (length (remains p 0 0 (p .pages) [] x)) 0 ≡ false = ne-eqb (length (remains p 0 0 (p .pages) [] x)) 0 (λ z. some (P .counted ∙ z)) in
-        rw e (refl, refl)
+    renew-kept A = rw (sym (A .fits)) (refl, refl)
 
-    pub renew-placed : r ≡ 0 → length pool ≡ p .pages * p .places → 1024 ≤ length planned → sourced (f .numbers) 0 x ≡ true
+    pub renew-placed : AllPlaced p x pool pool′ planned planned′ W′ true → length pool ≡ p .pages * p .places → 1024 ≤ length planned
+        → sourced (f .numbers) 0 x ≡ true
         → (true ≡ wordsFit p x) × (applied (p .places) 0 (p .pages) 0 0 0 pool′ planned′ f ≡ wordsPlaced p f x)
     unfolding wordsFit wordsPlaced
-    renew-placed none ep ed s =
-        let e : eqb (length (remains p 0 0 (p .pages) [] x)) 0 ≡ true = eq-eqb (length (remains p 0 0 (p .pages) [] x)) 0 (sym (P .counted) ∙ none) in
+    renew-placed A ep ed s =
         let whole : (0 + p .pages) * p .places ≡ p .pages * p .places = rw (zero-add (p .pages)) in
-        rw e (
+        rw (sym (A .fits)) (
           refl,
-          applied-layout p 0 (p .pages) 0 0 0 f [] x pool′ planned′ W′ r
-              (layout p 0 (p .pages) [] x pool pool′ planned planned′ W′ r P (omega (arith, whole)) (omega (arith, limits p valid .pages-most)))
+          applied-layout p 0 (p .pages) 0 0 0 f [] x pool′ planned′ W′ 0
+              (layout p 0 (p .pages) [] x pool pool′ planned planned′ W′ 0 (A .plan refl) (omega (arith, whole)) (omega (arith, limits p valid .pages-most)))
               (unfold sourced all in refl) s,
         )
 

@@ -75,20 +75,8 @@ pub fn renew(
     ensures { λ r. ⌜ r ≡ wordsFit parameters (take end (now (waiting .entry))) ⌝ }
     ensures { λ r. ⌜ after separators numbers words owners ≡ wordsPlaced parameters (before separators numbers words owners) (take end (now (waiting .entry))) ⌝ }
 {
-    let pages = parameters.pages as usize;
     let mut planned = [0u8; 1024];
-    let left = page_plan::settle_pages(
-        parameters,
-        pool,
-        waiting,
-        &mut planned,
-        ends,
-        0,
-        pages,
-        0,
-        end,
-    );
-    if left != 0 {
+    if !page_plan::place_all(parameters, pool, waiting, &mut planned, ends, end) {
         return false;
     }
     write_back(

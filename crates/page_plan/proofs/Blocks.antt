@@ -33,7 +33,7 @@ module _ (q : Parameters) where
       (λ i h. rw (suc-add v i, suc-add v′ i, ← add-suc v i, ← add-suc v′ i) (g (suc i) (omega arith))) in
       rw (ih .0, ih .1, first, e) (refl, refl)
 
-  plans-add : (lo v n m : ℕ) (w l : List ℕ)
+  pub plans-add : (lo v n m : ℕ) (w l : List ℕ)
       → (plans q lo v (n + m) w l ≡ plans q lo v n w l ++ plans q lo (v + n) m (remains q lo v n w l) l)
       × (remains q lo v (n + m) w l ≡ remains q lo (v + n) m (remains q lo v n w l) l)
   unfolding plans remains

@@ -14,5 +14,6 @@ pub mod Sourcing
 pub mod Blocks
 pub mod Slots
 pub mod Stretch
+pub mod AllPages
 pub mod Placed
 pub mod Numbered

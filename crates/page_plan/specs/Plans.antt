@@ -128,3 +128,13 @@ abbrev pub SettlesPages : Parameters → ℕ → ℕ → ℕ → ℕ → Lent �
 SettlesPages q lo count carried end pool waiting planned r =
     Planned q lo count (take carried (now (waiting .entry))) (slice carried end (now (waiting .entry))) (now (pool .entry)) (now (pool .exit))
     (now (planned .entry)) (now (planned .exit)) (now (waiting .exit)) r
+
+-- What placing all pages of a file leaves, of the words l that stand in groups: whether each of them finds a place, and then the plan.
+pub record AllPlaced (q : Parameters) (l pool pool′ planned planned′ W′ : List ℕ) (r : Bool) : Type 0 where
+  pub fits : r ≡ eqb (length (remains q 0 0 (q .pages) [] l)) 0
+  pub plan : r ≡ true → Planned q 0 (q .pages) [] l pool pool′ planned planned′ W′ 0
+
+abbrev pub PlacesAll : Parameters → ℕ → Lent → Lent → Lent → Bool → Type 0
+PlacesAll q end pool waiting planned r =
+    AllPlaced q (take end (now (waiting .entry))) (now (pool .entry)) (now (pool .exit)) (now (planned .entry)) (now (planned .exit))
+    (now (waiting .exit)) r

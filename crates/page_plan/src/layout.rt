@@ -12,7 +12,7 @@ ghost use Rattle.page_separator.specs.Words.{sourceOf};
 ghost use Rattle.page_separator.specs.Lists.{allBelow};
 ghost use Rattle.page_plan.specs.Gather.{starsIn};
 ghost use Rattle.page_separator.specs.Probes.{homesUpTo, Probing};
-ghost use Rattle.page_plan.specs.Plans.{slotSource, Plannable, Settleable, SettlesPages, PlansPage, PlansStretch};
+ghost use Rattle.page_plan.specs.Plans.{slotSource, Plannable, Settleable, SettlesPages, PlacesAll, PlansPage, PlansStretch};
 use crate::gathering::gather;
 use crate::settling::settle;
 use hashing::Parameters;
@@ -103,6 +103,34 @@ pub fn settle_pages(
         v += 1;
     }
     close_up(waiting, from, end)
+}
+
+// Settles all pages of a file; the answer is whether each word finds a place. A page keeps at most b, so where more words are left than the
+// pages ahead have places, not all do, and the plan ends there.
+pub fn place_all(
+    parameters: Parameters,
+    pool: &mut [u32],
+    waiting: &mut [u64],
+    planned: &mut [u8],
+    ends: &[u32],
+    end: usize,
+) -> bool
+    requires { ⌜ Settleable parameters 0 (parameters .pages) 0 end (now pool) (now waiting) (now planned) (now ends) ⌝ }
+    ensures { λ r. ⌜ PlacesAll parameters end pool waiting planned r ⌝ }
+{
+    let places = parameters.places as usize;
+    let pages = parameters.pages as usize;
+    let mut from = 0;
+    let mut page = 0;
+    while page < pages {
+        if (pages - page) * places < end - from {
+            return false;
+        }
+        let reach = ends[page] as usize;
+        from = settle_page(parameters, pool, waiting, planned, from, reach, page);
+        page += 1;
+    }
+    from == end
 }
 
 // Gathers the stretch and settles it; `ends` has a place for each page.

@@ -9,6 +9,7 @@ mod settling;
 pub use gathering::count_stars;
 pub use gathering::gather;
 pub use keys::gather_keys;
+pub use layout::place_all;
 pub use layout::plan;
 pub use layout::settle_pages;
 pub use layout::store_sources;

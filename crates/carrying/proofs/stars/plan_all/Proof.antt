@@ -40,13 +40,20 @@ first-multipliers-requires c κs =
     let s = start (c .before) in
     limits (s .args .geometry .parameters) (s .pre .0 .0) .multiplier-valid
 
+shift-for-requires : tie.Need-shift-for-requires
+shift-for-requires c κs = tt
+
 plan-stars-requires : tie.Need-plan-stars-requires
 plan-stars-requires c κs =
-    let f = c .before .before .before .before in
+    let h = c .before .before .before .before in
+    let f = h .before in
     let k = f .before .before in
     let s = start k in (
       homing (f .first-multipliers .ensures) (s .pre .0 .0) (s .pre .0 .1),
-      (s .pre .1 .0, (s .pre .1 .1 .0, (s .pre .1 .1 .1 .0, (s .pre .1 .1 .1 .1, omega (arith, f .before .if1 .left, counted k))))),
+      (
+        h .shift-for .ensures,
+        (s .pre .1 .0, (s .pre .1 .1 .0, (s .pre .1 .1 .1 .0, (s .pre .1 .1 .1 .1, omega (arith, f .before .if1 .left, counted k))))),
+      ),
     )
 
 same-length : tie.Need-same-length
@@ -56,13 +63,7 @@ same-length-2 : tie.Need-same-length-2
 same-length-2 c = search needs
 
 returns-2 : tie.Need-returns-2
-returns-2 c =
-    let d = c .before .before .before .before in
-    record {
-      fits = ap (λ (n : ℕ). eqb n 0) (d .plan-stars .ensures .counted);
-      sources = λ _. d .plan-stars .ensures .sources;
-      separators-are = λ _. d .plan-stars .ensures .separators-are;
-    }
+returns-2 c = search needs
 
 pub plan-all-spec : {M : Type 1} → statement M
 plan-all-spec =
@@ -71,6 +72,7 @@ plan-all-spec =
     count-stars-requires
     returns
     first-multipliers-requires
+    shift-for-requires
     plan-stars-requires
     same-length
     same-length-2

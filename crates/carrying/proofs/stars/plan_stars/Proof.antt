@@ -6,8 +6,7 @@ use native.Mathlib.Nat.{mul-le-mul}
 use native.Mathlib.Omega.{arith}
 use denote.Ref.{now}
 use Rattle.hashing.proofs.Bounds.{limits}
-use Rattle.page_plan.proofs.Stretch.{planned-again}
-use Rattle.carrying.proofs.Placing.{planned-whole, stars-keyed, stars-grouped, stars-settleable}
+use Rattle.carrying.proofs.Placing.{planned-whole, planned-sorted, stars-keyed, stars-grouped, stars-settleable}
 use Rattle.carrying.proofs.stars.plan_stars.Statement.{statement}
 use Rattle.carrying.proofs.stars.plan_stars.Tie as tie
 
@@ -16,7 +15,7 @@ start c = c .before .before .before .before .before .before .before .before
 
 -- the keys fit the pool
 inside : (c : tie.After-key-stars) → c .key-stars .result ≤ length (c .key-stars .last .1 .1 .1 .0)
-inside c = omega (arith, c .key-stars .ensures .0, c .key-stars .kept .1 .1 .1 .0, start c .pre .1 .1 .1 .1 .1)
+inside c = omega (arith, c .key-stars .ensures .0, c .key-stars .kept .1 .1 .1 .0, start c .pre .1 .1 .1 .1 .1 .1)
 
 items : (s : tie.Start) → s .args .geometry .parameters .pages * s .args .geometry .parameters .places ≤ 32768
 items s =
@@ -25,7 +24,7 @@ items s =
 
 -- .. and so do the words
 wide : (c : tie.After-key-stars) → c .key-stars .result ≤ length (c .key-stars .last .1 .1 .1 .1 .0)
-wide c = omega (arith, inside c, c .key-stars .kept .1 .1 .1 .0, c .key-stars .kept .1 .1 .1 .1 .0, start c .pre .1 .1 .0, start c .pre .1 .1 .1 .0)
+wide c = omega (arith, inside c, c .key-stars .kept .1 .1 .1 .0, c .key-stars .kept .1 .1 .1 .1 .0, start c .pre .1 .1 .1 .0, start c .pre .1 .1 .1 .1 .0)
 
 cast-pages : tie.Need-cast-pages
 cast-pages c = search needs
@@ -33,7 +32,7 @@ cast-pages c = search needs
 key-stars-requires : tie.Need-key-stars-requires
 key-stars-requires c κs =
     let s = c .before .before .before .before .before .before .before in
-    (s .pre .0, (s .pre .1 .0, (s .pre .1 .1 .1 .1 .1, omega (arith, s .pre .1 .1 .0, s .pre .1 .1 .1 .0, s .pre .1 .1 .1 .1 .1))))
+    (s .pre .0, (s .pre .1 .0, (s .pre .1 .1 .0, (s .pre .1 .1 .1 .1 .1 .1, omega (arith, s .pre .1 .1 .1 .0, s .pre .1 .1 .1 .1 .0, s .pre .1 .1 .1 .1 .1 .1)))))
 
 slice-aggregate-gather-stars : tie.Need-slice-aggregate-gather-stars
 slice-aggregate-gather-stars c = search needs
@@ -42,22 +41,22 @@ gather-stars-requires : tie.Need-gather-stars-requires
 gather-stars-requires c κs =
     let k = c .before .before .before .before .before .before .before in
     let s = start k in (
-      stars-keyed (s .args .geometry) (s .pre .0 .valid) (s .pre .0 .growth) (now (s .args .numbers)) (s .pre .1 .0 .0) _ _ (k .key-stars .ensures .0) (k .key-stars .ensures .1) (inside k),
-      ((limits _ (s .pre .0 .valid) .pages-most, wide k), s .pre .1 .0 .1),
+      stars-keyed (s .args .geometry) (s .pre .0 .valid) (s .pre .0 .growth) (now (s .args .numbers)) (s .pre .1 .1 .0 .0) (s .pre .1 .1 .0 .1) (s .args .shift) _ _ (k .key-stars .ensures .0) (k .key-stars .ensures .1) (inside k),
+      ((limits _ (s .pre .0 .valid) .pages-most, wide k), s .pre .1 .1 .0 .1),
     )
 
-slice-aggregate-settle-pages : tie.Need-slice-aggregate-settle-pages
-slice-aggregate-settle-pages c = search needs
+slice-aggregate-place-all : tie.Need-slice-aggregate-place-all
+slice-aggregate-place-all c = search needs
 
-settle-pages-requires : tie.Need-settle-pages-requires
-settle-pages-requires c κs =
+place-all-requires : tie.Need-place-all-requires
+place-all-requires c κs =
     let t = c .before .before .before .before .before .before .before in
     let k = t .before .before .before .before .before .before .before .before in
     let s = start k in
-    stars-settleable (s .args .geometry) (s .pre .0 .valid) (s .pre .0 .growth) (now (s .args .numbers)) (s .pre .1 .0 .0) _ _ (k .key-stars .ensures .0) (k .key-stars .ensures .1) (inside k)
+    stars-settleable (s .args .geometry) (s .pre .0 .valid) (s .pre .0 .growth) (now (s .args .numbers)) (s .pre .1 .1 .0 .0) (s .pre .1 .1 .0 .1) (s .args .shift) _ _ (k .key-stars .ensures .0) (k .key-stars .ensures .1) (inside k)
     (k .key-stars .last .1 .1 .1 .1 .0) _ _ (t .gather-stars .ensures) (wide k) (t .gather-stars .kept .1 .1 .0) _ _
-    (omega (arith, k .key-stars .kept .1 .1 .1 .0, s .pre .1 .1 .0)) (omega (arith, t .gather-stars .kept .1 .1 .0, k .key-stars .kept .1 .1 .1 .1 .0, s .pre .1 .1 .1 .0, items s))
-    (omega (arith, s .pre .1 .1 .1 .1 .0)) (omega (arith, t .gather-stars .kept .1 .1 .1 .0))
+    (omega (arith, k .key-stars .kept .1 .1 .1 .0, s .pre .1 .1 .1 .0)) (omega (arith, t .gather-stars .kept .1 .1 .0, k .key-stars .kept .1 .1 .1 .1 .0, s .pre .1 .1 .1 .1 .0, items s))
+    (omega (arith, s .pre .1 .1 .1 .1 .1 .0)) (omega (arith, t .gather-stars .kept .1 .1 .1 .0))
 
 same-length : tie.Need-same-length
 same-length c = search needs
@@ -72,11 +71,11 @@ returns c =
     let k = t .before .before .before .before .before .before .before .before in
     let s = start k in
     let L = limits (s .args .geometry .parameters) (s .pre .0 .valid) in
-    planned-whole (s .args .geometry .parameters) _ _ _ _ _ _ _
-    (planned-again _ _ _ _ _ _ _ _ _ _ _
-    (rw (stars-grouped (s .args .geometry) (s .pre .0 .valid) (s .pre .0 .growth) (now (s .args .numbers)) (s .pre .1 .0 .0) _ _ (k .key-stars .ensures .0) (k .key-stars .ensures .1) (inside k)
-    (k .key-stars .last .1 .1 .1 .1 .0) _ _ (t .gather-stars .ensures) (wide k) (t .gather-stars .kept .1 .1 .0)) at (e .settle-pages .ensures)))
-    (omega (arith, k .key-stars .kept .1 .1 .1 .0, s .pre .1 .1 .0)) (omega (arith, L .pages-most, s .pre .1 .1 .1 .1 .0))
+    planned-sorted (s .args .geometry) (s .pre .0 .valid) (s .pre .0 .growth) (now (s .args .numbers)) (s .pre .1 .1 .0 .0) (s .pre .1 .1 .0 .1) (s .args .shift) _ _ (k .key-stars .ensures .0) (k .key-stars .ensures .1) (inside k) _ _ _
+    (planned-whole (s .args .geometry .parameters) _ _ _ _ _ _ _
+    (rw (stars-grouped (s .args .geometry) (s .pre .0 .valid) (s .pre .0 .growth) (now (s .args .numbers)) (s .pre .1 .1 .0 .0) (s .pre .1 .1 .0 .1) (s .args .shift) _ _ (k .key-stars .ensures .0) (k .key-stars .ensures .1) (inside k)
+    (k .key-stars .last .1 .1 .1 .1 .0) _ _ (t .gather-stars .ensures) (wide k) (t .gather-stars .kept .1 .1 .0)) at (e .place-all .ensures))
+    (omega (arith, k .key-stars .kept .1 .1 .1 .0, s .pre .1 .1 .1 .0)) (omega (arith, L .pages-most, s .pre .1 .1 .1 .1 .1 .0)))
 
 pub plan-stars-spec : {M : Type 1} → statement M
 plan-stars-spec =
@@ -86,8 +85,8 @@ plan-stars-spec =
     key-stars-requires
     slice-aggregate-gather-stars
     gather-stars-requires
-    slice-aggregate-settle-pages
-    settle-pages-requires
+    slice-aggregate-place-all
+    place-all-requires
     same-length
     same-length-2
     returns)

@@ -5,6 +5,7 @@ use lib.ListN.{length}
 use Rattle.hashing.proofs.Bounds.{limits}
 use Rattle.fits_pages.proofs.LaidRows.{no-room, overfull, all-stored, pasted-front, zeros-as-long}
 use borrow.Author.Needs.{needs}
+use borrow.Author.Tests.{not-true, not-false}
 use Rattle.fits_pages.proofs.stored.place_rows.Statement.{statement}
 use Rattle.fits_pages.proofs.stored.place_rows.Tie as tie
 
@@ -26,7 +27,7 @@ returns-2 : tie.Need-returns-2
 returns-2 c =
     let d = c .before .before .before .before .before in
     let s = d .before .before .before .before .before .before .before .before .before .before .before .before in
-    overfull _ (s .args .given .now) (s .args .rows) _ _ _ _ (d .plan-rows .ensures .0) (λ e. c .if2 .taken e)
+    overfull _ (s .args .given .now) (s .args .rows) _ _ _ (rw (not-true (d .plan-rows .result) (c .if2 .taken)) at (d .plan-rows .ensures .0))
 
 cast-pages : tie.Need-cast-pages
 cast-pages c = search needs
@@ -78,7 +79,8 @@ returns-3 c =
     let s = d .before .before .before .before .before .before .before .before .before .before .before .before in
     let e = c .before .before .before .before .before .before .store-rows .ensures in
     let same = d .plan-rows .kept .1 .1 .1 .1 .0 in
-    all-stored _ (s .args .given .now) (s .args .rows) _ _ _ _ (d .plan-rows .ensures .0) _ _ _ _ (c .before .before .before .before .before .before .before .before .before .before .before .before .before .before .before .before .before .if2 .left)
+    let chosen = c .before .before .before .before .before .before .before .before .before .before .before .before .before .before .before .before .before in
+    all-stored _ (s .args .given .now) (s .args .rows) _ _ _ (rw (not-false (d .plan-rows .result) (chosen .if2 .left)) at (d .plan-rows .ensures .0)) _ _ _ _
     (c .before .before .before .before .before .before .before .before .before .before .before .before .before .copy-8 .ensures ∙ pasted-front _ _ _ (s .pre .0 .sized .ofSeparators)) (e .0) (e .1 .0)
     (e .1 .1 ∙ zeros-as-long (length (s .args .owners .now)) (length (d .plan-rows .last .1 .1 .1 .1 .0)) (omega (arith, same, s .pre .1 .0 .0, s .pre .0 .sized .ofOwners)))
 

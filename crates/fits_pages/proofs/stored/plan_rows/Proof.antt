@@ -74,11 +74,11 @@ number-rows-requires c κs =
       ),
     )
 
-slice-aggregate-settle-pages : tie.Need-slice-aggregate-settle-pages
-slice-aggregate-settle-pages c = search needs
+slice-aggregate-place-all : tie.Need-slice-aggregate-place-all
+slice-aggregate-place-all c = search needs
 
-settle-pages-requires : tie.Need-settle-pages-requires
-settle-pages-requires c κs =
+place-all-requires : tie.Need-place-all-requires
+place-all-requires c κs =
     let m = c .before .before .before .before .before .before in
     let d = m .before .before .before .before .before in
     let k = keyed d in
@@ -113,8 +113,8 @@ returns c =
     let s = begun k in (
       rows-settled (s .args .geometry) (s .args .given .now) (s .args .rows) (s .pre .0 .valid) (s .pre .0 .growth) (some s) (s .pre .1 .0 .0) (s .pre .1 .1 .0) (keysOf k)
           (s .args .waiting .now) _ _ (inside k) (front k) (most s) (room s) (d .gather-keys .kept .1 .0) (d .gather-keys .ensures) _ (m .number-rows .kept .1 .0) (m .number-rows .ensures)
-          (keysOf k) _ _ _ _ _ (k .key-rows .kept .1 .1 .1 .1 .0 ∙ s .pre .1 .1 .1 .0 .0) (u .settle-pages .kept .1 .0) (omega (arith, most s, s .pre .1 .1 .1 .1 .1)) (inside k) (u .settle-pages .ensures),
-      u .settle-pages .kept .1 .1 .1 .0 ∙ s .pre .1 .1 .1 .1 .1,
+          (keysOf k) _ _ _ _ _ (k .key-rows .kept .1 .1 .1 .1 .0 ∙ s .pre .1 .1 .1 .0 .0) (u .place-all .kept .1 .0) (omega (arith, most s, s .pre .1 .1 .1 .1 .1)) (inside k) (u .place-all .ensures),
+      u .place-all .kept .1 .1 .1 .0 ∙ s .pre .1 .1 .1 .1 .1,
     )
 
 pub plan-rows-spec : {M : Type 1} → statement M
@@ -126,8 +126,8 @@ plan-rows-spec =
     slice-aggregate-gather-keys
     gather-keys-requires
     number-rows-requires
-    slice-aggregate-settle-pages
-    settle-pages-requires
+    slice-aggregate-place-all
+    place-all-requires
     same-length
     same-length-2
     returns)

@@ -6,23 +6,21 @@ use Rattle.placement.specs.File.{File}
 use Rattle.placement.specs.Hash.{lent}
 use Rattle.mending.proofs.Renewed.{settleable, renew-kept, renew-placed, applied-whole}
 use borrow.Author.Needs.{needs}
+use borrow.Author.Tests.{not-true, not-false}
 use Rattle.mending.proofs.renewing.renew.Statement.{statement}
 use Rattle.mending.proofs.renewing.renew.Tie as tie
 
-abbrev start : tie.After-settle-pages → tie.Start
-start c = c .before .before .before .before .before .before .before .before .before .before .before .before .before
+abbrev start : tie.After-place-all → tie.Start
+start c = c .before .before .before .before .before .before .before .before .before .before .before .before
 
 abbrev file : tie.Start → File
 file s = lent (now (s .args .separators)) (now (s .args .numbers)) (now (s .args .words)) (now (s .args .owners))
 
-cast-pages : tie.Need-cast-pages
-cast-pages c = search needs
+slice-aggregate-place-all : tie.Need-slice-aggregate-place-all
+slice-aggregate-place-all c = search needs
 
-slice-aggregate-settle-pages : tie.Need-slice-aggregate-settle-pages
-slice-aggregate-settle-pages c = search needs
-
-settle-pages-requires : tie.Need-settle-pages-requires
-settle-pages-requires c κs = let s = c .before .before .before .before .before .before .before .before .before .before .before .before in settleable _ (s .pre .0) _ _ _ _ _ (s .pre .1 .1 .1 .0) (s .pre .1 .1 .0 .ofNumbers) (omega arith)
+place-all-requires : tie.Need-place-all-requires
+place-all-requires c κs = let s = c .before .before .before .before .before .before .before .before .before .before .before in settleable _ (s .pre .0) _ _ _ _ _ (s .pre .1 .1 .1 .0) (s .pre .1 .1 .0 .ofNumbers) (omega arith)
 
 same-length : tie.Need-same-length
 same-length c = search needs
@@ -34,7 +32,7 @@ returns : tie.Need-returns
 returns c =
     let k = c .before .before .before .before .before .before in
     let s = start k in
-    renew-kept (s .args .parameters) (s .pre .0) (file s) _ _ _ _ _ _ _ (k .settle-pages .ensures) (c .if1 .taken)
+    renew-kept (s .args .parameters) (s .pre .0) (file s) _ _ _ _ _ _ (rw (not-true (k .place-all .result) (c .if1 .taken)) at (k .place-all .ensures))
 
 write-back-requires : tie.Need-write-back-requires
 write-back-requires c κs =
@@ -43,11 +41,11 @@ write-back-requires c κs =
     let l = limits (s .args .parameters) (s .pre .0) in
     let z = s .pre .1 .0 in
     let o = s .pre .1 .1 .0 in
-    let e = k .settle-pages .kept .1 .0 in (
-      omega (arith, z .ofSeparators, l .pages-most, k .settle-pages .kept .1 .1 .1 .0),
+    let e = k .place-all .kept .1 .0 in (
+      omega (arith, z .ofSeparators, l .pages-most, k .place-all .kept .1 .1 .1 .0),
       (
         (omega (arith, z .ofNumbers, o .ofNumbers, e), (omega (arith, z .ofWords, o .ofNumbers, e), omega (arith, z .ofOwners, o .ofNumbers, e))),
-        (omega (arith, o .ofWords, o .ofNumbers, e, k .settle-pages .kept .1 .1 .0), omega (arith, o .ofOwners, o .ofNumbers, e)),
+        (omega (arith, o .ofWords, o .ofNumbers, e, k .place-all .kept .1 .1 .0), omega (arith, o .ofOwners, o .ofNumbers, e)),
       ),
     )
 
@@ -78,12 +76,12 @@ returns-2 c =
     let chosen = back .before .before .before .before .before .before .before .before .before in
     let k = chosen .before .before .before .before .before .before in
     let s = start k in
-    let done = renew-placed (s .args .parameters) (s .pre .0) (file s) _ _ _ _ _ _ _ (k .settle-pages .ensures) (chosen .if1 .left) (s .pre .1 .1 .0 .ofNumbers) (omega arith) (s .pre .1 .1 .1 .1) in
+    let done = renew-placed (s .args .parameters) (s .pre .0) (file s) _ _ _ _ _ _ (rw (not-false (k .place-all .result) (chosen .if1 .left)) at (k .place-all .ensures)) (s .pre .1 .1 .0 .ofNumbers) (omega arith) (s .pre .1 .1 .1 .1) in
     let l = limits (s .args .parameters) (s .pre .0) in (
       done .0,
       back .write-back .ensures
-          ∙ applied-whole (s .args .parameters .places) (s .args .parameters .pages) _ _ _ _ _ _ (omega (arith, s .pre .1 .1 .0 .ofNumbers, k .settle-pages .kept .1 .0))
-          (omega (arith, l .pages-most, k .settle-pages .kept .1 .1 .1 .0)) (s .pre .1 .0)
+          ∙ applied-whole (s .args .parameters .places) (s .args .parameters .pages) _ _ _ _ _ _ (omega (arith, s .pre .1 .1 .0 .ofNumbers, k .place-all .kept .1 .0))
+          (omega (arith, l .pages-most, k .place-all .kept .1 .1 .1 .0)) (s .pre .1 .0)
           ∙ done .1,
     )
 
@@ -91,9 +89,8 @@ pub renew-spec : {M : Type 1} → statement M
 renew-spec =
     tie.close
     (tie.spec
-    cast-pages
-    slice-aggregate-settle-pages
-    settle-pages-requires
+    slice-aggregate-place-all
+    place-all-requires
     same-length
     same-length-2
     returns
