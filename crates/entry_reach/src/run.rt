@@ -10,6 +10,7 @@ ghost use Rattle.reach.specs.Known.{Known};
 ghost use Rattle.page_edit.specs.Shift.{numberAt};
 ghost use Rattle.decision.specs.Carried.{newcomer};
 ghost use Rattle.entry_reach.specs.Entry.{Enters, Decides, blockEnd};
+use crate::blocks::Extent;
 use crate::stretch::decide_stretch;
 use decision::Decision;
 use decision::Newcomer;
@@ -79,6 +80,12 @@ pub fn decide_run(
     }
     if clean_test::first_raisable(geometry, separators, numbers, pool, from, stop) < stop {
         let pages = geometry.parameters.pages as usize;
+        let first = Extent {
+            first: from,
+            last,
+            surveyed: stop,
+            known: pages,
+        };
         return decide_stretch(
             table,
             geometry,
@@ -90,8 +97,9 @@ pub fn decide_run(
             waiting,
             planned,
             star,
-            pages,
+            first,
         );
     }
-    Decision::Put(star.page, star.place as usize)
+    let place = star.place as usize;
+    Decision::Put(star.page, place)
 }

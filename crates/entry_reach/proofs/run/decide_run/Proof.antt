@@ -1,4 +1,4 @@
-use mathlib.Core.Path.{_≡_, sym, ap, subst, _∙_}
+use mathlib.Core.Path.{_≡_, refl, sym, ap, subst, _∙_}
 use mathlib.Core.Bool.{true}
 use mathlib.Core.List.{List}
 use Prim.Native.Nat.{ℕ, _+_, _-_, _*_, _≤_, _<_}
@@ -124,8 +124,26 @@ cast-pages c = search needs
 decide-stretch-requires : tie.Need-decide-stretch-requires
 decide-stretch-requires c κs =
     let e = c .before .before .before .before .before .before .before in
-    let s = begun e in
-    (s .pre .0, ((long e, s .pre .1 .0 .1), (s .pre .1 .1 .0, known-none _ _ _ _ _ (le-refl _))))
+    let s = begun e in (
+      s .pre .0,
+      (
+        (long e, s .pre .1 .0 .1),
+        (
+          s .pre .1 .1 .0,
+          (
+            refl,
+            record {
+              inside = inside s;
+              ends = s .pre .1 .1 .1 .1 .1 .1;
+              low = omega (arith, low s);
+              high = omega arith;
+              tested = known e;
+              besides = known-none _ _ _ _ _ (le-refl _);
+            },
+          ),
+        ),
+      ),
+    )
 
 same-length-2 : tie.Need-same-length-2
 same-length-2 c = search needs
@@ -139,8 +157,8 @@ same-length-4 c = search needs
 returns-2 : tie.Need-returns-2
 returns-2 c = search needs
 
-cast-t19 : tie.Need-cast-t19
-cast-t19 c = search needs
+cast-place : tie.Need-cast-place
+cast-place c = search needs
 
 same-length-5 : tie.Need-same-length-5
 same-length-5 c = search needs
@@ -176,6 +194,6 @@ decide-run-spec =
     same-length-3
     same-length-4
     returns-2
-    cast-t19
+    cast-place
     same-length-5
     returns-3)
