@@ -8,7 +8,7 @@ use Rattle.placement.specs.File.{File}
 use Rattle.placement.specs.Hash.{lent}
 use Rattle.entry_reach.specs.declared.blocks.Extent.{Extent}
 use Rattle.entry_reach.specs.Entry.{blockEnd}
-use Rattle.entry_reach.proofs.Surveyed.{end-found, last-low, extent-from}
+use Rattle.entry_reach.proofs.Surveyed.{end-found, last-low, last-high, extent-from}
 use Rattle.entry_reach.proofs.Runs.{home-is, home-inside}
 use borrow.Author.Needs.{needs}
 use Rattle.entry_reach.proofs.star.decide.Statement.{statement}
@@ -44,21 +44,22 @@ may-gain-requires c κs =
     let p = s .args .geometry .parameters in
     let valid = s .pre .0 .ready .homing .valid in
     let sized = s .pre .0 .ready .sized in
-    let most : s .args .star .page < p .pages = omega (arith, s .pre .0 .here, s .pre .0 .unheld .named) in (
+    let most : s .args .star .page < p .pages = omega (arith, s .pre .0 .here, s .pre .0 .unheld .named) in
+    let last : k .block-from .result .last < p .pages = last-high p (s .args .geometry .growth) (file s) valid sized (s .args .star .home) (inside s) (k .block-from .result .last) (ended k) in (
       valid,
       (
         (
           last-low p (s .args .geometry .growth) (file s) valid sized (s .args .star .home) (inside s) (k .block-from .result .last) (ended k),
-          omega (arith, most, limits p valid .pages-most),
+          (omega (arith, most, limits p valid .pages-most), omega (arith, last, limits p valid .pages-most)),
         ),
-        page-fits (p .places) (p .pages) (s .args .star .page) most (sized .ofNumbers),
+        (page-fits (p .places) (p .pages) (s .args .star .page) most (sized .ofNumbers), page-fits (p .places) (p .pages) (k .block-from .result .last) last (sized .ofNumbers)),
       ),
     )
 
 decide-run-requires : tie.Need-decide-run-requires
 decide-run-requires c κs =
     let s = c .before .before .before .before .before .before .before .before .before .before .before .before .before .before in
-    (s .pre .0, (s .pre .1 .0, (s .pre .1 .1 .0, (s .pre .1 .1 .1 .0, (s .pre .1 .1 .1 .1, (c .before .before .before .before .may-gain .ensures (c .before .before .before .if1 .taken), ended (c .before .before .before .before .before)))))))
+    (s .pre .0, (s .pre .1 .0, (s .pre .1 .1 .0, (s .pre .1 .1 .1 .0, (s .pre .1 .1 .1 .1, ended (c .before .before .before .before .before))))))
 
 same-length : tie.Need-same-length
 same-length c = search needs
