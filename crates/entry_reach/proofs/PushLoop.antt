@@ -6,8 +6,8 @@ use Prim.Native.Nat.{ℕ, suc, _+_, _-_, _*_, _^_, _≤_, _<_}
 use native.Mathlib.Nat.{add-zero, one-mul, suc-mul, mul-le-mul, mul-le-mul-right}
 use native.Mathlib.Numerals.{add-one}
 use native.Mathlib.Omega.{arith}
-use lib.Dec.{leb, ltb, eqb}
-use lib.ListN.{length, take, drop, getD, set, length-append, length-take, length-drop, length-set, length-map}
+use lib.Dec.{leb, ltb}
+use lib.ListN.{length, take, drop, getD, set, length-append, length-take, length-drop, length-set}
 use lib.Seq.{slice, length-slice, take-suc-set, drop-append-le, length-take-le}
 use borrow.Author.Tests.{ltb-true}
 use Rattle.buffers.proofs.Written.{around}
@@ -30,7 +30,7 @@ use Rattle.page_separator.proofs.Counting.{alike-here}
 use Rattle.page_separator.proofs.Cutting.{separator-fits}
 use Rattle.page_plan.specs.Gather.{groupOf, group, grouped, groupsBelow, skipped, starsIn, stretchWords}
 use Rattle.page_plan.specs.Sources.{renamed}
-use Rattle.page_plan.proofs.Items.{words-count, words-length}
+use Rattle.page_plan.proofs.Items.{words-length}
 use Rattle.page_plan.proofs.Applying.{applied, applied-is}
 use Rattle.reach.specs.Reach.{pagesTo}
 use Rattle.reach.specs.Cascade.{cascaded, carriedPast}

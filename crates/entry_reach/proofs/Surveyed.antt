@@ -3,7 +3,7 @@ use mathlib.Core.Path.{_≡_, refl, sym, ap, _∙_, subst}
 use mathlib.Core.Bool.{true, not}
 use mathlib.Core.List.{List, _++_, map}
 use Prim.Native.Nat.{ℕ, zero, suc, _+_, _-_, _*_, _^_, _≤_, _<_}
-use native.Mathlib.Nat.{add-zero, add-suc, add-mul, mul-le-mul-right}
+use native.Mathlib.Nat.{le-refl, add-zero, add-suc, add-mul, mul-le-mul-right}
 use native.Mathlib.Numerals.{add-one}
 use native.Mathlib.Omega.{arith}
 use lib.ListN.{take, length-append, length, drop, length-map, length-drop}
@@ -27,7 +27,7 @@ use Rattle.reach.specs.Reach.{firstSuch, storedTop, removalEnd, firstUnsound}
 use Rattle.reach.specs.Known.{Known}
 use Rattle.reach.proofs.Search.{such}
 use Rattle.reach.proofs.Pastes.{paste-more, map-drop}
-use Rattle.reach.proofs.Surveyed.{Surveyed, homesFrom, surveyed-none, surveyed-next, known-surveyed}
+use Rattle.reach.proofs.Surveyed.{Surveyed, homesFrom, surveyed-none, surveyed-next, known-surveyed, known-none}
 use Rattle.page_plan.proofs.Placed.{surveyed-homes, homes-real}
 use Rattle.entry_reach.specs.declared.blocks.Extent.{Extent}
 use Rattle.entry_reach.specs.Entry.{KnownTo, Extends, blockNumbers, blockEnd, blockCount, blockWords, BlockSound, PlannedBlock, UnsoundBlock, CrowdedBlock}
@@ -241,4 +241,18 @@ extent-from p g f pool sized lo known inside k r e =
       high = omega (arith, such (storedTop (f .separators) (topOf (p .bits))) lo (length (f .separators) - 1 - lo) .low);
       tested = λ q a b. absurd (omega arith);
       besides = k;
+    })
+
+-- the block whose pages below `tested` are known
+pub extent-tested : (p : Parameters) (g : Growth) (f : File) (pool : List ℕ) (lo last tested : ℕ) → lo < p .pages → last ≡ blockEnd p g f lo → lo ≤ tested → tested ≤ last + 1
+    → KnownTo p g f pool lo tested → (r : Extent) → r ≡ record { first = lo; last = last; surveyed = tested; known = p .pages } → Extends p g f pool r
+extent-tested p g f pool lo last tested inside ends low high known r e =
+    subst (Extends p g f pool) (sym e)
+    (record {
+      inside = inside;
+      ends = ends;
+      low = low;
+      high = high;
+      tested = known;
+      besides = known-none p g f pool (p .pages) (le-refl (p .pages));
     })

@@ -52,6 +52,19 @@ pub fn block_from(parameters: Parameters, separators: &[u8], first: usize, known
     }
 }
 
+// The block from page `first` to page `last`, of which the pages below `surveyed` were tested before.
+pub fn surveyed_block(parameters: Parameters, first: usize, last: usize, surveyed: usize) -> Extent
+    ensures { λ r. ⌜ r ≡ record { first = first; last = last; surveyed = surveyed; known = parameters .pages } ⌝ }
+{
+    let known = parameters.pages as usize;
+    Extent {
+        first,
+        last,
+        surveyed,
+        known,
+    }
+}
+
 // The block with the `incoming` words at the front of `waiting`.
 fn plan_block(
     table: &[u32; 90],

@@ -18,7 +18,7 @@ ghost use Rattle.page_plan.specs.Gather.{starsIn, stretchWords, groupsBelow};
 ghost use Rattle.decision.specs.Carried.{newcomer};
 ghost use Rattle.entry_reach.specs.Entry.{Enters, Decides, KnownTo};
 ghost use Rattle.entry_reach.specs.Pushing.{Lowered, PushesPage, PushesTo, Ruled, isVacant};
-use crate::blocks::Extent;
+use crate::blocks::surveyed_block;
 use crate::stretch::decide_stretch;
 use decision::Decision;
 use decision::Newcomer;
@@ -262,13 +262,7 @@ pub fn decide_clean(
     );
     if last < end {
         let from = star.home as usize;
-        let pages = geometry.parameters.pages as usize;
-        let first = Extent {
-            first: from,
-            last,
-            surveyed: from,
-            known: pages,
-        };
+        let first = surveyed_block(geometry.parameters, from, last, from);
         return decide_stretch(
             table,
             geometry,

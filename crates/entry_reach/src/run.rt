@@ -11,7 +11,7 @@ ghost use Rattle.reach.specs.Known.{Known};
 ghost use Rattle.decision.specs.Carried.{newcomer};
 ghost use Rattle.entry_reach.specs.Entry.{Enters, Decides, blockEnd};
 ghost use Rattle.entry_reach.specs.Pushing.{isVacant};
-use crate::blocks::Extent;
+use crate::blocks::surveyed_block;
 use crate::newcomers::decide_clean;
 use crate::newcomers::has_room;
 use crate::stretch::decide_stretch;
@@ -82,13 +82,7 @@ pub fn decide_run(
         return Decision::Unsound(unsound);
     }
     if clean_test::first_raisable(geometry, separators, numbers, pool, from, stop) < stop {
-        let pages = geometry.parameters.pages as usize;
-        let first = Extent {
-            first: from,
-            last,
-            surveyed: stop,
-            known: pages,
-        };
+        let first = surveyed_block(geometry.parameters, from, last, stop);
         return decide_stretch(
             table,
             geometry,

@@ -1,4 +1,3 @@
-use mathlib.Core.Path.{_≡_}
 use borrow.Author.Needs.{needs}
 use Rattle.entry_reach.proofs.blocks.block_from.Statement.{statement}
 use Rattle.entry_reach.proofs.blocks.block_from.Tie as tie

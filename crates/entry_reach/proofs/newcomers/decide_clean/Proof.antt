@@ -1,6 +1,6 @@
-use mathlib.Core.Path.{_≡_, refl, sym, ap, _∙_}
+use mathlib.Core.Path.{_≡_, sym, ap, _∙_}
 use mathlib.Core.Bool.{true}
-use Prim.Native.Nat.{ℕ, _+_, _≤_, _<_}
+use Prim.Native.Nat.{ℕ, _≤_, _<_}
 use native.Mathlib.Nat.{le-refl}
 use native.Mathlib.Omega.{arith}
 use lib.ListN.{length}
@@ -11,10 +11,11 @@ use Rattle.hashing.proofs.Bounds.{Limits, limits}
 use Rattle.pages.proofs.Parts.{page-fits}
 use Rattle.placement.specs.File.{File}
 use Rattle.placement.specs.Hash.{lent, soundAt}
-use Rattle.reach.proofs.Surveyed.{known-none}
+use Rattle.entry_reach.specs.declared.blocks.Extent.{Extent}
 use Rattle.entry_reach.specs.Entry.{entryStart, blockEnd}
 use Rattle.entry_reach.specs.Pushing.{Ruled}
-use Rattle.entry_reach.proofs.Runs.{home-is, home-inside, named-low, named-high, run-low, run-high, run-decided, pushed-decided}
+use Rattle.entry_reach.proofs.Surveyed.{extent-tested}
+use Rattle.entry_reach.proofs.Runs.{home-is, home-inside, named-low, named-high, run-high, run-decided, pushed-decided}
 use Rattle.entry_reach.proofs.newcomers.decide_clean.Statement.{statement}
 use Rattle.entry_reach.proofs.newcomers.decide_clean.Tie as tie
 
@@ -73,9 +74,6 @@ push-within-requires c κs =
 cast-from : tie.Need-cast-from
 cast-from c = search needs
 
-cast-pages : tie.Need-cast-pages
-cast-pages c = search needs
-
 -- from the push on
 abbrev Place : Type 0
 Place = tie.After-push-within
@@ -89,9 +87,13 @@ pool-long x = x .push-within .kept .1 .1 .1 .1 .1 .1 .0
 planned-long : (x : Place) → start x .args .geometry .parameters .pages ≤ length (x .push-within .last .1 .1 .1 .1 .1 .1 .1 .1 .0)
 planned-long x = omega (arith, x .push-within .kept .1 .1 .1 .1 .1 .1 .1 .1 .0, start x .pre .1 .1 .0)
 
+surveyed-block-requires : tie.Need-surveyed-block-requires
+surveyed-block-requires c κs = search needs
+
 decide-stretch-requires : tie.Need-decide-stretch-requires
 decide-stretch-requires c κs =
     let x = c .before .before .before .before .before .before .before .before .before .before .before .before in
+    let k = c .before .before .before .surveyed-block in
     let s = start x in
     let p = s .args .geometry .parameters in
     let g = s .args .geometry .growth in
@@ -102,15 +104,9 @@ decide-stretch-requires c κs =
         (
           planned-long x,
           (
-            refl,
-            record {
-              inside = from;
-              ends = run s .ends ∙ ap (blockEnd p g (file s)) (sym (homed s));
-              low = omega arith;
-              high = omega (arith, homed s, page-low s, page-high s);
-              tested = λ q a b. absurd (omega arith);
-              besides = known-none _ _ _ _ _ (le-refl _);
-            },
+            sym (ap (λ (x : Extent). x .first) (k .ensures)),
+            extent-tested p g (file s) (x .push-within .last .1 .1 .1 .1 .1 .1 .0) (s .args .star .home) (s .args .last) (s .args .star .home) from (run s .ends ∙ ap (blockEnd p g (file s)) (sym (homed s))) (le-refl _)
+                (omega (arith, homed s, page-low s, page-high s)) (λ q a b. absurd (omega arith)) (k .result) (k .ensures),
           ),
         ),
       ),
@@ -179,7 +175,7 @@ decide-clean-spec =
     returns
     push-within-requires
     cast-from
-    cast-pages
+    surveyed-block-requires
     decide-stretch-requires
     same-length
     same-length-2

@@ -1,5 +1,4 @@
-use mathlib.Core.Path.{_≡_, sym, ap, _∙_}
-use mathlib.Core.Bool.{true}
+use mathlib.Core.Path.{_≡_, ap, _∙_}
 use mathlib.Core.List.{List, _++_}
 use Prim.Native.Nat.{ℕ, _+_, _*_, _≤_, _<_}
 use native.Mathlib.Nat.{mul-le-mul, mul-le-mul-right}
@@ -14,7 +13,7 @@ use Rattle.placement.specs.File.{File}
 use Rattle.placement.specs.Hash.{lent}
 use Rattle.placement.proofs.Prepared.{first-signers}
 use Rattle.entry_reach.specs.Pushing.{pageWords}
-use Rattle.entry_reach.proofs.PushLoop.{known-words, known-numbers, known-below, known-grouped, stars-room, words-room, met-joined, met-probing}
+use Rattle.entry_reach.proofs.PushLoop.{known-words, known-numbers, known-below, known-grouped, stars-room, met-joined, met-probing}
 use Rattle.entry_reach.proofs.newcomers.push_page.Statement.{statement}
 use Rattle.entry_reach.proofs.newcomers.push_page.Tie as tie
 

@@ -1,4 +1,4 @@
-use mathlib.Core.Path.{_≡_, refl, sym, ap, subst, _∙_}
+use mathlib.Core.Path.{_≡_, sym, ap, subst, _∙_}
 use mathlib.Core.Bool.{true}
 use mathlib.Core.List.{List}
 use Prim.Native.Nat.{ℕ, _+_, _-_, _*_, _≤_, _<_}
@@ -11,10 +11,11 @@ use Rattle.placement.specs.File.{File}
 use Rattle.placement.specs.Hash.{hashOf, soundAt, lent}
 use Rattle.reach.specs.Known.{Known}
 use Rattle.reach.specs.Reach.{firstSuch, firstUnsound}
-use Rattle.reach.proofs.Surveyed.{known-none, surveyed-pages}
+use Rattle.reach.proofs.Surveyed.{surveyed-pages}
 use Rattle.clean_test.specs.Raising.{raisableFrom}
+use Rattle.entry_reach.specs.declared.blocks.Extent.{Extent}
 use Rattle.entry_reach.specs.Entry.{entryStart, blockEnd}
-use Rattle.entry_reach.proofs.Surveyed.{bad-none, block-clear}
+use Rattle.entry_reach.proofs.Surveyed.{bad-none, block-clear, extent-tested}
 use Rattle.entry_reach.proofs.Reached.{block-sound}
 use Rattle.entry_reach.proofs.Runs.{home-is, home-inside, run-low, run-high, run-unsound, run-ruled}
 use borrow.Author.Needs.{needs}
@@ -118,12 +119,13 @@ first-raisable-requires c κs =
       },
     )
 
-cast-pages : tie.Need-cast-pages
-cast-pages c = search needs
+surveyed-block-requires : tie.Need-surveyed-block-requires
+surveyed-block-requires c κs = search needs
 
 decide-stretch-requires : tie.Need-decide-stretch-requires
 decide-stretch-requires c κs =
     let e = c .before .before .before .before .before .before .before in
+    let k = c .before .before .before .surveyed-block in
     let s = begun e in (
       s .pre .0,
       (
@@ -131,15 +133,8 @@ decide-stretch-requires c κs =
         (
           s .pre .1 .1 .0,
           (
-            refl,
-            record {
-              inside = inside s;
-              ends = s .pre .1 .1 .1 .1 .1;
-              low = omega (arith, low s);
-              high = omega arith;
-              tested = known e;
-              besides = known-none _ _ _ _ _ (le-refl _);
-            },
+            sym (ap (λ (x : Extent). x .first) (k .ensures)),
+            extent-tested (s .args .geometry .parameters) (s .args .geometry .growth) (file s) (surveyed e) (s .args .star .home) (s .args .last) (s .args .last + 1) (inside s) (s .pre .1 .1 .1 .1 .1) (omega (arith, low s)) (le-refl _) (known e) (k .result) (k .ensures),
           ),
         ),
       ),
@@ -208,7 +203,7 @@ decide-run-spec =
     same-length
     returns
     first-raisable-requires
-    cast-pages
+    surveyed-block-requires
     decide-stretch-requires
     same-length-2
     same-length-3
