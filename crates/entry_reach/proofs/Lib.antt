@@ -5,4 +5,10 @@ pub mod Reached
 pub mod Surveyed
 pub mod Holding
 pub mod OnePage
+pub mod Visiting
+pub mod Tying
+pub mod PageWords
+pub mod Settled
+pub mod Pushed
+pub mod PushLoop
 pub mod Runs

@@ -337,10 +337,10 @@ module _ (p : Parameters) (g : Growth) (f : File) (k : ℕ) (valid : validParame
           (end-is word owner (λ l. absurd (omega (arith, l, all-pages)))) no-place)
 
     module _ (pool′ planned′ W′ : List ℕ) (stop left : ℕ) (lp : length pool ≡ p .pages * p .places) (ln : p .pages ≤ length planned)
-        (b : PlannedBlock p g f lo (take carried W) pool pool′ planned planned′ W′ stop left) where
+        (is : stop ≡ blockEnd p g f lo) (b : PlannedBlock p g f lo (take carried W) pool pool′ planned planned′ W′ left) where
       stop-is : stop ≡ last
       unfolding last
-      stop-is = b .is
+      stop-is = is
 
       spanned-block : Spanned p g f k pool′ planned′ W′ (pagesTo (entryStart p g k) last) left
       unfolding pagesHere

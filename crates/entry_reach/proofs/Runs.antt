@@ -1,19 +1,21 @@
--- An entry into a run: an unsound page of it, and a run of pages that are the rule's, in which the star's own page has room: that page alone changes.
+-- An entry into a run: an unsound page of it; and a run of pages that are the rule's, in which only newcomers move, the star alone if its own page has room.
 use mathlib.Core.Path.{_≡_, refl, sym, ap, subst, _∙_}
 use mathlib.Core.Bool.{true, false, not, _&&_}
-use mathlib.Core.List.{List, [], _∷_, List·Memᴰ}
+use mathlib.Core.List.{List, [], _∷_, _++_, append-nil, append-assoc, List·Memᴰ}
 use mathlib.Core.Logic.{⊎-elim}
 use Prim.Native.Nat.{ℕ, zero, suc, _+_, _-_, _*_, _≤_, _<_}
 use native.Mathlib.Nat.{zero-add, le-refl, le-antisymm}
 use native.Mathlib.Decide.{decLt}
 use native.Mathlib.Omega.{arith}
-use lib.ListN.{length, getD}
+use lib.ListN.{length, getD, take, drop, length-append, length-drop}
+use lib.Seq.{paste, take-all, take-add, take-at, drop-at, length-take-le}
 use borrow.Author.Tests.{eqb-true}
 use Rattle.hashing.specs.declared.Parameters.{Parameters}
 use Rattle.hashing.specs.declared.Growth.{Growth}
 use Rattle.hashing.specs.declared.Geometry.{Geometry}
 use Rattle.hashing.specs.Limits.{validParameters}
 use Rattle.hashing.proofs.Bounds.{limits}
+use Rattle.buffers.specs.Lists.{written}
 use Rattle.pages.specs.Page.{part, placeOf}
 use Rattle.pages.specs.Position.{validNumber, validWord}
 use Rattle.placement.specs.Rule.{Star, Hash, Contents, below, staying, passing, pages, left, insert}
@@ -37,12 +39,15 @@ use Rattle.clean_test.proofs.Raising.{none-ruled}
 use Rattle.page_edit.specs.Shift.{numberAt, Vacant}
 use Rattle.page_edit.proofs.Shifted.{vacant-room}
 use Rattle.page_edit.proofs.OnePage.{file-alone, ordered-page}
-use Rattle.page_plan.specs.declared.outcome.Outcome.the-variants.{Unsound as outcome·Unsound}
+use Rattle.page_plan.specs.declared.outcome.Outcome.the-variants.{On, Unsound as outcome·Unsound}
+use Rattle.page_plan.proofs.Applying.{applied}
 use Rattle.decision.specs.Carried.{withStars, starsThere}
-use Rattle.decision.specs.declared.chosen.Decision.the-variants.{Put}
+use Rattle.decision.specs.declared.chosen.Decision.the-variants.{Put, Planned}
 use Rattle.entry_reach.specs.declared.blocks.Reach.the-variants.{Ends, Unsound, Overflows}
 use Rattle.entry_reach.specs.Entry.{Unheld, newStar, entryStart, entryLast, entryUnsound, entryContents, blockEnd, reachAnswer, entryAnswer, entryFile, Decides}
+use Rattle.entry_reach.specs.Pushing.{PushedTo}
 use Rattle.entry_reach.proofs.Firsts.{such-is}
+use Rattle.entry_reach.proofs.Visiting.{cascaded-none, carried-none, cascaded-add, carried-add}
 use Rattle.entry_reach.proofs.Reached.{by-reach, reached-none, reached-unsound}
 use Rattle.entry_reach.proofs.Surveyed.{last-low, last-high, block-unsound}
 use Rattle.entry_reach.proofs.Holding.{unsound-answer, named-holds, ends-answer}
@@ -67,6 +72,56 @@ entry-ends H M f s last e enters =
 
     top : last < from + (M - 1 - from) → storedTop (f .separators) (H .top) last ≡ true
     top h = rw e (found .passes (omega (arith, e)))
+
+-- planned separators of pages from `page` up to the one before e, completed by the stored ones
+module _ (d s : List ℕ) (page e M : ℕ) (low : page ≤ e) (high : e ≤ M) (size : length s ≡ M) (long : M ≤ length d) where
+  T : List ℕ
+  T = take (e - page) (drop page d)
+
+  count-T : length T ≡ e - page
+  unfolding T
+  count-T = length-take-le (e - page) (drop page d) (rw (length-drop page d) (omega arith))
+
+  front : length (take page s) ≡ page
+  front = length-take-le page s (omega arith)
+
+  first-copy : paste d 0 s page ≡ take page s ++ drop page d
+  first-copy = ap (λ (i : ℕ). take page s ++ drop i d) (zero-add page)
+
+  kept-front : take e (take page s ++ drop page d) ≡ take page s ++ T
+  unfolding T
+  kept-front =
+      let sum : e ≡ page + (e - page) = omega arith in
+      ap (λ (i : ℕ). take i (take page s ++ drop page d)) sum
+      ∙ take-add page (e - page) (take page s ++ drop page d)
+      ∙ rw (take-at (take page s) (drop page d) page front, drop-at (take page s) (drop page d) page front)
+
+  back : take (M - e) (drop e s) ≡ drop e s
+  back = take-all (M - e) (drop e s) (rw (length-drop e s, size) (le-refl (M - e)))
+
+  abbrev completed : List ℕ
+  completed = paste (paste d 0 s page) e (drop e s) (M - e)
+
+  in-parts : completed ≡ take page s ++ (T ++ (drop e s ++ drop (e + (M - e)) (take page s ++ drop page d)))
+  in-parts = rw (first-copy, kept-front, back) (simp append-assoc)
+
+  past-T : e ≡ page + length T
+  past-T = omega (arith, count-T)
+
+  pub completed-kept : take (e - page) (drop page completed) ≡ take (e - page) (drop page d)
+  unfolding T
+  completed-kept =
+      ap (λ (l : List ℕ). take (e - page) (drop page l)) in-parts
+      ∙ ap (take (e - page)) (drop-at (take page s) (T ++ (drop e s ++ drop (e + (M - e)) (take page s ++ drop page d))) page front)
+      ∙ take-at T (drop e s ++ drop (e + (M - e)) (take page s ++ drop page d)) (e - page) count-T
+
+  pub completed-is : take M completed ≡ written page (take (e - page) (drop page d)) s
+  unfolding T written
+  completed-is =
+      ap (take M) (in-parts ∙ sym (simp append-assoc))
+      ∙ take-at (take page s ++ (T ++ drop e s)) (drop (e + (M - e)) (take page s ++ drop page d)) M
+      (length-append (take page s) (T ++ drop e s) ∙ omega (arith, front, length-append T (drop e s), count-T, length-drop e s, size))
+      ∙ ap (λ (i : ℕ). take page s ++ (T ++ drop i s)) past-T
 
 -- the home that the code tells
 pub home-is : (g : Geometry) (k from : ℕ) → from ≡ homeUnder g k → from ≡ entryStart (g .parameters) (g .growth) k
@@ -147,13 +202,13 @@ module _ (p : Parameters) (g : Growth) (f : File) (k : ℕ) (valid : validParame
         go (yes h) (no l) = omega (arith, l)
         go (no h) l = omega (arith, h, unheld .named)
 
--- A run of pages that are the rule's, and room on the star's own page.
+-- A run of pages that are the rule's.
 module _ (p : Parameters) (g : Growth) (f : File) (k page : ℕ) (valid : validParameters p ≡ true) (sized : Sized (p .places) (p .pages) f)
     (number : validNumber k ≡ true) (unheld : Unheld p g f k) (here : page ≡ namedPage p g (f .separators) k) (last : ℕ) (is : last ≡ blockEnd p g f (entryStart p g k))
     (sound : (q : ℕ) → entryStart p g k ≤ q → q ≤ last → soundAt p g f q ≡ true)
     (ruled : pagesAt (p .places) f (entryStart p g k) (pagesTo (entryStart p g k) last)
     ≡ pages (hashOf p g) (entryStart p g k) (pagesTo (entryStart p g k) last) (gathered (p .places) f (entryStart p g k) (pagesTo (entryStart p g k) last)))
-    (place : ℕ) (there : place ≡ placeOf k (part (p .places) page (f .numbers))) (room : numberAt (p .places) page (p .places - 1) (f .numbers) ≡ 0) (word owner : ℕ) where
+    (word owner : ℕ) where
   abbrev from : ℕ
   from = entryStart p g k
 
@@ -200,15 +255,6 @@ module _ (p : Parameters) (g : Growth) (f : File) (k page : ℕ) (valid : validP
   facts : Sound validWord (hashOf p g) f page
   facts = real-facts p g f page (sound page page-low page-high)
 
-  vacant : Vacant (p .places) page place k (f .numbers) (f .words) (f .owners)
-  vacant =
-      record {
-        ordered = ordered-page p g f sized page page-inside (sound page page-low page-high);
-        some = limits p valid .places-least;
-        there = there;
-        empty = room;
-      }
-
   absent-here : Absent k (starsAt (hashOf p g .room) f (namedPage p g (f .separators) k))
   unfolding hashOf starsAt
   absent-here =
@@ -225,106 +271,172 @@ module _ (p : Parameters) (g : Growth) (f : File) (k page : ℕ) (valid : validP
   unfolding hashOf namedPage
   absent = absent-named validWord (hashOf p g) f from (q + suc m) k all absent-here
 
-  -- the page and the new star meet: all stay under the stored separator
-  met : meeting (hashOf p g) f page (new ∷ []) ≡ insert new stars
-  unfolding meeting insert
-  met =
-      pour-insert stars new [] (λ t n e. absent-here t (subst (λ (r : ℕ). List·Memᴰ t (starsAt (hashOf p g .room) f r)) here n) e)
-      ∙ ap (insert new) (pour-nil 1 stars (rising-sorted 1 stars (sound-rising validWord (hashOf p g) f page facts)))
-
-  few : length (insert new stars) ≤ hashOf p g .room
-  unfolding hashOf starsAt
-  few = omega (arith, length-insert new (starsAt (p .places) f page), vacant-room vacant)
-
-  stands : (t : Star) → List·Memᴰ t (insert new stars) → below (hashOf p g) page stored (t .number) ≡ true
-  unfolding namedPage
-  stands t n =
-      ⊎-elim
-      (λ (e : t ≡ new). ap (λ (x : Star). below (hashOf p g) page stored (x .number)) e ∙ at k (sym here))
-      (λ (o : List·Memᴰ t stars). at (t .number) (facts .here t o))
-      (member-insert new stars t n)
-    where
-      at : (j : ℕ) → namedPage p g (f .separators) j ≡ page → below (hashOf p g) page stored j ≡ true
-      at j e = rw (zero-add page) at (first-below (hashOf p g) 0 page (f .separators) j (omega (arith, page-inside, sized .ofSeparators)) (e ∙ sym (zero-add page)))
-
-  kept : lowered (hashOf p g) f page (new ∷ []) ≡ stored
-  unfolding staying
-  kept =
-      le-antisymm (lowered-stored (hashOf p g) f page (new ∷ []))
-      (lowered-great (hashOf p g) f page (new ∷ []) stored (le-refl stored)
-      (rw met (omega (arith, few, length-filter (λ (s : Star). below (hashOf p g) page stored (s .number)) (insert new stars)))))
-
-  pushed : pushedTo (hashOf p g) f page (new ∷ []) ≡ record { separator = stored; stars = insert new stars }
-  unfolding pushedTo staying
-  pushed = rw (kept, met, filter-all-on (λ (s : Star). below (hashOf p g) page stored (s .number)) (insert new stars) stands)
-
-  none-on : pushedOn (hashOf p g) f page (new ∷ []) ≡ []
-  unfolding pushedOn passing
-  none-on = rw (kept, met) (filter-none-on (λ (s : Star). not (below (hashOf p g) page stored (s .number))) (insert new stars) (λ t n. ap not (stands t n)))
-
-  one-page : cascaded (hashOf p g) f page (suc m) (new ∷ []) ≡ record { separator = stored; stars = insert new stars } ∷ []
-  unfolding cascaded
-  one-page = rw (pushed, none-on) (ap (λ (l : List Contents). record { separator = stored; stars = insert new stars } ∷ l) (nothing m))
-    where
-      nothing : (n : ℕ) → cascaded (hashOf p g) f (suc page) n [] ≡ []
-      nothing zero = refl
-      nothing (suc n) = refl
-
-  ended : carriedPast (hashOf p g) f page (suc m) (new ∷ []) ≡ []
-  unfolding carriedPast
-  ended = ap (carriedPast (hashOf p g) f (suc page) m) none-on ∙ nothing m
-    where
-      nothing : (n : ℕ) → carriedPast (hashOf p g) f (suc page) n [] ≡ []
-      nothing zero = refl
-      nothing (suc n) = refl
-
   said : pagesAt (p .places) f from (q + suc m) ≡ pages (hashOf p g) from (q + suc m) (gathered (p .places) f from (q + suc m))
   said = subst (λ (n : ℕ). pagesAt (p .places) f from n ≡ pages (hashOf p g) from n (gathered (p .places) f from n)) count ruled
 
-  ended-there : carriedPast (hashOf p g) f (from + q) (suc m) (new ∷ []) ≡ []
-  ended-there = ap (λ (n : ℕ). carriedPast (hashOf p g) f n (suc m) (new ∷ [])) at-page ∙ ended
+  -- newcomers stay on its pages
+  module _ (ended : carriedPast (hashOf p g) f page (suc m) (new ∷ []) ≡ []) where
+    ended-there : carriedPast (hashOf p g) f (from + q) (suc m) (new ∷ []) ≡ []
+    ended-there = ap (λ (n : ℕ). carriedPast (hashOf p g) f n (suc m) (new ∷ [])) at-page ∙ ended
 
-  enters : entersWithin (hashOf p g) f new last ≡ true
-  unfolding entersWithin entering hashOf namedPage
-  enters =
-      ap isEmpty
-      (subst (λ (n : ℕ). left (hashOf p g) from n (insert new (gathered (p .places) f from n)) ≡ []) (sym count)
-      (stretch-leaves validWord (hashOf p g) (p .pages) f sized new q (suc m) inside all said absent (sym here ∙ sym at-page) ended-there))
+    enters : entersWithin (hashOf p g) f new last ≡ true
+    unfolding entersWithin entering hashOf namedPage
+    enters =
+        ap isEmpty
+        (subst (λ (n : ℕ). left (hashOf p g) from n (insert new (gathered (p .places) f from n)) ≡ []) (sym count)
+        (stretch-leaves validWord (hashOf p g) (p .pages) f sized new q (suc m) inside all said absent (sym here ∙ sym at-page) ended-there))
 
-  last-is : entryLast p g f new ≡ last
-  last-is = entry-ends (hashOf p g) (p .pages) f new last is enters
+    last-is : entryLast p g f new ≡ last
+    last-is = entry-ends (hashOf p g) (p .pages) f new last is enters
 
-  run-ends : Ends last ≡ reachAnswer p g f new
-  unfolding reachAnswer
-  run-ends =
-      ap Ends (sym last-is)
-      ∙ sym (by-reach p g f k last least sound word owner true (Unsound (entryUnsound p g f new)) Overflows (Ends (entryLast p g f new)) last-is enters)
+    run-ends : Ends last ≡ reachAnswer p g f new
+    unfolding reachAnswer
+    run-ends =
+        ap Ends (sym last-is)
+        ∙ sym (by-reach p g f k last least sound word owner true (Unsound (entryUnsound p g f new)) Overflows (Ends (entryLast p g f new)) last-is enters)
 
-  contents : replaced (p .places) f from (entryContents p g f new) ≡ replaced (p .places) f page (record { separator = stored; stars = insert new stars } ∷ [])
-  unfolding entering hashOf namedPage
-  contents =
-      ap (λ (n : ℕ). replaced (p .places) f from (pages (hashOf p g) from (pagesTo from n) (insert new (gathered (p .places) f from (pagesTo from n))))) last-is
-      ∙ ap (λ (n : ℕ). replaced (p .places) f from (pages (hashOf p g) from n (insert new (gathered (p .places) f from n)))) count
-      ∙ stretch-file validWord (hashOf p g) (p .pages) f sized new q (suc m) inside all said absent (sym here ∙ sym at-page) ended-there
-      ∙ ap (λ (n : ℕ). replaced (p .places) f n (cascaded (hashOf p g) f n (suc m) (new ∷ []))) at-page
-      ∙ ap (replaced (p .places) f page) one-page
+    contents : replaced (p .places) f from (entryContents p g f new) ≡ replaced (p .places) f page (cascaded (hashOf p g) f page (suc m) (new ∷ []))
+    unfolding entering hashOf namedPage
+    contents =
+        ap (λ (n : ℕ). replaced (p .places) f from (pages (hashOf p g) from (pagesTo from n) (insert new (gathered (p .places) f from (pagesTo from n))))) last-is
+        ∙ ap (λ (n : ℕ). replaced (p .places) f from (pages (hashOf p g) from n (insert new (gathered (p .places) f from n)))) count
+        ∙ stretch-file validWord (hashOf p g) (p .pages) f sized new q (suc m) inside all said absent (sym here ∙ sym at-page) ended-there
+        ∙ ap (λ (n : ℕ). replaced (p .places) f n (cascaded (hashOf p g) f n (suc m) (new ∷ []))) at-page
 
-  put-file : withStars (p .places) f page (insert new (starsThere (p .places) f page)) ≡ entryFile p g f new
-  unfolding entryFile hashOf starsAt
-  put-file =
-      file-alone (p .places) f page stored (insert new (starsThere (p .places) f page)) _ _ _ (omega (arith, page-inside, sized .ofSeparators)) refl refl refl refl
-      ∙ sym contents
-      ∙ sym (by-reach p g f k last least sound word owner true f f (replaced (p .places) f from (entryContents p g f new)) last-is enters)
+    entered : replaced (p .places) f page (cascaded (hashOf p g) f page (suc m) (new ∷ [])) ≡ entryFile p g f new
+    unfolding entryFile
+    entered =
+        sym contents
+        ∙ sym (by-reach p g f k last least sound word owner true f f (replaced (p .places) f from (entryContents p g f new)) last-is enters)
 
-  -- the star is put on its own page
-  pub run-decided : (pool planned : List ℕ) → Decides p g f new pool planned (Put page place)
-  run-decided pool planned =
-      record {
-        answers =
-            ends-answer p g f k word owner last run-ends page
-            (here
-            ∙ ap (λ (x : File). namedPage p g (x .separators) k) put-file
-            ∙ named-holds p g f k word owner last run-ends (omega (arith, page-low, page-inside, sized .ofSeparators)));
-        files = put-file;
-        feasible = (page-inside, vacant);
-      }
+    -- the page answered is the one that the new separators name
+    answered : (on : ℕ) → on ≡ namedPage p g (entryFile p g f new .separators) k → On on ≡ entryAnswer p g f new
+    answered on e =
+        ends-answer p g f k word owner last run-ends on (e ∙ named-holds p g f k word owner last run-ends (omega (arith, page-low, page-inside, sized .ofSeparators)))
+
+  -- room on the star's own page
+  module _ (place : ℕ) (there : place ≡ placeOf k (part (p .places) page (f .numbers))) (room : numberAt (p .places) page (p .places - 1) (f .numbers) ≡ 0) where
+    vacant : Vacant (p .places) page place k (f .numbers) (f .words) (f .owners)
+    vacant =
+        record {
+          ordered = ordered-page p g f sized page page-inside (sound page page-low page-high);
+          some = limits p valid .places-least;
+          there = there;
+          empty = room;
+        }
+
+    -- the page and the new star meet: all stay under the stored separator
+    met : meeting (hashOf p g) f page (new ∷ []) ≡ insert new stars
+    unfolding meeting insert
+    met =
+        pour-insert stars new [] (λ t n e. absent-here t (subst (λ (r : ℕ). List·Memᴰ t (starsAt (hashOf p g .room) f r)) here n) e)
+        ∙ ap (insert new) (pour-nil 1 stars (rising-sorted 1 stars (sound-rising validWord (hashOf p g) f page facts)))
+
+    few : length (insert new stars) ≤ hashOf p g .room
+    unfolding hashOf starsAt
+    few = omega (arith, length-insert new (starsAt (p .places) f page), vacant-room vacant)
+
+    stands : (t : Star) → List·Memᴰ t (insert new stars) → below (hashOf p g) page stored (t .number) ≡ true
+    unfolding namedPage
+    stands t n =
+        ⊎-elim
+        (λ (e : t ≡ new). ap (λ (x : Star). below (hashOf p g) page stored (x .number)) e ∙ at k (sym here))
+        (λ (o : List·Memᴰ t stars). at (t .number) (facts .here t o))
+        (member-insert new stars t n)
+      where
+        at : (j : ℕ) → namedPage p g (f .separators) j ≡ page → below (hashOf p g) page stored j ≡ true
+        at j e = rw (zero-add page) at (first-below (hashOf p g) 0 page (f .separators) j (omega (arith, page-inside, sized .ofSeparators)) (e ∙ sym (zero-add page)))
+
+    kept : lowered (hashOf p g) f page (new ∷ []) ≡ stored
+    unfolding staying
+    kept =
+        le-antisymm (lowered-stored (hashOf p g) f page (new ∷ []))
+        (lowered-great (hashOf p g) f page (new ∷ []) stored (le-refl stored)
+        (rw met (omega (arith, few, length-filter (λ (s : Star). below (hashOf p g) page stored (s .number)) (insert new stars)))))
+
+    pushed : pushedTo (hashOf p g) f page (new ∷ []) ≡ record { separator = stored; stars = insert new stars }
+    unfolding pushedTo staying
+    pushed = rw (kept, met, filter-all-on (λ (s : Star). below (hashOf p g) page stored (s .number)) (insert new stars) stands)
+
+    none-on : pushedOn (hashOf p g) f page (new ∷ []) ≡ []
+    unfolding pushedOn passing
+    none-on = rw (kept, met) (filter-none-on (λ (s : Star). not (below (hashOf p g) page stored (s .number))) (insert new stars) (λ t n. ap not (stands t n)))
+
+    one-page : cascaded (hashOf p g) f page (suc m) (new ∷ []) ≡ record { separator = stored; stars = insert new stars } ∷ []
+    unfolding cascaded
+    one-page = rw (pushed, none-on) (ap (λ (l : List Contents). record { separator = stored; stars = insert new stars } ∷ l) (nothing m))
+      where
+        nothing : (n : ℕ) → cascaded (hashOf p g) f (suc page) n [] ≡ []
+        nothing zero = refl
+        nothing (suc n) = refl
+
+    ended : carriedPast (hashOf p g) f page (suc m) (new ∷ []) ≡ []
+    unfolding carriedPast
+    ended = ap (carriedPast (hashOf p g) f (suc page) m) none-on ∙ nothing m
+      where
+        nothing : (n : ℕ) → carriedPast (hashOf p g) f (suc page) n [] ≡ []
+        nothing zero = refl
+        nothing (suc n) = refl
+
+    put-file : withStars (p .places) f page (insert new (starsThere (p .places) f page)) ≡ entryFile p g f new
+    unfolding hashOf starsAt
+    put-file =
+        file-alone (p .places) f page stored (insert new (starsThere (p .places) f page)) _ _ _ (omega (arith, page-inside, sized .ofSeparators)) refl refl refl refl
+        ∙ ap (replaced (p .places) f page) (sym one-page)
+        ∙ entered ended
+
+    -- the star is put on its own page
+    pub run-decided : (pool planned : List ℕ) → Decides p g f new pool planned (Put page place)
+    run-decided pool planned =
+        record {
+          answers = answered ended page (here ∙ ap (λ (x : File). namedPage p g (x .separators) k) put-file);
+          files = put-file;
+          feasible = (page-inside, vacant);
+        }
+
+  -- newcomers pushed up to page `end`
+  module _ (pool planned : List ℕ) (end : ℕ) (low : page ≤ end) (high : end ≤ last) (P : PushedTo p g f k word owner page pool planned end) where
+    abbrev n : ℕ
+    n = pagesTo page end
+
+    abbrev over : ℕ
+    over = last - end
+
+    sum : suc m ≡ n + over
+    sum = omega (arith, low, high)
+
+    none-over : carriedPast (hashOf p g) f page (suc m) (new ∷ []) ≡ []
+    none-over =
+        ap (λ (i : ℕ). carriedPast (hashOf p g) f page i (new ∷ [])) sum
+        ∙ carried-add (hashOf p g) f page n over (new ∷ [])
+        ∙ ap (carriedPast (hashOf p g) f (page + n) over) (P .within)
+        ∙ carried-none (hashOf p g) f (page + n) over
+
+    visited : cascaded (hashOf p g) f page (suc m) (new ∷ []) ≡ cascaded (hashOf p g) f page n (new ∷ [])
+    visited =
+        ap (λ (i : ℕ). cascaded (hashOf p g) f page i (new ∷ [])) sum
+        ∙ cascaded-add (hashOf p g) f page n over (new ∷ [])
+        ∙ ap (λ (l : List Star). cascaded (hashOf p g) f page n (new ∷ []) ++ cascaded (hashOf p g) f (page + n) over l) (P .within)
+        ∙ ap (λ (cs : List Contents). cascaded (hashOf p g) f page n (new ∷ []) ++ cs) (cascaded-none (hashOf p g) f (page + n) over)
+        ∙ append-nil (cascaded (hashOf p g) f page n (new ∷ []))
+
+    pushed-file : applied (p .places) page n k word owner pool planned f ≡ entryFile p g f new
+    pushed-file = P .applies ∙ ap (replaced (p .places) f page) (sym visited) ∙ entered none-over
+
+    -- with separators planned elsewhere too, and the page that they name
+    pub pushed-decided : (planned′ : List ℕ) (on : ℕ) → p .pages ≤ length planned′
+        → take (end + 1 - page) (drop page planned′) ≡ take (end + 1 - page) (drop page planned)
+        → on ≡ namedPage p g (written page (take (end + 1 - page) (drop page planned)) (f .separators)) k
+        → Decides p g f new pool planned′ (Planned page (end + 1 - page) on)
+    unfolding applied
+    pushed-decided planned′ on long same named =
+        let count : end + 1 - page ≡ n = omega (arith, low) in
+        let files : applied (p .places) page (end + 1 - page) k word owner pool planned f ≡ entryFile p g f new = rw count pushed-file in
+        record {
+          answers = answered none-over on (named ∙ ap (λ (x : File). namedPage p g (x .separators) k) files);
+          files = rw same files;
+          feasible = (
+            omega (arith, low, high, run-high p g f k valid sized number unheld last is),
+            omega (arith, low, high, long, run-high p g f k valid sized number unheld last is),
+          );
+        }

@@ -1,12 +1,13 @@
 -- One block: its end, its survey, and its plan over the surveyed homes.
-use mathlib.Core.Path.{_≡_, sym, ap, _∙_, subst}
+use mathlib.Core.Path.{_≡_, refl, sym, ap, _∙_, subst}
 use mathlib.Core.Bool.{true, not}
-use mathlib.Core.List.{List, _++_}
-use Prim.Native.Nat.{ℕ, _+_, _-_, _*_, _^_, _≤_, _<_}
-use native.Mathlib.Nat.{add-mul, mul-le-mul-right}
+use mathlib.Core.List.{List, _++_, map}
+use Prim.Native.Nat.{ℕ, zero, suc, _+_, _-_, _*_, _^_, _≤_, _<_}
+use native.Mathlib.Nat.{le-refl, add-zero, add-suc, add-mul, mul-le-mul-right}
+use native.Mathlib.Numerals.{add-one}
 use native.Mathlib.Omega.{arith}
 use lib.ListN.{take, length-append, length, drop, length-map, length-drop}
-use lib.Seq.{take-at, take-append-le, length-take-le, drop-paste, paste, slice}
+use lib.Seq.{drop-drop, take-at, take-append-le, length-take-le, drop-paste, paste, slice}
 use Rattle.buffers.specs.Lists.{written}
 use Rattle.pages.specs.Page.{stretch}
 use Rattle.hashing.specs.declared.Parameters.{Parameters}
@@ -23,9 +24,13 @@ use Rattle.page_plan.proofs.Gathered.{stretch-slice}
 use Rattle.page_plan.specs.Plans.{plans, Planned}
 use Rattle.page_plan.proofs.Stretch.{plans-roomy, length-plans}
 use Rattle.reach.specs.Reach.{firstSuch, storedTop, removalEnd, firstUnsound}
+use Rattle.reach.specs.Known.{Known}
 use Rattle.reach.proofs.Search.{such}
+use Rattle.reach.proofs.Pastes.{paste-more, map-drop}
+use Rattle.reach.proofs.Surveyed.{Surveyed, homesFrom, surveyed-none, surveyed-next, known-surveyed, known-none}
 use Rattle.page_plan.proofs.Placed.{surveyed-homes, homes-real}
-use Rattle.entry_reach.specs.Entry.{blockNumbers, blockEnd, blockCount, blockWords, BlockSound, PlannedBlock, UnsoundBlock, CrowdedBlock}
+use Rattle.entry_reach.specs.declared.blocks.Extent.{Extent}
+use Rattle.entry_reach.specs.Entry.{KnownTo, Extends, blockNumbers, blockEnd, blockCount, blockWords, BlockSound, PlannedBlock, UnsoundBlock, CrowdedBlock}
 use Rattle.entry_reach.proofs.Items.{stretch-homes, numbers-below, homes-below}
 use Rattle.entry_reach.proofs.Reached.{block-such, block-most, block-sound, block-sum}
 
@@ -42,6 +47,64 @@ written-paste d at t n s e h k =
   where
     size : length (take at d) ≡ at
     size = length-take-le at d (omega arith)
+
+-- the pages from lo up to the one before `tested` are known: a survey of those from there on is one of all
+module _ (p : Parameters) (g : Growth) (f : File) (sized : Sized (p .places) (p .pages) f) (pool : List ℕ) (fits : length pool ≡ p .pages * p .places) (lo n : ℕ) (bound : lo + n ≤ p .pages) where
+  known-begun : (d : ℕ) → d ≤ n → KnownTo p g f pool lo (lo + d) → Surveyed p g f pool lo n pool (lo + d)
+  known-begun zero h k = rw (add-zero lo) (surveyed-none p g f pool lo n)
+  known-begun (suc d) h k =
+      let page : Known p g f pool (lo + d) = k (lo + d) (omega arith) (omega arith) in
+      let inside : lo + d < p .pages = omega arith in
+      rw (add-suc lo d, ← add-one (lo + d))
+      (surveyed-next p g f pool lo n pool (lo + d) (known-begun d (omega arith) (λ q a b. k q a (omega arith))) sized fits (omega arith) bound pool
+      (page .sound inside) (known-surveyed p g f pool (lo + d) inside page) refl)
+
+module _ (p : Parameters) (g : Growth) (f : File) (sized : Sized (p .places) (p .pages) f) (pool : List ℕ) (fits : length pool ≡ p .pages * p .places) (lo tested stop : ℕ)
+    (low : lo ≤ tested) (high : tested ≤ stop) (bound : stop ≤ p .pages) (known : KnownTo p g f pool lo tested) where
+  begun : Surveyed p g f pool lo (stop - lo) pool tested
+  begun =
+      let same : lo + (tested - lo) ≡ tested = omega arith in
+      rw same at (known-begun p g f sized pool fits lo (stop - lo) (omega arith) (tested - lo) (omega arith) (λ q a b. known q a (omega (arith, b))))
+
+  unsound-joined : firstUnsound p g f tested (stop - tested) ≡ firstUnsound p g f lo (stop - lo)
+  unfolding firstUnsound
+  unsound-joined =
+      let same : stop ≡ lo + (stop - lo) = omega arith in
+      ap (λ (i : ℕ). firstUnsound p g f tested (i - tested)) same ∙ sym (begun .sought .rest)
+
+  homes-after : drop ((tested - lo) * p .places) (homesFrom p g f lo) ≡ homesFrom p g f tested
+  unfolding homesOf
+  homes-after =
+      let there : lo + (tested - lo) ≡ tested = omega arith in
+      map-drop (homeIn p g) ((tested - lo) * p .places) (drop (lo * p .places) (f .numbers))
+      ∙ ap (map (homeIn p g))
+      (drop-drop ((tested - lo) * p .places) (lo * p .places) (f .numbers)
+      ∙ ap (λ (i : ℕ). drop i (f .numbers)) (sym (add-mul lo (tested - lo) (p .places)) ∙ ap (λ (i : ℕ). i * p .places) there))
+
+  homes-joined : paste pool (tested * p .places) (homesFrom p g f tested) ((stop - tested) * p .places) ≡ paste pool (lo * p .places) (homesFrom p g f lo) ((stop - lo) * p .places)
+  unfolding homesOf
+  homes-joined =
+      ap (λ (l : List ℕ). paste l (tested * p .places) (homesFrom p g f tested) ((stop - tested) * p .places)) (begun .kept)
+      ∙ ap (λ (i : ℕ). paste (paste pool (lo * p .places) (homesFrom p g f lo) ((tested - lo) * p .places)) i (homesFrom p g f tested) ((stop - tested) * p .places)) (sym ahead)
+      ∙ paste-more pool (lo * p .places) (homesFrom p g f lo) ((tested - lo) * p .places) (homesFrom p g f tested) ((stop - tested) * p .places)
+      (omega (arith, fits, mul-le-mul-right {m = lo} {n = p .pages} (p .places) (omega arith))) long-enough
+      (ap (take ((stop - tested) * p .places)) (sym homes-after))
+      ∙ ap (paste pool (lo * p .places) (homesFrom p g f lo)) all
+    where
+      ahead : lo * p .places + (tested - lo) * p .places ≡ tested * p .places
+      ahead =
+          let there : lo + (tested - lo) ≡ tested = omega arith in
+          sym (add-mul lo (tested - lo) (p .places)) ∙ ap (λ (i : ℕ). i * p .places) there
+
+      all : (tested - lo) * p .places + (stop - tested) * p .places ≡ (stop - lo) * p .places
+      all =
+          let sum : (tested - lo) + (stop - tested) ≡ stop - lo = omega arith in
+          sym (add-mul (tested - lo) (stop - tested) (p .places)) ∙ ap (λ (i : ℕ). i * p .places) sum
+
+      long-enough : (tested - lo) * p .places ≤ length (homesFrom p g f lo)
+      long-enough =
+          rw (length-map (drop (lo * p .places) (f .numbers)) (homeIn p g), length-drop (lo * p .places) (f .numbers), sized .ofNumbers)
+          (omega (arith, ahead, mul-le-mul-right {m = tested} {n = p .pages} (p .places) (omega arith)))
 
 module _ (p : Parameters) (g : Growth) (f : File) (valid : validParameters p ≡ true) (sized : Sized (p .places) (p .pages) f) (lo : ℕ) (inside : lo < p .pages) where
   pub end-found : (top last : ℕ) → top ≡ topOf (p .bits) → last ≡ firstSuch (storedTop (f .separators) top) lo (length (f .separators) - 1 - lo) → last ≡ blockEnd p g f lo
@@ -121,11 +184,10 @@ module _ (p : Parameters) (g : Growth) (f : File) (valid : validParameters p ≡
               (plans-roomy p lo 0 (last + 1 - lo) w (blockWords p g f lo (last + 1 - lo)))
               ∙ ap (λ (n : ℕ). n * p .places) (length-plans p lo 0 (last + 1 - lo) w (blockWords p g f lo (last + 1 - lo)))
 
-          pub block-planned : PlannedBlock p g f lo w pool sources planned planned′ W′ last left
+          pub block-planned : PlannedBlock p g f lo w pool sources planned planned′ W′ left
           unfolding items
           block-planned =
               record {
-                is = e;
                 sound = clear;
                 plan =
                     subst (λ (n : ℕ). Planned p lo n w (blockWords p g f lo n) pool sources planned planned′ W′ left) count-is
@@ -149,3 +211,48 @@ module _ (p : Parameters) (g : Growth) (f : File) (valid : validParameters p ≡
 
       pub block-crowded : (w : List ℕ) (carried : ℕ) → length w ≡ carried → p .pages * p .places < carried + starsIn 0 (stretch (p .places) lo (last + 1 - lo) (f .numbers)) → CrowdedBlock p g f lo w
       block-crowded w carried l h = record { sound = clear; many = rw (l, ← count-is) h }
+
+-- a block whose first pages are known, surveyed from there on
+module _ (p : Parameters) (g : Growth) (f : File) (valid : validParameters p ≡ true) (sized : Sized (p .places) (p .pages) f) (pool : List ℕ) (fits : length pool ≡ p .pages * p .places)
+    (e : Extent) (x : Extends p g f pool e) where
+  pub extent-low : e .first ≤ e .last
+  extent-low = last-low p g f valid sized (e .first) (x .inside) (e .last) (x .ends)
+
+  pub extent-high : e .last < p .pages
+  extent-high = last-high p g f valid sized (e .first) (x .inside) (e .last) (x .ends)
+
+  pub extent-unsound : firstUnsound p g f (e .surveyed) (e .last + 1 - e .surveyed) ≡ firstUnsound p g f (e .first) (e .last + 1 - e .first)
+  extent-unsound = unsound-joined p g f sized pool fits (e .first) (e .surveyed) (e .last + 1) (x .low) (x .high) (omega (arith, extent-high)) (x .tested)
+
+  pub extent-homes : paste pool (e .surveyed * p .places) (homesFrom p g f (e .surveyed)) ((e .last + 1 - e .surveyed) * p .places)
+      ≡ paste pool (e .first * p .places) (homesFrom p g f (e .first)) ((e .last + 1 - e .first) * p .places)
+  extent-homes = homes-joined p g f sized pool fits (e .first) (e .surveyed) (e .last + 1) (x .low) (x .high) (omega (arith, extent-high)) (x .tested)
+
+-- the block from page lo, of which at most one page is known
+pub extent-from : (p : Parameters) (g : Growth) (f : File) (pool : List ℕ) → Sized (p .places) (p .pages) f → (lo known : ℕ) → lo < p .pages → Known p g f pool known → (r : Extent)
+    → r ≡ record { first = lo; last = firstSuch (storedTop (f .separators) (topOf (p .bits))) lo (length (f .separators) - 1 - lo); surveyed = lo; known = known } → Extends p g f pool r
+unfolding removalEnd hashOf
+extent-from p g f pool sized lo known inside k r e =
+    subst (Extends p g f pool) (sym e)
+    (record {
+      inside = inside;
+      ends = rw (sized .ofSeparators);
+      low = omega arith;
+      high = omega (arith, such (storedTop (f .separators) (topOf (p .bits))) lo (length (f .separators) - 1 - lo) .low);
+      tested = λ q a b. absurd (omega arith);
+      besides = k;
+    })
+
+-- the block whose pages below `tested` are known
+pub extent-tested : (p : Parameters) (g : Growth) (f : File) (pool : List ℕ) (lo last tested : ℕ) → lo < p .pages → last ≡ blockEnd p g f lo → lo ≤ tested → tested ≤ last + 1
+    → KnownTo p g f pool lo tested → (r : Extent) → r ≡ record { first = lo; last = last; surveyed = tested; known = p .pages } → Extends p g f pool r
+extent-tested p g f pool lo last tested inside ends low high known r e =
+    subst (Extends p g f pool) (sym e)
+    (record {
+      inside = inside;
+      ends = ends;
+      low = low;
+      high = high;
+      tested = known;
+      besides = known-none p g f pool (p .pages) (le-refl (p .pages));
+    })

@@ -2,7 +2,7 @@
 use mathlib.Core.Path.{_≡_}
 use mathlib.Core.Bool.{true, false, cond}
 use mathlib.Core.List.{List}
-use Prim.Native.Nat.{ℕ, _+_, _*_, _<_}
+use Prim.Native.Nat.{ℕ, _+_, _*_, _≤_, _<_}
 use lib.Dec.{ltb}
 use lib.ListN.{length, take}
 use denote.Ref.{now}
@@ -16,6 +16,7 @@ use Rattle.placement.specs.File.{File, replaced}
 use Rattle.placement.specs.Hash.{hashOf, soundAt, namedPage, homesOf, homeUnder}
 use Rattle.placement.specs.Ready.{Ready}
 use Rattle.placement.specs.Lent.{Lent}
+use Rattle.reach.specs.Known.{Known}
 use Rattle.reach.specs.Reach.{pagesTo, removalEnd, entering, entersWithin, entryEnd, firstUnsound, holding}
 use Rattle.page_plan.specs.Gather.{starsIn, stretchWords}
 use Rattle.page_plan.specs.Plans.{Planned}
@@ -24,6 +25,7 @@ use Rattle.decision.specs.declared.chosen.Decision.{Decision}
 use Rattle.decision.specs.Carried.{outcomeOf, carriedOut, Feasible}
 use Rattle.entry_reach.specs.declared.blocks.Reach.{Reach}
 use Rattle.entry_reach.specs.declared.blocks.Reach.the-variants.{Ends, Unsound, Overflows}
+use Rattle.entry_reach.specs.declared.blocks.Extent.{Extent}
 use Rattle.entry_reach.specs.declared.blocks.Block.{Block}
 use Rattle.entry_reach.specs.declared.blocks.Block.the-variants.{Planned as block·Planned, Unsound as block·Unsound, Crowded}
 use Rattle.page_plan.specs.declared.outcome.Outcome.{Outcome}
@@ -116,8 +118,20 @@ blockWords p g f lo n = stretchWords (p .places) lo n 0 (f .numbers) (homesOf p 
 abbrev pub BlockSound : Parameters → Growth → File → ℕ → Type 0
 BlockSound p g f lo = firstUnsound p g f lo (blockCount p g f lo) ≡ lo + blockCount p g f lo
 
-pub record PlannedBlock (p : Parameters) (g : Growth) (f : File) (lo : ℕ) (w pool pool′ planned planned′ W′ : List ℕ) (last left : ℕ) : Type 0 where
-  pub is : last ≡ blockEnd p g f lo
+-- the pages from `from` up to the one before `stop` are known
+abbrev pub KnownTo : Parameters → Growth → File → List ℕ → ℕ → ℕ → Type 0
+KnownTo p g f homes from stop = (q : ℕ) → from ≤ q → q < stop → Known p g f homes q
+
+-- the pages of a block, and what was found of them before, with the homes kept
+pub record Extends (p : Parameters) (g : Growth) (f : File) (homes : List ℕ) (e : Extent) : Type 0 where
+  pub inside : e .first < p .pages
+  pub ends : e .last ≡ blockEnd p g f (e .first)
+  pub low : e .first ≤ e .surveyed
+  pub high : e .surveyed ≤ e .last + 1
+  pub tested : KnownTo p g f homes (e .first) (e .surveyed)
+  pub besides : Known p g f homes (e .known)
+
+pub record PlannedBlock (p : Parameters) (g : Growth) (f : File) (lo : ℕ) (w pool pool′ planned planned′ W′ : List ℕ) (left : ℕ) : Type 0 where
   pub sound : BlockSound p g f lo
   pub plan : Planned p lo (blockCount p g f lo) w (blockWords p g f lo (blockCount p g f lo)) pool pool′ planned planned′ W′ left
 
@@ -131,8 +145,8 @@ pub record CrowdedBlock (p : Parameters) (g : Growth) (f : File) (lo : ℕ) (w :
 
 -- what planning the block with the words w carried in answers and leaves
 abbrev pub BlockPlanned : Parameters → Growth → File → ℕ → List ℕ → List ℕ → List ℕ → List ℕ → List ℕ → List ℕ → Block → Type 0
-BlockPlanned p g f lo w pool pool′ planned planned′ W′ (block·Planned last left) =
-    PlannedBlock p g f lo w pool pool′ planned planned′ W′ last left
+BlockPlanned p g f lo w pool pool′ planned planned′ W′ (block·Planned left) =
+    PlannedBlock p g f lo w pool pool′ planned planned′ W′ left
 BlockPlanned p g f lo w pool pool′ planned planned′ W′ (block·Unsound page) = UnsoundBlock p g f lo page
 BlockPlanned p g f lo w pool pool′ planned planned′ W′ Crowded = CrowdedBlock p g f lo w
 

@@ -1,5 +1,7 @@
-// The entry of a star: on its home page alone, within a run of pages that are the rule's, or over its reach, planned block after block.
+// The entry of a star: on its home page alone, by newcomers pushed through a run of pages that are the rule's, or over its reach, planned block
+// after block.
 mod blocks;
+mod newcomers;
 mod run;
 mod star;
 mod stretch;

@@ -1,22 +1,26 @@
 // An entry into a long run of pages that are the rule's. A run goes from a star's home to the first page whose stored separator is 2^k − 1, or page M−1.
 ghost use mathlib.Core.Path.{_≡_};
-ghost use mathlib.Core.Bool.{true};
+ghost use mathlib.Core.Bool.{true, false, cond, _||_};
 ghost use Prim.Native.Nat.{_+_, _-_, _*_, _≤_, _<_};
+ghost use lib.Dec.{ltb};
 ghost use lib.ListN.{length};
 ghost use Rattle.hashing.specs.Limits.{validParameters};
 ghost use Rattle.pages.specs.Page.{part, placeOf};
 ghost use Rattle.placement.specs.Lent.{held, before};
 ghost use Rattle.reach.specs.Known.{Known};
-ghost use Rattle.page_edit.specs.Shift.{numberAt};
 ghost use Rattle.decision.specs.Carried.{newcomer};
 ghost use Rattle.entry_reach.specs.Entry.{Enters, Decides, blockEnd};
+ghost use Rattle.entry_reach.specs.Pushing.{isVacant};
+use crate::blocks::surveyed_block;
+use crate::newcomers::decide_clean;
+use crate::newcomers::has_room;
 use crate::stretch::decide_stretch;
 use decision::Decision;
 use decision::Newcomer;
 use hashing::Geometry;
 use hashing::Parameters;
 
-// Whether testing the run saves time: it is long, and the star's own page has room.
+// Whether testing the run saves time: it is long, and newcomers will most likely stay in it.
 pub fn may_gain(
     parameters: Parameters,
     numbers: &[u32],
@@ -25,19 +29,20 @@ pub fn may_gain(
     page: usize,
 ) -> bool
     requires { ⌜ validParameters parameters ≡ true ⌝ }
-    requires { ⌜ (from ≤ last) × (page < 1024) ⌝ }
-    requires { ⌜ page * parameters .places + parameters .places ≤ length (now numbers) ⌝ }
-    ensures { λ r. ⌜ (r ≡ true → numberAt (parameters .places) page (parameters .places - 1) (now (numbers .entry)) ≡ 0) ⌝ }
+    requires { ⌜ (from ≤ last) × ((page < 1024) × (last < 1024)) ⌝ }
+    requires { ⌜ (page * parameters .places + parameters .places ≤ length (now numbers)) × (last * parameters .places + parameters .places ≤ length (now numbers)) ⌝ }
+    ensures { λ r. ⌜ r ≡ cond (ltb (last - from) 8) false (isVacant parameters (now (numbers .entry)) page || isVacant parameters (now (numbers .entry)) last) ⌝ }
 {
     if last - from < 8 {
         return false;
     }
-    let places = parameters.places as usize;
-    let end = places - 1;
-    numbers[page * places + end] == 0
+    if has_room(parameters, numbers, page) {
+        return true;
+    }
+    has_room(parameters, numbers, last)
 }
 
-// Where the run's pages are the rule's, only the star's own page changes; else the whole reach is planned. The known page is the named one.
+// Where the run's pages are the rule's, only newcomers move; else the whole reach is planned. The known page is the named one.
 pub fn decide_run(
     table: &[u32; 90],
     geometry: Geometry,
@@ -56,7 +61,6 @@ pub fn decide_run(
     requires { ⌜ geometry .parameters .pages ≤ length (now planned) ⌝ }
     requires { ⌜ Known (geometry .parameters) (geometry .growth) (held separators numbers words owners) (now pool) (star .page) ⌝ }
     requires { ⌜ star .place ≡ placeOf (star .number) (part (geometry .parameters .places) (star .page) (now numbers)) ⌝ }
-    requires { ⌜ numberAt (geometry .parameters .places) (star .page) (geometry .parameters .places - 1) (now numbers) ≡ 0 ⌝ }
     requires { ⌜ last ≡ blockEnd (geometry .parameters) (geometry .growth) (held separators numbers words owners) (star .home) ⌝ }
     ensures { λ r. ⌜ Decides (geometry .parameters) (geometry .growth) (before separators numbers words owners) (newcomer star) (now (pool .exit)) (now (planned .exit)) r ⌝ }
 {
@@ -78,7 +82,7 @@ pub fn decide_run(
         return Decision::Unsound(unsound);
     }
     if clean_test::first_raisable(geometry, separators, numbers, pool, from, stop) < stop {
-        let pages = geometry.parameters.pages as usize;
+        let first = surveyed_block(geometry.parameters, from, last, stop);
         return decide_stretch(
             table,
             geometry,
@@ -90,8 +94,20 @@ pub fn decide_run(
             waiting,
             planned,
             star,
-            pages,
+            first,
         );
     }
-    Decision::Put(star.page, star.place as usize)
+    decide_clean(
+        table,
+        geometry,
+        separators,
+        numbers,
+        words,
+        owners,
+        pool,
+        waiting,
+        planned,
+        star,
+        last,
+    )
 }

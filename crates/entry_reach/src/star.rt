@@ -10,6 +10,7 @@ ghost use Rattle.reach.specs.Known.{Known};
 ghost use Rattle.calls.specs.Stores.{stoppedFile};
 ghost use Rattle.decision.specs.Carried.{newcomer};
 ghost use Rattle.entry_reach.specs.Entry.{Enters, Decides, entryAnswer, entryFile};
+use crate::blocks::block_from;
 use crate::run::decide_run;
 use crate::run::may_gain;
 use crate::stretch::decide_stretch;
@@ -40,7 +41,8 @@ fn decide(
     ensures { λ r. ⌜ Decides (geometry .parameters) (geometry .growth) (before separators numbers words owners) (newcomer star) (now (pool .exit)) (now (planned .exit)) r ⌝ }
 {
     let from = star.home as usize;
-    let last = reach::stretch_end(separators, placement::top_of(geometry.parameters), from);
+    let first = block_from(geometry.parameters, separators, from, star.page);
+    let last = first.last;
     if may_gain(geometry.parameters, numbers, from, last, star.page) {
         return decide_run(
             table,
@@ -67,7 +69,7 @@ fn decide(
         waiting,
         planned,
         star,
-        star.page,
+        first,
     )
 }
 

@@ -3,16 +3,16 @@ ghost use mathlib.Core.Path.{_≡_};
 ghost use Prim.Native.Nat.{_*_, _≤_};
 ghost use lib.ListN.{length};
 ghost use Rattle.placement.specs.Lent.{held, before};
-ghost use Rattle.reach.specs.Known.{Known};
 ghost use Rattle.decision.specs.Carried.{newcomer};
-ghost use Rattle.entry_reach.specs.Entry.{Enters, Decides};
+ghost use Rattle.entry_reach.specs.Entry.{Enters, Decides, Extends};
+use crate::blocks::Extent;
 use crate::blocks::Reach;
 use crate::blocks::plan_entry;
 use decision::Decision;
 use decision::Newcomer;
 use hashing::Geometry;
 
-// The page answered is the one that the planned separators name. The known page was tested before.
+// The page answered is the one that the planned separators name. The first block is the one from the star's home.
 pub fn decide_stretch(
     table: &[u32; 90],
     geometry: Geometry,
@@ -24,12 +24,12 @@ pub fn decide_stretch(
     waiting: &mut [u64],
     planned: &mut [u8],
     star: Newcomer,
-    known: usize,
+    first: Extent,
 ) -> Decision
     requires { ⌜ Enters geometry (now table) (held separators numbers words owners) (star .number) (star .home) (star .page) ⌝ }
     requires { ⌜ (length (now pool) ≡ geometry .parameters .pages * geometry .parameters .places) × (length (now waiting) ≡ geometry .parameters .pages * geometry .parameters .places) ⌝ }
     requires { ⌜ geometry .parameters .pages ≤ length (now planned) ⌝ }
-    requires { ⌜ Known (geometry .parameters) (geometry .growth) (held separators numbers words owners) (now pool) known ⌝ }
+    requires { ⌜ (star .home ≡ first .first) × Extends (geometry .parameters) (geometry .growth) (held separators numbers words owners) (now pool) first ⌝ }
     ensures { λ r. ⌜ Decides (geometry .parameters) (geometry .growth) (before separators numbers words owners) (newcomer star) (now (pool .exit)) (now (planned .exit)) r ⌝ }
 {
     let pages = geometry.parameters.pages as usize;
@@ -46,7 +46,7 @@ pub fn decide_stretch(
         planned,
         star.number,
         star.home,
-        known,
+        first,
     ) {
         Reach::Unsound(page) => Decision::Unsound(page),
         Reach::Overflows => Decision::Overflows,

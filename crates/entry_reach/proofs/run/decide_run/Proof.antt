@@ -11,12 +11,13 @@ use Rattle.placement.specs.File.{File}
 use Rattle.placement.specs.Hash.{hashOf, soundAt, lent}
 use Rattle.reach.specs.Known.{Known}
 use Rattle.reach.specs.Reach.{firstSuch, firstUnsound}
-use Rattle.reach.proofs.Surveyed.{known-none, surveyed-pages}
+use Rattle.reach.proofs.Surveyed.{surveyed-pages}
 use Rattle.clean_test.specs.Raising.{raisableFrom}
+use Rattle.entry_reach.specs.declared.blocks.Extent.{Extent}
 use Rattle.entry_reach.specs.Entry.{entryStart, blockEnd}
-use Rattle.entry_reach.proofs.Surveyed.{bad-none, block-clear}
+use Rattle.entry_reach.proofs.Surveyed.{bad-none, block-clear, extent-tested}
 use Rattle.entry_reach.proofs.Reached.{block-sound}
-use Rattle.entry_reach.proofs.Runs.{home-is, home-inside, run-low, run-high, run-unsound, run-ruled, run-decided}
+use Rattle.entry_reach.proofs.Runs.{home-is, home-inside, run-low, run-high, run-unsound, run-ruled}
 use borrow.Author.Needs.{needs}
 use Rattle.entry_reach.proofs.run.decide_run.Statement.{statement}
 use Rattle.entry_reach.proofs.run.decide_run.Tie as tie
@@ -31,7 +32,7 @@ homed : (s : tie.Start) → s .args .star .home ≡ entryStart (s .args .geometr
 homed s = home-is (s .args .geometry) (s .args .star .number) (s .args .star .home) (s .pre .0 .homed)
 
 ended : (s : tie.Start) → s .args .last ≡ blockEnd (s .args .geometry .parameters) (s .args .geometry .growth) (file s) (entryStart (s .args .geometry .parameters) (s .args .geometry .growth) (s .args .star .number))
-ended s = s .pre .1 .1 .1 .1 .1 .1 ∙ ap (blockEnd (s .args .geometry .parameters) (s .args .geometry .growth) (file s)) (homed s)
+ended s = s .pre .1 .1 .1 .1 .1 ∙ ap (blockEnd (s .args .geometry .parameters) (s .args .geometry .growth) (file s)) (homed s)
 
 inside : (s : tie.Start) → s .args .star .home < s .args .geometry .parameters .pages
 inside s = omega (arith, homed s, home-inside (s .args .geometry .parameters) (s .args .geometry .growth) (file s) (s .args .star .number) (s .pre .0 .ready .sized) (s .pre .0 .unheld))
@@ -60,14 +61,14 @@ none : (c : tie.Else1) → c .before .before .before .survey-pages .result ≡ b
 none c =
     let s = begun c in
     let e = s .pre .0 .ready in
-    bad-none (s .args .geometry .parameters) (s .args .geometry .growth) (file s) (e .homing .valid) (e .sized) (s .args .star .home) (inside s) (s .args .last) (s .pre .1 .1 .1 .1 .1 .1) (c .before .before .before .survey-pages .result) (told c) (c .if1 .left)
+    bad-none (s .args .geometry .parameters) (s .args .geometry .growth) (file s) (e .homing .valid) (e .sized) (s .args .star .home) (inside s) (s .args .last) (s .pre .1 .1 .1 .1 .1) (c .before .before .before .survey-pages .result) (told c) (c .if1 .left)
 
 sound : (c : tie.Else1) (q : ℕ) → begun c .args .star .home ≤ q → q < begun c .args .last + 1 → soundAt (begun c .args .geometry .parameters) (begun c .args .geometry .growth) (file (begun c)) q ≡ true
 sound c q a h =
     let s = begun c in
     let e = s .pre .0 .ready in
     block-sound (s .args .geometry .parameters) (s .args .geometry .growth) (file s) (s .args .star .home) (inside s) q a
-    (omega (arith, block-clear (s .args .geometry .parameters) (s .args .geometry .growth) (file s) (e .homing .valid) (e .sized) (s .args .star .home) (inside s) (s .args .last) (s .pre .1 .1 .1 .1 .1 .1) (c .before .before .before .survey-pages .result) (told c) (c .if1 .left), s .pre .1 .1 .1 .1 .1 .1, low s))
+    (omega (arith, block-clear (s .args .geometry .parameters) (s .args .geometry .growth) (file s) (e .homing .valid) (e .sized) (s .args .star .home) (inside s) (s .args .last) (s .pre .1 .1 .1 .1 .1) (c .before .before .before .survey-pages .result) (told c) (c .if1 .left), s .pre .1 .1 .1 .1 .1, low s))
 
 known : (c : tie.Else1) (q : ℕ) → begun c .args .star .home ≤ q → q < begun c .args .last + 1 → Known (begun c .args .geometry .parameters) (begun c .args .geometry .growth) (file (begun c)) (surveyed c) q
 known c q a h =
@@ -118,14 +119,26 @@ first-raisable-requires c κs =
       },
     )
 
-cast-pages : tie.Need-cast-pages
-cast-pages c = search needs
+surveyed-block-requires : tie.Need-surveyed-block-requires
+surveyed-block-requires c κs = search needs
 
 decide-stretch-requires : tie.Need-decide-stretch-requires
 decide-stretch-requires c κs =
     let e = c .before .before .before .before .before .before .before in
-    let s = begun e in
-    (s .pre .0, ((long e, s .pre .1 .0 .1), (s .pre .1 .1 .0, known-none _ _ _ _ _ (le-refl _))))
+    let k = c .before .before .before .surveyed-block in
+    let s = begun e in (
+      s .pre .0,
+      (
+        (long e, s .pre .1 .0 .1),
+        (
+          s .pre .1 .1 .0,
+          (
+            sym (ap (λ (x : Extent). x .first) (k .ensures)),
+            extent-tested (s .args .geometry .parameters) (s .args .geometry .growth) (file s) (surveyed e) (s .args .star .home) (s .args .last) (s .args .last + 1) (inside s) (s .pre .1 .1 .1 .1 .1) (omega (arith, low s)) (le-refl _) (known e) (k .result) (k .ensures),
+          ),
+        ),
+      ),
+    )
 
 same-length-2 : tie.Need-same-length-2
 same-length-2 c = search needs
@@ -139,26 +152,46 @@ same-length-4 c = search needs
 returns-2 : tie.Need-returns-2
 returns-2 c = search needs
 
-cast-t19 : tie.Need-cast-t19
-cast-t19 c = search needs
-
-same-length-5 : tie.Need-same-length-5
-same-length-5 c = search needs
-
-returns-3 : tie.Need-returns-3
-returns-3 c =
-    let e = c .before .before .before .before in
+decide-clean-requires : tie.Need-decide-clean-requires
+decide-clean-requires c κs =
+    let e = c .before .before .before .before .before .before in
     let s = begun e in
     let v = s .pre .0 in
     let p = s .args .geometry .parameters in
     let g = s .args .geometry .growth in
-    let all : (q : ℕ) → entryStart p g (s .args .star .number) ≤ q → q ≤ s .args .last → soundAt p g (file s) q ≡ true = λ q a h. sound e q (omega (arith, homed s)) (omega arith) in
-    run-decided p g (file s) (s .args .star .number) (s .args .star .page) (v .ready .homing .valid) (v .ready .sized) (v .number) (v .unheld) (v .here) (s .args .last) (ended s) all
-    (run-ruled p g (file s) (s .args .star .number) (v .ready .homing .valid) (v .ready .sized) (v .number) (v .unheld) (s .args .last) (ended s) all (c .before .before .first-raisable .result)
-    (c .before .before .first-raisable .ensures
-    ∙ ap (λ (h : ℕ). firstSuch (raisableFrom (hashOf p g) h (s .args .last + 1 - h) (now (s .args .separators)) (now (s .args .numbers))) h (s .args .last + 1 - h)) (homed s))
-    (c .before .if2 .left))
-    (s .args .star .place) (s .pre .1 .1 .1 .1 .0) (s .pre .1 .1 .1 .1 .1 .0) (s .args .star .word) (s .args .star .owner) (surveyed e) (now (s .args .planned))
+    let all : (q : ℕ) → entryStart p g (s .args .star .number) ≤ q → q ≤ s .args .last → soundAt p g (file s) q ≡ true = λ q a h. sound e q (omega (arith, homed s)) (omega arith) in (
+      s .pre .0,
+      (
+        (long e, s .pre .1 .0 .1),
+        (
+          s .pre .1 .1 .0,
+          (
+            s .pre .1 .1 .1 .1 .0,
+            record {
+              ends = ended s;
+              known = λ q a h. known e q (omega (arith, homed s, a)) h;
+              ruled =
+                  run-ruled p g (file s) (s .args .star .number) (v .ready .homing .valid) (v .ready .sized) (v .number) (v .unheld) (s .args .last) (ended s) all (c .before .before .before .before .first-raisable .result)
+                  (c .before .before .before .before .first-raisable .ensures
+                  ∙ ap (λ (h : ℕ). firstSuch (raisableFrom (hashOf p g) h (s .args .last + 1 - h) (now (s .args .separators)) (now (s .args .numbers))) h (s .args .last + 1 - h)) (homed s))
+                  (c .before .before .before .if2 .left);
+            },
+          ),
+        ),
+      ),
+    )
+
+same-length-5 : tie.Need-same-length-5
+same-length-5 c = search needs
+
+same-length-6 : tie.Need-same-length-6
+same-length-6 c = search needs
+
+same-length-7 : tie.Need-same-length-7
+same-length-7 c = search needs
+
+returns-3 : tie.Need-returns-3
+returns-3 c = search needs
 
 pub decide-run-spec : {M : Type 1} → statement M
 decide-run-spec =
@@ -170,12 +203,14 @@ decide-run-spec =
     same-length
     returns
     first-raisable-requires
-    cast-pages
+    surveyed-block-requires
     decide-stretch-requires
     same-length-2
     same-length-3
     same-length-4
     returns-2
-    cast-t19
+    decide-clean-requires
     same-length-5
+    same-length-6
+    same-length-7
     returns-3)

@@ -1,9 +1,5 @@
-use native.Mathlib.Omega.{arith}
-use mathlib.Core.Path.{_∙_}
-use mathlib.Core.Bool.{false≢true}
-use borrow.Author.Tests.{eqb-true}
-use Rattle.hashing.proofs.Bounds.{limits}
-use Rattle.pages.proofs.Parts.{part-item}
+use mathlib.Core.Path.{sym, _∙_}
+use borrow.Author.Tests.{lt-ltb, le-ltb}
 use borrow.Author.Needs.{needs}
 use Rattle.entry_reach.proofs.run.may_gain.Statement.{statement}
 use Rattle.entry_reach.proofs.run.may_gain.Tie as tie
@@ -12,42 +8,19 @@ sub-if1 : tie.Need-sub-if1
 sub-if1 c = search needs
 
 returns : tie.Need-returns
-returns c = λ e. absurd (false≢true e)
+returns c = rw (lt-ltb _ _ (c .if1 .taken))
 
-cast-places : tie.Need-cast-places
-cast-places c = search needs
-
-sub-end : tie.Need-sub-end
-sub-end c = omega (arith, limits _ (c .before .before .pre .0) .places-least)
-
-mul-result : tie.Need-mul-result
-mul-result c = search needs
-
-add-result : tie.Need-add-result
-add-result c = search needs
-
-mul-result-2 : tie.Need-mul-result-2
-mul-result-2 c = search needs
-
-shared-slice-read-result : tie.Need-shared-slice-read-result
-shared-slice-read-result c = let pre = c .before .before .before .pre in omega (arith, pre .1 .1, limits _ (pre .0) .places-least)
+has-room-requires : tie.Need-has-room-requires
+has-room-requires c κs = search needs
 
 returns-2 : tie.Need-returns-2
-returns-2 c =
-    λ e.
-    let s = c .before .before .before in
-    part-item _ _ _ _ (omega (arith, limits _ (s .pre .0) .places-least)) ∙ eqb-true _ _ e
+returns-2 c = rw (le-ltb _ _ (c .before .before .if1 .left), sym (c .before .has-room .ensures) ∙ c .if2 .taken)
+
+has-room-requires-2 : tie.Need-has-room-requires-2
+has-room-requires-2 c κs = search needs
+
+returns-3 : tie.Need-returns-3
+returns-3 c = rw (le-ltb _ _ (c .before .before .before .if1 .left), sym (c .before .before .has-room .ensures) ∙ c .before .if2 .left) (c .has-room2 .ensures)
 
 pub may-gain-spec : {M : Type 1} → statement M
-may-gain-spec =
-    tie.close
-    (tie.spec
-    sub-if1
-    returns
-    cast-places
-    sub-end
-    mul-result
-    add-result
-    mul-result-2
-    shared-slice-read-result
-    returns-2)
+may-gain-spec = tie.close (tie.spec sub-if1 returns has-room-requires returns-2 has-room-requires-2 returns-3)

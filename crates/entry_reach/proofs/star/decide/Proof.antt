@@ -1,4 +1,4 @@
-use mathlib.Core.Path.{_≡_}
+use mathlib.Core.Path.{_≡_, refl, sym, ap}
 use Prim.Native.Nat.{_<_}
 use native.Mathlib.Omega.{arith}
 use denote.Ref.{now}
@@ -6,8 +6,9 @@ use Rattle.hashing.proofs.Bounds.{limits}
 use Rattle.pages.proofs.Parts.{page-fits}
 use Rattle.placement.specs.File.{File}
 use Rattle.placement.specs.Hash.{lent}
+use Rattle.entry_reach.specs.declared.blocks.Extent.{Extent}
 use Rattle.entry_reach.specs.Entry.{blockEnd}
-use Rattle.entry_reach.proofs.Surveyed.{end-found, last-low}
+use Rattle.entry_reach.proofs.Surveyed.{end-found, last-low, last-high, extent-from}
 use Rattle.entry_reach.proofs.Runs.{home-is, home-inside}
 use borrow.Author.Needs.{needs}
 use Rattle.entry_reach.proofs.star.decide.Statement.{statement}
@@ -21,22 +22,20 @@ inside s =
     let e = s .pre .0 in
     omega (arith, home-is (s .args .geometry) (s .args .star .number) (s .args .star .home) (e .homed), home-inside (s .args .geometry .parameters) (s .args .geometry .growth) (file s) (s .args .star .number) (e .ready .sized) (e .unheld))
 
-abbrev start : tie.After-stretch-end → tie.Start
-start c = c .before .before .before .before .before .before .before .before .before .before
+abbrev start : tie.After-block-from → tie.Start
+start c = c .before .before .before .before .before .before .before .before .before
 
-ended : (c : tie.After-stretch-end) → c .stretch-end .result ≡ blockEnd (start c .args .geometry .parameters) (start c .args .geometry .growth) (file (start c)) (start c .args .star .home)
+ended : (c : tie.After-block-from) → c .block-from .result .last ≡ blockEnd (start c .args .geometry .parameters) (start c .args .geometry .growth) (file (start c)) (start c .args .star .home)
 ended c =
     let s = start c in
-    end-found (s .args .geometry .parameters) (s .args .geometry .growth) (file s) (s .pre .0 .ready .homing .valid) (s .pre .0 .ready .sized) (s .args .star .home) (inside s) (c .before .top-of .result) (c .stretch-end .result) (c .before .top-of .ensures) (c .stretch-end .ensures)
+    end-found (s .args .geometry .parameters) (s .args .geometry .growth) (file s) (s .pre .0 .ready .homing .valid) (s .pre .0 .ready .sized) (s .args .star .home) (inside s) _ (c .block-from .result .last) refl
+    (ap (λ (e : Extent). e .last) (c .block-from .ensures))
 
 cast-from : tie.Need-cast-from
 cast-from c = search needs
 
-top-of-requires : tie.Need-top-of-requires
-top-of-requires c κs = search needs
-
-stretch-end-requires : tie.Need-stretch-end-requires
-stretch-end-requires c κs = let s = c .before .before .before .before .before .before .before .before .before in omega (arith, inside s, s .pre .0 .ready .sized .ofSeparators)
+block-from-requires : tie.Need-block-from-requires
+block-from-requires c κs = let s = c .before .before .before .before .before .before .before .before in (s .pre .0 .ready .homing .valid, omega (arith, inside s, s .pre .0 .ready .sized .ofSeparators))
 
 may-gain-requires : tie.Need-may-gain-requires
 may-gain-requires c κs =
@@ -45,21 +44,22 @@ may-gain-requires c κs =
     let p = s .args .geometry .parameters in
     let valid = s .pre .0 .ready .homing .valid in
     let sized = s .pre .0 .ready .sized in
-    let most : s .args .star .page < p .pages = omega (arith, s .pre .0 .here, s .pre .0 .unheld .named) in (
+    let most : s .args .star .page < p .pages = omega (arith, s .pre .0 .here, s .pre .0 .unheld .named) in
+    let last : k .block-from .result .last < p .pages = last-high p (s .args .geometry .growth) (file s) valid sized (s .args .star .home) (inside s) (k .block-from .result .last) (ended k) in (
       valid,
       (
         (
-          last-low p (s .args .geometry .growth) (file s) valid sized (s .args .star .home) (inside s) (k .stretch-end .result) (ended k),
-          omega (arith, most, limits p valid .pages-most),
+          last-low p (s .args .geometry .growth) (file s) valid sized (s .args .star .home) (inside s) (k .block-from .result .last) (ended k),
+          (omega (arith, most, limits p valid .pages-most), omega (arith, last, limits p valid .pages-most)),
         ),
-        page-fits (p .places) (p .pages) (s .args .star .page) most (sized .ofNumbers),
+        (page-fits (p .places) (p .pages) (s .args .star .page) most (sized .ofNumbers), page-fits (p .places) (p .pages) (k .block-from .result .last) last (sized .ofNumbers)),
       ),
     )
 
 decide-run-requires : tie.Need-decide-run-requires
 decide-run-requires c κs =
-    let s = c .before .before .before .before .before .before .before .before .before .before .before .before .before .before .before in
-    (s .pre .0, (s .pre .1 .0, (s .pre .1 .1 .0, (s .pre .1 .1 .1 .0, (s .pre .1 .1 .1 .1, (c .before .before .before .before .may-gain .ensures (c .before .before .before .if1 .taken), ended (c .before .before .before .before .before)))))))
+    let s = c .before .before .before .before .before .before .before .before .before .before .before .before .before .before in
+    (s .pre .0, (s .pre .1 .0, (s .pre .1 .1 .0, (s .pre .1 .1 .1 .0, (s .pre .1 .1 .1 .1, ended (c .before .before .before .before .before))))))
 
 same-length : tie.Need-same-length
 same-length c = search needs
@@ -75,8 +75,11 @@ returns c = search needs
 
 decide-stretch-requires : tie.Need-decide-stretch-requires
 decide-stretch-requires c κs =
-    let s = c .before .before .before .before .before .before .before .before .before .before .before .before .before .before .before in
-    (s .pre .0, (s .pre .1 .0, (s .pre .1 .1 .0, s .pre .1 .1 .1 .0)))
+    let s = c .before .before .before .before .before .before .before .before .before .before .before .before .before .before in
+    let k = c .before .before .before .before .before in
+    let p = s .args .geometry .parameters in
+    let x = extent-from p (s .args .geometry .growth) (file s) (now (s .args .pool)) (s .pre .0 .ready .sized) (s .args .star .home) (s .args .star .page) (inside s) (s .pre .1 .1 .1 .0) (k .block-from .result) (k .block-from .ensures) in
+    (s .pre .0, (s .pre .1 .0, (s .pre .1 .1 .0, (sym (ap (λ (e : Extent). e .first) (k .block-from .ensures)), x))))
 
 same-length-4 : tie.Need-same-length-4
 same-length-4 c = search needs
@@ -95,8 +98,7 @@ decide-spec =
     tie.close
     (tie.spec
     cast-from
-    top-of-requires
-    stretch-end-requires
+    block-from-requires
     may-gain-requires
     decide-run-requires
     same-length

@@ -53,7 +53,7 @@ plan-entry-requires : tie.Need-plan-entry-requires
 plan-entry-requires c κs =
     let s = c .before .before .before .before .before .before .before .before .before .before .before .before in
     let e = s .pre .0 in
-    (e .ready, (s .pre .1 .0, (s .pre .1 .1 .0, (e .number, (e .unheld, (e .homed, s .pre .1 .1 .1))))))
+    (e .ready, (s .pre .1 .0, (s .pre .1 .1 .0, (e .number, (e .unheld, ((e .homed, s .pre .1 .1 .1 .0), s .pre .1 .1 .1 .1))))))
 
 enum-known-page : tie.Need-enum-known-page
 enum-known-page c = search needs
