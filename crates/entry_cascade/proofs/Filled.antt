@@ -39,13 +39,13 @@ use Rattle.entry_reach.specs.declared.blocks.Reach.the-variants.{Ends}
 use Rattle.entry_reach.specs.Entry.{Unheld, entryStart, blockNumbers, blockWords}
 use Rattle.entry_reach.proofs.Items.{numbers-count, stretch-homes}
 use Rattle.entry_reach.proofs.Joined.{newWord}
-use Rattle.entry_cascade.specs.Arriving.{pageWords}
-use Rattle.entry_cascade.specs.Cascade.{Plans, loweredTo, loweredOn}
-use Rattle.entry_cascade.proofs.Tying.{parted}
+use Rattle.entry_reach.specs.Pushing.{pageWords, loweredTo, loweredOn}
+use Rattle.entry_cascade.specs.Cascade.{Plans}
+use Rattle.entry_reach.proofs.Tying.{parted}
 use Rattle.entry_cascade.proofs.Appending.{stars-fewer, words-low}
-use Rattle.entry_cascade.proofs.PageWords.{page-numbers, page-homed, page-named, items-few}
+use Rattle.entry_reach.proofs.PageWords.{page-numbers, page-homed, page-named, items-few}
 use Rattle.entry_cascade.proofs.Loading.{stars-count, loaded-numbers}
-use Rattle.entry_cascade.proofs.Pushed.{pushed-none, pushed-next, page-inside, small, few}
+use Rattle.entry_reach.proofs.Pushed.{pushed-none, pushed-next, page-inside, small, few}
 use Rattle.entry_cascade.proofs.Answers.{plans-ends}
 
 -- waiting stars are known by the low parts of their words

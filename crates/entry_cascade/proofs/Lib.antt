@@ -1,9 +1,4 @@
-pub mod Visiting
-pub mod Tying
 pub mod Appending
-pub mod PageWords
-pub mod Settled
-pub mod Pushed
 pub mod Answers
 pub mod Naming
 pub mod Loading

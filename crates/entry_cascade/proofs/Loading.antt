@@ -29,8 +29,9 @@ use Rattle.page_separator.proofs.Lists.{all-mono, all-items}
 use Rattle.page_plan.proofs.Items.{words-count, words-length}
 use Rattle.entry_reach.specs.Entry.{blockNumbers, blockWords}
 use Rattle.entry_reach.proofs.Items.{numbers-count, stretch-homes, homes-below}
-use Rattle.entry_cascade.specs.Arriving.{pageWords, KnownValue}
-use Rattle.entry_cascade.proofs.PageWords.{page-numbers}
+use Rattle.entry_reach.specs.Pushing.{pageWords}
+use Rattle.entry_cascade.specs.Arriving.{KnownValue}
+use Rattle.entry_reach.proofs.PageWords.{page-numbers}
 
 -- all zeros
 pub zeros-below : (n : ℕ) → n ≤ 32 → allBelow 1024 (take n (replicate 32 0)) ≡ true

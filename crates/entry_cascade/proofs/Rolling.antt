@@ -25,15 +25,16 @@ use Rattle.page_separator.specs.Probes.{Probing, wordsSeparatorFrom}
 use Rattle.page_separator.proofs.Lists.{all-append}
 use Rattle.page_separator.proofs.Cutting.{separator-fits}
 use Rattle.entry_reach.specs.declared.blocks.Reach.the-variants.{Ends}
-use Rattle.entry_reach.specs.Entry.{Unheld, newStar}
+use Rattle.entry_reach.specs.Entry.{Unheld, newStar, KnownTo}
 use Rattle.entry_reach.proofs.Joined.{newWord}
-use Rattle.entry_cascade.specs.Arriving.{pageWords, Joins, Crowds, KnownTo}
-use Rattle.entry_cascade.specs.Cascade.{Stopped, Spilled, Plans, loweredOn, Lowered}
-use Rattle.entry_cascade.proofs.Tying.{parted}
-use Rattle.entry_cascade.proofs.PageWords.{page-near}
-use Rattle.entry_cascade.proofs.Settled.{lowered-roomy}
+use Rattle.entry_reach.specs.Pushing.{pageWords, loweredOn, Lowered}
+use Rattle.entry_cascade.specs.Arriving.{Joins, Crowds}
+use Rattle.entry_cascade.specs.Cascade.{Stopped, Spilled, Plans}
+use Rattle.entry_reach.proofs.Tying.{parted}
+use Rattle.entry_reach.proofs.PageWords.{page-near}
+use Rattle.entry_reach.proofs.Settled.{lowered-roomy}
 use Rattle.entry_cascade.proofs.Loading.{stars-room}
-use Rattle.entry_cascade.proofs.Pushed.{Pushed, pushed-none, pushed-next}
+use Rattle.entry_reach.proofs.Pushed.{Pushed, pushed-none, pushed-next}
 use Rattle.entry_cascade.proofs.Answers.{plans-unsound, plans-overflow, plans-ends, plans-crowded}
 
 -- a page after page p, of a list whose first parts are p pages and one more

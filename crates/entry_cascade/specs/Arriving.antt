@@ -2,7 +2,7 @@
 use mathlib.Core.Path.{_≡_}
 use mathlib.Core.Bool.{true, false}
 use mathlib.Core.List.{List, _++_}
-use Prim.Native.Nat.{ℕ, _+_, _*_, _≤_, _<_}
+use Prim.Native.Nat.{ℕ, _+_, _*_, _<_}
 use lib.ListN.{length, take}
 use denote.Ref.{now}
 use Rattle.hashing.specs.declared.Parameters.{Parameters}
@@ -13,14 +13,9 @@ use Rattle.pages.specs.Page.{part}
 use Rattle.placement.specs.Hash.{soundAt, homesOf}
 use Rattle.placement.specs.Lent.{Lent}
 use Rattle.soundness.specs.Survey.{soundIn}
-use Rattle.reach.specs.Known.{Known}
-use Rattle.entry_reach.specs.Entry.{blockWords}
+use Rattle.entry_reach.specs.Pushing.{pageWords}
 use Rattle.entry_cascade.specs.declared.arriving.Taken.{Taken}
 use Rattle.entry_cascade.specs.declared.arriving.Taken.the-variants.{Joined, Unsound, Crowded}
-
--- the words of page q's stars
-abbrev pub pageWords : Parameters → Growth → File → ℕ → List ℕ
-pageWords p g f q = blockWords p g f q 1
 
 pub record Joins (p : Parameters) (g : Growth) (f : File) (q end : ℕ) (W W′ : List ℕ) (reach : ℕ) : Type 0 where
   pub sound : soundAt p g f q ≡ true
@@ -44,7 +39,3 @@ TakesIn g f q end waiting r = TakenIn (g .parameters) (g .growth) f q end (now (
 pub record KnownValue (g : Geometry) (seps : List ℕ) (page : ℕ) (ns ws os pool : List ℕ) : Type 0 where
   pub sound : soundIn (g .parameters) (g .growth) seps page (take (g .parameters .places) ns) (take (g .parameters .places) ws) (take (g .parameters .places) os) ≡ true
   pub kept : part (g .parameters .places) page pool ≡ homesOf (g .parameters) (g .growth) (take (g .parameters .places) ns)
-
--- the pages from `from` up to the one before `stop` are known
-abbrev pub KnownTo : Parameters → Growth → File → List ℕ → ℕ → ℕ → Type 0
-KnownTo p g f pool from stop = (q : ℕ) → from ≤ q → q < stop → Known p g f pool q

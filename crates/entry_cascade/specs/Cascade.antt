@@ -2,19 +2,16 @@
 use mathlib.Core.Path.{_≡_}
 use mathlib.Core.Bool.{false, cond}
 use mathlib.Core.List.{List, [], _∷_}
-use Prim.Native.Nat.{ℕ, _+_, _-_, _*_, _≤_, _<_}
+use Prim.Native.Nat.{ℕ, _+_, _-_, _≤_, _<_}
 use lib.Dec.{ltb}
 use lib.ListN.{length}
-use lib.Seq.{slice}
 use Rattle.hashing.specs.declared.Parameters.{Parameters}
 use Rattle.hashing.specs.declared.Growth.{Growth}
 use Rattle.placement.specs.Rule.{Star, Contents, separators}
-use Rattle.placement.specs.File.{File, column, written, replaced}
+use Rattle.placement.specs.File.{File, replaced}
 use Rattle.placement.specs.Hash.{hashOf}
 use Rattle.reach.specs.Reach.{isEmpty, pagesTo, firstUnsound, holding}
 use Rattle.reach.specs.Cascade.{cascaded, carriedPast}
-use Rattle.page_separator.specs.Probes.{stayingWords, passingWords, wordsSeparatorFrom}
-use Rattle.page_plan.specs.Plans.{waits}
 use Rattle.page_plan.proofs.Applying.{applied}
 use Rattle.entry_reach.specs.declared.blocks.Reach.{Reach}
 use Rattle.entry_reach.specs.declared.blocks.Reach.the-variants.{Ends, Unsound, Overflows}
@@ -76,17 +73,3 @@ Plans p g f k page pool planned (Unsound q) = (word owner : ℕ) → Stopped p g
 Plans p g f k page pool planned Overflows = (word owner : ℕ) → Spilled p g f (newStar k word owner) page
 Plans p g f k page pool planned (Ends last) =
     (page ≤ last) × ((last < p .pages) × ((word owner : ℕ) → Kept p g f k word owner page pool planned last))
-
--- what a page gets of the words l that probe it, under the greatest separator up to `most`, and what it carries on
-unfoldable pub loweredTo : Parameters → ℕ → ℕ → List ℕ → Contents
-loweredTo p q most l = record { separator = wordsSeparatorFrom p q l most; stars = waits (stayingWords p q (wordsSeparatorFrom p q l most) l) }
-
-unfoldable pub loweredOn : Parameters → ℕ → ℕ → List ℕ → List ℕ
-loweredOn p q most l = passingWords p q (wordsSeparatorFrom p q l most) l
-
--- what settling page q leaves: its sources, its separator, and from r up to `reach` the words carried on
-pub record Lowered (p : Parameters) (q most : ℕ) (l : List ℕ) (reach : ℕ) (pool pool′ planned planned′ W′ : List ℕ) (r : ℕ) : Type 0 where
-  pub sources : pool′ ≡ written (q * p .places) (column (p .places) (λ (s : Star). s .payload .word) (loweredTo p q most l ∷ [])) pool
-  pub separator : planned′ ≡ written q (separators (loweredTo p q most l ∷ [])) planned
-  pub start : r ≡ reach - length (loweredOn p q most l)
-  pub passed : slice r reach W′ ≡ loweredOn p q most l

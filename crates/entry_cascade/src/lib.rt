@@ -2,7 +2,6 @@
 mod arriving;
 mod entry;
 mod filling;
-mod keeping;
 mod pushing;
 
 pub use entry::cascade;

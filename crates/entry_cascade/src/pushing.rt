@@ -3,14 +3,13 @@ ghost use mathlib.Core.Path.{_≡_};
 ghost use Prim.Native.Nat.{_*_, _≤_};
 ghost use lib.ListN.{length};
 ghost use Rattle.placement.specs.Lent.{held, before};
-ghost use Rattle.entry_cascade.specs.Arriving.{KnownTo};
-ghost use Rattle.entry_reach.specs.Entry.{Enters};
+ghost use Rattle.entry_reach.specs.Entry.{KnownTo, Enters};
 ghost use Rattle.entry_cascade.specs.Cascade.{Plans};
 use crate::arriving::Taken;
 use crate::arriving::take_in;
 use crate::filling::fill_page;
-use crate::keeping::settle_page;
 use entry_reach::Reach;
+use entry_reach::lower_page;
 use hashing::Geometry;
 
 // The words carried on stand from `from` up to `end`; those of the next page come behind them. A page's sources are written over its homes
@@ -60,7 +59,7 @@ fn push_along(
             Taken::Crowded => return Reach::Overflows,
             Taken::Joined(reach) => {
                 let most = separators[at] as u32;
-                from = settle_page(
+                from = lower_page(
                     table,
                     parameters,
                     most,

@@ -8,4 +8,5 @@ mod stretch;
 
 pub use blocks::Reach;
 pub use blocks::plan_entry;
+pub use newcomers::lower_page;
 pub use star::enter_star;

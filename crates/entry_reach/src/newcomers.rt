@@ -54,7 +54,7 @@ fn join_page(
 }
 
 // Settles the page under its stored separator, `most`. The words carried on stand from the answer up to `reach`.
-fn settle_page(
+pub fn lower_page(
     table: &[u32; 90],
     parameters: Parameters,
     most: u32,
@@ -114,7 +114,7 @@ fn push_page(
     let places = parameters.places as usize;
     let stored = separators[page] as u32;
     let reach = join_page(numbers, pool, waiting, places, page, end);
-    let on = settle_page(
+    let on = lower_page(
         table,
         parameters,
         stored,

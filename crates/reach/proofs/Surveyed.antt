@@ -3,12 +3,12 @@ use mathlib.Core.Path.{_≡_, refl, sym, ap, _∙_}
 use mathlib.Core.Bool.{Bool, true, not}
 use mathlib.Core.List.{List, _++_}
 use Prim.Native.Nat.{ℕ, suc, _+_, _-_, _*_, _≤_, _<_}
-use native.Mathlib.Nat.{mul-le-mul-right, suc-mul, add-mul}
+use native.Mathlib.Nat.{zero-mul, mul-le-mul-right, suc-mul, add-mul}
 use native.Mathlib.Numerals.{add-one}
 use native.Mathlib.Decide.{decLt}
 use native.Mathlib.Omega.{arith}
 use lib.ListN.{length, take, drop, length-append, length-drop, length-map, take-append-drop}
-use lib.Seq.{paste, drop-paste, take-take, drop-drop, length-take-le}
+use lib.Seq.{paste, paste-zero, drop-paste, take-take, drop-drop, length-take-le}
 use Rattle.buffers.specs.Lists.{written}
 use Rattle.buffers.proofs.Lists.{map-take, map-drop}
 use Rattle.buffers.proofs.Written.{all-written, taken-written}
@@ -25,7 +25,7 @@ use Rattle.soundness.proofs.Pastes.{homes-next}
 use Rattle.soundness.proofs.Lent.{Passed, ahead as items-ahead}
 use Rattle.reach.specs.Known.{Known}
 use Rattle.reach.specs.Reach.{firstUnsound, firstSuch, homesKept}
-use Rattle.reach.proofs.Search.{Sought, sought-next, sought-found, sought-all, sought-passed}
+use Rattle.reach.proofs.Search.{Sought, sought-none, sought-next, sought-found, sought-all, sought-passed}
 use Rattle.reach.proofs.Pastes.{paste-more, paste-same}
 
 -- the page is unsound
@@ -41,6 +41,16 @@ pub record Surveyed (p : Parameters) (g : Growth) (f : File) (before : List ℕ)
   pub sought : Sought (unsound p g f) from n page
   pub long : length homes ≡ length before
   pub kept : homes ≡ paste before (from * p .places) (homesFrom p g f from) ((page - from) * p .places)
+
+pub surveyed-none : (p : Parameters) (g : Growth) (f : File) (before : List ℕ) (from n : ℕ) → Surveyed p g f before from n before from
+surveyed-none p g f before from n =
+    record {
+      sought = sought-none (unsound p g f) from n;
+      long = refl;
+      kept =
+          let none : (from - from) * p .places ≡ 0 = ap (λ (k : ℕ). k * p .places) (omega arith) ∙ zero-mul (p .places) in
+          rw none (paste-zero before (from * p .places) (homesFrom p g f from));
+    }
 
 module _ (p : Parameters) (g : Growth) (f : File) (before : List ℕ) (from n : ℕ) (homes : List ℕ) (page : ℕ)
     (s : Surveyed p g f before from n homes page) (sized : Sized (p .places) (p .pages) f) (fits : length before ≡ p .pages * p .places)

@@ -15,7 +15,7 @@ use Rattle.placement.specs.File.{File}
 use Rattle.placement.specs.Hash.{lent, soundAt}
 use Rattle.soundness.proofs.Items.{sound-loaded}
 use Rattle.page_plan.specs.Gather.{starsIn}
-use Rattle.entry_cascade.specs.Arriving.{pageWords}
+use Rattle.entry_reach.specs.Pushing.{pageWords}
 use Rattle.entry_cascade.proofs.Loading.{slice-page, stars-count, page-few, loaded-numbers, loaded-long, loaded-below, homes-long, homes-small, loaded-words, known-value}
 use Rattle.entry_cascade.proofs.arriving.take_in.Statement.{statement}
 use Rattle.entry_cascade.proofs.arriving.take_in.Tie as tie

@@ -12,9 +12,9 @@ use Rattle.pages.proofs.Parts.{page-fits}
 use Rattle.placement.specs.File.{File}
 use Rattle.placement.specs.Hash.{lent}
 use Rattle.entry_reach.proofs.Reached.{some-items}
-use Rattle.entry_cascade.specs.Arriving.{pageWords}
+use Rattle.entry_reach.specs.Pushing.{pageWords}
 use Rattle.entry_cascade.proofs.Loading.{zeros-below, page-few, loaded-long, loaded-below}
-use Rattle.entry_cascade.proofs.Pushed.{small, few, page-inside, new-packed}
+use Rattle.entry_reach.proofs.Pushed.{small, few, page-inside, new-packed}
 use Rattle.entry_cascade.proofs.Filled.{sound, last-empty, stars-loaded, fill-reach, plans-fill}
 use Rattle.entry_cascade.proofs.filling.fill_page.Statement.{statement}
 use Rattle.entry_cascade.proofs.filling.fill_page.Tie as tie

@@ -9,7 +9,7 @@ use Rattle.pages.proofs.Parts.{page-fits}
 use Rattle.placement.specs.File.{File}
 use Rattle.placement.specs.Hash.{lent}
 use Rattle.entry_cascade.proofs.Loading.{page-few}
-use Rattle.entry_cascade.proofs.Pushed.{page-inside}
+use Rattle.entry_reach.proofs.Pushed.{page-inside}
 use Rattle.entry_cascade.proofs.pushing.push.Statement.{statement}
 use Rattle.entry_cascade.proofs.pushing.push.Tie as tie
 

@@ -16,8 +16,9 @@ use Rattle.placement.proofs.Prepared.{first-signers}
 use Rattle.entry_reach.proofs.Reached.{some-items}
 use Rattle.entry_cascade.specs.declared.arriving.Taken.{Taken}
 use Rattle.entry_cascade.specs.declared.arriving.Taken.the-variants.{Joined, Unsound, Crowded}
-use Rattle.entry_cascade.specs.Arriving.{TakenIn, Joins, KnownTo}
-use Rattle.entry_cascade.proofs.Pushed.{small, few, new-packed}
+use Rattle.entry_reach.specs.Entry.{KnownTo}
+use Rattle.entry_cascade.specs.Arriving.{TakenIn, Joins}
+use Rattle.entry_reach.proofs.Pushed.{small, few, new-packed}
 use Rattle.entry_cascade.proofs.Rolling.{Rolling, rolling-none, rolling-unsound, rolling-crowded, rolling-probing, rolling-ends, rolling-next, rolling-known, rolling-overflow}
 use Rattle.entry_cascade.proofs.pushing.push_along.Statement.{statement}
 use Rattle.entry_cascade.proofs.pushing.push_along.Tie as tie
@@ -189,8 +190,8 @@ shared-slice-read-most c = let x = c .before .before .before .before .before .be
 cast-most : tie.Need-cast-most Inv-loop μ-loop
 cast-most c = omega (arith, c .shared-slice-known5 .given (head (c .before .before .before .before .before .before) .loop .at))
 
-settle-page-requires : tie.Need-settle-page-requires Inv-loop μ-loop
-settle-page-requires c κs =
+lower-page-requires : tie.Need-lower-page-requires Inv-loop μ-loop
+lower-page-requires c κs =
     let x = c .before .before .before .before .before .before .before .before .before in
     let h = head x in
     let s = start x in
@@ -209,7 +210,7 @@ settle-page-requires c κs =
 
 -- from the page's plan on
 abbrev Settled : Type 0
-Settled = tie.After-settle-page Inv-loop μ-loop
+Settled = tie.After-lower-page Inv-loop μ-loop
 
 abbrev taken : Settled → Place
 taken y = y .before .before .before .before .before .before .before .before .before .before
@@ -218,13 +219,13 @@ abbrev value : Settled → ℕ
 value y = y .before .before .before .before .before .before .reach .given .0 .0
 
 same-length-7 : tie.Need-same-length-7 Inv-loop μ-loop
-same-length-7 c = let y = c .before .before .before .before .before .before .before in y .settle-page .kept .1 .1 .1 .0 ∙ head (taken y) .loop .inv .0
+same-length-7 c = let y = c .before .before .before .before .before .before .before in y .lower-page .kept .1 .1 .1 .0 ∙ head (taken y) .loop .inv .0
 
 same-length-8 : tie.Need-same-length-8 Inv-loop μ-loop
-same-length-8 c = let y = c .before .before .before .before .before .before .before in y .settle-page .kept .1 .1 .1 .1 .0 ∙ waiting-kept (taken y)
+same-length-8 c = let y = c .before .before .before .before .before .before .before in y .lower-page .kept .1 .1 .1 .1 .0 ∙ waiting-kept (taken y)
 
 same-length-9 : tie.Need-same-length-9 Inv-loop μ-loop
-same-length-9 c = let y = c .before .before .before .before .before .before .before in y .settle-page .kept .1 .1 .1 .1 .1 .0 ∙ head (taken y) .loop .inv .1 .1 .0
+same-length-9 c = let y = c .before .before .before .before .before .before .before in y .lower-page .kept .1 .1 .1 .1 .1 .0 ∙ head (taken y) .loop .inv .1 .1 .0
 
 returns-3 : tie.Need-returns-3 Inv-loop μ-loop
 returns-3 c =
@@ -235,7 +236,7 @@ returns-3 c =
     let e = s .pre .0 in
     rolling-ends (s .args .geometry .parameters) (s .args .geometry .growth) (file s) (s .args .number) (s .args .page) (e .ready .homing .valid) (e .ready .sized) (e .number) (e .unheld) (e .here)
     (h .loop .pool) (h .loop .planned) (h .loop .waiting) (h .loop .at) (h .loop .from) (h .loop .end) (rolls h) (inside x) (x .take-in .last .1 .1 .1 .1 .1 .1 .1 .0) (value y) (joins x (value y) (y .before .before .before .before .before .before .reach .given .1)) (pool-long h) (planned-long h)
-    (y .settle-page .last .1 .1 .1 .0) (y .settle-page .last .1 .1 .1 .1 .1 .0) (y .settle-page .last .1 .1 .1 .1 .0) (y .settle-page .result) (y .settle-page .ensures) (y .settle-page .kept .1 .1 .1 .1 .0) (c .if1 .taken)
+    (y .lower-page .last .1 .1 .1 .0) (y .lower-page .last .1 .1 .1 .1 .1 .0) (y .lower-page .last .1 .1 .1 .1 .0) (y .lower-page .result) (y .lower-page .ensures) (y .lower-page .kept .1 .1 .1 .1 .0) (c .if1 .taken)
 
 add-at : tie.Need-add-at Inv-loop μ-loop
 add-at c = let x = taken (c .before .before .before .before .before .before .before) in omega (arith, inside x, bounds (start x) .pages-most)
@@ -250,18 +251,18 @@ loop-again c =
     let h = head x in
     let s = start x in
     let e = s .pre .0 in (
-      y .settle-page .kept .1 .1 .1 .0 ∙ h .loop .inv .0,
+      y .lower-page .kept .1 .1 .1 .0 ∙ h .loop .inv .0,
       (
-        y .settle-page .kept .1 .1 .1 .1 .0 ∙ (x .take-in .kept .1 .1 .1 .1 .1 .1 .1 .0 ∙ h .loop .inv .1 .0),
+        y .lower-page .kept .1 .1 .1 .1 .0 ∙ (x .take-in .kept .1 .1 .1 .1 .1 .1 .1 .0 ∙ h .loop .inv .1 .0),
         (
-          y .settle-page .kept .1 .1 .1 .1 .1 .0 ∙ h .loop .inv .1 .1 .0,
+          y .lower-page .kept .1 .1 .1 .1 .1 .0 ∙ h .loop .inv .1 .1 .0,
           (
             rolling-known (s .args .geometry .parameters) (s .args .geometry .growth) (file s) (s .args .number) (s .args .page) (e .ready .homing .valid) (e .ready .sized) (e .number) (e .unheld) (e .here)
                 (h .loop .pool) (h .loop .planned) (h .loop .waiting) (h .loop .at) (h .loop .from) (h .loop .end) (rolls h) (inside x) (x .take-in .last .1 .1 .1 .1 .1 .1 .1 .0) (value y) (joins x (value y) (y .before .before .before .before .before .before .reach .given .1)) (pool-long h) (planned-long h)
-                (y .settle-page .last .1 .1 .1 .0) (y .settle-page .last .1 .1 .1 .1 .1 .0) (y .settle-page .last .1 .1 .1 .1 .0) (y .settle-page .result) (y .settle-page .ensures) (s .args .tested) (h .loop .inv .1 .1 .1 .0),
+                (y .lower-page .last .1 .1 .1 .0) (y .lower-page .last .1 .1 .1 .1 .1 .0) (y .lower-page .last .1 .1 .1 .1 .0) (y .lower-page .result) (y .lower-page .ensures) (s .args .tested) (h .loop .inv .1 .1 .1 .0),
             rolling-next (s .args .geometry .parameters) (s .args .geometry .growth) (file s) (s .args .number) (s .args .page) (e .ready .homing .valid) (e .ready .sized) (e .number) (e .unheld) (e .here)
                 (h .loop .pool) (h .loop .planned) (h .loop .waiting) (h .loop .at) (h .loop .from) (h .loop .end) (rolls h) (inside x) (x .take-in .last .1 .1 .1 .1 .1 .1 .1 .0) (value y) (joins x (value y) (y .before .before .before .before .before .before .reach .given .1)) (pool-long h) (planned-long h)
-                (y .settle-page .last .1 .1 .1 .0) (y .settle-page .last .1 .1 .1 .1 .1 .0) (y .settle-page .last .1 .1 .1 .1 .0) (y .settle-page .result) (y .settle-page .ensures) (y .settle-page .kept .1 .1 .1 .1 .0) (c .if1 .left),
+                (y .lower-page .last .1 .1 .1 .0) (y .lower-page .last .1 .1 .1 .1 .1 .0) (y .lower-page .last .1 .1 .1 .1 .0) (y .lower-page .result) (y .lower-page .ensures) (y .lower-page .kept .1 .1 .1 .1 .0) (c .if1 .left),
           ),
         ),
       ),
@@ -309,7 +310,7 @@ push-along-spec =
     enum-known-reach
     shared-slice-read-most
     cast-most
-    settle-page-requires
+    lower-page-requires
     same-length-7
     same-length-8
     same-length-9

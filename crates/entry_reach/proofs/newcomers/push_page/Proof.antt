@@ -100,8 +100,8 @@ joined : (x : Place) → slice (start x .args .from) (x .join-page .result) (com
     ≡ slice (start x .args .from) (start x .args .end) (now (start x .args .waiting)) ++ pageWords (start x .args .geometry .parameters) (start x .args .geometry .growth) (file (start x)) (start x .args .page)
 joined x = met-joined (start x .args .from) (start x .args .end) (x .join-page .result) (now (start x .args .waiting)) (come x) _ (start x .pre .1 .1 .1 .1 .0) (within (start x)) (words x)
 
-settle-page-requires : tie.Need-settle-page-requires
-settle-page-requires c κs =
+lower-page-requires : tie.Need-lower-page-requires
+lower-page-requires c κs =
     let x = c .before .before .before .before .before in
     let s = start x in
     let p = s .args .geometry .parameters in
@@ -130,7 +130,7 @@ returns : tie.Need-returns
 returns c =
     let y = c .before .before .before .before .before .before in
     let x = y .before .before .before .before .before .before in
-    record { ends = ends x; lowered = rw (joined x) at (y .settle-page .ensures) }
+    record { ends = ends x; lowered = rw (joined x) at (y .lower-page .ensures) }
 
 pub push-page-spec : {M : Type 1} → statement M
 push-page-spec =
@@ -140,7 +140,7 @@ push-page-spec =
     shared-slice-read-stored
     cast-stored
     join-page-requires
-    settle-page-requires
+    lower-page-requires
     same-length
     same-length-2
     same-length-3

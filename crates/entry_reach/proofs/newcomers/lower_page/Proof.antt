@@ -6,8 +6,8 @@ use borrow.Author.Needs.{needs}
 use Rattle.hashing.proofs.Bounds.{limits}
 use Rattle.page_separator.proofs.Cutting.{separator-most}
 use Rattle.entry_reach.proofs.Settled.{page-lowered}
-use Rattle.entry_reach.proofs.newcomers.settle_page.Statement.{statement}
-use Rattle.entry_reach.proofs.newcomers.settle_page.Tie as tie
+use Rattle.entry_reach.proofs.newcomers.lower_page.Statement.{statement}
+use Rattle.entry_reach.proofs.newcomers.lower_page.Tie as tie
 
 cast-places : tie.Need-cast-places
 cast-places c = search needs
@@ -60,8 +60,8 @@ returns c =
     let d = c .before .before .before .before .before .before .before .before .settle-under in
     page-lowered (a .parameters) (a .page) (a .most) (slice (a .from) (a .reach) (now (a .waiting))) (a .reach) (now (a .waiting)) (d .last .1 .1 .1 .0) (d .last .1 .1 .1 .1 .1 .1 .1 .0) (now (a .pool)) (c .before .before .store-sources .last .0) (now (a .planned)) (d .result) (d .ensures .0) (c .before .before .store-sources .ensures) (s .pre .1 .1 .1 .0)
 
-pub settle-page-spec : {M : Type 1} → statement M
-settle-page-spec =
+pub lower-page-spec : {M : Type 1} → statement M
+lower-page-spec =
     tie.close
     (tie.spec
     cast-places
