@@ -122,7 +122,7 @@ pub fn carry(
     poolwords: &mut [u64],
     poolowners: &mut [u8],
 ) -> Recorded
-    ensures { λ r. ⌜ LeavesStep (carryOf parameters growth (before separators numbers words owners) newparameters newgrowth
+    ensures leaves { λ r. ⌜ LeavesStep (carryOf parameters growth (before separators numbers words owners) newparameters newgrowth
         (before secondseparators secondnumbers secondwords secondowners) (poolBefore poolnumbers poolwords poolowners))
         r (after secondseparators secondnumbers secondwords secondowners) (poolAfter poolnumbers poolwords poolowners) ⌝ }
 {

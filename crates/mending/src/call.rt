@@ -131,7 +131,7 @@ pub fn mend(
     poolwords: &mut [u64],
     poolowners: &mut [u8],
 ) -> Placed
-    ensures { λ r. ⌜ Leaves (mendUnder parameters growth (before separators numbers words owners) (poolBefore poolnumbers poolwords poolowners))
+    ensures leaves { λ r. ⌜ Leaves (mendUnder parameters growth (before separators numbers words owners) (poolBefore poolnumbers poolwords poolowners))
         (placed r) (after separators numbers words owners) (poolAfter poolnumbers poolwords poolowners) ⌝ }
 {
     if !at_rest(growth) {
