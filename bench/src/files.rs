@@ -210,3 +210,17 @@ pub fn one_home(random: &mut Random) -> (File, u32) {
     let last = stars.pop().unwrap();
     (present::laid_out(ONE_HOME, &stars).unwrap(), last)
 }
+
+/// The largest file with so many pages addressed and a star on every place, as no call leaves it: numbers falling, or copies of seven stars.
+pub fn hostile(pages: usize, copies: bool) -> File {
+    let mut library = today(&File::empty(SIZES[2]));
+    while library.file().addressed() < pages {
+        assert_eq!(library.grow().refusal, 0);
+    }
+    let mut file = library.file();
+    for (place, number) in (0_u32..).zip(&mut file.numbers) {
+        *number = if copies { 1 + place % 7 * 1_000_003 } else { 2_147_480_000 - place };
+    }
+    file.words.fill(1);
+    file
+}

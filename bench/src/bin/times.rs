@@ -358,6 +358,20 @@ fn one_home(report: &mut Report, random: &mut Random) {
     shrink_row(table, FEW_RUNS, &name("shrink"), &file);
 }
 
+/// Mendings of pages that hold what no call leaves.
+fn hostile_mendings(report: &mut Report) {
+    for (name, pages, copies) in [
+        ("mend, 32,768 numbers falling, 640 pages addressed", 640, false),
+        ("mend, 32,768 numbers falling, 992 pages addressed", 992, false),
+        ("mend, 32,768 copies of seven stars", 992, true),
+    ] {
+        let file = files::hostile(pages, copies);
+        let [clearing, ..] = floors(&file);
+        let table = &mut report.table(&file, &clearing, true);
+        copied_row(table, FEW_RUNS, name, &mut prepared(&file, &[Kind::Mend], &[]), Kind::Mend);
+    }
+}
+
 /// One line for each call with a figure for each file; none where a file has none.
 fn by_file(files: &[Vec<Row>], figure: impl Fn(&Row) -> Option<String>) {
     println!("| call | {} |", files.iter().map(|rows| rows[0].size.as_str()).collect::<Vec<_>>().join(" | "));
@@ -433,6 +447,7 @@ fn main() {
     }
     long_calls(&mut report, &mut random);
     one_home(&mut report, &mut random);
+    hostile_mendings(&mut report);
 
     report.section("Small pages and other loads");
     heading(older);

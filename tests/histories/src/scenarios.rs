@@ -137,14 +137,20 @@ pub fn sound_growths_in_steps(tester: &mut Tester) {
         return;
     }
     for steps in 0..parameters.pages {
-        tester.expect(after.second == second_after(&parameters, &finished.file, steps), "other pages are done than the first");
+        tester.expect(
+            after.second == second_after(&parameters, &finished.file, steps),
+            "other pages are done than the first",
+        );
         tester.expect(last.record == Record { growth, open: true, steps }, "another record than after so many steps");
         lent.second = after.second;
         random_pool(&mut tester.random, &mut lent);
         (last, after) = tester.compare(&Call { kind: Kind::Step, record: last.record, ..grow }, &lent);
     }
     tester.expect(after.second == finished.file, "the last step leaves another file than the growth at once");
-    tester.expect((last.page, last.record) == (grown.page, grown.record), "the last step answers otherwise than the growth at once");
+    tester.expect(
+        (last.page, last.record) == (grown.page, grown.record),
+        "the last step answers otherwise than the growth at once",
+    );
 }
 
 /// The first, a middle and the last steps of a growth of a large file.
