@@ -360,15 +360,19 @@ fn one_home(report: &mut Report, random: &mut Random) {
 
 /// Mendings of pages that hold what no call leaves.
 fn hostile_mendings(report: &mut Report) {
-    for (name, pages, copies) in [
-        ("mend, 32,768 numbers falling, 640 pages addressed", 640, false),
-        ("mend, 32,768 numbers falling, 992 pages addressed", 992, false),
-        ("mend, 32,768 copies of seven stars", 992, true),
+    for (name, pages, copies, refusal) in [
+        ("mend, 32,768 numbers falling, 640 pages addressed", 640, false, 8),
+        ("mend, 32,768 numbers falling, 992 pages addressed", 992, false, 8),
+        ("mend, 32,768 copies of seven stars", 992, true, 0),
     ] {
         let file = files::hostile(pages, copies);
         let [clearing, ..] = floors(&file);
         let table = &mut report.table(&file, &clearing, true);
-        copied_row(table, FEW_RUNS, name, &mut prepared(&file, &[Kind::Mend], &[]), Kind::Mend);
+        let mut libraries = prepared(&file, &[Kind::Mend], &[]);
+        let times = restored(FEW_RUNS, &mut libraries, |library| {
+            u32::from(library.call(Kind::Mend, 0, 0, 0).refusal != refusal)
+        });
+        table.row(name, &times);
     }
 }
 
