@@ -275,13 +275,15 @@ type Address = unsafe extern "C" fn();
 enum Form {
     /// As include/heatherplane.h declares it.
     Numbers,
+    /// The same without a record in the reply, as crate starfile_c exported four calls for C before version 0.9.
+    FirstNumbers,
     /// As crate starfile_tests exported all calls before.
     Structs,
 }
 
 /// The functions of a library.
 pub struct Exports {
-    form: Form,
+    forms: [Form; Kind::ALL.len()],
     addresses: [Option<Address>; Kind::ALL.len()],
 }
 
@@ -317,19 +319,21 @@ impl Exports {
     /// # Safety
     /// A name of the header, or of crate starfile_tests before version 0.9, has that function's address.
     pub unsafe fn find(address: impl Fn(&str) -> Option<Address>) -> Option<Exports> {
-        let form = match (address("heatherplane_look_up"), address("sft_look_up")) {
-            (Some(_), _) => Form::Numbers,
-            (None, Some(_)) => Form::Structs,
-            (None, None) => return None,
-        };
-        let mut addresses = [None; Kind::ALL.len()];
-        for (kind, name, older) in NAMES {
-            addresses[kind as usize] = match form {
-                Form::Numbers => address(&format!("heatherplane_{name}")),
-                Form::Structs => address(&format!("sft_{older}")),
-            };
+        let older = address("sft_look_up").is_some();
+        if !older && address("heatherplane_look_up").is_none() {
+            return None;
         }
-        Some(Exports { form, addresses })
+        let mut exports = Exports { forms: [Form::Numbers; Kind::ALL.len()], addresses: [None; Kind::ALL.len()] };
+        for (kind, name, structs) in NAMES {
+            let (form, found) = match (older, address(&format!("heatherplane_{name}"))) {
+                (false, numbers) => (Form::Numbers, numbers),
+                (true, Some(numbers)) => (Form::FirstNumbers, Some(numbers)),
+                (true, None) => (Form::Structs, address(&format!("sft_{structs}"))),
+            };
+            exports.forms[kind as usize] = form;
+            exports.addresses[kind as usize] = found;
+        }
+        Some(exports)
     }
 
     pub fn has(&self, kind: Kind) -> bool {
@@ -338,10 +342,11 @@ impl Exports {
 
     /// Runs one call.
     pub fn run(&self, call: &Call, lent: &mut Buffers) -> Outcome {
-        let outcome = match self.form {
+        let outcome = match self.forms[call.kind as usize] {
             _ if call.kind == Kind::Report => return add_report(self, call, lent),
             _ if call.kind == Kind::Filing => return file_reports(self, call, lent),
             Form::Numbers => numbers(self, call, lent).outcome(),
+            Form::FirstNumbers => first_numbers(self, call, lent).outcome(call.record),
             Form::Structs => structs(self, call, lent).outcome(),
         };
         match call.kind {
@@ -394,6 +399,35 @@ fn file_reports(e: &Exports, call: &Call, lent: &mut Buffers) -> Outcome {
     match refusal {
         1 | 2 | 16 => Outcome { refusal, page, place, ..none },
         _ => Outcome { inner: Refused { refusal, page, place }, ..none },
+    }
+}
+
+/// What the four functions of crate starfile_c answered; none of them changes the record.
+#[repr(C)]
+struct FirstReply {
+    refusal: u32,
+    page: u32,
+    place: u32,
+    ra: u32,
+    dec: i32,
+    found: bool,
+}
+
+impl FirstReply {
+    fn outcome(self, record: Record) -> Outcome {
+        let FirstReply { refusal, page, place, ra, dec, found } = self;
+        Outcome { refusal, page, place, found: found.into(), ra, dec, record, ..Outcome::default() }
+    }
+}
+
+fn first_numbers(e: &Exports, call: &Call, lent: &mut Buffers) -> FirstReply {
+    match call.kind {
+        Kind::LookUp => c!(e, call, lent -> FirstReply: parameters record read number),
+        Kind::Enter | Kind::Cascade => {
+            c!(e, call, lent -> FirstReply: parameters record written pool caller number position)
+        }
+        Kind::Remove => c!(e, call, lent -> FirstReply: parameters record written pool caller number),
+        kind => panic!("an older library has no {} for C", kind.name()),
     }
 }
 
@@ -482,7 +516,7 @@ pub fn run_on_record(call: &Call, lent: &mut Buffers) -> Outcome {
     addresses[Kind::Shrink as usize] = Some(sft_record_shrink as Address);
     addresses[Kind::Open as usize] = Some(sft_record_open_growth as Address);
     addresses[Kind::Step as usize] = Some(sft_record_step_growth as Address);
-    let e = Exports { form: Form::Structs, addresses };
+    let e = Exports { forms: [Form::Structs; Kind::ALL.len()], addresses };
     let RecordReply { refusal, page, place, record } = match call.kind {
         Kind::Grow | Kind::Shrink => c!(e, call, lent -> RecordReply: parameters_struct record_struct written pool),
         _ => c!(e, call, lent -> RecordReply: parameters_struct record_struct read second pool),
