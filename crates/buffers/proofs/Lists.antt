@@ -24,13 +24,18 @@ map-drop f zero l = refl
 map-drop f (suc n) [] = refl
 map-drop f (suc n) (x ∷ l) = map-drop f n l
 
+pub map-item : (f : ℕ → ℕ) (l : List ℕ) (j : ℕ) → j < length l → getD (map f l) j 0 ≡ f (getD l j 0)
+map-item f [] j h = absurd (not-suc-le-zero h)
+map-item f (x ∷ l) zero h = refl
+map-item f (x ∷ l) (suc j) h = map-item f l j (omega arith)
+
 -- within a list the default is not met
 pub within : (l : List ℕ) (new item : ℕ) → item < length l → getD l item new ≡ getD l item 0
 within [] new item h = absurd (not-suc-le-zero h)
 within (x ∷ xs) new zero h = refl
 within (x ∷ xs) new (suc i) h = within xs new i (omega arith)
 
-zeros-item : (n i : ℕ) → getD (replicate {A = ℕ} n 0) i 0 ≡ 0
+pub zeros-item : (n i : ℕ) → getD (replicate {A = ℕ} n 0) i 0 ≡ 0
 zeros-item zero i = refl
 zeros-item (suc n) zero = refl
 zeros-item (suc n) (suc i) = zeros-item n i

@@ -89,7 +89,7 @@ made-by after a g f pool e = (leaves after a g f pool e, sym (ap (λ (x : After)
 
 -- Refusals 1 and 2 by the guard that the calls begin with
 
-unlent-most : (p : Parameters) (g : Growth) (lengths : Bool) → unlent p g lengths ≤ 2
+pub unlent-most : (p : Parameters) (g : Growth) (lengths : Bool) → unlent p g lengths ≤ 2
 unfolding unlent
 unlent-most p g lengths = go (validParameters p && validGrowth p g) lengths
   where

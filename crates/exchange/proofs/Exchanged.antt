@@ -36,7 +36,7 @@ use Rattle.calls.specs.Answers.{After, Pool, spotted, accepted, refused, counte
 use Rattle.calls.specs.Calls.{unless, orElse, unlent, guarded, unchanged, fileFits, poolFits, checkOf}
 use Rattle.calls.specs.Records.{validSteps, closedRecord, unlessOpen}
 use Rattle.calls.proofs.Accepting.{check-clean}
-use Rattle.calls.proofs.Refusals.{unlent-facts, well-lent, sized, items-most}
+use Rattle.calls.proofs.Refusals.{unlent-most, unlent-facts, well-lent, sized, items-most}
 use Rattle.calls.proofs.Ruled.{all-sound, accepts-clean}
 use Rattle.fits_table.specs.declared.cards.Table.{Table}
 use Rattle.fits_table.specs.declared.cards.Table.the-variants.{Rows, Nothing}
@@ -155,15 +155,6 @@ Neither n = (n ≡ 10 → ⊥) × (n ≡ 11 → ⊥)
 neither-few : (n : ℕ) → n ≤ 9 → Neither n
 neither-few n h = (λ e. omega arith, λ e. omega arith)
 
-unlent-few : (p : Parameters) (g : Growth) (lengths : Bool) → unlent p g lengths ≤ 2
-unfolding unlent
-unlent-few p g lengths = go (validParameters p && validGrowth p g) lengths
-  where
-    go : (s t : Bool) → orElse (unless s 1) (unless t 2) ≤ 2
-    go true true = omega arith
-    go true false = omega arith
-    go false t = omega arith
-
 guarded-neither : (g : Growth) (f : File) (pool : Pool) (n : ℕ) (after : After) → n ≤ 9 → Neither (after .answer .refusal) → Neither (guarded g f pool n after .answer .refusal)
 unfolding spotted
 guarded-neither g f pool zero after h k = k
@@ -179,7 +170,7 @@ under-neither p r lengths f pool after k = go (validSteps p r) (r .growing)
     go false u = neither-few 1 (omega arith)
     go true true =
         guarded-neither (r .state) f pool (unlent p (r .state) lengths) (unchanged (r .state) f (cleared pool) (refused 16 0))
-        (omega (arith, unlent-few p (r .state) lengths)) (λ e. omega arith, λ e. omega arith)
+        (omega (arith, unlent-most p (r .state) lengths)) (λ e. omega arith, λ e. omega arith)
     go true false = k
 
 read-neither : (p : Parameters) (g : Growth) (f : File) (pool : Pool) (w : List Star) → Neither (readTo p g f pool w .answer .refusal)
@@ -197,7 +188,7 @@ written-is-taken p r f out e q s second pool =
     let w = wrote p r f out e in
     rw (put-table p r f out w)
     (under-neither q s (fileFits q second && poolFits q pool) second pool _
-    (guarded-neither (s .state) second pool (unlent q (s .state) (fileFits q second && poolFits q pool)) _ (omega (arith, unlent-few q (s .state) (fileFits q second && poolFits q pool)))
+    (guarded-neither (s .state) second pool (unlent q (s .state) (fileFits q second && poolFits q pool)) _ (omega (arith, unlent-most q (s .state) (fileFits q second && poolFits q pool)))
     (rw (taken-on q (s .state) second (cleared pool) (tableFrom p f) (length (map rowOfStar (allStars p f))) (taken p r f out w))
     (read-neither q (s .state) second (cleared pool) (starsRead (tableFrom p f) (length (map rowOfStar (allStars p f))))))))
 

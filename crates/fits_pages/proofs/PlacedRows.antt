@@ -10,6 +10,7 @@ use lib.Dec.{leb, ltb, eqb}
 use lib.ListN.{length, getD, take, drop, replicate, length-map, length-replicate, drop-of-length-le}
 use lib.Seq.{take-all, paste, slice}
 use borrow.Author.Tests.{ltb-true, lt-ltb, ne-eqb, leb-true}
+use Rattle.buffers.proofs.Lists.{map-item}
 use Rattle.buffers.specs.Lists.{written}
 use Rattle.buffers.proofs.Tests.{and-true}
 use Rattle.hashing.specs.declared.Geometry.{Geometry}
@@ -47,7 +48,7 @@ use Rattle.fits_table.specs.declared.rows.Row.the-variants.{Star as Row·Star, 
 use Rattle.fits_table.specs.Rows.{from32, positionAt, rowAnswer, rowAt, goodAfter, goodRows, rowsRead, RowsUp}
 use Rattle.fits_table.proofs.Reading.{length-read}
 use Rattle.fits_pages.specs.Columns.{numbersRead, wordsRead, homesRead, keysFrom, rowKeys, rowStars, PlansRows}
-use Rattle.fits_pages.proofs.ReadColumns.{numbers-long, words-long, map-item}
+use Rattle.fits_pages.proofs.ReadColumns.{numbers-long, words-long}
 use Rattle.fits_pages.proofs.RowKeys.{homes-long, row-keys-long, rows-keyed}
 
 -- good rows rise and are valid

@@ -1,12 +1,13 @@
 -- A row's number and word in the columns, by its source.
 use mathlib.Core.Path.{_≡_, refl, sym, ap, _∙_}
 use mathlib.Core.Bool.{true}
-use mathlib.Core.List.{List, [], _∷_, map}
+use mathlib.Core.List.{List, map}
 use Prim.Native.Nat.{ℕ, zero, suc, _+_, _-_, _*_, _≤_, _<_}
 use native.Mathlib.Nat.{zero-add}
 use native.Mathlib.Omega.{arith}
 use lib.ListN.{length, getD, set, take, drop, length-map, length-drop, List·getD-eq-default}
 use lib.Seq.{paste, getD-drop, take-paste}
+use Rattle.buffers.proofs.Lists.{map-item}
 use Rattle.buffers.proofs.Copies.{Copied, turn}
 use Rattle.buffers.proofs.Written.{pasted-whole}
 use Rattle.pages.specs.Position.{packed}
@@ -75,11 +76,6 @@ module _ (l : List ℕ) (n s : ℕ) (g : goodRows 0 l 5760 n ≡ true) (h : s �
       omega arith
 
 -- columns filled item by item
-
-pub map-item : (f : ℕ → ℕ) (l : List ℕ) (j : ℕ) → j < length l → getD (map f l) j 0 ≡ f (getD l j 0)
-map-item f [] j b = absurd (omega arith)
-map-item f (y ∷ l) zero b = refl
-map-item f (y ∷ l) (suc j) b = map-item f l j (omega arith)
 
 pub block-next : (ns B₀ B : List ℕ) (first i x : ℕ) → i < length B₀ → first + i < length ns → x ≡ getD ns (first + i) 0 → Copied B₀ 0 (drop first ns) B i
     → Copied B₀ 0 (drop first ns) (set B i x) (i + 1)

@@ -11,7 +11,7 @@ use lib.ListN.{length, getD, set, take, drop, length-map, length-take}
 use lib.Seq.{paste, take-all, take-paste, length-take-le}
 use borrow.Author.Tests.{lt-ltb}
 use Rattle.buffers.proofs.Copies.{Copied, turn}
-use Rattle.buffers.proofs.Lists.{map-take, map-drop}
+use Rattle.buffers.proofs.Lists.{map-take, map-drop, map-item}
 use Rattle.reach.proofs.Pastes.{paste-more}
 use Rattle.hashing.specs.declared.Geometry.{Geometry}
 use Rattle.hashing.specs.Limits.{validParameters, validGrowth}
@@ -21,7 +21,7 @@ use Rattle.page_separator.specs.Lists.{allBelow}
 use Rattle.page_separator.proofs.Lists.{all-items}
 use Rattle.page_plan.specs.Keys.{starKey, Keyed}
 use Rattle.fits_pages.specs.Columns.{numbersRead, homesRead, keysFrom, rowKeys}
-use Rattle.fits_pages.proofs.ReadColumns.{numbers-long, map-item}
+use Rattle.fits_pages.proofs.ReadColumns.{numbers-long}
 
 pub length-keys : (at : ℕ) (hs : List ℕ) → length (keysFrom at hs) ≡ length hs
 unfolding keysFrom

@@ -38,9 +38,12 @@ fn store_pages(
     requires { ⌜ ((lo + count) * places ≤ length (now words)) × ((lo + count) * places ≤ length (now poolwords)) ⌝ }
     requires { ⌜ ((lo + count) * places ≤ length (now owners)) × ((lo + count) * places ≤ length (now poolowners)) ⌝ }
     ensures { λ r. ⌜ r ≡ enough limit (changedPages upward places lo count (before numbers words owners) (before poolnumbers poolwords poolowners)) ⌝ }
-    ensures { λ _. ⌜ now (numbers .exit) ≡ columnStored places (now (poolnumbers .entry)) (take limit (changedPages upward places lo count (before numbers words owners) (before poolnumbers poolwords poolowners))) (now (numbers .entry)) ⌝ }
-    ensures { λ _. ⌜ now (words .exit) ≡ columnStored places (now (poolwords .entry)) (take limit (changedPages upward places lo count (before numbers words owners) (before poolnumbers poolwords poolowners))) (now (words .entry)) ⌝ }
-    ensures { λ _. ⌜ now (owners .exit) ≡ columnStored places (now (poolowners .entry)) (take limit (changedPages upward places lo count (before numbers words owners) (before poolnumbers poolwords poolowners))) (now (owners .entry)) ⌝ }
+    ensures { λ _. ⌜ now (numbers .exit) ≡ columnStored places (now (poolnumbers .entry)) (take limit
+        (changedPages upward places lo count (before numbers words owners) (before poolnumbers poolwords poolowners))) (now (numbers .entry)) ⌝ }
+    ensures { λ _. ⌜ now (words .exit) ≡ columnStored places (now (poolwords .entry)) (take limit
+        (changedPages upward places lo count (before numbers words owners) (before poolnumbers poolwords poolowners))) (now (words .entry)) ⌝ }
+    ensures { λ _. ⌜ now (owners .exit) ≡ columnStored places (now (poolowners .entry)) (take limit
+        (changedPages upward places lo count (before numbers words owners) (before poolnumbers poolwords poolowners))) (now (owners .entry)) ⌝ }
 {
     let mut stored = 0;
     let mut turn = 0;
@@ -97,10 +100,14 @@ pub fn store(
     requires { ⌜ ((lo + count) * places ≤ length (now words)) × ((lo + count) * places ≤ length (now poolwords)) ⌝ }
     requires { ⌜ ((lo + count) * places ≤ length (now owners)) × ((lo + count) * places ≤ length (now poolowners)) ⌝ }
     ensures { λ r. ⌜ r ≡ enough limit (changedPages upward places lo count (before numbers words owners) (before poolnumbers poolwords poolowners)) ⌝ }
-    ensures { λ _. ⌜ now (separators .exit) ≡ cond (enough limit (changedPages upward places lo count (before numbers words owners) (before poolnumbers poolwords poolowners))) (written lo (take count (drop lo (now (planned .entry)))) (now (separators .entry))) (now (separators .entry)) ⌝ }
-    ensures { λ _. ⌜ now (numbers .exit) ≡ columnStored places (now (poolnumbers .entry)) (take limit (changedPages upward places lo count (before numbers words owners) (before poolnumbers poolwords poolowners))) (now (numbers .entry)) ⌝ }
-    ensures { λ _. ⌜ now (words .exit) ≡ columnStored places (now (poolwords .entry)) (take limit (changedPages upward places lo count (before numbers words owners) (before poolnumbers poolwords poolowners))) (now (words .entry)) ⌝ }
-    ensures { λ _. ⌜ now (owners .exit) ≡ columnStored places (now (poolowners .entry)) (take limit (changedPages upward places lo count (before numbers words owners) (before poolnumbers poolwords poolowners))) (now (owners .entry)) ⌝ }
+    ensures { λ _. ⌜ now (separators .exit) ≡ cond (enough limit (changedPages upward places lo count (before numbers words owners)
+        (before poolnumbers poolwords poolowners))) (written lo (take count (drop lo (now (planned .entry)))) (now (separators .entry))) (now (separators .entry)) ⌝ }
+    ensures { λ _. ⌜ now (numbers .exit) ≡ columnStored places (now (poolnumbers .entry)) (take limit
+        (changedPages upward places lo count (before numbers words owners) (before poolnumbers poolwords poolowners))) (now (numbers .entry)) ⌝ }
+    ensures { λ _. ⌜ now (words .exit) ≡ columnStored places (now (poolwords .entry)) (take limit
+        (changedPages upward places lo count (before numbers words owners) (before poolnumbers poolwords poolowners))) (now (words .entry)) ⌝ }
+    ensures { λ _. ⌜ now (owners .exit) ≡ columnStored places (now (poolowners .entry)) (take limit
+        (changedPages upward places lo count (before numbers words owners) (before poolnumbers poolwords poolowners))) (now (owners .entry)) ⌝ }
 {
     let all = store_pages(
         numbers,

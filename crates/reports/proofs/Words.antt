@@ -6,9 +6,10 @@ use Prim.Native.Nat.{ℕ, zero, suc, _/_, _%_, _^_, _<_}
 use native.Mathlib.Nat.{pow-succ', not-suc-le-zero, le-of-suc-le-suc}
 use native.Mathlib.Omega.{arith}
 use lib.Dec.{eqb}
-use lib.ListN.{length, getD, set, replicate}
+use lib.ListN.{length, getD, set}
 use lib.Seq.{getD-set-same, getD-set-other}
 use borrow.Author.Tests.{eqb-true, eqb-false}
+use Rattle.buffers.proofs.Lists.{zeros-item}
 use Rattle.reports.specs.Bits.{withBit, bitSet, noBits, hashBit, marked}
 use Rattle.reports.specs.Reports.{Report, markedAll, filterOf}
 use Rattle.reports.proofs.Bits.{with-half, zero-half, length-bitSet}
@@ -52,11 +53,6 @@ words-all : (a : ℕ) (f : List ℕ) (xs : List Report) → length f ≡ 32 → 
 unfolding markedAll
 words-all a f [] size w = w
 words-all a f (x ∷ xs) size w = words-all a (marked a f (x .number)) xs (length-marked a f (x .number) ∙ size) (words-marked a f (x .number) size w)
-
-zeros-item : (n i : ℕ) → getD (replicate {A = ℕ} n 0) i 0 ≡ 0
-zeros-item zero i = refl
-zeros-item (suc n) zero = refl
-zeros-item (suc n) (suc i) = zeros-item n i
 
 words-none : Words noBits
 unfolding noBits

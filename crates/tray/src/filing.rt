@@ -57,7 +57,8 @@ pub fn file_tray(
     count: u32,
     filter: &mut [u64],
 ) -> Filing
-    ensures leaves { λ r. ⌜ FilesTray (filingOf parameters growth (before separators numbers words owners) (poolBefore poolnumbers poolwords poolowners) (trayOf (now (reports .entry)) count) (now (filter .entry)))
+    ensures leaves { λ r. ⌜ FilesTray (filingOf parameters growth (before separators numbers words owners) (poolBefore poolnumbers poolwords poolowners)
+        (trayOf (now (reports .entry)) count) (now (filter .entry)))
         (r .filed) (r .answer) (r .count) (after separators numbers words owners) (poolAfter poolnumbers poolwords poolowners) (now (reports .exit)) (now (filter .exit)) ⌝ }
 {
     let places = reports.len();

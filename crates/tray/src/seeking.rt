@@ -82,7 +82,8 @@ fn screen(
     filter: &[u64],
     number: u32,
 ) -> Screened
-    ensures { λ r. ⌜ (admissionNumber (r .admission) ≡ screenRefusal parameters growth (fileLengths parameters separators numbers words owners && trayLengths places count (length (now (filter .entry)))) number)
+    ensures { λ r. ⌜ (admissionNumber (r .admission) ≡ screenRefusal parameters growth
+        (fileLengths parameters separators numbers words owners && trayLengths places count (length (now (filter .entry)))) number)
         × ((r .reports ≡ scanned (admissionNumber (r .admission)) (passes (parameters .multiplier) (now (filter .entry)) number) count) × (r .reports ≤ places)) ⌝ }
 {
     let fits = all_fit(
@@ -140,7 +141,8 @@ fn answer(
     found: Latest,
 ) -> Found
     requires { ⌜ (admissionNumber (screened .admission) ≤ 3) ⌝ }
-    ensures { λ r. ⌜ sought r ≡ answeredUnless (admissionNumber (screened .admission)) (orPlain (parameters .pages) found (plainAnswer parameters growth (before separators numbers words owners) number)) ⌝ }
+    ensures { λ r. ⌜ sought r ≡ answeredUnless (admissionNumber (screened .admission))
+        (orPlain (parameters .pages) found (plainAnswer parameters growth (before separators numbers words owners) number)) ⌝ }
 {
     let admission = screened.admission;
     if let Admission::Refused(refusal) = admission {
