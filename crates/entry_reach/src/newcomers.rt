@@ -227,7 +227,7 @@ pub fn name_page(
 }
 
 // Whether the page's last place is empty.
-pub fn has_room(parameters: Parameters, numbers: &[u32], page: usize) -> bool
+fn has_room(parameters: Parameters, numbers: &[u32], page: usize) -> bool
     requires { ⌜ validParameters parameters ≡ true ⌝ }
     requires { ⌜ page < 1024 ⌝ }
     requires { ⌜ page * parameters .places + parameters .places ≤ length (now numbers) ⌝ }
