@@ -25,11 +25,11 @@ use Rattle.page_plan.proofs.Applying.{applied, applied-is}
 use Rattle.entry_reach.specs.declared.blocks.Reach.the-variants.{Ends}
 use Rattle.entry_reach.specs.Entry.{Unheld, newStar}
 use Rattle.entry_reach.proofs.Firsts.{such-is}
-use Rattle.entry_reach.specs.Pushing.{pageWords, loweredTo, loweredOn}
+use Rattle.entry_reach.specs.Pushing.{pageWords, loweredTo, loweredOn, Pushed}
 use Rattle.entry_cascade.specs.Cascade.{visited, overflow, stopOf, cascadeUnsound, Stopped, Spilled, Kept, Plans}
 use Rattle.entry_reach.proofs.Visiting.{cascaded-none, carried-none, cascaded-add, carried-add, visits-some}
 use Rattle.entry_reach.proofs.Tying.{parted}
-use Rattle.entry_reach.proofs.Pushed.{Pushed, pushed-next, carried-length}
+use Rattle.entry_reach.proofs.Pushed.{pushed-next, carried-length}
 
 not-empty : (l : List Star) → 0 < length l → isEmpty l ≡ false
 not-empty [] h = absurd (omega arith)

@@ -37,13 +37,13 @@ use Rattle.page_plan.proofs.Stretch.{sources-column}
 use Rattle.page_plan.proofs.Placed.{probes-real, new-homed}
 use Rattle.entry_reach.specs.declared.blocks.Reach.the-variants.{Ends}
 use Rattle.entry_reach.specs.Entry.{Unheld, entryStart, blockNumbers, blockWords}
-use Rattle.entry_reach.proofs.Items.{numbers-count, stretch-homes}
+use Rattle.entry_reach.proofs.Items.{numbers-count, items-few, stretch-homes}
 use Rattle.entry_reach.proofs.Joined.{newWord}
 use Rattle.entry_reach.specs.Pushing.{pageWords, loweredTo, loweredOn}
 use Rattle.entry_cascade.specs.Cascade.{Plans}
 use Rattle.entry_reach.proofs.Tying.{parted}
 use Rattle.entry_cascade.proofs.Appending.{stars-fewer, words-low}
-use Rattle.entry_reach.proofs.PageWords.{page-numbers, page-homed, page-named, items-few}
+use Rattle.entry_reach.proofs.PageWords.{page-numbers, page-homed, page-named}
 use Rattle.entry_cascade.proofs.Loading.{stars-count, loaded-numbers}
 use Rattle.entry_reach.proofs.Pushed.{pushed-none, pushed-next, page-inside, small, few}
 use Rattle.entry_cascade.proofs.Answers.{plans-ends}
@@ -156,7 +156,7 @@ module _ (p : Parameters) (g : Growth) (f : File) (k page : ℕ) (valid : validP
       unhomed-low =
           rw (same-numbers, stretch-homes p g f valid sized page 1 (omega (arith, inside)))
           (words-low (page * p .places) (blockNumbers p f page 1) (take (p .places) (replicate 32 0)) (map (homeIn p g) (blockNumbers p f page 1))
-          (page-numbers p g f valid sized page inside sound) (items-few p g f valid sized page inside sound)
+          (page-numbers p g f valid sized page inside sound) (items-few p g f valid sized page 1 (omega (arith, inside)))
           (omega (arith, numbers-long, zeros-long)) (omega (arith, length-map (blockNumbers p f page 1) (homeIn p g))))
 
       pub plans-fill : (pool planned pool′ W W′ slots : List ℕ) (x reach : ℕ) → length pool ≡ p .pages * p .places → p .pages ≤ length planned → 0 < length W → x ≡ newWord p g f k

@@ -7,7 +7,7 @@ use native.Mathlib.Nat.{add-zero, one-mul, suc-mul, mul-le-mul, mul-le-mul-right
 use native.Mathlib.Numerals.{add-one}
 use native.Mathlib.Omega.{arith}
 use lib.Dec.{leb}
-use lib.ListN.{length, take, drop, getD, set, length-append, length-take, length-drop, length-set}
+use lib.ListN.{length, take, drop, getD, set, length-append, length-take, length-set}
 use lib.Seq.{slice, length-slice, take-suc-set, drop-append-le, length-take-le}
 use Rattle.hashing.specs.declared.Parameters.{Parameters}
 use Rattle.hashing.specs.declared.Growth.{Growth}
@@ -15,9 +15,8 @@ use Rattle.hashing.specs.Limits.{validParameters}
 use Rattle.hashing.proofs.Bounds.{limits}
 use Rattle.pages.specs.Position.{validNumber}
 use Rattle.pages.specs.Page.{part}
-use Rattle.placement.specs.File.{File, Sized, written}
-use Rattle.placement.proofs.Writing.{part-back, length-column}
-use Rattle.buffers.proofs.Written.{around}
+use Rattle.placement.specs.File.{File, Sized}
+use Rattle.placement.proofs.Writing.{length-column}
 use Rattle.pages.proofs.Parts.{page-fits}
 use Rattle.placement.specs.Hash.{soundAt, namedPage}
 use Rattle.page_separator.specs.Words.{homeOf}
@@ -27,35 +26,16 @@ use Rattle.page_separator.proofs.Cutting.{separator-fits}
 use Rattle.entry_reach.specs.declared.blocks.Reach.the-variants.{Ends}
 use Rattle.entry_reach.specs.Entry.{Unheld, newStar, KnownTo}
 use Rattle.entry_reach.proofs.Joined.{newWord}
-use Rattle.entry_reach.specs.Pushing.{pageWords, loweredOn, Lowered}
+use Rattle.entry_reach.specs.Pushing.{pageWords, loweredOn, Lowered, Pushed}
 use Rattle.entry_cascade.specs.Arriving.{Joins, Crowds}
 use Rattle.entry_cascade.specs.Cascade.{Stopped, Spilled, Plans}
 use Rattle.entry_reach.proofs.Tying.{parted}
 use Rattle.entry_reach.proofs.PageWords.{page-near}
 use Rattle.entry_reach.proofs.Settled.{lowered-roomy}
 use Rattle.entry_cascade.proofs.Loading.{stars-room}
-use Rattle.entry_reach.proofs.Pushed.{Pushed, pushed-none, pushed-next}
+use Rattle.entry_reach.proofs.Pushed.{pushed-none, pushed-next}
+use Rattle.entry_reach.proofs.PushLoop.{part-past}
 use Rattle.entry_cascade.proofs.Answers.{plans-unsound, plans-overflow, plans-ends, plans-crowded}
-
--- a page after page p, of a list whose first parts are p pages and one more
-part-after : (b p q : ℕ) (xs ys zs : List ℕ) → length xs ≡ p * b → length ys ≡ b → p + 1 ≤ q → part b q (xs ++ (ys ++ zs)) ≡ part b (q - (p + 1)) zs
-part-after b p q xs ys zs ex ey h =
-    let sum : q ≡ p + (1 + (q - (p + 1))) = omega arith in
-    ap (λ (n : ℕ). part b n (xs ++ (ys ++ zs))) sum
-    ∙ part-back b p (1 + (q - (p + 1))) xs (ys ++ zs) ex
-    ∙ part-back b 1 (q - (p + 1)) ys zs (ey ∙ sym (one-mul b))
-
--- what is written on page p leaves the pages after it
-part-past : (b p q : ℕ) (s l : List ℕ) → length s ≡ b → p * b + b ≤ length l → p + 1 ≤ q → part b q (written (p * b) s l) ≡ part b q l
-unfolding written
-part-past b p q s l e long h =
-    part-after b p q (take (p * b) l) s (drop (p * b + length s) l) low e h
-    ∙ ap (λ (n : ℕ). part b (q - (p + 1)) (drop (p * b + n) l)) e
-    ∙ sym (part-after b p q (take (p * b) l) (take b (drop (p * b) l)) (drop (p * b + b) l) low (length-take-le b (drop (p * b) l) (omega (arith, length-drop (p * b) l))) h)
-    ∙ ap (part b q) (sym (around (p * b) b l))
-  where
-    low : length (take (p * b) l) ≡ p * b
-    low = length-take-le (p * b) l (omega arith)
 
 -- the pages below `at` are planned, and the words carried on stand from `from` up to `end`
 pub record Rolling (p : Parameters) (g : Growth) (f : File) (k page : ℕ) (pool planned W : List ℕ) (at from end : ℕ) : Type 0 where
@@ -131,7 +111,7 @@ module _ (p : Parameters) (g : Growth) (f : File) (k page : ℕ) (valid : validP
             page = omega (arith, limits p valid .pages-most);
             homes =
                 rw joined
-                (all-append (λ w. leb (homeOf w) at) (slice from end W) (pageWords p g f at) (rw (← R .place) at (R .carried .near)) (page-near p g f valid sized at inside (J .sound)));
+                (all-append (λ w. leb (homeOf w) at) (slice from end W) (pageWords p g f at) (rw (← R .place) at (R .carried .words .near)) (page-near p g f valid sized at inside (J .sound)));
           }
 
       module _ (lp : length pool ≡ p .pages * p .places) (ln : p .pages ≤ length planned) (pool′ planned′ W″ : List ℕ) (r : ℕ)

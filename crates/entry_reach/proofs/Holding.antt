@@ -5,6 +5,7 @@ use mathlib.Core.List.{List, [], _∷_, _++_, map, List·Memᴰ, List·Memᴰ·h
 use mathlib.Core.Logic.{⊎-elim}
 use Prim.Native.Nat.{ℕ, zero, suc, _+_, _-_, _*_, _≤_, _<_}
 use native.Mathlib.Nat.{add-zero, zero-add}
+use native.Mathlib.Decide.{decLt}
 use native.Mathlib.Omega.{arith}
 use lib.Dec.{eqb, ltb}
 use lib.ListN.{length, take, drop, getD, length-append, length-drop, take-append-drop}
@@ -26,12 +27,13 @@ use Rattle.page_plan.specs.Sources.{namedItem}
 use Rattle.page_plan.proofs.Applying.{applied}
 use Rattle.reach.proofs.Reaching.{is-empty}
 use Rattle.reach.specs.Reach.{pagesTo, entering, entersWithin, entryEnd, hasNumber, holding}
-use Rattle.reach.proofs.Search.{such}
+use Rattle.reach.proofs.Search.{Such, such}
 use Rattle.entry_reach.specs.declared.blocks.Reach.the-variants.{Ends, Unsound, Overflows}
 use Rattle.page_plan.specs.declared.outcome.Outcome.the-variants.{On, Unsound as outcome·Unsound, Overflows as outcome·Overflows}
 use Rattle.entry_reach.specs.Entry.{newStar, entryStart, entryLast, entryCount, entryUnsound, entryContents, reachAnswer, entryAnswer, entryFile, Applies, Decides}
 use Rattle.decision.specs.declared.chosen.Decision.the-variants.{Planned}
-use Rattle.entry_reach.proofs.Reached.{ending, unsound-ends, overflows-ends}
+use Rattle.entry_reach.specs.Blocks.{ending}
+use Rattle.entry_reach.proofs.Reached.{unsound-ends, overflows-ends}
 
 -- a part of a list's front
 taken-front : (m a n : ℕ) (l : List ℕ) → a + n ≤ m → take n (drop a (take m l)) ≡ take n (drop a l)
@@ -171,9 +173,21 @@ module _ (p : Parameters) (g : Growth) (f : File) (k word owner : ℕ) where
     unfolding reachAnswer entryFile
     file-way = ends-way unsoundHere entersHere last (entryUnsound p g f (newStar k word owner)) (entryLast p g f (newStar k word owner)) f (replaced (p .places) f (entryStart p g k) (entryContents p g f (newStar k word owner))) f e
 
-    pub last-least : entryStart p g k ≤ last
+    ending-such : Such (ending p g f (newStar k word owner)) (entryStart p g k) (p .pages - 1 - entryStart p g k) (entryLast p g f (newStar k word owner))
     unfolding entryEnd
-    last-least = rw (file-way .0) (such (ending p g f (newStar k word owner)) (entryStart p g k) (p .pages - 1 - entryStart p g k) .low)
+    ending-such = such (ending p g f (newStar k word owner)) (entryStart p g k) (p .pages - 1 - entryStart p g k)
+
+    pub last-least : entryStart p g k ≤ last
+    last-least = rw (file-way .0) (ending-such .low)
+
+    -- it ends at no page that the reach passes
+    pub last-past : (lo : ℕ) → lo < p .pages → ((q : ℕ) → entryStart p g k ≤ q → q < lo → ending p g f (newStar k word owner) q ≡ false) → lo ≤ last
+    last-past lo inside passed = go (decLt last lo)
+      where
+        go : Dec (last < lo) → lo ≤ last
+        go (yes l) =
+            absurd (false≢true (sym (passed (entryLast p g f (newStar k word owner)) (ending-such .low) (omega (arith, file-way .0, l))) ∙ ending-such .passes (omega (arith, file-way .0, l, inside))))
+        go (no l) = omega (arith, l)
 
     nothing-left : left (hashOf p g) (entryStart p g k) (entryCount p g f (newStar k word owner)) (entering (hashOf p g) f (newStar k word owner) (entryLast p g f (newStar k word owner))) ≡ []
     unfolding entersWithin
@@ -211,6 +225,20 @@ module _ (p : Parameters) (g : Growth) (f : File) (k word owner : ℕ) where
         (sym (take-append-drop n (drop (entryStart p g k) us)) ∙ ap (λ (l : List ℕ). l ++ drop n (drop (entryStart p g k) us)) parts) h
         (omega (arith, r .1, length-separators (entryContents p g f (newStar k word owner)), length-pages (hashOf p g) (entryStart p g k) (entryCount p g f (newStar k word owner)) (entering (hashOf p g) f (newStar k word owner) (entryLast p g f (newStar k word owner)))))
         ∙ sym (r .0)
+
+    -- the plan of pages `start` to `end` enters the star, and `planned′` has its separators, elsewhere any
+    pub written-decided : (pool planned planned′ : List ℕ) (start end on : ℕ) → entryStart p g k ≤ length (f .separators) → start ≤ end → end < p .pages → p .pages ≤ length planned′
+        → applied (p .places) start (end + 1 - start) k word owner pool planned f ≡ entryFile p g f (newStar k word owner)
+        → take (end + 1 - start) (drop start planned′) ≡ take (end + 1 - start) (drop start planned)
+        → on ≡ namedPage p g (written start (take (end + 1 - start) (drop start planned)) (f .separators)) k
+        → Decides p g f (newStar k word owner) pool planned′ (Planned start (end + 1 - start) on)
+    unfolding applied
+    written-decided pool planned planned′ start end on few low high long files same named =
+        record {
+          answers = ends-answer on (named ∙ ap (λ (x : File). namedPage p g (x .separators) k) files ∙ named-holds few);
+          files = rw same files;
+          feasible = (omega (arith, low, high), omega (arith, low, high, long));
+        }
 
     -- the separators that the plan has written for the reach
     module _ (pool planned : List ℕ) (sized : Sized (p .places) (p .pages) f) (high : last < p .pages) (long : p .pages ≤ length planned) (applies : Applies p g f k pool planned (Ends last)) where

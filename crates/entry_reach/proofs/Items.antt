@@ -53,6 +53,7 @@ pub record WordOn (p : Parameters) (g : Growth) (f : File) (lo n w : ℕ) : Type
   pub least : lo ≤ page
   pub most : page < lo + n
   pub homed : homeOf w ≤ page
+  pub named : namedPage p g (f .separators) (numberIn w) ≡ page
   pub above : (e : ℕ) → e < page → getD (f .separators) e 0 ≡ hashOf p g .top → e < homeOf w
   pub other : (k : ℕ) → Unheld p g f k → numberIn w ≡ k → ⊥
 
@@ -63,7 +64,7 @@ module _ (p : Parameters) (g : Growth) (f : File) (valid : validParameters p ≡
   pub numbers-count : length (blockNumbers p f lo n) ≡ n * p .places
   numbers-count = length-stretch (p .places) lo n (f .numbers) numbers-long
 
-  items-few : lo * p .places + length (blockNumbers p f lo n) < 2 ^ 16
+  pub items-few : lo * p .places + length (blockNumbers p f lo n) < 2 ^ 16
   items-few =
       let l = limits p valid in
       omega (arith, numbers-count, add-mul lo n (p .places), numbers-long, sized .ofNumbers, mul-le-mul (l .pages-most) (l .places-most))
@@ -194,6 +195,7 @@ module _ (p : Parameters) (g : Growth) (f : File) (valid : validParameters p ≡
           least = omega arith;
           most = omega (arith, low i short);
           homed = omega (arith, there, item-there i short .star star .homed);
+          named = ap (namedPage p g (f .separators)) number ∙ item-there i short .star star .named;
           above = λ e a b. omega (arith, there, item-above i short star e a b);
           other = λ k u e. item-other i short star k u (sym number ∙ e);
         })))

@@ -7,7 +7,7 @@ use native.Mathlib.Nat.{mul-le-mul, mul-le-mul-right, le-refl}
 use native.Mathlib.Omega.{arith}
 use lib.Dec.{leb, eqb}
 use lib.ListN.{length, length-map, length-append}
-use borrow.Author.Tests.{ne-eqb, leb-true}
+use borrow.Author.Tests.{eq-eqb, ne-eqb, leb-true}
 use Rattle.pages.specs.Page.{stretch}
 use Rattle.hashing.specs.declared.Parameters.{Parameters}
 use Rattle.hashing.specs.declared.Growth.{Growth}
@@ -22,18 +22,26 @@ use Rattle.placement.proofs.Standing.{standsAt, left-first}
 use Rattle.placement.proofs.Mapping.{mapped, pages-map, left-map}
 use Rattle.placement.proofs.Sound.{AllSound, gathered-proper}
 use Rattle.placement.proofs.Tested.{real-facts}
+use Rattle.page_separator.specs.Lists.{all}
 use Rattle.page_separator.specs.Words.{pack}
+use Rattle.page_separator.proofs.Packing.{number-pack}
+use Rattle.page_plan.specs.Settle.{slotsOf, pourLow}
 use Rattle.page_plan.specs.Gather.{starsIn}
-use Rattle.page_separator.specs.Probes.{homesUpTo}
 use Rattle.page_plan.proofs.Items.{words-count, words-length}
 use Rattle.page_plan.specs.Plans.{plans, remains, waits}
-use Rattle.page_plan.specs.Sources.{namedItem, renamed, sourced}
-use Rattle.page_plan.proofs.Applying.{renamed-keeps}
-use Rattle.page_plan.proofs.Sourcing.{true-stars, new-star, named-past}
+use Rattle.page_plan.specs.Sources.{namedItem, renamed}
+use Rattle.page_plan.proofs.Applying.{Sourced, renamed-keeps}
+use Rattle.page_plan.proofs.Sourcing.{fresh, true-stars, new-star, named-past}
 use Rattle.page_plan.proofs.Placed.{probes-real, new-homed, new-near, new-sourced, stretch-words-add, left-count}
 use Rattle.page_plan.proofs.Placed.{planned-pages as words-planned}
 use Rattle.entry_reach.specs.Entry.{Unheld, newStar, entryStart, blockNumbers, blockWords}
-use Rattle.entry_reach.proofs.Items.{numbers-count, stretch-homes, numbers-below, block-homed, block-sourced, block-grouped, block-fresh}
+use Rattle.entry_reach.specs.Blocks.{apart, Carriable, enteredLeft}
+use Rattle.entry_reach.proofs.Items.{numbers-count, stretch-homes, numbers-below, block-homed, block-grouped, block-fresh}
+
+-- pages and their sources, in two parts
+pub sourced-on : (ns : List ℕ) (new : ℕ) (cs ds : List Contents) → Sourced ns new cs → Sourced ns new ds → Sourced ns new (cs ++ ds)
+sourced-on ns new [] ds s t = t
+sourced-on ns new (c ∷ cs) ds s t = (s .0, sourced-on ns new cs ds (s .1) t)
 
 -- the word of the new star, whose source is the one past the items
 abbrev pub newWord : Parameters → Growth → File → ℕ → ℕ
@@ -69,15 +77,25 @@ module _ (p : Parameters) (g : Growth) (f : File) (k : ℕ) (valid : validParame
   few : length (f .numbers) + 1 < 2 ^ 16
   few = let l = limits p valid in omega (arith, sized .ofNumbers, mul-le-mul (l .pages-most) (l .places-most))
 
-  pub new-here : homesUpTo (entryStart p g k) (newWord p g f k ∷ []) ≡ true
-  new-here = new-near (entryStart p g k) (entryStart p g k) k (length (f .numbers) + 1) (le-refl (entryStart p g k)) small few
-
-  pub new-named : sourced (f .numbers) k (newWord p g f k ∷ []) ≡ true
-  new-named = new-sourced (f .numbers) (entryStart p g k) k small few
-
   -- past the items a source names the new star
   past-items : (l : List ℕ) (new : ℕ) → length l ≡ p .pages * p .places → namedItem l new (length (f .numbers) + 1) ≡ new
   past-items l new e = named-past l new (length (f .numbers) + 1) (omega (arith, sized .ofNumbers, e))
+
+  -- the new star alone is carried at first
+  pub new-carried : (word owner : ℕ) → map (renamed (f .words) (f .owners) word owner) (waits (newWord p g f k ∷ [])) ≡ newStar k word owner ∷ []
+  unfolding insert waits slotsOf pourLow
+  new-carried word owner =
+      new-star (f .words) (f .owners) word owner (entryStart p g k) k (length (f .numbers) + 1) [] small few (unfold fresh all in refl)
+      ∙ rw (past-items (f .words) word (sized .ofWords), past-items (f .owners) owner (sized .ofOwners))
+
+  pub new-carriable : (lo : ℕ) → entryStart p g k ≤ lo → Carriable p g f k lo (newWord p g f k ∷ [])
+  new-carriable lo h =
+      record {
+        true-homes = new-homed (hashOf p g) (entryStart p g k) k (length (f .numbers) + 1) refl small few;
+        near = new-near lo (entryStart p g k) k (length (f .numbers) + 1) h small few;
+        true-sources = new-sourced (f .numbers) (entryStart p g k) k small few;
+        below = unfold apart all in rw (number-pack (entryStart p g k) k (length (f .numbers) + 1) small few, eq-eqb k k refl);
+      }
 
   module _ (n : ℕ) (inside : entryStart p g k + n ≤ p .pages) (sound : (q : ℕ) → entryStart p g k ≤ q → q < entryStart p g k + n → soundAt p g f q ≡ true) where
     sums : (entryStart p g k + n) * p .places ≤ p .pages * p .places
@@ -119,7 +137,7 @@ module _ (p : Parameters) (g : Growth) (f : File) (k : ℕ) (valid : validParame
         × (waits (remainsTo p g f k n) ≡ left (hashOf p g) (entryStart p g k) n (waits (newWord p g f k ∷ blockWords p g f (entryStart p g k) n)))
     tied =
         words-planned (hashOf p g) p (probes-real p g) (entryStart p g k) n (newWord p g f k ∷ []) (blockWords p g f (entryStart p g k) n)
-        (new-homed (hashOf p g) (entryStart p g k) k (length (f .numbers) + 1) refl small few) new-here
+        (new-carriable (entryStart p g k) (le-refl (entryStart p g k)) .true-homes) (new-carriable (entryStart p g k) (le-refl (entryStart p g k)) .near)
         (block-homed p g f valid sized (entryStart p g k) n inside (numbers-below p g f valid sized (entryStart p g k) n inside sound))
         (block-grouped p g f valid sized (entryStart p g k) n inside sound)
 
@@ -135,9 +153,6 @@ module _ (p : Parameters) (g : Growth) (f : File) (k : ℕ) (valid : validParame
         ∙ left-map (renamed (f .words) (f .owners) word owner) (renamed-keeps (f .words) (f .owners) word owner) (hashOf p g) (entryStart p g k) n (waits (newWord p g f k ∷ blockWords p g f (entryStart p g k) n))
         ∙ ap (map (renamed (f .words) (f .owners) word owner)) (sym (tied .1))
 
-    pub block-named : sourced (f .numbers) k (blockWords p g f (entryStart p g k) n) ≡ true
-    block-named = block-sourced p g f valid sized (entryStart p g k) n inside k (numbers-below p g f valid sized (entryStart p g k) n inside sound)
-
   block-count : (lo n : ℕ) → lo + n ≤ p .pages → length (blockWords p g f lo n) ≡ starsIn 0 (blockNumbers p f lo n)
   unfolding blockWords homesOf
   block-count lo n inside =
@@ -147,13 +162,12 @@ module _ (p : Parameters) (g : Growth) (f : File) (k : ℕ) (valid : validParame
 
   -- the waiting stars are no more than the list holds, or the pages are too few
   pub crowds : (d m : ℕ) → entryStart p g k + (d + m) ≤ p .pages → ((q : ℕ) → entryStart p g k ≤ q → q < entryStart p g k + (d + m) → soundAt p g f q ≡ true)
-      → (word owner : ℕ) → length (remainsTo p g f k d) + starsIn 0 (blockNumbers p f (entryStart p g k + d) m) ≤ length (insert (newStar k word owner) (gathered (p .places) f (entryStart p g k) (d + m)))
+      → (word owner : ℕ) → length (enteredLeft p g f k d word owner) + starsIn 0 (blockNumbers p f (entryStart p g k + d) m) ≤ length (insert (newStar k word owner) (gathered (p .places) f (entryStart p g k) (d + m)))
   crowds d m inside sound word owner =
       omega (
         arith,
         waited d (omega arith) first-sound word owner,
         waited (d + m) inside sound word owner,
-        left-count (renamed (f .words) (f .owners) word owner) (remainsTo p g f k d) (left (hashOf p g) (entryStart p g k) d (stars d)) (sym (planned-left d (omega arith) first-sound word owner)),
         length-left (hashOf p g) (entryStart p g k) d (stars d),
         ap length (words-add p g f sized (entryStart p g k) d m (omega arith)),
         length-append (blockWords p g f (entryStart p g k) d) (blockWords p g f (entryStart p g k + d) m),

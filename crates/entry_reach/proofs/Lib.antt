@@ -1,12 +1,13 @@
 pub mod Firsts
 pub mod Items
+pub mod Tying
+pub mod BlockWords
 pub mod Joined
 pub mod Reached
 pub mod Surveyed
 pub mod Holding
 pub mod OnePage
 pub mod Visiting
-pub mod Tying
 pub mod PageWords
 pub mod Settled
 pub mod Pushed

@@ -30,7 +30,8 @@ use Rattle.page_edit.proofs.OnePage.{file-alone, pages-alone, left-alone, first
 use Rattle.page_plan.specs.declared.outcome.Outcome.the-variants.{On, Unsound, Overflows}
 use Rattle.entry_reach.specs.Entry.{Unheld, newStar, entryStart, entryLast, entryUnsound, entryContents, entryAnswer, entryFile, Decides}
 use Rattle.decision.specs.declared.chosen.Decision.the-variants.{Put}
-use Rattle.entry_reach.proofs.Reached.{ending, by-reach}
+use Rattle.entry_reach.specs.Blocks.{ending}
+use Rattle.entry_reach.proofs.Reached.{by-reach}
 use Rattle.entry_reach.proofs.Holding.{member-has}
 
 module _ (p : Parameters) (g : Growth) (f : File) (k : ℕ) (valid : validParameters p ≡ true) (grows : validGrowth p g ≡ true) (sized : Sized (p .places) (p .pages) f) (unheld : Unheld p g f k)

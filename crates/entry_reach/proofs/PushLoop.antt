@@ -1,5 +1,5 @@
 -- The loop that pushes newcomers: what stands when it comes to page `at`, and what it answers.
-use mathlib.Core.Path.{_≡_, refl, sym, ap, _∙_}
+use mathlib.Core.Path.{_≡_, refl, sym, ap, _∙_, subst}
 use mathlib.Core.Bool.{Bool, true, false, cond}
 use mathlib.Core.List.{List, [], _∷_, _++_, append-nil}
 use Prim.Native.Nat.{ℕ, suc, _+_, _-_, _*_, _^_, _≤_, _<_}
@@ -35,14 +35,14 @@ use Rattle.page_plan.proofs.Applying.{applied, applied-is}
 use Rattle.reach.specs.Reach.{pagesTo}
 use Rattle.reach.specs.Cascade.{cascaded, carriedPast}
 use Rattle.entry_reach.specs.Entry.{Unheld, KnownTo, newStar, blockNumbers, blockWords}
-use Rattle.entry_reach.specs.Pushing.{pageWords, loweredOn, Lowered, PushedPage, PushedTo}
+use Rattle.entry_reach.specs.Pushing.{pageWords, loweredOn, Lowered, PushedPage, PushedTo, Pushed}
 use Rattle.entry_reach.specs.declared.newcomers.Onward.{Onward}
 use Rattle.entry_reach.proofs.Items.{numbers-count, stretch-homes, numbers-below, homes-below, block-grouped}
 use Rattle.entry_reach.proofs.Joined.{newWord}
 use Rattle.entry_reach.proofs.Tying.{parted}
 use Rattle.entry_reach.proofs.PageWords.{page-near}
 use Rattle.entry_reach.proofs.Settled.{lowered-roomy}
-use Rattle.entry_reach.proofs.Pushed.{Pushed, carried-length, pushed-none, pushed-next}
+use Rattle.entry_reach.proofs.Pushed.{carried-length, pushed-none, pushed-next}
 
 -- a page after page p, of a list whose first parts are p pages and one more
 part-after : (b p q : ℕ) (xs ys zs : List ℕ) → length xs ≡ p * b → length ys ≡ b → p + 1 ≤ q → part b q (xs ++ (ys ++ zs)) ≡ part b (q - (p + 1)) zs
@@ -53,7 +53,7 @@ part-after b p q xs ys zs ex ey h =
     ∙ part-back b 1 (q - (p + 1)) ys zs (ey ∙ sym (one-mul b))
 
 -- what is written on page p leaves the pages after it
-part-past : (b p q : ℕ) (s l : List ℕ) → length s ≡ b → p * b + b ≤ length l → p + 1 ≤ q → part b q (written (p * b) s l) ≡ part b q l
+pub part-past : (b p q : ℕ) (s l : List ℕ) → length s ≡ b → p * b + b ≤ length l → p + 1 ≤ q → part b q (written (p * b) s l) ≡ part b q l
 unfolding written
 part-past b p q s l e long h =
     part-after b p q (take (p * b) l) s (drop (p * b + length s) l) low e h
@@ -175,7 +175,7 @@ module _ (p : Parameters) (g : Growth) (f : File) (k page : ℕ) (valid : validP
     some-carried = omega (arith, carried-long, R .some)
 
     pub rolling-near : homesUpTo at (slice from end W) ≡ true
-    rolling-near = rw (R .place) (R .carried .near)
+    rolling-near = rw (R .place) (R .carried .words .near)
 
     -- the list has room for the words of one more page
     pub rolling-room : (stop : ℕ) → at < stop → stop - page < p .pages → end + p .places ≤ p .pages * p .places
@@ -189,6 +189,12 @@ module _ (p : Parameters) (g : Growth) (f : File) (k page : ℕ) (valid : validP
           suc-mul (R .done) (p .places),
           mul-le-mul-right {m = suc (suc (R .done))} {n = p .pages} (p .places) (omega (arith, R .place)),
         )
+
+    -- the pages up to `last` are passed
+    pub rolling-leaves : (last : ℕ) → page ≤ last → at ≡ last + 1 → Pushed p g f k page pool planned (slice from end W) (pagesTo page last)
+    rolling-leaves last h e =
+        let same : R .done ≡ pagesTo page last = omega (arith, R .place) in
+        subst (Pushed p g f k page pool planned (slice from end W)) same (R .carried)
 
     -- page `at` is sound, and newcomers and its stars are settled
     module _ (inside : at < p .pages) (sound : soundAt p g f at ≡ true) (few-words : length (pageWords p g f at) ≤ p .places) (lp : length pool ≡ p .pages * p .places) (ln : p .pages ≤ length planned)

@@ -2,13 +2,13 @@
 use mathlib.Core.Path.{_≡_, refl, sym, ap, _∙_}
 use mathlib.Core.Bool.{true, not, _||_}
 use mathlib.Core.List.{List, [], _∷_, _++_, map, map-append}
-use Prim.Native.Nat.{ℕ, suc, _+_, _-_, _*_, _^_, _≤_, _<_}
-use native.Mathlib.Nat.{add-zero, zero-mul, mul-le-mul}
+use Prim.Native.Nat.{ℕ, _+_, _-_, _*_, _^_, _≤_, _<_}
+use native.Mathlib.Nat.{zero-mul, mul-le-mul}
 use native.Mathlib.Decide.{decLt}
 use native.Mathlib.Omega.{arith}
 use lib.Dec.{leb, ltb, eqb}
 use lib.ListN.{length, take, drop, getD, length-map, length-append}
-use borrow.Author.Tests.{eq-eqb, le-leb, leb-true}
+use borrow.Author.Tests.{le-leb, leb-true}
 use Rattle.pages.specs.Page.{stretch}
 use Rattle.hashing.specs.declared.Parameters.{Parameters}
 use Rattle.hashing.specs.declared.Growth.{Growth}
@@ -17,53 +17,27 @@ use Rattle.hashing.specs.Home.{home}
 use Rattle.hashing.specs.Limits.{validParameters}
 use Rattle.hashing.proofs.Bounds.{limits}
 use Rattle.pages.specs.Position.{validNumber}
-use Rattle.placement.specs.Rule.{Star, Contents, separators, insert}
-use Rattle.placement.specs.File.{File, Sized, column, written, every}
+use Rattle.placement.specs.Rule.{Star, Contents, separators}
+use Rattle.placement.specs.File.{File, Sized, column, written}
 use Rattle.placement.specs.Hash.{hashOf, soundAt, namedPage}
 use Rattle.placement.proofs.Mapping.{mapped}
 use Rattle.placement.proofs.Standing.{first-home}
 use Rattle.placement.proofs.Writing.{column-append, separators-append}
 use Rattle.reach.specs.Cascade.{cascaded, carriedPast}
-use Rattle.page_separator.specs.Lists.{all}
 use Rattle.page_separator.specs.Words.{pack, homeOf, numberIn}
-use Rattle.page_separator.specs.Probes.{under, stayingWords, passingWords, wordsSeparatorFrom, homesUpTo}
-use Rattle.page_plan.specs.Settle.{slotsOf, pourLow}
+use Rattle.page_separator.specs.Probes.{under, stayingWords, passingWords, wordsSeparatorFrom}
 use Rattle.page_separator.proofs.Lists.{all-filter, all-mono}
-use Rattle.page_separator.proofs.Packing.{number-pack}
 use Rattle.page_plan.specs.Plans.{waits, homed}
-use Rattle.page_plan.specs.Sources.{namedItem, renamed, sourced}
-use Rattle.page_plan.proofs.Applying.{Sourced, sourced-waits, sourced-append, sourced-filter}
+use Rattle.page_plan.specs.Sources.{renamed, sourced}
+use Rattle.page_plan.proofs.Applying.{sourced-waits, sourced-append, sourced-filter}
 use Rattle.page_plan.proofs.Pouring.{length-waits}
-use Rattle.page_plan.proofs.Sourcing.{fresh, new-star, named-past}
-use Rattle.page_plan.proofs.Placed.{new-homed, new-near, new-sourced}
 use Rattle.entry_reach.specs.Entry.{Unheld, newStar, entryStart}
-use Rattle.entry_reach.proofs.Joined.{newWord, valid-most}
-use Rattle.entry_reach.specs.Pushing.{pageWords}
-use Rattle.entry_reach.specs.Pushing.{loweredTo, loweredOn}
+use Rattle.entry_reach.proofs.Joined.{sourced-on, newWord, valid-most, new-carried, new-carriable}
+use Rattle.entry_reach.specs.Blocks.{apart}
+use Rattle.entry_reach.specs.Pushing.{pageWords, loweredTo, loweredOn, Pushed}
 use Rattle.entry_reach.proofs.Visiting.{cascaded-add, carried-add, cascaded-one, carried-one}
-use Rattle.entry_reach.proofs.PageWords.{apart, page-sourced, apart-joined}
+use Rattle.entry_reach.proofs.PageWords.{page-sourced, apart-joined}
 use Rattle.entry_reach.proofs.Settled.{lowered-roomy, sources-on, separators-on, met-homed, met-near, pushes-to, pushes-on}
-
--- d pages from `page` on are sound and planned, with the contents `contents`, and the words w are carried past them
-pub record Pushed (p : Parameters) (g : Growth) (f : File) (k page : ℕ) (pool planned w : List ℕ) (d : ℕ) : Type 0 where
-  pub most : page + d ≤ p .pages
-  pub sound : (q : ℕ) → page ≤ q → q < page + d → soundAt p g f q ≡ true
-  pub contents : List Contents
-  pub size : length contents ≡ d
-  pub sources : stretch (p .places) page d pool ≡ column (p .places) (λ (s : Star). s .payload .word) contents
-  pub separators-are : take d (drop page planned) ≡ separators contents
-  pub all-sourced : Sourced (f .numbers) k contents
-  pub are : (word owner : ℕ) → map (mapped (renamed (f .words) (f .owners) word owner)) contents ≡ cascaded (hashOf p g) f page d (newStar k word owner ∷ [])
-  pub carried : (word owner : ℕ) → map (renamed (f .words) (f .owners) word owner) (waits w) ≡ carriedPast (hashOf p g) f page d (newStar k word owner ∷ [])
-  pub true-homes : homed (hashOf p g) w ≡ true
-  pub near : homesUpTo (page + d) w ≡ true
-  pub true-sources : sourced (f .numbers) k w ≡ true
-  pub before : apart p g f k (page + d) w ≡ true
-
-sourced-more : (ns : List ℕ) (new : ℕ) (cs : List Contents) (c : Contents) → Sourced ns new cs
-    → every (λ (s : Star). eqb (namedItem ns new (s .payload .word)) (s .number)) (c .stars) ≡ true → Sourced ns new (cs ++ (c ∷ []))
-sourced-more ns new [] c s e = (e, tt)
-sourced-more ns new (x ∷ cs) c s e = (s .0, sourced-more ns new cs c (s .1) e)
 
 -- as many stars are carried on as words
 pub carried-length : (g : Star → Star) (l : List ℕ) → length (map g (waits l)) ≡ length l
@@ -89,16 +63,6 @@ module _ (p : Parameters) (g : Growth) (f : File) (k page : ℕ) (valid : validP
   unfolding hashOf
   new-packed from e = ap (λ (h : ℕ). pack h k (length (f .numbers) + 1)) e
 
-  -- at the start the new star alone is carried
-  new-carried : (word owner : ℕ) → map (renamed (f .words) (f .owners) word owner) (waits (newWord p g f k ∷ [])) ≡ newStar k word owner ∷ []
-  unfolding insert waits slotsOf pourLow
-  new-carried word owner =
-      new-star (f .words) (f .owners) word owner (entryStart p g k) k (length (f .numbers) + 1) [] small few (unfold fresh all in refl)
-      ∙ rw (
-        named-past (f .words) word (length (f .numbers) + 1) (omega (arith, sized .ofNumbers, sized .ofWords)),
-        named-past (f .owners) owner (length (f .numbers) + 1) (omega (arith, sized .ofNumbers, sized .ofOwners)),
-      )
-
   pub pushed-none : (pool planned : List ℕ) → Pushed p g f k page pool planned (newWord p g f k ∷ []) 0
   pushed-none pool planned =
       record {
@@ -110,11 +74,8 @@ module _ (p : Parameters) (g : Growth) (f : File) (k page : ℕ) (valid : validP
         separators-are = unfold separators in refl;
         all-sourced = tt;
         are = λ word owner. unfold cascaded in refl;
-        carried = λ word owner. unfold carriedPast in new-carried word owner;
-        true-homes = new-homed (hashOf p g) (entryStart p g k) k (length (f .numbers) + 1) refl small few;
-        near = rw (add-zero page) (new-near page (entryStart p g k) k (length (f .numbers) + 1) home-below small few);
-        true-sources = new-sourced (f .numbers) (entryStart p g k) k small few;
-        before = unfold apart all in rw (number-pack (entryStart p g k) k (length (f .numbers) + 1) small few, eq-eqb k k refl);
+        carried = λ word owner. unfold carriedPast in new-carried p g f k valid sized number unheld word owner;
+        words = new-carriable p g f k valid sized number unheld (page + 0) (omega (arith, home-below));
       }
 
   -- one more page
@@ -136,16 +97,16 @@ module _ (p : Parameters) (g : Growth) (f : File) (k page : ℕ) (valid : validP
     one-page word owner =
         ap (cascaded (hashOf p g) f (page + d) 1) (sym (P .carried word owner))
         ∙ cascaded-one (hashOf p g) f (page + d) (map (rename word owner) (waits w)) (omega (arith, carried-length (rename word owner) w))
-        ∙ ap (λ (c : Contents). c ∷ []) (pushes-to p g f valid sized (page + d) inside sound k unheld w (P .true-homes) (P .near) (P .before) word owner)
+        ∙ ap (λ (c : Contents). c ∷ []) (pushes-to p g f valid sized (page + d) inside sound k unheld w (P .words .true-homes) (P .words .near) (P .words .below) word owner)
 
     carried-past : (word owner : ℕ) → carriedPast (hashOf p g) f (page + d) 1 (carriedPast (hashOf p g) f page d (newStar k word owner ∷ [])) ≡ map (rename word owner) (waits (loweredOn p (page + d) stored met))
     carried-past word owner =
         ap (carriedPast (hashOf p g) f (page + d) 1) (sym (P .carried word owner))
         ∙ carried-one (hashOf p g) f (page + d) (map (rename word owner) (waits w)) (omega (arith, carried-length (rename word owner) w))
-        ∙ pushes-on p g f valid sized (page + d) inside sound k unheld w (P .true-homes) (P .near) (P .before) word owner
+        ∙ pushes-on p g f valid sized (page + d) inside sound k unheld w (P .words .true-homes) (P .words .near) (P .words .below) word owner
 
     met-sourced : sourced (f .numbers) k met ≡ true
-    met-sourced = sourced-append (f .numbers) k w (pageWords p g f (page + d)) (P .true-sources) (page-sourced p g f valid sized (page + d) inside sound k)
+    met-sourced = sourced-append (f .numbers) k w (pageWords p g f (page + d)) (P .words .true-sources) (page-sourced p g f valid sized (page + d) inside sound k)
 
     all-sound : (q : ℕ) → page ≤ q → q < page + (d + 1) → soundAt p g f q ≡ true
     all-sound q a b = go (decLt q (page + d))
@@ -157,9 +118,9 @@ module _ (p : Parameters) (g : Growth) (f : File) (k page : ℕ) (valid : validP
     before-next : apart p g f k (page + (d + 1)) (loweredOn p (page + d) stored met) ≡ true
     unfolding apart loweredOn passingWords
     before-next =
-        let next : suc (page + d) ≡ page + (d + 1) = omega arith in
+        let next : page + d + 1 ≡ page + (d + 1) = omega arith in
         all-filter (λ x. eqb (numberIn x) k || ltb (namedPage p g (f .separators) (numberIn x)) (page + (d + 1))) (λ x. not (under p (page + d) (wordsSeparatorFrom p (page + d) met stored) x)) met
-        (rw next at (apart-joined p g f valid sized (page + d) inside sound k unheld w (P .before)))
+        (rw next at (apart-joined p g f valid sized (page + d) inside sound k unheld w (P .words .below)))
 
     pub pushed-next : (pool′ planned′ : List ℕ) → (page + d) * p .places ≤ length pool → page + d ≤ length planned
         → pool′ ≡ written ((page + d) * p .places) (column (p .places) (λ (s : Star). s .payload .word) (new ∷ [])) pool
@@ -182,23 +143,28 @@ module _ (p : Parameters) (g : Growth) (f : File) (k page : ℕ) (valid : validP
               ∙ ap (λ (l : List ℕ). l ++ separators (new ∷ [])) (P .separators-are)
               ∙ sym (separators-append (P .contents) (new ∷ []));
           all-sourced =
-              sourced-more (f .numbers) k (P .contents) new (P .all-sourced)
-              (unfold loweredTo stayingWords in sourced-waits (f .numbers) k (stayingWords p (page + d) (wordsSeparatorFrom p (page + d) met stored) met)
-              (sourced-filter (f .numbers) k (under p (page + d) (wordsSeparatorFrom p (page + d) met stored)) met met-sourced));
+              sourced-on (f .numbers) k (P .contents) (new ∷ []) (P .all-sourced) (
+                (unfold loweredTo stayingWords in sourced-waits (f .numbers) k (stayingWords p (page + d) (wordsSeparatorFrom p (page + d) met stored) met)
+                    (sourced-filter (f .numbers) k (under p (page + d) (wordsSeparatorFrom p (page + d) met stored)) met met-sourced)),
+                tt,
+              );
           are = λ word owner.
               map-append (mapped (rename word owner)) (P .contents) (new ∷ [])
               ∙ ap (λ (cs : List Contents). cs ++ (mapped (rename word owner) new ∷ [])) (P .are word owner)
               ∙ ap (λ (cs : List Contents). cascaded (hashOf p g) f page d (newStar k word owner ∷ []) ++ cs) (sym (one-page word owner))
               ∙ sym (cascaded-add (hashOf p g) f page d 1 (newStar k word owner ∷ []));
           carried = λ word owner. sym (carried-past word owner) ∙ sym (carried-add (hashOf p g) f page d 1 (newStar k word owner ∷ []));
-          true-homes =
-              unfold loweredOn passingWords homed in all-filter (λ x. eqb (hashOf p g .home (numberIn x)) (homeOf x)) (λ x. not (under p (page + d) (wordsSeparatorFrom p (page + d) met stored) x)) met
-              (met-homed p g f valid sized (page + d) inside sound k unheld w (P .true-homes) (P .near) (P .before));
-          near =
-              unfold loweredOn passingWords in all-filter (λ x. leb (homeOf x) (page + (d + 1))) (λ x. not (under p (page + d) (wordsSeparatorFrom p (page + d) met stored) x)) met
-              (all-mono (λ x. leb (homeOf x) (page + d)) (λ x. leb (homeOf x) (page + (d + 1))) met
-              (λ x e. le-leb (homeOf x) (page + (d + 1)) (omega (arith, leb-true (homeOf x) (page + d) e)))
-              (met-near p g f valid sized (page + d) inside sound k unheld w (P .true-homes) (P .near) (P .before)));
-          true-sources = unfold loweredOn passingWords in sourced-filter (f .numbers) k (λ x. not (under p (page + d) (wordsSeparatorFrom p (page + d) met stored) x)) met met-sourced;
-          before = before-next;
+          words =
+              record {
+                true-homes =
+                    unfold loweredOn passingWords homed in all-filter (λ x. eqb (hashOf p g .home (numberIn x)) (homeOf x)) (λ x. not (under p (page + d) (wordsSeparatorFrom p (page + d) met stored) x)) met
+                    (met-homed p g f valid sized (page + d) inside sound k unheld w (P .words .true-homes) (P .words .near) (P .words .below));
+                near =
+                    unfold loweredOn passingWords in all-filter (λ x. leb (homeOf x) (page + (d + 1))) (λ x. not (under p (page + d) (wordsSeparatorFrom p (page + d) met stored) x)) met
+                    (all-mono (λ x. leb (homeOf x) (page + d)) (λ x. leb (homeOf x) (page + (d + 1))) met
+                    (λ x e. le-leb (homeOf x) (page + (d + 1)) (omega (arith, leb-true (homeOf x) (page + d) e)))
+                    (met-near p g f valid sized (page + d) inside sound k unheld w (P .words .true-homes) (P .words .near) (P .words .below)));
+                true-sources = unfold loweredOn passingWords in sourced-filter (f .numbers) k (λ x. not (under p (page + d) (wordsSeparatorFrom p (page + d) met stored) x)) met met-sourced;
+                below = before-next;
+              };
         }

@@ -1,13 +1,13 @@
 -- An entry into a run: an unsound page of it; and a run of pages that are the rule's, in which only newcomers move, the star alone if its own page has room.
 use mathlib.Core.Path.{_≡_, refl, sym, ap, subst, _∙_}
 use mathlib.Core.Bool.{true, false, not, _&&_}
-use mathlib.Core.List.{List, [], _∷_, _++_, append-nil, append-assoc, List·Memᴰ}
+use mathlib.Core.List.{List, [], _∷_, _++_, map, append-nil, append-assoc, List·Memᴰ}
 use mathlib.Core.Logic.{⊎-elim}
 use Prim.Native.Nat.{ℕ, zero, suc, _+_, _-_, _*_, _≤_, _<_}
 use native.Mathlib.Nat.{zero-add, le-refl, le-antisymm}
 use native.Mathlib.Decide.{decLt}
 use native.Mathlib.Omega.{arith}
-use lib.ListN.{length, getD, take, drop, length-append, length-drop}
+use lib.ListN.{length, getD, take, drop, length-append, length-drop, length-map}
 use lib.Seq.{paste, take-all, take-add, take-at, drop-at, length-take-le}
 use borrow.Author.Tests.{eqb-true}
 use Rattle.hashing.specs.declared.Parameters.{Parameters}
@@ -16,22 +16,25 @@ use Rattle.hashing.specs.declared.Geometry.{Geometry}
 use Rattle.hashing.specs.Limits.{validParameters}
 use Rattle.hashing.proofs.Bounds.{limits}
 use Rattle.buffers.specs.Lists.{written}
+use Rattle.buffers.proofs.Written.{written-middle}
 use Rattle.pages.specs.Page.{part, placeOf}
 use Rattle.pages.specs.Position.{validNumber, validWord}
-use Rattle.placement.specs.Rule.{Star, Hash, Contents, below, staying, passing, pages, left, insert}
+use Rattle.placement.specs.Rule.{Star, Hash, Contents, below, staying, passing, pages, left, insert, pour}
 use Rattle.placement.specs.File.{File, Sized, pagesAt, gathered, replaced, starsAt}
 use Rattle.placement.specs.Hash.{hashOf, soundAt, namedPage, homeUnder}
-use Rattle.placement.proofs.Filters.{filter-all-on, filter-none-on, length-filter}
+use Rattle.placement.proofs.Filters.{filter-all, filter-all-on, filter-none-on, length-filter}
 use Rattle.placement.proofs.Order.{Absent, member-insert, length-insert, pour-insert, pour-nil, rising-sorted}
-use Rattle.placement.proofs.Standing.{first-home, first-below, past-top}
+use Rattle.placement.proofs.Standing.{first-home, first-before, first-below, past-top}
 use Rattle.placement.proofs.Writing.{length-part}
 use Rattle.placement.proofs.Search.{absent-held}
-use Rattle.placement.proofs.Sound.{Sound, AllSound, absent-named, sound-rising}
+use Rattle.placement.proofs.Sound.{Sound, AllSound, absent-named, sound-rising, sound-fits, gathered-rising}
+use Rattle.placement.proofs.Files.{length-pagesAt}
+use Rattle.placement.proofs.Mapping.{mapped}
 use Rattle.placement.proofs.Probing.{bounded-real}
 use Rattle.placement.proofs.Tested.{real-facts}
 use Rattle.reach.specs.Reach.{firstSuch, isEmpty, pagesTo, storedTop, removalEnd, entering, entersWithin, entryEnd, firstUnsound}
 use Rattle.reach.specs.Cascade.{meeting, lowered, pushedTo, pushedOn, cascaded, carriedPast}
-use Rattle.reach.proofs.Cascading.{lowered-stored, lowered-great}
+use Rattle.reach.proofs.Cascading.{lowered-stored, lowered-great, pagesAt-add, new-pages, new-left}
 use Rattle.reach.proofs.Search.{Such, such}
 use Rattle.reach.proofs.Stretches.{stretch-leaves, stretch-file}
 use Rattle.clean_test.specs.Raising.{raisableFrom}
@@ -40,17 +43,20 @@ use Rattle.page_edit.specs.Shift.{numberAt, Vacant}
 use Rattle.page_edit.proofs.Shifted.{vacant-room}
 use Rattle.page_edit.proofs.OnePage.{file-alone, ordered-page}
 use Rattle.page_plan.specs.declared.outcome.Outcome.the-variants.{On, Unsound as outcome·Unsound}
+use Rattle.page_plan.specs.Sources.{renamed}
 use Rattle.page_plan.proofs.Applying.{applied}
 use Rattle.decision.specs.Carried.{withStars, starsThere}
 use Rattle.decision.specs.declared.chosen.Decision.the-variants.{Put, Planned}
 use Rattle.entry_reach.specs.declared.blocks.Reach.the-variants.{Ends, Unsound, Overflows}
 use Rattle.entry_reach.specs.Entry.{Unheld, newStar, entryStart, entryLast, entryUnsound, entryContents, blockEnd, reachAnswer, entryAnswer, entryFile, Decides}
-use Rattle.entry_reach.specs.Pushing.{PushedTo}
+use Rattle.entry_reach.specs.Pushing.{PushedTo, Pushed}
+use Rattle.entry_reach.specs.Blocks.{enteredPages, enteredLeft, LeavesRun}
 use Rattle.entry_reach.proofs.Firsts.{such-is}
 use Rattle.entry_reach.proofs.Visiting.{cascaded-none, carried-none, cascaded-add, carried-add}
-use Rattle.entry_reach.proofs.Reached.{by-reach, reached-none, reached-unsound}
+use Rattle.entry_reach.proofs.Joined.{newWord}
+use Rattle.entry_reach.proofs.Reached.{by-reach, sound-to, reached-none, reached-unsound}
 use Rattle.entry_reach.proofs.Surveyed.{last-low, last-high, block-unsound}
-use Rattle.entry_reach.proofs.Holding.{unsound-answer, named-holds, ends-answer}
+use Rattle.entry_reach.proofs.Holding.{unsound-answer, named-holds, ends-answer, written-decided}
 
 -- A reach that would end at `last` by stored tops, and within which the star enters, ends there.
 entry-ends : (H : Hash) (M : ℕ) (f : File) (s : Star) (last : ℕ) → last ≡ removalEnd H M f (H .home (s .number)) → entersWithin H f s last ≡ true → entryEnd H M f s ≡ last
@@ -152,7 +158,7 @@ module _ (p : Parameters) (g : Growth) (f : File) (k : ℕ) (valid : validParame
       → (outcome·Unsound bad ≡ entryAnswer p g f (newStar k word owner)) × (f ≡ entryFile p g f (newStar k word owner))
   run-unsound word owner bad e h =
       unsound-answer p g f k word owner bad
-      (reached-unsound p g f k valid sized number unheld [] [] _ (entryStart p g k) 1 (reached-none p g f k valid sized number unheld [] [] (0 ∷ []) inside-home (omega arith)) bad
+      (reached-unsound p g f k valid sized number unheld (entryStart p g k) (entryStart p g k) [] [] (newWord p g f k ∷ []) (reached-none p g f k valid sized number unheld [] [] inside-home) bad
       (block-unsound p g f valid sized (entryStart p g k) inside-home last is bad e h) word owner)
 
   -- none of its sound pages could have a higher separator: they are the rule's
@@ -273,6 +279,39 @@ module _ (p : Parameters) (g : Growth) (f : File) (k page : ℕ) (valid : validP
 
   said : pagesAt (p .places) f from (q + suc m) ≡ pages (hashOf p g) from (q + suc m) (gathered (p .places) f from (q + suc m))
   said = subst (λ (n : ℕ). pagesAt (p .places) f from n ≡ pages (hashOf p g) from n (gathered (p .places) f from n)) count ruled
+
+  above : (i : ℕ) → from ≤ i → i < from + q → below (hashOf p g) i (getD (f .separators) i 0) k ≡ false
+  unfolding namedPage
+  above i a h = rw (zero-add i) at (first-before (hashOf p g) 0 i (f .separators) k (omega (arith, sized .ofSeparators, inside)) (omega (arith, zero-add i, here, at-page)))
+
+  G : List Star
+  G = gathered (p .places) f from (q + suc m)
+
+  -- what the rule gives the pages of the run and carries past it, in the cascade's terms
+  entered-left : enteredLeft p g f k (q + suc m) word owner ≡ carriedPast (hashOf p g) f page (suc m) (new ∷ [])
+  unfolding hashOf pour G
+  entered-left =
+      new-left (hashOf p g) f from q (suc m) G new (gathered-rising validWord (hashOf p g) f from (q + suc m) all) absent said above
+      ∙ ap (λ (l : List Star). pour l (carriedPast (hashOf p g) f (from + q) (suc m) (new ∷ [])))
+      (ap (left (hashOf p g) from (q + suc m)) (sym (filter-all (λ (x : Star). true) (λ x. refl) G)) ∙ sound-fits validWord (hashOf p g) f (p .pages) from (q + suc m) (λ (x : Star). true) sized inside all)
+      ∙ ap (λ (n : ℕ). carriedPast (hashOf p g) f n (suc m) (new ∷ [])) at-page
+
+  entered-pages : (cs : List Contents) → cs ≡ cascaded (hashOf p g) f page (suc m) (new ∷ []) → length cs ≡ suc m
+      → enteredPages p g f k (q + suc m) word owner ≡ pagesAt (p .places) f from q ++ cs
+  unfolding hashOf G
+  entered-pages cs e size =
+      new-pages (hashOf p g) f from q (suc m) G new (gathered-rising validWord (hashOf p g) f from (q + suc m) all) absent said above
+      ∙ ap (written q (cascaded (hashOf p g) f (from + q) (suc m) (new ∷ [])))
+      (sym said ∙ pagesAt-add (p .places) f from q (suc m) ∙ ap (λ (l : List Contents). A ++ l) (sym (append-nil Q)))
+      ∙ ap (λ (l : List Contents). written q l (A ++ (Q ++ []))) (ap (λ (n : ℕ). cascaded (hashOf p g) f n (suc m) (new ∷ [])) at-page ∙ sym e)
+      ∙ written-middle q A Q cs [] (length-pagesAt (p .places) f from q) (size ∙ sym (length-pagesAt (p .places) f (from + q) (suc m)))
+      ∙ ap (λ (l : List Contents). A ++ l) (append-nil cs)
+    where
+      A : List Contents
+      A = pagesAt (p .places) f from q
+
+      Q : List Contents
+      Q = pagesAt (p .places) f (from + q) (suc m)
 
   -- newcomers stay on its pages
   module _ (ended : carriedPast (hashOf p g) f page (suc m) (new ∷ []) ≡ []) where
@@ -428,15 +467,49 @@ module _ (p : Parameters) (g : Growth) (f : File) (k page : ℕ) (valid : validP
         → take (end + 1 - page) (drop page planned′) ≡ take (end + 1 - page) (drop page planned)
         → on ≡ namedPage p g (written page (take (end + 1 - page) (drop page planned)) (f .separators)) k
         → Decides p g f new pool planned′ (Planned page (end + 1 - page) on)
-    unfolding applied
     pushed-decided planned′ on long same named =
         let count : end + 1 - page ≡ n = omega (arith, low) in
-        let files : applied (p .places) page (end + 1 - page) k word owner pool planned f ≡ entryFile p g f new = rw count pushed-file in
-        record {
-          answers = answered none-over on (named ∙ ap (λ (x : File). namedPage p g (x .separators) k) files);
-          files = rw same files;
-          feasible = (
-            omega (arith, low, high, run-high p g f k valid sized number unheld last is),
-            omega (arith, low, high, long, run-high p g f k valid sized number unheld last is),
-          );
-        }
+        written-decided p g f k word owner last (run-ends none-over) pool planned planned′ page end on (omega (arith, page-low, page-inside, sized .ofSeparators)) low
+        (omega (arith, high, run-high p g f k valid sized number unheld last is)) long (rw count pushed-file) same named
+
+-- Newcomers that leave such a run.
+module _ (p : Parameters) (g : Growth) (f : File) (k page : ℕ) (valid : validParameters p ≡ true) (sized : Sized (p .places) (p .pages) f)
+    (number : validNumber k ≡ true) (unheld : Unheld p g f k) (here : page ≡ namedPage p g (f .separators) k) (last : ℕ) (is : last ≡ blockEnd p g f (entryStart p g k))
+    (sound : (q : ℕ) → entryStart p g k ≤ q → q ≤ last → soundAt p g f q ≡ true)
+    (ruled : pagesAt (p .places) f (entryStart p g k) (pagesTo (entryStart p g k) last)
+    ≡ pages (hashOf p g) (entryStart p g k) (pagesTo (entryStart p g k) last) (gathered (p .places) f (entryStart p g k) (pagesTo (entryStart p g k) last)))
+    (pool planned w : List ℕ) (P : Pushed p g f k page pool planned w (pagesTo page last)) (some : 0 < length w) where
+  low : entryStart p g k ≤ page
+  low = omega (arith, here, named-low p g f k sized unheld)
+
+  high : page ≤ last
+  high = omega (arith, here, named-high p g f k valid sized number unheld last is sound)
+
+  pub pushed-leaves : LeavesRun p g f k page last pool planned w
+  pushed-leaves =
+      record {
+        ends = is;
+        sound =
+            subst (λ (n : ℕ). firstUnsound p g f (entryStart p g k) (pagesTo (entryStart p g k) n) ≡ entryStart p g k + pagesTo (entryStart p g k) n) is
+            (sound-to p g f k last (omega (arith, low, high)) sound);
+        some = some;
+        low = high;
+        kept = page - entryStart p g k;
+        count = pagesTo page last;
+        at = omega (arith, high);
+        spanned =
+            record {
+              starts = omega (arith, low);
+              most = P .most;
+              sound = λ q a b. sound q a (omega (arith, b, high));
+              contents = P .contents;
+              sources = P .sources;
+              separators-are = P .separators-are;
+              all-sourced = P .all-sourced;
+              are = λ word owner.
+                  entered-pages p g f k page valid sized number unheld here last is sound ruled word owner (map (mapped (renamed (f .words) (f .owners) word owner)) (P .contents)) (P .are word owner)
+                  (length-map (P .contents) (mapped (renamed (f .words) (f .owners) word owner)) ∙ P .size);
+              carried = λ word owner. P .carried word owner ∙ sym (entered-left p g f k page valid sized number unheld here last is sound ruled word owner);
+              words = P .words;
+            };
+      }

@@ -30,10 +30,10 @@ use Rattle.page_plan.proofs.RuleOverWords.{homed-append}
 use Rattle.page_plan.proofs.Stretch.{sources-column}
 use Rattle.page_plan.proofs.Placed.{probes-real, stretch-on, taken-on}
 use Rattle.entry_reach.specs.Entry.{Unheld}
-use Rattle.entry_reach.specs.Pushing.{pageWords}
-use Rattle.entry_reach.specs.Pushing.{loweredTo, loweredOn, Lowered}
+use Rattle.entry_reach.specs.Blocks.{apart}
+use Rattle.entry_reach.specs.Pushing.{pageWords, loweredTo, loweredOn, Lowered}
 use Rattle.entry_reach.proofs.Tying.{stay-tie, pass-tie, lower-tie}
-use Rattle.entry_reach.proofs.PageWords.{apart, page-homed, page-near, page-meets}
+use Rattle.entry_reach.proofs.PageWords.{page-homed, page-near, page-meets}
 
 -- where it is written
 

@@ -93,13 +93,16 @@ pub record Decides (p : Parameters) (g : Growth) (f : File) (s : Star) (pool pla
   pub files : carriedOut (p .places) s pool planned f d ≡ entryFile p g f s
   pub feasible : Feasible p f (s .number) planned d
 
--- where the reach ends, applying its plan enters the star, with any word and owner
-abbrev pub Applies : Parameters → Growth → File → ℕ → List ℕ → List ℕ → Reach → Type 0
-Applies p g f k pool planned r =
+-- where the reach ends, applying its plan, of the pages from `start` on, enters the star, with any word and owner
+abbrev pub AppliesFrom : Parameters → Growth → File → ℕ → ℕ → List ℕ → List ℕ → Reach → Type 0
+AppliesFrom p g f k start pool planned r =
     (word owner last : ℕ)
     → r ≡ Ends last
     → (last < p .pages)
-    × (applied (p .places) (entryStart p g k) (pagesTo (entryStart p g k) last) k word owner pool planned f ≡ entryFile p g f (newStar k word owner))
+    × (applied (p .places) start (pagesTo start last) k word owner pool planned f ≡ entryFile p g f (newStar k word owner))
+
+abbrev pub Applies : Parameters → Growth → File → ℕ → List ℕ → List ℕ → Reach → Type 0
+Applies p g f k = AppliesFrom p g f k (entryStart p g k)
 
 -- the block from page lo: its last page, how many pages it has, and the words of its stars
 abbrev pub blockEnd : Parameters → Growth → File → ℕ → ℕ

@@ -12,6 +12,7 @@ ghost use Rattle.hashing.specs.Limits.{validParameters};
 ghost use Rattle.reach.specs.Reach.{firstSuch, storedTop};
 ghost use Rattle.page_separator.specs.Probes.{homesUpTo};
 ghost use Rattle.entry_reach.specs.Entry.{Unheld, newStar, reachAnswer, Applies, Extends, PlansBlock};
+ghost use Rattle.entry_reach.specs.Blocks.{PlansOnward};
 use hashing::Geometry;
 use hashing::Parameters;
 
@@ -122,9 +123,8 @@ fn plan_block(
     Block::Planned(left)
 }
 
-// Plans the reach, from its home on, of the entry of a number that the file does not hold. The pool gets the sources of the reach's places and `planned` its separators;
-// the new star's source is the one past the items.
-pub fn plan_entry(
+// Plans block after block, from `first` on, with the `incoming` words at the front of `waiting`, until nothing is carried on.
+pub fn plan_onward(
     table: &[u32; 90],
     geometry: Geometry,
     separators: &[u8],
@@ -134,24 +134,19 @@ pub fn plan_entry(
     pool: &mut [u32],
     waiting: &mut [u64],
     planned: &mut [u8],
-    number: u32,
-    home: u32,
     first: Extent,
+    incoming: usize,
 ) -> Reach
     requires { ⌜ Ready geometry (now table) (held separators numbers words owners) ⌝ }
     requires { ⌜ (length (now pool) ≡ geometry .parameters .pages * geometry .parameters .places) × (length (now waiting) ≡ geometry .parameters .pages * geometry .parameters .places) ⌝ }
     requires { ⌜ geometry .parameters .pages ≤ length (now planned) ⌝ }
-    requires { ⌜ validNumber number ≡ true ⌝ }
-    requires { ⌜ Unheld (geometry .parameters) (geometry .growth) (held separators numbers words owners) number ⌝ }
-    requires { ⌜ (home ≡ homeUnder geometry number) × (home ≡ first .first) ⌝ }
+    requires { ⌜ (incoming ≤ length (now waiting)) × (homesUpTo (first .first) (take incoming (now waiting)) ≡ true) ⌝ }
     requires { ⌜ Extends (geometry .parameters) (geometry .growth) (held separators numbers words owners) (now pool) first ⌝ }
-    ensures { λ r. ⌜ ((word owner : ℕ) → r ≡ reachAnswer (geometry .parameters) (geometry .growth) (before separators numbers words owners) (newStar number word owner)) ⌝ }
-    ensures { λ r. ⌜ Applies (geometry .parameters) (geometry .growth) (before separators numbers words owners) number (now (pool .exit)) (now (planned .exit)) r ⌝ }
+    ensures { λ r. ⌜ PlansOnward geometry (before separators numbers words owners) (first .first) incoming pool waiting planned r ⌝ }
 {
     let pages = geometry.parameters.pages as usize;
-    waiting[0] = page_separator::pack(home, number, numbers.len() + 1);
     let mut block = first;
-    let mut carried = 1;
+    let mut carried = incoming;
     loop {
         match plan_block(
             table,
@@ -182,4 +177,46 @@ pub fn plan_entry(
             }
         }
     }
+}
+
+// Plans the reach, from its home on, of the entry of a number that the file does not hold. The pool gets the sources of the reach's places and `planned` its separators;
+// the new star's source is the one past the items.
+pub fn plan_entry(
+    table: &[u32; 90],
+    geometry: Geometry,
+    separators: &[u8],
+    numbers: &[u32],
+    words: &[u64],
+    owners: &[u8],
+    pool: &mut [u32],
+    waiting: &mut [u64],
+    planned: &mut [u8],
+    number: u32,
+    home: u32,
+    first: Extent,
+) -> Reach
+    requires { ⌜ Ready geometry (now table) (held separators numbers words owners) ⌝ }
+    requires { ⌜ (length (now pool) ≡ geometry .parameters .pages * geometry .parameters .places) × (length (now waiting) ≡ geometry .parameters .pages * geometry .parameters .places) ⌝ }
+    requires { ⌜ geometry .parameters .pages ≤ length (now planned) ⌝ }
+    requires { ⌜ validNumber number ≡ true ⌝ }
+    requires { ⌜ Unheld (geometry .parameters) (geometry .growth) (held separators numbers words owners) number ⌝ }
+    requires { ⌜ (home ≡ homeUnder geometry number) × (home ≡ first .first) ⌝ }
+    requires { ⌜ Extends (geometry .parameters) (geometry .growth) (held separators numbers words owners) (now pool) first ⌝ }
+    ensures { λ r. ⌜ ((word owner : ℕ) → r ≡ reachAnswer (geometry .parameters) (geometry .growth) (before separators numbers words owners) (newStar number word owner)) ⌝ }
+    ensures { λ r. ⌜ Applies (geometry .parameters) (geometry .growth) (before separators numbers words owners) number (now (pool .exit)) (now (planned .exit)) r ⌝ }
+{
+    waiting[0] = page_separator::pack(home, number, numbers.len() + 1);
+    plan_onward(
+        table,
+        geometry,
+        separators,
+        numbers,
+        words,
+        owners,
+        pool,
+        waiting,
+        planned,
+        first,
+        1,
+    )
 }

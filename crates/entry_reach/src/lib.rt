@@ -2,6 +2,7 @@
 // after block.
 mod blocks;
 mod newcomers;
+mod onward;
 mod run;
 mod star;
 mod stretch;

@@ -19,6 +19,7 @@ ghost use Rattle.decision.specs.Carried.{newcomer};
 ghost use Rattle.entry_reach.specs.Entry.{Enters, Decides, KnownTo};
 ghost use Rattle.entry_reach.specs.Pushing.{Lowered, PushesPage, PushesTo, Ruled, isVacant};
 use crate::blocks::surveyed_block;
+use crate::onward::decide_onward;
 use crate::stretch::decide_stretch;
 use decision::Decision;
 use decision::Newcomer;
@@ -29,6 +30,12 @@ use hashing::Parameters;
 pub struct Onward {
     pub from: usize,
     pub reach: usize,
+}
+
+// The last page that newcomers come to; or how many words are carried past the run.
+pub enum Pushing {
+    Ends(usize),
+    Leaves(usize),
 }
 
 // The words of the page's stars, whose homes the pool holds, behind the first `end`; the answer is where they end.
@@ -128,7 +135,22 @@ fn push_page(
     Onward { from: on, reach }
 }
 
-// The last page that newcomers come to; or the page past `last`, where some are carried on. The pages up to `last` are known.
+// The words from `from` up to `end`, moved to the front.
+fn move_front(waiting: &mut [u64], from: usize, end: usize) -> usize
+    requires { ⌜ (from ≤ end) × (end ≤ length (now waiting)) ⌝ }
+    ensures { λ r. ⌜ r ≡ end - from ⌝ }
+    ensures { λ r. ⌜ take r (now (waiting .exit)) ≡ slice from end (now (waiting .entry)) ⌝ }
+{
+    let left = end - from;
+    let mut i = 0;
+    while i < left {
+        waiting[i] = waiting[from + i];
+        i += 1;
+    }
+    left
+}
+
+// Newcomers pushed from the star's page up to `last`. The pages up to it are known; words carried past it stand at the front of the list.
 fn push_within(
     table: &[u32; 90],
     geometry: Geometry,
@@ -141,25 +163,20 @@ fn push_within(
     planned: &mut [u8],
     star: Newcomer,
     last: usize,
-) -> usize
+) -> Pushing
     requires { ⌜ Enters geometry (now table) (held separators numbers words owners) (star .number) (star .home) (star .page) ⌝ }
     requires { ⌜ (length (now pool) ≡ geometry .parameters .pages * geometry .parameters .places) × (length (now waiting) ≡ geometry .parameters .pages * geometry .parameters .places) ⌝ }
     requires { ⌜ geometry .parameters .pages ≤ length (now planned) ⌝ }
-    requires { ⌜ (star .page ≤ last) × (last < geometry .parameters .pages) ⌝ }
+    requires { ⌜ (star .page ≤ last) × ((last < geometry .parameters .pages) × (last + 1 - star .page < geometry .parameters .pages)) ⌝ }
     requires { ⌜ KnownTo (geometry .parameters) (geometry .growth) (held separators numbers words owners) (now pool) (star .page) (last + 1) ⌝ }
-    ensures { λ r. ⌜ PushesTo (geometry .parameters) (geometry .growth) (before separators numbers words owners) (star .number) (star .page) last (now (pool .exit)) (now (planned .exit)) r ⌝ }
+    ensures { λ r. ⌜ PushesTo (geometry .parameters) (geometry .growth) (before separators numbers words owners) (star .number) (star .page) last
+        (now (pool .exit)) (now (planned .exit)) (now (waiting .exit)) r ⌝ }
 {
-    let pages = geometry.parameters.pages as usize;
-    let stop = last + 1;
-    // the words of all pages and the star's do not fit into the list
-    if stop - star.page == pages {
-        return stop;
-    }
     waiting[0] = page_separator::pack(star.home, star.number, numbers.len() + 1);
     let mut at = star.page;
     let mut from = 0;
     let mut end = 1;
-    while at < stop {
+    while at <= last {
         let next = push_page(
             table,
             geometry,
@@ -177,15 +194,15 @@ fn push_within(
         from = next.from;
         end = next.reach;
         if from == end {
-            return at;
+            return Pushing::Ends(at);
         }
         at += 1;
     }
-    at
+    Pushing::Leaves(move_front(waiting, from, end))
 }
 
 // The page that holds the star, by the planned separators of the pages from `page` to `end` and the stored ones of all others, which `planned` gets.
-fn name_page(
+pub fn name_page(
     table: &[u32; 90],
     geometry: Geometry,
     separators: &[u8],
@@ -210,7 +227,7 @@ fn name_page(
 }
 
 // Whether the page's last place is empty.
-pub fn has_room(parameters: Parameters, numbers: &[u32], page: usize) -> bool
+fn has_room(parameters: Parameters, numbers: &[u32], page: usize) -> bool
     requires { ⌜ validParameters parameters ≡ true ⌝ }
     requires { ⌜ page < 1024 ⌝ }
     requires { ⌜ page * parameters .places + parameters .places ≤ length (now numbers) ⌝ }
@@ -221,8 +238,7 @@ pub fn has_room(parameters: Parameters, numbers: &[u32], page: usize) -> bool
     numbers[page * places + end] == 0
 }
 
-// Only newcomers move: the star alone if its own page has room. Where they leave the run, the reach is planned, and a pushed page's homes are
-// written over by then.
+// Only newcomers move: the star alone if its own page has room. Where they leave the run, the reach is planned from there on.
 pub fn decide_clean(
     table: &[u32; 90],
     geometry: Geometry,
@@ -247,22 +263,11 @@ pub fn decide_clean(
         let place = star.place as usize;
         return Decision::Put(star.page, place);
     }
-    let end = push_within(
-        table,
-        geometry,
-        separators,
-        numbers,
-        words,
-        owners,
-        pool,
-        waiting,
-        planned,
-        star,
-        last,
-    );
-    if last < end {
+    let stop = last + 1;
+    // the words of all pages and the star's do not fit into the list
+    if stop - star.page == geometry.parameters.pages as usize {
         let from = star.home as usize;
-        let first = surveyed_block(geometry.parameters, from, last, from);
+        let first = surveyed_block(geometry.parameters, from, last, stop);
         return decide_stretch(
             table,
             geometry,
@@ -277,16 +282,46 @@ pub fn decide_clean(
             first,
         );
     }
-    let page = name_page(
+    match push_within(
         table,
         geometry,
         separators,
+        numbers,
+        words,
+        owners,
+        pool,
+        waiting,
         planned,
-        star.number,
-        star.home,
-        star.page,
-        end,
-    );
-    let count = end + 1 - star.page;
-    Decision::Planned(star.page, count, page)
+        star,
+        last,
+    ) {
+        Pushing::Leaves(carried) => decide_onward(
+            table,
+            geometry,
+            separators,
+            numbers,
+            words,
+            owners,
+            pool,
+            waiting,
+            planned,
+            star,
+            last,
+            carried,
+        ),
+        Pushing::Ends(end) => {
+            let page = name_page(
+                table,
+                geometry,
+                separators,
+                planned,
+                star.number,
+                star.home,
+                star.page,
+                end,
+            );
+            let count = end + 1 - star.page;
+            Decision::Planned(star.page, count, page)
+        }
+    }
 }

@@ -1,46 +1,18 @@
 // An entry into a long run of pages that are the rule's. A run goes from a star's home to the first page whose stored separator is 2^k − 1, or page M−1.
 ghost use mathlib.Core.Path.{_≡_};
-ghost use mathlib.Core.Bool.{true, false, cond, _||_};
-ghost use Prim.Native.Nat.{_+_, _-_, _*_, _≤_, _<_};
-ghost use lib.Dec.{ltb};
+ghost use Prim.Native.Nat.{_*_, _≤_};
 ghost use lib.ListN.{length};
-ghost use Rattle.hashing.specs.Limits.{validParameters};
 ghost use Rattle.pages.specs.Page.{part, placeOf};
 ghost use Rattle.placement.specs.Lent.{held, before};
 ghost use Rattle.reach.specs.Known.{Known};
 ghost use Rattle.decision.specs.Carried.{newcomer};
 ghost use Rattle.entry_reach.specs.Entry.{Enters, Decides, blockEnd};
-ghost use Rattle.entry_reach.specs.Pushing.{isVacant};
 use crate::blocks::surveyed_block;
 use crate::newcomers::decide_clean;
-use crate::newcomers::has_room;
 use crate::stretch::decide_stretch;
 use decision::Decision;
 use decision::Newcomer;
 use hashing::Geometry;
-use hashing::Parameters;
-
-// Whether testing the run saves time: it is long, and newcomers will most likely stay in it.
-pub fn may_gain(
-    parameters: Parameters,
-    numbers: &[u32],
-    from: usize,
-    last: usize,
-    page: usize,
-) -> bool
-    requires { ⌜ validParameters parameters ≡ true ⌝ }
-    requires { ⌜ (from ≤ last) × ((page < 1024) × (last < 1024)) ⌝ }
-    requires { ⌜ (page * parameters .places + parameters .places ≤ length (now numbers)) × (last * parameters .places + parameters .places ≤ length (now numbers)) ⌝ }
-    ensures { λ r. ⌜ r ≡ cond (ltb (last - from) 8) false (isVacant parameters (now (numbers .entry)) page || isVacant parameters (now (numbers .entry)) last) ⌝ }
-{
-    if last - from < 8 {
-        return false;
-    }
-    if has_room(parameters, numbers, page) {
-        return true;
-    }
-    has_room(parameters, numbers, last)
-}
 
 // Where the run's pages are the rule's, only newcomers move; else the whole reach is planned. The known page is the named one.
 pub fn decide_run(

@@ -12,7 +12,6 @@ ghost use Rattle.decision.specs.Carried.{newcomer};
 ghost use Rattle.entry_reach.specs.Entry.{Enters, Decides, entryAnswer, entryFile};
 use crate::blocks::block_from;
 use crate::run::decide_run;
-use crate::run::may_gain;
 use crate::stretch::decide_stretch;
 use decision::Decision;
 use decision::Newcomer;
@@ -43,7 +42,8 @@ fn decide(
     let from = star.home as usize;
     let first = block_from(geometry.parameters, separators, from, star.page);
     let last = first.last;
-    if may_gain(geometry.parameters, numbers, from, last, star.page) {
+    // a shorter run is planned as soon as it is tested
+    if last - from >= 8 {
         return decide_run(
             table,
             geometry,

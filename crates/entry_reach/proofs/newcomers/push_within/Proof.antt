@@ -19,21 +19,22 @@ use Rattle.entry_reach.specs.Entry.{KnownTo}
 use Rattle.entry_reach.specs.Pushing.{pageWords}
 use Rattle.entry_reach.proofs.Reached.{some-items}
 use Rattle.entry_reach.proofs.Pushed.{small, few, new-packed}
-use Rattle.entry_reach.proofs.PushLoop.{Rolling, rolling-none, rolling-near, rolling-room, rolling-ends, rolling-next, rolling-known, words-room}
+use Rattle.entry_reach.proofs.PushLoop.{Rolling, rolling-none, rolling-near, rolling-room, rolling-ends, rolling-next, rolling-known, rolling-leaves, words-room}
 use Rattle.entry_reach.proofs.newcomers.push_within.Statement.{statement}
 use Rattle.entry_reach.proofs.newcomers.push_within.Tie as tie
 
 abbrev Inv-loop : tie.InvT-loop
-Inv-loop table geometry separators numbers words owners pool₀ waiting₀ planned₀ last pages stop at₀ from₀ end₀ pool waiting planned at from end =
+Inv-loop table geometry separators numbers words owners pool₀ waiting₀ planned₀ last at₀ from₀ end₀ pool waiting planned at from end =
     (length pool ≡ length pool₀)
     × ((length waiting ≡ length waiting₀)
     × ((length planned ≡ length planned₀)
-    × (KnownTo (geometry .parameters) (geometry .growth) (lent separators numbers words owners) pool at stop
-    × ((k : ℕ) → k ≡ numberIn (getD waiting₀ 0 0) → Rolling (geometry .parameters) (geometry .growth) (lent separators numbers words owners) k at₀ pool planned waiting at from end))))
+    × ((at ≤ last + 1)
+    × (KnownTo (geometry .parameters) (geometry .growth) (lent separators numbers words owners) pool at (last + 1)
+    × ((k : ℕ) → k ≡ numberIn (getD waiting₀ 0 0) → Rolling (geometry .parameters) (geometry .growth) (lent separators numbers words owners) k at₀ pool planned waiting at from end)))))
 
 abbrev μ-loop : tie.MeasureT-loop
-μ-loop table geometry separators numbers words owners pool₀ waiting₀ planned₀ last pages stop at₀ from₀ end₀ pool waiting planned at from end =
-    stop - at
+μ-loop table geometry separators numbers words owners pool₀ waiting₀ planned₀ last at₀ from₀ end₀ pool waiting planned at from end =
+    last + 1 - at
 
 abbrev Start : Type 0
 Start = tie.Start Inv-loop μ-loop
@@ -64,10 +65,10 @@ abbrev packed : Head → tie.After-pack Inv-loop μ-loop
 packed h = h .before
 
 abbrev begun : Head → Start
-begun h = h .before .before .before .before .before .before .before .before .before .before .before .before
+begun h = h .before .before .before .before .before .before .before .before .before
 
 rolls : (h : Head) → Rolling (begun h .args .geometry .parameters) (begun h .args .geometry .growth) (file (begun h)) (begun h .args .star .number) (begun h .args .star .page) (h .loop .pool) (h .loop .planned) (h .loop .waiting) (h .loop .at) (h .loop .from) (h .loop .end)
-rolls h = h .loop .inv .1 .1 .1 .1 (begun h .args .star .number) (named (begun h) (packed h .pack .result) (packed h .pack .ensures))
+rolls h = h .loop .inv .1 .1 .1 .1 .1 (begun h .args .star .number) (named (begun h) (packed h .pack .result) (packed h .pack .ensures))
 
 pool-long : (h : Head) → length (h .loop .pool) ≡ begun h .args .geometry .parameters .pages * begun h .args .geometry .parameters .places
 pool-long h = h .loop .inv .0 ∙ begun h .pre .1 .0 .0
@@ -83,7 +84,7 @@ planned-long h = omega (arith, h .loop .inv .1 .1 .0, begun h .pre .1 .1 .0)
 
 -- the pages are not all
 some : (h : Head) → begun h .args .last + 1 - begun h .args .star .page < begun h .args .geometry .parameters .pages
-some h = omega (arith, h .before .before .if1 .left, begun h .pre .1 .1 .1 .0)
+some h = begun h .pre .1 .1 .1 .0 .1 .1
 
 -- from the page's plan on
 abbrev Place : Type 0
@@ -93,16 +94,19 @@ abbrev head : Place → Head
 head x = x .before .before .before .before .before
 
 inside : (x : Place) → head x .loop .at < begun (head x) .args .geometry .parameters .pages
-inside x = omega (arith, x .before .before .before .before .loop-test .taken, begun (head x) .pre .1 .1 .1 .0 .1)
+inside x = omega (arith, x .before .before .before .before .loop-test .taken, begun (head x) .pre .1 .1 .1 .0 .1 .0)
+
+within : (x : Place) → head x .loop .at < begun (head x) .args .last + 1
+within x = omega (arith, x .before .before .before .before .loop-test .taken)
 
 sound : (x : Place) → soundAt (begun (head x) .args .geometry .parameters) (begun (head x) .args .geometry .growth) (file (begun (head x))) (head x .loop .at) ≡ true
-sound x = head x .loop .inv .1 .1 .1 .0 (head x .loop .at) (le-refl _) (x .before .before .before .before .loop-test .taken) .sound (inside x)
+sound x = head x .loop .inv .1 .1 .1 .1 .0 (head x .loop .at) (le-refl _) (within x) .sound (inside x)
 
 few-words : (x : Place) → length (pageWords (begun (head x) .args .geometry .parameters) (begun (head x) .args .geometry .growth) (file (begun (head x))) (head x .loop .at)) ≤ begun (head x) .args .geometry .parameters .places
 few-words x =
     let s = begun (head x) in
     words-room (s .args .geometry .parameters) (s .args .geometry .growth) (file s) (s .pre .0 .ready .homing .valid) (s .pre .0 .ready .sized) (head x .loop .at) (inside x) (sound x) (head x .loop .pool)
-    (head x .loop .inv .1 .1 .1 .0 (head x .loop .at) (le-refl _) (x .before .before .before .before .loop-test .taken) .kept (inside x))
+    (head x .loop .inv .1 .1 .1 .1 .0 (head x .loop .at) (le-refl _) (within x) .kept (inside x))
 
 waiting-kept : (x : Place) → length (x .push-page .last .1 .1 .1 .1 .1 .1 .1 .0) ≡ length (now (begun (head x) .args .waiting))
 waiting-kept x = x .push-page .kept .1 .1 .1 .1 .1 .1 .1 .0 ∙ waiting-same (head x)
@@ -113,26 +117,14 @@ roomy h t =
     rolling-room (s .args .geometry .parameters) (s .args .geometry .growth) (file s) (s .args .star .number) (s .args .star .page) (s .pre .0 .ready .homing .valid) (s .pre .0 .ready .sized) (s .pre .0 .number) (s .pre .0 .unheld) (s .pre .0 .here) (h .loop .pool) (h .loop .planned) (h .loop .waiting) (h .loop .at) (h .loop .from) (h .loop .end) (rolls h) (s .args .last + 1) t (some h)
 
 come : (x : Place) → x .push-page .result .reach ≤ length (x .push-page .last .1 .1 .1 .1 .1 .1 .1 .0)
-come x = omega (arith, x .push-page .ensures .ends, few-words x, roomy (head x) (x .before .before .before .before .loop-test .taken), waiting-kept x, begun (head x) .pre .1 .0 .1)
-
-cast-pages : tie.Need-cast-pages Inv-loop μ-loop
-cast-pages c = search needs
-
-add-stop : tie.Need-add-stop Inv-loop μ-loop
-add-stop c = let s = c .before .before .before .before .before .before .before .before in omega (arith, s .pre .1 .1 .1 .0, bounds s .pages-most)
-
-sub-if1 : tie.Need-sub-if1 Inv-loop μ-loop
-sub-if1 c = let s = c .before .before .before .before .before .before .before .before .before in omega (arith, s .pre .1 .1 .1 .0)
-
-returns : tie.Need-returns Inv-loop μ-loop
-returns c = λ h. absurd (omega arith)
+come x = omega (arith, x .push-page .ensures .ends, few-words x, roomy (head x) (within x), waiting-kept x, begun (head x) .pre .1 .0 .1)
 
 add-pack : tie.Need-add-pack Inv-loop μ-loop
 add-pack c = search needs
 
 pack-requires : tie.Need-pack-requires Inv-loop μ-loop
 pack-requires c κs =
-    let s = c .before .before .before .before .before .before .before .before .before .before in (
+    let s = c .before .before .before .before .before .before .before in (
       omega (arith, s .pre .0 .homed, home-pages (multiplierOf (s .args .geometry .parameters)) (s .args .geometry .parameters) (s .args .geometry .growth) (s .args .star .number) (s .pre .0 .ready .homing .valid) (s .pre .0 .ready .homing .growth), bounds s .pages-most),
       (
         small (s .args .geometry .parameters) (s .args .geometry .growth) (file s) (s .args .star .number) (s .args .star .page) (s .pre .0 .ready .homing .valid) (s .pre .0 .ready .sized) (s .pre .0 .number) (s .pre .0 .unheld) (s .pre .0 .here),
@@ -141,11 +133,11 @@ pack-requires c κs =
     )
 
 slice-write-waiting : tie.Need-slice-write-waiting Inv-loop μ-loop
-slice-write-waiting c = omega (arith, items (c .before .before .before .before .before .before .before .before .before .before .before))
+slice-write-waiting c = omega (arith, items (c .before .before .before .before .before .before .before .before))
 
 loop-holds : tie.Need-loop-holds Inv-loop μ-loop
 loop-holds c =
-    let s = c .before .before .before .before .before .before .before .before .before .before .before in
+    let s = c .before .before .before .before .before .before .before .before in
     let e = s .pre .0 in
     let p = s .args .geometry .parameters in
     let g = s .args .geometry .growth in
@@ -158,10 +150,13 @@ loop-holds c =
         (
           refl,
           (
-            s .pre .1 .1 .1 .1,
-            λ k same.
-                subst (λ (k : ℕ). Rolling p g (file s) k (s .args .star .page) (now (s .args .pool)) (now (s .args .planned)) (set (now (s .args .waiting)) 0 (c .pack .result)) (s .args .star .page) 0 1)
-                (named s (c .pack .result) (c .pack .ensures) ∙ sym same) first,
+            omega (arith, s .pre .1 .1 .1 .0 .0),
+            (
+              s .pre .1 .1 .1 .1,
+              λ k same.
+                  subst (λ (k : ℕ). Rolling p g (file s) k (s .args .star .page) (now (s .args .pool)) (now (s .args .planned)) (set (now (s .args .waiting)) 0 (c .pack .result)) (s .args .star .page) 0 1)
+                  (named s (c .pack .result) (c .pack .ensures) ∙ sym same) first,
+            ),
           ),
         ),
       ),
@@ -170,15 +165,15 @@ loop-holds c =
 push-page-requires : tie.Need-push-page-requires Inv-loop μ-loop
 push-page-requires c κs =
     let h = c .before .before .before .before in
-    let t = c .before .before .before .loop-test .taken in
-    let s = begun h in (
+    let s = begun h in
+    let t : h .loop .at < s .args .last + 1 = omega (arith, c .before .before .before .loop-test .taken) in (
       s .pre .0 .ready,
       (
         (pool-long h, waiting-long h),
         (
-          (planned-long h, omega (arith, t, s .pre .1 .1 .1 .0 .1)),
+          (planned-long h, omega (arith, t, s .pre .1 .1 .1 .0 .1 .0)),
           (
-            h .loop .inv .1 .1 .1 .0 (h .loop .at) (le-refl _) t,
+            h .loop .inv .1 .1 .1 .1 .0 (h .loop .at) (le-refl _) t,
             (
               omega (arith, rolls h .some),
               (
@@ -200,23 +195,25 @@ same-length-2 c = waiting-kept (c .before .before .before .before .before .befor
 same-length-3 : tie.Need-same-length-3 Inv-loop μ-loop
 same-length-3 c = let x = c .before .before .before .before .before .before .before in x .push-page .kept .1 .1 .1 .1 .1 .1 .1 .1 .0 ∙ head x .loop .inv .1 .1 .0
 
-returns-2 : tie.Need-returns-2 Inv-loop μ-loop
-returns-2 c =
-    λ h.
+returns : tie.Need-returns Inv-loop μ-loop
+returns c =
     let x = c .before .before .before .before .before .before .before in
     let l = head x .loop in
     let s = begun (head x) in (
       omega (arith, rolls (head x) .place),
-      (λ word owner.
-          rolling-ends (s .args .geometry .parameters) (s .args .geometry .growth) (file s) (s .args .star .number) (s .args .star .page) (s .pre .0 .ready .homing .valid) (s .pre .0 .ready .sized) (s .pre .0 .number) (s .pre .0 .unheld) (s .pre .0 .here) (l .pool) (l .planned) (l .waiting) (l .at) (l .from) (l .end) (rolls (head x)) (inside x) (sound x) (few-words x) (pool-long (head x)) (planned-long (head x))
-          (x .push-page .last .1 .1 .1 .1 .1 .1 .0) (x .push-page .last .1 .1 .1 .1 .1 .1 .1 .1 .0) (x .push-page .last .1 .1 .1 .1 .1 .1 .1 .0) (x .push-page .result) (x .push-page .ensures) (come x) (c .if2 .taken) word owner),
+      (
+        omega (arith, within x),
+        λ word owner.
+            rolling-ends (s .args .geometry .parameters) (s .args .geometry .growth) (file s) (s .args .star .number) (s .args .star .page) (s .pre .0 .ready .homing .valid) (s .pre .0 .ready .sized) (s .pre .0 .number) (s .pre .0 .unheld) (s .pre .0 .here) (l .pool) (l .planned) (l .waiting) (l .at) (l .from) (l .end) (rolls (head x)) (inside x) (sound x) (few-words x) (pool-long (head x)) (planned-long (head x))
+            (x .push-page .last .1 .1 .1 .1 .1 .1 .0) (x .push-page .last .1 .1 .1 .1 .1 .1 .1 .1 .0) (x .push-page .last .1 .1 .1 .1 .1 .1 .1 .0) (x .push-page .result) (x .push-page .ensures) (come x) (c .if1 .taken) word owner,
+      ),
     )
 
 add-at : tie.Need-add-at Inv-loop μ-loop
 add-at c = let x = c .before .before .before .before .before .before .before in omega (arith, inside x, bounds (begun (head x)) .pages-most)
 
 loop-less : tie.Need-loop-less Inv-loop μ-loop
-loop-less c = let x = c .before .before .before .before .before .before .before in omega (arith, x .before .before .before .before .loop-test .taken)
+loop-less c = let x = c .before .before .before .before .before .before .before in omega (arith, within x)
 
 loop-again : tie.Need-loop-again Inv-loop μ-loop
 loop-again c =
@@ -234,28 +231,52 @@ loop-again c =
         (
           x .push-page .kept .1 .1 .1 .1 .1 .1 .1 .1 .0 ∙ l .inv .1 .1 .0,
           (
-            rolling-known p g (file s) (s .args .star .number) (s .args .star .page) (s .pre .0 .ready .homing .valid) (s .pre .0 .ready .sized) (s .pre .0 .number) (s .pre .0 .unheld) (s .pre .0 .here) (l .pool) (l .planned) (l .waiting) (l .at) (l .from) (l .end) (rolls (head x)) (inside x) (sound x) (few-words x) (pool-long (head x)) (planned-long (head x)) pool planned W (x .push-page .result) (x .push-page .ensures) (come x)
-                (s .args .last + 1) (l .inv .1 .1 .1 .0),
-            λ k same.
-                subst (λ (k : ℕ). Rolling p g (file s) k (s .args .star .page) pool planned W (l .at + 1) (x .push-page .result .from) (x .push-page .result .reach))
-                (named s (packed (head x) .pack .result) (packed (head x) .pack .ensures) ∙ sym same)
-                (rolling-next p g (file s) (s .args .star .number) (s .args .star .page) (s .pre .0 .ready .homing .valid) (s .pre .0 .ready .sized) (s .pre .0 .number) (s .pre .0 .unheld) (s .pre .0 .here) (l .pool) (l .planned) (l .waiting) (l .at) (l .from) (l .end) (rolls (head x)) (inside x) (sound x) (few-words x) (pool-long (head x)) (planned-long (head x)) pool planned W (x .push-page .result) (x .push-page .ensures) (come x) (c .if2 .left)),
+            omega (arith, within x),
+            (
+              rolling-known p g (file s) (s .args .star .number) (s .args .star .page) (s .pre .0 .ready .homing .valid) (s .pre .0 .ready .sized) (s .pre .0 .number) (s .pre .0 .unheld) (s .pre .0 .here) (l .pool) (l .planned) (l .waiting) (l .at) (l .from) (l .end) (rolls (head x)) (inside x) (sound x) (few-words x) (pool-long (head x)) (planned-long (head x)) pool planned W (x .push-page .result) (x .push-page .ensures) (come x)
+                  (s .args .last + 1) (l .inv .1 .1 .1 .1 .0),
+              λ k same.
+                  subst (λ (k : ℕ). Rolling p g (file s) k (s .args .star .page) pool planned W (l .at + 1) (x .push-page .result .from) (x .push-page .result .reach))
+                  (named s (packed (head x) .pack .result) (packed (head x) .pack .ensures) ∙ sym same)
+                  (rolling-next p g (file s) (s .args .star .number) (s .args .star .page) (s .pre .0 .ready .homing .valid) (s .pre .0 .ready .sized) (s .pre .0 .number) (s .pre .0 .unheld) (s .pre .0 .here) (l .pool) (l .planned) (l .waiting) (l .at) (l .from) (l .end) (rolls (head x)) (inside x) (sound x) (few-words x) (pool-long (head x)) (planned-long (head x)) pool planned W (x .push-page .result) (x .push-page .ensures) (come x) (c .if1 .left)),
+            ),
           ),
         ),
       ),
     )
 
+-- past the run
+moved : (h : Head) → (h .loop .from ≤ h .loop .end) × (h .loop .end ≤ length (h .loop .waiting))
+moved h = (omega (arith, rolls h .some), rolls h .within)
+
+move-front-requires : tie.Need-move-front-requires Inv-loop μ-loop
+move-front-requires c κs = moved (c .before .before)
+
 same-length-4 : tie.Need-same-length-4 Inv-loop μ-loop
-same-length-4 c = c .before .loop .inv .0
+same-length-4 c = c .before .before .before .before .before .loop .inv .0
 
 same-length-5 : tie.Need-same-length-5 Inv-loop μ-loop
-same-length-5 c = waiting-same (c .before)
+same-length-5 c = c .before .before .move-front .kept .0 ∙ waiting-same (c .before .before .before .before .before)
 
 same-length-6 : tie.Need-same-length-6 Inv-loop μ-loop
-same-length-6 c = c .before .loop .inv .1 .1 .0
+same-length-6 c = c .before .before .before .before .before .loop .inv .1 .1 .0
 
-returns-3 : tie.Need-returns-3 Inv-loop μ-loop
-returns-3 c = λ h. absurd (omega arith)
+returns-2 : tie.Need-returns-2 Inv-loop μ-loop
+returns-2 c =
+    let m = c .before .before .move-front in
+    let h = c .before .before .before .before .before in
+    let l = h .loop in
+    let s = begun h in
+    let count : m .result ≡ l .end - l .from = m .ensures .0 in
+    let there : l .at ≡ s .args .last + 1 = omega (arith, c .before .before .before .before .loop-test .left, l .inv .1 .1 .1 .0) in (
+      omega (arith, count, rolls h .some),
+      (
+        omega (arith, count, moved h .1, m .kept .0),
+        rw (m .ensures .1)
+            (rolling-leaves (s .args .geometry .parameters) (s .args .geometry .growth) (file s) (s .args .star .number) (s .args .star .page) (s .pre .0 .ready .homing .valid) (s .pre .0 .ready .sized) (s .pre .0 .number) (s .pre .0 .unheld) (s .pre .0 .here)
+            (l .pool) (l .planned) (l .waiting) (l .at) (l .from) (l .end) (rolls h) (s .args .last) (s .pre .1 .1 .1 .0 .0) there),
+      ),
+    )
 
 pub push-within-spec : {M : Type 1} → statement M
 push-within-spec =
@@ -263,10 +284,6 @@ push-within-spec =
     (tie.spec
     Inv-loop
     μ-loop
-    cast-pages
-    add-stop
-    sub-if1
-    returns
     add-pack
     pack-requires
     slice-write-waiting
@@ -275,11 +292,12 @@ push-within-spec =
     same-length
     same-length-2
     same-length-3
-    returns-2
+    returns
     add-at
     loop-less
     loop-again
+    move-front-requires
     same-length-4
     same-length-5
     same-length-6
-    returns-3)
+    returns-2)

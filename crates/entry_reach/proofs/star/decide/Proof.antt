@@ -2,13 +2,11 @@ use mathlib.Core.Path.{_≡_, refl, sym, ap}
 use Prim.Native.Nat.{_<_}
 use native.Mathlib.Omega.{arith}
 use denote.Ref.{now}
-use Rattle.hashing.proofs.Bounds.{limits}
-use Rattle.pages.proofs.Parts.{page-fits}
 use Rattle.placement.specs.File.{File}
 use Rattle.placement.specs.Hash.{lent}
 use Rattle.entry_reach.specs.declared.blocks.Extent.{Extent}
 use Rattle.entry_reach.specs.Entry.{blockEnd}
-use Rattle.entry_reach.proofs.Surveyed.{end-found, last-low, last-high, extent-from}
+use Rattle.entry_reach.proofs.Surveyed.{end-found, last-low, extent-from}
 use Rattle.entry_reach.proofs.Runs.{home-is, home-inside}
 use borrow.Author.Needs.{needs}
 use Rattle.entry_reach.proofs.star.decide.Statement.{statement}
@@ -37,29 +35,15 @@ cast-from c = search needs
 block-from-requires : tie.Need-block-from-requires
 block-from-requires c κs = let s = c .before .before .before .before .before .before .before .before in (s .pre .0 .ready .homing .valid, omega (arith, inside s, s .pre .0 .ready .sized .ofSeparators))
 
-may-gain-requires : tie.Need-may-gain-requires
-may-gain-requires c κs =
-    let k = c in
-    let s = start k in
-    let p = s .args .geometry .parameters in
-    let valid = s .pre .0 .ready .homing .valid in
-    let sized = s .pre .0 .ready .sized in
-    let most : s .args .star .page < p .pages = omega (arith, s .pre .0 .here, s .pre .0 .unheld .named) in
-    let last : k .block-from .result .last < p .pages = last-high p (s .args .geometry .growth) (file s) valid sized (s .args .star .home) (inside s) (k .block-from .result .last) (ended k) in (
-      valid,
-      (
-        (
-          last-low p (s .args .geometry .growth) (file s) valid sized (s .args .star .home) (inside s) (k .block-from .result .last) (ended k),
-          (omega (arith, most, limits p valid .pages-most), omega (arith, last, limits p valid .pages-most)),
-        ),
-        (page-fits (p .places) (p .pages) (s .args .star .page) most (sized .ofNumbers), page-fits (p .places) (p .pages) (k .block-from .result .last) last (sized .ofNumbers)),
-      ),
-    )
+sub-if1 : tie.Need-sub-if1
+sub-if1 c =
+    let s = start c in
+    last-low (s .args .geometry .parameters) (s .args .geometry .growth) (file s) (s .pre .0 .ready .homing .valid) (s .pre .0 .ready .sized) (s .args .star .home) (inside s) (c .block-from .result .last) (ended c)
 
 decide-run-requires : tie.Need-decide-run-requires
 decide-run-requires c κs =
-    let s = c .before .before .before .before .before .before .before .before .before .before .before .before .before .before in
-    (s .pre .0, (s .pre .1 .0, (s .pre .1 .1 .0, (s .pre .1 .1 .1 .0, (s .pre .1 .1 .1 .1, ended (c .before .before .before .before .before))))))
+    let s = c .before .before .before .before .before .before .before .before .before .before .before .before .before in
+    (s .pre .0, (s .pre .1 .0, (s .pre .1 .1 .0, (s .pre .1 .1 .1 .0, (s .pre .1 .1 .1 .1, ended (c .before .before .before .before))))))
 
 same-length : tie.Need-same-length
 same-length c = search needs
@@ -75,8 +59,8 @@ returns c = search needs
 
 decide-stretch-requires : tie.Need-decide-stretch-requires
 decide-stretch-requires c κs =
-    let s = c .before .before .before .before .before .before .before .before .before .before .before .before .before .before in
-    let k = c .before .before .before .before .before in
+    let s = c .before .before .before .before .before .before .before .before .before .before .before .before .before in
+    let k = c .before .before .before .before in
     let p = s .args .geometry .parameters in
     let x = extent-from p (s .args .geometry .growth) (file s) (now (s .args .pool)) (s .pre .0 .ready .sized) (s .args .star .home) (s .args .star .page) (inside s) (s .pre .1 .1 .1 .0) (k .block-from .result) (k .block-from .ensures) in
     (s .pre .0, (s .pre .1 .0, (s .pre .1 .1 .0, (sym (ap (λ (e : Extent). e .first) (k .block-from .ensures)), x))))
@@ -99,7 +83,7 @@ decide-spec =
     (tie.spec
     cast-from
     block-from-requires
-    may-gain-requires
+    sub-if1
     decide-run-requires
     same-length
     same-length-2
