@@ -156,8 +156,8 @@ PlansStretch q lo count k carried numbers pool waiting planned r =
     (stretchWords (q .places) lo count k (now (numbers .entry)) (now (pool .entry))) (now (pool .entry)) (now (pool .exit)) (now (planned .entry))
     (now (planned .exit)) (now (waiting .exit)) r
 
--- What settling the words w carried in and l that stand in groups leaves in W′ from r up to `end`: if at most `spare`, all that is carried past the
--- planned stretch; else more than `spare` are.
+-- What settling the words w carried in and l in groups leaves in W′ from r up to `end`: at most `spare`, and then it is all that is carried past
+-- the planned stretch; or more than `spare` are.
 pub record StretchSettled (q : Parameters) (lo count end spare : ℕ) (w l pool pool′ planned planned′ W′ : List ℕ) (r : ℕ) : Type 0 where
   pub inside : r ≤ end
   pub plan : end - r ≤ spare → Planned q lo count w l pool pool′ planned planned′ (slice r end W′) (end - r)

@@ -135,8 +135,7 @@ fn settle_run(
     Progress { pages: v, from }
 }
 
-// The same by the whole table, which is copied once and lent. Each table has a function of its own: inlined here, their copies share one place,
-// and with both this function is too long to be inlined where no word is so far from home.
+// The same by the whole table, which is copied once and lent. Each table has a function of its own, as in `settle_beyond`.
 fn run_beyond(
     parameters: Parameters,
     pool: &mut [u32],
@@ -248,8 +247,8 @@ fn run_by_16807(
     )
 }
 
-// Settles the stretch page by page: its words, of whatever stars, stand from `carried` up to `end` in groups by home, each up to its place in `ends`.
-// Those carried past the stretch stand from the answer up to `end`. Where they are more than `spare`, the plan may have ended before.
+// Settles the stretch page by page: its words stand from `carried` up to `end` in groups by home, each up to its place in `ends`. Those carried
+// past the stretch stand from the answer up to `end`. Where they are more than `spare`, the plan may have ended before.
 fn settle_pages(
     parameters: Parameters,
     pool: &mut [u32],

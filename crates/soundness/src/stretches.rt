@@ -144,7 +144,7 @@ fn first_unsound(
     page
 }
 
-// The same where stars are far from home: the whole table is copied once, and lent. Each table has a function of its own, as in `probe_beyond`.
+// The same where stars are far from home: the whole table is copied once, and lent. Each has a function of its own, as in `probe_beyond`.
 fn first_unsound_beyond(
     geometry: Geometry,
     separators: &[u8],

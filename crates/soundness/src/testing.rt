@@ -163,7 +163,7 @@ fn items_sound<'a>(
     true
 }
 
-// The same by the whole table, for a page with a star 44 pages or more above its home. Each table has a function of its own, as in `probe_beyond`.
+// The same by the whole table, for a star 44 pages or more above its home. Each table has a function of its own, as in `probe_beyond`.
 fn items_beyond<'a>(
     geometry: Geometry,
     separators: &[u8],
