@@ -17,7 +17,7 @@ use Rattle.pages.specs.Page.{part}
 use Rattle.placement.specs.Rule.{Hash, keep, filter}
 use Rattle.placement.specs.Hash.{hashOf, homesOf, homeUnder}
 use Rattle.reach.specs.Reach.{firstSuch}
-use Rattle.clean_test.specs.Raising.{passed, countsOn, isStar, countedItem, countOn, passedOn, starsAmong, countFrom, mayRise, raisableFrom, hashUnder, firstRaisable, firstRising, one, Counts, Added, Counted, Homed, HomedFrom, Signable}
+use Rattle.clean_test.specs.Raising.{passed, countsOn, starNumber, countedItem, countOn, passedOn, starsAmong, countFrom, mayRise, raisableFrom, hashUnder, firstRaisable, firstRising, one, Counts, Added, Counted, Homed, HomedFrom, Signable}
 
 pub one-most : (t : Bool) → one t ≤ 1
 one-most true = omega arith
@@ -206,9 +206,9 @@ taken-most q (x ∷ l) (suc i) = go (q x) (taken-most q l i)
 
 -- one item more is counted if it is a star
 pub stars-next : (ns : List ℕ) (first i stars r : ℕ) → first + i < length ns → stars ≡ starsAmong (take i (drop first ns))
-    → r ≡ one (isStar (getD ns (first + i) 0)) → stars + r ≡ starsAmong (take (i + 1) (drop first ns))
+    → r ≡ one (starNumber (getD ns (first + i) 0)) → stars + r ≡ starsAmong (take (i + 1) (drop first ns))
 stars-next ns first i stars r h e f =
-    rw (e, f, add-one i, ← getD-drop first ns i 0) (sym (count-taken isStar (drop first ns) i (omega (arith, length-drop first ns))))
+    rw (e, f, add-one i, ← getD-drop first ns i 0) (sym (count-taken starNumber (drop first ns) i (omega (arith, length-drop first ns))))
 
 pub count-most : (H : Hash) (vs ns : List ℕ) (from p n : ℕ) → countFrom H vs ns from p n ≤ n * H .room
 unfolding countFrom countOn part
@@ -218,7 +218,7 @@ count-most H vs ns from p (suc n) =
 
 module _ (H : Hash) (vs ns : List ℕ) (from page : ℕ) where
   abbrev some : ℕ → ℕ → ℕ
-  some i p = length (filter (λ (n : ℕ). isStar n && passed H vs p page n) (take i (drop (page * H .room) ns)))
+  some i p = length (filter (λ (n : ℕ). starNumber n && passed H vs p page n) (take i (drop (page * H .room) ns)))
 
   -- those of the first i numbers of the page are counted that passed a page
   pub record PlacesCounted (i : ℕ) (entry exit : List ℕ) : Type 0 where
@@ -230,10 +230,10 @@ module _ (H : Hash) (vs ns : List ℕ) (from page : ℕ) where
   places-none l e = record { upto = omega arith; added = added-none from _ l e (λ p _. refl) }
 
   module _ (i : ℕ) (entry exit : List ℕ) (c : PlacesCounted i entry exit) (h : i < H .room) (long : page * H .room + i < length ns) where
-    some-next : (p : ℕ) → some (i + 1) p ≡ some i p + one (isStar (getD ns (page * H .room + i) 0) && passed H vs p page (getD ns (page * H .room + i) 0))
+    some-next : (p : ℕ) → some (i + 1) p ≡ some i p + one (starNumber (getD ns (page * H .room + i) 0) && passed H vs p page (getD ns (page * H .room + i) 0))
     some-next p =
         rw (add-one i, ← getD-drop (page * H .room) ns i 0)
-        (count-taken (λ (n : ℕ). isStar n && passed H vs p page n) (drop (page * H .room) ns) i (omega (arith, length-drop (page * H .room) ns)))
+        (count-taken (λ (n : ℕ). starNumber n && passed H vs p page n) (drop (page * H .room) ns) i (omega (arith, length-drop (page * H .room) ns)))
 
     pub places-empty : getD ns (page * H .room + i) 0 ≡ 0 → PlacesCounted (i + 1) entry exit
     places-empty e =
@@ -269,7 +269,7 @@ module _ (H : Hash) (vs ns : List ℕ) (from page : ℕ) where
       arith,
       c .added .each p o k,
       most .1 p o k,
-      taken-most (λ (x : ℕ). isStar x && passed H vs p page x) (drop (page * H .room) ns) i,
+      taken-most (λ (x : ℕ). starNumber x && passed H vs p page x) (drop (page * H .room) ns) i,
     ),
   )
 
@@ -305,7 +305,7 @@ length-keep true x l = omega arith
 length-keep false x l = omega arith
 
 count-parts : (H : Hash) (vs : List ℕ) (p q : ℕ) (l : List ℕ)
-    → length (filter (countedItem H vs p q) l) ≡ cond (eqb q p) (starsAmong l) 0 + length (filter (λ (n : ℕ). isStar n && passed H vs p q n) l)
+    → length (filter (countedItem H vs p q) l) ≡ cond (eqb q p) (starsAmong l) 0 + length (filter (λ (n : ℕ). starNumber n && passed H vs p q n) l)
 unfolding filter countsOn
 count-parts H vs p q [] = go (eqb q p)
   where
@@ -315,17 +315,17 @@ count-parts H vs p q [] = go (eqb q p)
 count-parts H vs p q (x ∷ l) =
     rw (
       length-keep (countedItem H vs p q x) x (filter (countedItem H vs p q) l),
-      length-keep (isStar x) x (filter isStar l),
-      length-keep (isStar x && passed H vs p q x) x (filter (λ (n : ℕ). isStar n && passed H vs p q n) l),
+      length-keep (starNumber x) x (filter starNumber l),
+      length-keep (starNumber x && passed H vs p q x) x (filter (λ (n : ℕ). starNumber n && passed H vs p q n) l),
     )
     (go (eqb q p) refl (count-parts H vs p q l))
   where
     go : (t : Bool) → eqb q p ≡ t
-        → length (filter (countedItem H vs p q) l) ≡ cond t (starsAmong l) 0 + length (filter (λ (n : ℕ). isStar n && passed H vs p q n) l)
-        → one (isStar x && (t || passed H vs p q x)) + length (filter (countedItem H vs p q) l)
-        ≡ cond t (one (isStar x) + starsAmong l) 0 + (one (isStar x && passed H vs p q x) + length (filter (λ (n : ℕ). isStar n && passed H vs p q n) l))
-    go true e ih = omega (arith, ih, item-parts (isStar x) true (passed H vs p q x) (λ _. passed-high H vs x p q (omega (arith, eqb-true q p e))))
-    go false e ih = omega (arith, ih, item-parts (isStar x) false (passed H vs p q x) (λ f. absurd (false≢true f)))
+        → length (filter (countedItem H vs p q) l) ≡ cond t (starsAmong l) 0 + length (filter (λ (n : ℕ). starNumber n && passed H vs p q n) l)
+        → one (starNumber x && (t || passed H vs p q x)) + length (filter (countedItem H vs p q) l)
+        ≡ cond t (one (starNumber x) + starsAmong l) 0 + (one (starNumber x && passed H vs p q x) + length (filter (λ (n : ℕ). starNumber n && passed H vs p q n) l))
+    go true e ih = omega (arith, ih, item-parts (starNumber x) true (passed H vs p q x) (λ _. passed-high H vs x p q (omega (arith, eqb-true q p e))))
+    go false e ih = omega (arith, ih, item-parts (starNumber x) false (passed H vs p q x) (λ f. absurd (false≢true f)))
 
 cond-most : (t : Bool) (n : ℕ) → cond t n 0 ≤ n
 cond-most true n = omega arith
@@ -338,7 +338,7 @@ module _ (H : Hash) (vs ns : List ℕ) (from page : ℕ) (entry : List ℕ) (sta
   stars-counts n m most h =
       let a = added-some from entry page stars (most .0) inside in (
         a .size,
-        λ p o k. omega (arith, a .each p o k, most .1 p o k, cond-most (eqb page p) stars, e, taken-most isStar (drop (page * H .room) ns) (H .room)),
+        λ p o k. omega (arith, a .each p o k, most .1 p o k, cond-most (eqb page p) stars, e, taken-most starNumber (drop (page * H .room) ns) (H .room)),
       )
 
   pub page-counted : length entry ≡ 1024 → (after : List ℕ) → Added from (λ p. passedOn H vs ns p page) (set entry page (getD entry page 0 + stars)) after

@@ -24,11 +24,11 @@ unfoldable pub countsOn : Hash → List ℕ → ℕ → ℕ → ℕ → Bool
 countsOn H vs p q k = eqb q p || passed H vs p q k
 
 -- "0 marks an empty place"
-abbrev pub isStar : ℕ → Bool
-isStar n = not (eqb n 0)
+abbrev pub starNumber : ℕ → Bool
+starNumber n = not (eqb n 0)
 
 abbrev pub countedItem : Hash → List ℕ → ℕ → ℕ → ℕ → Bool
-countedItem H vs p q n = isStar n && countsOn H vs p q n
+countedItem H vs p q n = starNumber n && countsOn H vs p q n
 
 -- how many of the numbers ns of page q count on page p
 unfoldable pub countOn : Hash → List ℕ → List ℕ → ℕ → ℕ → ℕ
@@ -36,11 +36,11 @@ countOn H vs ns p q = length (filter (countedItem H vs p q) (part (H .room) q ns
 
 -- how many of the numbers ns of page q passed page p so
 unfoldable pub passedOn : Hash → List ℕ → List ℕ → ℕ → ℕ → ℕ
-passedOn H vs ns p q = length (filter (λ (n : ℕ). isStar n && passed H vs p q n) (part (H .room) q ns))
+passedOn H vs ns p q = length (filter (λ (n : ℕ). starNumber n && passed H vs p q n) (part (H .room) q ns))
 
 -- how many items are stars
 abbrev pub starsAmong : List ℕ → ℕ
-starsAmong l = length (filter isStar l)
+starsAmong l = length (filter starNumber l)
 
 -- how many of the numbers of the n pages from `from` on
 unfoldable pub countFrom : Hash → List ℕ → List ℕ → ℕ → ℕ → ℕ → ℕ

@@ -6,7 +6,7 @@ ghost use lib.ListN.{length, take, drop};
 ghost use Rattle.hashing.specs.Limits.{validParameters};
 ghost use Rattle.placement.specs.Hash.{homeUnder};
 ghost use Rattle.placement.specs.Ready.{Signers};
-ghost use Rattle.clean_test.specs.Raising.{passed, passedOn, countOn, mayRise, one, isStar, starsAmong, Counts, Counted, Adds, Homed, HomedFrom, Signable, hashUnder, firstRaisable, firstRising};
+ghost use Rattle.clean_test.specs.Raising.{passed, passedOn, countOn, mayRise, one, starNumber, starsAmong, Counts, Counted, Adds, Homed, HomedFrom, Signable, hashUnder, firstRaisable, firstRising};
 use hashing::Geometry;
 use hashing::Parameters;
 
@@ -108,7 +108,7 @@ fn count_stars(numbers: &[u32], first: usize, places: usize) -> u32
 
 // 1 for a star, 0 for an empty place.
 fn one_star(number: u32) -> u32
-    ensures { λ r. ⌜ r ≡ one (isStar number) ⌝ }
+    ensures { λ r. ⌜ r ≡ one (starNumber number) ⌝ }
 {
     if number == 0 {
         return 0;

@@ -1,13 +1,14 @@
--- All pages of a file settled: with more words left than the pages ahead have places, something is carried past the last one.
+-- A stretch settled to its end, or until more words are left than the pages ahead have places and some more.
 use mathlib.Core.Path.{_≡_, refl, sym, ap, _∙_}
 use mathlib.Core.Bool.{Bool, true, false, cond, not, false≢true}
 use mathlib.Core.List.{List, [], _∷_, _++_}
 use Prim.Native.Nat.{ℕ, zero, suc, _+_, _-_, _*_, _≤_, _<_}
 use native.Mathlib.Nat.{zero-add, zero-mul, suc-mul}
+use native.Mathlib.Decide.{decLt}
 use native.Mathlib.Omega.{arith}
 use lib.Dec.{eqb}
 use lib.ListN.{length, take, length-append}
-use lib.Seq.{slice, length-slice, length-take-le, slice-empty}
+use lib.Seq.{slice, length-slice, take-all}
 use borrow.Author.Tests.{eq-eqb, ne-eqb, eqb-true, eqb-false}
 use Rattle.hashing.specs.declared.Parameters.{Parameters}
 use Rattle.generator.specs.Generator.{topOf}
@@ -15,10 +16,10 @@ use Rattle.page_separator.specs.Lists.{selected}
 use Rattle.page_separator.specs.Probes.{under, stayingWords, passingWords, wordsSeparator}
 use Rattle.page_separator.proofs.Cutting.{separator-fits}
 use Rattle.page_plan.specs.Gather.{group, grouped}
-use Rattle.page_plan.specs.Plans.{carriedOn, remains, Planned, Started, AllPlaced, endOf}
+use Rattle.page_plan.specs.Plans.{carriedOn, remains, Planned, Started, Settleable, Settling, StretchSettled, AllPlaced, endOf}
 use Rattle.page_plan.proofs.Grouping.{grouped-add}
 use Rattle.page_plan.proofs.Blocks.{plans-add}
-use Rattle.page_plan.proofs.Stretch.{Settling, ends-within, ends-last, planned-all}
+use Rattle.page_plan.proofs.Stretch.{ends-within, ends-last, planned-all}
 
 -- those that a test takes and those that it leaves are all
 both-length : (t : ℕ → Bool) (l : List ℕ) → length (selected t l) + length (selected (λ w. not (t w)) l) ≡ length l
@@ -53,73 +54,118 @@ remains-count q lo v (suc n) w l =
       remains-count q lo (suc v) n (carriedOn q (lo + v) here) l,
     )
 
-module _ (q : Parameters) (end : ℕ) (W pool planned ends : List ℕ) (inside : end ≤ length W) (S : Started 0 (q .pages) 0 (take end W) W ends)
-    (pool′ W′ planned′ : List ℕ) (from v : ℕ) (I : Settling q 0 (q .pages) 0 (take end W) W pool planned pool′ W′ planned′ from v) where
-  size : length (take end W) ≡ end
-  size = length-take-le end W inside
+module _ (q : Parameters) (lo count carried end : ℕ) (l W pool planned ends : List ℕ) (size : carried + length l ≡ end) (inside : end ≤ length W)
+    (S : Started lo count carried l W ends) (pool′ W′ planned′ : List ℕ) (from v : ℕ) (I : Settling q lo count carried l W pool planned pool′ W′ planned′ from v) where
+  reached : endOf carried lo l v ≤ end
+  reached = omega (arith, size, ends-within lo count carried l W ends S v (I .upto))
 
-  reached : endOf 0 0 (take end W) v ≤ end
-  reached = omega (arith, size, ends-within 0 (q .pages) 0 (take end W) W ends S v (I .upto))
+  within : from ≤ end
+  within = omega (arith, I .start, reached)
 
-  pub from-inside : from ≤ end
-  from-inside = omega (arith, I .start, reached)
-
-  waiting-count : length (remains q 0 0 v [] (take end W)) + from ≡ endOf 0 0 (take end W) v
+  waiting-count : length (remains q lo 0 v (take carried W) l) + from ≡ endOf carried lo l v
   waiting-count =
-      omega (arith, I .start, ap length (I .waiting), length-slice from (endOf 0 0 (take end W) v) W′ (omega (arith, reached, inside, I .long-waiting)))
+      omega (arith, I .start, ap length (I .waiting), length-slice from (endOf carried lo l v) W′ (omega (arith, reached, inside, I .long-waiting)))
 
-  hopeless : (q .pages - v) * q .places < end - from → length (remains q 0 0 (q .pages) [] (take end W)) ≡ 0 → ⊥
-  hopeless h none =
-      let l : List ℕ = take end W in
-      let rest : ℕ = q .pages - v in
-      let sum : v + rest ≡ q .pages = omega (arith, I .upto) in
-      let later : remains q 0 0 (q .pages) [] l ≡ remains q 0 v rest (remains q 0 0 v [] l) l
-      = ap (λ (n : ℕ). remains q 0 0 n [] l) (sym sum) ∙ plans-add q 0 0 v rest [] l .1 ∙ ap (λ (k : ℕ). remains q 0 k rest (remains q 0 0 v [] l) l) (zero-add v) in
-      let groups : grouped 0 0 (q .pages) l ≡ grouped 0 0 v l ++ grouped 0 v rest l
-      = ap (λ (n : ℕ). grouped 0 0 n l) (sym sum) ∙ grouped-add 0 0 v rest l ∙ ap (λ (k : ℕ). grouped 0 0 v l ++ grouped 0 k rest l) (zero-add v) in
+  -- the pages ahead keep at most b each
+  too-many : (spare : ℕ) → spare + (count - v) * q .places < end - from → spare < length (remains q lo 0 count (take carried W) l)
+  too-many spare h =
+      let w : List ℕ = take carried W in
+      let rest : ℕ = count - v in
+      let sum : v + rest ≡ count = omega (arith, I .upto) in
+      let later : remains q lo 0 count w l ≡ remains q lo v rest (remains q lo 0 v w l) l
+      = ap (λ (n : ℕ). remains q lo 0 n w l) (sym sum) ∙ plans-add q lo 0 v rest w l .1 ∙ ap (λ (k : ℕ). remains q lo k rest (remains q lo 0 v w l) l) (zero-add v) in
+      let groups : grouped lo 0 count l ≡ grouped lo 0 v l ++ grouped lo v rest l
+      = ap (λ (n : ℕ). grouped lo 0 n l) (sym sum) ∙ grouped-add lo 0 v rest l ∙ ap (λ (k : ℕ). grouped lo 0 v l ++ grouped lo k rest l) (zero-add v) in
       omega (
         arith,
         size,
         ap length later,
         ap length groups,
-        length-append (grouped 0 0 v l) (grouped 0 v rest l),
-        ends-last 0 (q .pages) 0 l W ends S,
+        length-append (grouped lo 0 v l) (grouped lo v rest l),
+        ends-last lo count carried l W ends S,
         waiting-count,
-        from-inside,
-        remains-count q 0 v rest (remains q 0 0 v [] l) l,
+        within,
+        remains-count q lo v rest (remains q lo 0 v w l) l,
       )
 
-  pub placing-ends : (q .pages - v) * q .places < end - from → AllPlaced q (take end W) pool pool′ planned planned′ W′ false
-  placing-ends h =
-      record {
-        fits = sym (ne-eqb (length (remains q 0 0 (q .pages) [] (take end W))) 0 (hopeless h));
-        plan = λ e. absurd (false≢true e);
-      }
+  settled-all : v ≡ count → Planned q lo count (take carried W) l pool pool′ planned planned′ (slice from end W′) (end - from)
+  settled-all e =
+      planned-all q lo count carried l W pool planned ends S pool′ W′ planned′ from v I e (slice from end W′) end (end - from) (sym size) refl
+      (take-all (end - from) (slice from end W′) (omega (arith, length-slice from end W′ (omega (arith, inside, I .long-waiting)))))
 
-  pub placing-done : v ≡ q .pages → AllPlaced q (take end W) pool pool′ planned planned′ W′ (eqb from end)
-  placing-done e = go (eqb from end) refl
+  settled-left : v ≡ count → length (remains q lo 0 count (take carried W) l) ≡ end - from
+  settled-left e =
+      omega (
+        arith,
+        size,
+        ap (λ (n : ℕ). length (remains q lo 0 n (take carried W) l)) e,
+        waiting-count,
+        ap (endOf carried lo l) e,
+        ends-last lo count carried l W ends S,
+      )
+
+module _ (q : Parameters) (lo count carried end : ℕ) (W pool planned ends : List ℕ) (P : Settleable q lo count carried end pool W planned ends)
+    (pool′ W′ planned′ : List ℕ) (from v : ℕ) (I : Settling q lo count carried (slice carried end W) W pool planned pool′ W′ planned′ from v) where
+  size : carried + length (slice carried end W) ≡ end
+  size = omega (arith, P .order, length-slice carried end W (P .inside))
+
+  pub from-inside : from ≤ end
+  from-inside = within q lo count carried end _ W pool planned ends size (P .inside) (P .grouped-are) pool′ W′ planned′ from v I
+
+  pub stretch-settled : (spare : ℕ) → (v < count → spare + (count - v) * q .places < end - from)
+      → StretchSettled q lo count end spare (take carried W) (slice carried end W) pool pool′ planned planned′ W′ from
+  stretch-settled spare ended = go (decLt v count)
     where
-      left : length (remains q 0 0 (q .pages) [] (take end W)) + from ≡ end
-      left =
-          ap (λ (n : ℕ). length (remains q 0 0 n [] (take end W)) + from) (sym e)
-          ∙ waiting-count
-          ∙ ap (endOf 0 0 (take end W)) e
-          ∙ ends-last 0 (q .pages) 0 (take end W) W ends S
-          ∙ zero-add (length (take end W))
-          ∙ size
+      go : Dec (v < count) → StretchSettled q lo count end spare (take carried W) (slice carried end W) pool pool′ planned planned′ W′ from
+      go (yes m) =
+          record {
+            inside = from-inside;
+            plan = λ h. absurd (omega (arith, ended m, h));
+            past = λ h. too-many q lo count carried end _ W pool planned ends size (P .inside) (P .grouped-are) pool′ W′ planned′ from v I spare (ended m);
+          }
+      go (no m) =
+          let e : v ≡ count = omega (arith, I .upto) in
+          record {
+            inside = from-inside;
+            plan = λ h. settled-all q lo count carried end _ W pool planned ends size (P .inside) (P .grouped-are) pool′ W′ planned′ from v I e;
+            past = λ h. omega (arith, h, settled-left q lo count carried end _ W pool planned ends size (P .inside) (P .grouped-are) pool′ W′ planned′ from v I e);
+          }
 
-      go : (t : Bool) → eqb from end ≡ t → AllPlaced q (take end W) pool pool′ planned planned′ W′ t
-      go true t =
-          let same : from ≡ end = eqb-true from end t in
-          record {
-            fits = sym (eq-eqb (length (remains q 0 0 (q .pages) [] (take end W))) 0 (omega (arith, left)));
-            plan =
-                λ _. planned-all q 0 (q .pages) 0 (take end W) W pool planned ends S pool′ W′ planned′ from v I e W′ end 0
-                (sym size ∙ sym (zero-add (length (take end W)))) (omega arith) (sym (rw same (slice-empty end W′)));
-          }
-      go false t =
-          let other : from ≡ end → ⊥ = eqb-false from end t in
-          record {
-            fits = sym (ne-eqb (length (remains q 0 0 (q .pages) [] (take end W))) 0 (λ z. other (omega (arith, left))));
-            plan = λ f. absurd (false≢true f);
-          }
+-- what is left moved to the front
+pub planned-closed : (q : Parameters) (lo count from end : ℕ) (w l pool pool′ planned planned′ W′ W″ : List ℕ) (r : ℕ) → end ≤ length W′
+    → Planned q lo count w l pool pool′ planned planned′ (slice from end W′) (end - from) → r ≡ end - from → take r W″ ≡ slice from end W′
+    → Planned q lo count w l pool pool′ planned planned′ W″ r
+planned-closed q lo count from end w l pool pool′ planned planned′ W′ W″ r h P er et =
+    record {
+      sources = P .sources;
+      separators-are = P .separators-are;
+      passed = et ∙ sym (take-all (end - from) (slice from end W′) (omega (arith, length-slice from end W′ h))) ∙ P .passed;
+      counted = er ∙ P .counted;
+    }
+
+-- all pages of a file: each word finds a place if none is left
+pub all-placed : (q : Parameters) (end : ℕ) (l pool pool′ planned planned′ W′ : List ℕ) (r : ℕ)
+    → StretchSettled q 0 (q .pages) end 0 [] l pool pool′ planned planned′ W′ r → AllPlaced q l pool pool′ planned planned′ W′ (eqb r end)
+all-placed q end l pool pool′ planned planned′ W′ r S = go (eqb r end) refl
+  where
+    go : (t : Bool) → eqb r end ≡ t → AllPlaced q l pool pool′ planned planned′ W′ t
+    go true t =
+        let same : r ≡ end = eqb-true r end t in
+        let none : end - r ≡ 0 = omega (arith, same) in
+        let P = S .plan (omega (arith, none)) in
+        record {
+          fits = sym (eq-eqb (length (remains q 0 0 (q .pages) [] l)) 0 (omega (arith, none, P .counted)));
+          plan =
+              λ _. record {
+                sources = P .sources;
+                separators-are = P .separators-are;
+                passed = rw none at (P .passed);
+                counted = rw none at (P .counted);
+              };
+        }
+    go false t =
+        let other : r ≡ end → ⊥ = eqb-false r end t in
+        record {
+          fits = sym (ne-eqb (length (remains q 0 0 (q .pages) [] l)) 0 (λ z. omega (arith, z, S .past (omega (arith, other, S .inside)))));
+          plan = λ f. absurd (false≢true f);
+        }

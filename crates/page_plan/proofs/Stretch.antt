@@ -25,7 +25,7 @@ use Rattle.page_separator.specs.Probes.{homesUpTo, stayingWords, wordsSeparator
 use Rattle.page_plan.specs.Settle.{Settlement, slotsOf}
 use Rattle.page_plan.proofs.Grouping.{grouped-next, grouped-add}
 use Rattle.page_separator.proofs.Cutting.{separator-fits, separator-most}
-use Rattle.page_plan.specs.Plans.{starOf, waits, settled, carriedOn, plans, remains, PagePlanned, Planned, Started, endOf}
+use Rattle.page_plan.specs.Plans.{starOf, waits, settled, carriedOn, plans, remains, PagePlanned, Planned, Started, Settling, endOf}
 use Rattle.page_plan.proofs.Pouring.{length-waits}
 use Rattle.page_plan.proofs.RuleOverWords.{near-probing, near-onward}
 use Rattle.page_plan.proofs.Blocks.{grouped-again, plans-grouped}
@@ -160,18 +160,6 @@ module _ (lo count carried : ℕ) (l W ends : List ℕ) (S : Started lo count ca
       ∙ sym (append-assoc (take carried W) (grouped lo 0 v l) (group lo v l)))
       ∙ drop-at (take carried W ++ grouped lo 0 v l) (group lo v l) (endOf carried lo l v)
       (length-append (take carried W) (grouped lo 0 v l) ∙ ap (λ (k : ℕ). k + length (grouped lo 0 v l)) size)
-
--- with v pages planned: what waits stands from `from` up to the end of group v - 1, and behind that the list is as it was
-pub record Settling (q : Parameters) (lo count carried : ℕ) (l W pool planned : List ℕ) (pool′ W′ planned′ : List ℕ) (from v : ℕ) : Type 0 where
-  pub upto : v ≤ count
-  pub start : from ≤ endOf carried lo l v
-  pub waiting : slice from (endOf carried lo l v) W′ ≡ remains q lo 0 v (take carried W) l
-  pub ahead : drop (endOf carried lo l v) W′ ≡ drop (endOf carried lo l v) W
-  pub sources : pool′ ≡ written (lo * q .places) (column (q .places) (λ (s : Star). s .payload .word) (plans q lo 0 v (take carried W) l)) pool
-  pub planned-are : planned′ ≡ written lo (separators (plans q lo 0 v (take carried W) l)) planned
-  pub long-pool : length pool′ ≡ length pool
-  pub long-waiting : length W′ ≡ length W
-  pub long-planned : length planned′ ≡ length planned
 
 pub settling-none : (q : Parameters) (lo count carried : ℕ) (l W pool planned : List ℕ) → Settling q lo count carried l W pool planned pool W planned 0 0
 unfolding remains plans column separators grouped

@@ -2,7 +2,7 @@
 use mathlib.Core.Path.{_≡_}
 use mathlib.Core.Bool.{Bool, true, cond}
 use mathlib.Core.List.{List, [], _∷_, _++_, map}
-use Prim.Native.Nat.{ℕ, zero, suc, _+_, _/_, _%_, _*_, _^_, _≤_, _<_}
+use Prim.Native.Nat.{ℕ, zero, suc, _+_, _-_, _/_, _%_, _*_, _^_, _≤_, _<_}
 use lib.Dec.{eqb, leb}
 use lib.ListN.{length, getD, take, drop}
 use lib.Seq.{slice}
@@ -18,6 +18,7 @@ use Rattle.page_separator.specs.Words.{homeOf, numberIn, sourceOf}
 use Rattle.page_plan.specs.Gather.{group, grouped, stretchWords, starsIn}
 use Rattle.page_separator.specs.Probes.{homesUpTo, stayingWords, passingWords, wordsSeparator}
 use Rattle.page_plan.specs.Settle.{slotsOf}
+use Rattle.page_plan.specs.declared.layout.Progress.{Progress}
 
 -- the star that a word's low part stands for: its number, and its source in place of position word and owner
 unfoldable pub starOf : ℕ → Star
@@ -108,6 +109,38 @@ pub record Settleable (q : Parameters) (lo count carried end : ℕ) (pool W plan
   pub grouped-are : Started lo count carried (slice carried end W) W ends
   pub near : homesUpTo lo (take carried W) ≡ true
 
+-- with v pages planned: what waits stands from `from` up to the end of group v - 1, and behind that the list is as it was
+pub record Settling (q : Parameters) (lo count carried : ℕ) (l W pool planned : List ℕ) (pool′ W′ planned′ : List ℕ) (from v : ℕ) : Type 0 where
+  pub upto : v ≤ count
+  pub start : from ≤ endOf carried lo l v
+  pub waiting : slice from (endOf carried lo l v) W′ ≡ remains q lo 0 v (take carried W) l
+  pub ahead : drop (endOf carried lo l v) W′ ≡ drop (endOf carried lo l v) W
+  pub sources : pool′ ≡ written (lo * q .places) (column (q .places) (λ (s : Star). s .payload .word) (plans q lo 0 v (take carried W) l)) pool
+  pub planned-are : planned′ ≡ written lo (separators (plans q lo 0 v (take carried W) l)) planned
+  pub long-pool : length pool′ ≡ length pool
+  pub long-waiting : length W′ ≡ length W
+  pub long-planned : length planned′ ≡ length planned
+
+-- some of the pages are settled, of lists that were as settling needs them
+pub record Underway (q : Parameters) (lo count end : ℕ) (ends pool′ W′ planned′ : List ℕ) (done : Progress) : Type 0 where
+  pub carried : ℕ
+  pub waiting : List ℕ
+  pub pool : List ℕ
+  pub planned : List ℕ
+  pub settleable : Settleable q lo count carried end pool waiting planned ends
+  pub settling : Settling q lo count carried (slice carried end waiting) waiting pool planned pool′ W′ planned′ (done .from) (done .pages)
+
+-- .. and then more of them, of the same lists
+abbrev pub Continues : Parameters → ℕ → ℕ → ℕ → List ℕ → Lent → Lent → Lent → Progress → Progress → Type 0
+Continues q lo count end ends pool waiting planned done r =
+    (carried : ℕ) (P W S : List ℕ) → Settleable q lo count carried end P W S ends
+    → Settling q lo count carried (slice carried end W) W P S (now (pool .entry)) (now (waiting .entry)) (now (planned .entry)) (done .from) (done .pages)
+    → Settling q lo count carried (slice carried end W) W P S (now (pool .exit)) (now (waiting .exit)) (now (planned .exit)) (r .from) (r .pages)
+
+-- all pages are settled, or more words are left than the pages ahead have places and `spare` more
+abbrev pub Ended : Parameters → ℕ → ℕ → ℕ → Progress → Type 0
+Ended q count end spare r = r .pages < count → spare + (count - r .pages) * q .places < end - r .from
+
 -- What planning `count` pages from page lo leaves, of the words w carried in and the stretch's words l: the source of each place's star in
 -- the pool, the new separators, and at the front of W′ the r words that are carried past the stretch.
 pub record Planned (q : Parameters) (lo count : ℕ) (w l pool pool′ planned planned′ W′ : List ℕ) (r : ℕ) : Type 0 where
@@ -123,10 +156,16 @@ PlansStretch q lo count k carried numbers pool waiting planned r =
     (stretchWords (q .places) lo count k (now (numbers .entry)) (now (pool .entry))) (now (pool .entry)) (now (pool .exit)) (now (planned .entry))
     (now (planned .exit)) (now (waiting .exit)) r
 
--- the words that stand in groups are settled, whichever stars they are of
-abbrev pub SettlesPages : Parameters → ℕ → ℕ → ℕ → ℕ → Lent → Lent → Lent → ℕ → Type 0
-SettlesPages q lo count carried end pool waiting planned r =
-    Planned q lo count (take carried (now (waiting .entry))) (slice carried end (now (waiting .entry))) (now (pool .entry)) (now (pool .exit))
+-- What settling the words w carried in and l in groups leaves in W′ from r up to `end`: at most `spare`, and then it is all that is carried past
+-- the planned stretch; or more than `spare` are.
+pub record StretchSettled (q : Parameters) (lo count end spare : ℕ) (w l pool pool′ planned planned′ W′ : List ℕ) (r : ℕ) : Type 0 where
+  pub inside : r ≤ end
+  pub plan : end - r ≤ spare → Planned q lo count w l pool pool′ planned planned′ (slice r end W′) (end - r)
+  pub past : spare < end - r → spare < length (remains q lo 0 count w l)
+
+abbrev pub SettlesPages : Parameters → ℕ → ℕ → ℕ → ℕ → ℕ → Lent → Lent → Lent → ℕ → Type 0
+SettlesPages q lo count carried end spare pool waiting planned r =
+    StretchSettled q lo count end spare (take carried (now (waiting .entry))) (slice carried end (now (waiting .entry))) (now (pool .entry)) (now (pool .exit))
     (now (planned .entry)) (now (planned .exit)) (now (waiting .exit)) r
 
 -- What placing all pages of a file leaves, of the words l that stand in groups: whether each of them finds a place, and then the plan.

@@ -8,13 +8,15 @@ ghost use lib.Seq.{slice};
 ghost use Rattle.pages.specs.Page.{stretch};
 ghost use Rattle.hashing.specs.Limits.{validParameters};
 ghost use Rattle.placement.specs.File.{padded, written};
+ghost use Rattle.placement.specs.Ready.{Signers};
 ghost use Rattle.page_separator.specs.Words.{sourceOf};
 ghost use Rattle.page_separator.specs.Lists.{allBelow};
 ghost use Rattle.page_plan.specs.Gather.{starsIn};
-ghost use Rattle.page_separator.specs.Probes.{homesUpTo, Probing};
-ghost use Rattle.page_plan.specs.Plans.{slotSource, Plannable, Settleable, SettlesPages, PlacesAll, PlansPage, PlansStretch};
+ghost use Rattle.page_separator.specs.Probes.{homesUpTo, Probing, Signable};
+ghost use Rattle.page_plan.specs.Plans.{slotSource, Plannable, Settleable, SettlesPages, Underway, Continues, Ended, PlacesAll, PlansPage, PlansStretch};
 use crate::gathering::gather;
 use crate::settling::settle;
+use crate::settling::signs_words;
 use hashing::Parameters;
 
 // The source of the star in slot i, 0 for an empty place.
@@ -56,8 +58,15 @@ fn close_up(waiting: &mut [u64], from: usize, end: usize) -> usize
     left
 }
 
-// One page of the plan. The words that pass on stand from the answer up to `reach`.
+// How many pages of a stretch are settled, and where the words carried past them start.
+pub struct Progress {
+    pub pages: usize,
+    pub from: usize,
+}
+
+// One page of the plan, by a table that signs its words if not all stay. The words that pass on stand from the answer up to `reach`.
 fn settle_page(
+    table: &[u32],
     parameters: Parameters,
     pool: &mut [u32],
     waiting: &mut [u64],
@@ -66,22 +75,181 @@ fn settle_page(
     reach: usize,
     page: usize,
 ) -> usize
-    requires { ⌜ validParameters parameters ≡ true ⌝ }
+    requires { ⌜ Signers parameters (now table) ⌝ }
     requires { ⌜ Probing page from reach (now waiting) ⌝ }
+    requires { ⌜ (parameters .places < reach - from → Signable (length (now table)) page from reach (now waiting)) ⌝ }
     requires { ⌜ (page < length (now planned)) × (page * parameters .places + parameters .places ≤ length (now pool)) ⌝ }
     ensures { λ r. ⌜ PlansPage parameters page from reach waiting pool planned r ⌝ }
 {
     let places = parameters.places as usize;
     let mut slots = [0u64; 32];
-    let settled = settle(parameters, waiting, from, reach, page, &mut slots);
+    let settled = settle(table, parameters, waiting, from, reach, page, &mut slots);
     planned[page] = settled.separator as u8;
     store_sources(pool, &slots, page * places, places, settled.kept);
     settled.from
 }
 
-// Settles the stretch page by page: its words, of whatever stars, stand from `carried` up to `end` in groups by home, each up to its place in `ends`.
-// The words carried past the stretch are left at the front; the answer is their count.
-pub fn settle_pages(
+// Settles the pages that are not settled yet, upward to one with words that the table does not sign, or where more words are left than the
+// pages ahead have places and `spare` more.
+fn settle_run(
+    table: &[u32],
+    parameters: Parameters,
+    pool: &mut [u32],
+    waiting: &mut [u64],
+    planned: &mut [u8],
+    ends: &[u32],
+    lo: usize,
+    count: usize,
+    end: usize,
+    spare: usize,
+    done: Progress,
+) -> Progress
+    requires { ⌜ Signers parameters (now table) ⌝ }
+    requires { ⌜ (spare ≤ 32768) × Underway parameters lo count end (now ends) (now pool) (now waiting) (now planned) done ⌝ }
+    ensures { λ r. ⌜ Continues parameters lo count end (now (ends .entry)) pool waiting planned done r ⌝ }
+    ensures { λ r. ⌜ (2049 ≤ length (now (table .entry)) → Ended parameters count end spare r) ⌝ }
+{
+    let places = parameters.places as usize;
+    let mut v = done.pages;
+    let mut from = done.from;
+    while v < count {
+        if spare + (count - v) * places < end - from {
+            return Progress { pages: v, from };
+        }
+        let reach = ends[v] as usize;
+        if !signs_words(table.len(), parameters, waiting, from, reach, lo + v) {
+            return Progress { pages: v, from };
+        }
+        from = settle_page(
+            table,
+            parameters,
+            pool,
+            waiting,
+            planned,
+            from,
+            reach,
+            lo + v,
+        );
+        v += 1;
+    }
+    Progress { pages: v, from }
+}
+
+// The same by the whole table, which is copied once and lent. Each table has a function of its own, as in `settle_beyond`.
+fn run_beyond(
+    parameters: Parameters,
+    pool: &mut [u32],
+    waiting: &mut [u64],
+    planned: &mut [u8],
+    ends: &[u32],
+    lo: usize,
+    count: usize,
+    end: usize,
+    spare: usize,
+    done: Progress,
+) -> Progress
+    requires { ⌜ validParameters parameters ≡ true ⌝ }
+    requires { ⌜ (spare ≤ 32768) × Underway parameters lo count end (now ends) (now pool) (now waiting) (now planned) done ⌝ }
+    ensures { λ r. ⌜ Continues parameters lo count end (now (ends .entry)) pool waiting planned done r ⌝ }
+    ensures { λ r. ⌜ Ended parameters count end spare r ⌝ }
+{
+    if parameters.multiplier == 48271 {
+        return run_by_48271(
+            parameters,
+            pool,
+            waiting,
+            planned,
+            ends,
+            lo,
+            count,
+            end,
+            spare,
+            done,
+        );
+    }
+    run_by_16807(
+        parameters,
+        pool,
+        waiting,
+        planned,
+        ends,
+        lo,
+        count,
+        end,
+        spare,
+        done,
+    )
+}
+
+fn run_by_48271(
+    parameters: Parameters,
+    pool: &mut [u32],
+    waiting: &mut [u64],
+    planned: &mut [u8],
+    ends: &[u32],
+    lo: usize,
+    count: usize,
+    end: usize,
+    spare: usize,
+    done: Progress,
+) -> Progress
+    requires { ⌜ (validParameters parameters ≡ true) × (parameters .multiplier ≡ 48271) ⌝ }
+    requires { ⌜ (spare ≤ 32768) × Underway parameters lo count end (now ends) (now pool) (now waiting) (now planned) done ⌝ }
+    ensures { λ r. ⌜ Continues parameters lo count end (now (ends .entry)) pool waiting planned done r ⌝ }
+    ensures { λ r. ⌜ Ended parameters count end spare r ⌝ }
+{
+    let table = generator::multipliers(48271);
+    settle_run(
+        &table,
+        parameters,
+        pool,
+        waiting,
+        planned,
+        ends,
+        lo,
+        count,
+        end,
+        spare,
+        done,
+    )
+}
+
+fn run_by_16807(
+    parameters: Parameters,
+    pool: &mut [u32],
+    waiting: &mut [u64],
+    planned: &mut [u8],
+    ends: &[u32],
+    lo: usize,
+    count: usize,
+    end: usize,
+    spare: usize,
+    done: Progress,
+) -> Progress
+    requires { ⌜ (validParameters parameters ≡ true) × (parameters .multiplier ≡ 16807) ⌝ }
+    requires { ⌜ (spare ≤ 32768) × Underway parameters lo count end (now ends) (now pool) (now waiting) (now planned) done ⌝ }
+    ensures { λ r. ⌜ Continues parameters lo count end (now (ends .entry)) pool waiting planned done r ⌝ }
+    ensures { λ r. ⌜ Ended parameters count end spare r ⌝ }
+{
+    let table = generator::multipliers(16807);
+    settle_run(
+        &table,
+        parameters,
+        pool,
+        waiting,
+        planned,
+        ends,
+        lo,
+        count,
+        end,
+        spare,
+        done,
+    )
+}
+
+// Settles the stretch page by page: its words stand from `carried` up to `end` in groups by home, each up to its place in `ends`. Those carried
+// past the stretch stand from the answer up to `end`. Where they are more than `spare`, the plan may have ended before.
+fn settle_pages(
     parameters: Parameters,
     pool: &mut [u32],
     waiting: &mut [u64],
@@ -91,18 +259,43 @@ pub fn settle_pages(
     count: usize,
     carried: usize,
     end: usize,
+    spare: usize,
 ) -> usize
     requires { ⌜ Settleable parameters lo count carried end (now pool) (now waiting) (now planned) (now ends) ⌝ }
-    ensures { λ r. ⌜ SettlesPages parameters lo count carried end pool waiting planned r ⌝ }
+    requires { ⌜ spare ≤ 32768 ⌝ }
+    ensures { λ r. ⌜ SettlesPages parameters lo count carried end spare pool waiting planned r ⌝ }
 {
-    let mut from = 0;
-    let mut v = 0;
-    while v < count {
-        let reach = ends[v] as usize;
-        from = settle_page(parameters, pool, waiting, planned, from, reach, lo + v);
-        v += 1;
+    let table = generator::first_multipliers(parameters.multiplier);
+    let begun = Progress { pages: 0, from: 0 };
+    let near = settle_run(
+        &table,
+        parameters,
+        pool,
+        waiting,
+        planned,
+        ends,
+        lo,
+        count,
+        end,
+        spare,
+        begun,
+    );
+    if near.pages == count {
+        return near.from;
     }
-    close_up(waiting, from, end)
+    let far = run_beyond(
+        parameters,
+        pool,
+        waiting,
+        planned,
+        ends,
+        lo,
+        count,
+        end,
+        spare,
+        near,
+    );
+    far.from
 }
 
 // Settles all pages of a file; the answer is whether each word finds a place. A page keeps at most b, so where more words are left than the
@@ -118,19 +311,20 @@ pub fn place_all(
     requires { ⌜ Settleable parameters 0 (parameters .pages) 0 end (now pool) (now waiting) (now planned) (now ends) ⌝ }
     ensures { λ r. ⌜ PlacesAll parameters end pool waiting planned r ⌝ }
 {
-    let places = parameters.places as usize;
     let pages = parameters.pages as usize;
-    let mut from = 0;
-    let mut page = 0;
-    while page < pages {
-        if (pages - page) * places < end - from {
-            return false;
-        }
-        let reach = ends[page] as usize;
-        from = settle_page(parameters, pool, waiting, planned, from, reach, page);
-        page += 1;
-    }
-    from == end
+    settle_pages(
+        parameters,
+        pool,
+        waiting,
+        planned,
+        ends,
+        0,
+        pages,
+        0,
+        end,
+        0,
+    )
+        == end
 }
 
 // Gathers the stretch and settles it; `ends` has a place for each page.
@@ -162,7 +356,7 @@ fn plan_pages(
         without,
         carried,
     );
-    settle_pages(
+    let from = settle_pages(
         parameters,
         pool,
         waiting,
@@ -172,7 +366,9 @@ fn plan_pages(
         count,
         carried,
         end,
-    )
+        end,
+    );
+    close_up(waiting, from, end)
 }
 
 // Plans the stretch of `count` pages from page lo, with the words carried in at the front of `waiting` and the stars of the stretch but `without`.

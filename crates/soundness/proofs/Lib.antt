@@ -3,4 +3,3 @@ pub mod Items
 pub mod Pastes
 pub mod Stars
 pub mod Lent
-pub mod Loaded

@@ -23,6 +23,14 @@ pub record Items (items homed : ℕ) (ns ws os hs : List ℕ) : Type 0 where
   pub owners : items ≤ length os
   pub homes : homed ≤ length hs
 
+-- pages of the file from `from` up to the one before `stop`: their items from `at` on, and the homes of these from `to` on
+pub record HomedItems (g : Geometry) (at to from stop : ℕ) (seps ns ws os hs : List ℕ) : Type 0 where
+  pub separated : length seps ≡ g .parameters .pages
+  pub order : from ≤ stop
+  pub inside : stop ≤ g .parameters .pages
+  pub items : Items (at + (stop - from) * g .parameters .places) (to + (stop - from) * g .parameters .places) ns ws os hs
+  pub homes : HomesAt g ((stop - from) * g .parameters .places) at to ns hs
+
 -- a page is sound, by its items from `at` on
 unfoldable pub soundFrom : Geometry → List ℕ → List ℕ → List ℕ → List ℕ → ℕ → ℕ → Bool
 soundFrom g seps ns ws os at page =

@@ -53,6 +53,17 @@ Found g ns hs =
 abbrev pub Signable : ℕ → ℕ → List ℕ → List ℕ → Type 0
 Signable n page ns hs = (i : ℕ) → i < 32 → (getD ns i 0 ≡ 0 → ⊥) → 2 * (page + 1 - getD hs i 0) < n
 
+-- What testing a page's items needs, by the values of its places: a separator in range, and the homes found.
+pub record Testable (g : Geometry) (seps : List ℕ) (page : ℕ) (ns ws os found hs : List ℕ) : Type 0 where
+  pub separated : length seps ≡ g .parameters .pages
+  pub inside : page < g .parameters .pages
+  pub numbers : length ns ≡ 32
+  pub words : length ws ≡ 32
+  pub owners : length os ≡ 32
+  pub homes : length hs ≡ 32
+  pub topped : getD seps page 0 ≤ topOf (g .parameters .bits)
+  pub homed : Found g ns found
+
 -- What is told of a page, by the values of its places.
 pub record Tested (g : Geometry) (seps : List ℕ) (page : ℕ) (ns ws os homes : List ℕ) (r : Bool) : Type 0 where
   pub sound : r ≡ soundIn (g .parameters) (g .growth) seps page (take (g .parameters .places) ns) (take (g .parameters .places) ws) (take (g .parameters .places) os)

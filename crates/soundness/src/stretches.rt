@@ -8,7 +8,7 @@ ghost use Rattle.hashing.specs.Limits.{validParameters};
 ghost use Rattle.placement.specs.Hash.{soundAt, homesOf};
 ghost use Rattle.placement.specs.Lent.{held, before};
 ghost use Rattle.placement.specs.Ready.{Signers, Ready};
-ghost use Rattle.soundness.specs.Stretch.{HomesAt, SignableAt, Items, soundFrom, Lowest, soundOf};
+ghost use Rattle.soundness.specs.Stretch.{HomesAt, SignableAt, Items, HomedItems, soundFrom, Lowest, soundOf};
 use crate::star_homes::find_homes;
 use crate::testing::admitted;
 use hashing::Geometry;
@@ -118,10 +118,7 @@ fn first_unsound(
 ) -> usize
     requires { ⌜ Signers (geometry .parameters) (now table) ⌝ }
     requires { ⌜ length (now table) ≡ 2049 ⌝ }
-    requires { ⌜ length (now separators) ≡ geometry .parameters .pages ⌝ }
-    requires { ⌜ (from ≤ stop) × (stop ≤ geometry .parameters .pages) ⌝ }
-    requires { ⌜ Items (at + (stop - from) * geometry .parameters .places) (to + (stop - from) * geometry .parameters .places) (now numbers) (now words) (now owners) (now homes) ⌝ }
-    requires { ⌜ HomesAt geometry ((stop - from) * geometry .parameters .places) at to (now numbers) (now homes) ⌝ }
+    requires { ⌜ HomedItems geometry at to from stop (now separators) (now numbers) (now words) (now owners) (now homes) ⌝ }
     ensures { λ r. ⌜ Lowest (soundOf geometry (now (separators .entry)) (now (numbers .entry)) (now (words .entry)) (now (owners .entry)) at from) from stop r ⌝ }
 {
     let places = geometry.parameters.places as usize;
@@ -147,8 +144,8 @@ fn first_unsound(
     page
 }
 
-// The same where stars are far from home: the whole table is copied once, and lent.
-pub fn first_unsound_far(
+// The same where stars are far from home: the whole table is copied once, and lent. Each has a function of its own, as in `probe_beyond`.
+fn first_unsound_beyond(
     geometry: Geometry,
     separators: &[u8],
     numbers: &[u32],
@@ -161,13 +158,86 @@ pub fn first_unsound_far(
     stop: usize,
 ) -> usize
     requires { ⌜ validParameters (geometry .parameters) ≡ true ⌝ }
-    requires { ⌜ length (now separators) ≡ geometry .parameters .pages ⌝ }
-    requires { ⌜ (from ≤ stop) × (stop ≤ geometry .parameters .pages) ⌝ }
-    requires { ⌜ Items (at + (stop - from) * geometry .parameters .places) (to + (stop - from) * geometry .parameters .places) (now numbers) (now words) (now owners) (now homes) ⌝ }
-    requires { ⌜ HomesAt geometry ((stop - from) * geometry .parameters .places) at to (now numbers) (now homes) ⌝ }
+    requires { ⌜ HomedItems geometry at to from stop (now separators) (now numbers) (now words) (now owners) (now homes) ⌝ }
     ensures { λ r. ⌜ Lowest (soundOf geometry (now (separators .entry)) (now (numbers .entry)) (now (words .entry)) (now (owners .entry)) at from) from stop r ⌝ }
 {
-    let table = generator::multipliers(geometry.parameters.multiplier);
+    if geometry.parameters.multiplier == 48271 {
+        return first_unsound_by_48271(
+            geometry,
+            separators,
+            numbers,
+            words,
+            owners,
+            homes,
+            at,
+            to,
+            from,
+            stop,
+        );
+    }
+    first_unsound_by_16807(
+        geometry,
+        separators,
+        numbers,
+        words,
+        owners,
+        homes,
+        at,
+        to,
+        from,
+        stop,
+    )
+}
+
+fn first_unsound_by_48271(
+    geometry: Geometry,
+    separators: &[u8],
+    numbers: &[u32],
+    words: &[u64],
+    owners: &[u8],
+    homes: &[u32],
+    at: usize,
+    to: usize,
+    from: usize,
+    stop: usize,
+) -> usize
+    requires { ⌜ (validParameters (geometry .parameters) ≡ true) × (geometry .parameters .multiplier ≡ 48271) ⌝ }
+    requires { ⌜ HomedItems geometry at to from stop (now separators) (now numbers) (now words) (now owners) (now homes) ⌝ }
+    ensures { λ r. ⌜ Lowest (soundOf geometry (now (separators .entry)) (now (numbers .entry)) (now (words .entry)) (now (owners .entry)) at from) from stop r ⌝ }
+{
+    let table = generator::multipliers(48271);
+    first_unsound(
+        &table,
+        geometry,
+        separators,
+        numbers,
+        words,
+        owners,
+        homes,
+        at,
+        to,
+        from,
+        stop,
+    )
+}
+
+fn first_unsound_by_16807(
+    geometry: Geometry,
+    separators: &[u8],
+    numbers: &[u32],
+    words: &[u64],
+    owners: &[u8],
+    homes: &[u32],
+    at: usize,
+    to: usize,
+    from: usize,
+    stop: usize,
+) -> usize
+    requires { ⌜ (validParameters (geometry .parameters) ≡ true) × (geometry .parameters .multiplier ≡ 16807) ⌝ }
+    requires { ⌜ HomedItems geometry at to from stop (now separators) (now numbers) (now words) (now owners) (now homes) ⌝ }
+    ensures { λ r. ⌜ Lowest (soundOf geometry (now (separators .entry)) (now (numbers .entry)) (now (words .entry)) (now (owners .entry)) at from) from stop r ⌝ }
+{
+    let table = generator::multipliers(16807);
     first_unsound(
         &table,
         geometry,
@@ -208,7 +278,7 @@ fn first_unsound_near(
         let at = page * places;
         let kept = to + (page - from) * places;
         if count_far(numbers, homes, at, kept, places, page) != 0 {
-            return first_unsound_far(
+            return first_unsound_beyond(
                 geometry,
                 separators,
                 numbers,

@@ -4,17 +4,15 @@ ghost use mathlib.Core.Bool.{true, _&&_};
 ghost use Prim.Native.Nat.{_+_, _-_, _*_, _≤_, _<_};
 ghost use lib.Dec.{eqb, leb, ltb};
 ghost use lib.ListN.{length, getD};
-ghost use Rattle.generator.specs.Generator.{topOf};
 ghost use Rattle.hashing.specs.Geometry.{multiplierOf};
+ghost use Rattle.hashing.specs.Limits.{validParameters};
 ghost use Rattle.hashing.specs.Home.{home as Home·home};
 ghost use Rattle.pages.specs.Position.{validWord};
 ghost use Rattle.placement.specs.File.{greatest};
 ghost use Rattle.placement.specs.Ready.{Signers, Homing};
-ghost use Rattle.soundness.specs.Survey.{TestedItem, Found, Signable, Tested};
+ghost use Rattle.soundness.specs.Survey.{TestedItem, Signable, Testable, Tested};
 use crate::probing::stands_on;
-use crate::star_homes::find_homes;
 use crate::star_homes::wide;
-use crate::stretches::first_unsound_far;
 use hashing::Geometry;
 use placement::top_of;
 
@@ -65,21 +63,16 @@ pub fn page_sound<'a>(
             homes,
         );
     }
-    find_homes(table, geometry, numbers, 0, places, homes, 0);
-    let next = page + 1;
-    first_unsound_far(
+    items_beyond(
         geometry,
         separators,
         numbers,
         words,
         owners,
-        homes,
-        0,
-        0,
+        &found,
         page,
-        next,
+        homes,
     )
-        == next
 }
 
 // How many places stand before the first empty one: a sound page has no star behind it.
@@ -141,12 +134,7 @@ fn items_sound<'a>(
     homes: &mut [u32; 32],
 ) -> bool
     requires { ⌜ Signers (geometry .parameters) (now table) ⌝ }
-    requires { ⌜ length (now separators) ≡ geometry .parameters .pages ⌝ }
-    requires { ⌜ page < geometry .parameters .pages ⌝ }
-    requires { ⌜ (length (now numbers) ≡ 32) × ((length (now words) ≡ 32) × (length (now owners) ≡ 32)) ⌝ }
-    requires { ⌜ length (now homes) ≡ 32 ⌝ }
-    requires { ⌜ getD (now separators) page 0 ≤ topOf (geometry .parameters .bits) ⌝ }
-    requires { ⌜ Found geometry (now numbers) (now found) ⌝ }
+    requires { ⌜ Testable geometry (now separators) page (now numbers) (now words) (now owners) (now found) (now homes) ⌝ }
     requires { ⌜ Signable (length (now table)) page (now numbers) (now found) ⌝ }
     ensures { λ r. ⌜ Tested geometry (now (separators .entry)) page (now (numbers .entry)) (now (words .entry)) (now (owners .entry)) (now (homes .exit)) r ⌝ }
 {
@@ -173,6 +161,101 @@ fn items_sound<'a>(
         i += 1;
     }
     true
+}
+
+// The same by the whole table, for a star 44 pages or more above its home. Each table has a function of its own, as in `probe_beyond`.
+fn items_beyond<'a>(
+    geometry: Geometry,
+    separators: &[u8],
+    numbers: &'a [u32; 32],
+    words: &'a [u64; 32],
+    owners: &'a [u8; 32],
+    found: &[u16; 32],
+    page: usize,
+    homes: &mut [u32; 32],
+) -> bool
+    requires { ⌜ validParameters (geometry .parameters) ≡ true ⌝ }
+    requires { ⌜ Testable geometry (now separators) page (now numbers) (now words) (now owners) (now found) (now homes) ⌝ }
+    ensures { λ r. ⌜ Tested geometry (now (separators .entry)) page (now (numbers .entry)) (now (words .entry)) (now (owners .entry)) (now (homes .exit)) r ⌝ }
+{
+    if geometry.parameters.multiplier == 48271 {
+        return items_by_48271(
+            geometry,
+            separators,
+            numbers,
+            words,
+            owners,
+            found,
+            page,
+            homes,
+        );
+    }
+    items_by_16807(
+        geometry,
+        separators,
+        numbers,
+        words,
+        owners,
+        found,
+        page,
+        homes,
+    )
+}
+
+fn items_by_48271<'a>(
+    geometry: Geometry,
+    separators: &[u8],
+    numbers: &'a [u32; 32],
+    words: &'a [u64; 32],
+    owners: &'a [u8; 32],
+    found: &[u16; 32],
+    page: usize,
+    homes: &mut [u32; 32],
+) -> bool
+    requires { ⌜ (validParameters (geometry .parameters) ≡ true) × (geometry .parameters .multiplier ≡ 48271) ⌝ }
+    requires { ⌜ Testable geometry (now separators) page (now numbers) (now words) (now owners) (now found) (now homes) ⌝ }
+    ensures { λ r. ⌜ Tested geometry (now (separators .entry)) page (now (numbers .entry)) (now (words .entry)) (now (owners .entry)) (now (homes .exit)) r ⌝ }
+{
+    let table = generator::multipliers(48271);
+    items_sound(
+        &table,
+        geometry,
+        separators,
+        numbers,
+        words,
+        owners,
+        found,
+        page,
+        homes,
+    )
+}
+
+fn items_by_16807<'a>(
+    geometry: Geometry,
+    separators: &[u8],
+    numbers: &'a [u32; 32],
+    words: &'a [u64; 32],
+    owners: &'a [u8; 32],
+    found: &[u16; 32],
+    page: usize,
+    homes: &mut [u32; 32],
+) -> bool
+    requires { ⌜ (validParameters (geometry .parameters) ≡ true) × (geometry .parameters .multiplier ≡ 16807) ⌝ }
+    requires { ⌜ Testable geometry (now separators) page (now numbers) (now words) (now owners) (now found) (now homes) ⌝ }
+    ensures { λ r. ⌜ Tested geometry (now (separators .entry)) page (now (numbers .entry)) (now (words .entry)) (now (owners .entry)) (now (homes .exit)) r ⌝ }
+{
+    let table = generator::multipliers(16807);
+    items_sound(
+        &table,
+        geometry,
+        separators,
+        numbers,
+        words,
+        owners,
+        found,
+        page,
+        homes,
+    )
 }
 
 pub fn admitted(

@@ -1,6 +1,6 @@
 -- If none of the items before i is counted, none is homed below `low`.
 use mathlib.Core.Path.{_≡_}
-use Prim.Native.Nat.{ℕ, _-_, _≤_, _<_}
+use Prim.Native.Nat.{_-_, _≤_}
 use native.Mathlib.Omega.{arith}
 use borrow.Author.Needs.{needs}
 use Rattle.clean_test.specs.Raising.{HomedFrom}

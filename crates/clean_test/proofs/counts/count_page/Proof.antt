@@ -11,7 +11,7 @@ use Rattle.hashing.proofs.Bounds.{limits}
 use Rattle.pages.specs.Page.{part}
 use Rattle.placement.specs.Hash.{hashOf}
 use Rattle.calls.proofs.Refusals.{items-most}
-use Rattle.clean_test.specs.Raising.{hashUnder, isStar, starsAmong, Added, passedOn}
+use Rattle.clean_test.specs.Raising.{hashUnder, starNumber, starsAmong, Added, passedOn}
 use Rattle.clean_test.proofs.Counters.{taken-most, home-item, places-still, stars-counts, page-counted}
 use Rattle.clean_test.proofs.counts.count_page.Statement.{statement}
 use Rattle.clean_test.proofs.counts.count_page.Tie as tie
@@ -51,7 +51,7 @@ more c =
       arith,
       s .pre .1 .1 .0 .1 (a .page) (s .pre .1 .1 .1) (low-page s),
       c .count-stars .ensures,
-      taken-most isStar (drop (a .page * a .geometry .parameters .places) (a .numbers .now)) (a .geometry .parameters .places),
+      taken-most starNumber (drop (a .page * a .geometry .parameters .places) (a .numbers .now)) (a .geometry .parameters .places),
       limits (a .geometry .parameters) (s .pre .0 .valid) .places-most,
     )
 

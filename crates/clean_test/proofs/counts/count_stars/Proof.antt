@@ -5,7 +5,7 @@ use native.Mathlib.Omega.{arith}
 use borrow.Author.Needs.{needs}
 use lib.ListN.{getD, take, drop}
 use Rattle.placement.specs.Rule.{filter}
-use Rattle.clean_test.specs.Raising.{isStar, starsAmong}
+use Rattle.clean_test.specs.Raising.{starNumber, starsAmong}
 use Rattle.clean_test.proofs.Counters.{one-most, taken-most, stars-next}
 use Rattle.clean_test.proofs.counts.count_stars.Statement.{statement}
 use Rattle.clean_test.proofs.counts.count_stars.Tie as tie
@@ -42,9 +42,9 @@ add-stars c =
     omega (
       arith,
       c .one-star .ensures,
-      one-most (isStar (getD (a .numbers .now) (a .first + k .loop .i) 0)),
+      one-most (starNumber (getD (a .numbers .now) (a .first + k .loop .i) 0)),
       k .loop .inv .1,
-      taken-most isStar (drop (a .first) (a .numbers .now)) (k .loop .i),
+      taken-most starNumber (drop (a .first) (a .numbers .now)) (k .loop .i),
       start k .pre .1,
     )
 

@@ -14,6 +14,7 @@ use Rattle.page_plan.proofs.Items.{words-count}
 use Rattle.page_plan.specs.Plans.{Started}
 use Rattle.page_plan.proofs.Sourcing.{length-stretch}
 use Rattle.page_plan.proofs.Stretch.{started, carried-same, stands, started-again, planned-again}
+use Rattle.page_plan.proofs.AllPages.{planned-closed}
 use Rattle.page_plan.proofs.layout.plan_pages.Statement.{statement}
 use Rattle.page_plan.proofs.layout.plan_pages.Tie as tie
 
@@ -70,19 +71,35 @@ settle-pages-requires : tie.Need-settle-pages-requires
 settle-pages-requires c κs =
     let d = c .before .before .before .before .before .before .before .before in
     let s = start d in
-    let p = s .pre .0 in
-    record {
-      valid = p .valid;
-      pages = p .pages;
-      ofPlanned = p .ofPlanned;
-      ofPool = p .ofPool;
-      ofEnds = omega (arith, s .pre .1, d .gather .kept .1 .1 .1 .0);
-      few = omega (arith, p .few, d .gather .kept .1 .1 .0);
-      order = omega (arith, d .gather .ensures .0);
-      inside = omega (arith, d .gather .ensures .0, enough s, d .gather .kept .1 .1 .0);
-      grouped-are = rw (in-groups d) (started-again _ _ _ _ _ _ (ready d));
-      near = rw (carried-here d) (p .near);
-    }
+    let p = s .pre .0 in (
+      record {
+        valid = p .valid;
+        pages = p .pages;
+        ofPlanned = p .ofPlanned;
+        ofPool = p .ofPool;
+        ofEnds = omega (arith, s .pre .1, d .gather .kept .1 .1 .1 .0);
+        few = omega (arith, p .few, d .gather .kept .1 .1 .0);
+        order = omega (arith, d .gather .ensures .0);
+        inside = omega (arith, d .gather .ensures .0, enough s, d .gather .kept .1 .1 .0);
+        grouped-are = rw (in-groups d) (started-again _ _ _ _ _ _ (ready d));
+        near = rw (carried-here d) (p .near);
+      },
+      omega (arith, d .gather .ensures .0, enough s, p .few),
+    )
+
+abbrev gathered : tie.After-settle-pages → tie.After-gather
+gathered u = u .before .before .before .before .before .before .before .before .before
+
+-- what is carried past the stretch stands within the list
+within : (u : tie.After-settle-pages) → gathered u .gather .result ≤ length (u .settle-pages .last .1 .1 .0)
+within u =
+    let d = gathered u in
+    omega (arith, d .gather .ensures .0, enough (start d), d .gather .kept .1 .1 .0, u .settle-pages .kept .1 .1 .0)
+
+close-up-requires : tie.Need-close-up-requires
+close-up-requires c κs =
+    let u = c .before .before .before .before .before .before .before in
+    (u .settle-pages .ensures .inside, within u)
 
 same-length : tie.Need-same-length
 same-length c = search needs
@@ -98,9 +115,11 @@ same-length-4 c = search needs
 
 returns : tie.Need-returns
 returns c =
-    let u = c .before .before .before .before .before .before in
-    let d = u .before .before .before .before .before .before .before .before .before in
-    planned-again _ _ _ _ _ _ _ _ _ _ _ (rw (carried-here d, in-groups d) at (u .settle-pages .ensures))
+    let u = c .before .before .before .before .before .before .before .before .before .before in
+    let d = gathered u in
+    let up = c .before .before .close-up in
+    let planned = planned-closed _ _ _ _ _ _ _ _ _ _ _ _ _ _ (within u) (u .settle-pages .ensures .plan (omega arith)) (up .ensures .0) (up .ensures .1) in
+    planned-again _ _ _ _ _ _ _ _ _ _ _ (rw (carried-here d, in-groups d) at planned)
 
 pub plan-pages-spec : {M : Type 1} → statement M
 plan-pages-spec =
@@ -109,6 +128,7 @@ plan-pages-spec =
     cast-places
     gather-requires
     settle-pages-requires
+    close-up-requires
     same-length
     same-length-2
     same-length-3

@@ -13,19 +13,19 @@ cast-places c = search needs
 
 settle-requires : tie.Need-settle-requires
 settle-requires c κs =
-    let p = c .before .before .before .before .before .before .pre in
-    (p .0, (p .1 .0, refl))
+    let p = c .before .before .before .before .before .before .before .pre in
+    (p .0, (p .1 .0, (refl, p .1 .1 .0)))
 
 cast-planned : tie.Need-cast-planned
 cast-planned c =
-    let s = c .before .before .before .before .before .before .before .before .before .before in
+    let s = c .before .before .before .before .before .before .before .before .before .before .before in
     let a = s .args in
     record {
       fits =
           omega (
             arith,
             c .before .before .before .settle .ensures .0 .separator,
-            separator-byte (a .parameters) (a .page) (slice (a .from) (a .reach) (now (a .waiting))) (limits _ (s .pre .0) .bits-most),
+            separator-byte (a .parameters) (a .page) (slice (a .from) (a .reach) (now (a .waiting))) (limits _ (s .pre .0 .valid) .bits-most),
           );
     }
 
@@ -37,10 +37,10 @@ mul-store-sources c = search needs
 
 store-sources-requires : tie.Need-store-sources-requires
 store-sources-requires c κs =
-    let s = c .before .before .before .before .before .before .before .before .before .before .before .before in
-    let most = limits _ (s .pre .0) .places-most in
+    let s = c .before .before .before .before .before .before .before .before .before .before .before .before .before in
+    let most = limits _ (s .pre .0 .valid) .places-most in
     let done = c .before .before .before .before .before .settle .ensures in
-    ((s .pre .1 .1 .1, most), (done .1, omega (arith, done .0 .size, done .1, most)))
+    ((s .pre .1 .1 .1 .1, most), (done .1, omega (arith, done .0 .size, done .1, most)))
 
 same-length : tie.Need-same-length
 same-length c = search needs
@@ -53,10 +53,10 @@ same-length-3 c = search needs
 
 returns : tie.Need-returns
 returns c =
-    let s = c .before .before .before .before .before .before .before .before .before .before .before .before .before .before .before in
+    let s = c .before .before .before .before .before .before .before .before .before .before .before .before .before .before .before .before in
     let a = s .args in
     let d = c .before .before .before .before .before .before .before .before .settle in
-    page-planned (a .parameters) (a .page) (slice (a .from) (a .reach) (now (a .waiting))) (a .reach) (now (a .waiting)) (d .last .1 .0) (d .last .1 .1 .1 .1 .1 .0) (now (a .pool)) (c .before .before .store-sources .last .0) (now (a .planned)) (d .result) (d .ensures .0) (c .before .before .store-sources .ensures) (omega (arith, s .pre))
+    page-planned (a .parameters) (a .page) (slice (a .from) (a .reach) (now (a .waiting))) (a .reach) (now (a .waiting)) (d .last .1 .1 .0) (d .last .1 .1 .1 .1 .1 .1 .0) (now (a .pool)) (c .before .before .store-sources .last .0) (now (a .planned)) (d .result) (d .ensures .0) (c .before .before .store-sources .ensures) (omega (arith, s .pre))
 
 pub settle-page-spec : {M : Type 1} → statement M
 settle-page-spec =

@@ -1,153 +1,117 @@
--- With v pages settled, what waits stands from `from` up to the end of group v - 1. Assumes nothing.
-use mathlib.Core.Path.{_≡_, _∙_}
-use mathlib.Core.Bool.{true}
-use mathlib.Core.List.{List}
-use Prim.Native.Nat.{ℕ, suc, _+_, _-_, _≤_}
-use native.Mathlib.Nat.{le-antisymm}
+-- The first ninety multipliers serve up to a page that needs more; from there on the whole table does. Assumes nothing.
 use native.Mathlib.Omega.{arith}
-use lib.ListN.{length, getD}
-use lib.Seq.{slice, length-slice}
 use denote.Ref.{now}
-use Rattle.page_separator.specs.Probes.{homesUpTo}
-use Rattle.page_plan.specs.Plans.{endOf}
-use Rattle.page_plan.proofs.Stretch.{ends-within, page-inside, Settling, settling-none, settling-next, planned-all, probed-near, probed-inside, probed-within}
+use Rattle.hashing.proofs.Bounds.{limits}
+use Rattle.placement.proofs.Prepared.{first-signers}
+use Rattle.page_plan.specs.Plans.{Settling}
+use Rattle.page_plan.proofs.Stretch.{settling-none}
+use Rattle.page_plan.proofs.AllPages.{stretch-settled}
+use lib.Seq.{slice}
+use borrow.Author.Needs.{needs}
 use Rattle.page_plan.proofs.layout.settle_pages.Statement.{statement}
 use Rattle.page_plan.proofs.layout.settle_pages.Tie as tie
 
-abbrev Inv-loop : tie.InvT-loop
-Inv-loop parameters pool₀ waiting₀ planned₀ ends lo count carried end from₀ v₀ pool waiting planned from v =
-    Settling parameters lo count carried (slice carried end waiting₀) waiting₀ pool₀ planned₀ pool waiting planned from v
+first-multipliers-requires : tie.Need-first-multipliers-requires
+first-multipliers-requires c κs = limits _ (c .before .before .before .before .pre .0 .valid) .multiplier-valid
 
-abbrev μ-loop : tie.MeasureT-loop
-μ-loop parameters pool₀ waiting₀ planned₀ ends lo count carried end from₀ v₀ pool waiting planned from v =
-    count - v
+slice-aggregate-settle-run : tie.Need-slice-aggregate-settle-run
+slice-aggregate-settle-run c = search needs
 
-abbrev start : tie.At-loop Inv-loop μ-loop → tie.Start Inv-loop μ-loop
-start c = c .before .before .before .before .before
-
--- the words in groups
-abbrev L : tie.Start Inv-loop μ-loop → List ℕ
-L s = slice (s .args .carried) (s .args .end) (now (s .args .waiting))
-
-all-words : (s : tie.Start Inv-loop μ-loop) → s .args .end ≡ s .args .carried + length (L s)
-all-words s = omega (arith, s .pre .order, length-slice (s .args .carried) (s .args .end) (now (s .args .waiting)) (s .pre .inside))
-
--- within a turn: where page lo + v's words end
-abbrev reach : tie.In-loop Inv-loop μ-loop → ℕ
-reach c = getD (now (start (c .before) .args .ends)) (c .before .loop .v) 0
-
-reach-is : (c : tie.In-loop Inv-loop μ-loop)
-    → reach c ≡ endOf (start (c .before) .args .carried) (start (c .before) .args .lo) (L (start (c .before))) (suc (c .before .loop .v))
-reach-is c = start (c .before) .pre .grouped-are .ended (c .before .loop .v) (c .loop-test .taken)
-
-few : (c : tie.At-loop Inv-loop μ-loop) → length (c .loop .waiting) ≤ 32768
-few c = omega (arith, c .loop .inv .long-waiting, start c .pre .few)
-
-reached : (c : tie.In-loop Inv-loop μ-loop) → reach c ≤ length (c .before .loop .waiting)
-reached c = rw (reach-is c) (probed-within _ _ _ _ _ _ _ _ _ (start (c .before) .pre .grouped-are) _ _ _ _ _ (c .before .loop .inv) (c .loop-test .taken))
-
-near-here : (c : tie.In-loop Inv-loop μ-loop)
-    → homesUpTo (start (c .before) .args .lo + c .before .loop .v) (slice (c .before .loop .from) (reach c) (c .before .loop .waiting)) ≡ true
-near-here c =
-    let p = start (c .before) .pre in
-    rw (reach-is c)
-    (probed-near _ _ _ _ _ _ _ _ _ (p .grouped-are) _ _ _ _ _ (c .before .loop .inv) (c .loop-test .taken) (p .near))
-
-loop-holds : tie.Need-loop-holds Inv-loop μ-loop
-loop-holds c = settling-none _ _ _ _ _ _ _ _
-
-mul-reach : tie.Need-mul-reach Inv-loop μ-loop
-mul-reach c = record { fits = omega (arith, start (c .before) .pre .pages) }
-
-shared-slice-read-reach : tie.Need-shared-slice-read-reach Inv-loop μ-loop
-shared-slice-read-reach c = omega (arith, start (c .before .before) .pre .ofEnds)
-
-cast-reach : tie.Need-cast-reach Inv-loop μ-loop
-cast-reach c = record { fits = omega (arith, reached (c .before), few (c .before .before)) }
-
-abbrev turn : tie.After-settle-page-arg3 Inv-loop μ-loop → tie.In-loop Inv-loop μ-loop
-turn c = c .before .before .before .before
-
-add-settle-page : tie.Need-add-settle-page Inv-loop μ-loop
-add-settle-page c = record { fits = omega (arith, start (turn c .before) .pre .pages) }
-
-settle-page-requires : tie.Need-settle-page-requires Inv-loop μ-loop
-settle-page-requires c κs =
-    let i = turn c in
-    let s = start (i .before) in
-    let p = s .pre in
-    let a = s .args in
-    let inv = i .before .loop .inv in (
-      p .valid,
+settle-run-requires : tie.Need-settle-run-requires
+settle-run-requires c κs =
+    let s = c .before .before .before .before .before .before .before .before .before in
+    let a = s .args in (
+      first-signers (c .before .before .before .before .first-multipliers .ensures) (s .pre .0 .valid),
       (
+        s .pre .1,
         record {
-          order = rw (reach-is i) (probed-inside _ _ _ _ _ _ _ _ _ (p .grouped-are) _ _ _ _ _ inv (i .loop-test .taken));
-          inside = reached i;
-          most = omega (arith, reached i, few (i .before));
-          page = omega (arith, p .pages);
-          homes = near-here i;
+          carried = a .carried;
+          waiting = now (a .waiting);
+          pool = now (a .pool);
+          planned = now (a .planned);
+          settleable = s .pre .0;
+          settling = settling-none _ _ _ _ _ _ _ _;
         },
-        (omega (arith, p .ofPlanned, inv .long-planned), rw (inv .long-pool) (page-inside (a .lo) (i .before .loop .v) (a .count) (a .parameters .places) (length (now (a .pool))) (i .loop-test .taken) (p .ofPool))),
       ),
     )
 
-abbrev settled-turn : tie.After-slice-known6 Inv-loop μ-loop → tie.After-settle-page Inv-loop μ-loop
-settled-turn c = c .before .before .before .before .before .before
+abbrev start : tie.After-settle-run → tie.Start
+start d = d .before .before .before .before .before .before .before .before .before .before
 
-add-v : tie.Need-add-v Inv-loop μ-loop
-add-v c = record { fits = omega (arith, turn (settled-turn c .before) .loop-test .taken, start (turn (settled-turn c .before) .before) .pre .pages) }
+-- the pages settled by the first ninety
+near : (d : tie.After-settle-run) →
+    let a = start d .args in
+    let last = d .settle-run .last .1 .1 in
+    Settling (a .parameters) (a .lo) (a .count) (a .carried) (slice (a .carried) (a .end) (now (a .waiting))) (now (a .waiting)) (now (a .pool)) (now (a .planned))
+    (last .0) (last .1 .0) (last .1 .1 .0) (d .settle-run .result .from) (d .settle-run .result .pages)
+near d =
+    let s = start d in
+    d .settle-run .ensures .0 (s .args .carried) (now (s .args .pool)) (now (s .args .waiting)) (now (s .args .planned)) (s .pre .0) (settling-none _ _ _ _ _ _ _ _)
 
-loop-less : tie.Need-loop-less Inv-loop μ-loop
-loop-less c = omega (arith, turn (settled-turn c .before) .loop-test .taken)
+same-length : tie.Need-same-length
+same-length c = search needs
 
-loop-again : tie.Need-loop-again Inv-loop μ-loop
-loop-again c =
-    let i = turn (settled-turn c .before) in
-    let p = start (i .before) .pre in
-    let d = settled-turn c .settle-page in
-    settling-next _ _ _ _ _ _ _ _ _ (p .grouped-are) _ _ _ _ _ (i .before .loop .inv) (i .loop-test .taken) _ (reach-is i) _ _ _ _ (d .ensures) (p .ofPool) (p .ofPlanned) (d .kept .1 .0) (d .kept .1 .1 .0) (d .kept .1 .1 .1 .0)
+same-length-2 : tie.Need-same-length-2
+same-length-2 c = search needs
 
-close-up-requires : tie.Need-close-up-requires Inv-loop μ-loop
-close-up-requires c κs =
-    let l = c .before .before in
-    let s = start l in (
-      omega (arith, l .loop .inv .start, ends-within _ _ _ _ _ _ (s .pre .grouped-are) (l .loop .v) (l .loop .inv .upto), all-words s),
-      omega (arith, s .pre .inside, l .loop .inv .long-waiting),
+same-length-3 : tie.Need-same-length-3
+same-length-3 c = search needs
+
+returns : tie.Need-returns
+returns c =
+    let d = c .before .before .before .before .before .before .before .before in
+    let s = start d in
+    stretch-settled _ _ _ _ _ _ _ _ _ (s .pre .0) _ _ _ _ _ (near d) (s .args .spare) (λ less. omega (arith, less, c .if1 .taken))
+
+run-beyond-requires : tie.Need-run-beyond-requires
+run-beyond-requires c κs =
+    let d = c .before .before .before .before .before .before .before .before .before .before .before in
+    let s = start d in
+    let a = s .args in (
+      s .pre .0 .valid,
+      (
+        s .pre .1,
+        record {
+          carried = a .carried;
+          waiting = now (a .waiting);
+          pool = now (a .pool);
+          planned = now (a .planned);
+          settleable = s .pre .0;
+          settling = near d;
+        },
+      ),
     )
 
-same-length : tie.Need-same-length Inv-loop μ-loop
-same-length c = c .before .before .before .before .before .loop .inv .long-pool
+same-length-4 : tie.Need-same-length-4
+same-length-4 c = search needs
 
-same-length-2 : tie.Need-same-length-2 Inv-loop μ-loop
-same-length-2 c = c .before .before .close-up .kept .0 ∙ c .before .before .before .before .before .loop .inv .long-waiting
+same-length-5 : tie.Need-same-length-5
+same-length-5 c = search needs
 
-same-length-3 : tie.Need-same-length-3 Inv-loop μ-loop
-same-length-3 c = c .before .before .before .before .before .loop .inv .long-planned
+same-length-6 : tie.Need-same-length-6
+same-length-6 c = search needs
 
-returns : tie.Need-returns Inv-loop μ-loop
-returns c =
-    let l = c .before .before .before .before .before in
-    let s = start l in
-    let u = c .before .before .close-up in
-    planned-all _ _ _ _ _ _ _ _ _ (s .pre .grouped-are) _ _ _ _ _ (l .loop .inv) (le-antisymm (l .loop .inv .upto) (c .before .before .before .before .loop-test .left)) _ _ _ (all-words s) (u .ensures .0) (u .ensures .1)
+returns-2 : tie.Need-returns-2
+returns-2 c =
+    let e = c .before .before .before .before .before .before in
+    let d = e .before .before .before .before .before .before .before .before .before .before .before .before in
+    let s = start d in
+    let far = e .run-beyond .ensures .0 (s .args .carried) (now (s .args .pool)) (now (s .args .waiting)) (now (s .args .planned)) (s .pre .0) (near d) in
+    stretch-settled _ _ _ _ _ _ _ _ _ (s .pre .0) _ _ _ _ _ far (s .args .spare) (e .run-beyond .ensures .1)
 
 pub settle-pages-spec : {M : Type 1} → statement M
 settle-pages-spec =
     tie.close
     (tie.spec
-    Inv-loop
-    μ-loop
-    loop-holds
-    mul-reach
-    shared-slice-read-reach
-    cast-reach
-    add-settle-page
-    settle-page-requires
-    add-v
-    loop-less
-    loop-again
-    close-up-requires
+    first-multipliers-requires
+    slice-aggregate-settle-run
+    settle-run-requires
     same-length
     same-length-2
     same-length-3
-    returns)
+    returns
+    run-beyond-requires
+    same-length-4
+    same-length-5
+    same-length-6
+    returns-2)

@@ -18,7 +18,7 @@ cast-places : tie.Need-cast-places Inv-loop μ-loop
 cast-places c = search needs
 
 loop-holds : tie.Need-loop-holds Inv-loop μ-loop
-loop-holds c = passed-none _ _ _ (c .before .before .before .before .before .before .before .pre .1 .1 .1 .0 .0)
+loop-holds c = passed-none _ _ _ (c .before .before .before .before .before .before .before .pre .1 .1 .order)
 
 sub-items : tie.Need-sub-items Inv-loop μ-loop
 sub-items c = c .before .loop .inv .low
@@ -31,13 +31,13 @@ within : (c : tie.In-loop Inv-loop μ-loop) → (c .before .loop .page - start c
 within c = page-items (start c .args .geometry .parameters .places) (start c .args .from) (c .before .loop .page) (start c .args .stop) (c .before .loop .inv .low) (c .loop-test .taken)
 
 mul-items : tie.Need-mul-items Inv-loop μ-loop
-mul-items c = search (needs, within c, start c .pre .1 .1 .1 .1 .0 .numbers)
+mul-items c = search (needs, within c, start c .pre .1 .1 .items .numbers)
 
 add-lent-sound : tie.Need-add-lent-sound Inv-loop μ-loop
-add-lent-sound c = search (needs, within c, start c .pre .1 .1 .1 .1 .0 .numbers)
+add-lent-sound c = search (needs, within c, start c .pre .1 .1 .items .numbers)
 
 add-lent-sound-2 : tie.Need-add-lent-sound-2 Inv-loop μ-loop
-add-lent-sound-2 c = search (needs, within c, start c .pre .1 .1 .1 .1 .0 .homes)
+add-lent-sound-2 c = search (needs, within c, start c .pre .1 .1 .items .homes)
 
 lent-sound-requires : tie.Need-lent-sound-requires Inv-loop μ-loop
 lent-sound-requires c κs =
@@ -46,17 +46,17 @@ lent-sound-requires c κs =
     let b = s .args .geometry .parameters .places in
     let items = (c .before .loop .page - s .args .from) * b in
     let all = (s .args .stop - s .args .from) * b in
-    let below : c .before .loop .page < s .args .geometry .parameters .pages = omega (arith, c .loop-test .taken, p .1 .0 .1) in
+    let below : c .before .loop .page < s .args .geometry .parameters .pages = omega (arith, c .loop-test .taken, p .inside) in
     let most = limits (s .args .geometry .parameters) (s .pre .0 .valid) .pages-most in (
       s .pre .0,
       (
-        p .0,
+        p .separated,
         (
           below,
           (
-            items-part (s .args .at) (s .args .to) all items b (p .1 .1 .0) (within c),
+            items-part (s .args .at) (s .args .to) all items b (p .items) (within c),
             (
-              homes-part (s .args .geometry) (s .args .numbers .now) (s .args .homes .now) (s .args .at) (s .args .to) all items b (p .1 .1 .1) (within c),
+              homes-part (s .args .geometry) (s .args .numbers .now) (s .args .homes .now) (s .args .at) (s .args .to) all items b (p .homes) (within c),
               λ i h star. omega (arith, s .pre .1 .0, below, most),
             ),
           ),

@@ -63,31 +63,28 @@ count-far-requires c κs =
     let most = limits _ (start c .pre .0 .homing .valid) in
     ((items c .numbers, (items c .homes, most .places-most)), omega (arith, below c, most .pages-most))
 
-first-unsound-far-requires : tie.Need-first-unsound-far-requires Inv-loop μ-loop
-first-unsound-far-requires c κs =
+first-unsound-beyond-requires : tie.Need-first-unsound-beyond-requires Inv-loop μ-loop
+first-unsound-beyond-requires c κs =
     let l = c .before .before in
     let s = start l in
-    let inside = l .loop-test .taken in
     let b = s .args .geometry .parameters .places in (
       s .pre .0 .homing .valid,
-      (
-        s .pre .0 .sized .ofSeparators,
-        (
-          (omega (arith, inside), s .pre .1 .0 .1),
-          (
-            rest-items (s .args .geometry) (file s) (s .args .homes .now) (s .args .to) (s .args .from) (l .before .loop .page) (s .args .stop) (s .pre .0 .sized) (l .before .loop .inv .low) (s .pre .1 .0 .1) (s .pre .1 .1 .0) (l .before .loop .inv .high),
+      record {
+        separated = s .pre .0 .sized .ofSeparators;
+        order = omega (arith, l .loop-test .taken);
+        inside = s .pre .1 .0 .1;
+        items = rest-items (s .args .geometry) (file s) (s .args .homes .now) (s .args .to) (s .args .from) (l .before .loop .page) (s .args .stop) (s .pre .0 .sized) (l .before .loop .inv .low) (s .pre .1 .0 .1) (s .pre .1 .1 .0) (l .before .loop .inv .high);
+        homes =
             homes-here (s .args .geometry) (file s) (s .args .homes .now) (s .args .to) (s .args .from) (l .before .loop .page) (s .args .stop) (s .pre .0 .sized) (l .before .loop .inv .low) (s .pre .1 .0 .1) (s .pre .1 .1 .0) ((s .args .stop - l .before .loop .page) * b) (s .pre .1 .1 .1)
-                (omega (arith, both-items b (s .args .from) (l .before .loop .page) (s .args .stop) (l .before .loop .inv .low) (l .before .loop .inv .high))),
-          ),
-        ),
-      ),
+            (omega (arith, both-items b (s .args .from) (l .before .loop .page) (s .args .stop) (l .before .loop .inv .low) (l .before .loop .inv .high)));
+      },
     )
 
 returns : tie.Need-returns Inv-loop μ-loop
 returns c =
     let l = c .before .before .before in
     let s = start l in
-    passed-then (l .before .loop .inv) (lowest-same (sound-there (s .args .geometry) (file s) (l .before .loop .page)) (c .first-unsound-far .ensures))
+    passed-then (l .before .loop .inv) (lowest-same (sound-there (s .args .geometry) (file s) (l .before .loop .page)) (c .first-unsound-beyond .ensures))
 
 lent-sound-requires : tie.Need-lent-sound-requires Inv-loop μ-loop
 lent-sound-requires c κs =
@@ -147,7 +144,7 @@ first-unsound-near-spec =
     mul-kept
     add-kept
     count-far-requires
-    first-unsound-far-requires
+    first-unsound-beyond-requires
     returns
     lent-sound-requires
     returns-2

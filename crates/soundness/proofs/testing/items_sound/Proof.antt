@@ -32,10 +32,10 @@ loop-holds : tie.Need-loop-holds Inv-loop μ-loop
 loop-holds c =
     let s = c .before .before .before in
     let l = limits (s .args .geometry .parameters) (s .pre .0 .valid) in
-    let whole = s .pre .1 .1 .1 in (
+    let whole = s .pre .1 .0 in (
       search needs,
       l .places-most,
-      surveyed-none _ _ _ _ _ _ _ _ _ (omega (arith, l .places-most, whole .0)) (omega (arith, l .places-most, whole .0)) (omega (arith, l .places-most, whole .0)) (whole .1 .0),
+      surveyed-none _ _ _ _ _ _ _ _ _ (omega (arith, l .places-most, whole .numbers)) (omega (arith, l .places-most, whole .words)) (omega (arith, l .places-most, whole .owners)) (whole .homes),
       λ j h. omega arith,
     )
 
@@ -67,10 +67,10 @@ admitted-requires : tie.Need-admitted-requires Inv-loop μ-loop
 admitted-requires c κs =
     let s = c .before .before .before .before .before .before .before .before .before .before in
     let loop = c .before .before .before .before .before .before .loop in
-    let p = s .pre .1 .1 .1 .1 .1 in
+    let p = s .pre .1 in
     let ns = now (s .args .numbers) in
     let inside = c .before .before .before .before .before .loop-test .taken in
-    (s .pre .0, (s .pre .1 .0, (s .pre .1 .1 .0, (λ h m. c .wide .ensures .0 ∙ p .1 .0 (loop .i) inside (first-led ns (loop .i) (loop .last) (loop .inv .3) h m), λ star. omega (arith, c .wide .ensures .0, p .1 .1 (loop .i) (omega arith) star)))))
+    (s .pre .0, (p .0 .separated, (p .0 .inside, (λ h m. c .wide .ensures .0 ∙ p .0 .homed (loop .i) inside (first-led ns (loop .i) (loop .last) (loop .inv .3) h m), λ star. omega (arith, c .wide .ensures .0, p .1 (loop .i) (omega arith) star)))))
 
 returns : tie.Need-returns Inv-loop μ-loop
 unfolding soundIn
@@ -113,7 +113,7 @@ returns-2 c =
     let s = c .before .before .before .before .before in
     let e : c .before .loop .i ≡ s .args .geometry .parameters .places = omega arith in
     record {
-      sound = rw (le-leb _ _ (s .pre .1 .1 .1 .1 .1 .0)) (sym (admitting-all _ _ _ _ (done .admitting) e));
+      sound = rw (le-leb _ _ (s .pre .1 .0 .topped)) (sym (admitting-all _ _ _ _ (done .admitting) e));
       long = done .long;
       homed = λ t. rw e at (done .homed);
     }

@@ -1,18 +1,16 @@
 -- `soundness::testing::page_sound` meets its contract.
 -- Assumes nothing.
-use mathlib.Core.Path.{_≡_, refl, _∙_}
+use mathlib.Core.Path.{refl}
 use mathlib.Core.Bool.{false≢true}
 use Prim.Native.Nat.{_<_}
 use native.Mathlib.Omega.{arith}
-use lib.ListN.{length}
 use borrow.Author.Needs.{needs}
 use borrow.Author.Tests.{lt-leb}
 use Rattle.hashing.specs.Geometry.{multiplierOf}
 use Rattle.hashing.proofs.Bounds.{limits}
 use Rattle.placement.proofs.Prepared.{first-long, first-signers}
-use Rattle.soundness.specs.Survey.{soundIn, Found}
+use Rattle.soundness.specs.Survey.{soundIn, Found, Testable}
 use Rattle.soundness.proofs.Items.{found-led}
-use Rattle.soundness.proofs.Loaded.{loaded-items, loaded-homes, loaded-kept, loaded-sound}
 use Rattle.soundness.proofs.testing.page_sound.Statement.{statement}
 use Rattle.soundness.proofs.testing.page_sound.Tie as tie
 
@@ -60,80 +58,40 @@ homed c =
 count-far-requires : tie.Need-count-far-requires
 count-far-requires c κs = low-page (c .before)
 
+testable : (c : tie.After-of-page) →
+    let a = start c .args in
+    Testable (a .geometry) (a .separators .now) (a .page) (a .numbers .now) (a .words .now) (a .owners .now) (c .of-page .last .1 .1 .1 .1 .0) (a .homes .now)
+testable c =
+    let p = start c .pre in
+    record {
+      separated = p .1 .0;
+      inside = p .1 .1 .0;
+      numbers = p .1 .1 .1 .0 .0;
+      words = p .1 .1 .1 .0 .1 .0;
+      owners = p .1 .1 .1 .0 .1 .1;
+      homes = p .1 .1 .1 .1;
+      topped = rw (c .before .before .before .before .before .top-of .ensures) at (c .before .before .before .if1 .left);
+      homed = homed c;
+    }
+
 items-sound-requires : tie.Need-items-sound-requires
 items-sound-requires c κs =
     let found = c .before .before .before .before .before .before in
-    let p = start found .pre in
-    let table = p .0 .table in
-    let near = c .before .before .before .before .count-far .ensures (c .before .before .before .if2 .taken) in (
-      first-signers table (p .0 .valid),
-      (
-        p .1 .0,
-        (
-          p .1 .1 .0,
-          (
-            p .1 .1 .1 .0,
-            (
-              p .1 .1 .1 .1,
-              (
-                rw (found .before .before .before .before .before .top-of .ensures) at (found .before .before .before .if1 .left),
-                (homed found, λ i h star. omega (arith, first-long (multiplierOf (start found .args .geometry .parameters)) table, near i h star)),
-              ),
-            ),
-          ),
-        ),
-      ),
-    )
+    let s = start found in
+    let table = s .pre .0 .table in
+    let near = c .before .before .before .before .count-far .ensures (c .before .before .before .if2 .taken) in
+    (first-signers table (s .pre .0 .valid), (testable found, λ i h star. omega (arith, first-long (multiplierOf (s .args .geometry .parameters)) table, near i h star)))
 
 returns-2 : tie.Need-returns-2
 returns-2 c = search needs
 
-find-homes-requires : tie.Need-find-homes-requires
-find-homes-requires c κs =
-    let s = start (c .before .before .before .before .before) in
-    let most = limits (s .args .geometry .parameters) (s .pre .0 .valid) .places-most in
-    (s .pre .0, (omega (arith, most, s .pre .1 .1 .1 .0 .0), omega (arith, most, s .pre .1 .1 .1 .1)))
-
--- where homes are found anew for a star that is far from its own
-abbrev entry : tie.After-find-homes → tie.Start
-entry c = start (c .before .before .before .before .before .before)
-
-homes-long : (c : tie.After-find-homes) → length (c .find-homes .last .1 .1 .1 .1 .1 .0) ≡ 32
-homes-long c = c .find-homes .kept .1 .1 .1 .1 .1 .0 ∙ entry c .pre .1 .1 .1 .1
-
-add-next : tie.Need-add-next
-add-next c = search needs
-
-first-unsound-far-requires : tie.Need-first-unsound-far-requires
-first-unsound-far-requires c κs =
-    let d = c .before .before .before .before .before in
-    let s = entry d in
-    let most = limits (s .args .geometry .parameters) (s .pre .0 .valid) .places-most in
-    let page = s .pre .1 .1 .1 in (
-      s .pre .0 .valid,
-      (
-        s .pre .1 .0,
-        (
-          (omega arith, omega (arith, s .pre .1 .1 .0)),
-          (
-            loaded-items (s .args .geometry .parameters .places) (s .args .page) _ _ _ _ most (page .0 .0) (page .0 .1 .0) (page .0 .1 .1) (homes-long d),
-            loaded-homes (s .args .geometry) (s .args .numbers .now) (s .args .homes .now) _ (omega (arith, most, page .0 .0)) (omega (arith, most, page .1)) (d .find-homes .ensures) (s .args .page),
-          ),
-        ),
-      ),
-    )
+items-beyond-requires : tie.Need-items-beyond-requires
+items-beyond-requires c κs =
+    let found = c .before .before .before .before .before in
+    (start found .pre .0 .valid, testable found)
 
 returns-3 : tie.Need-returns-3
-returns-3 c =
-    let d = c .before .before .before .before .before .before in
-    let s = entry d in
-    let most = limits (s .args .geometry .parameters) (s .pre .0 .valid) .places-most in
-    let page = s .pre .1 .1 .1 in
-    record {
-      sound = loaded-sound (s .args .geometry) (s .args .separators .now) (s .args .numbers .now) (s .args .words .now) (s .args .owners .now) (s .args .page) _ (c .first-unsound-far .ensures);
-      long = homes-long d;
-      homed = λ e. loaded-kept (s .args .geometry) (s .args .numbers .now) (s .args .homes .now) _ (omega (arith, most, page .0 .0)) (omega (arith, most, page .1)) (d .find-homes .ensures);
-    }
+returns-3 c = search needs
 
 pub page-sound-spec : {M : Type 1} → statement M
 page-sound-spec =
@@ -148,7 +106,5 @@ page-sound-spec =
     count-far-requires
     items-sound-requires
     returns-2
-    find-homes-requires
-    add-next
-    first-unsound-far-requires
+    items-beyond-requires
     returns-3)
