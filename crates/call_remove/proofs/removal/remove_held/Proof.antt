@@ -14,7 +14,8 @@ use Rattle.calls.specs.declared.answers.Placed.the-variants.{Refused}
 use Rattle.calls.specs.Stores.{stoppedFile}
 use Rattle.calls.specs.Answers.{Pool, After, placed, refusedBy, pooled, cleared}
 use Rattle.calls.specs.Calls.{removeOn, allowed, named, placeFor}
-use Rattle.call_remove.proofs.Outcomes.{removal-small, removed-is}
+use Rattle.removal_reach.specs.Removal.{removalAnswer}
+use Rattle.call_remove.proofs.Outcomes.{outcome-told, removal-small, removed-is}
 use Rattle.outcome_answer.proofs.Stopped.{unmoved-stores}
 use Rattle.call_guard.proofs.Admitting.{prepared, tabled, altered}
 use Rattle.call_remove.proofs.Pools.{held-star}
@@ -136,7 +137,7 @@ there c = not-false _ (c .before .before .if2 .left)
 
 remove-held-requires : tie.Need-remove-held-requires
 remove-held-requires c κs =
-    let e = c .before .before .before .before .before .before .before .before .before in
+    let e = c .before .before .before .before .before .before .before .before in
     let s = begun e in
     let kept = sought e .find-kept in
     let found = kept .ensures .0 in (
@@ -156,7 +157,7 @@ remove-held-requires c κs =
 
 placed-from-requires : tie.Need-placed-from-requires
 placed-from-requires c κs =
-    let e = c .before .before .before .before .before .before .before .before .before .before .before .before .before .before .before .before .before .before .before .before .before .before .before .before in
+    let e = c .before .before .before .before .before .before .before .before .before .before .before .before .before .before .before .before .before .before .before .before .before .before .before in
     let s = begun e in
     let found = sought e .find-kept in
     rw (c .before .before .before .before .before .before .before .before .before .before .before .before .before .before .remove-held .ensures .0)
@@ -187,7 +188,7 @@ same-length-22 c = search needs
 returns-4 : tie.Need-returns-4
 unfolding removeOn allowed
 returns-4 c =
-    let e = c .before .before .before .before .before .before .before .before .before .before .before .before .before .before .before .before .before .before .before .before .before .before .before .before .before in
+    let e = c .before .before .before .before .before .before .before .before .before .before .before .before .before .before .before .before .before .before .before .before .before .before .before .before in
     let s = begun e in
     let found = sought e .find-kept .ensures .0 in
     let read = sym (found .readableIs) ∙ opened e in
@@ -197,7 +198,7 @@ returns-4 c =
     let page = named (s .args .parameters) (s .args .growth) (fileOf s) (s .args .number) in
     let is = removed-is (s .args .parameters) (s .args .growth) (fileOf s) (cleared (poolOf s)) page (s .args .number) (placeFor (s .args .parameters) (fileOf s) page (s .args .number)) in
     record {
-      answers = rw (read, held, may) (ap placed (rw (done .0, found .pageIs, found .placeIs (opened e)) at (c .placed-from .ensures)) ∙ is .0);
+      answers = rw (read, held, may) (outcome-told (c .placed-from .ensures) (done .0 ∙ ap (removalAnswer (s .args .parameters) (s .args .growth) (fileOf s) (s .args .number)) (found .pageIs)) (found .placeIs (opened e)) ∙ is .0);
       files = rw (read, held, may) (done .1 ∙ ap (λ (l : File). stoppedFile true (s .args .parameters) (fileOf s) l (s .args .stores)) (is .1));
     }
 
