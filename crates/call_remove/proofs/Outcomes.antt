@@ -1,5 +1,5 @@
 -- The answers and files of an entry and of a removal are those of the calls' definitions, and their pages are small.
-use mathlib.Core.Path.{_≡_}
+use mathlib.Core.Path.{_≡_, ap, _∙_}
 use mathlib.Core.Bool.{true}
 use Prim.Native.Nat.{ℕ, _+_, _-_, _^_, _<_}
 use native.Mathlib.Omega.{arith}
@@ -16,10 +16,16 @@ use Rattle.placement.specs.Hash.{hashOf}
 use Rattle.reach.specs.Reach.{removalEnd}
 use Rattle.removal_reach.specs.Removal.{removalAnswer, removalFile}
 use Rattle.removal_reach.specs.Removal as removal
+use Rattle.page_plan.specs.declared.outcome.Outcome.{Outcome}
+use Rattle.calls.specs.declared.answers.Placed.{Placed}
 use Rattle.calls.specs.Answers.{Pool, placed}
 use Rattle.calls.specs.Calls.{removeTo}
 use Rattle.outcome_answer.specs.Outcomes.{OutcomeSmall, outcomePlaced}
 use Rattle.outcome_answer.proofs.Outcomes.{unsound-most, removal-most, cases-small, outcome-cases}
+
+-- the answer told of an outcome
+pub outcome-told : {r : Placed} {o o′ : Outcome} {place place′ : ℕ} → r ≡ outcomePlaced o place → o ≡ o′ → place ≡ place′ → placed r ≡ placed (outcomePlaced o′ place′)
+outcome-told {r} {o} {o′} {place} {place′} e a b = ap placed (e ∙ ap (λ (y : Outcome). outcomePlaced y place) a ∙ ap (λ (q : ℕ). outcomePlaced o′ q) b)
 
 module _ (p : Parameters) (g : Growth) (f : File) (v : validParameters p ≡ true) (w : validGrowth p g ≡ true) where
   pub removal-small : (k page : ℕ) → page < 2 ^ 32 → OutcomeSmall (removalAnswer p g f k page)

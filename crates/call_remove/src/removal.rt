@@ -19,6 +19,7 @@ use hashing::Growth;
 use hashing::Parameters;
 use named_page::find_kept;
 use outcome_answer::placed_from;
+use removal_reach::HeldStar;
 
 // The answer of an accepted removal is the page where the star stood.
 pub fn remove(
@@ -150,6 +151,12 @@ fn remove_held(
     if !may_alter(caller, named.owner) {
         return Placed::Refused(Refusal::NotOwner, named.place);
     }
+    let star = HeldStar {
+        number,
+        home: named.home,
+        page: named.page,
+        place: named.place,
+    };
     placed_from(
         removal_reach::remove_held(
             &table,
@@ -161,10 +168,7 @@ fn remove_held(
             poolnumbers,
             poolwords,
             poolowners,
-            number,
-            named.home,
-            named.page,
-            named.place,
+            star,
             stores as usize,
         ),
         named.place,

@@ -1,4 +1,7 @@
 pub mod Ruled
 pub mod Items
+pub mod Front
+pub mod Counted
+pub mod Shortened
 pub mod Removing
 pub mod OnePage

@@ -1,2 +1,3 @@
 pub mod Stretch
 pub mod Removal
+pub mod Changed

@@ -6,20 +6,33 @@ use Prim.Native.Nat.{ℕ, _+_}
 use lib.Dec.{ltb}
 use Rattle.hashing.specs.declared.Parameters.{Parameters}
 use Rattle.hashing.specs.declared.Growth.{Growth}
-use Rattle.pages.specs.Page.{part, heldAt}
+use Rattle.hashing.specs.declared.Geometry.{Geometry}
+use Rattle.pages.specs.Page.{part, heldAt, placeOf}
+use Rattle.pages.specs.Position.{validNumber}
 use Rattle.placement.specs.Rule.{pages, without, starWith}
 use Rattle.placement.specs.File.{File, gathered, replaced}
-use Rattle.placement.specs.Hash.{hashOf, soundAt, namedPage}
+use Rattle.placement.specs.Hash.{hashOf, soundAt, namedPage, homeUnder}
+use Rattle.placement.specs.Ready.{Ready}
 use Rattle.reach.specs.Reach.{pagesTo, removalEnd, firstUnsound}
 use Rattle.page_plan.specs.declared.outcome.Outcome.{Outcome}
 use Rattle.page_plan.specs.declared.outcome.Outcome.the-variants.{On, Unsound}
 use Rattle.decision.specs.declared.chosen.Decision.{Decision}
 use Rattle.decision.specs.Carried.{outcomeOf, carriedOut, Feasible}
+use Rattle.removal_reach.specs.declared.star.HeldStar.{HeldStar}
 
 -- the page that the separators name for k is sound and holds it
 pub record Held (p : Parameters) (g : Growth) (f : File) (k : ℕ) : Type 0 where
   pub sound : soundAt p g f (namedPage p g (f .separators) k) ≡ true
   pub present : heldAt k (part (p .places) (namedPage p g (f .separators) k) (f .numbers)) ≡ true
+
+-- a star that the file holds is to be removed: `page` is the one that the separators name for it, and `place` where it stands there
+pub record Removes (g : Geometry) (t : List ℕ) (f : File) (s : HeldStar) : Type 0 where
+  pub ready : Ready g t f
+  pub number : validNumber (s .number) ≡ true
+  pub held : Held (g .parameters) (g .growth) f (s .number)
+  pub homed : s .home ≡ homeUnder g (s .number)
+  pub here : s .page ≡ namedPage (g .parameters) (g .growth) (f .separators) (s .number)
+  pub there : s .place ≡ placeOf (s .number) (part (g .parameters .places) (s .page) (f .numbers))
 
 -- "The reach of a removal": its first page, how many pages it has, and the first unsound one of them
 abbrev pub removalStart : Parameters → Growth → ℕ → ℕ

@@ -1,15 +1,13 @@
 // The removal of a star where it was found: decided, then carried out.
 ghost use mathlib.Core.Path.{_≡_};
 ghost use mathlib.Core.Bool.{true};
-ghost use Rattle.pages.specs.Page.{part, placeOf};
-ghost use Rattle.pages.specs.Position.{validNumber};
-ghost use Rattle.placement.specs.Hash.{homeUnder, namedPage};
 ghost use Rattle.placement.specs.Lent.{held, before, after};
-ghost use Rattle.placement.specs.Ready.{Ready, Pooled};
+ghost use Rattle.placement.specs.Ready.{Pooled};
 ghost use Rattle.reach.specs.Known.{Known};
 ghost use Rattle.calls.specs.Stores.{stoppedFile};
-ghost use Rattle.removal_reach.specs.Removal.{Held, removalAnswer, removalFile};
+ghost use Rattle.removal_reach.specs.Removal.{Removes, removalAnswer, removalFile};
 use crate::removal::decide_removal;
+use crate::star::HeldStar;
 use decision::Decision;
 use decision::Newcomer;
 use decision::carry_out;
@@ -28,23 +26,15 @@ pub fn remove_held(
     pool: &mut [u32],
     waiting: &mut [u64],
     poolowners: &mut [u8],
-    number: u32,
-    home: u32,
-    page: usize,
-    place: u32,
+    star: HeldStar,
     limit: usize,
 ) -> Outcome
-    requires { ⌜ Ready geometry (now table) (held separators numbers words owners) ⌝ }
+    requires { ⌜ Removes geometry (now table) (held separators numbers words owners) star ⌝ }
     requires { ⌜ Pooled (geometry .parameters) (now pool) (now waiting) (now poolowners) ⌝ }
-    requires { ⌜ validNumber number ≡ true ⌝ }
-    requires { ⌜ Held (geometry .parameters) (geometry .growth) (held separators numbers words owners) number ⌝ }
-    requires { ⌜ home ≡ homeUnder geometry number ⌝ }
-    requires { ⌜ page ≡ namedPage (geometry .parameters) (geometry .growth) (now separators) number ⌝ }
-    requires { ⌜ place ≡ placeOf number (part (geometry .parameters .places) page (now numbers)) ⌝ }
-    requires { ⌜ Known (geometry .parameters) (geometry .growth) (held separators numbers words owners) (now pool) page ⌝ }
-    ensures { λ r. ⌜ r ≡ removalAnswer (geometry .parameters) (geometry .growth) (before separators numbers words owners) number page ⌝ }
+    requires { ⌜ Known (geometry .parameters) (geometry .growth) (held separators numbers words owners) (now pool) (star .page) ⌝ }
+    ensures { λ r. ⌜ r ≡ removalAnswer (geometry .parameters) (geometry .growth) (before separators numbers words owners) (star .number) (star .page) ⌝ }
     ensures { λ r. ⌜ after separators numbers words owners ≡ stoppedFile true (geometry .parameters) (before separators numbers words owners)
-        (removalFile (geometry .parameters) (geometry .growth) (before separators numbers words owners) number) limit ⌝ }
+        (removalFile (geometry .parameters) (geometry .growth) (before separators numbers words owners) (star .number)) limit ⌝ }
 {
     let parameters = geometry.parameters;
     let nobody = Newcomer {
@@ -55,9 +45,10 @@ pub fn remove_held(
         place: 0,
         page: 0,
     };
-    let first = home as usize;
+    let first = star.home as usize;
     if separators[first] == placement::top_of(parameters) {
         let none = [0u8; 1];
+        let place = star.place as usize;
         return carry_out(
             parameters,
             separators,
@@ -68,7 +59,7 @@ pub fn remove_held(
             waiting,
             poolowners,
             &none,
-            Decision::Take(page, place as usize),
+            Decision::Take(star.page, place),
             nobody,
             limit,
             true,
@@ -85,9 +76,7 @@ pub fn remove_held(
         pool,
         waiting,
         &mut planned,
-        number,
-        home,
-        page,
+        star,
     );
     carry_out(
         parameters,

@@ -4,6 +4,7 @@ use mathlib.Core.Bool.{Bool, true, false, cond, _&&_, _||_, false≢true}
 use mathlib.Core.List.{List}
 use Prim.Native.Nat.{ℕ}
 use lib.ListN.{set}
+use Rattle.buffers.proofs.Tests.{either-false}
 use Rattle.hashing.specs.declared.Parameters.{Parameters}
 use Rattle.hashing.specs.declared.Growth.{Growth}
 use Rattle.hashing.specs.declared.Geometry.{Geometry}
@@ -35,10 +36,6 @@ either false h k = k refl
 left-out : (s t : Bool) → s || t ≡ true → s ≡ false → t ≡ true
 left-out true t e h = absurd (false≢true (sym h))
 left-out false t e h = e
-
-none : (s t : Bool) → s || t ≡ false → (s ≡ false) × (t ≡ false)
-none true t e = absurd (false≢true (sym e))
-none false t e = (refl, e)
 
 -- what a valid report that is no removal has
 pub placed-well : (x : Report) → isRemoval x || validPosition (positionOf x) ≡ true → isRemoval x ≡ false → validPosition (positionOf x) ≡ true
@@ -110,7 +107,7 @@ module _ {geometry : Geometry} {table : List ℕ} {f : File} (ready : Ready geom
     -- 4, not for a removal
     pub bad-position : isRemoval x || validPosition (positionOf x) ≡ false → Stores filed (refused 4 0) f
     bad-position bad =
-        let t = none (isRemoval x) (validPosition (positionOf x)) bad in
+        let t = either-false (isRemoval x) (validPosition (positionOf x)) bad in
         stores _ _ g _ pool (as-position (t .0) ∙ is (t .1))
       where
         is : validPosition (positionOf x) ≡ false → positionFiled p (closedRecord g) f pool x ≡ unchanged g f pool (refused 4 0)

@@ -29,7 +29,7 @@ use Rattle.calls.proofs.Stored.{whole-stopped}
 use Rattle.outcome_answer.specs.Outcomes.{OutcomeSmall, outcomePlaced}
 use Rattle.call_enter.proofs.Outcomes.{entered-is}
 use Rattle.call_enter.proofs.Pools.{unheld}
-use Rattle.call_remove.proofs.Outcomes.{removal-small, removed-is}
+use Rattle.call_remove.proofs.Outcomes.{outcome-told, removal-small, removed-is}
 use Rattle.call_remove.proofs.Pools.{held-star}
 use Rattle.named_page.specs.declared.finding.Named.{Named}
 use Rattle.reports.specs.declared.Report.{Report}
@@ -41,9 +41,6 @@ use Rattle.report_filing.proofs.Reporting.{placed-well, nothing, enters
 -- an answer and a file, by an equation for what is filed
 stored : {a b : After} {answer : Answer} {l : File} → a ≡ b → answer ≡ b .answer → l ≡ b .file → Stores a answer l
 stored e n m = record { answers = n ∙ sym (ap (λ (y : After). y .answer) e); files = m ∙ sym (ap (λ (y : After). y .file) e) }
-
-outcome-told : {r : Placed} {o o′ : Outcome} {place place′ : ℕ} → r ≡ outcomePlaced o place → o ≡ o′ → place ≡ place′ → placed r ≡ placed (outcomePlaced o′ place′)
-outcome-told {r} {o} {o′} {place} {place′} e a b = ap placed (e ∙ ap (λ (y : Outcome). outcomePlaced y place) a ∙ ap (λ (q : ℕ). outcomePlaced o′ q) b)
 
 -- with a store for every page nothing is stopped
 whole-file : (lowest : Bool) (p : Parameters) (g : Growth) (f l : File) → stoppedFile lowest p f l (p .pages) ≡ l

@@ -12,6 +12,7 @@ use calls::answers::Refusal;
 use hashing::Geometry;
 use named_page::Named;
 use outcome_answer::placed_from;
+use removal_reach::HeldStar;
 use reports::Report;
 
 pub fn file_held(
@@ -37,6 +38,12 @@ pub fn file_held(
         return Placed::Refused(Refusal::NotOwner, named.place);
     }
     if report.removed != 0 {
+        let star = HeldStar {
+            number: report.number,
+            home: named.home,
+            page: named.page,
+            place: named.place,
+        };
         return placed_from(
             removal_reach::remove_held(
                 table,
@@ -48,10 +55,7 @@ pub fn file_held(
                 poolnumbers,
                 poolwords,
                 poolowners,
-                report.number,
-                named.home,
-                named.page,
-                named.place,
+                star,
                 geometry.parameters.pages as usize,
             ),
             named.place,

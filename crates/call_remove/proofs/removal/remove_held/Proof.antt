@@ -1,5 +1,5 @@
 -- `call_remove::removal::remove_held` meets its contract.
-use mathlib.Core.Path.{sym, ap, _∙_}
+use mathlib.Core.Path.{_≡_, sym, ap, _∙_}
 use mathlib.Core.Bool.{true}
 use Prim.Native.Nat.{ℕ}
 use native.Mathlib.Omega.{arith}
@@ -14,7 +14,8 @@ use Rattle.calls.specs.declared.answers.Placed.the-variants.{Refused}
 use Rattle.calls.specs.Stores.{stoppedFile}
 use Rattle.calls.specs.Answers.{Pool, After, placed, refusedBy, pooled, cleared}
 use Rattle.calls.specs.Calls.{removeOn, allowed, named, placeFor}
-use Rattle.call_remove.proofs.Outcomes.{removal-small, removed-is}
+use Rattle.removal_reach.specs.Removal.{removalAnswer}
+use Rattle.call_remove.proofs.Outcomes.{outcome-told, removal-small, removed-is}
 use Rattle.outcome_answer.proofs.Stopped.{unmoved-stores}
 use Rattle.call_guard.proofs.Admitting.{prepared, tabled, altered}
 use Rattle.call_remove.proofs.Pools.{held-star}
@@ -121,39 +122,44 @@ returns-3 c =
     let s = c .before .before .before .before .before .before .before .before .before .before .before .before .before .before .before .before .before .before .before .before .before .before .before .before in
     unmoved-stores true (s .args .parameters) (s .args .stores) {after = on s} {answer = placed (Refused NotOwner (c .before .before .before .before .before .before .before .before .before .find-kept .result .place))} {f = fileOf s} (record { answers = rw (read, held, may, ← found .placeIs opened); files = rw (read, held, may) })
 
+-- the caller may remove the star that the search found
+abbrev sought : tie.Else3 → tie.After-find-kept
+sought c = c .before .before .before .before .before .before .before .before .before
+
+abbrev begun : tie.Else3 → tie.Start
+begun c = c .before .before .before .before .before .before .before .before .before .before .before .before .before .before .before .before .before .before .before .before .before .before .before .before
+
+opened : (c : tie.Else3) → sought c .find-kept .result .readable ≡ true
+opened c = not-false _ (c .before .before .before .before .if1 .left)
+
+there : (c : tie.Else3) → sought c .find-kept .result .held ≡ true
+there c = not-false _ (c .before .before .if2 .left)
+
 remove-held-requires : tie.Need-remove-held-requires
 remove-held-requires c κs =
-    let s = c .before .before .before .before .before .before .before .before .before .before .before .before .before .before .before .before .before .before .before .before .before .before .before .before .before .before .before .before .before .before .before .before in
-    let kept = c .before .before .before .before .before .before .before .before .before .before .before .before .before .before .before .before .before .find-kept in
-    let found = kept .ensures .0 in
-    let opened = not-false _ (c .before .before .before .before .before .before .before .before .before .before .before .before .if1 .left) in
-    let there = not-false _ (c .before .before .before .before .before .before .before .before .before .before .if2 .left) in (
-      prepared (c .before .before .before .before .before .before .before .before .before .before .before .before .before .before .before .before .before .before .before .before .before .before .before .before .first-multipliers .ensures) (s .pre .0),
+    let e = c .before .before .before .before .before .before .before .before in
+    let s = begun e in
+    let kept = sought e .find-kept in
+    let found = kept .ensures .0 in (
+      record {
+        ready = prepared (sought e .before .before .before .before .before .before .before .first-multipliers .ensures) (s .pre .0);
+        number = s .pre .1 .1;
+        held = held-star (s .args .parameters) (s .args .growth) (fileOf s) (s .args .number) (sym (found .readableIs) ∙ opened e) (sym (found .heldIs (opened e)) ∙ there e);
+        homed = found .homeIs;
+        here = found .pageIs;
+        there = found .placeIs (opened e) ∙ ap (λ (q : ℕ). placeOf (s .args .number) (part (s .args .parameters .places) q (now (s .args .numbers)))) (sym (found .pageIs));
+      },
       (
         record { ofNumbers = kept .kept .1 .1 .1 .1 .1 .1 .0 ∙ s .pre .1 .0 .ofNumbers; ofWords = s .pre .1 .0 .ofWords; ofOwners = s .pre .1 .0 .ofOwners },
-        (
-          s .pre .1 .1,
-          (
-            held-star (s .args .parameters) (s .args .growth) (fileOf s) (s .args .number) (sym (found .readableIs) ∙ opened) (sym (found .heldIs opened) ∙ there),
-            (
-              found .homeIs,
-              (
-                found .pageIs,
-                (
-                  found .placeIs opened ∙ ap (λ (q : ℕ). placeOf (s .args .number) (part (s .args .parameters .places) q (now (s .args .numbers)))) (sym (found .pageIs)),
-                  kept .ensures .1 opened,
-                ),
-              ),
-            ),
-          ),
-        ),
+        kept .ensures .1 (opened e),
       ),
     )
 
 placed-from-requires : tie.Need-placed-from-requires
 placed-from-requires c κs =
-    let s = c .before .before .before .before .before .before .before .before .before .before .before .before .before .before .before .before .before .before .before .before .before .before .before .before .before .before .before .before .before .before .before .before .before .before .before .before .before .before .before .before .before .before .before .before .before .before .before in
-    let found = c .before .before .before .before .before .before .before .before .before .before .before .before .before .before .before .before .before .before .before .before .before .before .before .before .before .before .before .before .before .before .before .before .find-kept in
+    let e = c .before .before .before .before .before .before .before .before .before .before .before .before .before .before .before .before .before .before .before .before .before .before .before in
+    let s = begun e in
+    let found = sought e .find-kept in
     rw (c .before .before .before .before .before .before .before .before .before .before .before .before .before .before .remove-held .ensures .0)
     (removal-small (s .args .parameters) (s .args .growth) (fileOf s) (s .pre .0 .homing .valid) (s .pre .0 .homing .growth) (s .args .number) (found .result .page)
     (omega (arith, found .ensures .0 .pageMost, limits _ (s .pre .0 .homing .valid) .pages-most)))
@@ -182,17 +188,17 @@ same-length-22 c = search needs
 returns-4 : tie.Need-returns-4
 unfolding removeOn allowed
 returns-4 c =
-    let s = c .before .before .before .before .before .before .before .before .before .before .before .before .before .before .before .before .before .before .before .before .before .before .before .before .before .before .before .before .before .before .before .before .before .before .before .before .before .before .before .before .before .before .before .before .before .before .before .before in
-    let found = c .before .before .before .before .before .before .before .before .before .before .before .before .before .before .before .before .before .before .before .before .before .before .before .before .before .before .before .before .before .before .before .before .before .find-kept .ensures .0 in
-    let opened = not-false _ (c .before .before .before .before .before .before .before .before .before .before .before .before .before .before .before .before .before .before .before .before .before .before .before .before .before .before .before .before .if1 .left) in
-    let read = sym (found .readableIs) ∙ opened in
-    let there = not-false _ (c .before .before .before .before .before .before .before .before .before .before .before .before .before .before .before .before .before .before .before .before .before .before .before .before .before .before .if2 .left) in
-    let held = sym (found .heldIs opened) ∙ there in
-    let may = altered _ _ _ _ _ (found .ownerIs there) (c .before .before .before .before .before .before .before .before .before .before .before .before .before .before .before .before .before .before .before .before .before .before .before .before .before .may-alter .ensures) (not-false _ (c .before .before .before .before .before .before .before .before .before .before .before .before .before .before .before .before .before .before .before .before .before .before .before .before .if3 .left)) in
+    let e = c .before .before .before .before .before .before .before .before .before .before .before .before .before .before .before .before .before .before .before .before .before .before .before .before in
+    let s = begun e in
+    let found = sought e .find-kept .ensures .0 in
+    let read = sym (found .readableIs) ∙ opened e in
+    let held = sym (found .heldIs (opened e)) ∙ there e in
+    let may = altered _ _ _ _ _ (found .ownerIs (there e)) (e .before .may-alter .ensures) (not-false _ (e .if3 .left)) in
     let done = c .before .before .before .before .before .before .before .before .before .before .before .before .before .before .before .remove-held .ensures in
-    let is = removed-is (s .args .parameters) (s .args .growth) (fileOf s) (cleared (poolOf s)) (named (s .args .parameters) (s .args .growth) (fileOf s) (s .args .number)) (s .args .number) (placeFor (s .args .parameters) (fileOf s) (named (s .args .parameters) (s .args .growth) (fileOf s) (s .args .number)) (s .args .number)) in
+    let page = named (s .args .parameters) (s .args .growth) (fileOf s) (s .args .number) in
+    let is = removed-is (s .args .parameters) (s .args .growth) (fileOf s) (cleared (poolOf s)) page (s .args .number) (placeFor (s .args .parameters) (fileOf s) page (s .args .number)) in
     record {
-      answers = rw (read, held, may) (ap placed (rw (done .0, found .pageIs, found .placeIs opened) at (c .placed-from .ensures)) ∙ is .0);
+      answers = rw (read, held, may) (outcome-told (c .placed-from .ensures) (done .0 ∙ ap (removalAnswer (s .args .parameters) (s .args .growth) (fileOf s) (s .args .number)) (found .pageIs)) (found .placeIs (opened e)) ∙ is .0);
       files = rw (read, held, may) (done .1 ∙ ap (λ (l : File). stoppedFile true (s .args .parameters) (fileOf s) l (s .args .stores)) (is .1));
     }
 

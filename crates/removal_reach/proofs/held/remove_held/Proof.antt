@@ -1,20 +1,18 @@
 use mathlib.Core.Path.{_≡_, sym, ap, _∙_}
 use mathlib.Core.Bool.{true}
 use mathlib.Core.List.{List}
-use Prim.Native.Nat.{ℕ, _<_}
+use Prim.Native.Nat.{ℕ}
 use native.Mathlib.Omega.{arith}
 use lib.ListN.{getD}
 use denote.Ref.{now}
 use Rattle.generator.specs.Generator.{topOf}
-use Rattle.hashing.specs.Geometry.{multiplierOf}
 use Rattle.hashing.proofs.Bounds.{limits}
-use Rattle.hashing.proofs.Homes.{home-pages}
 use Rattle.placement.specs.File.{File}
 use Rattle.placement.specs.Hash.{lent}
-use Rattle.page_edit.proofs.OnePage.{home-start}
 use Rattle.calls.specs.Stores.{stoppedFile}
 use Rattle.decision.specs.declared.chosen.Decision.the-variants.{Take}
 use Rattle.removal_reach.specs.Removal.{removalStart, Decides}
+use Rattle.removal_reach.proofs.Removing.{star-home, star-inside}
 use Rattle.removal_reach.proofs.OnePage.{taken-decided}
 use borrow.Author.Needs.{needs}
 use Rattle.removal_reach.proofs.held.remove_held.Statement.{statement}
@@ -23,46 +21,45 @@ use Rattle.removal_reach.proofs.held.remove_held.Tie as tie
 abbrev file : tie.Start → File
 file s = lent (now (s .args .separators)) (now (s .args .numbers)) (now (s .args .words)) (now (s .args .owners))
 
-home-inside : (s : tie.Start) → s .args .home < s .args .geometry .parameters .pages
-home-inside s =
-    let p = s .args .geometry .parameters in
-    omega (arith, s .pre .1 .1 .1 .1 .0, home-pages (multiplierOf p) p (s .args .geometry .growth) (s .args .number) (s .pre .0 .homing .valid) (s .pre .0 .homing .growth))
-
-home-is : (s : tie.Start) → s .args .home ≡ removalStart (s .args .geometry .parameters) (s .args .geometry .growth) (s .args .number)
-home-is s = s .pre .1 .1 .1 .1 .0 ∙ home-start (s .args .geometry .parameters) (s .args .geometry .growth) (s .args .number)
-
 -- the home page has the separator 2^k − 1
 abbrev begun : tie.Then1 → tie.Start
-begun c = c .before .before .before .before .before .before .before .before .before .before .before
+begun c = c .before .before .before .before .before .before .before .before .before .before .before .before
 
 stored : (c : tie.Then1)
-    → getD (now (begun c .args .separators)) (removalStart (begun c .args .geometry .parameters) (begun c .args .geometry .growth) (begun c .args .number)) 0 ≡ topOf (begun c .args .geometry .parameters .bits)
+    → getD (now (begun c .args .separators)) (removalStart (begun c .args .geometry .parameters) (begun c .args .geometry .growth) (begun c .args .star .number)) 0 ≡ topOf (begun c .args .geometry .parameters .bits)
 stored c =
     let s = begun c in
-    ap (λ (q : ℕ). getD (now (s .args .separators)) q 0) (sym (home-is s)) ∙ c .if1 .taken ∙ c .before .top-of .ensures
+    ap (λ (q : ℕ). getD (now (s .args .separators)) q 0) (sym (star-home (s .pre .0))) ∙ c .if1 .taken ∙ c .before .top-of .ensures
 
 decided : (c : tie.Then1) (pool planned : List ℕ)
-    → Decides (begun c .args .geometry .parameters) (begun c .args .geometry .growth) (file (begun c)) (begun c .args .number) (begun c .args .page) pool planned (Take (begun c .args .page) (begun c .args .place))
+    → Decides (begun c .args .geometry .parameters) (begun c .args .geometry .growth) (file (begun c)) (begun c .args .star .number) (begun c .args .star .page) pool planned (Take (begun c .args .star .page) (begun c .args .star .place))
 decided c pool planned =
     let s = begun c in
     let e = s .pre .0 in
-    taken-decided (s .args .geometry .parameters) (s .args .geometry .growth) (file s) (s .args .number) (e .homing .valid) (e .homing .growth) (e .sized) (s .pre .1 .1 .0) (s .pre .1 .1 .1 .0) (stored c)
-    (s .args .page) (s .args .place) (s .pre .1 .1 .1 .1 .1 .0) (s .pre .1 .1 .1 .1 .1 .1 .0) pool planned
+    taken-decided (s .args .geometry .parameters) (s .args .geometry .growth) (file s) (s .args .star .number) (e .ready .homing .valid) (e .ready .homing .growth) (e .ready .sized) (e .number) (e .held) (stored c)
+    (s .args .star .page) (s .args .star .place) (e .here) (e .there) pool planned
+
+cast-first : tie.Need-cast-first
+cast-first c = search needs
 
 slice-read-if1 : tie.Need-slice-read-if1
-slice-read-if1 c = let s = c .before .before .before .before .before .before .before .before .before in omega (arith, home-inside s, s .pre .0 .sized .ofSeparators)
+slice-read-if1 c = let s = c .before .before .before .before .before .before .before .before .before .before in omega (arith, star-inside (s .pre .0), s .pre .0 .ready .sized .ofSeparators)
 
 top-of-requires : tie.Need-top-of-requires
 top-of-requires c κs = search needs
+
+cast-place : tie.Need-cast-place
+cast-place c = search needs
 
 slice-aggregate-carry-out : tie.Need-slice-aggregate-carry-out
 slice-aggregate-carry-out c = search needs
 
 carry-out-requires : tie.Need-carry-out-requires
 carry-out-requires c κs =
-    let d = c .before .before .before .before .before .before .before .before in
+    let d = c .before .before .before .before .before .before .before .before .before in
     let s = begun d in
-    (s .pre .0 .homing .valid, (s .pre .0 .sized, (s .pre .1 .0, decided d (now (s .args .pool)) (now (s .args .separators)) .feasible)))
+    let e = s .pre .0 .ready in
+    (e .homing .valid, (e .sized, (s .pre .1 .0, decided d (now (s .args .pool)) (now (s .args .separators)) .feasible)))
 
 same-length : tie.Need-same-length
 same-length c = search needs
@@ -87,7 +84,7 @@ same-length-7 c = search needs
 
 returns : tie.Need-returns
 returns c =
-    let d = c .before .before .before .before .before .before .before .before .before .before .before .before .before .before .before .before .before .before .before .before .before .before .before in
+    let d = c .before .before .before .before .before .before .before .before .before .before .before .before .before .before .before .before .before .before .before .before .before .before .before .before in
     let s = begun d in
     let done = c .before .before .before .before .before .before .before .before .before .before .before .before .before .before .carry-out .ensures in
     let chosen = decided d (now (s .args .pool)) (now (s .args .separators)) in
@@ -98,21 +95,22 @@ slice-aggregate-decide-removal c = search needs
 
 decide-removal-requires : tie.Need-decide-removal-requires
 decide-removal-requires c κs =
-    let s = c .before .before .before .before .before .before .before .before .before .before .before .before .before .before .before .before .before .before in
-    let pre = s .pre in
-    (pre .0, ((pre .1 .0 .ofNumbers, pre .1 .0 .ofWords), (limits _ (pre .0 .homing .valid) .pages-most, (pre .1 .1 .1 .1 .0, pre .1 .1 .1 .1 .1 .1 .1))))
+    let s = c .before .before .before .before .before .before .before .before .before .before .before .before .before .before .before .before .before .before .before in
+    let pools = s .pre .1 .0 in
+    (s .pre .0, ((pools .ofNumbers, pools .ofWords), (limits _ (s .pre .0 .ready .homing .valid) .pages-most, s .pre .1 .1)))
 
 slice-aggregate-carry-out-2 : tie.Need-slice-aggregate-carry-out-2
 slice-aggregate-carry-out-2 c = search needs
 
 carry-out-requires-2 : tie.Need-carry-out-requires-2
 carry-out-requires-2 c κs =
-    let s = c .before .before .before .before .before .before .before .before .before .before .before .before .before .before .before .before .before .before .before .before .before .before .before .before .before .before .before .before .before .before .before .before in
+    let s = c .before .before .before .before .before .before .before .before .before .before .before .before .before .before .before .before .before .before .before .before .before .before .before .before .before .before .before .before .before .before .before .before .before in
+    let e = s .pre .0 .ready in
     let pools = s .pre .1 .0 in
     let planned = c .before .before .before .before .before .before .before .before .before .before .before .before .before .decide-removal in (
-      s .pre .0 .homing .valid,
+      e .homing .valid,
       (
-        s .pre .0 .sized,
+        e .sized,
         (
           record { ofNumbers = planned .kept .1 .1 .1 .1 .1 .1 .0 ∙ pools .ofNumbers; ofWords = planned .kept .1 .1 .1 .1 .1 .1 .1 .0 ∙ pools .ofWords; ofOwners = pools .ofOwners },
           planned .ensures .feasible,
@@ -143,7 +141,7 @@ same-length-14 c = search needs
 
 returns-2 : tie.Need-returns-2
 returns-2 c =
-    let s = c .before .before .before .before .before .before .before .before .before .before .before .before .before .before .before .before .before .before .before .before .before .before .before .before .before .before .before .before .before .before .before .before .before .before .before .before .before .before .before .before .before .before .before .before .before .before .before in
+    let s = c .before .before .before .before .before .before .before .before .before .before .before .before .before .before .before .before .before .before .before .before .before .before .before .before .before .before .before .before .before .before .before .before .before .before .before .before .before .before .before .before .before .before .before .before .before .before .before .before in
     let done = c .before .before .before .before .before .before .before .before .before .before .before .before .before .before .carry-out2 .ensures in
     let chosen = c .before .before .before .before .before .before .before .before .before .before .before .before .before .before .before .before .before .before .before .before .before .before .before .before .before .before .before .before .decide-removal .ensures in
     (done .0 ∙ chosen .answers, done .1 ∙ ap (λ (l : File). stoppedFile true (s .args .geometry .parameters) (file s) l (s .args .limit)) (chosen .files))
@@ -152,8 +150,10 @@ pub remove-held-spec : {M : Type 1} → statement M
 remove-held-spec =
     tie.close
     (tie.spec
+    cast-first
     slice-read-if1
     top-of-requires
+    cast-place
     slice-aggregate-carry-out
     carry-out-requires
     same-length

@@ -29,8 +29,17 @@ cast-remove-held c = search needs
 remove-held-requires : tie.Need-remove-held-requires
 remove-held-requires c κs =
     let s = c .before .before .before .before .before .before .before .before .before .before .before .before .before .before .before .before .before .before .before in
-    let t = s .pre .1 .1 .0 in
-    (s .pre .0, (s .pre .1 .0, (t .number, (held-here (s .pre .0) t (s .pre .1 .1 .1), (t .named .homeIs, (t .named .pageIs, (place-here (s .pre .0) t, t .known)))))))
+    let t = s .pre .1 .1 .0 in (
+      record {
+        ready = s .pre .0;
+        number = t .number;
+        held = held-here (s .pre .0) t (s .pre .1 .1 .1);
+        homed = t .named .homeIs;
+        here = t .named .pageIs;
+        there = place-here (s .pre .0) t;
+      },
+      (s .pre .1 .0, t .known),
+    )
 
 placed-from-requires : tie.Need-placed-from-requires
 placed-from-requires c κs =
