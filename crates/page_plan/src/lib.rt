@@ -16,4 +16,5 @@ pub use numbering::gather_stars;
 pub use outcome::Outcome;
 pub use settling::Settled;
 pub use settling::keep_all;
+pub use settling::settle_alone;
 pub use settling::settle_under;

@@ -27,7 +27,7 @@ fn plan_page(
 {
     let places = parameters.places as usize;
     let mut slots = [0u64; 32];
-    let settled = page_plan::settle(parameters, waiting, from, reach, page, &mut slots);
+    let settled = page_plan::settle_alone(parameters, waiting, from, reach, page, &mut slots);
     planned[page] = settled.separator as u8;
     page_plan::store_sources(pool, &slots, page * places, places, settled.kept);
     settled.from

@@ -11,8 +11,8 @@ use Rattle.removal_reach.proofs.changed.plan_page.Tie as tie
 cast-places : tie.Need-cast-places
 cast-places c = search needs
 
-settle-requires : tie.Need-settle-requires
-settle-requires c κs =
+settle-alone-requires : tie.Need-settle-alone-requires
+settle-alone-requires c κs =
     let p = c .before .before .before .before .before .before .pre in
     (p .0, (p .1 .0, refl))
 
@@ -24,7 +24,7 @@ cast-planned c =
       fits =
           omega (
             arith,
-            c .before .before .before .settle .ensures .0 .separator,
+            c .before .before .before .settle-alone .ensures .0 .separator,
             separator-byte (a .parameters) (a .page) (slice (a .from) (a .reach) (now (a .waiting))) (limits _ (s .pre .0) .bits-most),
           );
     }
@@ -39,7 +39,7 @@ store-sources-requires : tie.Need-store-sources-requires
 store-sources-requires c κs =
     let s = c .before .before .before .before .before .before .before .before .before .before .before .before in
     let most = limits _ (s .pre .0) .places-most in
-    let done = c .before .before .before .before .before .settle .ensures in
+    let done = c .before .before .before .before .before .settle-alone .ensures in
     ((s .pre .1 .1 .1, most), (done .1, omega (arith, done .0 .size, done .1, most)))
 
 same-length : tie.Need-same-length
@@ -55,7 +55,7 @@ returns : tie.Need-returns
 returns c =
     let s = c .before .before .before .before .before .before .before .before .before .before .before .before .before .before .before in
     let a = s .args in
-    let d = c .before .before .before .before .before .before .before .before .settle in
+    let d = c .before .before .before .before .before .before .before .before .settle-alone in
     page-planned (a .parameters) (a .page) (slice (a .from) (a .reach) (now (a .waiting))) (a .reach) (now (a .waiting)) (d .last .1 .0) (d .last .1 .1 .1 .1 .1 .0) (now (a .pool)) (c .before .before .store-sources .last .0) (now (a .planned)) (d .result) (d .ensures .0) (c .before .before .store-sources .ensures) (omega (arith, s .pre))
 
 pub plan-page-spec : {M : Type 1} → statement M
@@ -63,7 +63,7 @@ plan-page-spec =
     tie.close
     (tie.spec
     cast-places
-    settle-requires
+    settle-alone-requires
     cast-planned
     slice-write-planned
     mul-store-sources
