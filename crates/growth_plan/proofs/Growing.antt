@@ -156,6 +156,10 @@ module _ (p : Parameters) (g : Growth) (f : File) (valid : validParameters p ≡
     unfolding firstUnsound
     surveyed-sound = omega (arith, sound-pages, such (unsound p g f) 0 (p .pages) .high)
 
+    pub surveyed-numbers : (lo n : ℕ) → lo + n ≤ p .pages → allBelow (2 ^ 31) (stretch (p .places) lo n (f .numbers)) ≡ true
+    surveyed-numbers lo n h =
+        numbers-below p f valid sized lo n h g (λ q a b. all-sound p g f 0 (p .pages) sound-pages q (omega arith) (omega arith))
+
     module _ (next : Growth) (later : validGrowth p next ≡ true) (pool : List ℕ) (e : pool ≡ homesOf p next (f .numbers)) where
       some : 0 < p .pages
       some = some-pages p next (f .numbers) pool valid later (sized .ofNumbers) e
@@ -167,7 +171,7 @@ module _ (p : Parameters) (g : Growth) (f : File) (valid : validParameters p ≡
       within = homes-within p next (f .numbers) pool valid later (sized .ofNumbers) e
 
       below : allBelow (2 ^ 31) (stretch (p .places) 0 (p .pages) (f .numbers)) ≡ true
-      below = numbers-below p f valid sized 0 (p .pages) (omega arith) g (all-sound p g f 0 (p .pages) sound-pages)
+      below = surveyed-numbers 0 (p .pages) (omega arith)
 
       none-out : without 0 (gathered (p .places) f 0 (p .pages)) ≡ gathered (p .places) f 0 (p .pages)
       none-out = all-numbered p g f 0 (p .pages) (all-sound p g f 0 (p .pages) sound-pages)

@@ -4,13 +4,17 @@ use mathlib.Core.Bool.{Bool, true, false, cond}
 use mathlib.Core.List.{List}
 use Prim.Native.Nat.{ℕ, _<_}
 use lib.Dec.{ltb}
+use denote.Ref.{now}
 use Rattle.hashing.specs.declared.Parameters.{Parameters}
 use Rattle.hashing.specs.declared.Growth.{Growth}
 use Rattle.hashing.specs.Geometry.{pageCount, grown, isUngrown, shrunk}
 use Rattle.placement.specs.Rule.{pages, left}
 use Rattle.placement.specs.File.{File, replaced}
-use Rattle.placement.specs.Hash.{hashOf}
+use Rattle.placement.specs.Hash.{hashOf, homesOf}
+use Rattle.placement.specs.Lent.{Lent}
 use Rattle.reach.specs.Reach.{isEmpty, firstUnsound, allStars}
+use Rattle.page_plan.specs.Gather.{stretchWords}
+use Rattle.page_plan.specs.Plans.{AllPlaced}
 use Rattle.page_plan.specs.declared.outcome.Outcome.{Outcome}
 use Rattle.page_plan.specs.declared.outcome.Outcome.the-variants.{On, Unsound, Overflows}
 
@@ -44,3 +48,9 @@ pub record GrowsInPlace (p : Parameters) (g : Growth) (f f′ : File) (pool pool
   pub file : r ≡ true → f′ ≡ growthFile p g f (grown p g)
   pub kept : r ≡ false → f′ ≡ f
   pub pool-kept : r ≡ false → pool′ ≡ pool
+
+-- all pages planned over the stars of these numbers, homed under the growth state `next`
+abbrev pub PlansAll : Parameters → Growth → List ℕ → Lent → Lent → Lent → Bool → Type 0
+PlansAll p next ns pool waiting planned r =
+    AllPlaced p (stretchWords (p .places) 0 (p .pages) 0 ns (homesOf p next ns)) (homesOf p next ns) (now (pool .exit)) (now (planned .entry))
+    (now (planned .exit)) (now (waiting .exit)) r

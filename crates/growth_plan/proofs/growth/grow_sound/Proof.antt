@@ -40,8 +40,8 @@ returns c =
     let k = c .before .before .before .before .before .before .before .before .before .before .before .before .before .before .before in
     (k .grow-in-place .ensures .accepts (c .if1 .taken) _, k .grow-in-place .ensures .file (c .if1 .taken))
 
-place-all-requires : tie.Need-place-all-requires
-place-all-requires c κs =
+replace-all-requires : tie.Need-replace-all-requires
+replace-all-requires c κs =
     let k = c .before .before .before .before .before .before .before .before .before .before .before .before .before .before .before .before .before .before .before .before .before .before in
     let pre = start k .pre in
     let still = k .grow-in-place .ensures .kept (c .before .before .before .before .before .before .before .if1 .left) in
@@ -85,7 +85,7 @@ same-length-14 c = search needs
 returns-2 : tie.Need-returns-2
 returns-2 c =
     let k = c .before .before .before .before .before .before .before .before .before .before .before .before .before .before .before .before .before .before .before .before .before .before .before .before .before .before .before .before .before .before .before .before .before .before .before .before .before in
-    still-done _ _ _ _ _ _ _ _ (k .grow-in-place .ensures .kept (c .before .before .before .before .before .before .before .before .before .before .before .before .before .before .before .before .before .before .before .before .before .before .if1 .left)) (c .before .before .before .before .before .before .before .before .before .before .before .before .before .before .place-all .ensures)
+    still-done _ _ _ _ _ _ _ _ (k .grow-in-place .ensures .kept (c .before .before .before .before .before .before .before .before .before .before .before .before .before .before .before .before .before .before .before .before .before .before .if1 .left)) (c .before .before .before .before .before .before .before .before .before .before .before .before .before .before .replace-all .ensures)
 
 pub grow-sound-spec : {M : Type 1} → statement M
 grow-sound-spec =
@@ -100,7 +100,7 @@ grow-sound-spec =
     same-length-6
     same-length-7
     returns
-    place-all-requires
+    replace-all-requires
     same-length-8
     same-length-9
     same-length-10

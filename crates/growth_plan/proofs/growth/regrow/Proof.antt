@@ -39,8 +39,8 @@ returns c =
     let pre = start surveyed .pre in
     growth-refused _ _ _ (pre .0 .homing .valid) (pre .0 .sized) _ _ _ (surveyed .survey-pages .ensures .0) (c .if1 .taken)
 
-place-all-requires : tie.Need-place-all-requires
-place-all-requires c κs =
+replace-all-requires : tie.Need-replace-all-requires
+replace-all-requires c κs =
     let sound = c .before .before .before .before .before .before .before .before in
     let surveyed = sound .before .before .before in
     let pre = start surveyed .pre in (
@@ -135,7 +135,7 @@ regrow-spec =
     same-length-4
     same-length-5
     returns
-    place-all-requires
+    replace-all-requires
     same-length-6
     same-length-7
     same-length-8

@@ -6,8 +6,8 @@ use lib.ListN.{length}
 use Rattle.buffers.proofs.Copies.{none}
 use Rattle.growth_plan.specs.Growth.{nextOf}
 use Rattle.growth_plan.proofs.Growing.{Rehomed, homes-long, home-there, rehomed-next, rehomed-all}
-use Rattle.growth_plan.proofs.growth.rehome.Statement.{statement}
-use Rattle.growth_plan.proofs.growth.rehome.Tie as tie
+use Rattle.growth_plan.proofs.planning.rehome.Statement.{statement}
+use Rattle.growth_plan.proofs.planning.rehome.Tie as tie
 
 abbrev Inv-loop : tie.InvT-loop
 Inv-loop table geometry back numbers homes₀ i₀ homes i =
