@@ -1,6 +1,5 @@
 // Growth by one page and its undoing: all stars placed anew under the next growth state, or `back` under the one before.
 ghost use mathlib.Core.Path.{_≡_};
-ghost use mathlib.Core.Bool.{false};
 ghost use Rattle.placement.specs.Hash.{homesOf};
 ghost use Rattle.placement.specs.Lent.{held, before, after};
 ghost use Rattle.placement.specs.Ready.{Ready, Pooled};
@@ -59,10 +58,11 @@ fn replace_all(
 }
 
 // A growth in place, where the new page has room for the stars whose home it becomes: they are moved there, and then only blocks of several
-// pages are placed anew. If it has not, the answer is no, and nothing is changed.
+// pages are placed anew. If it has not, or for a shrinking, the answer is no, and nothing is changed.
 fn grow_in_place(
     table: &[u32; 90],
     geometry: Geometry,
+    back: bool,
     separators: &mut [u8],
     numbers: &mut [u32],
     words: &mut [u64],
@@ -73,12 +73,15 @@ fn grow_in_place(
 ) -> bool
     requires { ⌜ Ready geometry (now table) (held separators numbers words owners) ⌝ }
     requires { ⌜ Pooled (geometry .parameters) (now pool) (now waiting) (now poolowners) ⌝ }
-    requires { ⌜ Movable false (geometry .parameters) (geometry .growth) ⌝ }
+    requires { ⌜ Movable back (geometry .parameters) (geometry .growth) ⌝ }
     requires { ⌜ firstUnsound (geometry .parameters) (geometry .growth) (held separators numbers words owners) 0 (geometry .parameters .pages) ≡ geometry .parameters .pages ⌝ }
     requires { ⌜ now pool ≡ homesOf (geometry .parameters) (geometry .growth) (now numbers) ⌝ }
-    ensures { λ r. ⌜ GrowsInPlace (geometry .parameters) (geometry .growth) (before separators numbers words owners) (after separators numbers words owners)
-        (now (pool .entry)) (now (pool .exit)) r ⌝ }
+    ensures { λ r. ⌜ GrowsInPlace (geometry .parameters) (geometry .growth) (nextOf back (geometry .parameters) (geometry .growth)) (before separators numbers words owners)
+        (after separators numbers words owners) (now (pool .entry)) (now (pool .exit)) r ⌝ }
 {
+    if back {
+        return false;
+    }
     if !growth_in_place::move_stars(table, geometry, separators, numbers, words, owners, pool) {
         return false;
     }
@@ -95,56 +98,6 @@ fn grow_in_place(
         poolowners,
     );
     true
-}
-
-// A growth of a file whose pages are all sound; the pool holds the homes of its items.
-fn grow_sound(
-    table: &[u32; 90],
-    geometry: Geometry,
-    separators: &mut [u8],
-    numbers: &mut [u32],
-    words: &mut [u64],
-    owners: &mut [u8],
-    pool: &mut [u32],
-    waiting: &mut [u64],
-    poolowners: &mut [u8],
-    page: usize,
-) -> Outcome
-    requires { ⌜ Ready geometry (now table) (held separators numbers words owners) ⌝ }
-    requires { ⌜ Pooled (geometry .parameters) (now pool) (now waiting) (now poolowners) ⌝ }
-    requires { ⌜ Movable false (geometry .parameters) (geometry .growth) ⌝ }
-    requires { ⌜ firstUnsound (geometry .parameters) (geometry .growth) (held separators numbers words owners) 0 (geometry .parameters .pages) ≡ geometry .parameters .pages ⌝ }
-    requires { ⌜ now pool ≡ homesOf (geometry .parameters) (geometry .growth) (now numbers) ⌝ }
-    ensures { λ r. ⌜ r ≡ growthAnswer (geometry .parameters) (geometry .growth) (before separators numbers words owners) (nextOf false (geometry .parameters) (geometry .growth)) page ⌝ }
-    ensures { λ r. ⌜ after separators numbers words owners ≡ growthFile (geometry .parameters) (geometry .growth)
-        (before separators numbers words owners) (nextOf false (geometry .parameters) (geometry .growth)) ⌝ }
-{
-    if grow_in_place(
-        table,
-        geometry,
-        separators,
-        numbers,
-        words,
-        owners,
-        pool,
-        waiting,
-        poolowners,
-    ) {
-        return Outcome::On(page);
-    }
-    replace_all(
-        table,
-        geometry,
-        false,
-        separators,
-        numbers,
-        words,
-        owners,
-        pool,
-        waiting,
-        poolowners,
-        page,
-    )
 }
 
 // The stars of all pages, placed anew under that growth state. The answer is the page given, which comes or goes.
@@ -184,24 +137,24 @@ pub fn regrow(
     if bad < pages {
         return Outcome::Unsound(bad);
     }
-    if back {
-        return replace_all(
-            table,
-            geometry,
-            back,
-            separators,
-            numbers,
-            words,
-            owners,
-            pool,
-            waiting,
-            poolowners,
-            page,
-        );
-    }
-    grow_sound(
+    if grow_in_place(
         table,
         geometry,
+        back,
+        separators,
+        numbers,
+        words,
+        owners,
+        pool,
+        waiting,
+        poolowners,
+    ) {
+        return Outcome::On(page);
+    }
+    replace_all(
+        table,
+        geometry,
+        back,
         separators,
         numbers,
         words,

@@ -4,10 +4,11 @@ ghost use mathlib.Core.Bool.{true};
 ghost use Prim.Native.Nat.{_*_, _^_, _≤_};
 ghost use lib.ListN.{length};
 ghost use Rattle.pages.specs.Page.{stretch};
+ghost use Rattle.hashing.specs.Limits.{validParameters, validGrowth};
 ghost use Rattle.placement.specs.Hash.{homeIn, homesOf};
 ghost use Rattle.placement.specs.Ready.{Homing};
 ghost use Rattle.page_separator.specs.Lists.{allBelow};
-ghost use Rattle.growth_plan.specs.Growth.{nextOf, Movable, PlansAll};
+ghost use Rattle.growth_plan.specs.Growth.{nextOf, Movable, firstMoved, HomesStay, PlansAll};
 use hashing::Geometry;
 
 // An item's home under that growth state, from its home under this one; 0 for an empty place.
@@ -23,14 +24,27 @@ fn next_home(table: &[u32; 90], geometry: Geometry, back: bool, number: u32, old
     home_update::item_grown(table, geometry, number, old)
 }
 
+// The first item whose home may be another one: a shrinking moves only stars homed at the page given back, which stand there or above.
+fn first_moved(geometry: Geometry, back: bool) -> usize
+    requires { ⌜ validParameters (geometry .parameters) ≡ true ⌝ }
+    requires { ⌜ validGrowth (geometry .parameters) (geometry .growth) ≡ true ⌝ }
+    ensures { λ r. ⌜ r ≡ firstMoved back (geometry .parameters) (geometry .growth) ⌝ }
+{
+    if back {
+        return geometry.highest_address() as usize * geometry.parameters.places as usize;
+    }
+    0
+}
+
 // The homes of all items under that growth state, from those under this one.
 fn rehome(table: &[u32; 90], geometry: Geometry, back: bool, numbers: &[u32], homes: &mut [u32])
     requires { ⌜ Homing geometry (now table) ⌝ }
     requires { ⌜ Movable back (geometry .parameters) (geometry .growth) ⌝ }
     requires { ⌜ now homes ≡ homesOf (geometry .parameters) (geometry .growth) (now numbers) ⌝ }
+    requires { ⌜ HomesStay back (geometry .parameters) (geometry .growth) (now numbers) ⌝ }
     ensures { λ _. ⌜ now (homes .exit) ≡ homesOf (geometry .parameters) (nextOf back (geometry .parameters) (geometry .growth)) (now (numbers .entry)) ⌝ }
 {
-    let mut i = 0;
+    let mut i = first_moved(geometry, back);
     while i < numbers.len() {
         let old = homes[i];
         let next = next_home(table, geometry, back, numbers[i], old);
@@ -56,6 +70,7 @@ pub fn plan_all(
     requires { ⌜ geometry .parameters .pages ≤ length (now planned) ⌝ }
     requires { ⌜ allBelow (2 ^ 31) (stretch (geometry .parameters .places) 0 (geometry .parameters .pages) (now numbers)) ≡ true ⌝ }
     requires { ⌜ now pool ≡ homesOf (geometry .parameters) (geometry .growth) (now numbers) ⌝ }
+    requires { ⌜ HomesStay back (geometry .parameters) (geometry .growth) (now numbers) ⌝ }
     ensures { λ r. ⌜ PlansAll (geometry .parameters) (nextOf back (geometry .parameters) (geometry .growth)) (now (numbers .entry)) pool waiting planned r ⌝ }
 {
     let parameters = geometry.parameters;

@@ -14,7 +14,7 @@ use Rattle.placement.specs.Hash.{lent}
 use Rattle.reach.specs.Reach.{firstUnsound}
 use Rattle.removal_reach.proofs.Ruled.{applied-lists}
 use Rattle.growth_plan.specs.Growth.{nextOf}
-use Rattle.growth_plan.proofs.Growing.{next-valid, surveyed-numbers}
+use Rattle.growth_plan.proofs.Growing.{next-valid, surveyed-numbers, homes-stay}
 use Rattle.growth_plan.proofs.PlannedGrowth.{plan-overflows, plan-fits}
 use Rattle.growth_plan.proofs.growth.replace_all.Statement.{statement}
 use Rattle.growth_plan.proofs.growth.replace_all.Tie as tie
@@ -55,7 +55,10 @@ plan-all-requires c κs =
           (pre .0 .sized .ofNumbers, pre .1 .0 .ofWords),
           (
             omega (arith, most s),
-            (surveyed-numbers _ _ (file s) (pre .0 .homing .valid) (pre .0 .sized) _ (surveyed s) (le-refl _) 0 _ (omega arith), pre .1 .1 .1 .1),
+            (
+              surveyed-numbers _ _ (file s) (pre .0 .homing .valid) (pre .0 .sized) _ (surveyed s) (le-refl _) 0 _ (omega arith),
+              (pre .1 .1 .1 .1, homes-stay _ _ (file s) (pre .0 .homing .valid) (pre .0 .sized) _ (surveyed s) (le-refl _) (s .args .back) (pre .0 .homing .growth) (pre .1 .1 .0)),
+            ),
           ),
         ),
       ),
