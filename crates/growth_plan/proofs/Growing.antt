@@ -20,7 +20,7 @@ use Rattle.hashing.proofs.Homes.{grown-valid}
 use Rattle.hashing.proofs.Shrinking.{shrunk-valid}
 use Rattle.placement.specs.Rule.{Hash, left, without}
 use Rattle.placement.specs.File.{File, Sized, gathered}
-use Rattle.placement.specs.Hash.{hashOf, homeIn, homesOf}
+use Rattle.placement.specs.Hash.{hashOf, homeIn, homesOf, soundAt}
 use Rattle.placement.proofs.Probing.{homed-real}
 use Rattle.placement.proofs.Tested.{item-on}
 use Rattle.home_update.proofs.Rehomed.{home-shrunk}
@@ -180,18 +180,19 @@ module _ (p : Parameters) (g : Growth) (f : File) (valid : validParameters p ≡
         ∙ rw (sub-zero (p .pages), zero-mul (p .places))
         (pasted-whole pool (homesOf p g (f .numbers)) (p .pages * p .places) size (length-map (f .numbers) (homeIn p g) ∙ sized .ofNumbers))
 
-    sound-pages : 0 + p .pages ≤ firstUnsound p g f 0 (p .pages)
-    sound-pages =
-        let is : bad ≡ firstUnsound p g f 0 (p .pages) = rw (sub-zero (p .pages)) at survey in
-        omega arith
-
     pub surveyed-sound : firstUnsound p g f 0 (p .pages) ≡ p .pages
     unfolding firstUnsound
-    surveyed-sound = omega (arith, sound-pages, such (unsound p g f) 0 (p .pages) .high)
+    surveyed-sound =
+        let is : bad ≡ firstUnsound p g f 0 (p .pages) = rw (sub-zero (p .pages)) at survey in
+        omega (arith, such (unsound p g f) 0 (p .pages) .high)
 
-    pub surveyed-numbers : (lo n : ℕ) → lo + n ≤ p .pages → allBelow (2 ^ 31) (stretch (p .places) lo n (f .numbers)) ≡ true
-    surveyed-numbers lo n h =
-        numbers-below p f valid sized lo n h g (λ q a b. all-sound p g f 0 (p .pages) sound-pages q (omega arith) (omega arith))
+  -- all pages are sound
+  module _ (every : firstUnsound p g f 0 (p .pages) ≡ p .pages) where
+    sound-at : (q : ℕ) → 0 ≤ q → q < 0 + p .pages → soundAt p g f q ≡ true
+    sound-at = all-sound p g f 0 (p .pages) (omega (arith, every))
+
+    pub sound-numbers : (lo n : ℕ) → lo + n ≤ p .pages → allBelow (2 ^ 31) (stretch (p .places) lo n (f .numbers)) ≡ true
+    sound-numbers lo n h = numbers-below p f valid sized lo n h g (λ q a b. sound-at q (omega arith) (omega arith))
 
     -- stars stand at their homes or above
     home-low : (n i : ℕ) → n ≤ p .pages → i < n * p .places → homeIn p g (getD (f .numbers) i 0) < n
@@ -199,7 +200,7 @@ module _ (p : Parameters) (g : Growth) (f : File) (valid : validParameters p ≡
         let some : 0 < p .places = limits p valid .places-least in
         let low : i / p .places < n = div-lt-iff-lt-mul some .1 h in
         let at : i ≡ i / p .places * p .places + i % p .places = omega (arith, div-add-mod' i (p .places)) in
-        let there = item-on p g f (i / p .places) sized (omega arith) (all-sound p g f 0 (p .pages) sound-pages (i / p .places) (omega arith) (omega arith)) (i % p .places) (mod-lt i some) in
+        let there = item-on p g f (i / p .places) sized (omega arith) (sound-at (i / p .places) (omega arith) (omega arith)) (i % p .places) (mod-lt i some) in
         omega (arith, ap (λ (j : ℕ). homeIn p g (getD (f .numbers) j 0)) at, there .homed)
 
     pub homes-stay : (back : Bool) → validGrowth p g ≡ true → Movable back p g → HomesStay back p g (f .numbers)
@@ -223,17 +224,17 @@ module _ (p : Parameters) (g : Growth) (f : File) (valid : validParameters p ≡
       within = homes-within p next (f .numbers) pool valid later (sized .ofNumbers) e
 
       below : allBelow (2 ^ 31) (stretch (p .places) 0 (p .pages) (f .numbers)) ≡ true
-      below = surveyed-numbers 0 (p .pages) (omega arith)
+      below = sound-numbers 0 (p .pages) (omega arith)
 
       none-out : without 0 (gathered (p .places) f 0 (p .pages)) ≡ gathered (p .places) f 0 (p .pages)
-      none-out = all-numbered p g f 0 (p .pages) (all-sound p g f 0 (p .pages) sound-pages)
+      none-out = all-numbered p g f 0 (p .pages) sound-at
 
       ready : Gatherable (hashOf p next) (p .places) 0 (p .pages) f pool
       ready = ready-stretch p f valid sized 0 (p .pages) (omega arith) some pool size below within (hashOf p next)
           (true-homes p next (f .numbers) pool valid later (sized .ofNumbers) e)
 
       all-are-sound : ltb (firstUnsound p g f 0 (p .pages)) (p .pages) ≡ false
-      all-are-sound = le-ltb (firstUnsound p g f 0 (p .pages)) (p .pages) (omega (arith, sound-pages))
+      all-are-sound = le-ltb (firstUnsound p g f 0 (p .pages)) (p .pages) (omega (arith, every))
 
       pub growth-plannable : (waiting poolowners : List ℕ) → length waiting ≡ p .pages * p .places → length poolowners ≡ p .pages * p .places
           → StretchReady p 0 (p .pages) f pool waiting poolowners

@@ -101,7 +101,7 @@ module _ (q : Parameters) (l U W ends : List ℕ) (S : Scattered 0 (q .pages) 0 
 
 -- all pages are sound, and planned under the growth state `next`
 module _ (p : Parameters) (g next : Growth) (f : File) (valid : validParameters p ≡ true) (sized : Sized (p .places) (p .pages) f)
-    (later : validGrowth p next ≡ true) (bad : ℕ) (survey : bad ≡ firstUnsound p g f 0 (p .pages - 0)) (past : p .pages ≤ bad)
+    (later : validGrowth p next ≡ true) (every : firstUnsound p g f 0 (p .pages) ≡ p .pages)
     (pool′ planned planned′ W′ : List ℕ) (r : Bool) (page : ℕ)
     (A : AllPlaced p (stretchWords (p .places) 0 (p .pages) 0 (f .numbers) (homesOf p next (f .numbers))) (homesOf p next (f .numbers)) pool′ planned planned′ W′ r) where
   abbrev homes : List ℕ
@@ -114,14 +114,14 @@ module _ (p : Parameters) (g next : Growth) (f : File) (valid : validParameters 
   pub plan-overflows : r ≡ false → (Overflows ≡ growthAnswer p g f next page) × (f ≡ growthFile p g f next)
   unfolding restretched
   plan-overflows e =
-      growth-done p g f valid sized bad survey past next later homes refl page false (decided false e) f (rw (← decided false e))
+      growth-done p g f valid sized every next later homes refl page false (decided false e) f (rw (← decided false e))
 
   pub plan-fits : r ≡ true → p .pages ≤ length planned
       → (On page ≡ growthAnswer p g f next page) × (applied (p .places) 0 (p .pages) 0 0 0 pool′ planned′ f ≡ growthFile p g f next)
   unfolding restretched
   plan-fits e room =
-      let ready = growth-plannable p g f valid sized bad survey past next later homes refl (f .words) (f .owners) (sized .ofWords) (sized .ofOwners) in
-      growth-done p g f valid sized bad survey past next later homes refl page true (decided true e) (applied (p .places) 0 (p .pages) 0 0 0 pool′ planned′ f)
+      let ready = growth-plannable p g f valid sized every next later homes refl (f .words) (f .owners) (sized .ofWords) (sized .ofOwners) in
+      growth-done p g f valid sized every next later homes refl page true (decided true e) (applied (p .places) 0 (p .pages) 0 0 0 pool′ planned′ f)
       (rw (← decided true e) (applied-stretch p 0 (p .pages) f homes (f .words) (f .owners) ready 0 pool′ planned planned′ W′ 0 (omega arith) (A .plan e)))
 
 -- which of three things the growth decides, by the answer

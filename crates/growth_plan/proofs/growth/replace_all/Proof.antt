@@ -1,8 +1,8 @@
 -- Where the plan of all pages places every star, it is applied.
-use mathlib.Core.Path.{_≡_, sym, _∙_}
+use mathlib.Core.Path.{_≡_, _∙_}
 use mathlib.Core.Bool.{true}
-use Prim.Native.Nat.{ℕ, _+_, _-_, _*_, _≤_}
-use native.Mathlib.Nat.{sub-zero, zero-add, le-refl}
+use Prim.Native.Nat.{ℕ, _+_, _*_, _≤_}
+use native.Mathlib.Nat.{zero-add}
 use native.Mathlib.Omega.{arith}
 use borrow.Author.Needs.{needs}
 use borrow.Author.Tests.{not-true, not-false}
@@ -11,10 +11,9 @@ use Rattle.hashing.specs.Limits.{validGrowth}
 use Rattle.hashing.proofs.Bounds.{limits}
 use Rattle.placement.specs.File.{File}
 use Rattle.placement.specs.Hash.{lent}
-use Rattle.reach.specs.Reach.{firstUnsound}
 use Rattle.removal_reach.proofs.Ruled.{applied-lists}
 use Rattle.growth_plan.specs.Growth.{nextOf}
-use Rattle.growth_plan.proofs.Growing.{next-valid, surveyed-numbers, homes-stay}
+use Rattle.growth_plan.proofs.Growing.{next-valid, sound-numbers, homes-stay}
 use Rattle.growth_plan.proofs.PlannedGrowth.{plan-overflows, plan-fits}
 use Rattle.growth_plan.proofs.growth.replace_all.Statement.{statement}
 use Rattle.growth_plan.proofs.growth.replace_all.Tie as tie
@@ -24,10 +23,6 @@ file s = lent (now (s .args .separators)) (now (s .args .numbers)) (now (s .args
 
 later : (s : tie.Start) → let p = s .args .geometry .parameters in validGrowth p (nextOf (s .args .back) p (s .args .geometry .growth)) ≡ true
 later s = next-valid (s .args .back) _ _ (s .pre .0 .homing .valid) (s .pre .0 .homing .growth) (s .pre .1 .1 .0)
-
--- the pages are all sound
-surveyed : (s : tie.Start) → let p = s .args .geometry .parameters in p .pages ≡ firstUnsound p (s .args .geometry .growth) (file s) 0 (p .pages - 0)
-surveyed s = rw (sub-zero (s .args .geometry .parameters .pages)) (sym (s .pre .1 .1 .1 .0))
 
 most : (s : tie.Start) → s .args .geometry .parameters .pages ≤ 1024
 most s = limits _ (s .pre .0 .homing .valid) .pages-most
@@ -56,8 +51,8 @@ plan-all-requires c κs =
           (
             omega (arith, most s),
             (
-              surveyed-numbers _ _ (file s) (pre .0 .homing .valid) (pre .0 .sized) _ (surveyed s) (le-refl _) 0 _ (omega arith),
-              (pre .1 .1 .1 .1, homes-stay _ _ (file s) (pre .0 .homing .valid) (pre .0 .sized) _ (surveyed s) (le-refl _) (s .args .back) (pre .0 .homing .growth) (pre .1 .1 .0)),
+              sound-numbers _ _ (file s) (pre .0 .homing .valid) (pre .0 .sized) (s .pre .1 .1 .1 .0) 0 _ (omega arith),
+              (pre .1 .1 .1 .1, homes-stay _ _ (file s) (pre .0 .homing .valid) (pre .0 .sized) (s .pre .1 .1 .1 .0) (s .args .back) (pre .0 .homing .growth) (pre .1 .1 .0)),
             ),
           ),
         ),
@@ -77,7 +72,7 @@ returns : tie.Need-returns
 returns c =
     let k = c .before .before .before .before .before .before in
     let s = start k in
-    plan-overflows _ _ _ (file s) (s .pre .0 .homing .valid) (s .pre .0 .sized) (later s) _ (surveyed s) (le-refl _) _ _ _ _ _ _ (k .plan-all .ensures) (not-true _ (c .if1 .taken))
+    plan-overflows _ _ _ (file s) (s .pre .0 .homing .valid) (s .pre .0 .sized) (later s) (s .pre .1 .1 .1 .0) _ _ _ _ _ _ (k .plan-all .ensures) (not-true _ (c .if1 .taken))
 
 cast-places : tie.Need-cast-places
 cast-places c = search needs
@@ -133,7 +128,7 @@ returns-2 c =
     let a = c .before .before .before .before .before .before .before .before .before .before .before .before .before .before in
     let e = a .before .before .before .before .before .before .before .before .before .before .before in
     let s = start (planning e) in
-    let done = plan-fits _ _ _ (file s) (s .pre .0 .homing .valid) (s .pre .0 .sized) (later s) _ (surveyed s) (le-refl _) _ _ _ _ _ _ (planning e .plan-all .ensures)
+    let done = plan-fits _ _ _ (file s) (s .pre .0 .homing .valid) (s .pre .0 .sized) (later s) (s .pre .1 .1 .1 .0) _ _ _ _ _ _ (planning e .plan-all .ensures)
     (not-false _ (e .if1 .left)) (omega (arith, most s)) in
     let left = a .apply .ensures in
     (done .0, applied-lists _ _ _ _ _ _ _ _ _ _ _ _ _ (left .0) (left .1 .0) (left .1 .1 .0) (left .1 .1 .1 .0) ∙ done .1)
