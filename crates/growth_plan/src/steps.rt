@@ -17,7 +17,8 @@ use crate::planning::plan_all;
 use hashing::Geometry;
 use page_plan::Outcome;
 
-// The answer of the growth, with the page given, which comes. Where the new page has room for the stars whose home it becomes, nothing is planned.
+// The answer of the growth, with the page given, which comes. Where the new page has room for the stars whose home it becomes,
+// nothing is planned.
 pub fn accept_growth(
     table: &[u32; 90],
     geometry: Geometry,
@@ -61,7 +62,8 @@ pub fn accept_growth(
     Outcome::On(page)
 }
 
-// The same, with the sources of page `step` in the pool and its separator in `planned`. Where the new page has room, another one's block is all that is planned.
+// The same, with the sources of page `step` in the pool and its separator in `planned`. Where the new page has room, another one's block is
+// all that is planned.
 fn plan_step(
     table: &[u32; 90],
     geometry: Geometry,
@@ -164,7 +166,8 @@ fn write_planned(
     buffers::copy_8(secondowners, at, poolowners, at, places);
 }
 
-// The growth planned anew as far as page `step` needs, and that page written to the second set of pages, whose other pages stay. The pool is scratch.
+// The growth planned anew as far as page `step` needs, and that page written to the second set of pages, whose other pages stay. The pool
+// is scratch.
 pub fn step_page(
     table: &[u32; 90],
     geometry: Geometry,

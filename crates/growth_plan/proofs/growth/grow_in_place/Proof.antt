@@ -106,12 +106,13 @@ same-length-12 c = search needs
 
 returns-3 : tie.Need-returns-3
 returns-3 c =
-    let m = moved (c .before .before .before .before .before .before .before .before .before .before .before .before .before .before .before .before .before .before .before .before .before .before .before .before) in
-    let pre = start (c .before .before .before .before .before .before .before .before .before .before .before .before .before .before .before .before .before .before .before .before .before .before .before .before .before .before .before .before .before .before .before .before .before) .pre in
-    let renewed = rw (c .before .before .before .before .before .before .before .before .before .before .before .before .before .before .before .before .before .before .before .before .before .before .grown .ensures) at (c .before .before .before .before .before .before .before .before .before .before .before .before .before .before .replace-blocks .ensures) in
-    grows-in-place _ _ _ _ _ _ _ _ (c .before .before .before .before .before .before .before .before .before .before .before .before .before .before .before .before .before .before .before .before .before .before .before .before .before .before .before .before .before .before .before .before .before .before .before .before .before .before .before .if1 .left) record {
-      accepts = λ _. grown-answer _ _ _ _ _ _ (pre .0 .sized) (pre .1 .1 .1 .0) m renewed;
-      file = λ _. grown-file _ _ _ _ _ _ (pre .0 .sized) (pre .1 .1 .1 .0) m renewed;
+    let b = c .before .before .before .before .before .before .before .before .before .before .before .before .before .before in
+    let e = b .before .before .before .before .before .before .before .before .before .before in
+    let pre = start (moving e) .pre in
+    let renewed = rw (b .before .before .before .before .before .before .before .before .grown .ensures) at (b .replace-blocks .ensures) in
+    grows-in-place _ _ _ _ _ _ _ _ (moving e .before .before .before .before .before .before .if1 .left) record {
+      accepts = λ _. grown-answer _ _ _ _ _ _ (pre .0 .sized) (pre .1 .1 .1 .0) (moved e) renewed;
+      file = λ _. grown-file _ _ _ _ _ _ (pre .0 .sized) (pre .1 .1 .1 .0) (moved e) renewed;
       kept = λ e. absurd (false≢true (sym e));
       pool-kept = λ e. absurd (false≢true (sym e));
     }

@@ -47,35 +47,50 @@ returns c =
     let pre = start surveyed .pre in
     growth-refused _ _ _ (pre .0 .homing .valid) (pre .0 .sized) _ _ _ (surveyed .survey-pages .ensures .0) (c .if1 .taken)
 
+abbrev surveyed : tie.Else1 → tie.After-survey-pages
+surveyed c = c .before .before .before
+
+abbrev passed : tie.After-grow-in-place → tie.Else1
+passed c = c .before .before .before .before .before .before .before .before
+
+abbrev tried : tie.Else2 → tie.After-grow-in-place
+tried c = c .before .before .before .before .before .before .before .before .before .before .before .before .before .before .before
+
+abbrev anew : tie.After-replace-all → tie.Else2
+anew c = c .before .before .before .before .before .before .before .before
+
 pooled : (c : tie.Else1)
-    → let x = c .before .before .before in
+    → let x = surveyed c in
     let a = start x .args in
     Pooled (a .geometry .parameters) (x .survey-pages .last .1 .1 .1 .1 .1 .1 .0) (now (a .waiting)) (now (a .poolowners))
 pooled c =
-    let x = c .before .before .before in
+    let x = surveyed c in
     let pool = start x .pre .1 .0 in
     record { ofNumbers = x .survey-pages .kept .1 .1 .1 .1 .1 .1 .0 ∙ pool .ofNumbers; ofWords = pool .ofWords; ofOwners = pool .ofOwners }
 
 -- all pages are sound, and the pool holds the homes of their items
-sound : (c : tie.Else1) → let a = start (c .before .before .before) .args in firstUnsound (a .geometry .parameters) (a .geometry .growth) (file (start (c .before .before .before))) 0 (a .geometry .parameters .pages) ≡ a .geometry .parameters .pages
+sound : (c : tie.Else1)
+    → let s = start (surveyed c) in
+    let p = s .args .geometry .parameters in
+    firstUnsound p (s .args .geometry .growth) (file s) 0 (p .pages) ≡ p .pages
 sound c =
-    let x = c .before .before .before in
+    let x = surveyed c in
     let pre = start x .pre in
     surveyed-sound _ _ (file (start x)) (pre .0 .homing .valid) (pre .0 .sized) _ (x .survey-pages .ensures .0) (c .if1 .left)
 
 homed : (c : tie.Else1)
-    → let x = c .before .before .before in
+    → let x = surveyed c in
     let a = start x .args in
     x .survey-pages .last .1 .1 .1 .1 .1 .1 .0 ≡ homesOf (a .geometry .parameters) (a .geometry .growth) (now (a .numbers))
 homed c =
-    let x = c .before .before .before in
+    let x = surveyed c in
     let pre = start x .pre in
     surveyed-all _ _ (file (start x)) (pre .0 .homing .valid) (pre .0 .sized) _ (x .survey-pages .ensures .0) (c .if1 .left) _ _ (pre .1 .0 .ofNumbers) (x .survey-pages .ensures .1)
 
 grow-in-place-requires : tie.Need-grow-in-place-requires
 grow-in-place-requires c κs =
     let x = c .before .before .before .before .before .before .before in
-    let pre = start (x .before .before .before) .pre in
+    let pre = start (surveyed x) .pre in
     (pre .0, (pooled x, (pre .1 .1, (sound x, homed x))))
 
 same-length-6 : tie.Need-same-length-6
@@ -108,9 +123,9 @@ returns-2 c =
 replace-all-requires : tie.Need-replace-all-requires
 replace-all-requires c κs =
     let no = c .before .before .before .before .before .before .before in
-    let k = no .before .before .before .before .before .before .before .before .before .before .before .before .before .before .before in
-    let x = k .before .before .before .before .before .before .before .before in
-    let s = start (x .before .before .before) in
+    let k = tried no in
+    let x = passed k in
+    let s = start (surveyed x) in
     let p = s .args .geometry .parameters in
     let g = s .args .geometry .growth in
     let still = k .grow-in-place .ensures .kept (no .if2 .left) in
@@ -142,8 +157,9 @@ same-length-16 c = search needs
 
 same-length-17 : tie.Need-same-length-17
 same-length-17 c =
-    let k = c .before .before .before .before .before .before .before .before .before .before .before .before .before .before .before .before .before .before .before .before .before .before .before .before .before .before .before .before .before .before .before .before .before .before .before .before .before in
-    c .before .before .before .before .before .before .before .before .before .before .before .before .before .before .replace-all .kept .1 .1 .1 .1 .1 .1 .1 .0 ∙ k .grow-in-place .kept .1 .1 .1 .1 .1 .1 .1 .0 ∙ k .before .before .before .before .before .before .before .before .before .before .before .survey-pages .kept .1 .1 .1 .1 .1 .1 .0
+    let d = c .before .before .before .before .before .before .before .before .before .before .before .before .before .before in
+    let k = tried (anew d) in
+    d .replace-all .kept .1 .1 .1 .1 .1 .1 .1 .0 ∙ k .grow-in-place .kept .1 .1 .1 .1 .1 .1 .1 .0 ∙ surveyed (passed k) .survey-pages .kept .1 .1 .1 .1 .1 .1 .0
 
 same-length-18 : tie.Need-same-length-18
 same-length-18 c = search needs
@@ -153,8 +169,8 @@ same-length-19 c = search needs
 
 returns-3 : tie.Need-returns-3
 returns-3 c =
-    let no = c .before .before .before .before .before .before .before .before .before .before .before .before .before .before .before .before .before .before .before .before .before .before in
-    still-done _ _ _ _ _ _ _ _ (no .before .before .before .before .before .before .before .before .before .before .before .before .before .before .before .grow-in-place .ensures .kept (no .if2 .left)) (c .before .before .before .before .before .before .before .before .before .before .before .before .before .before .replace-all .ensures)
+    let d = c .before .before .before .before .before .before .before .before .before .before .before .before .before .before in
+    still-done _ _ _ _ _ _ _ _ (tried (anew d) .grow-in-place .ensures .kept (anew d .if2 .left)) (d .replace-all .ensures)
 
 pub regrow-spec : {M : Type 1} → statement M
 regrow-spec =
