@@ -1,25 +1,29 @@
 -- A growth or a shrinking: the homes under the growth state `next`, and that the rule over all pages is what the code leaves.
 use mathlib.Core.Path.{_≡_, refl, sym, ap, subst, _∙_}
 use mathlib.Core.Bool.{Bool, true, false, cond}
-use mathlib.Core.List.{List, [], map}
-use Prim.Native.Nat.{ℕ, _+_, _-_, _*_, _^_, _≤_, _<_}
-use native.Mathlib.Nat.{zero-add, zero-mul, sub-zero}
+use mathlib.Core.List.{List, [], _∷_, _++_, map}
+use Prim.Native.Nat.{ℕ, zero, suc, _+_, _-_, _*_, _/_, _%_, _^_, _≤_, _<_}
+use native.Mathlib.Nat.{zero-add, zero-mul, sub-zero, mul-le-mul-right, div-lt-iff-lt-mul, div-add-mod', mod-lt}
 use native.Mathlib.Omega.{arith}
 use lib.Dec.{ltb, eqb}
-use lib.ListN.{length, getD, set, take, drop, length-map, List·getD-map}
+use lib.ListN.{length, getD, set, take, drop, length-map, take-append-drop, List·getD-map}
 use lib.Seq.{paste}
 use borrow.Author.Tests.{lt-ltb, le-ltb}
 use Rattle.pages.specs.Page.{stretch}
 use Rattle.hashing.specs.declared.Parameters.{Parameters}
 use Rattle.hashing.specs.declared.Growth.{Growth}
+use Rattle.hashing.specs.Geometry.{multiplierOf, highest, grown, isUngrown, shrunk}
+use Rattle.hashing.specs.Home.{home}
 use Rattle.hashing.specs.Limits.{validParameters, validGrowth}
 use Rattle.hashing.proofs.Bounds.{limits, growth-within, spread}
 use Rattle.hashing.proofs.Homes.{grown-valid}
 use Rattle.hashing.proofs.Shrinking.{shrunk-valid}
 use Rattle.placement.specs.Rule.{Hash, left, without}
 use Rattle.placement.specs.File.{File, Sized, gathered}
-use Rattle.placement.specs.Hash.{hashOf, homeIn, homesOf}
+use Rattle.placement.specs.Hash.{hashOf, homeIn, homesOf, soundAt}
 use Rattle.placement.proofs.Probing.{homed-real}
+use Rattle.placement.proofs.Tested.{item-on}
+use Rattle.home_update.proofs.Rehomed.{home-shrunk}
 use Rattle.page_separator.specs.Lists.{allBelow}
 use Rattle.reach.specs.Reach.{isEmpty, firstUnsound}
 use Rattle.reach.proofs.Search.{such}
@@ -32,7 +36,7 @@ use Rattle.page_plan.proofs.Placed.{Gatherable, probes-real, homes-real}
 use Rattle.page_plan.specs.declared.outcome.Outcome.{Outcome}
 use Rattle.page_plan.specs.declared.outcome.Outcome.the-variants.{On, Unsound, Overflows}
 use Rattle.removal_reach.specs.Stretch.{StretchReady, fitting, restretched}
-use Rattle.growth_plan.specs.Growth.{nextOf, Movable, growthAnswer, growthFile}
+use Rattle.growth_plan.specs.Growth.{nextOf, Movable, firstMoved, HomesStay, growthAnswer, growthFile, GrowsInPlace}
 use Rattle.removal_reach.proofs.Ruled.{fitting-is, restretched-is}
 use Rattle.removal_reach.proofs.Items.{all-below, all-sound, all-numbered, numbers-below, plannable-stretch, ready-stretch}
 
@@ -41,6 +45,26 @@ use Rattle.removal_reach.proofs.Items.{all-below, all-sound, all-numbered, numb
 -- the first i items have their homes under the growth state `next`
 abbrev pub Rehomed : Parameters → Growth → Growth → List ℕ → List ℕ → ℕ → Type 0
 Rehomed p g next ns homes i = Copied (homesOf p g ns) 0 (homesOf p next ns) homes i
+
+same-front : (h h′ : ℕ → ℕ) (n : ℕ) (ns : List ℕ) → ((i : ℕ) → i < n → h′ (getD ns i 0) ≡ h (getD ns i 0)) → take n (map h′ ns) ≡ take n (map h ns)
+same-front h h′ zero ns t = refl
+same-front h h′ (suc n) [] t = refl
+same-front h h′ (suc n) (x ∷ ns) t = rw (t 0 (omega arith), same-front h h′ n ns (λ i k. t (suc i) (omega arith)))
+
+-- .. where they have them already
+pub rehomed-front : (back : Bool) (p : Parameters) (g : Growth) (ns homes : List ℕ) (i : ℕ) → homes ≡ homesOf p g ns → HomesStay back p g ns
+    → i ≡ firstMoved back p g → Rehomed p g (nextOf back p g) ns homes i
+unfolding homesOf
+rehomed-front back p g ns homes i e stay at =
+    record {
+      is =
+          e
+          ∙ sym (take-append-drop i (homesOf p g ns))
+          ∙ ap (λ (l : List ℕ). l ++ drop i (homesOf p g ns))
+          (sym (same-front (homeIn p g) (homeIn p (nextOf back p g)) i ns (λ j h. stay .same j (omega arith))))
+          ∙ rw (zero-add i);
+      kept = ap length e;
+    }
 
 module _ (p : Parameters) (g next : Growth) (ns homes : List ℕ) (i : ℕ) (R : Rehomed p g next ns homes i) where
   pub homes-long : length homes ≡ length ns
@@ -70,6 +94,16 @@ module _ (p : Parameters) (g next : Growth) (ns homes : List ℕ) (i : ℕ) (R :
       ∙ pasted-whole (homesOf p g ns) (homesOf p next ns) i
       (length-map ns (homeIn p g) ∙ sym e) (length-map ns (homeIn p next) ∙ sym e)
 
+-- "Only the page given back loses its stars"
+item-shrunk : (p : Parameters) (g : Growth) → validParameters p ≡ true → validGrowth p g ≡ true → isUngrown g ≡ false → (n : ℕ)
+    → homeIn p g n < highest p g → homeIn p (shrunk p g) n ≡ homeIn p g n
+item-shrunk p g valid grows old n = go (eqb n 0)
+  where
+    go : (t : Bool) → cond t 0 (home (multiplierOf p) p g n) < highest p g
+        → cond t 0 (home (multiplierOf p) p (shrunk p g) n) ≡ cond t 0 (home (multiplierOf p) p g n)
+    go true h = refl
+    go false h = home-shrunk p g valid old grows (multiplierOf p) n (λ e. omega arith)
+
 pub next-valid : (back : Bool) (p : Parameters) (g : Growth) → validParameters p ≡ true → validGrowth p g ≡ true → Movable back p g → validGrowth p (nextOf back p g) ≡ true
 next-valid true p g v w m = shrunk-valid p g v m w
 next-valid false p g v w m = grown-valid p g v w m
@@ -79,10 +113,9 @@ next-valid false p g v w m = grown-valid p g v w m
 pub grows-movable : (back : Bool) (p : Parameters) (g : Growth) → back ≡ false → Movable back p g → Movable false p g
 grows-movable back p g e m = subst (λ (b : Bool). Movable b p g) e m
 
-pub grows-done : (back : Bool) (p : Parameters) (g : Growth) (f f′ : File) (page : ℕ) (r : Outcome) → back ≡ false
-    → (r ≡ growthAnswer p g f (nextOf false p g) page) × (f′ ≡ growthFile p g f (nextOf false p g))
-    → (r ≡ growthAnswer p g f (nextOf back p g) page) × (f′ ≡ growthFile p g f (nextOf back p g))
-grows-done back p g f f′ page r e d = subst (λ (b : Bool). (r ≡ growthAnswer p g f (nextOf b p g) page) × (f′ ≡ growthFile p g f (nextOf b p g))) (sym e) d
+pub grows-in-place : (back : Bool) (p : Parameters) (g : Growth) (f f′ : File) (pool pool′ : List ℕ) (r : Bool) → back ≡ false
+    → GrowsInPlace p g (grown p g) f f′ pool pool′ r → GrowsInPlace p g (nextOf back p g) f f′ pool pool′ r
+grows-in-place back p g f f′ pool pool′ r e d = subst (λ (b : Bool). GrowsInPlace p g (nextOf b p g) f f′ pool pool′ r) (sym e) d
 
 -- of a file that is still the one before
 pub still-done : (p : Parameters) (g next : Growth) (f f₁ f′ : File) (page : ℕ) (r : Outcome) → f₁ ≡ f
@@ -147,14 +180,38 @@ module _ (p : Parameters) (g : Growth) (f : File) (valid : validParameters p ≡
         ∙ rw (sub-zero (p .pages), zero-mul (p .places))
         (pasted-whole pool (homesOf p g (f .numbers)) (p .pages * p .places) size (length-map (f .numbers) (homeIn p g) ∙ sized .ofNumbers))
 
-    sound-pages : 0 + p .pages ≤ firstUnsound p g f 0 (p .pages)
-    sound-pages =
-        let is : bad ≡ firstUnsound p g f 0 (p .pages) = rw (sub-zero (p .pages)) at survey in
-        omega arith
-
     pub surveyed-sound : firstUnsound p g f 0 (p .pages) ≡ p .pages
     unfolding firstUnsound
-    surveyed-sound = omega (arith, sound-pages, such (unsound p g f) 0 (p .pages) .high)
+    surveyed-sound =
+        let is : bad ≡ firstUnsound p g f 0 (p .pages) = rw (sub-zero (p .pages)) at survey in
+        omega (arith, such (unsound p g f) 0 (p .pages) .high)
+
+  -- all pages are sound
+  module _ (every : firstUnsound p g f 0 (p .pages) ≡ p .pages) where
+    sound-at : (q : ℕ) → 0 ≤ q → q < 0 + p .pages → soundAt p g f q ≡ true
+    sound-at = all-sound p g f 0 (p .pages) (omega (arith, every))
+
+    pub sound-numbers : (lo n : ℕ) → lo + n ≤ p .pages → allBelow (2 ^ 31) (stretch (p .places) lo n (f .numbers)) ≡ true
+    sound-numbers lo n h = numbers-below p f valid sized lo n h g (λ q a b. sound-at q (omega arith) (omega arith))
+
+    -- stars stand at their homes or above
+    home-low : (n i : ℕ) → n ≤ p .pages → i < n * p .places → homeIn p g (getD (f .numbers) i 0) < n
+    home-low n i inside h =
+        let some : 0 < p .places = limits p valid .places-least in
+        let low : i / p .places < n = div-lt-iff-lt-mul some .1 h in
+        let at : i ≡ i / p .places * p .places + i % p .places = omega (arith, div-add-mod' i (p .places)) in
+        let there = item-on p g f (i / p .places) sized (omega arith) (sound-at (i / p .places) (omega arith) (omega arith)) (i % p .places) (mod-lt i some) in
+        omega (arith, ap (λ (j : ℕ). homeIn p g (getD (f .numbers) j 0)) at, there .homed)
+
+    pub homes-stay : (back : Bool) → validGrowth p g ≡ true → Movable back p g → HomesStay back p g (f .numbers)
+    unfolding highest
+    homes-stay false grows m = record { inside = omega arith; same = λ i h. omega arith }
+    homes-stay true grows m =
+        let low : highest p g ≤ p .pages = omega (arith, growth-within p g grows .pages-fit) in
+        record {
+          inside = omega (arith, sized .ofNumbers, mul-le-mul-right (p .places) low);
+          same = λ i h. item-shrunk p g valid grows m (getD (f .numbers) i 0) (home-low (highest p g) i low h);
+        }
 
     module _ (next : Growth) (later : validGrowth p next ≡ true) (pool : List ℕ) (e : pool ≡ homesOf p next (f .numbers)) where
       some : 0 < p .pages
@@ -167,17 +224,17 @@ module _ (p : Parameters) (g : Growth) (f : File) (valid : validParameters p ≡
       within = homes-within p next (f .numbers) pool valid later (sized .ofNumbers) e
 
       below : allBelow (2 ^ 31) (stretch (p .places) 0 (p .pages) (f .numbers)) ≡ true
-      below = numbers-below p f valid sized 0 (p .pages) (omega arith) g (all-sound p g f 0 (p .pages) sound-pages)
+      below = sound-numbers 0 (p .pages) (omega arith)
 
       none-out : without 0 (gathered (p .places) f 0 (p .pages)) ≡ gathered (p .places) f 0 (p .pages)
-      none-out = all-numbered p g f 0 (p .pages) (all-sound p g f 0 (p .pages) sound-pages)
+      none-out = all-numbered p g f 0 (p .pages) sound-at
 
       ready : Gatherable (hashOf p next) (p .places) 0 (p .pages) f pool
       ready = ready-stretch p f valid sized 0 (p .pages) (omega arith) some pool size below within (hashOf p next)
           (true-homes p next (f .numbers) pool valid later (sized .ofNumbers) e)
 
       all-are-sound : ltb (firstUnsound p g f 0 (p .pages)) (p .pages) ≡ false
-      all-are-sound = le-ltb (firstUnsound p g f 0 (p .pages)) (p .pages) (omega (arith, sound-pages))
+      all-are-sound = le-ltb (firstUnsound p g f 0 (p .pages)) (p .pages) (omega (arith, every))
 
       pub growth-plannable : (waiting poolowners : List ℕ) → length waiting ≡ p .pages * p .places → length poolowners ≡ p .pages * p .places
           → StretchReady p 0 (p .pages) f pool waiting poolowners

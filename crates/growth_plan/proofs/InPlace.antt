@@ -1,4 +1,4 @@
--- A growth in place: the stars that move are on the new page, all pages are sound under the next growth state, and the blocks are placed anew.
+-- A growth in place: the stars that move are on the new page, all pages are sound under the next growth state, blocks are placed anew.
 use mathlib.Core.Path.{_≡_, sym, ap, _∙_}
 use mathlib.Core.Bool.{false}
 use mathlib.Core.List.{List, []}

@@ -1,32 +1,38 @@
 -- A growth planned over all pages, or accepted without a plan: what the code's answers say of the growth, and of one page of it.
-use mathlib.Core.Path.{_≡_, refl, sym, _∙_}
+use mathlib.Core.Path.{_≡_, refl, sym, ap, subst, _∙_}
 use mathlib.Core.Bool.{Bool, true, false, cond}
 use mathlib.Core.List.{List, []}
-use Prim.Native.Nat.{ℕ, _-_, _*_, _^_, _≤_, _<_}
+use Prim.Native.Nat.{ℕ, _+_, _-_, _*_, _^_, _≤_, _<_}
 use native.Mathlib.Omega.{arith}
-use native.Mathlib.Nat.{zero-add, sub-zero, le-refl}
-use lib.Dec.{ltb}
-use lib.ListN.{length, getD, replicate, length-replicate}
+use native.Mathlib.Nat.{sub-zero, le-refl}
+use lib.Dec.{eqb, ltb}
+use lib.ListN.{length, getD, take, replicate, length-replicate}
+use lib.Seq.{slice}
 use borrow.Author.Tests.{le-ltb}
 use Rattle.hashing.specs.declared.Parameters.{Parameters}
 use Rattle.hashing.specs.declared.Growth.{Growth}
 use Rattle.hashing.specs.Geometry.{pageCount, grown}
 use Rattle.hashing.specs.Limits.{validParameters, validGrowth}
+use Rattle.hashing.proofs.Bounds.{limits}
 use Rattle.pages.specs.Page.{stretch}
 use Rattle.placement.specs.Rule.{pages, left, blank}
 use Rattle.placement.specs.File.{File, Sized, replaced}
 use Rattle.placement.specs.Hash.{hashOf, homesOf, lent}
 use Rattle.placement.proofs.Composition.{length-pages}
 use Rattle.placement.proofs.Files.{roomy-pages}
-use Rattle.page_separator.specs.Lists.{allBelow}
-use Rattle.page_plan.specs.Gather.{stretchWords}
+use Rattle.page_separator.specs.Lists.{all, allBelow}
+use Rattle.page_plan.specs.Gather.{stretchWords, grouped, Scattered}
 use Rattle.reach.specs.Reach.{isEmpty, firstUnsound, allStars}
-use Rattle.page_plan.specs.Plans.{Planned}
+use Rattle.page_plan.specs.Plans.{AllPlaced, Started, Settleable}
 use Rattle.page_plan.proofs.Applying.{applied}
+use Rattle.page_plan.proofs.Blocks.{plans-grouped}
+use Rattle.page_plan.proofs.Items.{words-count}
+use Rattle.page_plan.proofs.Sourcing.{length-stretch}
+use Rattle.page_plan.proofs.Stretch.{started, stands, started-again, planned-again}
 use Rattle.page_plan.specs.declared.outcome.Outcome.the-variants.{On, Unsound, Overflows}
-use Rattle.removal_reach.specs.Stretch.{StretchReady}
+use Rattle.removal_reach.specs.Stretch.{StretchReady, fitting, restretched}
 use Rattle.removal_reach.proofs.Items.{plannable-stretch}
-use Rattle.removal_reach.proofs.Ruled.{stretch-kept, stretch-placed}
+use Rattle.removal_reach.proofs.Ruled.{stars-fit, applied-stretch}
 use Rattle.growth_in_place.specs.Expansion.{Spacious}
 use Rattle.growth_block.specs.Block.{NamesPage}
 use Rattle.growth_block.proofs.Holding.{nothing-past}
@@ -50,26 +56,73 @@ all-ready p next ns pool waiting valid later many long below e =
     (some-pages p next ns pool valid later many e) pool (homes-size p next ns pool valid later many e) below (homes-within p next ns pool valid later many e)
     waiting waiting long long
 
--- all pages are sound, and the pool holds the homes under the growth state `next`
+-- the waiting list has room for the words of a stretch
+pub words-fit : (q : Parameters) (lo n : ℕ) (f : File) (pool waiting poolowners : List ℕ) → StretchReady q lo n f pool waiting poolowners
+    → 0 + length (stretchWords (q .places) lo n 0 (f .numbers) pool) ≤ length waiting
+words-fit q lo n f pool waiting poolowners L =
+    rw (words-count (lo * q .places) 0 (stretch (q .places) lo n (f .numbers)) (stretch (q .places) lo n pool)
+    (omega (arith, length-stretch (q .places) lo n (f .numbers) (L .numbers-long), length-stretch (q .places) lo n pool (L .pool-long))))
+    (stars-fit q lo n f pool waiting poolowners L 0)
+
+-- words gathered by home, and all pages placed over them
+module _ (q : Parameters) (l U W ends : List ℕ) (S : Scattered 0 (q .pages) 0 l U W ends) (room : 0 + length l ≤ length U) (kept : length W ≡ length U)
+    (end : ℕ) (all-of : end ≡ 0 + length l) where
+  ready : Started 0 (q .pages) 0 l W ends
+  ready = started 0 (q .pages) 0 l U W ends S room kept
+
+  in-groups : slice 0 end W ≡ grouped 0 0 (q .pages) l
+  in-groups = ap (λ (n : ℕ). slice 0 n W) all-of ∙ stands 0 (q .pages) 0 l W ends ready
+
+  pub settleable : (pool planned : List ℕ) → validParameters q ≡ true → 0 + q .pages ≤ length planned → (0 + q .pages) * q .places ≤ length pool
+      → q .pages ≤ length ends → length U ≤ 32768 → Settleable q 0 (q .pages) 0 end pool W planned ends
+  settleable pool planned valid ofPlanned ofPool ofEnds few =
+      record {
+        valid = valid;
+        pages = omega (arith, limits q valid .pages-most);
+        ofPlanned = ofPlanned;
+        ofPool = ofPool;
+        ofEnds = ofEnds;
+        few = omega arith;
+        order = omega arith;
+        inside = omega arith;
+        grouped-are = rw in-groups (started-again 0 (q .pages) 0 l W ends ready);
+        near = unfold all in refl;
+      }
+
+  pub placed-again : (pool pool′ planned planned′ W′ : List ℕ) (r : Bool) → AllPlaced q (take end W) pool pool′ planned planned′ W′ r
+      → AllPlaced q l pool pool′ planned planned′ W′ r
+  placed-again pool pool′ planned planned′ W′ r A =
+      let B : AllPlaced q (grouped 0 0 (q .pages) l) pool pool′ planned planned′ W′ r
+      = subst (λ (s : List ℕ). AllPlaced q s pool pool′ planned planned′ W′ r) in-groups A in
+      record {
+        fits = B .fits ∙ ap (λ (s : List ℕ). eqb (length s) 0) (plans-grouped q 0 (q .pages) [] l .1);
+        plan = λ e. planned-again q 0 (q .pages) [] l pool pool′ planned planned′ W′ 0 (B .plan e);
+      }
+
+-- all pages are sound, and planned under the growth state `next`
 module _ (p : Parameters) (g next : Growth) (f : File) (valid : validParameters p ≡ true) (sized : Sized (p .places) (p .pages) f)
-    (later : validGrowth p next ≡ true) (bad : ℕ) (survey : bad ≡ firstUnsound p g f 0 (p .pages - 0)) (past : p .pages ≤ bad)
-    (pool : List ℕ) (homes : pool ≡ homesOf p next (f .numbers)) where
-  all-plannable : StretchReady p 0 (p .pages) f pool (f .words) (f .owners)
-  all-plannable = growth-plannable p g f valid sized bad survey past next later pool homes (f .words) (f .owners) (sized .ofWords) (sized .ofOwners)
+    (later : validGrowth p next ≡ true) (every : firstUnsound p g f 0 (p .pages) ≡ p .pages)
+    (pool′ planned planned′ W′ : List ℕ) (r : Bool) (page : ℕ)
+    (A : AllPlaced p (stretchWords (p .places) 0 (p .pages) 0 (f .numbers) (homesOf p next (f .numbers))) (homesOf p next (f .numbers)) pool′ planned planned′ W′ r) where
+  abbrev homes : List ℕ
+  homes = homesOf p next (f .numbers)
 
-  module _ (pool′ planned planned′ W′ : List ℕ) (r page : ℕ)
-      (P : Planned p 0 (p .pages) [] (stretchWords (p .places) 0 (p .pages) 0 (f .numbers) pool) pool pool′ planned planned′ W′ r) where
-    pub plan-overflows : (r ≡ 0 → ⊥) → Overflows ≡ growthAnswer p g f next page
-    plan-overflows some =
-        let kept = stretch-kept p 0 (p .pages) f pool (f .words) (f .owners) all-plannable 0 pool′ planned planned′ W′ r P some in
-        growth-done p g f valid sized bad survey past next later pool homes page false (kept .0) f (kept .1) .0
+  decided : (t : Bool) → r ≡ t → t ≡ fitting p 0 (p .pages) 0 f homes
+  unfolding fitting
+  decided t e = sym e ∙ A .fits
 
-    pub plan-fits : r ≡ 0 → p .pages ≤ length planned
-        → (On page ≡ growthAnswer p g f next page) × (applied (p .places) 0 (p .pages) 0 0 0 pool′ planned′ f ≡ growthFile p g f next)
-    plan-fits none room =
-        let placed = stretch-placed p 0 (p .pages) f pool (f .words) (f .owners) all-plannable 0 pool′ planned planned′ W′ r P none (rw (zero-add (p .pages)) room) in
-        growth-done p g f valid sized bad survey past next later pool homes page true (placed .0)
-        (applied (p .places) 0 (p .pages) 0 0 0 pool′ planned′ f) (placed .1)
+  pub plan-overflows : r ≡ false → (Overflows ≡ growthAnswer p g f next page) × (f ≡ growthFile p g f next)
+  unfolding restretched
+  plan-overflows e =
+      growth-done p g f valid sized every next later homes refl page false (decided false e) f (rw (← decided false e))
+
+  pub plan-fits : r ≡ true → p .pages ≤ length planned
+      → (On page ≡ growthAnswer p g f next page) × (applied (p .places) 0 (p .pages) 0 0 0 pool′ planned′ f ≡ growthFile p g f next)
+  unfolding restretched
+  plan-fits e room =
+      let ready = growth-plannable p g f valid sized every next later homes refl (f .words) (f .owners) (sized .ofWords) (sized .ofOwners) in
+      growth-done p g f valid sized every next later homes refl page true (decided true e) (applied (p .places) 0 (p .pages) 0 0 0 pool′ planned′ f)
+      (rw (← decided true e) (applied-stretch p 0 (p .pages) f homes (f .words) (f .owners) ready 0 pool′ planned planned′ W′ 0 (omega arith) (A .plan e)))
 
 -- which of three things the growth decides, by the answer
 pub on-way : (t u : Bool) (new first page : ℕ) → On new ≡ cond t (Unsound first) (cond u (On page) Overflows) → (t ≡ false) × (u ≡ true)

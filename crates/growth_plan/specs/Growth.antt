@@ -2,15 +2,20 @@
 use mathlib.Core.Path.{_≡_}
 use mathlib.Core.Bool.{Bool, true, false, cond}
 use mathlib.Core.List.{List}
-use Prim.Native.Nat.{ℕ, _<_}
+use Prim.Native.Nat.{ℕ, _*_, _≤_, _<_}
 use lib.Dec.{ltb}
+use lib.ListN.{length, getD}
+use denote.Ref.{now}
 use Rattle.hashing.specs.declared.Parameters.{Parameters}
 use Rattle.hashing.specs.declared.Growth.{Growth}
-use Rattle.hashing.specs.Geometry.{pageCount, grown, isUngrown, shrunk}
+use Rattle.hashing.specs.Geometry.{pageCount, highest, grown, isUngrown, shrunk}
 use Rattle.placement.specs.Rule.{pages, left}
 use Rattle.placement.specs.File.{File, replaced}
-use Rattle.placement.specs.Hash.{hashOf}
+use Rattle.placement.specs.Hash.{hashOf, homeIn, homesOf}
+use Rattle.placement.specs.Lent.{Lent}
 use Rattle.reach.specs.Reach.{isEmpty, firstUnsound, allStars}
+use Rattle.page_plan.specs.Gather.{stretchWords}
+use Rattle.page_plan.specs.Plans.{AllPlaced}
 use Rattle.page_plan.specs.declared.outcome.Outcome.{Outcome}
 use Rattle.page_plan.specs.declared.outcome.Outcome.the-variants.{On, Unsound, Overflows}
 
@@ -38,9 +43,24 @@ unfoldable pub growthFile : Parameters → Growth → File → Growth → File
 growthFile p g f next =
     byGrowth p g f next f f (replaced (p .places) f 0 (pages (hashOf p next) 0 (p .pages) (allStars p f)))
 
--- a growth in place leaves what a growth leaves, and it is always accepted; or nothing is changed, the pool neither
-pub record GrowsInPlace (p : Parameters) (g : Growth) (f f′ : File) (pool pool′ : List ℕ) (r : Bool) : Type 0 where
-  pub accepts : r ≡ true → (page : ℕ) → On page ≡ growthAnswer p g f (grown p g) page
-  pub file : r ≡ true → f′ ≡ growthFile p g f (grown p g)
+-- a growth in place leaves what the growth to `next` leaves, and it is always accepted; or nothing is changed, the pool neither
+pub record GrowsInPlace (p : Parameters) (g next : Growth) (f f′ : File) (pool pool′ : List ℕ) (r : Bool) : Type 0 where
+  pub accepts : r ≡ true → (page : ℕ) → On page ≡ growthAnswer p g f next page
+  pub file : r ≡ true → f′ ≡ growthFile p g f next
   pub kept : r ≡ false → f′ ≡ f
   pub pool-kept : r ≡ false → pool′ ≡ pool
+
+-- the first item whose home may be another one
+abbrev pub firstMoved : Bool → Parameters → Growth → ℕ
+firstMoved back p g = cond back (highest p g * p .places) 0
+
+-- the items before it keep their homes
+pub record HomesStay (back : Bool) (p : Parameters) (g : Growth) (ns : List ℕ) : Type 0 where
+  pub inside : firstMoved back p g ≤ length ns
+  pub same : (i : ℕ) → i < firstMoved back p g → homeIn p (nextOf back p g) (getD ns i 0) ≡ homeIn p g (getD ns i 0)
+
+-- all pages planned over the stars of these numbers, homed under the growth state `next`
+abbrev pub PlansAll : Parameters → Growth → List ℕ → Lent → Lent → Lent → Bool → Type 0
+PlansAll p next ns pool waiting planned r =
+    AllPlaced p (stretchWords (p .places) 0 (p .pages) 0 ns (homesOf p next ns)) (homesOf p next ns) (now (pool .exit)) (now (planned .entry))
+    (now (planned .exit)) (now (waiting .exit)) r

@@ -1,6 +1,6 @@
 -- A growth planned, and one page of it in a second set of pages: document 02 (xiii).
 use mathlib.Core.Path.{_≡_}
-use mathlib.Core.List.{List, []}
+use mathlib.Core.List.{List}
 use Prim.Native.Nat.{ℕ}
 use lib.ListN.{getD}
 use Rattle.hashing.specs.declared.Parameters.{Parameters}
@@ -8,10 +8,8 @@ use Rattle.hashing.specs.declared.Growth.{Growth}
 use Rattle.hashing.specs.Geometry.{grown}
 use Rattle.placement.specs.File.{File, pagesAt, replaced}
 use Rattle.placement.specs.Rule.{pages, blank}
-use Rattle.placement.specs.Hash.{hashOf, homesOf}
+use Rattle.placement.specs.Hash.{hashOf}
 use Rattle.reach.specs.Reach.{allStars}
-use Rattle.page_plan.specs.Gather.{stretchWords}
-use Rattle.page_plan.specs.Plans.{Planned}
 use Rattle.growth_block.specs.Block.{NamesPage}
 use Rattle.page_plan.specs.declared.outcome.Outcome.{Outcome}
 use Rattle.page_plan.specs.declared.outcome.Outcome.the-variants.{On}
@@ -21,13 +19,6 @@ use Rattle.growth_plan.specs.Growth.{byGrowth, growthFile}
 unfoldable pub pageStepped : Parameters → Growth → File → Growth → File → ℕ → File
 pageStepped p g f next second step =
     byGrowth p g f next second second (replaced (p .places) second step (pagesAt (p .places) (growthFile p g f next) step 1))
-
--- the plan of all pages under the next growth state: the rule carries r stars past them
-pub record PlansAll (p : Parameters) (g : Growth) (ns pool′ planned planned′ : List ℕ) (r : ℕ) : Type 0 where
-  pub homes : List ℕ
-  pub homes-are : homes ≡ homesOf p (grown p g) ns
-  pub waiting : List ℕ
-  pub plan : Planned p 0 (p .pages) [] (stretchWords (p .places) 0 (p .pages) 0 ns homes) homes pool′ planned planned′ waiting r
 
 -- where the growth is accepted, the sources in the pool and the planned separator of page `step` are its page
 abbrev pub PlansStep : Parameters → Growth → File → List ℕ → List ℕ → ℕ → Outcome → Type 0

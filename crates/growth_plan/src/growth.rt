@@ -1,46 +1,16 @@
 // Growth by one page and its undoing: all stars placed anew under the next growth state, or `back` under the one before.
 ghost use mathlib.Core.Path.{_≡_};
-ghost use mathlib.Core.Bool.{false};
-ghost use Rattle.placement.specs.Hash.{homeIn, homesOf};
+ghost use Rattle.placement.specs.Hash.{homesOf};
 ghost use Rattle.placement.specs.Lent.{held, before, after};
-ghost use Rattle.placement.specs.Ready.{Homing, Ready, Pooled};
+ghost use Rattle.placement.specs.Ready.{Ready, Pooled};
 ghost use Rattle.reach.specs.Reach.{firstUnsound};
 ghost use Rattle.growth_plan.specs.Growth.{nextOf, Movable, GrowsInPlace, growthAnswer, growthFile};
+use crate::planning::plan_all;
 use hashing::Geometry;
 use page_plan::Outcome;
-use removal_reach::replace_stretch;
-
-// An item's home under that growth state, from its home under this one; 0 for an empty place.
-fn next_home(table: &[u32; 90], geometry: Geometry, back: bool, number: u32, old: u32) -> u32
-    requires { ⌜ Homing geometry (now table) ⌝ }
-    requires { ⌜ Movable back (geometry .parameters) (geometry .growth) ⌝ }
-    requires { ⌜ old ≡ homeIn (geometry .parameters) (geometry .growth) number ⌝ }
-    ensures { λ r. ⌜ r ≡ homeIn (geometry .parameters) (nextOf back (geometry .parameters) (geometry .growth)) number ⌝ }
-{
-    if back {
-        return home_update::item_shrunk(table, geometry, number, old);
-    }
-    home_update::item_grown(table, geometry, number, old)
-}
-
-// The homes of all items under that growth state, from those under this one.
-pub fn rehome(table: &[u32; 90], geometry: Geometry, back: bool, numbers: &[u32], homes: &mut [u32])
-    requires { ⌜ Homing geometry (now table) ⌝ }
-    requires { ⌜ Movable back (geometry .parameters) (geometry .growth) ⌝ }
-    requires { ⌜ now homes ≡ homesOf (geometry .parameters) (geometry .growth) (now numbers) ⌝ }
-    ensures { λ _. ⌜ now (homes .exit) ≡ homesOf (geometry .parameters) (nextOf back (geometry .parameters) (geometry .growth)) (now (numbers .entry)) ⌝ }
-{
-    let mut i = 0;
-    while i < numbers.len() {
-        let old = homes[i];
-        let next = next_home(table, geometry, back, numbers[i], old);
-        homes[i] = next;
-        i += 1;
-    }
-}
 
 // The stars of all pages, which are sound, placed anew under that growth state. The pool holds the homes of the items under this one.
-fn place_all(
+fn replace_all(
     table: &[u32; 90],
     geometry: Geometry,
     back: bool,
@@ -62,10 +32,13 @@ fn place_all(
     ensures { λ r. ⌜ after separators numbers words owners ≡ growthFile (geometry .parameters) (geometry .growth)
         (before separators numbers words owners) (nextOf back (geometry .parameters) (geometry .growth)) ⌝ }
 {
+    let mut planned = [0u8; 1024];
+    if !plan_all(table, geometry, back, numbers, pool, waiting, &mut planned) {
+        return Outcome::Overflows;
+    }
+    let places = geometry.parameters.places as usize;
     let pages = geometry.parameters.pages as usize;
-    rehome(table, geometry, back, numbers, pool);
-    if !replace_stretch(
-        geometry.parameters,
+    plan_transfer::apply(
         separators,
         numbers,
         words,
@@ -73,20 +46,23 @@ fn place_all(
         pool,
         waiting,
         poolowners,
+        &planned,
+        places,
         0,
         pages,
         0,
-    ) {
-        return Outcome::Overflows;
-    }
+        0,
+        0,
+    );
     Outcome::On(page)
 }
 
 // A growth in place, where the new page has room for the stars whose home it becomes: they are moved there, and then only blocks of several
-// pages are placed anew. If it has not, the answer is no, and nothing is changed.
+// pages are placed anew. If it has not, or for a shrinking, the answer is no, and nothing is changed.
 fn grow_in_place(
     table: &[u32; 90],
     geometry: Geometry,
+    back: bool,
     separators: &mut [u8],
     numbers: &mut [u32],
     words: &mut [u64],
@@ -97,12 +73,15 @@ fn grow_in_place(
 ) -> bool
     requires { ⌜ Ready geometry (now table) (held separators numbers words owners) ⌝ }
     requires { ⌜ Pooled (geometry .parameters) (now pool) (now waiting) (now poolowners) ⌝ }
-    requires { ⌜ Movable false (geometry .parameters) (geometry .growth) ⌝ }
+    requires { ⌜ Movable back (geometry .parameters) (geometry .growth) ⌝ }
     requires { ⌜ firstUnsound (geometry .parameters) (geometry .growth) (held separators numbers words owners) 0 (geometry .parameters .pages) ≡ geometry .parameters .pages ⌝ }
     requires { ⌜ now pool ≡ homesOf (geometry .parameters) (geometry .growth) (now numbers) ⌝ }
-    ensures { λ r. ⌜ GrowsInPlace (geometry .parameters) (geometry .growth) (before separators numbers words owners) (after separators numbers words owners)
-        (now (pool .entry)) (now (pool .exit)) r ⌝ }
+    ensures { λ r. ⌜ GrowsInPlace (geometry .parameters) (geometry .growth) (nextOf back (geometry .parameters) (geometry .growth)) (before separators numbers words owners)
+        (after separators numbers words owners) (now (pool .entry)) (now (pool .exit)) r ⌝ }
 {
+    if back {
+        return false;
+    }
     if !growth_in_place::move_stars(table, geometry, separators, numbers, words, owners, pool) {
         return false;
     }
@@ -119,56 +98,6 @@ fn grow_in_place(
         poolowners,
     );
     true
-}
-
-// A growth of a file whose pages are all sound; the pool holds the homes of its items.
-fn grow_sound(
-    table: &[u32; 90],
-    geometry: Geometry,
-    separators: &mut [u8],
-    numbers: &mut [u32],
-    words: &mut [u64],
-    owners: &mut [u8],
-    pool: &mut [u32],
-    waiting: &mut [u64],
-    poolowners: &mut [u8],
-    page: usize,
-) -> Outcome
-    requires { ⌜ Ready geometry (now table) (held separators numbers words owners) ⌝ }
-    requires { ⌜ Pooled (geometry .parameters) (now pool) (now waiting) (now poolowners) ⌝ }
-    requires { ⌜ Movable false (geometry .parameters) (geometry .growth) ⌝ }
-    requires { ⌜ firstUnsound (geometry .parameters) (geometry .growth) (held separators numbers words owners) 0 (geometry .parameters .pages) ≡ geometry .parameters .pages ⌝ }
-    requires { ⌜ now pool ≡ homesOf (geometry .parameters) (geometry .growth) (now numbers) ⌝ }
-    ensures { λ r. ⌜ r ≡ growthAnswer (geometry .parameters) (geometry .growth) (before separators numbers words owners) (nextOf false (geometry .parameters) (geometry .growth)) page ⌝ }
-    ensures { λ r. ⌜ after separators numbers words owners ≡ growthFile (geometry .parameters) (geometry .growth)
-        (before separators numbers words owners) (nextOf false (geometry .parameters) (geometry .growth)) ⌝ }
-{
-    if grow_in_place(
-        table,
-        geometry,
-        separators,
-        numbers,
-        words,
-        owners,
-        pool,
-        waiting,
-        poolowners,
-    ) {
-        return Outcome::On(page);
-    }
-    place_all(
-        table,
-        geometry,
-        false,
-        separators,
-        numbers,
-        words,
-        owners,
-        pool,
-        waiting,
-        poolowners,
-        page,
-    )
 }
 
 // The stars of all pages, placed anew under that growth state. The answer is the page given, which comes or goes.
@@ -208,24 +137,24 @@ pub fn regrow(
     if bad < pages {
         return Outcome::Unsound(bad);
     }
-    if back {
-        return place_all(
-            table,
-            geometry,
-            back,
-            separators,
-            numbers,
-            words,
-            owners,
-            pool,
-            waiting,
-            poolowners,
-            page,
-        );
-    }
-    grow_sound(
+    if grow_in_place(
         table,
         geometry,
+        back,
+        separators,
+        numbers,
+        words,
+        owners,
+        pool,
+        waiting,
+        poolowners,
+    ) {
+        return Outcome::On(page);
+    }
+    replace_all(
+        table,
+        geometry,
+        back,
         separators,
         numbers,
         words,

@@ -1,48 +1,24 @@
 // A growth done in steps: whether it is accepted, and one page of it written to a second set of pages. The file is only read.
 ghost use mathlib.Core.Path.{_≡_};
-ghost use mathlib.Core.Bool.{true, false};
+ghost use mathlib.Core.Bool.{false};
 ghost use mathlib.Core.List.{map};
-ghost use Prim.Native.Nat.{ℕ, _+_, _*_, _^_, _≤_, _<_};
+ghost use Prim.Native.Nat.{_+_, _*_, _≤_, _<_};
 ghost use lib.ListN.{length, take, drop};
-ghost use Rattle.pages.specs.Page.{part, stretch};
+ghost use Rattle.pages.specs.Page.{part};
 ghost use Rattle.buffers.specs.Lists.{written};
 ghost use Rattle.plan_transfer.specs.Sources.{namedItem};
 ghost use Rattle.hashing.specs.Geometry.{grown};
 ghost use Rattle.placement.specs.File.{Sized};
-ghost use Rattle.placement.specs.Hash.{homesOf};
 ghost use Rattle.placement.specs.Lent.{held, before, after};
-ghost use Rattle.placement.specs.Ready.{Homing, Ready, Pooled};
-ghost use Rattle.page_separator.specs.Lists.{allBelow};
+ghost use Rattle.placement.specs.Ready.{Ready, Pooled};
 ghost use Rattle.growth_plan.specs.Growth.{Movable, growthAnswer};
-ghost use Rattle.growth_plan.specs.Step.{pageStepped, PlansAll, PlansStep};
+ghost use Rattle.growth_plan.specs.Step.{pageStepped, PlansStep};
+use crate::planning::plan_all;
 use hashing::Geometry;
 use page_plan::Outcome;
 
-// The stars of all pages, which are sound, planned under the next growth state; the pool holds the homes of the items under this one. The answer is
-// how many are carried past the last page.
-fn plan_all(
-    table: &[u32; 90],
-    geometry: Geometry,
-    numbers: &[u32],
-    pool: &mut [u32],
-    waiting: &mut [u64],
-    planned: &mut [u8],
-) -> usize
-    requires { ⌜ Homing geometry (now table) ⌝ }
-    requires { ⌜ Movable false (geometry .parameters) (geometry .growth) ⌝ }
-    requires { ⌜ (length (now numbers) ≡ geometry .parameters .pages * geometry .parameters .places) × (length (now waiting) ≡ geometry .parameters .pages * geometry .parameters .places) ⌝ }
-    requires { ⌜ geometry .parameters .pages ≤ length (now planned) ⌝ }
-    requires { ⌜ allBelow (2 ^ 31) (stretch (geometry .parameters .places) 0 (geometry .parameters .pages) (now numbers)) ≡ true ⌝ }
-    requires { ⌜ now pool ≡ homesOf (geometry .parameters) (geometry .growth) (now numbers) ⌝ }
-    ensures { λ r. ⌜ PlansAll (geometry .parameters) (geometry .growth) (now (numbers .entry)) (now (pool .exit)) (now (planned .entry)) (now (planned .exit)) r ⌝ }
-{
-    let parameters = geometry.parameters;
-    let pages = parameters.pages as usize;
-    crate::growth::rehome(table, geometry, false, numbers, pool);
-    page_plan::plan(parameters, numbers, pool, waiting, planned, 0, pages, 0, 0)
-}
-
-// The answer of the growth, with the page given, which comes. Where the new page has room for the stars whose home it becomes, nothing is planned.
+// The answer of the growth, with the page given, which comes. Where the new page has room for the stars whose home it becomes,
+// nothing is planned.
 pub fn accept_growth(
     table: &[u32; 90],
     geometry: Geometry,
@@ -80,13 +56,14 @@ pub fn accept_growth(
         return Outcome::On(page);
     }
     let mut planned = [0u8; 1024];
-    if plan_all(table, geometry, numbers, pool, waiting, &mut planned) != 0 {
+    if !plan_all(table, geometry, false, numbers, pool, waiting, &mut planned) {
         return Outcome::Overflows;
     }
     Outcome::On(page)
 }
 
-// The same, with the sources of page `step` in the pool and its separator in `planned`. Where the new page has room, another one's block is all that is planned.
+// The same, with the sources of page `step` in the pool and its separator in `planned`. Where the new page has room, another one's block is
+// all that is planned.
 fn plan_step(
     table: &[u32; 90],
     geometry: Geometry,
@@ -137,7 +114,7 @@ fn plan_step(
         );
         return Outcome::On(page);
     }
-    if plan_all(table, geometry, numbers, pool, waiting, planned) != 0 {
+    if !plan_all(table, geometry, false, numbers, pool, waiting, planned) {
         return Outcome::Overflows;
     }
     Outcome::On(page)
@@ -189,7 +166,8 @@ fn write_planned(
     buffers::copy_8(secondowners, at, poolowners, at, places);
 }
 
-// The growth planned anew as far as page `step` needs, and that page written to the second set of pages, whose other pages stay. The pool is scratch.
+// The growth planned anew as far as page `step` needs, and that page written to the second set of pages, whose other pages stay. The pool
+// is scratch.
 pub fn step_page(
     table: &[u32; 90],
     geometry: Geometry,

@@ -1,23 +1,20 @@
-use mathlib.Core.Path.{_≡_, refl, sym, _∙_}
+use mathlib.Core.Path.{_≡_}
 use mathlib.Core.Bool.{true, false}
-use Prim.Native.Nat.{ℕ, _+_, _*_, _^_, _≤_}
 use native.Mathlib.Nat.{le-refl}
 use native.Mathlib.Omega.{arith}
 use denote.Ref.{now}
 use Rattle.hashing.specs.Limits.{validGrowth}
 use Rattle.hashing.specs.Geometry.{grown}
 use Rattle.hashing.proofs.Bounds.{limits}
-use Rattle.pages.specs.Page.{stretch}
 use Rattle.placement.specs.File.{File}
 use Rattle.placement.specs.Hash.{homesOf, lent}
-use Rattle.page_separator.specs.Lists.{allBelow}
 use Rattle.reach.specs.Reach.{firstUnsound}
 use Rattle.reach.proofs.Surveyed.{known-none}
-use Rattle.removal_reach.proofs.Items.{all-sound, numbers-below}
 use Rattle.growth_in_place.proofs.Whole.{none-counted}
 use Rattle.growth_plan.proofs.PlannedGrowth.{plan-overflows, plan-fits, spacious-answer}
-use Rattle.growth_plan.proofs.Growing.{next-valid, growth-refused, surveyed-all, surveyed-sound}
+use Rattle.growth_plan.proofs.Growing.{next-valid, growth-refused, surveyed-all, surveyed-sound, sound-numbers, homes-stay}
 use borrow.Author.Needs.{needs}
+use borrow.Author.Tests.{not-true, not-false}
 use Rattle.growth_plan.proofs.steps.accept_growth.Statement.{statement}
 use Rattle.growth_plan.proofs.steps.accept_growth.Tie as tie
 
@@ -46,15 +43,6 @@ sound : (c : tie.Else1)
 sound c =
     let s = start (c .before .before .before) in
     surveyed-sound _ _ (file s) (s .pre .0 .homing .valid) (s .pre .0 .sized) _ (c .before .before .before .survey-pages .ensures .0) (c .if1 .left)
-
-numbered : (c : tie.Else1)
-    → let s = start (c .before .before .before) in
-    let p = s .args .geometry .parameters in
-    (lo n : ℕ) → lo + n ≤ p .pages → allBelow (2 ^ 31) (stretch (p .places) lo n (now (s .args .numbers))) ≡ true
-numbered c lo n h =
-    let s = start (c .before .before .before) in
-    numbers-below _ (file s) (s .pre .0 .homing .valid) (s .pre .0 .sized) lo n h (s .args .geometry .growth)
-    (λ q a b. all-sound (s .args .geometry .parameters) (s .args .geometry .growth) (file s) 0 (s .args .geometry .parameters .pages) (omega (arith, sound c)) q (omega arith) (omega arith))
 
 cast-pages : tie.Need-cast-pages
 cast-pages c = search needs
@@ -96,7 +84,7 @@ plan-all-requires : tie.Need-plan-all-requires
 plan-all-requires c κs =
     let x = c .before .before .before .before .before .before in
     let s = start (x .before .before .before) in
-    (s .pre .0 .homing, (s .pre .1 .1 .1, ((s .pre .0 .sized .ofNumbers, s .pre .1 .1 .0), (omega (arith, limits _ (s .pre .0 .homing .valid) .pages-most), (numbered x 0 _ (omega arith), homed x)))))
+    (s .pre .0 .homing, (s .pre .1 .1 .1, ((s .pre .0 .sized .ofNumbers, s .pre .1 .1 .0), (omega (arith, limits _ (s .pre .0 .homing .valid) .pages-most), (sound-numbers _ _ (file s) (s .pre .0 .homing .valid) (s .pre .0 .sized) (sound x) 0 _ (omega arith), (homed x, homes-stay _ _ (file s) (s .pre .0 .homing .valid) (s .pre .0 .sized) (sound x) false (s .pre .0 .homing .growth) (s .pre .1 .1 .1)))))))
 
 same-length-3 : tie.Need-same-length-3
 same-length-3 c = search needs
@@ -109,7 +97,7 @@ returns-3 c =
     let x = c .before .before .before .before .before .before .before .before .before .before .before .before .before in
     let s = start (x .before .before .before) in
     let P = c .before .before .before .before .before .before .plan-all .ensures in
-    plan-overflows _ _ _ (file s) (s .pre .0 .homing .valid) (s .pre .0 .sized) (later s) _ (x .before .before .before .survey-pages .ensures .0) (x .if1 .left) _ (P .homes-are) _ _ _ _ _ _ (P .plan) (c .if3 .taken)
+    plan-overflows _ _ _ (file s) (s .pre .0 .homing .valid) (s .pre .0 .sized) (later s) (sound x) _ _ _ _ _ _ P (not-true _ (c .if3 .taken)) .0
 
 same-length-5 : tie.Need-same-length-5
 same-length-5 c = search needs
@@ -122,7 +110,7 @@ returns-4 c =
     let x = c .before .before .before .before .before .before .before .before .before .before .before .before .before in
     let s = start (x .before .before .before) in
     let P = c .before .before .before .before .before .before .plan-all .ensures in
-    plan-fits _ _ _ (file s) (s .pre .0 .homing .valid) (s .pre .0 .sized) (later s) _ (x .before .before .before .survey-pages .ensures .0) (x .if1 .left) _ (P .homes-are) _ _ _ _ _ _ (P .plan) (c .if3 .left) (omega (arith, limits _ (s .pre .0 .homing .valid) .pages-most)) .0
+    plan-fits _ _ _ (file s) (s .pre .0 .homing .valid) (s .pre .0 .sized) (later s) (sound x) _ _ _ _ _ _ P (not-false _ (c .if3 .left)) (omega (arith, limits _ (s .pre .0 .homing .valid) .pages-most)) .0
 
 pub accept-growth-spec : {M : Type 1} → statement M
 accept-growth-spec =

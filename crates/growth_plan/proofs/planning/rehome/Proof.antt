@@ -2,12 +2,12 @@ use mathlib.Core.Path.{_∙_, sym, ap}
 use Prim.Native.Nat.{_-_, _≤_}
 use native.Mathlib.Nat.{le-antisymm}
 use native.Mathlib.Omega.{arith}
+use borrow.Author.Needs.{needs}
 use lib.ListN.{length}
-use Rattle.buffers.proofs.Copies.{none}
 use Rattle.growth_plan.specs.Growth.{nextOf}
-use Rattle.growth_plan.proofs.Growing.{Rehomed, homes-long, home-there, rehomed-next, rehomed-all}
-use Rattle.growth_plan.proofs.growth.rehome.Statement.{statement}
-use Rattle.growth_plan.proofs.growth.rehome.Tie as tie
+use Rattle.growth_plan.proofs.Growing.{Rehomed, rehomed-front, homes-long, home-there, rehomed-next, rehomed-all}
+use Rattle.growth_plan.proofs.planning.rehome.Statement.{statement}
+use Rattle.growth_plan.proofs.planning.rehome.Tie as tie
 
 abbrev Inv-loop : tie.InvT-loop
 Inv-loop table geometry back numbers homes₀ i₀ homes i =
@@ -16,8 +16,13 @@ Inv-loop table geometry back numbers homes₀ i₀ homes i =
 abbrev μ-loop : tie.MeasureT-loop
 μ-loop table geometry back numbers homes₀ i₀ homes i = length numbers - i
 
+first-moved-requires : tie.Need-first-moved-requires Inv-loop μ-loop
+first-moved-requires c κs = search needs
+
 loop-holds : tie.Need-loop-holds Inv-loop μ-loop
-loop-holds c = (omega arith, rw (c .before .before .pre .1 .1) (none _ _ _))
+loop-holds c =
+    let pre = c .before .before .before .pre in
+    (omega (arith, c .first-moved .ensures, pre .1 .1 .1 .inside), rehomed-front _ _ _ _ _ _ (pre .1 .1 .0) (pre .1 .1 .1) (c .first-moved .ensures))
 
 mul-old : tie.Need-mul-old Inv-loop μ-loop
 mul-old c = omega arith
@@ -33,7 +38,7 @@ shared-slice-read-next-home c = omega arith
 
 next-home-requires : tie.Need-next-home-requires Inv-loop μ-loop
 next-home-requires c κs =
-    let pre = c .before .before .before .before .before .before .pre in
+    let pre = c .before .before .before .before .before .before .before .pre in
     (pre .0, (pre .1 .0, home-there _ _ _ _ _ _ (c .before .before .before .loop .inv .1) (c .before .before .loop-test .taken)))
 
 mul-homes : tie.Need-mul-homes Inv-loop μ-loop
@@ -53,7 +58,7 @@ loop-again c =
     (omega arith, rehomed-next _ _ _ _ _ _ (c .before .before .before .before .loop .inv .1) _ (c .before .before .before .loop-test .taken) (c .next-home .ensures))
 
 same-length : tie.Need-same-length Inv-loop μ-loop
-same-length c = c .before .loop .inv .1 .kept ∙ sym (ap length (c .before .before .before .before .pre .1 .1))
+same-length c = c .before .loop .inv .1 .kept ∙ sym (ap length (c .before .before .before .before .before .pre .1 .1 .0))
 
 returns : tie.Need-returns Inv-loop μ-loop
 returns c = rehomed-all _ _ _ _ _ _ (c .before .loop .inv .1) (le-antisymm (c .before .loop .inv .0) (c .loop-test .left))
@@ -64,6 +69,7 @@ rehome-spec =
     (tie.spec
     Inv-loop
     μ-loop
+    first-moved-requires
     loop-holds
     mul-old
     slice-read-old

@@ -1,5 +1,5 @@
-use Rattle.growth_plan.proofs.growth.next_home.Statement.{statement}
-use Rattle.growth_plan.proofs.growth.next_home.Tie as tie
+use Rattle.growth_plan.proofs.planning.next_home.Statement.{statement}
+use Rattle.growth_plan.proofs.planning.next_home.Tie as tie
 
 item-shrunk-requires : tie.Need-item-shrunk-requires
 item-shrunk-requires c κs =
