@@ -6,9 +6,10 @@ use Prim.Native.Nat.{ℕ, _+_, _*_, _^_, _≤_, _<_}
 use native.Mathlib.Nat.{zero-mul, zero-add, mul-le-mul}
 use native.Mathlib.Omega.{arith}
 use lib.Dec.{eqb, ltb, leb}
-use lib.ListN.{length, take, drop, length-map}
+use lib.ListN.{length, getD, set, take, drop, length-map, List·getD-map}
 use lib.Seq.{paste, take-all, length-take-le}
 use borrow.Author.Tests.{lt-ltb, le-ltb, ne-eqb, leb-true, leb-false}
+use Rattle.buffers.proofs.Copies.{Copied, turn, done}
 use Rattle.buffers.proofs.Written.{paste-written, written-whole, pasted-whole}
 use Rattle.hashing.specs.declared.Parameters.{Parameters}
 use Rattle.hashing.specs.declared.Geometry.{Geometry}
@@ -50,25 +51,27 @@ use Rattle.carrying.specs.Carried.{carriedWords, carryAnswer, carryFile,
 use Rattle.carrying.proofs.Placing.{words-home, words-below}
 use Rattle.carrying.proofs.Words.{named-own}
 
+-- the items of d before i are what the sources name
+abbrev pub Named : List ℕ → List ℕ → List ℕ → List ℕ → ℕ → Type 0
+Named l pool d e i = Copied d 0 (map (namedItem l 0) pool) e i
+
+module _ (l pool d e : List ℕ) (i : ℕ) (size : length d ≡ length pool) (I : Named l pool d e i) where
+  pub named-next : (x : ℕ) → i < length pool → x ≡ namedItem l 0 (getD pool i 0) → Named l pool d (set e i x) (i + 1)
+  unfolding namedItem
+  named-next x h ex =
+      rw (zero-add i) at
+      (turn d 0 (map (namedItem l 0) pool) e i x (omega arith) (omega (arith, length-map pool (namedItem l 0))) (ex ∙ sym (List·getD-map (namedItem l 0) pool i 0)) I)
+
+  pub named-all : i ≤ length pool → length pool ≤ i → e ≡ map (namedItem l 0) pool
+  named-all a b = done (length pool) a b I ∙ pasted-whole d (map (namedItem l 0) pool) (length pool) size (length-map pool (namedItem l 0))
+
 -- what writing the second set leaves
-pub second-written : (ns ws os ss sn sw so pool planned ss′ sn₁ sn′ sw′ so′ : List ℕ)
-    → length sn ≡ length pool → length sw ≡ length pool → length so ≡ length pool → length ss ≤ length planned
-    → sn₁ ≡ paste sn 0 (drop 0 pool) (length pool)
-    → sn′ ≡ paste sn₁ 0 (map (namedItem ns 0) (drop 0 sn₁)) (length pool)
-    → sw′ ≡ paste sw 0 (map (namedItem ws 0) (drop 0 sn₁)) (length pool)
-    → so′ ≡ paste so 0 (map (namedItem os 0) (drop 0 sn₁)) (length pool)
-    → ss′ ≡ paste ss 0 (drop 0 planned) (length ss)
-    → lent ss′ sn′ sw′ so′ ≡ lent (take (length ss) planned) (map (namedItem ns 0) pool) (map (namedItem ws 0) pool) (map (namedItem os 0) pool)
-second-written ns ws os ss sn sw so pool planned ss′ sn₁ sn′ sw′ so′ ln lw lo ls e₁ en ew eo es =
-    let sources : sn₁ ≡ pool = e₁ ∙ pasted-whole sn pool (length pool) ln refl in
-    let fetched : (d l : List ℕ) → length d ≡ length pool → paste d 0 (map (namedItem l 0) (drop 0 sn₁)) (length pool) ≡ map (namedItem l 0) pool
-    = λ d l h. rw sources (pasted-whole d (map (namedItem l 0) pool) (length pool) h (length-map pool (namedItem l 0))) in
-    let n : sn′ ≡ map (namedItem ns 0) pool = en ∙ fetched sn₁ ns (ap length sources) in
-    let w : sw′ ≡ map (namedItem ws 0) pool = ew ∙ fetched sw ws lw in
-    let o : so′ ≡ map (namedItem os 0) pool = eo ∙ fetched so os lo in
+pub second-written : (ss planned ss′ sn sw so sn′ sw′ so′ : List ℕ) → length ss ≤ length planned → ss′ ≡ paste ss 0 (drop 0 planned) (length ss)
+    → sn′ ≡ sn → sw′ ≡ sw → so′ ≡ so → lent ss′ sn′ sw′ so′ ≡ lent (take (length ss) planned) sn sw so
+second-written ss planned ss′ sn sw so sn′ sw′ so′ h es en ew eo =
     let s : ss′ ≡ take (length ss) planned
-    = es ∙ paste-written ss 0 planned (length ss) ls ∙ written-whole (take (length ss) planned) ss (length-take-le (length ss) planned ls) in
-    rw (n, w, o, s)
+    = es ∙ paste-written ss 0 planned (length ss) h ∙ written-whole (take (length ss) planned) ss (length-take-le (length ss) planned h) in
+    rw (s, en, ew, eo)
 
 -- the planned separators are as many as pages
 pub planned-long : (q : Parameters) (l planned : List ℕ) → take (q .pages) planned ≡ separators (plans q 0 0 (q .pages) [] l) → q .pages ≤ length planned

@@ -13,8 +13,38 @@ ghost use Rattle.carrying.specs.Carried.{carryAnswer, carryFile};
 use crate::stars::plan_all;
 use hashing::Geometry;
 use page_plan::Outcome;
+use plan_transfer::number_named;
+use plan_transfer::owner_named;
+use plan_transfer::word_named;
 
-// What the sources in the pool name of the old file, with the planned separators.
+// What the sources in the pool name of the old file. One loop for the three lists: a source is read once, and tested once.
+fn fill_second(
+    oldnumbers: &[u32],
+    oldwords: &[u64],
+    oldowners: &[u8],
+    secondnumbers: &mut [u32],
+    secondwords: &mut [u64],
+    secondowners: &mut [u8],
+    pool: &[u32],
+)
+    requires { ⌜ length (now secondnumbers) ≡ length (now pool) ⌝ }
+    requires { ⌜ length (now secondwords) ≡ length (now pool) ⌝ }
+    requires { ⌜ length (now secondowners) ≡ length (now pool) ⌝ }
+    ensures { λ _. ⌜ now (secondnumbers .exit) ≡ map (namedItem (now (oldnumbers .entry)) 0) (now (pool .entry)) ⌝ }
+    ensures { λ _. ⌜ now (secondwords .exit) ≡ map (namedItem (now (oldwords .entry)) 0) (now (pool .entry)) ⌝ }
+    ensures { λ _. ⌜ now (secondowners .exit) ≡ map (namedItem (now (oldowners .entry)) 0) (now (pool .entry)) ⌝ }
+{
+    let mut i = 0;
+    while i < pool.len() {
+        let source = pool[i];
+        secondnumbers[i] = number_named(oldnumbers, source, 0);
+        secondwords[i] = word_named(oldwords, source, 0);
+        secondowners[i] = owner_named(oldowners, source, 0);
+        i += 1;
+    }
+}
+
+// The same, with the planned separators.
 fn write_second(
     oldnumbers: &[u32],
     oldwords: &[u64],
@@ -34,20 +64,14 @@ fn write_second(
         (map (namedItem (now (oldnumbers .entry)) 0) (now (pool .entry))) (map (namedItem (now (oldwords .entry)) 0) (now (pool .entry)))
         (map (namedItem (now (oldowners .entry)) 0) (now (pool .entry))) ⌝ }
 {
-    let items = pool.len();
-    buffers::copy_32(secondnumbers, 0, pool, 0, items);
-    plan_transfer::fetch(
+    fill_second(
         oldnumbers,
         oldwords,
         oldowners,
         secondnumbers,
         secondwords,
         secondowners,
-        0,
-        items,
-        0,
-        0,
-        0,
+        pool,
     );
     let pages = secondseparators.len();
     buffers::copy_8(secondseparators, 0, planned, 0, pages);
