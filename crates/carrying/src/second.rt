@@ -9,6 +9,7 @@ ghost use Rattle.hashing.specs.Geometry.{multiplierOf};
 ghost use Rattle.placement.specs.Hash.{lent};
 ghost use Rattle.placement.specs.Lent.{held, before, after};
 ghost use Rattle.placement.specs.Ready.{Ready};
+ghost use Rattle.reach.specs.Reach.{firstUnsound};
 ghost use Rattle.carrying.specs.Carried.{carryAnswer, carryFile};
 use crate::stars::plan_all;
 use hashing::Geometry;
@@ -77,6 +78,38 @@ fn write_second(
     buffers::copy_8(secondseparators, 0, planned, 0, pages);
 }
 
+// The lowest unsound page of the old file, or the number of its pages. Where the pool has a place for each item, the stars' homes stand in it:
+// all pages are one stretch, and no block of stars ends early.
+fn lowest_unsound(
+    old: Geometry,
+    separators: &[u8],
+    numbers: &[u32],
+    words: &[u64],
+    owners: &[u8],
+    pool: &mut [u32],
+) -> usize
+    requires { ⌜ Ready old (firstMultipliers (multiplierOf (old .parameters))) (held separators numbers words owners) ⌝ }
+    ensures { λ r. ⌜ r ≡ firstUnsound (old .parameters) (old .growth) (before separators numbers words owners) 0 (old .parameters .pages) ⌝ }
+{
+    let table = generator::first_multipliers(old.parameters.multiplier);
+    if pool.len() < numbers.len() {
+        return survey::lowest_unsound(&table, old, separators, numbers, words, owners);
+    }
+    let pages = old.parameters.pages as usize;
+    soundness::survey(
+        &table,
+        old,
+        separators,
+        numbers,
+        words,
+        owners,
+        pool,
+        0,
+        0,
+        pages,
+    )
+}
+
 // Every old page is tested before a star is placed. The pool is scratch.
 pub fn carry_pages(
     old: Geometry,
@@ -100,8 +133,7 @@ pub fn carry_pages(
     ensures { λ _. ⌜ after secondseparators secondnumbers secondwords secondowners
         ≡ carryFile old (before separators numbers words owners) new (before secondseparators secondnumbers secondwords secondowners) ⌝ }
 {
-    let table = generator::first_multipliers(old.parameters.multiplier);
-    let bad = survey::lowest_unsound(&table, old, separators, numbers, words, owners);
+    let bad = lowest_unsound(old, separators, numbers, words, owners, pool);
     if bad < old.parameters.pages as usize {
         return Outcome::Unsound(bad);
     }
