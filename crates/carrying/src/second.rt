@@ -1,7 +1,8 @@
 // The old file's pages tested, its stars planned, and the new file written to the second set.
 ghost use mathlib.Core.Path.{_≡_};
+ghost use mathlib.Core.Bool.{true};
 ghost use mathlib.Core.List.{map};
-ghost use Prim.Native.Nat.{_*_, _≤_};
+ghost use Prim.Native.Nat.{_*_, _^_, _≤_, _<_};
 ghost use lib.ListN.{length, take};
 ghost use Rattle.plan_transfer.specs.Sources.{namedItem};
 ghost use Rattle.generator.specs.Generator.{firstMultipliers};
@@ -9,8 +10,9 @@ ghost use Rattle.hashing.specs.Geometry.{multiplierOf};
 ghost use Rattle.placement.specs.Hash.{lent};
 ghost use Rattle.placement.specs.Lent.{held, before, after};
 ghost use Rattle.placement.specs.Ready.{Ready};
-ghost use Rattle.reach.specs.Reach.{firstUnsound};
-ghost use Rattle.carrying.specs.Carried.{carryAnswer, carryFile};
+ghost use Rattle.page_separator.specs.Lists.{allBelow};
+ghost use Rattle.page_plan.specs.declared.outcome.Outcome.the-variants.{Unsound};
+ghost use Rattle.carrying.specs.Carried.{PlacesSecond, carryAnswer, carryFile};
 use crate::stars::plan_all;
 use hashing::Geometry;
 use page_plan::Outcome;
@@ -78,39 +80,54 @@ fn write_second(
     buffers::copy_8(secondseparators, 0, planned, 0, pages);
 }
 
-// The lowest unsound page of the old file, or the number of its pages. Where the pool has a place for each item, the stars' homes stand in it:
-// all pages are one stretch, and no block of stars ends early.
-fn lowest_unsound(
+// The stars placed in the new file, if the old one has no bad page and each star finds a place. Its loops are faster in a function of their
+// own: the compiler inlines what is called once, and with the survey beside them they lack registers.
+fn place_second(
     old: Geometry,
-    separators: &[u8],
+    new: Geometry,
     numbers: &[u32],
     words: &[u64],
     owners: &[u8],
+    secondseparators: &mut [u8],
+    secondnumbers: &mut [u32],
+    secondwords: &mut [u64],
+    secondowners: &mut [u8],
     pool: &mut [u32],
-) -> usize
-    requires { ⌜ Ready old (firstMultipliers (multiplierOf (old .parameters))) (held separators numbers words owners) ⌝ }
-    ensures { λ r. ⌜ r ≡ firstUnsound (old .parameters) (old .growth) (before separators numbers words owners) 0 (old .parameters .pages) ⌝ }
+    waiting: &mut [u64],
+    bad: usize,
+) -> Outcome
+    requires { ⌜ Ready new (firstMultipliers (multiplierOf (new .parameters))) (held secondseparators secondnumbers secondwords secondowners) ⌝ }
+    requires { ⌜ (old .parameters .pages ≤ bad → (length (now numbers) ≤ 32768) × (allBelow (2 ^ 31) (now numbers) ≡ true)) ⌝ }
+    requires { ⌜ length (now pool) ≡ new .parameters .pages * new .parameters .places ⌝ }
+    requires { ⌜ length (now waiting) ≡ new .parameters .pages * new .parameters .places ⌝ }
+    ensures { λ r. ⌜ (bad < old .parameters .pages → (r ≡ Unsound bad)
+        × (after secondseparators secondnumbers secondwords secondowners ≡ before secondseparators secondnumbers secondwords secondowners)) ⌝ }
+    ensures { λ r. ⌜ (old .parameters .pages ≤ bad → PlacesSecond new (now (numbers .entry)) (now (words .entry)) (now (owners .entry))
+        (before secondseparators secondnumbers secondwords secondowners) (after secondseparators secondnumbers secondwords secondowners) r) ⌝ }
 {
-    let table = generator::first_multipliers(old.parameters.multiplier);
-    if pool.len() < numbers.len() {
-        return survey::lowest_unsound(&table, old, separators, numbers, words, owners);
+    if bad < old.parameters.pages as usize {
+        return Outcome::Unsound(bad);
     }
-    let pages = old.parameters.pages as usize;
-    soundness::survey(
-        &table,
-        old,
-        separators,
+    let mut planned = [0u8; 1024];
+    if !plan_all(new, numbers, pool, waiting, &mut planned) {
+        return Outcome::Overflows;
+    }
+    write_second(
         numbers,
         words,
         owners,
+        secondseparators,
+        secondnumbers,
+        secondwords,
+        secondowners,
         pool,
-        0,
-        0,
-        pages,
-    )
+        &planned,
+    );
+    Outcome::On(0)
 }
 
-// Every old page is tested before a star is placed. The pool is scratch.
+// Every old page is tested before a star is placed: all as one stretch where the pool has a place for each item's home, so that no block of
+// stars ends early. The pool is scratch.
 pub fn carry_pages(
     old: Geometry,
     new: Geometry,
@@ -133,15 +150,40 @@ pub fn carry_pages(
     ensures { λ _. ⌜ after secondseparators secondnumbers secondwords secondowners
         ≡ carryFile old (before separators numbers words owners) new (before secondseparators secondnumbers secondwords secondowners) ⌝ }
 {
-    let bad = lowest_unsound(old, separators, numbers, words, owners, pool);
-    if bad < old.parameters.pages as usize {
-        return Outcome::Unsound(bad);
+    let pages = old.parameters.pages as usize;
+    let table = generator::first_multipliers(old.parameters.multiplier);
+    if pool.len() < numbers.len() {
+        let bad = survey::lowest_unsound(&table, old, separators, numbers, words, owners);
+        return place_second(
+            old,
+            new,
+            numbers,
+            words,
+            owners,
+            secondseparators,
+            secondnumbers,
+            secondwords,
+            secondowners,
+            pool,
+            waiting,
+            bad,
+        );
     }
-    let mut planned = [0u8; 1024];
-    if !plan_all(new, numbers, pool, waiting, &mut planned) {
-        return Outcome::Overflows;
-    }
-    write_second(
+    let bad = soundness::survey(
+        &table,
+        old,
+        separators,
+        numbers,
+        words,
+        owners,
+        pool,
+        0,
+        0,
+        pages,
+    );
+    place_second(
+        old,
+        new,
         numbers,
         words,
         owners,
@@ -150,7 +192,7 @@ pub fn carry_pages(
         secondwords,
         secondowners,
         pool,
-        &planned,
-    );
-    Outcome::On(0)
+        waiting,
+        bad,
+    )
 }
