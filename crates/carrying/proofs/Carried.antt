@@ -6,9 +6,10 @@ use Prim.Native.Nat.{ℕ, _+_, _*_, _^_, _≤_, _<_}
 use native.Mathlib.Nat.{zero-mul, zero-add, mul-le-mul}
 use native.Mathlib.Omega.{arith}
 use lib.Dec.{eqb, ltb, leb}
-use lib.ListN.{length, take, drop, length-map}
+use lib.ListN.{length, getD, set, take, drop, length-map, List·getD-map}
 use lib.Seq.{paste, take-all, length-take-le}
-use borrow.Author.Tests.{lt-ltb, le-ltb, ne-eqb, leb-true, leb-false}
+use borrow.Author.Tests.{lt-ltb, le-ltb, ltb-true, ltb-false, ne-eqb, leb-true, leb-false}
+use Rattle.buffers.proofs.Copies.{Copied, turn, done}
 use Rattle.buffers.proofs.Written.{paste-written, written-whole, pasted-whole}
 use Rattle.hashing.specs.declared.Parameters.{Parameters}
 use Rattle.hashing.specs.declared.Geometry.{Geometry}
@@ -46,29 +47,31 @@ use Rattle.calls.proofs.CarryRefusals.{carry-refusals}
 use Rattle.calls.proofs.Refusals.{sized, pool-sized}
 use Rattle.outcome_answer.specs.Outcomes.{OutcomeSmall, outcomePlaced}
 use Rattle.outcome_answer.proofs.Outcomes.{unsound-most}
-use Rattle.carrying.specs.Carried.{carriedWords, carryAnswer, carryFile, carryAdmitted, StoresCarry}
+use Rattle.carrying.specs.Carried.{carriedWords, fetchedFile, AllPlanned, PlacesSecond, carryAnswer, carryFile, carryAdmitted, StoresCarry}
 use Rattle.carrying.proofs.Placing.{words-home, words-below}
 use Rattle.carrying.proofs.Words.{named-own}
 
+-- the items of d before i are what the sources name
+abbrev pub Named : List ℕ → List ℕ → List ℕ → List ℕ → ℕ → Type 0
+Named l pool d e i = Copied d 0 (map (namedItem l 0) pool) e i
+
+module _ (l pool d e : List ℕ) (i : ℕ) (size : length d ≡ length pool) (I : Named l pool d e i) where
+  pub named-next : (x : ℕ) → i < length pool → x ≡ namedItem l 0 (getD pool i 0) → Named l pool d (set e i x) (i + 1)
+  unfolding namedItem
+  named-next x h ex =
+      rw (zero-add i) at
+      (turn d 0 (map (namedItem l 0) pool) e i x (omega arith) (omega (arith, length-map pool (namedItem l 0))) (ex ∙ sym (List·getD-map (namedItem l 0) pool i 0)) I)
+
+  pub named-all : i ≤ length pool → length pool ≤ i → e ≡ map (namedItem l 0) pool
+  named-all a b = done (length pool) a b I ∙ pasted-whole d (map (namedItem l 0) pool) (length pool) size (length-map pool (namedItem l 0))
+
 -- what writing the second set leaves
-pub second-written : (ns ws os ss sn sw so pool planned ss′ sn₁ sn′ sw′ so′ : List ℕ)
-    → length sn ≡ length pool → length sw ≡ length pool → length so ≡ length pool → length ss ≤ length planned
-    → sn₁ ≡ paste sn 0 (drop 0 pool) (length pool)
-    → sn′ ≡ paste sn₁ 0 (map (namedItem ns 0) (drop 0 sn₁)) (length pool)
-    → sw′ ≡ paste sw 0 (map (namedItem ws 0) (drop 0 sn₁)) (length pool)
-    → so′ ≡ paste so 0 (map (namedItem os 0) (drop 0 sn₁)) (length pool)
-    → ss′ ≡ paste ss 0 (drop 0 planned) (length ss)
-    → lent ss′ sn′ sw′ so′ ≡ lent (take (length ss) planned) (map (namedItem ns 0) pool) (map (namedItem ws 0) pool) (map (namedItem os 0) pool)
-second-written ns ws os ss sn sw so pool planned ss′ sn₁ sn′ sw′ so′ ln lw lo ls e₁ en ew eo es =
-    let sources : sn₁ ≡ pool = e₁ ∙ pasted-whole sn pool (length pool) ln refl in
-    let fetched : (d l : List ℕ) → length d ≡ length pool → paste d 0 (map (namedItem l 0) (drop 0 sn₁)) (length pool) ≡ map (namedItem l 0) pool
-    = λ d l h. rw sources (pasted-whole d (map (namedItem l 0) pool) (length pool) h (length-map pool (namedItem l 0))) in
-    let n : sn′ ≡ map (namedItem ns 0) pool = en ∙ fetched sn₁ ns (ap length sources) in
-    let w : sw′ ≡ map (namedItem ws 0) pool = ew ∙ fetched sw ws lw in
-    let o : so′ ≡ map (namedItem os 0) pool = eo ∙ fetched so os lo in
+pub second-written : (ss planned ss′ sn sw so sn′ sw′ so′ : List ℕ) → length ss ≤ length planned → ss′ ≡ paste ss 0 (drop 0 planned) (length ss)
+    → sn′ ≡ sn → sw′ ≡ sw → so′ ≡ so → lent ss′ sn′ sw′ so′ ≡ lent (take (length ss) planned) sn sw so
+second-written ss planned ss′ sn sw so sn′ sw′ so′ h es en ew eo =
     let s : ss′ ≡ take (length ss) planned
-    = es ∙ paste-written ss 0 planned (length ss) ls ∙ written-whole (take (length ss) planned) ss (length-take-le (length ss) planned ls) in
-    rw (n, w, o, s)
+    = es ∙ paste-written ss 0 planned (length ss) h ∙ written-whole (take (length ss) planned) ss (length-take-le (length ss) planned h) in
+    rw (s, en, ew, eo)
 
 -- the planned separators are as many as pages
 pub planned-long : (q : Parameters) (l planned : List ℕ) → take (q .pages) planned ≡ separators (plans q 0 0 (q .pages) [] l) → q .pages ≤ length planned
@@ -83,13 +86,27 @@ planned-long q l planned e = go (leb (q .pages) (length planned)) refl
         let short : length planned < q .pages = leb-false (q .pages) (length planned) b in
         omega (arith, count, ap length (take-all (q .pages) planned (omega arith)))
 
+-- what placing the stars answers and leaves, by the plan
+module _ (new : Geometry) (ns ws os pool planned : List ℕ) (r : Bool) (A : AllPlanned (new .parameters) (carriedWords new ns) pool planned r) (second : File) where
+  pub placed-none : r ≡ false → PlacesSecond new ns ws os second second Overflows
+  placed-none e =
+      record { overflows = λ t. (refl, refl); places = λ t. absurd (false≢true (sym e ∙ A .fits ∙ t)) }
+
+  pub placed-stars : r ≡ true → (second′ : File) → second′ ≡ fetchedFile ns ws os (take (new .parameters .pages) planned) pool
+      → PlacesSecond new ns ws os second second′ (On 0)
+  placed-stars e second′ is =
+      record {
+        overflows = λ t. absurd (false≢true (sym t ∙ sym (A .fits) ∙ e));
+        places = λ t. (refl, rw (← A .sources e, ← A .separators-are e) is);
+      }
+
 -- no star is left exactly if none is counted
 empty-count : (t : List Star) (n : ℕ) → length t ≡ n → isEmpty t ≡ eqb n 0
 empty-count [] n e = rw (← e)
 empty-count (s ∷ t) n e = sym (ne-eqb n 0 (λ z. omega arith))
 
 module _ (old new : Geometry) (f second : File) (bad : ℕ) (survey : bad ≡ firstUnsound (old .parameters) (old .growth) f 0 (old .parameters .pages)) where
-  pub unsound-carried : bad < old .parameters .pages → (Unsound bad ≡ carryAnswer old f new) × (second ≡ carryFile old f new second)
+  unsound-carried : bad < old .parameters .pages → (Unsound bad ≡ carryAnswer old f new) × (second ≡ carryFile old f new second)
   unfolding carryAnswer carryFile
   unsound-carried h =
       let t : ltb (firstUnsound (old .parameters) (old .growth) f 0 (old .parameters .pages)) (old .parameters .pages) ≡ true
@@ -147,28 +164,53 @@ module _ (old new : Geometry) (f second : File) (bad : ℕ) (survey : bad ≡ fi
       fine : ltb (firstUnsound (old .parameters) (old .growth) f 0 (old .parameters .pages)) (old .parameters .pages) ≡ false
       fine = le-ltb (firstUnsound (old .parameters) (old .growth) f 0 (old .parameters .pages)) (old .parameters .pages) (omega (arith, all-fine))
 
-      pub overflow-carried : eqb (length (remains (new .parameters) 0 0 (new .parameters .pages) [] (carriedWords new (f .numbers)))) 0 ≡ false
+      overflow-carried : eqb (length (remains (new .parameters) 0 0 (new .parameters .pages) [] (carriedWords new (f .numbers)))) 0 ≡ false
           → (Overflows ≡ carryAnswer old f new) × (second ≡ carryFile old f new second)
       unfolding carryAnswer carryFile
       overflow-carried e = rw (fine, none-left ∙ e) (refl, refl)
 
-      pub placed-carried : (pool planned : List ℕ) (second′ : File) → eqb (length (remains (new .parameters) 0 0 (new .parameters .pages) [] (carriedWords new (f .numbers)))) 0 ≡ true
-          → pool ≡ column (new .parameters .places) (λ (s : Star). s .payload .word) (plans (new .parameters) 0 0 (new .parameters .pages) [] (carriedWords new (f .numbers)))
-          → take (new .parameters .pages) planned ≡ separators (plans (new .parameters) 0 0 (new .parameters .pages) [] (carriedWords new (f .numbers)))
-          → second′ ≡ lent (take (new .parameters .pages) planned) (map (namedItem (f .numbers) 0) pool) (map (namedItem (f .words) 0) pool) (map (namedItem (f .owners) 0) pool)
+      placed-carried : (second′ : File) → eqb (length (remains (new .parameters) 0 0 (new .parameters .pages) [] (carriedWords new (f .numbers)))) 0 ≡ true
+          → second′ ≡ fetchedFile (f .numbers) (f .words) (f .owners) (separators (plans (new .parameters) 0 0 (new .parameters .pages) [] (carriedWords new (f .numbers))))
+          (column (new .parameters .places) (λ (s : Star). s .payload .word) (plans (new .parameters) 0 0 (new .parameters .pages) [] (carriedWords new (f .numbers))))
           → (On 0 ≡ carryAnswer old f new) × (second′ ≡ carryFile old f new second)
       unfolding carryAnswer carryFile laid
-      placed-carried pool planned second′ e ep es e2 =
+      placed-carried second′ e e2 =
           rw (fine, none-left ∙ e) (
             refl,
             e2
-                ∙ fetched-is (new .parameters .places) pool (take (new .parameters .pages) planned) f
-                (plans (new .parameters) 0 0 (new .parameters .pages) [] (carriedWords new (f .numbers))) ep es
+                ∙ fetched-is (new .parameters .places) _ _ f
+                (plans (new .parameters) 0 0 (new .parameters .pages) [] (carriedWords new (f .numbers))) refl refl
                 (plans-sourced (f .numbers) 0 (new .parameters) 0 0 (new .parameters .pages) [] (carriedWords new (f .numbers)) (unfold sourced all in refl)
                 (words-sourced 0 0 (f .numbers) (homesOf (new .parameters) (new .growth) (f .numbers)) carried-numbers (omega (arith, carried-few)) (f .numbers) 0
                 (λ i a. named-own (f .numbers) (0 + i) ∙ rw (zero-add i))))
                 ∙ ap (fileOf (new .parameters .places)) (laid-out .0),
           )
+
+      sound-carried : (second′ : File) (r : Outcome) → PlacesSecond new (f .numbers) (f .words) (f .owners) second second′ r
+          → (r ≡ carryAnswer old f new) × (second′ ≡ carryFile old f new second)
+      sound-carried second′ r P = go (eqb (length (remains (new .parameters) 0 0 (new .parameters .pages) [] (carriedWords new (f .numbers)))) 0) refl
+        where
+          go : (t : Bool) → eqb (length (remains (new .parameters) 0 0 (new .parameters .pages) [] (carriedWords new (f .numbers)))) 0 ≡ t
+              → (r ≡ carryAnswer old f new) × (second′ ≡ carryFile old f new second)
+          go true e = let c = placed-carried second′ e (P .places e .1) in (P .places e .0 ∙ c .0, c .1)
+          go false e = let c = overflow-carried e in (P .overflows e .0 ∙ c .0, P .overflows e .1 ∙ c .1)
+
+module _ (old new : Geometry) (f second : File) (bad : ℕ) (survey : bad ≡ firstUnsound (old .parameters) (old .growth) f 0 (old .parameters .pages))
+    (valid : validParameters (old .parameters) ≡ true) (size : Sized (old .parameters .places) (old .parameters .pages) f)
+    (newvalid : validParameters (new .parameters) ≡ true) (newgrowth : validGrowth (new .parameters) (new .growth) ≡ true) where
+  pub tested-carried : (second′ : File) (r : Outcome) → (bad < old .parameters .pages → (r ≡ Unsound bad) × (second′ ≡ second))
+      → (old .parameters .pages ≤ bad → PlacesSecond new (f .numbers) (f .words) (f .owners) second second′ r)
+      → (r ≡ carryAnswer old f new) × (second′ ≡ carryFile old f new second)
+  tested-carried second′ r unsound places = go (ltb bad (old .parameters .pages)) refl
+    where
+      go : (t : Bool) → ltb bad (old .parameters .pages) ≡ t → (r ≡ carryAnswer old f new) × (second′ ≡ carryFile old f new second)
+      go true e =
+          let h : bad < old .parameters .pages = ltb-true bad (old .parameters .pages) e in
+          let c = unsound-carried old new f second bad survey h in
+          (unsound h .0 ∙ c .0, unsound h .1 ∙ c .1)
+      go false e =
+          let h : old .parameters .pages ≤ bad = ltb-false bad (old .parameters .pages) e in
+          sound-carried old new f second bad survey valid size h newvalid newgrowth second′ r (places h)
 
 -- the outcome as the answer of the call
 pub carry-small : (old new : Geometry) (f : File) → validParameters (old .parameters) ≡ true → OutcomeSmall (carryAnswer old f new)

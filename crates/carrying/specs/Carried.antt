@@ -1,7 +1,7 @@
 -- What a carrying plans and leaves below refusals 1, 2 and 16: document 02 (viii).
 use mathlib.Core.Path.{_≡_}
-use mathlib.Core.Bool.{Bool, true, cond}
-use mathlib.Core.List.{List, []}
+use mathlib.Core.Bool.{Bool, true, false, cond}
+use mathlib.Core.List.{List, [], map}
 use Prim.Native.Nat.{ℕ}
 use lib.Dec.{eqb, ltb}
 use lib.ListN.{length, take}
@@ -9,7 +9,8 @@ use Rattle.hashing.specs.declared.Parameters.{Parameters}
 use Rattle.hashing.specs.declared.Geometry.{Geometry}
 use Rattle.placement.specs.Rule.{Star, left, separators}
 use Rattle.placement.specs.File.{File, column, laid}
-use Rattle.placement.specs.Hash.{hashOf, homesOf}
+use Rattle.placement.specs.Hash.{hashOf, homesOf, lent}
+use Rattle.plan_transfer.specs.Sources.{namedItem}
 use Rattle.page_plan.specs.Gather.{wordsFrom}
 use Rattle.reach.specs.Reach.{isEmpty, allStars, firstUnsound}
 use Rattle.page_plan.specs.Plans.{plans, remains}
@@ -25,11 +26,22 @@ use Rattle.calls.specs.Records.{AfterStep, notStepped}
 abbrev pub carriedWords : Geometry → List ℕ → List ℕ
 carriedWords g ns = wordsFrom 0 0 ns (homesOf (g .parameters) (g .growth) ns)
 
+-- a file with these separators, its places filled with what the sources name of items
+abbrev pub fetchedFile : List ℕ → List ℕ → List ℕ → List ℕ → List ℕ → File
+fetchedFile ns ws os separators sources = lent separators (map (namedItem ns 0) sources) (map (namedItem ws 0) sources) (map (namedItem os 0) sources)
+
 -- whether each of the words l finds a place, and then the sources of all pages and their separators
 pub record AllPlanned (q : Parameters) (l pool planned : List ℕ) (r : Bool) : Type 0 where
   pub fits : r ≡ eqb (length (remains q 0 0 (q .pages) [] l)) 0
   pub sources : r ≡ true → pool ≡ column (q .places) (λ (s : Star). s .payload .word) (plans q 0 0 (q .pages) [] l)
   pub separators-are : r ≡ true → take (q .pages) planned ≡ separators (plans q 0 0 (q .pages) [] l)
+
+-- what placing the stars with these numbers, words and owners answers and leaves of the second set
+pub record PlacesSecond (new : Geometry) (ns ws os : List ℕ) (second second′ : File) (r : Outcome) : Type 0 where
+  pub overflows : eqb (length (remains (new .parameters) 0 0 (new .parameters .pages) [] (carriedWords new ns))) 0 ≡ false → (r ≡ Overflows) × (second′ ≡ second)
+  pub places : eqb (length (remains (new .parameters) 0 0 (new .parameters .pages) [] (carriedWords new ns))) 0 ≡ true
+      → (r ≡ On 0) × (second′ ≡ fetchedFile ns ws os (separators (plans (new .parameters) 0 0 (new .parameters .pages) [] (carriedWords new ns)))
+      (column (new .parameters .places) (λ (s : Star). s .payload .word) (plans (new .parameters) 0 0 (new .parameters .pages) [] (carriedWords new ns))))
 
 -- one thing if an old page is unsound, another if the rule carries a star past the last new page, a third if it does not
 abbrev pub byCarry : {A : Type 0} → Geometry → File → Geometry → A → A → A → A

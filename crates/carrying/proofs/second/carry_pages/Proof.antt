@@ -1,24 +1,23 @@
--- Each return by what the parts tell.
+-- The old file's pages by stretches or all at once; then each return by what the parts tell.
 use borrow.Author.Needs.{needs}
-use mathlib.Core.Path.{_≡_, refl, sym, _∙_}
-use mathlib.Core.Bool.{true}
-use lib.ListN.{length}
+use mathlib.Core.Path.{_≡_, _∙_}
+use Prim.Native.Nat.{_*_, _≤_}
+use native.Mathlib.Nat.{zero-add, sub-zero}
 use native.Mathlib.Omega.{arith}
-use borrow.Author.Tests.{not-true, not-false}
+use lib.ListN.{length}
 use denote.Ref.{now}
 use Rattle.hashing.proofs.Bounds.{limits}
 use Rattle.placement.specs.File.{File}
 use Rattle.placement.specs.Hash.{lent}
 use Rattle.placement.proofs.Prepared.{ready}
-use Rattle.carrying.proofs.Carried.{unsound-carried, carried-few, carried-numbers, overflow-carried, placed-carried, planned-long}
+use Rattle.reach.specs.Reach.{firstUnsound}
+use Rattle.reach.proofs.Surveyed.{lowest-first}
+use Rattle.carrying.proofs.Carried.{carried-few, carried-numbers, tested-carried}
 use Rattle.carrying.proofs.second.carry_pages.Statement.{statement}
 use Rattle.carrying.proofs.second.carry_pages.Tie as tie
 
-abbrev begun : tie.After-slice-known6 → tie.Start
-begun c = c .before .before .before .before .before .before .before .before .before .before
-
-abbrev start : tie.After-lowest-unsound → tie.Start
-start c = begun (c .before .before .before)
+abbrev start : tie.After-first-multipliers → tie.Start
+start m = m .before .before .before .before .before .before .before .before .before .before .before .before
 
 abbrev file : tie.Start → File
 file s = lent (now (s .args .separators)) (now (s .args .numbers)) (now (s .args .words)) (now (s .args .owners))
@@ -26,44 +25,39 @@ file s = lent (now (s .args .separators)) (now (s .args .numbers)) (now (s .args
 abbrev second : tie.Start → File
 second s = lent (now (s .args .secondseparators)) (now (s .args .secondnumbers)) (now (s .args .secondwords)) (now (s .args .secondowners))
 
-abbrev tested : tie.Else1 → tie.After-lowest-unsound
-tested c = c .before .before
+-- the start, from either survey
+abbrev begun : tie.After-lowest-unsound → tie.Start
+begun d = d .before .before .before .before .before .before .before .before .before .before .before .before .before .before .before
 
-abbrev sound : tie.After-plan-all → tie.Else1
-sound c = c .before .before .before .before
+abbrev begun-2 : tie.After-survey → tie.Start
+begun-2 d = start (d .before .before .before .before)
+
+found : (d : tie.After-survey)
+    → d .survey .result ≡ firstUnsound (begun-2 d .args .old .parameters) (begun-2 d .args .old .growth) (file (begun-2 d)) 0 (begun-2 d .args .old .parameters .pages)
+found d = let s = begun-2 d in lowest-first (s .args .old .parameters) (s .args .old .growth) (file s) _ _ _ (d .survey .ensures .0) _ (zero-add _)
+
+cast-pages : tie.Need-cast-pages
+cast-pages c = search needs
 
 first-multipliers-requires : tie.Need-first-multipliers-requires
 first-multipliers-requires c κs =
-    let s = begun c in
+    let s = c .before .before .before .before .before .before .before .before .before .before .before in
     limits (s .args .old .parameters) (s .pre .0 .homing .valid) .multiplier-valid
 
 lowest-unsound-requires : tie.Need-lowest-unsound-requires
-lowest-unsound-requires c κs =
-    let s = begun (c .before .before) in
-    ready (c .before .first-multipliers .ensures) (s .pre .0 .homing .valid) (s .pre .0 .homing .growth) (s .pre .0 .sized)
+lowest-unsound-requires c κs = search needs
 
-cast-if1 : tie.Need-cast-if1
-cast-if1 c = search needs
-
-returns : tie.Need-returns
-returns c =
-    let d = c .before .before in
-    let s = start d in
-    unsound-carried (s .args .old) (s .args .new) (file s) (second s) _ (d .lowest-unsound .ensures) (c .if1 .taken)
-
-plan-all-requires : tie.Need-plan-all-requires
-plan-all-requires c κs =
-    let e = c .before .before .before in
-    let d = tested e in
-    let s = start d in
-    let r = s .pre .1 .0 .homing in (
-      (r .valid, r .growth),
+place-second-requires : tie.Need-place-second-requires
+place-second-requires c κs =
+    let d = c .before .before .before .before .before .before in
+    let s = begun d in (
+      s .pre .1 .0,
       (
-        (
-          carried-few (s .args .old) (s .args .new) (file s) (second s) _ (d .lowest-unsound .ensures) (s .pre .0 .homing .valid) (s .pre .0 .sized) (e .if1 .left),
-          carried-numbers (s .args .old) (s .args .new) (file s) (second s) _ (d .lowest-unsound .ensures) (s .pre .0 .homing .valid) (s .pre .0 .sized) (e .if1 .left),
+        λ h. (
+          carried-few (s .args .old) (s .args .new) (file s) (second s) _ (d .lowest-unsound .ensures) (s .pre .0 .homing .valid) (s .pre .0 .sized) h,
+          carried-numbers (s .args .old) (s .args .new) (file s) (second s) _ (d .lowest-unsound .ensures) (s .pre .0 .homing .valid) (s .pre .0 .sized) h,
         ),
-        (s .pre .1 .1 .0, (s .pre .1 .1 .1, refl)),
+        s .pre .1 .1,
       ),
     )
 
@@ -72,26 +66,6 @@ same-length c = search needs
 
 same-length-2 : tie.Need-same-length-2
 same-length-2 c = search needs
-
-returns-2 : tie.Need-returns-2
-returns-2 c =
-    let a = c .before .before .before .before .before in
-    let e = sound a in
-    let d = tested e in
-    let s = start d in
-    overflow-carried (s .args .old) (s .args .new) (file s) (second s) _ (d .lowest-unsound .ensures) (s .pre .0 .homing .valid) (s .pre .0 .sized) (e .if1 .left)
-    (s .pre .1 .0 .homing .valid) (s .pre .1 .0 .homing .growth) (sym (a .plan-all .ensures .fits) ∙ not-true _ (c .if2 .taken))
-
-write-second-requires : tie.Need-write-second-requires
-write-second-requires c κs =
-    let a = c .before .before .before .before .before .before .before .before .before .before .before in
-    let s = start (tested (sound a)) in
-    let z = s .pre .1 .0 .sized in
-    let k = a .plan-all .kept .1 .1 .0 in
-    let yes : a .plan-all .result ≡ true = not-false _ (c .before .before .before .before .before .before .if2 .left) in (
-      omega (arith, z .ofSeparators, planned-long _ _ _ (a .plan-all .ensures .separators-are yes)),
-      (omega (arith, z .ofNumbers, s .pre .1 .1 .0, k), (omega (arith, z .ofWords, s .pre .1 .1 .0, k), omega (arith, z .ofOwners, s .pre .1 .1 .0, k))),
-    )
 
 same-length-3 : tie.Need-same-length-3
 same-length-3 c = search needs
@@ -105,43 +79,85 @@ same-length-5 c = search needs
 same-length-6 : tie.Need-same-length-6
 same-length-6 c = search needs
 
+returns : tie.Need-returns
+returns c =
+    let p = c .before .before .before .before .before .before .before .before .before .before .before .before in
+    let d = p .before .before .before .before .before .before .before in
+    let s = begun d in
+    tested-carried (s .args .old) (s .args .new) (file s) (second s) _ (d .lowest-unsound .ensures) (s .pre .0 .homing .valid) (s .pre .0 .sized)
+    (s .pre .1 .0 .homing .valid) (s .pre .1 .0 .homing .growth) _ _ (p .place-second .ensures .0) (p .place-second .ensures .1)
+
+survey-requires : tie.Need-survey-requires
+survey-requires c κs =
+    let m = c .before .before .before in
+    let s = start m in
+    let p = s .args .old .parameters in
+    let room : p .pages * p .places ≤ length (now (s .args .pool)) = omega (arith, s .pre .0 .sized .ofNumbers) in (
+      ready (m .first-multipliers .ensures) (s .pre .0 .homing .valid) (s .pre .0 .homing .growth) (s .pre .0 .sized),
+      ((omega arith, omega arith), rw (sub-zero (p .pages)) (omega (arith, room))),
+    )
+
+place-second-requires-2 : tie.Need-place-second-requires-2
+place-second-requires-2 c κs =
+    let d = c .before .before .before .before .before .before .before .before in
+    let s = begun-2 d in (
+      s .pre .1 .0,
+      (
+        λ h. (
+          carried-few (s .args .old) (s .args .new) (file s) (second s) _ (found d) (s .pre .0 .homing .valid) (s .pre .0 .sized) h,
+          carried-numbers (s .args .old) (s .args .new) (file s) (second s) _ (found d) (s .pre .0 .homing .valid) (s .pre .0 .sized) h,
+        ),
+        (d .survey .kept .1 .1 .1 .1 .1 .1 .0 ∙ s .pre .1 .1 .0, s .pre .1 .1 .1),
+      ),
+    )
+
 same-length-7 : tie.Need-same-length-7
 same-length-7 c = search needs
 
 same-length-8 : tie.Need-same-length-8
 same-length-8 c = search needs
 
-returns-3 : tie.Need-returns-3
-returns-3 c =
-    let w = c .before .before .before .before .before .before .before .before in
-    let b = w .before .before .before .before .before .before .before in
-    let a = b .before .before .before .before .before in
-    let e = sound a in
-    let d = tested e in
-    let s = start d in
-    let yes : a .plan-all .result ≡ true = not-false _ (b .if2 .left) in
-    let count : length (now (s .args .secondseparators)) ≡ s .args .new .parameters .pages = s .pre .1 .0 .sized .ofSeparators in
-    placed-carried (s .args .old) (s .args .new) (file s) (second s) _ (d .lowest-unsound .ensures) (s .pre .0 .homing .valid) (s .pre .0 .sized) (e .if1 .left)
-    (s .pre .1 .0 .homing .valid) (s .pre .1 .0 .homing .growth) _ _ _ (sym (a .plan-all .ensures .fits) ∙ yes) (a .plan-all .ensures .sources yes) (a .plan-all .ensures .separators-are yes)
-    (rw count at (w .write-second .ensures))
+same-length-9 : tie.Need-same-length-9
+same-length-9 c = search needs
+
+same-length-10 : tie.Need-same-length-10
+same-length-10 c = search needs
+
+same-length-11 : tie.Need-same-length-11
+same-length-11 c = search needs
+
+same-length-12 : tie.Need-same-length-12
+same-length-12 c = search needs
+
+returns-2 : tie.Need-returns-2
+returns-2 c =
+    let p = c .before .before .before .before .before .before .before .before .before .before .before .before in
+    let d = p .before .before .before .before .before .before .before .before .before in
+    let s = begun-2 d in
+    tested-carried (s .args .old) (s .args .new) (file s) (second s) _ (found d) (s .pre .0 .homing .valid) (s .pre .0 .sized)
+    (s .pre .1 .0 .homing .valid) (s .pre .1 .0 .homing .growth) _ _ (p .place-second2 .ensures .0) (p .place-second2 .ensures .1)
 
 pub carry-pages-spec : {M : Type 1} → statement M
 carry-pages-spec =
     tie.close
     (tie.spec
+    cast-pages
     first-multipliers-requires
     lowest-unsound-requires
-    cast-if1
-    returns
-    plan-all-requires
+    place-second-requires
     same-length
     same-length-2
-    returns-2
-    write-second-requires
     same-length-3
     same-length-4
     same-length-5
     same-length-6
+    returns
+    survey-requires
+    place-second-requires-2
     same-length-7
     same-length-8
-    returns-3)
+    same-length-9
+    same-length-10
+    same-length-11
+    same-length-12
+    returns-2)

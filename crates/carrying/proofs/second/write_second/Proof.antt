@@ -1,15 +1,18 @@
--- The sources are copied to the numbers of the second set, and what they name is fetched there.
+-- What the sources name is filled in, then the separators.
 use borrow.Author.Needs.{needs}
 use denote.Ref.{now}
 use Rattle.carrying.proofs.Carried.{second-written}
 use Rattle.carrying.proofs.second.write_second.Statement.{statement}
 use Rattle.carrying.proofs.second.write_second.Tie as tie
 
-copy-32-requires : tie.Need-copy-32-requires
-copy-32-requires c κs = search needs
+abbrev filling : tie.After-copy-8 → tie.After-fill-second
+filling e = e .before .before .before .before .before .before .before .before .before
 
-fetch-requires : tie.Need-fetch-requires
-fetch-requires c κs = search needs
+abbrev start : tie.After-fill-second → tie.Start
+start f = f .before .before .before .before .before .before .before .before .before .before .before .before
+
+fill-second-requires : tie.Need-fill-second-requires
+fill-second-requires c κs = search needs
 
 copy-8-requires : tie.Need-copy-8-requires
 copy-8-requires c κs = search needs
@@ -29,20 +32,16 @@ same-length-4 c = search needs
 returns : tie.Need-returns
 returns c =
     let e = c .before .before in
-    let g = e .before .before .before .before .before .before .before .before .before in
-    let d = g .before .before .before .before .before .before in
-    let s = d .before .before .before .before .before .before .before .before .before .before in
-    second-written (now (s .args .oldnumbers)) (now (s .args .oldwords)) (now (s .args .oldowners)) (now (s .args .secondseparators)) (now (s .args .secondnumbers))
-    (now (s .args .secondwords)) (now (s .args .secondowners)) (now (s .args .pool)) (now (s .args .planned)) _ _ _ _ _
-    (s .pre .1 .0) (s .pre .1 .1 .0) (s .pre .1 .1 .1) (s .pre .0) (d .copy-32 .ensures) (g .fetch .ensures .0) (g .fetch .ensures .1 .0) (g .fetch .ensures .1 .1)
-    (e .copy-8 .ensures)
+    let f = filling e in
+    let s = start f in
+    let filled = f .fill-second .ensures in
+    second-written (now (s .args .secondseparators)) (now (s .args .planned)) _ _ _ _ _ _ _ (s .pre .0) (e .copy-8 .ensures) (filled .0) (filled .1 .0) (filled .1 .1)
 
 pub write-second-spec : {M : Type 1} → statement M
 write-second-spec =
     tie.close
     (tie.spec
-    copy-32-requires
-    fetch-requires
+    fill-second-requires
     copy-8-requires
     same-length
     same-length-2

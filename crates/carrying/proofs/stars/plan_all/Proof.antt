@@ -2,8 +2,6 @@
 use borrow.Author.Needs.{needs}
 use mathlib.Core.Path.{_≡_, sym, ap, _∙_}
 use mathlib.Core.Bool.{false≢true}
-use Prim.Native.Nat.{ℕ}
-use lib.Dec.{eqb}
 use lib.Seq.{take-length}
 use native.Mathlib.Omega.{arith}
 use borrow.Author.Tests.{ne-eqb}
