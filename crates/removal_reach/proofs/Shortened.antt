@@ -1,8 +1,8 @@
--- The front of a surveyed stretch planned without a star and applied: where it ends early and the later pages are the rule's, this is the rule
--- over the whole stretch.
+-- The front of a surveyed stretch planned without a star and applied. Where it ends early and the later pages are the rule's, this is the
+-- rule over the whole stretch.
 use mathlib.Core.Path.{_≡_, refl, sym, ap, subst, _∙_}
 use mathlib.Core.Bool.{true}
-use mathlib.Core.List.{List, [], _++_, map, map-append}
+use mathlib.Core.List.{List, [], map, map-append}
 use Prim.Native.Nat.{ℕ, _+_, _-_, _*_, _≤_, _<_}
 use native.Mathlib.Nat.{add-zero, le-refl, mul-le-mul-right}
 use native.Mathlib.Decide.{decLt}
@@ -14,7 +14,7 @@ use Rattle.hashing.specs.declared.Growth.{Growth}
 use Rattle.hashing.specs.Limits.{validParameters}
 use Rattle.pages.specs.Page.{stretch}
 use Rattle.pages.specs.Position.{validWord}
-use Rattle.placement.specs.Rule.{Star, Hash, Contents, pages, left, without, collected}
+use Rattle.placement.specs.Rule.{Star, Hash, Contents, pages, without, collected}
 use Rattle.placement.specs.File.{File, Sized, pagesAt, gathered, replaced}
 use Rattle.placement.specs.Hash.{hashOf, soundAt}
 use Rattle.placement.proofs.Composition.{take-pages}
@@ -22,7 +22,7 @@ use Rattle.placement.proofs.Mapping.{mapped, collected-map}
 use Rattle.page_separator.specs.Lists.{all}
 use Rattle.page_plan.specs.Gather.{stretchWords, starsIn, grouped}
 use Rattle.page_plan.specs.Sources.{renamed, sourced}
-use Rattle.page_plan.specs.Plans.{waits, homed, plans, remains, Planned}
+use Rattle.page_plan.specs.Plans.{waits, homed, plans, remains}
 use Rattle.page_plan.proofs.Items.{words-count}
 use Rattle.page_plan.proofs.Pouring.{length-waits}
 use Rattle.page_plan.proofs.RuleOverWords.{plans-are}

@@ -1,4 +1,4 @@
-// The front of a stretch planned without a star: the pages up to the first one after which as many words wait as before.
+// The front of a stretch planned without a star: the pages up to the first one past which nothing changes, if the later ones are the rule's.
 ghost use mathlib.Core.Path.{_≡_};
 ghost use mathlib.Core.Bool.{true};
 ghost use Prim.Native.Nat.{_-_, _+_, _*_, _≤_, _<_};
@@ -33,7 +33,7 @@ fn plan_page(
     settled.from
 }
 
-// Settles pages until they hold one star fewer than before, at most `count`; the answer is how many. `from` is the number of words that stayed.
+// Settles pages until they hold one star fewer than before, at most `count`; the answer is how many. `from` counts the words that stayed.
 fn settle_changed(
     parameters: Parameters,
     numbers: &[u32],

@@ -6,13 +6,13 @@ ghost use Rattle.placement.specs.Hash.{hashOf};
 ghost use Rattle.placement.specs.Lent.{held, before};
 ghost use Rattle.reach.specs.Known.{Known};
 ghost use Rattle.reach.specs.Reach.{removalEnd};
-ghost use Rattle.removal_reach.specs.Removal.{Removes, Decides, removalStart};
+ghost use Rattle.removal_reach.specs.Removal.{Removes, Decides};
 use crate::changed::plan_changed;
 use crate::star::HeldStar;
 use decision::Decision;
 use hashing::Geometry;
 
-// The stars from home to page `last`, planned anew without the star. Sound pages hold them all. The answer is the star's page, which was tested before.
+// The stars from home to page `last`, planned anew without the star. Sound pages hold them all. The answer is the star's page.
 fn decide_whole(
     table: &[u32; 90],
     geometry: Geometry,

@@ -63,5 +63,6 @@ pub fn file_held(
     }
     let item = named.item;
     words[item] = pages::position::pack(position_of(report));
-    Placed::On(named.page as u32, named.place)
+    let page = named.page as u32;
+    Placed::On(page, named.place)
 }

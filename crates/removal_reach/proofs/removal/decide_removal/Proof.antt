@@ -4,7 +4,7 @@ use denote.Ref.{now}
 use Rattle.placement.specs.File.{File}
 use Rattle.placement.specs.Hash.{hashOf, lent}
 use Rattle.reach.specs.Reach.{removalEnd}
-use Rattle.removal_reach.proofs.Removing.{Reached, end-is, star-inside, star-reached}
+use Rattle.removal_reach.proofs.Removing.{end-is, star-inside, star-reached}
 use borrow.Author.Needs.{needs}
 use Rattle.removal_reach.proofs.removal.decide_removal.Statement.{statement}
 use Rattle.removal_reach.proofs.removal.decide_removal.Tie as tie

@@ -103,8 +103,8 @@ slice-write-words c =
     let s = begun (c .before .before) in
     omega (arith, below s, s .pre .0 .sized .ofWords)
 
-cast-t36 : tie.Need-cast-t36
-cast-t36 c =
+cast-page : tie.Need-cast-page
+cast-page c =
     let s = begun (c .before .before .before) in
     omega (arith, s .pre .1 .1 .0 .named .pageMost, limits _ (s .pre .0 .homing .valid) .pages-most)
 
@@ -139,6 +139,6 @@ file-held-spec =
     pack-requires
     mul-words
     slice-write-words
-    cast-t36
+    cast-page
     same-length-8
     returns-3)
