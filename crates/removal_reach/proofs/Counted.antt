@@ -12,12 +12,12 @@ use Rattle.hashing.specs.declared.Parameters.{Parameters}
 use Rattle.placement.specs.Rule.{Star, Contents, separators}
 use Rattle.placement.specs.File.{column, written}
 use Rattle.page_plan.specs.Gather.{grouped, skipped, starsIn}
-use Rattle.page_plan.specs.Plans.{remains, Started, Planned, endOf}
+use Rattle.page_plan.specs.Plans.{remains, Settling, Started, Planned, endOf}
 use Rattle.page_plan.proofs.Gathered.{stretch-slice, starsIn-most}
 use Rattle.page_plan.proofs.Blocks.{groups-alone, group-grouped, grouped-again}
 use Rattle.page_plan.proofs.Placed.{stretch-add}
 use Rattle.page_plan.proofs.Sourcing.{length-stretch}
-use Rattle.page_plan.proofs.Stretch.{Settling, ends-within}
+use Rattle.page_plan.proofs.Stretch.{ends-within}
 use Rattle.removal_reach.specs.Changed.{Changed}
 
 stars-append : (k : ℕ) (a b : List ℕ) → starsIn k (a ++ b) ≡ starsIn k a + starsIn k b

@@ -12,8 +12,8 @@ use Rattle.pages.specs.Page.{stretch}
 use Rattle.hashing.proofs.Bounds.{limits}
 use Rattle.page_separator.specs.Probes.{homesUpTo}
 use Rattle.page_plan.specs.Gather.{starsIn}
-use Rattle.page_plan.specs.Plans.{endOf}
-use Rattle.page_plan.proofs.Stretch.{page-inside, Settling, settling-none, settling-next, probed-near, probed-inside, probed-within}
+use Rattle.page_plan.specs.Plans.{Settling, endOf}
+use Rattle.page_plan.proofs.Stretch.{page-inside, settling-none, settling-next, probed-near, probed-inside, probed-within}
 use Rattle.removal_reach.proofs.Counted.{stars-none, stars-more, stars-few, from-most, changed}
 use borrow.Author.Needs.{needs}
 use Rattle.removal_reach.proofs.changed.settle_changed.Statement.{statement}
