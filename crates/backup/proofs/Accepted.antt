@@ -10,7 +10,8 @@ use Rattle.hashing.specs.declared.Growth.{Growth}
 use Rattle.hashing.specs.Geometry.{pageCount, highest, grown}
 use Rattle.hashing.specs.Limits.{validParameters, validGrowth}
 use Rattle.placement.specs.Rule.{Star, pages, left}
-use Rattle.placement.specs.File.{File, Sized, gathered, replaced}
+use Rattle.placement.specs.File.{File, gathered, replaced}
+use Rattle.placement.specs.Shape.{Sized}
 use Rattle.placement.specs.Hash.{hashOf}
 use Rattle.placement.specs.Ready.{Ready}
 use Rattle.reach.specs.Reach.{isEmpty, firstUnsound}

@@ -11,7 +11,8 @@ use Rattle.hashing.specs.declared.Growth.{Growth}
 use Rattle.generator.specs.Generator.{topOf}
 use Rattle.hashing.specs.Geometry.{grown}
 use Rattle.pages.specs.Position.{validWord}
-use Rattle.placement.specs.Rule.{Star, Contents, pages, left, separators, blank}
+use Rattle.placement.specs.Rule.{Star, Contents, pages, left, separators}
+use Rattle.placement.specs.Shape.{blank}
 use Rattle.placement.specs.File.{File, gathered, replaced, fileOf, laid}
 use Rattle.placement.specs.Hash.{hashOf}
 use Rattle.placement.proofs.Composition.{length-pages}

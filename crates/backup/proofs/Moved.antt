@@ -14,7 +14,8 @@ use Rattle.hashing.specs.declared.Growth.{Growth}
 use Rattle.hashing.specs.Geometry.{multiplierOf, pageCount, grown}
 use Rattle.hashing.specs.Limits.{validParameters, validGrowth}
 use Rattle.hashing.proofs.Bounds.{both}
-use Rattle.placement.specs.Rule.{Star, Hash, pages, separators, blank}
+use Rattle.placement.specs.Rule.{Star, Hash, pages, separators}
+use Rattle.placement.specs.Shape.{blank}
 use Rattle.placement.specs.Hash.{hashOf}
 use Rattle.placement.proofs.Probing.{bounded-real}
 use Rattle.home_update.proofs.Rehomed.{home-moves}

@@ -9,7 +9,8 @@ use native.Mathlib.Omega.{arith}
 use lib.ListN.{getD, drop}
 use lib.Seq.{getD-take, getD-drop}
 use borrow.Author.Tests.{lt-ltb, le-ltb, ltb-true}
-use Rattle.placement.specs.Rule.{Star, Hash, Contents, filter, pages, left, separators, blank}
+use Rattle.placement.specs.Rule.{Star, Hash, Contents, filter, pages, left, separators}
+use Rattle.placement.specs.Shape.{blank}
 use Rattle.placement.proofs.Filters.{Within, filter-ext, filter-filter, filter-none, filter-rest, filter-absorb, member-filter}
 use Rattle.placement.proofs.Separator.{Bounded}
 use Rattle.placement.proofs.Composition.{middle-pages}

@@ -14,7 +14,7 @@ use Rattle.hashing.specs.declared.Growth.{Growth}
 use Rattle.hashing.specs.Geometry.{pageCount}
 use Rattle.hashing.specs.Limits.{within}
 use Rattle.generator.specs.Generator.{topOf}
-use Rattle.homes.specs.Lanes.{lanes}
+use Rattle.homes.specs.Indexed.{lanes}
 use Rattle.homes.proofs.Lists.{lane-none, lane-next, lane-end}
 use Rattle.reach.specs.Reach.{firstSuch}
 use Rattle.reach.proofs.Search.{Such, such}

@@ -9,7 +9,7 @@ use Rattle.hashing.specs.declared.Parameters.{Parameters}
 use Rattle.hashing.specs.declared.Growth.{Growth}
 use Rattle.hashing.specs.Geometry.{highest}
 use Rattle.hashing.specs.Limits.{validParameters, validGrowth}
-use Rattle.homes.specs.Lanes.{lanes}
+use Rattle.homes.specs.Indexed.{lanes}
 use Rattle.placement.specs.File.{File}
 use Rattle.backup.specs.Stretches.{mayChange}
 use Rattle.backup.specs.Local.{Pool, growOf, Untouched, Grows}

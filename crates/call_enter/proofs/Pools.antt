@@ -14,9 +14,10 @@ use Rattle.call_guard.proofs.Admitting.{readable-facts}
 use Rattle.entry_cascade.specs.Cascade.{overflow, stopOf, cascadeUnsound}
 use Rattle.reach.specs.Reach.{pagesTo, entryEnd, entersWithin, firstUnsound, isEmpty}
 use Rattle.calls.specs.declared.answers.Answer.{Answer}
-use Rattle.calls.specs.Answers.{Pool, After, Leaves, Stores, cleared}
+use Rattle.calls.specs.Answers.{Pool, After, Leaves, cleared}
+use Rattle.calls.specs.Shape.{Stores}
 use Rattle.calls.specs.Calls.{guarded, named, readable, holds, placeFor, entryRefusal, entered, enterOf, enterOn, enterTo, cascadeOf, cascadeOn, cascadeFrom}
-use Rattle.call_enter.specs.Entries.{entryFrom, entryOn, entryOf, unlessCascading}
+use Rattle.call_enter.specs.Entries.{entryFrom, entryOn, enteredBy, unlessCascading}
 use Rattle.outcome_answer.proofs.Stopped.{unmoved-leaves, unmoved-stores}
 use Rattle.outcome_answer.proofs.Pools.{cases-pool, named-pool}
 
@@ -50,7 +51,7 @@ module _ (p : Parameters) (g : Growth) (f : File) (pool : Pool) where
 
   -- both ways of an entry meet refusals 1 to 4
   pub entry-way : (cascading : Bool) (caller k : ℕ) (position : Position)
-      → entryOf cascading p g f pool caller k position ≡ guarded g f pool (entryRefusal p g f pool k position) (entryOn cascading p g f (cleared pool) (named p g f k) (entered caller k position))
+      → enteredBy cascading p g f pool caller k position ≡ guarded g f pool (entryRefusal p g f pool k position) (entryOn cascading p g f (cleared pool) (named p g f k) (entered caller k position))
   unfolding cascadeOf cascadeOn enterOf enterOn
   entry-way true caller k position = refl
   entry-way false caller k position = refl

@@ -9,7 +9,7 @@ use Rattle.placement.specs.Rule.{Star}
 use Rattle.placement.specs.File.{File}
 use Rattle.reach.specs.Reach.{entryEnd}
 use Rattle.calls.specs.Answers.{Pool, After}
-use Rattle.calls.specs.Stores.{stopped}
+use Rattle.calls.specs.Shape.{stopped}
 use Rattle.calls.specs.Calls.{placeFor, unlessHeld, enterTo, enterOf, cascadeFrom, cascadeOf}
 
 -- an entry of a star that is not held, over its reach or `cascading` from the named page
@@ -22,8 +22,8 @@ entryFrom cascading p g f pool page s =
 abbrev pub entryOn : Bool → Parameters → Growth → File → Pool → ℕ → Star → After
 entryOn cascading p g f pool page s = unlessHeld p g f pool page s (entryFrom cascading p g f pool page s)
 
-abbrev pub entryOf : Bool → Parameters → Growth → File → Pool → ℕ → ℕ → Position → After
-entryOf cascading p g f pool caller k position = cond cascading (cascadeOf p g f pool caller k position) (enterOf p g f pool caller k position)
+abbrev pub enteredBy : Bool → Parameters → Growth → File → Pool → ℕ → ℕ → Position → After
+enteredBy cascading p g f pool caller k position = cond cascading (cascadeOf p g f pool caller k position) (enterOf p g f pool caller k position)
 
 -- an entry over its reach is stopped after n stores; one by a cascade is not
 abbrev pub unlessCascading : Bool → Parameters → File → ℕ → After → After

@@ -5,11 +5,13 @@ ghost use Rattle.pages.specs.Position.{validNumber};
 ghost use Rattle.placement.specs.Lent.{held, before, after};
 ghost use Rattle.placement.specs.Ready.{Pooled};
 ghost use Rattle.placement.specs.Rule.{starWith};
-ghost use Rattle.calls.specs.Answers.{Leaves, Stores, cleared, placed};
+ghost use Rattle.calls.specs.Answers.{Leaves, cleared, placed};
+ghost use Rattle.calls.specs.Shape.{Stores};
 ghost use Rattle.calls.specs.Calls.{enterOf, cascadeOf, named};
 ghost use Rattle.calls.specs.Stores.{enterStoppedOf};
-ghost use Rattle.call_enter.specs.Entries.{entryOn, entryOf, unlessCascading};
-ghost use Rattle.calls.specs.Lent.{Admitted, poolBefore, poolAfter};
+ghost use Rattle.call_enter.specs.Entries.{entryOn, enteredBy, unlessCascading};
+ghost use Rattle.calls.specs.Lent.{poolBefore, poolAfter};
+ghost use Rattle.calls.specs.Shape.{Admitted};
 use call_guard::all_fit;
 use call_guard::guard;
 use calls::answers::Admission;
@@ -151,7 +153,7 @@ fn enter_by(
     stores: u32,
 ) -> Placed
     ensures { λ r. ⌜ Leaves (unlessCascading cascading parameters (before separators numbers words owners) stores
-        (entryOf cascading parameters growth (before separators numbers words owners) (poolBefore poolnumbers poolwords poolowners) caller number position))
+        (enteredBy cascading parameters growth (before separators numbers words owners) (poolBefore poolnumbers poolwords poolowners) caller number position))
         (placed r) (after separators numbers words owners) (poolAfter poolnumbers poolwords poolowners) ⌝ }
 {
     let fits = all_fit(

@@ -7,14 +7,15 @@ use borrow.Author.Tests.{ltb-true}
 use Rattle.hashing.specs.declared.Parameters.{Parameters}
 use Rattle.hashing.specs.declared.Growth.{Growth}
 use Rattle.hashing.specs.declared.Geometry.{Geometry}
-use Rattle.generator.specs.Generator.{firstMultipliers, validMultiplier}
+use Rattle.generator.specs.Generator.{validMultiplier}
+use Rattle.generator.specs.Shape.{firstMultipliers}
 use Rattle.hashing.specs.Geometry.{multiplierOf}
 use Rattle.hashing.proofs.Bounds.{both, limits}
 use Rattle.placement.specs.File.{File}
 use Rattle.placement.specs.Hash.{soundAt}
 use Rattle.placement.specs.Ready.{Ready}
 use Rattle.placement.proofs.Prepared.{ready}
-use Rattle.calls.specs.Lent.{Admitted}
+use Rattle.calls.specs.Shape.{Admitted}
 use Rattle.calls.specs.Calls.{readable, mayAlter}
 
 -- what the calls below need, with the table that the call made

@@ -33,7 +33,8 @@ use Rattle.calls.specs.declared.answers.Refusal.the-variants.{
 }
 use Rattle.calls.specs.declared.records.GrowthRecord.{GrowthRecord}
 use Rattle.calls.specs.declared.records.Recorded.{Recorded}
-use Rattle.calls.specs.Answers.{After, Pool, Leaves, admissionNumber, refusalNumber, refusedBy, refused, cleared, placed}
+use Rattle.calls.specs.Answers.{After, Pool, Leaves, refusalNumber, refusedBy, refused, cleared, placed}
+use Rattle.calls.specs.Shape.{admissionNumber}
 use Rattle.calls.specs.Calls.{unless, orElse, unlent, guarded, unchanged}
 use Rattle.calls.specs.Records.{validSteps, recorded, unlessOpen, recordAfter, closedRecord}
 use Rattle.calls.proofs.Refusals.{leaves, turned-away}

@@ -2,7 +2,7 @@
 ghost use mathlib.Core.Path.{_≡_};
 ghost use mathlib.Core.Bool.{_&&_};
 ghost use Rattle.hashing.specs.Limits.{validParameters, validGrowth};
-ghost use Rattle.calls.specs.Answers.{admissionNumber};
+ghost use Rattle.calls.specs.Shape.{admissionNumber};
 ghost use Rattle.calls.specs.Calls.{fileLengths, poolLengths, unlent};
 use calls::answers::Admission;
 use calls::answers::Refusal;

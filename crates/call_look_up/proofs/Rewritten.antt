@@ -7,12 +7,13 @@ use lib.Dec.{eqb}
 use lib.ListN.{set, length-set}
 use Rattle.hashing.specs.declared.Parameters.{Parameters}
 use Rattle.pages.specs.Page.{part}
-use Rattle.placement.specs.File.{File, Sized}
+use Rattle.placement.specs.File.{File}
+use Rattle.placement.specs.Shape.{Sized}
 use Rattle.placement.specs.Hash.{lent}
 use Rattle.placement.proofs.Change.{part-set-other}
 use Rattle.calls.specs.declared.answers.Answer.{Answer}
 use Rattle.calls.specs.Answers.{Pool, After, Leaves}
-use Rattle.calls.specs.Stores.{stoppedFile, stopped}
+use Rattle.calls.specs.Shape.{stoppedFile, stopped}
 use Rattle.calls.proofs.Stores.{SamePage}
 use Rattle.calls.proofs.Stored.{one-page-stored}
 

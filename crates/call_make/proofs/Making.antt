@@ -9,7 +9,8 @@ use Rattle.generator.specs.Generator.{topOf}
 use Rattle.hashing.specs.Geometry.{ungrown}
 use Rattle.hashing.specs.Limits.{validParameters, validGrowth}
 use Rattle.hashing.proofs.Homes.{start-valid}
-use Rattle.placement.specs.File.{File, Sized}
+use Rattle.placement.specs.File.{File}
+use Rattle.placement.specs.Shape.{Sized}
 use Rattle.placement.specs.Hash.{lent}
 use Rattle.calls.specs.declared.answers.Refusal.{Refusal}
 use Rattle.calls.specs.Answers.{Pool, Leaves, accepted, refusalNumber, refusedBy}

@@ -2,7 +2,7 @@
 ghost use mathlib.Core.Path.{_≡_};
 ghost use mathlib.Core.Bool.{true};
 ghost use Rattle.hashing.specs.Limits.{validParameters};
-ghost use Rattle.placement.specs.File.{Sized};
+ghost use Rattle.placement.specs.Shape.{Sized};
 ghost use Rattle.placement.specs.Lent.{held, before, after};
 ghost use Rattle.calls.specs.Answers.{Leaves, unpooled, placed};
 ghost use Rattle.calls.specs.Calls.{makeOf, emptyFile};

@@ -12,13 +12,14 @@ use Rattle.hashing.specs.Limits.{validParameters, validGrowth}
 use Rattle.hashing.proofs.Bounds.{limits, growth-within}
 use Rattle.placement.specs.File.{File}
 use Rattle.page_plan.specs.declared.outcome.Outcome.{Outcome}
-use Rattle.growth_plan.specs.Growth.{nextOf, Movable, growthAnswer, growthFile}
+use Rattle.growth_plan.specs.Growth.{stateAfter, Movable, growthAnswer, growthFile}
 use Rattle.calls.specs.declared.answers.Refusal.{Refusal}
 use Rattle.calls.specs.declared.answers.Refusal.the-variants.{Full, Ungrown}
 use Rattle.calls.specs.declared.answers.Grown.{Grown}
 use Rattle.call_whole_file.specs.declared.growth.Step.{Step}
 use Rattle.call_whole_file.specs.declared.growth.Step.the-variants.{To, Not}
-use Rattle.calls.specs.Answers.{After, Pool, Stores, placed, refusedBy, refused, cleared}
+use Rattle.calls.specs.Answers.{After, Pool, placed, refusedBy, refused, cleared}
+use Rattle.calls.specs.Shape.{Stores}
 use Rattle.calls.specs.Calls.{unlent, guarded, unchanged, fileFits, poolFits, growOf, shrinkOf, regrowTo}
 use Rattle.outcome_answer.specs.Outcomes.{outcomeGrown, unmovedBy}
 use Rattle.call_whole_file.specs.Outcomes.{stepOf, regrowOn, regrowOf}
@@ -66,7 +67,7 @@ movable false p g w = go (eqb (highest p g) (p .pages - 1)) refl
     go true e h = absurd (false≢true h)
     go false e h = further p g w (eqb-false (highest p g) (p .pages - 1) e)
 
-state-is : (back : Bool) (p : Parameters) (g : Growth) → goes (stepOf back p g) ≡ true → stateIn (stepOf back p g) ≡ nextOf back p g
+state-is : (back : Bool) (p : Parameters) (g : Growth) → goes (stepOf back p g) ≡ true → stateIn (stepOf back p g) ≡ stateAfter back p g
 unfolding stepOf goes stateIn
 state-is true p g = go (isUngrown g)
   where
@@ -136,7 +137,7 @@ module _ (back : Bool) (p : Parameters) (g : Growth) where
     pub step-movable : validGrowth p g ≡ true → Movable back p g
     step-movable w = movable back p g w to
 
-    state : nextOf back p g ≡ next
+    state : stateAfter back p g ≡ next
     unfolding stateIn
     state = sym (state-is back p g to) ∙ ap stateIn e
 
@@ -147,7 +148,7 @@ module _ (back : Bool) (p : Parameters) (g : Growth) where
         omega (arith, is, page-most back p g w, limits p v .pages-most)
 
     pub regrow-stored : (f : File) (pool : Pool) {f′ : File} {r : Outcome} {a : Grown}
-        → r ≡ growthAnswer p g f (nextOf back p g) page → f′ ≡ growthFile p g f (nextOf back p g) → a ≡ outcomeGrown r g next
+        → r ≡ growthAnswer p g f (stateAfter back p g) page → f′ ≡ growthFile p g f (stateAfter back p g) → a ≡ outcomeGrown r g next
         → Stores (regrowOn back p g f pool) (placed (a .answer)) f′ × (a .growth ≡ regrowOn back p g f pool .growth)
     unfolding steppedOn
     regrow-stored f pool answered filed told =

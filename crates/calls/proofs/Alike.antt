@@ -10,7 +10,8 @@ use lib.ListN.{getD}
 use lib.Seq.{ext-getD}
 use borrow.Author.Tests.{lt-ltb, le-ltb, ltb-true, eq-eqb, eqb-true, not-false}
 use Rattle.buffers.proofs.Tests.{either-false}
-use Rattle.placement.specs.File.{File, Sized}
+use Rattle.placement.specs.File.{File}
+use Rattle.placement.specs.Shape.{Sized}
 use Rattle.reach.specs.Reach.{firstSuch}
 use Rattle.reach.proofs.Search.{Such, such}
 use Rattle.calls.specs.Spots.{differ, differAt, spotIn}

@@ -12,7 +12,8 @@ use Rattle.hashing.specs.declared.Parameters.{Parameters}
 use Rattle.hashing.specs.declared.Growth.{Growth}
 use Rattle.hashing.specs.Geometry.{highest}
 use Rattle.pages.specs.Page.{part}
-use Rattle.calls.specs.Due.{stars, pagesHolding, pagesInUse, exceeds, isDue, isDueAddressed}
+use Rattle.calls.specs.Due.{stars, pagesHolding, pagesInUse, exceeds, isDue}
+use Rattle.calls.specs.Shape.{isDueAddressed}
 
 module _ (places : ℕ) (numbers : List ℕ) where
   -- no further than the pages that hold none, and past each that holds one

@@ -10,7 +10,8 @@ use Rattle.hashing.specs.declared.Parameters.{Parameters}
 use Rattle.hashing.specs.declared.Growth.{Growth}
 use Rattle.hashing.specs.Limits.{validParameters, validGrowth}
 use Rattle.hashing.proofs.Bounds.{limits, both}
-use Rattle.placement.specs.File.{File, Sized}
+use Rattle.placement.specs.File.{File}
+use Rattle.placement.specs.Shape.{Sized}
 use Rattle.placement.specs.Ready.{Pooled}
 use Rattle.placement.proofs.Prepared.{ready, pool-ready}
 use Rattle.calls.specs.declared.answers.Refusal.{Refusal}
@@ -34,9 +35,10 @@ use Rattle.calls.specs.declared.answers.Refusal.the-variants.{
 }
 use Rattle.calls.specs.declared.answers.Admission.{Admission}
 use Rattle.calls.specs.declared.answers.Admission.the-variants.{Passed, Refused}
-use Rattle.calls.specs.Answers.{Answer, After, Pool, Leaves, refusalNumber, admissionNumber, refusedBy}
+use Rattle.calls.specs.Answers.{Answer, After, Pool, Leaves, refusalNumber, refusedBy}
+use Rattle.calls.specs.Shape.{admissionNumber}
 use Rattle.calls.specs.Calls.{unless, orElse, unlent, guarded, unchanged, fileFits, poolFits}
-use Rattle.calls.specs.Lent.{Admitted}
+use Rattle.calls.specs.Shape.{Admitted}
 
 pub bad-state : (p : Parameters) (g : Growth) (lengths : Bool) → validParameters p && validGrowth p g ≡ false → unlent p g lengths ≡ 1
 unfolding unlent

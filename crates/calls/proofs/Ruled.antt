@@ -14,7 +14,8 @@ use Rattle.hashing.specs.declared.Parameters.{Parameters}
 use Rattle.hashing.specs.declared.Growth.{Growth}
 use Rattle.pages.specs.Position.{validWord}
 use Rattle.placement.specs.Rule.{Star, Contents, pages, separators}
-use Rattle.placement.specs.File.{File, Sized, Clean, gathered, column, replaced, fileOf, laid}
+use Rattle.placement.specs.File.{File, Clean, gathered, column, replaced, fileOf, laid}
+use Rattle.placement.specs.Shape.{Sized}
 use Rattle.placement.specs.Hash.{hashOf, soundAt}
 use Rattle.placement.proofs.Composition.{length-pages}
 use Rattle.placement.proofs.Standing.{length-separators}

@@ -12,7 +12,8 @@ use Rattle.hashing.specs.declared.Growth.{Growth}
 use Rattle.hashing.specs.Limits.{validParameters, validGrowth}
 use Rattle.pages.specs.Position.{validWord}
 use Rattle.placement.specs.Rule.{pour}
-use Rattle.placement.specs.File.{File, Sized, Clean, starsAt, gathered, laid}
+use Rattle.placement.specs.File.{File, Clean, starsAt, gathered, laid}
+use Rattle.placement.specs.Shape.{Sized}
 use Rattle.placement.specs.Hash.{hashOf, lent}
 use Rattle.placement.proofs.Files.{sized-laid}
 use Rattle.placement.proofs.Sound.{sound-facts, gathered-proper}

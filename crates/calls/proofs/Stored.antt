@@ -10,7 +10,8 @@ use lib.Dec.{eqb, leb}
 use lib.ListN.{length, take}
 use borrow.Author.Tests.{leb-true, le-leb, ne-eqb}
 use Rattle.placement.specs.Rule.{keep}
-use Rattle.placement.specs.File.{File, Sized}
+use Rattle.placement.specs.File.{File}
+use Rattle.placement.specs.Shape.{Sized}
 use Rattle.placement.proofs.Files.{determined}
 use Rattle.hashing.specs.declared.Parameters.{Parameters}
 use Rattle.page_store.specs.Columns.{Columns, columns}
@@ -21,7 +22,8 @@ use Rattle.page_store.proofs.Loop.{Fits}
 use Rattle.page_store.proofs.Laws.{numbers-all, words-all, owners-all}
 use Rattle.page_store.proofs.Whole.{finished, changed-whole, numbers-whole, words-whole, owners-whole}
 use Rattle.calls.specs.Answers.{After}
-use Rattle.calls.specs.Stores.{pageChanges, downward, upward, pageStored, pagesStored, storedFile, storeOrder, stopped}
+use Rattle.calls.specs.Stores.{pageChanges, downward, upward, pageStored, pagesStored, storedFile, storeOrder}
+use Rattle.calls.specs.Shape.{stopped}
 use Rattle.calls.proofs.Stores.{SamePage, same-self, unchanged-same, same-unchanged, none-upward, one-upward, downward-none, length-downward, length-upward, all-stored, all-stores}
 
 abbrev pub cols : File → Columns
@@ -34,10 +36,10 @@ in-file : (b : ℕ) (f l : File) (r : ℕ) → alike.SamePage b (cols f) (cols l
 in-file b f l r s = record { numbers = s .numbers; words = s .words; owners = s .owners }
 
 -- The two tests of a page agree.
-pub same-test : (b M : ℕ) (f l : File) (r : ℕ) → Sized b M f → Sized b M l → r < M → pageChanges b f l r ≡ storing.pageChanges b (cols f) (cols l) r
-same-test b M f l r zf zl h = go (pageChanges b f l r) refl (storing.pageChanges b (cols f) (cols l) r) refl
+pub same-test : (b M : ℕ) (f l : File) (r : ℕ) → Sized b M f → Sized b M l → r < M → pageChanges b f l r ≡ storing.columnsChange b (cols f) (cols l) r
+same-test b M f l r zf zl h = go (pageChanges b f l r) refl (storing.columnsChange b (cols f) (cols l) r) refl
   where
-    go : (s : Bool) → pageChanges b f l r ≡ s → (t : Bool) → storing.pageChanges b (cols f) (cols l) r ≡ t → s ≡ t
+    go : (s : Bool) → pageChanges b f l r ≡ s → (t : Bool) → storing.columnsChange b (cols f) (cols l) r ≡ t → s ≡ t
     go true d true e = refl
     go false d false e = refl
     go false d true e = absurd (true≢false (sym e ∙ alike.same-unchanged b (cols f) (cols l) r (in-columns b f l r (unchanged-same b M f l r zf zl h d))))
@@ -47,21 +49,21 @@ kept : (t : Bool) (x : ℕ) (l : List ℕ) → keep t x l ≡ cond t (x ∷ l) l
 kept true x l = refl
 kept false x l = refl
 
-down-same : (b M : ℕ) (f l : File) → Sized b M f → Sized b M l → (m : ℕ) → m ≤ M → downward b f l m ≡ highestFirst (storing.pageChanges b (cols f) (cols l)) 0 m
+down-same : (b M : ℕ) (f l : File) → Sized b M f → Sized b M l → (m : ℕ) → m ≤ M → downward b f l m ≡ highestFirst (storing.columnsChange b (cols f) (cols l)) 0 m
 unfolding downward highestFirst
 down-same b M f l zf zl zero h = refl
 down-same b M f l zf zl (suc m) h =
     kept (pageChanges b f l m) m (downward b f l m)
     ∙ rw (zero-add m, same-test b M f l m zf zl h)
-    (ap (λ (k : List ℕ). cond (storing.pageChanges b (cols f) (cols l) m) (m ∷ k) k) (down-same b M f l zf zl m (omega arith)))
+    (ap (λ (k : List ℕ). cond (storing.columnsChange b (cols f) (cols l) m) (m ∷ k) k) (down-same b M f l zf zl m (omega arith)))
 
-up-same : (b M : ℕ) (f l : File) → Sized b M f → Sized b M l → (p m : ℕ) → p + m ≤ M → upward b f l p m ≡ lowestFirst (storing.pageChanges b (cols f) (cols l)) p m
+up-same : (b M : ℕ) (f l : File) → Sized b M f → Sized b M l → (p m : ℕ) → p + m ≤ M → upward b f l p m ≡ lowestFirst (storing.columnsChange b (cols f) (cols l)) p m
 unfolding upward lowestFirst
 up-same b M f l zf zl p zero h = refl
 up-same b M f l zf zl p (suc m) h =
     kept (pageChanges b f l p) p (upward b f l (suc p) m)
     ∙ rw (same-test b M f l p zf zl (omega arith))
-    (ap (λ (k : List ℕ). cond (storing.pageChanges b (cols f) (cols l) p) (p ∷ k) k) (up-same b M f l zf zl (suc p) m (omega arith)))
+    (ap (λ (k : List ℕ). cond (storing.columnsChange b (cols f) (cols l) p) (p ∷ k) k) (up-same b M f l zf zl (suc p) m (omega arith)))
 
 -- The paper's list of stores over the whole file.
 pub order-is : (up : Bool) (b M : ℕ) (f l : File) → Sized b M f → Sized b M l → storeOrder up b f l M ≡ changedPages up b 0 M (cols f) (cols l)

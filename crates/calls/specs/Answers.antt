@@ -11,26 +11,7 @@ use Rattle.placement.specs.File.{File}
 pub use Rattle.placement.specs.Hash.{lent}
 pub use Rattle.calls.specs.declared.answers.Answer.{Answer}
 use Rattle.calls.specs.declared.answers.Refusal.{Refusal}
-use Rattle.calls.specs.declared.answers.Refusal.the-variants.{
-  BadParameters,
-  BadLength,
-  BadNumber,
-  BadPosition,
-  Damaged,
-  Held,
-  NotHeld,
-  Full,
-  Ungrown,
-  BadHeader,
-  BadRows,
-  ShortOutput,
-  NotOwner,
-  TrayFull,
-  BadContents,
-  OutOfTurn,
-}
-use Rattle.calls.specs.declared.answers.Admission.{Admission}
-use Rattle.calls.specs.declared.answers.Admission.the-variants.{Passed, Refused as TurnedAway}
+use Rattle.calls.specs.declared.answers.Refusal.the-variants.{BadParameters, BadLength, BadNumber, BadPosition, Damaged, Held, NotHeld, Full, Ungrown, BadHeader, BadRows, ShortOutput, NotOwner, TrayFull, BadContents, OutOfTurn}
 use Rattle.calls.specs.declared.answers.Placed.{Placed}
 use Rattle.calls.specs.declared.answers.Placed.the-variants.{On, Refused as NotPlaced}
 use Rattle.calls.specs.declared.answers.Found.{Found}
@@ -117,11 +98,6 @@ refusalPage TrayFull = 0
 refusalPage BadContents = 0
 refusalPage OutOfTurn = 0
 
--- 0 if the test that a call begins with is passed
-abbrev pub admissionNumber : Admission → ℕ
-admissionNumber Passed = 0
-admissionNumber (TurnedAway r) = refusalNumber r
-
 -- refused, with a place
 unfoldable pub refusedBy : Refusal → ℕ → Answer
 refusedBy r place = spotted (refusalNumber r) (refusalPage r) place
@@ -178,8 +154,3 @@ pub record Leaves (after : After) (answer : Answer) (file : File) (pool : Pool) 
   pub answers : answer ≡ after .answer
   pub files : file ≡ after .file
   pub pools : pool ≡ after .pool
-
--- the same of the answer and the file alone
-pub record Stores (after : After) (answer : Answer) (file : File) : Type 0 where
-  pub answers : answer ≡ after .answer
-  pub files : file ≡ after .file

@@ -29,7 +29,3 @@ exceeds p pages count = ltb (p .load * p .places * pages) (100 * count)
 
 unfoldable pub isDue : Parameters → Growth → List ℕ → Bool
 isDue p g numbers = exceeds p (pagesInUse p g numbers) (stars numbers)
-
--- document 01's rule, "A·b·(highest address + 1)"
-unfoldable pub isDueAddressed : Parameters → Growth → List ℕ → Bool
-isDueAddressed p g numbers = exceeds p (highest p g + 1) (stars numbers)

@@ -34,7 +34,3 @@ firstSpot p f l = spotIn (p .pages) (p .places) f l
 unfoldable pub ruled : Parameters → Growth → File → File
 ruled p g f =
     replaced (p .places) f 0 (pages (hashOf p g) 0 (p .pages) (gathered (p .places) f 0 (p .pages)))
-
--- "the first page and place that differ from the rule over the whole file"
-abbrev pub spotOf : Parameters → Growth → File → ℕ
-spotOf p g f = firstSpot p f (ruled p g f)

@@ -31,8 +31,8 @@ choiceOf p stars =
     (record { answer = counted (exceeds p (pageCount p (stateFor p stars)) stars) stars; growth = stateFor p stars })
     (record { answer = refused 1 0; growth = ungrown })
 
-abbrev pub told : Chosen → Choice
-told r = record { answer = dueSaid (r .answer); growth = r .growth }
+abbrev pub chosenAs : Chosen → Choice
+chosenAs r = record { answer = dueSaid (r .answer); growth = r .growth }
 
 -- valid; with fewer pages addressed growth would be due; due itself only where every page is addressed
 pub record Suits (p : Parameters) (stars : ℕ) (g : Growth) : Type 0 where

@@ -4,7 +4,7 @@ ghost use mathlib.Core.Bool.{true};
 ghost use Prim.Native.Nat.{_≤_};
 ghost use Rattle.hashing.specs.Limits.{validParameters, validGrowth};
 ghost use Rattle.calls.specs.Due.{exceeds as Due·exceeds};
-ghost use Rattle.capacity.specs.State.{stateFor, choiceOf, told};
+ghost use Rattle.capacity.specs.State.{stateFor, choiceOf, chosenAs};
 use calls::answers::Due;
 use calls::answers::Refusal;
 use hashing::Geometry;
@@ -18,7 +18,7 @@ pub struct Chosen {
 }
 
 pub fn state_for(parameters: Parameters, stars: u32) -> Chosen
-    ensures choice { λ r. ⌜ told r ≡ choiceOf parameters stars ⌝ }
+    ensures choice { λ r. ⌜ chosenAs r ≡ choiceOf parameters stars ⌝ }
 {
     if !hashing::parameters_valid(parameters) {
         let growth = Growth {

@@ -15,10 +15,12 @@ use Rattle.hashing.specs.declared.Parameters.{Parameters}
 use Rattle.hashing.specs.declared.Geometry.{Geometry}
 use Rattle.hashing.specs.Limits.{validParameters, validGrowth}
 use Rattle.hashing.proofs.Bounds.{limits, both}
-use Rattle.pages.specs.Page.{stretch}
+use Rattle.pages.specs.Shape.{stretch}
 use Rattle.placement.specs.Rule.{Star, pages, left, separators}
-use Rattle.placement.specs.File.{File, Sized, column, fileOf, laid}
-use Rattle.placement.specs.Hash.{hashOf, homeIn, homesOf, lent}
+use Rattle.placement.specs.File.{File, column, fileOf, laid}
+use Rattle.placement.specs.Shape.{Sized}
+use Rattle.placement.specs.Hash.{hashOf, lent}
+use Rattle.placement.specs.Shape.{homeIn, homesOf}
 use Rattle.placement.proofs.Mapping.{mapped}
 use Rattle.placement.proofs.Prepared.{ready}
 use Rattle.placement.proofs.Standing.{length-separators}
@@ -41,7 +43,7 @@ use Rattle.calls.specs.declared.records.GrowthRecord.{GrowthRecord}
 use Rattle.calls.specs.declared.records.Recorded.{Recorded}
 use Rattle.calls.specs.Answers.{Pool, placed, refusedBy, accepted, refused, cleared}
 use Rattle.calls.specs.Carry.{validState, carryStates, carryLengths, carryOn, carryOf}
-use Rattle.calls.specs.Lent.{Admitted}
+use Rattle.calls.specs.Shape.{Admitted}
 use Rattle.calls.specs.Records.{AfterStep, notStepped, LeavesStep}
 use Rattle.calls.proofs.CarryRefusals.{carry-refusals}
 use Rattle.calls.proofs.Refusals.{sized, pool-sized}

@@ -16,7 +16,8 @@ use Rattle.hashing.specs.Limits.{validParameters, validGrowth}
 use Rattle.hashing.proofs.Bounds.{limits}
 use Rattle.placement.specs.Rule.{Star, Hash, pages, left, separators}
 use Rattle.placement.specs.File.{column}
-use Rattle.placement.specs.Hash.{hashOf, homeUnder, homeIn, homesOf}
+use Rattle.placement.specs.Hash.{hashOf}
+use Rattle.placement.specs.Shape.{homeUnder, homeIn, homesOf}
 use Rattle.placement.proofs.Composition.{crowded}
 use Rattle.placement.proofs.Probing.{homed-real}
 use Rattle.placement.proofs.Standing.{length-separators}

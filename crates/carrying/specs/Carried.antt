@@ -9,7 +9,8 @@ use Rattle.hashing.specs.declared.Parameters.{Parameters}
 use Rattle.hashing.specs.declared.Geometry.{Geometry}
 use Rattle.placement.specs.Rule.{Star, left, separators}
 use Rattle.placement.specs.File.{File, column, laid}
-use Rattle.placement.specs.Hash.{hashOf, homesOf, lent}
+use Rattle.placement.specs.Hash.{hashOf, lent}
+use Rattle.placement.specs.Shape.{homesOf}
 use Rattle.plan_transfer.specs.Sources.{namedItem}
 use Rattle.page_plan.specs.Gather.{wordsFrom}
 use Rattle.reach.specs.Reach.{isEmpty, allStars, firstUnsound}

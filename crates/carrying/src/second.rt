@@ -5,7 +5,7 @@ ghost use mathlib.Core.List.{map};
 ghost use Prim.Native.Nat.{_*_, _^_, _≤_, _<_};
 ghost use lib.ListN.{length, take};
 ghost use Rattle.plan_transfer.specs.Sources.{namedItem};
-ghost use Rattle.generator.specs.Generator.{firstMultipliers};
+ghost use Rattle.generator.specs.Shape.{firstMultipliers};
 ghost use Rattle.hashing.specs.Geometry.{multiplierOf};
 ghost use Rattle.placement.specs.Hash.{lent};
 ghost use Rattle.placement.specs.Lent.{held, before, after};

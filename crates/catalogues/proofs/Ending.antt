@@ -8,7 +8,7 @@ use lib.ListN.{length}
 use Rattle.buffers.proofs.Tests.{either-false}
 use Rattle.lines.specs.declared.Line.{Line}
 use Rattle.lines.specs.Grammar.{commandOf, noBytes, lineBytes}
-use Rattle.lines.specs.Replies.{Written}
+use Rattle.lines.specs.Replies.{TextAt}
 use Rattle.catalogues.specs.declared.collecting.Collection.{Collection}
 use Rattle.catalogues.specs.declared.entries.Effect.{Effect}
 use Rattle.catalogues.specs.Entries.{rowsHeld, effectOf, addedTo, isRefusal, effectText}
@@ -36,7 +36,7 @@ module _ (c : Collection) (ns ws : List ℕ) where
 
   pub line-ended : (ns′ ws′ : List ℕ) (e : Effect) (lines count : ℕ) (refused : Bool) (line : Line) (at next : ℕ) (out out′ : List ℕ)
       → Fit c ns ws → e ≡ effectOf (rowsHeld (c .count) ns ws) (commandOf (lineBytes (c .line))) → lines ≡ lineAfter (c .lines)
-      → Written at (effectText lines e) out out′ next
+      → TextAt at (effectText lines e) out out′ next
       → rowsHeld count ns′ ws′ ≡ addedTo (rowsHeld (c .count) ns ws) e → count ≤ 32768 → length ns′ ≡ length ns → length ws′ ≡ length ws
       → refused ≡ (c .refused || isRefusal e) → lineBytes line ≡ []
       → Stands (ended (runOf c ns ws)) at out out′ (record { line = line; count = count; lines = lines; refused = refused }) ns′ ws′ next
@@ -80,12 +80,12 @@ module _ (c : Collection) (ns ws : List ℕ) where
     unfolding runOf
     was-refused = ap (λ (x : Catalogue). x .refused) (s .state)
 
-    pub last-refused : all .refused ≡ true → Written 0 (lastOf (runOf c ns ws)) out mid at
+    pub last-refused : all .refused ≡ true → TextAt 0 (lastOf (runOf c ns ws)) out mid at
     unfolding lastOf tableUnless followedBy runOf
     last-refused h = rw (sym was-refused ∙ h, append-nil (closed (runOf c ns ws) .text)) (s .text)
 
-    pub last-table : (after : List ℕ) (n : ℕ) → all .refused ≡ false → Written 0 (tableFrom (rowsHeld (all .count) ns′ ws′)) mid after n
-        → Written 0 (lastOf (runOf c ns ws)) out after n
+    pub last-table : (after : List ℕ) (n : ℕ) → all .refused ≡ false → TextAt 0 (tableFrom (rowsHeld (all .count) ns′ ws′)) mid after n
+        → TextAt 0 (lastOf (runOf c ns ws)) out after n
     unfolding lastOf tableUnless followedBy runOf
     last-table after n h w =
         let none : closed (runOf c ns ws) .text ≡ [] = closed-quiet (sym was-refused ∙ h) in

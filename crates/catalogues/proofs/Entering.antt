@@ -9,15 +9,16 @@ use native.Mathlib.Omega.{arith}
 use lib.Dec.{eqb, ltb}
 use lib.ListN.{length, length-append}
 use borrow.Author.Tests.{ltb-true, eqb-false, lt-ltb, le-ltb}
-use Rattle.fits_table.specs.Items.{All}
+use Rattle.fits_table.specs.Order.{All}
 use Rattle.lines.specs.declared.Command.{Command}
 use Rattle.lines.specs.declared.Command.the-variants.{Enter, LookUp, Remove, Grow, Bad}
-use Rattle.lines.specs.Replies.{Written}
+use Rattle.lines.specs.Replies.{TextAt}
 use Rattle.lines.proofs.Digits.{length-field}
 use Rattle.pages.specs.declared.position.Position.{Position}
 use Rattle.pages.specs.Position.{validNumber, validPosition, validWord, packed}
 use Rattle.pages.proofs.Words.{pack-valid}
-use Rattle.catalogues.specs.Entries.{standingOf, collected, entryOf, effectOf, addedTo, isAdded, isRefusal, effectText}
+use Rattle.catalogues.specs.Entries.{standingOf, effectOn, entryOf, effectOf, addedTo, isRefusal, effectText}
+use Rattle.catalogues.specs.Shape.{isAdded}
 use Rattle.catalogues.specs.Runs.{Proper}
 use Rattle.catalogues.specs.declared.entries.Standing.{Standing}
 use Rattle.catalogues.specs.declared.entries.Standing.the-variants.{New, Same, Other}
@@ -37,7 +38,7 @@ Good rows (Refused n) = Unit {0}
 Good rows Malformed = Unit {0}
 
 entry-good : (rows : List (ℕ × ℕ)) (number : ℕ) (p : Position) → Good rows (entryOf rows number p)
-unfolding entryOf collected
+unfolding entryOf effectOn
 entry-good rows number p = go (validNumber number) refl (validPosition p) refl
   where
     placed : (t : Bool) → ltb (length rows) 32768 ≡ t → validNumber number ≡ true → validPosition p ≡ true → standingOf number (packed p) rows ≡ New
@@ -46,13 +47,13 @@ entry-good rows number p = go (validNumber number) refl (validPosition p) refl
     placed false e n v s = tt
 
     by : (s : Standing) → standingOf number (packed p) rows ≡ s → validNumber number ≡ true → validPosition p ≡ true
-        → Good rows (collected s rows number (packed p))
+        → Good rows (effectOn s rows number (packed p))
     by New e n v = placed (ltb (length rows) 32768) refl n v e
     by Same e n v = tt
     by Other e n v = tt
 
     go : (a : Bool) → validNumber number ≡ a → (b : Bool) → validPosition p ≡ b
-        → Good rows (cond a (cond b (collected (standingOf number (packed p) rows) rows number (packed p)) (Refused 4)) (Refused 3))
+        → Good rows (cond a (cond b (effectOn (standingOf number (packed p) rows) rows number (packed p)) (Refused 4)) (Refused 3))
     go true n true v = by (standingOf number (packed p) rows) refl n v
     go true n false v = tt
     go false n b v = tt
@@ -114,11 +115,11 @@ text-short n Repeated = omega arith
 text-short n (Refused r) = simp length-append (omega (arith, length-field r 32, length-field n 10))
 text-short n Malformed = omega (arith, length-field n 10)
 
-pub nothing-put : (at : ℕ) (l : List ℕ) → Written at [] l l at
+pub nothing-put : (at : ℕ) (l : List ℕ) → TextAt at [] l l at
 nothing-put at l = record { buffer = refl; end = sym (add-zero at) }
 
-pub put-short : (n at : ℕ) (text before after : List ℕ) (next : ℕ) → Written at text before after next → length text ≤ n
-    → (Written at text before after next) × (next ≤ at + n)
+pub put-short : (n at : ℕ) (text before after : List ℕ) (next : ℕ) → TextAt at text before after next → length text ≤ n
+    → (TextAt at text before after next) × (next ≤ at + n)
 put-short n at text before after next w h = (w, omega (arith, w .end))
 
 -- an entry, test by test
@@ -132,22 +133,22 @@ module _ (rows : List (ℕ × ℕ)) (n : ℕ) (p : Position) where
   position-refused e f = rw (e, f)
 
   module _ (e : validNumber n ≡ true) (f : validPosition p ≡ true) (word : ℕ) (w : word ≡ packed p) (s : Standing) (t : s ≡ standingOf n word rows) where
-    stands : collected s rows n word ≡ entryOf rows n p
+    stands : effectOn s rows n word ≡ entryOf rows n p
     unfolding entryOf
     stands = rw (e, f, ← w, ← t)
 
     pub full : s ≡ New → 32768 ≤ length rows → Refused 8 ≡ entryOf rows n p
-    unfolding collected
-    full k h = let z : collected New rows n word ≡ Refused 8 = rw (le-ltb (length rows) 32768 h) in sym (sym stands ∙ ap (λ (x : Standing). collected x rows n word) k ∙ z)
+    unfolding effectOn
+    full k h = let z : effectOn New rows n word ≡ Refused 8 = rw (le-ltb (length rows) 32768 h) in sym (sym stands ∙ ap (λ (x : Standing). effectOn x rows n word) k ∙ z)
 
     pub taken : s ≡ New → length rows < 32768 → Added n word ≡ entryOf rows n p
-    unfolding collected
-    taken k h = let z : collected New rows n word ≡ Added n word = rw (lt-ltb (length rows) 32768 h) in sym (sym stands ∙ ap (λ (x : Standing). collected x rows n word) k ∙ z)
+    unfolding effectOn
+    taken k h = let z : effectOn New rows n word ≡ Added n word = rw (lt-ltb (length rows) 32768 h) in sym (sym stands ∙ ap (λ (x : Standing). effectOn x rows n word) k ∙ z)
 
     pub again : s ≡ Same → Repeated ≡ entryOf rows n p
-    unfolding collected
-    again k = sym (sym stands ∙ ap (λ (x : Standing). collected x rows n word) k)
+    unfolding effectOn
+    again k = sym (sym stands ∙ ap (λ (x : Standing). effectOn x rows n word) k)
 
     pub other : s ≡ Other → Refused 6 ≡ entryOf rows n p
-    unfolding collected
-    other k = sym (sym stands ∙ ap (λ (x : Standing). collected x rows n word) k)
+    unfolding effectOn
+    other k = sym (sym stands ∙ ap (λ (x : Standing). effectOn x rows n word) k)

@@ -15,7 +15,7 @@ use mir.Val.{toZ, ofZ}
 use mir.ValLaws.{toZ-ofZ}
 use lib.ListN.{length, getD, take, drop, length-append}
 use lib.Seq.{take-all, take-append-le, take-append-add, take-take, length-take-le, paste, take-paste}
-use Rattle.lines.specs.Replies.{Written}
+use Rattle.lines.specs.Replies.{TextAt}
 use Rattle.lines.proofs.Writing.{then}
 use Rattle.fits_table.specs.Header.{tableIn}
 use Rattle.fits_table.specs.Rows.{from32, positionAt, rowAt, goodRows, rowsRead}
@@ -28,8 +28,10 @@ use Rattle.fits_table.proofs.Reading.{told}
 use Rattle.pages.specs.Page.{empties}
 use Rattle.pages.specs.Position.{validWord, packed, unpacked}
 use Rattle.pages.proofs.Words.{valid-word, lowers}
-use Rattle.catalogues.specs.Listing.{rowLine, lineAt, rowLines, refusalLine, listedBy, listed, keptTable, keptBlocks, isTable, converted, programOut, least, atFirst, partBy, partOf, inParts}
-use Rattle.catalogues.specs.Runs.{fromLines, opened, joined, writtenOut}
+use Rattle.catalogues.specs.Listing.{rowLine, rowLines, refusalLine, listedBy, listed, keptTable, keptBlocks, isTable, converted, programOut, least, atFirst, partBy, partOf, inParts}
+use Rattle.catalogues.specs.Shape.{lineAt}
+use Rattle.catalogues.specs.Runs.{fromLines, opened, writtenOut}
+use Rattle.catalogues.specs.Shape.{joined}
 use Rattle.catalogues.proofs.Running.{every-catalogue}
 
 lines-next : (l : List ℕ) (at i : ℕ) → rowLines (rowsRead l at (suc i)) ≡ rowLines (rowsRead l at i) ++ lineAt l (at + 12 * i)
@@ -41,8 +43,8 @@ lines-next l at (suc i) =
     ∙ ap (λ (k : ℕ). (lineAt l at ++ rowLines (rowsRead l (at + 12) i)) ++ lineAt l k) (step at i)
 
 -- one row's line behind those before it
-pub line-more : (l : List ℕ) (first i at next : ℕ) (out mid after : List ℕ) → Written 0 (rowLines (rowsRead l (5760 + 12 * first) i)) out mid at
-    → Written at (lineAt l (5760 + 12 * (first + i))) mid after next → Written 0 (rowLines (rowsRead l (5760 + 12 * first) (i + 1))) out after next
+pub line-more : (l : List ℕ) (first i at next : ℕ) (out mid after : List ℕ) → TextAt 0 (rowLines (rowsRead l (5760 + 12 * first) i)) out mid at
+    → TextAt at (lineAt l (5760 + 12 * (first + i))) mid after next → TextAt 0 (rowLines (rowsRead l (5760 + 12 * first) (i + 1))) out after next
 line-more l first i at next out mid after p q =
     let e : 5760 + 12 * (first + i) ≡ 5760 + 12 * first + 12 * i = omega arith in
     rw (add-one i, lines-next l (5760 + 12 * first) i)
@@ -178,7 +180,7 @@ module _ (l : List ℕ) (n i : ℕ) (g : goodRows 0 l 5760 n ≡ true) (h : i < 
   is-star = e ∙ good-row l n 0 5760 i g h
 
   pub row-put : (number word : ℕ) → r ≡ Star number word → (at next : ℕ) (before after : List ℕ)
-      → Written at (rowLine number word) before after next → Written at (lineAt l (5760 + 12 * i)) before after next
+      → TextAt at (rowLine number word) before after next → TextAt at (lineAt l (5760 + 12 * i)) before after next
   row-put number word t at next before after w =
       let both : Star number word ≡ Star (from32 l (5760 + 12 * i)) (packed (positionAt l (5760 + 12 * i))) = sym t ∙ is-star in
       let a : number ≡ from32 l (5760 + 12 * i) = cc in

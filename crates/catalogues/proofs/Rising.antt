@@ -10,13 +10,15 @@ use lib.Dec.{leb, eqb}
 use lib.ListN.{length, getD, take, length-map}
 use lib.Seq.{length-take-le, sets-eq}
 use Rattle.buffers.specs.Lists.{written}
-use Rattle.lines.specs.Replies.{Written}
+use Rattle.lines.specs.Replies.{TextAt}
 use borrow.Author.Tests.{leb-true, ne-eqb}
 use Rattle.buffers.proofs.Tests.{and-true}
 use Rattle.pages.specs.Position.{validNumber, validWord}
 use Rattle.fits_table.specs.Header.{tableLength}
-use Rattle.fits_table.specs.Items.{insertBy, sortBy, keptItem, heldItems, All}
-use Rattle.fits_table.specs.Rows.{rowOf, rowsIn, tableOf, RowsUp}
+use Rattle.fits_table.specs.Items.{keptItem, heldItems}
+use Rattle.fits_table.specs.Order.{insertBy, sortBy, All}
+use Rattle.fits_table.specs.Rows.{tableOf}
+use Rattle.fits_table.specs.Shape.{rowOf, rowsIn, RowsUp}
 use Rattle.fits_table.proofs.Orders.{all-map, all-insert, all-sort, Up, up-sort, length-sort}
 use Rattle.fits_table.proofs.FileRows.{map-sort}
 use Rattle.fits_table.proofs.Told.{table-long}
@@ -131,7 +133,7 @@ module _ (k : ℕ) (ns ws : List ℕ) (p : k ≤ length ns) (q : k ≤ length ws
       table-long (sortBy number (rowsHeld k ns ws)) ∙ ap tableLength (length-sort number (rowsHeld k ns ws) ∙ held-length k ns ws p q)
 
   pub table-put : (out out′ : List ℕ) → tableLength k ≤ length out → out′ ≡ written 0 (tableOf (rowsIn (take k ns) (take k ws))) out
-      → Written 0 (tableFrom (rowsHeld k ns ws)) out out′ (tableLength k)
+      → TextAt 0 (tableFrom (rowsHeld k ns ws)) out out′ (tableLength k)
   unfolding written
   table-put out out′ h e =
       record {

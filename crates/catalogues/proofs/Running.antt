@@ -10,28 +10,8 @@ use lib.Seq.{take-suc}
 use Rattle.lines.proofs.Writing.{then}
 use Rattle.lines.proofs.Kept.{kept-command, kept-then, kept-empty}
 use Rattle.lines.specs.Grammar.{commandOf, noBytes, kept, linesFrom, linesOf}
-use Rattle.catalogues.specs.Runs.{
-  Catalogue,
-  noLines,
-  nextOf,
-  textOf,
-  tableUnless,
-  putOut,
-  fromLines,
-  Run,
-  opened,
-  ended,
-  steppedBy,
-  runs,
-  followedBy,
-  closed,
-  lastOf,
-  joined,
-  writtenOut,
-  runOf,
-  Fit,
-  Stands,
-}
+use Rattle.catalogues.specs.Runs.{Catalogue, noLines, nextOf, textOf, tableUnless, putOut, fromLines, Run, opened, ended, steppedBy, runs, followedBy, closed, lastOf, writtenOut, runOf, Fit, Stands}
+use Rattle.catalogues.specs.Shape.{joined}
 use Rattle.catalogues.specs.declared.collecting.Collection.{Collection}
 
 runs-append : (r : Run) (a b : List ℕ) → runs r (a ++ b) ≡ runs (runs r a) b

@@ -31,15 +31,15 @@ standingOf number word [] = New
 standingOf number word (r ∷ rs) = cond (eqb (r .0) number) (cond (eqb (r .1) word) Same Other) (standingOf number word rs)
 
 -- "An entry of a held star with exactly its stored position is now accepted .. and changes nothing .. Any other position is 6." (v)
-unfoldable pub collected : Standing → List (ℕ × ℕ) → ℕ → ℕ → Effect
-collected New rows number word = cond (ltb (length rows) 32768) (Added number word) (Refused 8)
-collected Same rows number word = Repeated
-collected Other rows number word = Refused 6
+unfoldable pub effectOn : Standing → List (ℕ × ℕ) → ℕ → ℕ → Effect
+effectOn New rows number word = cond (ltb (length rows) 32768) (Added number word) (Refused 8)
+effectOn Same rows number word = Repeated
+effectOn Other rows number word = Refused 6
 
 unfoldable pub entryOf : List (ℕ × ℕ) → ℕ → Position → Effect
 entryOf rows number position =
     cond (validNumber number)
-    (cond (validPosition position) (collected (standingOf number (packed position) rows) rows number (packed position)) (Refused 4))
+    (cond (validPosition position) (effectOn (standingOf number (packed position) rows) rows number (packed position)) (Refused 4))
     (Refused 3)
 
 -- only lines `E number ra dec` belong in a catalogue
@@ -55,12 +55,6 @@ addedTo rows (Added number word) = rows ++ ((number, word) ∷ [])
 addedTo rows Repeated = rows
 addedTo rows (Refused n) = rows
 addedTo rows Malformed = rows
-
-unfoldable pub isAdded : Effect → Bool
-isAdded (Added number word) = true
-isAdded Repeated = false
-isAdded (Refused n) = false
-isAdded Malformed = false
 
 unfoldable pub isRefusal : Effect → Bool
 isRefusal (Added number word) = false

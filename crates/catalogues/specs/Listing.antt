@@ -1,15 +1,15 @@
 -- A table as lines, and which input is a table.
 -- Assumes nothing.
-use mathlib.Core.Bool.{Bool, true, false, cond, _&&_}
+use mathlib.Core.Bool.{Bool, false, cond, _&&_}
 use mathlib.Core.List.{List, [], _∷_, _++_}
 use Prim.Native.Nat.{ℕ, _+_, _-_, _*_}
 use lib.Dec.{eqb, ltb}
 use lib.ListN.{take, drop}
 use Rattle.lines.specs.Replies.{fieldBytes, signedDigits}
 use Rattle.pages.specs.Page.{empties}
-use Rattle.pages.specs.Position.{packed, unpacked}
+use Rattle.pages.specs.Position.{unpacked}
 use Rattle.fits_table.specs.Header.{tableIn}
-use Rattle.fits_table.specs.Rows.{from32, positionAt, goodRows, rowsRead}
+use Rattle.fits_table.specs.Rows.{goodRows, rowsRead}
 use Rattle.fits_table.specs.declared.cards.Table.{Table}
 use Rattle.fits_table.specs.declared.cards.Table.the-variants.{Rows, Nothing}
 use Rattle.catalogues.specs.Runs.{fromLines, opened, writtenOut}
@@ -23,10 +23,6 @@ isTable (c ∷ l) = eqb c 83
 unfoldable pub rowLine : ℕ → ℕ → List ℕ
 rowLine number word =
     (69 ∷ 32 ∷ []) ++ (fieldBytes number 32 ++ (fieldBytes (unpacked word .ra) 32 ++ (signedDigits (unpacked word .dec) ++ (10 ∷ []))))
-
--- of the row at byte `at`
-abbrev pub lineAt : List ℕ → ℕ → List ℕ
-lineAt given at = rowLine (from32 given at) (packed (positionAt given at))
 
 unfoldable pub rowLines : List (ℕ × ℕ) → List ℕ
 rowLines [] = []

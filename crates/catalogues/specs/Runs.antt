@@ -3,14 +3,14 @@
 use mathlib.Core.Path.{_≡_}
 use mathlib.Core.Bool.{Bool, true, false, cond, _||_}
 use mathlib.Core.List.{List, [], _∷_, _++_, map}
-use Prim.Native.Nat.{ℕ, _+_, _<_, _≤_}
+use Prim.Native.Nat.{ℕ, _+_, _≤_}
 use lib.Dec.{eqb, ltb}
 use lib.ListN.{length}
 use Rattle.lines.specs.declared.Command.{Command}
 use Rattle.lines.specs.Grammar.{commandOf, noBytes, kept, linesOf, lineBytes}
-use Rattle.lines.specs.Replies.{Written}
+use Rattle.lines.specs.Replies.{TextAt}
 use Rattle.pages.specs.Position.{validNumber, validWord}
-use Rattle.fits_table.specs.Items.{sortBy, All}
+use Rattle.fits_table.specs.Order.{sortBy, All}
 use Rattle.fits_table.specs.Rows.{tableOf}
 use Rattle.catalogues.specs.Entries.{rowsHeld, effectOf, addedTo, isRefusal, effectText}
 use Rattle.catalogues.specs.declared.collecting.Collection.{Collection}
@@ -93,11 +93,6 @@ closed r = cond (noBytes (r .begun)) r (ended r)
 unfoldable pub lastOf : Run → List ℕ
 lastOf r = closed (followedBy r) .text ++ tableUnless (closed (followedBy r) .state)
 
--- blocks of input as one
-unfoldable pub joined : List (List ℕ) → List ℕ
-joined [] = []
-joined (b ∷ bs) = b ++ joined bs
-
 -- what is put out for input that comes in blocks
 unfoldable pub writtenOut : Run → List (List ℕ) → List ℕ
 writtenOut r [] = lastOf r
@@ -129,4 +124,4 @@ pub record Stands (r : Run) (at : ℕ) (before after : List ℕ) (c : Collection
   pub fit : Fit c ns ws
   pub state : runOf c ns ws .state ≡ r .state
   pub line : lineBytes (c .line) ≡ r .begun
-  pub text : Written at (r .text) before after next
+  pub text : TextAt at (r .text) before after next

@@ -4,8 +4,9 @@ ghost use mathlib.Core.Bool.{true, _||_};
 ghost use mathlib.Core.List.{List};
 ghost use Prim.Native.Nat.{ℕ, _+_, _*_, _≤_, _<_};
 ghost use lib.ListN.{length};
-ghost use Rattle.lines.specs.Replies.{Written};
-ghost use Rattle.catalogues.specs.Entries.{rowsHeld, addedTo, isAdded, isRefusal, effectText};
+ghost use Rattle.lines.specs.Replies.{TextAt};
+ghost use Rattle.catalogues.specs.Entries.{rowsHeld, addedTo, isRefusal, effectText};
+ghost use Rattle.catalogues.specs.Shape.{isAdded};
 ghost use Rattle.catalogues.specs.Runs.{lineAfter, tableFrom, opened, ended, steppedBy, runs, closed, lastOf, runOf, Proper, Fit, Stands};
 use crate::entries::Effect;
 use crate::entries::line_effect;
@@ -49,7 +50,7 @@ fn line_after(lines: u32) -> u32
 
 fn put_effect(out: &mut [u8], at: usize, effect: Effect, line: u32) -> usize
     requires { ⌜ at + 64 ≤ length (now out) ⌝ }
-    ensures { λ r. ⌜ (Written at (effectText line effect) (now (out .entry)) (now (out .exit)) r) × (r ≤ at + 37) ⌝ }
+    ensures { λ r. ⌜ (TextAt at (effectText line effect) (now (out .entry)) (now (out .exit)) r) × (r ≤ at + 37) ⌝ }
 {
     match effect {
         Effect::Added { number: _, word: _ } => at,
@@ -213,7 +214,7 @@ fn put_rows(numbers: &[u32], words: &[u64], count: usize, out: &mut [u8]) -> usi
     requires { ⌜ (count ≤ 32768) × ((length (now numbers) ≡ 32768) × (length (now words) ≡ 32768)) ⌝ }
     requires { ⌜ Proper (rowsHeld count (now numbers) (now words)) ⌝ }
     requires { ⌜ 400320 ≤ length (now out) ⌝ }
-    ensures { λ r. ⌜ (Written 0 (tableFrom (rowsHeld count (now (numbers .entry)) (now (words .entry)))) (now (out .entry)) (now (out .exit)) r) × (r ≤ 400320) ⌝ }
+    ensures { λ r. ⌜ (TextAt 0 (tableFrom (rowsHeld count (now (numbers .entry)) (now (words .entry)))) (now (out .entry)) (now (out .exit)) r) × (r ≤ 400320) ⌝ }
 {
     put_table(&numbers[..count], &words[..count], out, count as u32);
     5760 + (12 * count + 2879) / 2880 * 2880
@@ -228,7 +229,7 @@ pub fn finish(
 ) -> usize
     requires { ⌜ Fit collection (now numbers) (now words) ⌝ }
     requires { ⌜ 400320 ≤ length (now out) ⌝ }
-    ensures { λ r. ⌜ (Written 0 (lastOf (runOf collection (now (numbers .entry)) (now (words .entry)))) (now (out .entry)) (now (out .exit)) r) × (r ≤ 400320) ⌝ }
+    ensures { λ r. ⌜ (TextAt 0 (lastOf (runOf collection (now (numbers .entry)) (now (words .entry)))) (now (out .entry)) (now (out .exit)) r) × (r ≤ 400320) ⌝ }
 {
     let last = close(collection, numbers, words, out);
     let all = last.collection;

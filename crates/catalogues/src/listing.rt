@@ -4,10 +4,11 @@ ghost use mathlib.Core.Bool.{true};
 ghost use mathlib.Core.List.{_++_};
 ghost use Prim.Native.Nat.{_+_, _*_, _≤_, _<_};
 ghost use lib.ListN.{length, take};
-ghost use Rattle.lines.specs.Replies.{Written};
+ghost use Rattle.lines.specs.Replies.{TextAt};
 ghost use Rattle.pages.specs.Position.{validWord};
 ghost use Rattle.fits_table.specs.Rows.{goodRows, rowsRead};
-ghost use Rattle.catalogues.specs.Listing.{isTable, keptTable, rowLine, lineAt, rowLines, refusalLine, atFirst, partOf};
+ghost use Rattle.catalogues.specs.Listing.{isTable, keptTable, rowLine, rowLines, refusalLine, atFirst, partOf};
+ghost use Rattle.catalogues.specs.Shape.{lineAt};
 use fits_table::cards::Table;
 use fits_table::cards::table_rows;
 use fits_table::rows::Row;
@@ -49,7 +50,7 @@ pub fn keep(given: &mut [u8], at: usize, block: &[u8]) -> usize
 fn put_line(out: &mut [u8], at: usize, number: u32, word: u64) -> usize
     requires { ⌜ at + 36 ≤ length (now out) ⌝ }
     requires { ⌜ validWord word ≡ true ⌝ }
-    ensures { λ r. ⌜ (Written at (rowLine number word) (now (out .entry)) (now (out .exit)) r) × (r ≤ at + 36) ⌝ }
+    ensures { λ r. ⌜ (TextAt at (rowLine number word) (now (out .entry)) (now (out .exit)) r) × (r ≤ at + 36) ⌝ }
 {
     let position = unpack(word);
     let first = lines::put(out, at, b"E ");
@@ -63,7 +64,7 @@ fn put_row(given: &[u8], rows: usize, i: usize, out: &mut [u8], at: usize) -> us
     requires { ⌜ (rows ≤ 32768) × (5760 + 12 * rows ≤ length (now given)) ⌝ }
     requires { ⌜ goodRows 0 (now given) 5760 rows ≡ true ⌝ }
     requires { ⌜ (i < rows) × (at + 36 ≤ length (now out)) ⌝ }
-    ensures { λ r. ⌜ (Written at (lineAt (now (given .entry)) (5760 + 12 * i)) (now (out .entry)) (now (out .exit)) r) × (r ≤ at + 36) ⌝ }
+    ensures { λ r. ⌜ (TextAt at (lineAt (now (given .entry)) (5760 + 12 * i)) (now (out .entry)) (now (out .exit)) r) × (r ≤ at + 36) ⌝ }
 {
     match row_at(0, given, 5760 + 12 * i) {
         Row::Star { number, word } => put_line(out, at, number, word),
@@ -76,7 +77,7 @@ fn put_lines(given: &[u8], rows: usize, first: usize, count: usize, out: &mut [u
     requires { ⌜ (rows ≤ 32768) × (5760 + 12 * rows ≤ length (now given)) ⌝ }
     requires { ⌜ goodRows 0 (now given) 5760 rows ≡ true ⌝ }
     requires { ⌜ (first + count ≤ rows) × (36 * count + 64 ≤ length (now out)) ⌝ }
-    ensures { λ r. ⌜ (Written 0 (rowLines (rowsRead (now (given .entry)) (5760 + 12 * first) count)) (now (out .entry)) (now (out .exit)) r) × (r ≤ 36 * count) ⌝ }
+    ensures { λ r. ⌜ (TextAt 0 (rowLines (rowsRead (now (given .entry)) (5760 + 12 * first) count)) (now (out .entry)) (now (out .exit)) r) × (r ≤ 36 * count) ⌝ }
 {
     let mut at = 0;
     let mut i = 0;
@@ -90,7 +91,7 @@ fn put_lines(given: &[u8], rows: usize, first: usize, count: usize, out: &mut [u
 // With the first part.
 fn refuse(refusal: u32, part: usize, out: &mut [u8]) -> usize
     requires { ⌜ 64 ≤ length (now out) ⌝ }
-    ensures { λ r. ⌜ (Written 0 (atFirst part (refusalLine refusal)) (now (out .entry)) (now (out .exit)) r) × (r ≤ 64) ⌝ }
+    ensures { λ r. ⌜ (TextAt 0 (atFirst part (refusalLine refusal)) (now (out .entry)) (now (out .exit)) r) × (r ≤ 64) ⌝ }
 {
     if part != 0 {
         return 0;
@@ -103,7 +104,7 @@ fn refuse(refusal: u32, part: usize, out: &mut [u8]) -> usize
 // What is put out for a table, or for what is none, in four parts of at most 8,192 lines.
 pub fn list(given: &[u8], part: usize, out: &mut [u8]) -> usize
     requires { ⌜ (part ≤ 3) × (36 * 8192 + 64 ≤ length (now out)) ⌝ }
-    ensures { λ r. ⌜ (Written 0 (partOf part (now (given .entry))) (now (out .entry)) (now (out .exit)) r) × (r ≤ 36 * 8192) ⌝ }
+    ensures { λ r. ⌜ (TextAt 0 (partOf part (now (given .entry))) (now (out .entry)) (now (out .exit)) r) × (r ≤ 36 * 8192) ⌝ }
 {
     let Table::Rows(rows) = table_rows(given) else {
         return refuse(10, part, out);

@@ -15,9 +15,10 @@ use Rattle.hashing.specs.declared.Geometry.{Geometry}
 use Rattle.generator.specs.Generator.{topOf}
 use Rattle.pages.specs.Page.{part}
 use Rattle.placement.specs.Rule.{Hash, keep, filter}
-use Rattle.placement.specs.Hash.{hashOf, homesOf, homeUnder}
+use Rattle.placement.specs.Hash.{hashOf}
+use Rattle.placement.specs.Shape.{homesOf, homeUnder}
 use Rattle.reach.specs.Reach.{firstSuch}
-use Rattle.clean_test.specs.Raising.{passed, countsOn, starNumber, countedItem, countOn, passedOn, starsAmong, countFrom, mayRise, raisableFrom, hashUnder, firstRaisable, firstRising, one, Counts, Added, Counted, Homed, HomedFrom, Signable}
+use Rattle.clean_test.specs.Raising.{passed, countsOn, starNumber, countedItem, countOn, passedOn, starsAmong, countFrom, mayRise, raisableFrom, hashUnder, firstRaisable, firstRising, one, Counts, Added, PassersCounted, Homed, HomedFrom, SignablePassed}
 
 pub one-most : (t : Bool) → one t ≤ 1
 one-most true = omega arith
@@ -349,14 +350,14 @@ module _ (H : Hash) (vs ns : List ℕ) (from page : ℕ) (entry : List ℕ) (sta
       (added-some from entry page stars size inside) a
       (λ p. rw e (count-parts H vs p page (part (H .room) page ns)))
 
-pub counted-none : (H : Hash) (vs ns : List ℕ) (from : ℕ) → Counted H vs ns from from (replicate {A = ℕ} 1024 0)
+pub counted-none : (H : Hash) (vs ns : List ℕ) (from : ℕ) → PassersCounted H vs ns from from (replicate {A = ℕ} 1024 0)
 unfolding countFrom
 counted-none H vs ns from =
     let none : from - from ≡ 0 = omega arith in
     record { size = refl; each = λ p o h. getD-replicate {A = ℕ} 1024 p 0 0 h ∙ sym (ap (countFrom H vs ns from p) none) }
 
-module _ (H : Hash) (vs ns : List ℕ) (from page : ℕ) (counts : List ℕ) (c : Counted H vs ns from page counts) where
-  pub counted-next : from ≤ page → (after : List ℕ) → Added from (λ p. countOn H vs ns p page) counts after → Counted H vs ns from (page + 1) after
+module _ (H : Hash) (vs ns : List ℕ) (from page : ℕ) (counts : List ℕ) (c : PassersCounted H vs ns from page counts) where
+  pub counted-next : from ≤ page → (after : List ℕ) → Added from (λ p. countOn H vs ns p page) counts after → PassersCounted H vs ns from (page + 1) after
   unfolding countFrom
   counted-next low after a =
       let one-more : page + 1 - from ≡ suc (page - from) = omega arith in
@@ -390,7 +391,7 @@ such-alike t u from (suc n) h = rw (h from (omega arith) (omega arith), such-ali
 
 -- the counters tell which separators could be one greater
 pub rising-raisable : (g : Geometry) (vs ns counts : List ℕ) (from stop : ℕ) → from ≤ stop → stop ≤ 1024
-    → Counted (hashUnder g) vs ns from stop counts → firstRising (g .parameters) vs counts from stop ≡ firstRaisable g vs ns from stop
+    → PassersCounted (hashUnder g) vs ns from stop counts → firstRising (g .parameters) vs counts from stop ≡ firstRaisable g vs ns from stop
 unfolding raisableFrom hashOf
 rising-raisable g vs ns counts from stop low few c =
     such-alike _ (raisableFrom (hashUnder g) from (stop - from) vs ns) from (stop - from)
@@ -407,7 +408,7 @@ below-next number home low first i below r done here e j f h star = go (decLt j 
 
 -- a table of so many entries signs the stars of a page that are homed at page `low` or above
 pub page-signable : (entries places : ℕ) (ns hs : List ℕ) (page low : ℕ) → 2 * (page - low) < entries → HomedFrom low ns hs (page * places) (page * places + places)
-    → Signable entries places ns hs page (suc page)
+    → SignablePassed entries places ns hs page (suc page)
 page-signable entries places ns hs page low few here q i f h l star =
     let same : q ≡ page = omega arith in
     let home : low ≤ getD hs (q * places + i) 0 = rw same (here (page * places + i) (omega arith) (omega arith) (λ z. star (rw same z))) in

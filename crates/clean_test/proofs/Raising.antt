@@ -13,8 +13,10 @@ use lib.ListN.{length, getD, take, drop, length-drop}
 use lib.Seq.{ext-getD, take-all, length-take-le, getD-take, getD-drop}
 use borrow.Author.Tests.{leb-false, ltb-false, le-leb, lt-leb, lt-ltb, le-ltb, eq-eqb, ne-eqb, eqb-true, eqb-false}
 use Rattle.pages.specs.Page.{part}
-use Rattle.placement.specs.Rule.{Star, Hash, keep, filter, below, staying, passing, separatorOf, contentsOf, onward, pages, first, pour, separators, blank, starWith}
-use Rattle.placement.specs.File.{File, starsOf, starsAt, contentsAt, pagesAt, gathered, laid, fileOf, Sized, Clean}
+use Rattle.placement.specs.Rule.{Star, Hash, keep, filter, below, staying, passing, separatorOf, contentsOf, onward, pages, first, pour, separators, starWith}
+use Rattle.placement.specs.Shape.{blank}
+use Rattle.placement.specs.File.{File, starsOf, starsAt, contentsAt, pagesAt, gathered, laid, fileOf, Clean}
+use Rattle.placement.specs.Shape.{Sized}
 use Rattle.placement.proofs.Filters.{filter-ext, filter-ext-on, filter-filter}
 use Rattle.placement.proofs.Separator.{stays, below-mono, sep-great, sep-unique}
 use Rattle.placement.proofs.Standing.{standsAt, first-ge, first-below, first-before, first-later, first-within, page-first}

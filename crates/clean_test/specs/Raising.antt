@@ -11,7 +11,8 @@ use Rattle.hashing.specs.declared.Geometry.{Geometry}
 use Rattle.generator.specs.Generator.{topOf}
 use Rattle.pages.specs.Page.{part}
 use Rattle.placement.specs.Rule.{Hash, filter}
-use Rattle.placement.specs.Hash.{hashOf, homesOf}
+use Rattle.placement.specs.Hash.{hashOf}
+use Rattle.placement.specs.Shape.{homesOf}
 use Rattle.placement.specs.Lent.{Lent}
 use Rattle.reach.specs.Reach.{firstSuch}
 
@@ -83,11 +84,11 @@ pub record Added (from : ℕ) (more : ℕ → ℕ) (entry exit : List ℕ) : Typ
   pub size : length exit ≡ 1024
   pub each : (p : ℕ) → from ≤ p → p < 1024 → getD exit p 0 ≡ getD entry p 0 + more p
 
-abbrev pub Adds : ℕ → (ℕ → ℕ) → Lent → Type 0
-Adds from more counts = Added from more (now (counts .entry)) (now (counts .exit))
+abbrev pub AddsCounts : ℕ → (ℕ → ℕ) → Lent → Type 0
+AddsCounts from more counts = Added from more (now (counts .entry)) (now (counts .exit))
 
 -- the counters from page `from` on tell how many of the numbers of the pages up to the one before `page` count there
-pub record Counted (H : Hash) (vs ns : List ℕ) (from page : ℕ) (counts : List ℕ) : Type 0 where
+pub record PassersCounted (H : Hash) (vs ns : List ℕ) (from page : ℕ) (counts : List ℕ) : Type 0 where
   pub size : length counts ≡ 1024
   pub each : (p : ℕ) → from ≤ p → p < 1024 → getD counts p 0 ≡ countFrom H vs ns from p (page - from)
 
@@ -105,6 +106,6 @@ abbrev pub HomedFrom : ℕ → List ℕ → List ℕ → ℕ → ℕ → Type 0
 HomedFrom low ns hs first last = (j : ℕ) → first ≤ j → j < last → (getD ns j 0 ≡ 0 → ⊥) → low ≤ getD hs j 0
 
 -- a table of n entries has what signs the stars of these pages on each page that they passed, by their homes
-abbrev pub Signable : ℕ → ℕ → List ℕ → List ℕ → ℕ → ℕ → Type 0
-Signable n places ns hs from stop =
+abbrev pub SignablePassed : ℕ → ℕ → List ℕ → List ℕ → ℕ → ℕ → Type 0
+SignablePassed n places ns hs from stop =
     (q i : ℕ) → from ≤ q → q < stop → i < places → (getD ns (q * places + i) 0 ≡ 0 → ⊥) → 2 * (q - getD hs (q * places + i) 0) < n

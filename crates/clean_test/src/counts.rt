@@ -4,9 +4,9 @@ ghost use mathlib.Core.Bool.{true, false};
 ghost use Prim.Native.Nat.{suc, _+_, _-_, _*_, _≤_, _<_};
 ghost use lib.ListN.{length, take, drop};
 ghost use Rattle.hashing.specs.Limits.{validParameters};
-ghost use Rattle.placement.specs.Hash.{homeUnder};
+ghost use Rattle.placement.specs.Shape.{homeUnder};
 ghost use Rattle.placement.specs.Ready.{Signers};
-ghost use Rattle.clean_test.specs.Raising.{passed, passedOn, countOn, mayRise, one, starNumber, starsAmong, Counts, Counted, Adds, Homed, HomedFrom, Signable, hashUnder, firstRaisable, firstRising};
+ghost use Rattle.clean_test.specs.Raising.{passed, passedOn, countOn, mayRise, one, starNumber, starsAmong, Counts, PassersCounted, AddsCounts, Homed, HomedFrom, SignablePassed, hashUnder, firstRaisable, firstRising};
 use hashing::Geometry;
 use hashing::Parameters;
 
@@ -37,7 +37,7 @@ fn count_passed(
     requires { ⌜ Counts from 65535 (now counts) ⌝ }
     requires { ⌜ home ≡ homeUnder geometry number ⌝ }
     requires { ⌜ 2 * (page - home) < length (now table) ⌝ }
-    ensures { λ _. ⌜ Adds from (λ p. one (passed (hashUnder geometry) (now (separators .entry)) p page number)) counts ⌝ }
+    ensures { λ _. ⌜ AddsCounts from (λ p. one (passed (hashUnder geometry) (now (separators .entry)) p page number)) counts ⌝ }
 {
     let mut next = later(from, home);
     while next < page {
@@ -65,8 +65,8 @@ fn count_off_home(
     requires { ⌜ Signers (geometry .parameters) (now table) ⌝ }
     requires { ⌜ Homed geometry (now separators) (now numbers) (now homes) page (suc page) ⌝ }
     requires { ⌜ Counts from 32800 (now counts) ⌝ }
-    requires { ⌜ Signable (length (now table)) (geometry .parameters .places) (now numbers) (now homes) page (suc page) ⌝ }
-    ensures { λ _. ⌜ Adds from (λ p. passedOn (hashUnder geometry) (now (separators .entry)) (now (numbers .entry)) p page) counts ⌝ }
+    requires { ⌜ SignablePassed (length (now table)) (geometry .parameters .places) (now numbers) (now homes) page (suc page) ⌝ }
+    ensures { λ _. ⌜ AddsCounts from (λ p. passedOn (hashUnder geometry) (now (separators .entry)) (now (numbers .entry)) p page) counts ⌝ }
 {
     let places = geometry.parameters.places as usize;
     let first = page * places;
@@ -148,7 +148,7 @@ fn homed_below(number: u32, home: u32, low: u32) -> u32
 fn signs_page(entries: usize, numbers: &[u32], homes: &[u32], places: usize, page: usize) -> bool
     requires { ⌜ (0 < entries) × ((page < 1024) × (places ≤ 32)) ⌝ }
     requires { ⌜ (page * places + places ≤ length (now numbers)) × (page * places + places ≤ length (now homes)) ⌝ }
-    ensures { λ r. ⌜ (r ≡ true → Signable entries places (now (numbers .entry)) (now (homes .entry)) page (suc page)) ⌝ }
+    ensures { λ r. ⌜ (r ≡ true → SignablePassed entries places (now (numbers .entry)) (now (homes .entry)) page (suc page)) ⌝ }
     ensures { λ r. ⌜ (2 * page < entries → r ≡ true) ⌝ }
 {
     let reach = (entries - 1) / 2;
@@ -176,7 +176,7 @@ fn count_page(
     requires { ⌜ Homed geometry (now separators) (now numbers) (now homes) page (suc page) ⌝ }
     requires { ⌜ Counts from 32768 (now counts) ⌝ }
     requires { ⌜ from ≤ page ⌝ }
-    ensures { λ r. ⌜ (r ≡ true → Adds from (λ p. countOn (hashUnder geometry) (now (separators .entry)) (now (numbers .entry)) p page) counts) ⌝ }
+    ensures { λ r. ⌜ (r ≡ true → AddsCounts from (λ p. countOn (hashUnder geometry) (now (separators .entry)) (now (numbers .entry)) p page) counts) ⌝ }
     ensures { λ r. ⌜ (r ≡ false → now (counts .exit) ≡ now (counts .entry)) ⌝ }
     ensures { λ r. ⌜ (2 * page < length (now (table .entry)) → r ≡ true) ⌝ }
 {
@@ -219,10 +219,10 @@ fn count_pages(
     requires { ⌜ Signers (geometry .parameters) (now table) ⌝ }
     requires { ⌜ Homed geometry (now separators) (now numbers) (now homes) from stop ⌝ }
     requires { ⌜ (from ≤ start) × (start ≤ stop) ⌝ }
-    requires { ⌜ Counted (hashUnder geometry) (now separators) (now numbers) from start (now counts) ⌝ }
+    requires { ⌜ PassersCounted (hashUnder geometry) (now separators) (now numbers) from start (now counts) ⌝ }
     ensures { λ r. ⌜ (start ≤ r) × (r ≤ stop) ⌝ }
     ensures { λ r. ⌜ (2 * stop < length (now (table .entry)) → r ≡ stop) ⌝ }
-    ensures { λ r. ⌜ Counted (hashUnder geometry) (now (separators .entry)) (now (numbers .entry)) from r (now (counts .exit)) ⌝ }
+    ensures { λ r. ⌜ PassersCounted (hashUnder geometry) (now (separators .entry)) (now (numbers .entry)) from r (now (counts .exit)) ⌝ }
 {
     let mut page = start;
     while page < stop {
@@ -288,7 +288,7 @@ fn first_raisable_beyond(
     requires { ⌜ validParameters (geometry .parameters) ≡ true ⌝ }
     requires { ⌜ Homed geometry (now separators) (now numbers) (now homes) from stop ⌝ }
     requires { ⌜ (from ≤ start) × (start ≤ stop) ⌝ }
-    requires { ⌜ Counted (hashUnder geometry) (now separators) (now numbers) from start (now counts) ⌝ }
+    requires { ⌜ PassersCounted (hashUnder geometry) (now separators) (now numbers) from start (now counts) ⌝ }
     ensures { λ r. ⌜ r ≡ firstRaisable geometry (now (separators .entry)) (now (numbers .entry)) from stop ⌝ }
 {
     if geometry.parameters.multiplier == 48271 {
@@ -328,7 +328,7 @@ fn first_raisable_by_48271(
     requires { ⌜ (validParameters (geometry .parameters) ≡ true) × (geometry .parameters .multiplier ≡ 48271) ⌝ }
     requires { ⌜ Homed geometry (now separators) (now numbers) (now homes) from stop ⌝ }
     requires { ⌜ (from ≤ start) × (start ≤ stop) ⌝ }
-    requires { ⌜ Counted (hashUnder geometry) (now separators) (now numbers) from start (now counts) ⌝ }
+    requires { ⌜ PassersCounted (hashUnder geometry) (now separators) (now numbers) from start (now counts) ⌝ }
     ensures { λ r. ⌜ r ≡ firstRaisable geometry (now (separators .entry)) (now (numbers .entry)) from stop ⌝ }
 {
     let table = generator::multipliers(48271);
@@ -359,7 +359,7 @@ fn first_raisable_by_16807(
     requires { ⌜ (validParameters (geometry .parameters) ≡ true) × (geometry .parameters .multiplier ≡ 16807) ⌝ }
     requires { ⌜ Homed geometry (now separators) (now numbers) (now homes) from stop ⌝ }
     requires { ⌜ (from ≤ start) × (start ≤ stop) ⌝ }
-    requires { ⌜ Counted (hashUnder geometry) (now separators) (now numbers) from start (now counts) ⌝ }
+    requires { ⌜ PassersCounted (hashUnder geometry) (now separators) (now numbers) from start (now counts) ⌝ }
     ensures { λ r. ⌜ r ≡ firstRaisable geometry (now (separators .entry)) (now (numbers .entry)) from stop ⌝ }
 {
     let table = generator::multipliers(16807);

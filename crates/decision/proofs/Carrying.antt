@@ -6,13 +6,14 @@ use Prim.Native.Nat.{ℕ}
 use lib.Dec.{eqb}
 use Rattle.hashing.specs.declared.Parameters.{Parameters}
 use Rattle.placement.specs.Rule.{Star, insert, without, starWith}
-use Rattle.placement.specs.File.{File, Sized}
+use Rattle.placement.specs.File.{File}
+use Rattle.placement.specs.Shape.{Sized}
 use Rattle.placement.specs.Hash.{lent}
 use Rattle.page_edit.specs.Shift.{numberAt}
 use Rattle.page_plan.proofs.Applying.{applied}
 use Rattle.page_plan.specs.declared.outcome.Outcome.{Outcome}
 use Rattle.page_plan.specs.declared.outcome.Outcome.the-variants.{On, Unsound as outcome·Unsound, Overflows as outcome·Overflows}
-use Rattle.calls.specs.Stores.{stoppedFile}
+use Rattle.calls.specs.Shape.{stoppedFile}
 use Rattle.calls.proofs.Stored.{none-stored}
 use Rattle.decision.specs.declared.chosen.Decision.{Decision}
 use Rattle.decision.specs.declared.chosen.Decision.the-variants.{Unsound, Overflows, Put, Take, Planned}

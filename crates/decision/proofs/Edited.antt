@@ -9,7 +9,8 @@ use lib.ListN.{length, length-map}
 use Rattle.buffers.specs.Lists.{padded}
 use Rattle.pages.specs.Page.{part}
 use Rattle.placement.specs.Rule.{Star, insert, without, starWith}
-use Rattle.placement.specs.File.{File, Sized}
+use Rattle.placement.specs.File.{File}
+use Rattle.placement.specs.Shape.{Sized}
 use Rattle.placement.specs.Hash.{lent}
 use Rattle.placement.proofs.Filters.{length-filter}
 use Rattle.placement.proofs.Order.{length-insert}

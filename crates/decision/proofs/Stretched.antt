@@ -9,13 +9,14 @@ use lib.ListN.{length, take, drop, length-take, length-drop}
 use lib.Seq.{paste, length-take-le}
 use Rattle.buffers.specs.Lists.{written}
 use Rattle.buffers.proofs.Written.{length-written}
-use Rattle.pages.specs.Page.{stretch}
+use Rattle.pages.specs.Shape.{stretch}
 use Rattle.page_store.specs.Columns.{columns}
 use Rattle.page_store.specs.Stores.{changedPages, enough, columnStored}
 use Rattle.page_store.proofs.Loop.{Fits}
 use Rattle.plan_transfer.specs.Sources.{namedItem}
 use Rattle.plan_transfer.proofs.Fetched.{fetched-stored}
-use Rattle.placement.specs.File.{File, Sized}
+use Rattle.placement.specs.File.{File}
+use Rattle.placement.specs.Shape.{Sized}
 use Rattle.placement.specs.Hash.{lent}
 use Rattle.page_plan.proofs.Applying.{applied}
 use Rattle.calls.specs.Stores.{storedFile, storeOrder}

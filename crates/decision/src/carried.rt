@@ -2,10 +2,10 @@
 ghost use mathlib.Core.Path.{_≡_};
 ghost use mathlib.Core.Bool.{true};
 ghost use Rattle.hashing.specs.Limits.{validParameters};
-ghost use Rattle.placement.specs.File.{Sized};
+ghost use Rattle.placement.specs.Shape.{Sized};
 ghost use Rattle.placement.specs.Lent.{held, before, after};
 ghost use Rattle.placement.specs.Ready.{Pooled};
-ghost use Rattle.calls.specs.Stores.{stoppedFile};
+ghost use Rattle.calls.specs.Shape.{stoppedFile};
 ghost use Rattle.decision.specs.Carried.{outcomeOf, newcomer, carriedOut, Feasible};
 use crate::chosen::Decision;
 use crate::chosen::Newcomer;

@@ -4,11 +4,11 @@ ghost use mathlib.Core.Bool.{true};
 ghost use Prim.Native.Nat.{_+_, _≤_};
 ghost use lib.ListN.{length};
 ghost use Rattle.hashing.specs.Limits.{validParameters};
-ghost use Rattle.placement.specs.File.{Sized};
+ghost use Rattle.placement.specs.Shape.{Sized};
 ghost use Rattle.placement.specs.Lent.{held, before, after};
 ghost use Rattle.placement.specs.Ready.{Pooled};
 ghost use Rattle.page_plan.proofs.Applying.{applied};
-ghost use Rattle.calls.specs.Stores.{stoppedFile};
+ghost use Rattle.calls.specs.Shape.{stoppedFile};
 use crate::chosen::Newcomer;
 use hashing::Parameters;
 

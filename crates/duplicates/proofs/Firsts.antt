@@ -11,21 +11,21 @@ use lib.Seq.{drop-cons, take-suc-set, drop-set-lt, getD-take, getD-drop, length-
 use borrow.Author.Tests.{eq-eqb, ne-eqb}
 use Rattle.plan_transfer.specs.Sources.{namedItem}
 use Rattle.page_separator.specs.Words.{sourceOf}
-use Rattle.duplicates.specs.Words.{keyOf, pairAgrees, leadsAgreed, neighboursAgree, firstsAfter}
+use Rattle.duplicates.specs.Words.{numberKey, pairAgrees, leadsAgreed, neighboursAgree, firstsAfter}
 
 -- Two words.
 module _ (ws os : List ℕ) (x y : ℕ) where
   pub pair-apart : (x / 65536 ≡ y / 65536 → ⊥) → true ≡ pairAgrees ws os x y
-  unfolding pairAgrees keyOf
+  unfolding pairAgrees numberKey
   pair-apart e = rw (ne-eqb (x / 65536) (y / 65536) e)
 
   module _ (e : x / 65536 ≡ y / 65536) (a b : ℕ) (ea : a ≡ namedItem ws 0 (x % 65536)) (eb : b ≡ namedItem ws 0 (y % 65536)) where
     pub pair-words : (a ≡ b → ⊥) → false ≡ pairAgrees ws os x y
-    unfolding pairAgrees keyOf sourceOf
+    unfolding pairAgrees numberKey sourceOf
     pair-words d = rw (eq-eqb (x / 65536) (y / 65536) e, ← ea, ← eb, ne-eqb a b d)
 
     pub pair-owners : a ≡ b → (m n : ℕ) → m ≡ namedItem os 0 (x % 65536) → n ≡ namedItem os 0 (y % 65536) → eqb m n ≡ pairAgrees ws os x y
-    unfolding pairAgrees keyOf sourceOf
+    unfolding pairAgrees numberKey sourceOf
     pair-owners d m n em en = rw (eq-eqb (x / 65536) (y / 65536) e, ← ea, ← eb, eq-eqb a b d, em, en)
 
 -- The words before i agree.
@@ -91,18 +91,18 @@ module _ (end : ℕ) (W₀ W : List ℕ) (last kept i : ℕ) (K : Keeping end W�
       ap (λ (k : ℕ). drop k W) (sym (add-one i)) ∙ sym (lib.Seq.drop-drop 1 i W) ∙ ap (drop 1) (K .ahead) ∙ lib.Seq.drop-drop 1 i W₀
       ∙ ap (λ (k : ℕ). drop k W₀) (add-one i)
 
-  pub keeping-repeated : keyOf (getD W i 0) ≡ last → Keeping end W₀ W last kept (i + 1)
+  pub keeping-repeated : numberKey (getD W i 0) ≡ last → Keeping end W₀ W last kept (i + 1)
   unfolding firstsAfter
   keeping-repeated e =
       record {
         order = omega (arith, K .order);
         upto = omega arith;
         size = K .size;
-        is = K .is ∙ ap (λ (l : List ℕ). take kept W ++ firstsAfter last l) opened ∙ rw (eq-eqb (keyOf (getD W i 0)) last e, add-one i);
+        is = K .is ∙ ap (λ (l : List ℕ). take kept W ++ firstsAfter last l) opened ∙ rw (eq-eqb (numberKey (getD W i 0)) last e, add-one i);
         ahead = rw (add-one i) next;
       }
 
-  pub keeping-first : (keyOf (getD W i 0) ≡ last → ⊥) → Keeping end W₀ (set W kept (getD W i 0)) (keyOf (getD W i 0)) (kept + 1) (i + 1)
+  pub keeping-first : (numberKey (getD W i 0) ≡ last → ⊥) → Keeping end W₀ (set W kept (getD W i 0)) (numberKey (getD W i 0)) (kept + 1) (i + 1)
   unfolding firstsAfter
   keeping-first e =
       record {
@@ -111,9 +111,9 @@ module _ (end : ℕ) (W₀ W : List ℕ) (last kept i : ℕ) (K : Keeping end W�
         size = length-set W kept (getD W i 0) ∙ K .size;
         is =
             K .is ∙ ap (λ (l : List ℕ). take kept W ++ firstsAfter last l) opened
-            ∙ rw (ne-eqb (keyOf (getD W i 0)) last e, add-one i, add-one kept)
-            (sym (append-assoc (take kept W) (getD W i 0 ∷ []) (firstsAfter (keyOf (getD W i 0)) (drop (suc i) (take end W₀))))
-            ∙ ap (λ (l : List ℕ). l ++ firstsAfter (keyOf (getD W i 0)) (drop (suc i) (take end W₀))) (sym (take-suc-set W kept (getD W i 0) (omega (arith, K .order, K .size)))));
+            ∙ rw (ne-eqb (numberKey (getD W i 0)) last e, add-one i, add-one kept)
+            (sym (append-assoc (take kept W) (getD W i 0 ∷ []) (firstsAfter (numberKey (getD W i 0)) (drop (suc i) (take end W₀))))
+            ∙ ap (λ (l : List ℕ). l ++ firstsAfter (numberKey (getD W i 0)) (drop (suc i) (take end W₀))) (sym (take-suc-set W kept (getD W i 0) (omega (arith, K .order, K .size)))));
         ahead = rw (add-one i) (drop-set-lt (suc i) W kept (getD W i 0) (omega (arith, K .order)) ∙ next);
       }
 

@@ -10,8 +10,8 @@ use Rattle.page_separator.specs.Words.{homeOf, sourceOf}
 use Rattle.page_plan.specs.Gather.{grouped}
 
 -- home and number of a word
-unfoldable pub keyOf : ℕ → ℕ
-keyOf w = w / 2 ^ 16
+unfoldable pub numberKey : ℕ → ℕ
+numberKey w = w / 2 ^ 16
 
 -- where each of the first `count` groups of the words l ends
 pub record Ends (count : ℕ) (l ends : List ℕ) : Type 0 where
@@ -35,7 +35,7 @@ pub record EndOf (p from end : ℕ) (W : List ℕ) (r : ℕ) : Type 0 where
 -- not a "star number [that] occurs with two different words or owners", of two words
 unfoldable pub pairAgrees : List ℕ → List ℕ → ℕ → ℕ → Bool
 pairAgrees ws os x y =
-    not (eqb (keyOf x) (keyOf y))
+    not (eqb (numberKey x) (numberKey y))
     || (eqb (namedItem ws 0 (sourceOf x)) (namedItem ws 0 (sourceOf y)) && eqb (namedItem os 0 (sourceOf x)) (namedItem os 0 (sourceOf y)))
 
 unfoldable pub leadsAgreed : List ℕ → List ℕ → ℕ → List ℕ → Bool
@@ -49,4 +49,4 @@ neighboursAgree ws os (x ∷ l) = leadsAgreed ws os x l
 -- the first word of each key, where words of one key stand side by side; the key k is past
 unfoldable pub firstsAfter : ℕ → List ℕ → List ℕ
 firstsAfter k [] = []
-firstsAfter k (x ∷ l) = cond (eqb (keyOf x) k) (firstsAfter k l) (x ∷ firstsAfter (keyOf x) l)
+firstsAfter k (x ∷ l) = cond (eqb (numberKey x) k) (firstsAfter k l) (x ∷ firstsAfter (numberKey x) l)

@@ -13,7 +13,8 @@ use Rattle.hashing.specs.Limits.{validParameters}
 use Rattle.hashing.proofs.Bounds.{limits}
 use Rattle.pages.specs.Position.{validNumber}
 use Rattle.placement.specs.Rule.{Star, Contents, separators}
-use Rattle.placement.specs.File.{File, Sized, column, written, replaced}
+use Rattle.placement.specs.File.{File, column, written, replaced}
+use Rattle.placement.specs.Shape.{Sized}
 use Rattle.placement.specs.Hash.{soundAt, namedPage, hashOf}
 use Rattle.placement.proofs.Mapping.{mapped}
 use Rattle.reach.specs.Reach.{isEmpty, pagesTo, firstUnsound}
@@ -26,7 +27,7 @@ use Rattle.entry_reach.specs.declared.blocks.Reach.the-variants.{Ends}
 use Rattle.entry_reach.specs.Entry.{Unheld, newStar}
 use Rattle.entry_reach.proofs.Firsts.{such-is}
 use Rattle.entry_reach.specs.Pushing.{pageWords, loweredTo, loweredOn, Pushed}
-use Rattle.entry_cascade.specs.Cascade.{visited, overflow, stopOf, cascadeUnsound, Stopped, Spilled, Kept, Plans}
+use Rattle.entry_cascade.specs.Cascade.{visited, overflow, stopOf, cascadeUnsound, Stopped, Spilled, CascadeKept, Plans}
 use Rattle.entry_reach.proofs.Visiting.{cascaded-none, carried-none, cascaded-add, carried-add, visits-some}
 use Rattle.entry_reach.proofs.Tying.{parted}
 use Rattle.entry_reach.proofs.Pushed.{pushed-next, carried-length}
@@ -132,7 +133,7 @@ module _ (p : Parameters) (g : Growth) (f : File) (k page : ℕ) (pool planned w
         ∙ ap (carriedPast (hashOf p g) f (page + d) (p .pages - (page + d))) nothing
         ∙ carried-none (hashOf p g) f (page + d) (p .pages - (page + d))
 
-    kept : (last : ℕ) → pagesTo page last ≡ d → Kept p g f k word owner page pool planned last
+    kept : (last : ℕ) → pagesTo page last ≡ d → CascadeKept p g f k word owner page pool planned last
     kept last count =
         record {
           sound = all-sound word owner all-visited;

@@ -15,7 +15,7 @@ use Rattle.placement.proofs.Standing.{length-separators}
 use Rattle.reach.specs.Reach.{hasNumber, holding}
 use Rattle.page_plan.specs.declared.outcome.Outcome.the-variants.{On, Unsound, Overflows}
 use Rattle.entry_reach.specs.Entry.{newStar}
-use Rattle.entry_cascade.specs.Cascade.{visited, stopOf, cascadeAnswer, cascadeFile, Stopped, Spilled, Kept}
+use Rattle.entry_cascade.specs.Cascade.{visited, stopOf, cascadeAnswer, cascadeFile, Stopped, Spilled, CascadeKept}
 use Rattle.entry_cascade.proofs.Naming.{held-first, first-written}
 
 module _ (p : Parameters) (g : Growth) (f : File) (s : Star) (page : ℕ) where
@@ -27,7 +27,7 @@ module _ (p : Parameters) (g : Growth) (f : File) (s : Star) (page : ℕ) where
   unfolding cascadeAnswer cascadeFile
   spilled-answer S = rw (S .sound, le-ltb (stopOf p g f s page) (stopOf p g f s page) (omega arith), S .over) (refl, refl)
 
-module _ (p : Parameters) (g : Growth) (f : File) (k word owner page : ℕ) (pool planned : List ℕ) (last : ℕ) (K : Kept p g f k word owner page pool planned last) where
+module _ (p : Parameters) (g : Growth) (f : File) (k word owner page : ℕ) (pool planned : List ℕ) (last : ℕ) (K : CascadeKept p g f k word owner page pool planned last) where
   abbrev new : Star
   new = newStar k word owner
 

@@ -15,11 +15,13 @@ use Rattle.hashing.specs.declared.Growth.{Growth}
 use Rattle.hashing.specs.Limits.{validParameters}
 use Rattle.hashing.proofs.Bounds.{limits}
 use Rattle.pages.specs.declared.page.Page.{Page}
-use Rattle.pages.specs.Page.{pageAt}
+use Rattle.pages.specs.Shape.{pageAt}
 use Rattle.pages.specs.Position.{validNumber}
 use Rattle.placement.specs.Rule.{Star, Contents, separators}
-use Rattle.placement.specs.File.{File, Sized, padded, column, written}
-use Rattle.placement.specs.Hash.{hashOf, soundAt, namedPage, homesOf, homeIn}
+use Rattle.placement.specs.File.{File, padded, column, written}
+use Rattle.placement.specs.Shape.{Sized}
+use Rattle.placement.specs.Hash.{hashOf, soundAt, namedPage}
+use Rattle.placement.specs.Shape.{homesOf, homeIn}
 use Rattle.placement.proofs.Standing.{first-below}
 use Rattle.placement.proofs.Separator.{below-signature}
 use Rattle.page_separator.specs.Lists.{all}

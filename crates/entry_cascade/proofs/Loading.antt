@@ -16,10 +16,13 @@ use Rattle.hashing.specs.declared.Geometry.{Geometry}
 use Rattle.hashing.specs.Limits.{validParameters}
 use Rattle.hashing.proofs.Bounds.{limits}
 use Rattle.pages.specs.declared.page.Page.{Page}
-use Rattle.pages.specs.Page.{part, pageAt, stretch}
+use Rattle.pages.specs.Page.{part}
+use Rattle.pages.specs.Shape.{pageAt, stretch}
 use Rattle.pages.proofs.Parts.{page-fits, take-filled, filled-length}
-use Rattle.placement.specs.File.{File, Sized}
-use Rattle.placement.specs.Hash.{soundAt, homesOf, homeIn}
+use Rattle.placement.specs.File.{File}
+use Rattle.placement.specs.Shape.{Sized}
+use Rattle.placement.specs.Hash.{soundAt}
+use Rattle.placement.specs.Shape.{homesOf, homeIn}
 use Rattle.soundness.specs.Survey.{Tested}
 use Rattle.soundness.proofs.Items.{sound-loaded, homes-loaded}
 use Rattle.reach.specs.Known.{Known}

@@ -15,7 +15,8 @@ use Rattle.hashing.specs.Limits.{validParameters}
 use Rattle.hashing.proofs.Bounds.{limits}
 use Rattle.pages.specs.Position.{validNumber}
 use Rattle.pages.specs.Page.{part}
-use Rattle.placement.specs.File.{File, Sized}
+use Rattle.placement.specs.File.{File}
+use Rattle.placement.specs.Shape.{Sized}
 use Rattle.placement.proofs.Writing.{length-column}
 use Rattle.pages.proofs.Parts.{page-fits}
 use Rattle.placement.specs.Hash.{soundAt, namedPage}

@@ -10,7 +10,8 @@ use Rattle.hashing.specs.declared.Growth.{Growth}
 use Rattle.hashing.specs.declared.Geometry.{Geometry}
 use Rattle.placement.specs.File.{File}
 use Rattle.pages.specs.Page.{part}
-use Rattle.placement.specs.Hash.{soundAt, homesOf}
+use Rattle.placement.specs.Hash.{soundAt}
+use Rattle.placement.specs.Shape.{homesOf}
 use Rattle.placement.specs.Lent.{Lent}
 use Rattle.soundness.specs.Survey.{soundIn}
 use Rattle.entry_reach.specs.Pushing.{pageWords}

@@ -61,7 +61,7 @@ pub record Spilled (p : Parameters) (g : Growth) (f : File) (s : Star) (page : �
   pub over : isEmpty (overflow p g f s page) ≡ false
 
 -- they are sound, none is, none is carried past page `last`, and the planned sources and separators of the pages up to it are theirs
-pub record Kept (p : Parameters) (g : Growth) (f : File) (k word owner page : ℕ) (pool planned : List ℕ) (last : ℕ) : Type 0 where
+pub record CascadeKept (p : Parameters) (g : Growth) (f : File) (k word owner page : ℕ) (pool planned : List ℕ) (last : ℕ) : Type 0 where
   pub sound : cascadeUnsound p g f (newStar k word owner) page ≡ stopOf p g f (newStar k word owner) page
   pub none : overflow p g f (newStar k word owner) page ≡ []
   pub within : carriedPast (hashOf p g) f page (pagesTo page last) (newStar k word owner ∷ []) ≡ []
@@ -72,4 +72,4 @@ abbrev pub Plans : Parameters → Growth → File → ℕ → ℕ → List ℕ �
 Plans p g f k page pool planned (Unsound q) = (word owner : ℕ) → Stopped p g f (newStar k word owner) page q
 Plans p g f k page pool planned Overflows = (word owner : ℕ) → Spilled p g f (newStar k word owner) page
 Plans p g f k page pool planned (Ends last) =
-    (page ≤ last) × ((last < p .pages) × ((word owner : ℕ) → Kept p g f k word owner page pool planned last))
+    (page ≤ last) × ((last < p .pages) × ((word owner : ℕ) → CascadeKept p g f k word owner page pool planned last))

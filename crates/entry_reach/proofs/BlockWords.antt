@@ -10,10 +10,12 @@ use borrow.Author.Tests.{lt-ltb, ltb-true, ne-eqb, eqb-true}
 use Rattle.hashing.specs.declared.Parameters.{Parameters}
 use Rattle.hashing.specs.declared.Growth.{Growth}
 use Rattle.hashing.specs.Limits.{validParameters}
-use Rattle.pages.specs.Page.{stretch}
+use Rattle.pages.specs.Shape.{stretch}
 use Rattle.placement.specs.Rule.{Star, pages, left, pour}
-use Rattle.placement.specs.File.{File, Sized}
-use Rattle.placement.specs.Hash.{hashOf, soundAt, namedPage, homesOf}
+use Rattle.placement.specs.File.{File}
+use Rattle.placement.specs.Shape.{Sized}
+use Rattle.placement.specs.Hash.{hashOf, soundAt, namedPage}
+use Rattle.placement.specs.Shape.{homesOf}
 use Rattle.placement.proofs.Mapping.{mapped, pour-map}
 use Rattle.page_separator.specs.Lists.{all}
 use Rattle.page_separator.specs.Words.{numberIn, sourceOf}

@@ -14,11 +14,13 @@ use borrow.Author.Tests.{eqb-true, eq-eqb}
 use Rattle.buffers.specs.Lists.{written}
 use Rattle.buffers.proofs.Lists.{drop-take}
 use Rattle.buffers.proofs.Written.{taken-written}
-use Rattle.pages.specs.Page.{stretch}
+use Rattle.pages.specs.Shape.{stretch}
 use Rattle.hashing.specs.declared.Parameters.{Parameters}
 use Rattle.hashing.specs.declared.Growth.{Growth}
-use Rattle.placement.specs.Rule.{Star, Hash, Contents, separators, pages, left, first, blank}
-use Rattle.placement.specs.File.{File, Sized, gathered, replaced}
+use Rattle.placement.specs.Rule.{Star, Hash, Contents, separators, pages, left, first}
+use Rattle.placement.specs.Shape.{blank}
+use Rattle.placement.specs.File.{File, gathered, replaced}
+use Rattle.placement.specs.Shape.{Sized}
 use Rattle.placement.specs.Hash.{namedPage, lent, hashOf}
 use Rattle.placement.proofs.Composition.{length-pages}
 use Rattle.placement.proofs.Order.{inserted}

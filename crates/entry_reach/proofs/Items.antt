@@ -16,11 +16,14 @@ use Rattle.hashing.specs.Home.{home}
 use Rattle.hashing.specs.Limits.{validParameters}
 use Rattle.hashing.proofs.Bounds.{limits}
 use Rattle.pages.specs.Position.{validWord}
-use Rattle.pages.specs.Page.{part, heldAt, stretch}
+use Rattle.pages.specs.Page.{part, heldAt}
+use Rattle.pages.specs.Shape.{stretch}
 use Rattle.pages.proofs.Parts.{part-item, part-length, page-fits}
 use Rattle.pages.proofs.Places.{held-at}
-use Rattle.placement.specs.File.{File, Sized}
-use Rattle.placement.specs.Hash.{hashOf, soundAt, namedPage, homesOf, homeIn}
+use Rattle.placement.specs.File.{File}
+use Rattle.placement.specs.Shape.{Sized}
+use Rattle.placement.specs.Hash.{hashOf, soundAt, namedPage}
+use Rattle.placement.specs.Shape.{homesOf, homeIn}
 use Rattle.placement.proofs.Standing.{past-top}
 use Rattle.placement.proofs.Search.{orderly-numbers}
 use Rattle.placement.proofs.Probing.{bounded-real}

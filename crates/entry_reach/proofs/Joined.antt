@@ -8,15 +8,17 @@ use native.Mathlib.Omega.{arith}
 use lib.Dec.{leb, eqb}
 use lib.ListN.{length, length-map, length-append}
 use borrow.Author.Tests.{eq-eqb, ne-eqb, leb-true}
-use Rattle.pages.specs.Page.{stretch}
+use Rattle.pages.specs.Shape.{stretch}
 use Rattle.hashing.specs.declared.Parameters.{Parameters}
 use Rattle.hashing.specs.declared.Growth.{Growth}
 use Rattle.hashing.specs.Limits.{validParameters}
 use Rattle.hashing.proofs.Bounds.{limits, both}
 use Rattle.pages.specs.Position.{validNumber, validWord}
 use Rattle.placement.specs.Rule.{Star, Hash, Contents, separators, pages, left, insert, without}
-use Rattle.placement.specs.File.{File, Sized, gathered}
-use Rattle.placement.specs.Hash.{hashOf, soundAt, homesOf, homeIn}
+use Rattle.placement.specs.File.{File, gathered}
+use Rattle.placement.specs.Shape.{Sized}
+use Rattle.placement.specs.Hash.{hashOf, soundAt}
+use Rattle.placement.specs.Shape.{homesOf, homeIn}
 use Rattle.placement.proofs.Filters.{filter-all-on, length-filter}
 use Rattle.placement.proofs.Standing.{standsAt, left-first}
 use Rattle.placement.proofs.Mapping.{mapped, pages-map, left-map}

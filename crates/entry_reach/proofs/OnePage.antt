@@ -16,7 +16,8 @@ use Rattle.hashing.specs.Limits.{validParameters, validGrowth}
 use Rattle.hashing.proofs.Bounds.{limits}
 use Rattle.pages.specs.Page.{part, placeOf}
 use Rattle.placement.specs.Rule.{Star, pages, insert}
-use Rattle.placement.specs.File.{File, Sized, starsAt, replaced}
+use Rattle.placement.specs.File.{File, starsAt, replaced}
+use Rattle.placement.specs.Shape.{Sized}
 use Rattle.placement.specs.Hash.{hashOf, soundAt, namedPage, lent}
 use Rattle.buffers.specs.Lists.{padded, written}
 use Rattle.buffers.proofs.Tests.{and-true}

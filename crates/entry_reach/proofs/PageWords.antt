@@ -14,8 +14,10 @@ use Rattle.hashing.specs.Limits.{validParameters}
 use Rattle.hashing.proofs.Bounds.{limits}
 use Rattle.pages.specs.Position.{validWord}
 use Rattle.placement.specs.Rule.{Star, pour, without}
-use Rattle.placement.specs.File.{File, Sized, starsAt, gathered}
-use Rattle.placement.specs.Hash.{hashOf, soundAt, namedPage, homesOf, homeIn}
+use Rattle.placement.specs.File.{File, starsAt, gathered}
+use Rattle.placement.specs.Shape.{Sized}
+use Rattle.placement.specs.Hash.{hashOf, soundAt, namedPage}
+use Rattle.placement.specs.Shape.{homesOf, homeIn}
 use Rattle.placement.proofs.Filters.{filter-all-on}
 use Rattle.placement.proofs.Order.{pour-nil, rising-sorted}
 use Rattle.placement.proofs.Sound.{sound-rising, sound-proper}

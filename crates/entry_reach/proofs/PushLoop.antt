@@ -16,11 +16,14 @@ use Rattle.hashing.specs.declared.Growth.{Growth}
 use Rattle.hashing.specs.Limits.{validParameters}
 use Rattle.hashing.proofs.Bounds.{limits}
 use Rattle.pages.specs.Position.{validNumber}
-use Rattle.pages.specs.Page.{part, stretch}
+use Rattle.pages.specs.Page.{part}
+use Rattle.pages.specs.Shape.{stretch}
 use Rattle.pages.proofs.Parts.{page-fits}
 use Rattle.placement.specs.Rule.{Star}
-use Rattle.placement.specs.File.{File, Sized, written, replaced}
-use Rattle.placement.specs.Hash.{hashOf, soundAt, namedPage, homesOf}
+use Rattle.placement.specs.File.{File, written, replaced}
+use Rattle.placement.specs.Shape.{Sized}
+use Rattle.placement.specs.Hash.{hashOf, soundAt, namedPage}
+use Rattle.placement.specs.Shape.{homesOf}
 use Rattle.placement.proofs.Writing.{part-back, length-column}
 use Rattle.page_separator.specs.Lists.{all, selected, allBelow}
 use Rattle.page_separator.specs.Words.{homeOf}

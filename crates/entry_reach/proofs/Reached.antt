@@ -15,10 +15,11 @@ use Rattle.hashing.specs.declared.Parameters.{Parameters}
 use Rattle.hashing.specs.declared.Growth.{Growth}
 use Rattle.hashing.specs.Limits.{validParameters, validGrowth}
 use Rattle.hashing.proofs.Bounds.{limits}
-use Rattle.pages.specs.Page.{stretch}
+use Rattle.pages.specs.Shape.{stretch}
 use Rattle.pages.specs.Position.{validNumber, validWord}
 use Rattle.placement.specs.Rule.{Star, Contents, separators, pages, left, insert}
-use Rattle.placement.specs.File.{File, Sized, pagesAt, gathered, column, replaced}
+use Rattle.placement.specs.File.{File, pagesAt, gathered, column, replaced}
+use Rattle.placement.specs.Shape.{Sized}
 use Rattle.placement.specs.Hash.{hashOf, soundAt}
 use Rattle.placement.proofs.Mapping.{mapped}
 use Rattle.placement.proofs.Probing.{homed-real}

@@ -20,8 +20,10 @@ use Rattle.buffers.proofs.Written.{written-middle}
 use Rattle.pages.specs.Page.{part, placeOf}
 use Rattle.pages.specs.Position.{validNumber, validWord}
 use Rattle.placement.specs.Rule.{Star, Hash, Contents, below, staying, passing, pages, left, insert, pour}
-use Rattle.placement.specs.File.{File, Sized, pagesAt, gathered, replaced, starsAt}
-use Rattle.placement.specs.Hash.{hashOf, soundAt, namedPage, homeUnder}
+use Rattle.placement.specs.File.{File, pagesAt, gathered, replaced, starsAt}
+use Rattle.placement.specs.Shape.{Sized}
+use Rattle.placement.specs.Hash.{hashOf, soundAt, namedPage}
+use Rattle.placement.specs.Shape.{homeUnder}
 use Rattle.placement.proofs.Filters.{filter-all, filter-all-on, filter-none-on, length-filter}
 use Rattle.placement.proofs.Order.{Absent, member-insert, length-insert, pour-insert, pour-nil, rising-sorted}
 use Rattle.placement.proofs.Standing.{first-home, first-before, first-below, past-top}

@@ -5,13 +5,14 @@ use mathlib.Core.List.{List, [], _∷_, _++_, map}
 use Prim.Native.Nat.{ℕ, _+_, _-_, _*_, _≤_, _<_}
 use lib.Dec.{leb}
 use lib.ListN.{length, take, drop, getD, set}
-use Rattle.pages.specs.Page.{stretch}
+use Rattle.pages.specs.Shape.{stretch}
 use Rattle.buffers.proofs.Written.{set-written}
 use Rattle.hashing.specs.declared.Parameters.{Parameters}
 use Rattle.hashing.specs.declared.Growth.{Growth}
 use Rattle.hashing.specs.Limits.{validParameters}
 use Rattle.placement.specs.Rule.{Star, Contents, separators}
-use Rattle.placement.specs.File.{File, Sized, padded, column, written}
+use Rattle.placement.specs.File.{File, padded, column, written}
+use Rattle.placement.specs.Shape.{Sized}
 use Rattle.placement.specs.Hash.{soundAt, hashOf}
 use Rattle.placement.proofs.Mapping.{mapped}
 use Rattle.placement.proofs.Writing.{length-column}

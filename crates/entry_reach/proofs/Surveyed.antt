@@ -9,14 +9,16 @@ use native.Mathlib.Omega.{arith}
 use lib.ListN.{take, length-append, length, drop, length-map, length-drop}
 use lib.Seq.{drop-drop, take-at, take-append-le, length-take-le, drop-paste, paste, slice}
 use Rattle.buffers.specs.Lists.{written}
-use Rattle.pages.specs.Page.{stretch}
+use Rattle.pages.specs.Shape.{stretch}
 use Rattle.hashing.specs.declared.Parameters.{Parameters}
 use Rattle.hashing.specs.declared.Growth.{Growth}
 use Rattle.generator.specs.Generator.{topOf}
 use Rattle.hashing.specs.Limits.{validParameters}
 use Rattle.placement.specs.Rule.{Star}
-use Rattle.placement.specs.File.{File, Sized, column}
-use Rattle.placement.specs.Hash.{hashOf, soundAt, homesOf, homeIn}
+use Rattle.placement.specs.File.{File, column}
+use Rattle.placement.specs.Shape.{Sized}
+use Rattle.placement.specs.Hash.{hashOf, soundAt}
+use Rattle.placement.specs.Shape.{homesOf, homeIn}
 use Rattle.placement.proofs.Writing.{length-column}
 use Rattle.page_separator.specs.Lists.{allBelow}
 use Rattle.page_plan.specs.Gather.{starsIn, stretchWords}

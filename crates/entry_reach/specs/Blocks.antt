@@ -9,7 +9,7 @@ use denote.Ref.{now}
 use Rattle.hashing.specs.declared.Parameters.{Parameters}
 use Rattle.hashing.specs.declared.Growth.{Growth}
 use Rattle.hashing.specs.declared.Geometry.{Geometry}
-use Rattle.pages.specs.Page.{stretch}
+use Rattle.pages.specs.Shape.{stretch}
 use Rattle.pages.specs.Position.{validNumber}
 use Rattle.placement.specs.Rule.{Star, Contents, pages, left, insert, separators}
 use Rattle.placement.specs.File.{File, pagesAt, gathered, column}

@@ -9,11 +9,13 @@ use denote.Ref.{now}
 use Rattle.hashing.specs.declared.Parameters.{Parameters}
 use Rattle.hashing.specs.declared.Growth.{Growth}
 use Rattle.hashing.specs.declared.Geometry.{Geometry}
-use Rattle.pages.specs.Page.{part, heldAt, stretch}
+use Rattle.pages.specs.Page.{part, heldAt}
+use Rattle.pages.specs.Shape.{stretch}
 use Rattle.pages.specs.Position.{validNumber}
 use Rattle.placement.specs.Rule.{Star, Contents, pages, starWith}
 use Rattle.placement.specs.File.{File, replaced}
-use Rattle.placement.specs.Hash.{hashOf, soundAt, namedPage, homesOf, homeUnder}
+use Rattle.placement.specs.Hash.{hashOf, soundAt, namedPage}
+use Rattle.placement.specs.Shape.{homesOf, homeUnder}
 use Rattle.placement.specs.Ready.{Ready}
 use Rattle.placement.specs.Lent.{Lent}
 use Rattle.reach.specs.Known.{Known}

@@ -10,7 +10,7 @@ use denote.Ref.{now}
 use Rattle.hashing.specs.declared.Parameters.{Parameters}
 use Rattle.hashing.specs.declared.Growth.{Growth}
 use Rattle.hashing.specs.declared.Geometry.{Geometry}
-use Rattle.pages.specs.Page.{stretch}
+use Rattle.pages.specs.Shape.{stretch}
 use Rattle.placement.specs.Rule.{Star, Contents, separators, pages}
 use Rattle.placement.specs.File.{File, pagesAt, gathered, column, written, replaced}
 use Rattle.placement.specs.Hash.{hashOf, soundAt}

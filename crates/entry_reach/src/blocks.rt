@@ -4,7 +4,7 @@ ghost use mathlib.Core.Bool.{true};
 ghost use Prim.Native.Nat.{ℕ, _-_, _*_, _≤_, _<_};
 ghost use lib.ListN.{length, take};
 ghost use Rattle.pages.specs.Position.{validNumber};
-ghost use Rattle.placement.specs.Hash.{homeUnder};
+ghost use Rattle.placement.specs.Shape.{homeUnder};
 ghost use Rattle.placement.specs.Lent.{held, before};
 ghost use Rattle.placement.specs.Ready.{Ready};
 ghost use Rattle.generator.specs.Generator.{topOf};

@@ -7,7 +7,7 @@ ghost use Rattle.pages.specs.Page.{part, placeOf};
 ghost use Rattle.placement.specs.Lent.{held, before, after};
 ghost use Rattle.placement.specs.Ready.{Pooled};
 ghost use Rattle.reach.specs.Known.{Known};
-ghost use Rattle.calls.specs.Stores.{stoppedFile};
+ghost use Rattle.calls.specs.Shape.{stoppedFile};
 ghost use Rattle.decision.specs.Carried.{newcomer};
 ghost use Rattle.entry_reach.specs.Entry.{Enters, Decides, entryAnswer, entryFile};
 use crate::blocks::block_from;

@@ -19,7 +19,8 @@ use Rattle.hashing.specs.Limits.{validParameters, validGrowth}
 use Rattle.pages.specs.Page.{part, empties}
 use Rattle.pages.specs.Position.{validNumber, validWord}
 use Rattle.placement.specs.Rule.{Star, Hash, left, keep, starWith}
-use Rattle.placement.specs.File.{File, Sized, Clean, starsOf, starsAt, greatest, laid}
+use Rattle.placement.specs.File.{File, Clean, starsOf, starsAt, greatest, laid}
+use Rattle.placement.specs.Shape.{Sized}
 use Rattle.placement.specs.Hash.{hashOf, soundAt}
 use Rattle.placement.proofs.Composition.{count}
 use Rattle.placement.proofs.Files.{gathered-laid, sized-laid}
@@ -42,8 +43,9 @@ use Rattle.fits_table.specs.declared.cards.Table.{Table}
 use Rattle.fits_table.specs.declared.cards.Table.the-variants.{Rows, Nothing}
 use Rattle.fits_table.specs.declared.rows.Row.the-variants.{Star as Row·Star}
 use Rattle.fits_table.specs.Header.{tableIn, headers, blocksOf}
-use Rattle.fits_table.specs.Rows.{rowOfStar, rowBytes, from32, rowAt, goodRows, rowsBytes, tableOf, rowsRead, RowsUp}
-use Rattle.exchange.specs.Tables.{starOfRow, tableFrom, AfterWrite, guardedWrite, writeOn, writeUnder, goodData, starsRead, readTo, readOn, readOf, readUnder}
+use Rattle.fits_table.specs.Rows.{rowOfStar, rowBytes, from32, rowAt, goodRows, rowsBytes, tableOf, rowsRead}
+use Rattle.fits_table.specs.Shape.{RowsUp}
+use Rattle.exchange.specs.Tables.{starOfRow, tableOfFile, AfterWrite, guardedWrite, writeOn, writeUnder, goodData, starsRead, readTo, readOn, readOf, readUnder}
 use Rattle.exchange.specs.Exchange.{put, Written, WrittenIsTaken, WriteRead, ReadWritten}
 use Rattle.fits_table.proofs.Fields.{headers-long}
 use Rattle.fits_table.proofs.FileTable.{stars-up}
@@ -76,23 +78,23 @@ pub record Wrote (p : Parameters) (r : GrowthRecord) (f : File) (out : List ℕ)
   pub valid : validParameters p && validGrowth p (r .state) ≡ true
   pub fits : fileFits p f ≡ true
   pub sound : firstUnsound p (r .state) f 0 (p .pages) ≡ p .pages
-  pub room : length (tableFrom p f) ≤ length out
-  pub is : writeUnder p r f out ≡ record { answer = counted false (length (tableFrom p f)); output = written 0 (tableFrom p f) out }
+  pub room : length (tableOfFile p f) ≤ length out
+  pub is : writeUnder p r f out ≡ record { answer = counted false (length (tableOfFile p f)); output = written 0 (tableOfFile p f) out }
 
 pub wrote : (p : Parameters) (r : GrowthRecord) (f : File) (out : List ℕ) → Written p r f out → Wrote p r f out
 unfolding writeUnder writeOn spotted counted
 wrote p r f out =
     go (orElse (unless (validSteps p r) 1) (unlent p (r .state) (fileFits p f))) refl
-    (ltb (firstUnsound p (r .state) f 0 (p .pages)) (p .pages)) refl (ltb (length out) (length (tableFrom p f))) refl
+    (ltb (firstUnsound p (r .state) f 0 (p .pages)) (p .pages)) refl (ltb (length out) (length (tableOfFile p f))) refl
   where
     bad : ℕ
     bad = firstUnsound p (r .state) f 0 (p .pages)
 
     done : AfterWrite
-    done = record { answer = counted false (length (tableFrom p f)); output = written 0 (tableFrom p f) out }
+    done = record { answer = counted false (length (tableOfFile p f)); output = written 0 (tableOfFile p f) out }
 
     go : (n : ℕ) → orElse (unless (validSteps p r) 1) (unlent p (r .state) (fileFits p f)) ≡ n → (t : Bool) → ltb bad (p .pages) ≡ t
-        → (u : Bool) → ltb (length out) (length (tableFrom p f)) ≡ u
+        → (u : Bool) → ltb (length out) (length (tableOfFile p f)) ≡ u
         → guardedWrite out n (cond t (record { answer = refused 5 bad; output = out }) (cond u (record { answer = refused 12 0; output = out }) done)) .answer .refusal ≡ 0
         → Wrote p r f out
     go (suc n) en t et u eu e = absurd (omega arith)
@@ -104,16 +106,16 @@ wrote p r f out =
           valid = lent .0;
           fits = lent .1;
           sound = none-unsound p (r .state) f (ltb-false bad (p .pages) et);
-          room = ltb-false (length out) (length (tableFrom p f)) eu;
+          room = ltb-false (length out) (length (tableOfFile p f)) eu;
           is = rw (en, et, eu);
         }
 
 module _ (p : Parameters) (r : GrowthRecord) (f : File) (out : List ℕ) (w : Wrote p r f out) where
-  put-table : put p r f out ≡ tableFrom p f
+  put-table : put p r f out ≡ tableOfFile p f
   unfolding counted
   put-table =
       ap (λ (a : AfterWrite). take (a .answer .stars) (a .output)) (w .is)
-      ∙ taken-written 0 (length (tableFrom p f)) (tableFrom p f) out refl (omega arith)
+      ∙ taken-written 0 (length (tableOfFile p f)) (tableOfFile p f) out refl (omega arith)
 
   all : AllSound validWord (hashOf p (r .state)) f 0 (p .pages)
   all = sound-pages p (r .state) f (w .sound)
@@ -138,8 +140,8 @@ module _ (p : Parameters) (r : GrowthRecord) (f : File) (out : List ℕ) (w : Wr
       (omega (arith, rw fits at (count H 0 (p .pages) (allStars p f)), items-most p (and-true (validParameters p) (validGrowth p (r .state)) (w .valid) .0)))
 
   -- so its table is taken
-  taken : Accepted (tableFrom p f) (length (map rowOfStar (allStars p f)))
-  unfolding tableFrom
+  taken : Accepted (tableOfFile p f) (length (map rowOfStar (allStars p f)))
+  unfolding tableOfFile
   taken = table-taken (map rowOfStar (allStars p f)) few rows-up
 
 -- The header, rows and pad of a taken table pass
@@ -189,8 +191,8 @@ written-is-taken p r f out e q s second pool =
     rw (put-table p r f out w)
     (under-neither q s (fileFits q second && poolFits q pool) second pool _
     (guarded-neither (s .state) second pool (unlent q (s .state) (fileFits q second && poolFits q pool)) _ (omega (arith, unlent-most q (s .state) (fileFits q second && poolFits q pool)))
-    (rw (taken-on q (s .state) second (cleared pool) (tableFrom p f) (length (map rowOfStar (allStars p f))) (taken p r f out w))
-    (read-neither q (s .state) second (cleared pool) (starsRead (tableFrom p f) (length (map rowOfStar (allStars p f))))))))
+    (rw (taken-on q (s .state) second (cleared pool) (tableOfFile p f) (length (map rowOfStar (allStars p f))) (taken p r f out w))
+    (read-neither q (s .state) second (cleared pool) (starsRead (tableOfFile p f) (length (map rowOfStar (allStars p f))))))))
 
 -- What an accepted reading shows
 
@@ -325,8 +327,8 @@ module _ (p : Parameters) (r : GrowthRecord) (f : File) (pool : Pool) (given : L
   unfolding hashOf
   read-stars = gathered-laid validWord (hashOf p (r .state)) (p .pages) (starsRead given n) read-proper 0 read-rising (w .fits)
 
-  same-table : tableFrom p new ≡ given
-  unfolding tableFrom
+  same-table : tableOfFile p new ≡ given
+  unfolding tableOfFile
   same-table = ap (λ (l : List Star). tableOf (map rowOfStar l)) read-stars ∙ ap tableOf (stars-rows rows) ∙ sym (back .0)
 
   new-fits : fileFits p new ≡ true
@@ -426,8 +428,8 @@ unfolding readUnder readOf validSteps
 closed-read p g f pool given v l = rw (well-lent p g (fileFits p f && poolFits p pool) v l)
 
 module _ (p : Parameters) (r : GrowthRecord) (f : File) (out : List ℕ) (w : Wrote p r f out) (zeros : f .owners ≡ replicate (length (f .owners)) 0) where
-  own-stars : starsRead (tableFrom p f) (length (map rowOfStar (allStars p f))) ≡ allStars p f
-  unfolding tableFrom
+  own-stars : starsRead (tableOfFile p f) (length (map rowOfStar (allStars p f))) ≡ allStars p f
+  unfolding tableOfFile
   own-stars =
       ap (map starOfRow) (table-rows (map rowOfStar (allStars p f)) (rows-up p r f out w))
       ∙ rows-stars (allStars p f) (all-unowned p f (ap empties zeros ∙ empties-zeros (length (f .owners))))
@@ -437,7 +439,7 @@ read-written p r f own checked zeros out e second pool fits =
     let w = wrote p r f out e in
     let clean = check-clean p (r .state) f own (w .valid) (check-lent p (r .state) f own checked) (w .fits) .0 checked in
     ap (readUnder p (closedRecord (r .state)) second pool) (put-table p r f out w)
-    ∙ closed-read p (r .state) second pool (tableFrom p f) (w .valid) fits
-    ∙ taken-on p (r .state) second (cleared pool) (tableFrom p f) (length (map rowOfStar (allStars p f))) (taken p r f out w)
+    ∙ closed-read p (r .state) second pool (tableOfFile p f) (w .valid) fits
+    ∙ taken-on p (r .state) second (cleared pool) (tableOfFile p f) (length (map rowOfStar (allStars p f))) (taken p r f out w)
     ∙ ap (readTo p (r .state) second (cleared pool)) (own-stars p r f out w zeros)
     ∙ placed-again p (r .state) f second (cleared pool) (sized p f (w .fits)) clean

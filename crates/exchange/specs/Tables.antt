@@ -30,8 +30,8 @@ starOfRow r = starWith (r .0) (r .1) 0
 -- Writing
 
 -- "rows in rising number": the table of all stars
-unfoldable pub tableFrom : Parameters → File → List ℕ
-tableFrom p f = tableOf (map rowOfStar (allStars p f))
+unfoldable pub tableOfFile : Parameters → File → List ℕ
+tableOfFile p f = tableOf (map rowOfStar (allStars p f))
 
 -- the answer, and the lent output afterwards; the file is only read
 pub record AfterWrite : Type 0 where
@@ -53,9 +53,9 @@ writeOn p g f out =
     let bad = firstUnsound p g f 0 (p .pages) in
     cond (ltb bad (p .pages))
     (notWritten out (refused 5 bad))
-    (cond (ltb (length out) (length (tableFrom p f)))
+    (cond (ltb (length out) (length (tableOfFile p f)))
     (notWritten out (refused 12 0))
-    (record { answer = counted false (length (tableFrom p f)); output = written 0 (tableFrom p f) out }))
+    (record { answer = counted false (length (tableOfFile p f)); output = written 0 (tableOfFile p f) out }))
 
 -- the file is read, also while a growth is open
 unfoldable pub writeUnder : Parameters → GrowthRecord → File → List ℕ → AfterWrite

@@ -15,14 +15,15 @@ use Rattle.placement.specs.Hash.{hashOf}
 use Rattle.reach.specs.Reach.{isEmpty}
 use Rattle.calls.specs.declared.answers.Refusal.the-variants.{Full, BadHeader, BadRows}
 use Rattle.calls.specs.declared.answers.Placed.the-variants.{On, Refused}
-use Rattle.calls.specs.Answers.{After, Pool, Stores, placed, refusedBy, spotted, accepted, refused}
+use Rattle.calls.specs.Answers.{After, Pool, placed, refusedBy, spotted, accepted, refused}
+use Rattle.calls.specs.Shape.{Stores}
 use Rattle.calls.specs.Calls.{unchanged}
 use Rattle.fits_table.specs.declared.cards.Table.{Table}
 use Rattle.fits_table.specs.declared.cards.Table.the-variants.{Rows, Nothing}
 use Rattle.fits_table.specs.Header.{tableIn, tableLength}
 use Rattle.fits_table.specs.Rows.{goodRows}
 use Rattle.fits_table.proofs.Reading.{told}
-use Rattle.fits_pages.specs.Columns.{Places, rowStars}
+use Rattle.fits_pages.specs.Placed.{Places, rowStars}
 use Rattle.exchange.specs.Tables.{goodData, starsRead, readTo, readOn}
 
 -- the rows alone

@@ -39,24 +39,28 @@ use Rattle.calls.specs.declared.answers.Refusal.the-variants.{
 use Rattle.calls.specs.declared.answers.Admission.{Admission}
 use Rattle.calls.specs.declared.answers.Admission.the-variants.{Passed, Refused as TurnedAway}
 use Rattle.calls.specs.declared.records.GrowthRecord.{GrowthRecord}
-use Rattle.calls.specs.Answers.{refusalNumber, refusalPage, admissionNumber, refusedBy, spotted, refused, counted}
+use Rattle.calls.specs.Answers.{refusalNumber, refusalPage, refusedBy, spotted, refused, counted}
+use Rattle.calls.specs.Shape.{admissionNumber}
 use Rattle.calls.specs.Calls.{unless, orElse, unlent, fileFits}
-use Rattle.calls.specs.Lent.{Admitted}
+use Rattle.calls.specs.Shape.{Admitted}
 use Rattle.calls.specs.Records.{validSteps}
 use Rattle.calls.proofs.Numbers.{numbered}
 use Rattle.calls.proofs.Refusals.{admitted, items-most}
 use Rattle.call_guard.specs.Turn.{recordRefusal}
 use Rattle.fits_table.specs.Header.{tableLength}
-use Rattle.fits_table.specs.Items.{sortBy, heldItems}
-use Rattle.fits_table.specs.Rows.{rowOf, rowOfStar, rowsIn, tableOf, RowsUp}
+use Rattle.fits_table.specs.Items.{heldItems}
+use Rattle.fits_table.specs.Order.{sortBy}
+use Rattle.fits_table.specs.Rows.{rowOfStar, tableOf}
+use Rattle.fits_table.specs.Shape.{rowOf, rowsIn, RowsUp}
 use Rattle.fits_table.proofs.FileRows.{file-rows}
 use Rattle.fits_table.proofs.FileTable.{file-up}
 use Rattle.fits_table.proofs.Orders.{length-sort}
 use Rattle.fits_table.proofs.Told.{table-long}
-use Rattle.exchange.specs.Tables.{AfterWrite, notWritten, guardedWrite, tableFrom, writeOn, writeUnder, Writes}
+use Rattle.exchange.specs.Tables.{AfterWrite, notWritten, guardedWrite, tableOfFile, writeOn, writeUnder, Writes}
 use Rattle.exchange.proofs.Exchanged.{else-zero, sound-pages}
 use Rattle.fits.specs.declared.putting.Written.the-variants.{Length, Refused}
-use Rattle.fits.specs.Written.{lengthSaid, fitted}
+use Rattle.fits.specs.Written.{lengthSaid}
+use Rattle.fits.specs.Shape.{fitted}
 
 pub writes : (after : AfterWrite) {a b : Answer} {o : List ℕ} → after ≡ record { answer = a; output = o } → b ≡ a → Writes after b o
 writes after e h = record { answers = h ∙ sym (ap (λ (x : AfterWrite). x .answer) e); outputs = sym (ap (λ (x : AfterWrite). x .output) e) }
@@ -135,7 +139,7 @@ module _ (p : Parameters) (r : GrowthRecord) (f : File) (out : List ℕ) where
       rows-rise = file-up (hashOf p (r .state)) (p .pages) f (well-admitted .sized) (sound-pages p (r .state) f all-are)
 
       pub sound-written : {b : Answer} {o : List ℕ} → Writes (fitted (tableOf (rowsIn (f .numbers) (f .words))) out) b o → Writes (writeUnder p r f out) b o
-      unfolding writeOn tableFrom fitted
+      unfolding writeOn tableOfFile fitted
       sound-written w =
           rw (on, le-ltb (firstUnsound p (r .state) f 0 (p .pages)) (p .pages) (omega (arith, all-are)), file-rows (p .places) (p .pages) f (well-admitted .sized)) w
 

@@ -16,7 +16,8 @@ use Rattle.reach.specs.Reach.{isEmpty}
 use Rattle.plan_transfer.specs.Sources.{namedItem}
 use Rattle.fits_table.specs.Rows.{rowsRead}
 use Rattle.fits_table.proofs.Reading.{length-read}
-use Rattle.fits_pages.specs.Columns.{numbersRead, wordsRead, rowStars, PlansRows, Places}
+use Rattle.fits_pages.specs.Columns.{numbersRead, wordsRead, PlansRows}
+use Rattle.fits_pages.specs.Placed.{rowStars, Places}
 
 -- all separators copied
 pub pasted-front : (d s : List ℕ) (n : ℕ) → length d ≡ n → paste d 0 s n ≡ take n s

@@ -16,12 +16,13 @@ use Rattle.buffers.proofs.Tests.{and-true}
 use Rattle.hashing.specs.declared.Geometry.{Geometry}
 use Rattle.hashing.specs.declared.Parameters.{Parameters}
 use Rattle.hashing.specs.Limits.{validParameters, validGrowth}
-use Rattle.pages.specs.Page.{stretch}
+use Rattle.pages.specs.Shape.{stretch}
 use Rattle.pages.specs.Position.{validNumber, validPosition, validWord, packed}
 use Rattle.pages.proofs.Words.{pack-valid}
 use Rattle.placement.specs.Rule.{Star, Hash, Contents, pages, left, keep, filter, without, starWith, separators, pour}
 use Rattle.placement.specs.File.{File, starsOf, gathered, column, replaced}
-use Rattle.placement.specs.Hash.{hashOf, homeUnder, lent}
+use Rattle.placement.specs.Hash.{hashOf, lent}
+use Rattle.placement.specs.Shape.{homeUnder}
 use Rattle.placement.proofs.Composition.{length-pages}
 use Rattle.placement.proofs.Files.{roomy-pages}
 use Rattle.placement.proofs.Filters.{filter-all-on}
@@ -45,9 +46,11 @@ use Rattle.page_plan.proofs.Placed.{probes-real, planned-pages, Layout, layout,
 use Rattle.page_plan.proofs.Sourcing.{itemHome, words-homed, words-grouped, words-sourced, gathered-stretch, true-stars}
 use Rattle.fits_table.specs.declared.rows.Row.{Row}
 use Rattle.fits_table.specs.declared.rows.Row.the-variants.{Star as Row·Star, Wrong}
-use Rattle.fits_table.specs.Rows.{from32, positionAt, rowAnswer, rowAt, goodAfter, goodRows, rowsRead, RowsUp}
+use Rattle.fits_table.specs.Rows.{from32, positionAt, rowAnswer, rowAt, goodAfter, goodRows, rowsRead}
+use Rattle.fits_table.specs.Shape.{RowsUp}
 use Rattle.fits_table.proofs.Reading.{length-read}
-use Rattle.fits_pages.specs.Columns.{numbersRead, wordsRead, homesRead, keysFrom, rowKeys, rowStars, PlansRows}
+use Rattle.fits_pages.specs.Columns.{numbersRead, wordsRead, homesRead, keysFrom, rowKeys, PlansRows}
+use Rattle.fits_pages.specs.Placed.{rowStars}
 use Rattle.fits_pages.proofs.ReadColumns.{numbers-long, words-long}
 use Rattle.fits_pages.proofs.RowKeys.{homes-long, row-keys-long, rows-keyed}
 

@@ -15,7 +15,8 @@ use Rattle.buffers.proofs.Lists.{map-take, map-drop, map-item}
 use Rattle.reach.proofs.Pastes.{paste-more}
 use Rattle.hashing.specs.declared.Geometry.{Geometry}
 use Rattle.hashing.specs.Limits.{validParameters, validGrowth}
-use Rattle.placement.specs.Hash.{homeUnder, hashOf}
+use Rattle.placement.specs.Hash.{hashOf}
+use Rattle.placement.specs.Shape.{homeUnder}
 use Rattle.placement.proofs.Probing.{homed-real}
 use Rattle.page_separator.specs.Lists.{allBelow}
 use Rattle.page_separator.proofs.Lists.{all-items}

@@ -1,17 +1,19 @@
 -- A table's rows as columns of numbers and words, and what placing them leaves.
 use mathlib.Core.Path.{_≡_}
-use mathlib.Core.Bool.{Bool, true, cond}
+use mathlib.Core.Bool.{Bool, true}
 use mathlib.Core.List.{List, [], _∷_, map}
-use Prim.Native.Nat.{ℕ, suc, _*_}
+use Prim.Native.Nat.{ℕ, suc}
 use lib.ListN.{length, take, replicate}
 use Rattle.hashing.specs.declared.Geometry.{Geometry}
-use Rattle.placement.specs.Rule.{Star, pages, left, starWith, separators}
-use Rattle.placement.specs.File.{File, column, laid}
-use Rattle.placement.specs.Hash.{hashOf, homeUnder}
+use Rattle.placement.specs.Rule.{Star, pages, left, separators}
+use Rattle.placement.specs.File.{column}
+use Rattle.placement.specs.Hash.{hashOf}
+use Rattle.placement.specs.Shape.{homeUnder}
 use Rattle.reach.specs.Reach.{isEmpty}
 use Rattle.page_plan.specs.Keys.{starKey}
 use Rattle.plan_transfer.specs.Sources.{namedItem}
 use Rattle.fits_table.specs.Rows.{rowsRead}
+use Rattle.fits_pages.specs.Placed.{rowStars}
 
 -- the rows' numbers and words
 abbrev pub numbersRead : List ℕ → ℕ → List ℕ
@@ -31,10 +33,6 @@ homesRead g given n = map (homeUnder g) (numbersRead given n)
 abbrev pub rowKeys : Geometry → List ℕ → ℕ → List ℕ
 rowKeys g given n = keysFrom 0 (homesRead g given n)
 
--- the rows as stars of owner 0
-abbrev pub rowStars : List ℕ → ℕ → List Star
-rowStars given n = map (λ (r : ℕ × ℕ). starWith (r .0) (r .1) 0) (rowsRead given 5760 n)
-
 -- What planning the rows leaves: whether all of them fit, and then the sources and separators of the rule's pages.
 pub record PlansRows (g : Geometry) (given : List ℕ) (n : ℕ) (pool planned : List ℕ) (r : Bool) : Type 0 where
   pub fits : r ≡ isEmpty (left (hashOf (g .parameters) (g .growth)) 0 (g .parameters .pages) (rowStars given n))
@@ -46,8 +44,3 @@ pub record PlansRows (g : Geometry) (given : List ℕ) (n : ℕ) (pool planned :
       ≡ column (g .parameters .places) (λ (s : Star). s .payload .owner) (pages (hashOf (g .parameters) (g .growth)) 0 (g .parameters .pages) (rowStars given n))
   pub planned-are : r ≡ true
       → take (g .parameters .pages) planned ≡ separators (pages (hashOf (g .parameters) (g .growth)) 0 (g .parameters .pages) (rowStars given n))
-
--- "replaces the lent file by these stars", or leaves it
-pub record Places (g : Geometry) (given : List ℕ) (n : ℕ) (f f′ : File) (r : Bool) : Type 0 where
-  pub fits : r ≡ isEmpty (left (hashOf (g .parameters) (g .growth)) 0 (g .parameters .pages) (rowStars given n))
-  pub file : f′ ≡ cond r (laid (g .parameters .places) (hashOf (g .parameters) (g .growth)) (g .parameters .pages) (rowStars given n)) f

@@ -16,7 +16,8 @@ use Rattle.buffers.specs.Lists.{written}
 use Rattle.buffers.proofs.Written.{written-whole, written-add, written-middle, written-none, paste-written, length-written}
 use Rattle.buffers.proofs.Tests.{and-true}
 use Rattle.fits_table.specs.declared.cards.Table.the-variants.{Rows, Nothing}
-use Rattle.fits_table.specs.Header.{ascii, card, cards, blanks, leading, field, front, behind, headers, template, cardTable, slotCard, digitStep, readDigits, candidate, alike, tells, tableIn, tableLength}
+use Rattle.fits_table.specs.Header.{ascii, card, cards, blanks, leading, field, front, behind, headers, digitStep, readDigits, candidate, alike, tells, tableIn, tableLength}
+use Rattle.fits_table.specs.Shape.{template, cardTable, slotCard}
 
 -- bytes compared
 pub alike-eq : (a b : List ℕ) → alike a b ≡ true → a ≡ b

@@ -12,10 +12,13 @@ use lib.Seq.{take-take, take-all, drop-drop}
 use Rattle.buffers.proofs.Lists.{drop-take}
 use Rattle.pages.specs.Page.{part}
 use Rattle.placement.specs.Rule.{Star, keep, insert, pour, starWith}
-use Rattle.placement.specs.File.{File, Sized, starsOf, starsAt, gathered}
+use Rattle.placement.specs.File.{File, starsOf, starsAt, gathered}
+use Rattle.placement.specs.Shape.{Sized}
 use Rattle.placement.proofs.Order.{pour-append}
-use Rattle.fits_table.specs.Items.{insertBy, sortBy, keptItem, heldItems}
-use Rattle.fits_table.specs.Rows.{rowOfStar, rowOf, rowsIn}
+use Rattle.fits_table.specs.Items.{keptItem, heldItems}
+use Rattle.fits_table.specs.Order.{insertBy, sortBy}
+use Rattle.fits_table.specs.Rows.{rowOfStar}
+use Rattle.fits_table.specs.Shape.{rowOf, rowsIn}
 
 -- sorting and a map that keeps the key
 map-insert : {A B : Type 0} (f : A → ℕ) (g : B → ℕ) (h : A → B) → ((x : A) → g (h x) ≡ f x) → (x : A) (l : List A) → map h (insertBy f x l) ≡ insertBy g (h x) (map h l)

@@ -10,11 +10,13 @@ use lib.ListN.{length, getD}
 use borrow.Author.Tests.{le-leb}
 use Rattle.pages.specs.Position.{validNumber, validWord}
 use Rattle.placement.specs.Rule.{Star, Hash}
-use Rattle.placement.specs.File.{File, Sized, gathered}
+use Rattle.placement.specs.File.{File, gathered}
+use Rattle.placement.specs.Shape.{Sized}
 use Rattle.placement.proofs.Order.{Rising}
 use Rattle.placement.proofs.Pages.{Proper}
 use Rattle.placement.proofs.Sound.{AllSound, gathered-rising, gathered-proper}
-use Rattle.fits_table.specs.Rows.{rowOfStar, rowsIn, RowsUp}
+use Rattle.fits_table.specs.Rows.{rowOfStar}
+use Rattle.fits_table.specs.Shape.{rowsIn, RowsUp}
 use Rattle.fits_table.proofs.FileRows.{file-rows}
 
 number-valid : (n : ℕ) → 1 ≤ n → n ≤ 2147483646 → validNumber n ≡ true

@@ -15,7 +15,8 @@ use Rattle.fits_table.specs.declared.cards.Table.the-variants.{Rows}
 use Rattle.fits_table.specs.declared.rows.Row.{Row}
 use Rattle.fits_table.specs.declared.rows.Row.the-variants.{Star, Wrong}
 use Rattle.fits_table.specs.Header.{headers, candidate, alike, tells, answer, tableIn, tableLength, blocksOf}
-use Rattle.fits_table.specs.Rows.{rowBytes, from32, rowAt, goodRows, goodAfter, rowsBytes, tableOf, rowsRead, RowsUp}
+use Rattle.fits_table.specs.Rows.{rowBytes, from32, rowAt, goodRows, goodAfter, rowsBytes, tableOf, rowsRead}
+use Rattle.fits_table.specs.Shape.{RowsUp}
 use Rattle.fits_table.proofs.Fields.{alike-eq, headers-long}
 use Rattle.fits_table.proofs.RoundTrip.{row-read, Taken, row-back, taken-number, taken-word, number-small}
 use Rattle.fits_table.proofs.Told.{told-table}

@@ -75,20 +75,6 @@ behind = blanks 50 ++ (cards tableLast ++ blanks (24 * 80))
 unfoldable pub headers : ℕ → List ℕ
 headers rows = front ++ (field rows ++ behind)
 
-unfoldable pub template : List ℕ
-template = front ++ (blanks 20 ++ behind)
-
--- the code's table of cards, and the card of it that stands at one of the 72 places for a card
-unfoldable pub cardTable : List (List ℕ)
-cardTable = each (primary) (each tableFirst (card "NAXIS2  = " ∷ each tableLast (blanks 80 ∷ [])))
-  where
-    each : List String → List (List ℕ) → List (List ℕ)
-    each [] l = l
-    each (s ∷ r) l = card s ∷ each r l
-
-unfoldable pub slotCard : ℕ → ℕ
-slotCard slot = cond (ltb slot 5) slot (cond (ltb slot 36) 17 (cond (ltb slot 48) (slot - 31) 17))
-
 -- a digit read after `value`; other bytes count for nothing, and a value above 32,768 stays
 unfoldable pub digitStep : ℕ → ℕ → ℕ
 digitStep value byte =

@@ -1,17 +1,15 @@
 -- A row: number, right ascension and declination as big-endian numbers of 32 bits, the last in two's complement (FITS Standard 4.0, 5.2.3, 7.3.3.1).
 -- Assumes nothing.
 use mathlib.Core.Bool.{Bool, true, false, _&&_}
-use mathlib.Core.List.{List, [], _∷_, _++_, map}
-use Prim.Native.Nat.{ℕ, zero, suc, _+_, _-_, _*_, _/_, _%_, _^_, _<_}
-use mathlib.Core.Path.{_≡_}
+use mathlib.Core.List.{List, [], _∷_, _++_}
+use Prim.Native.Nat.{ℕ, zero, suc, _+_, _-_, _*_, _/_, _%_, _^_}
 use lib.Dec.{ltb}
 use lib.ListN.{length, getD, replicate}
 use lib.IntN.{ℤ, pos, negsuc}
-use Rattle.pages.specs.Position.{validNumber, validPosition, validWord, packed, unpacked}
+use Rattle.pages.specs.Position.{validNumber, validPosition, packed, unpacked}
 use Rattle.pages.specs.declared.position.Position.{Position}
 use Rattle.placement.specs.Rule.{Star as Rule·Star}
 use Rattle.fits_table.specs.Header.{headers, blocksOf}
-use Rattle.fits_table.specs.Items.{sortBy, heldItems}
 use Rattle.fits_table.specs.declared.rows.Row.{Row}
 use Rattle.fits_table.specs.declared.rows.Row.the-variants.{Star, Wrong}
 
@@ -75,23 +73,7 @@ tableOf rs = headers (length rs) ++ (rowsBytes rs ++ replicate (blocksOf (12 * l
 abbrev pub rowOfStar : Rule·Star → ℕ × ℕ
 rowOfStar s = (s .number, s .payload .word)
 
--- the number and the word that an item names, and those of the items that hold a number, in rising order of number
-abbrev pub rowOf : List ℕ → List ℕ → ℕ → ℕ × ℕ
-rowOf ns ws x = (getD ns x 0, getD ws x 0)
-
-unfoldable pub rowsIn : List ℕ → List ℕ → List (ℕ × ℕ)
-rowsIn ns ws = map (rowOf ns ws) (sortBy (λ (x : ℕ). getD ns x 0) (heldItems 0 ns))
-
--- the words of items that hold a number are valid
-abbrev pub ValidWords : List ℕ → List ℕ → List ℕ → Type 0
-ValidWords ns ws items = (j : ℕ) → j < length items → validWord (getD ws (getD items j 0) 0) ≡ true
-
 -- the rows as they are read, n from byte `at` on
 unfoldable pub rowsRead : List ℕ → ℕ → ℕ → List (ℕ × ℕ)
 rowsRead l at zero = []
 rowsRead l at (suc n) = (from32 l at, packed (positionAt l at)) ∷ rowsRead l (at + 12) n
-
--- rows that a file's stars can be: numbers above `last` that rise, in range, and valid words
-abbrev pub RowsUp : ℕ → List (ℕ × ℕ) → Type 0
-RowsUp last [] = Unit {0}
-RowsUp last (r ∷ rs) = (last < r .0) × ((validNumber (r .0) ≡ true) × ((validWord (r .1) ≡ true) × RowsUp (r .0) rs))

@@ -9,7 +9,8 @@ use lib.Dec.{T, eqb, eqb→eq}
 use lib.ListN.{getD, length}
 use lib.Pow.{pow-add}
 use borrow.Author.Tests.{eqb-true}
-use Rattle.generator.specs.Generator.{modulus, power, scrambled, chain, firstMultipliers, validMultiplier}
+use Rattle.generator.specs.Generator.{modulus, scrambled, chain, validMultiplier}
+use Rattle.generator.specs.Shape.{power, firstMultipliers}
 use Rattle.generator.proofs.Numbers.{mul-mod, mul-mod-right}
 
 -- n entries, each being the one before times a mod m

@@ -6,7 +6,8 @@ use native.Mathlib.Omega.{arith}
 use mathlib.Core.List.{List}
 use lib.ListN.{getD, length}
 use lib.Pow.{pow-mono}
-use Rattle.generator.specs.Generator.{modulus, power, scrambled, chain, topOf, signature}
+use Rattle.generator.specs.Generator.{modulus, scrambled, chain, topOf, signature}
+use Rattle.generator.specs.Shape.{power}
 use Rattle.generator.proofs.Numbers.{mul-mod, mul-mod-right, shifted}
 use Rattle.generator.proofs.Powers.{lent-entry}
 

@@ -12,10 +12,6 @@ modulus = 2147483647
 unfoldable pub validMultiplier : ℕ → Bool
 validMultiplier a = eqb a 16807 || eqb a 48271
 
--- the j-th multiplier of the table: a^j mod m
-unfoldable pub power : ℕ → ℕ → ℕ
-power a j = a ^ j % modulus
-
 -- Xj(K) = a^j·K mod m
 unfoldable pub scrambled : ℕ → ℕ → ℕ → ℕ
 scrambled a j k = a ^ j * k % modulus
@@ -36,7 +32,3 @@ chain a p (suc n) = p * a % modulus ∷ chain a (p * a % modulus) n
 -- the table of 2,049 multipliers
 unfoldable pub multipliers : ℕ → List ℕ
 multipliers a = chain a 1 2049
-
--- its first ninety: homes need X1, and X(2i) for up to 33 steps; the first 44 pages probed need X(2t+1)
-unfoldable pub firstMultipliers : ℕ → List ℕ
-firstMultipliers a = chain a 1 90

@@ -1,7 +1,8 @@
 // Which multipliers there are, and their tables.
 ghost use mathlib.Core.Path.{_≡_};
 ghost use mathlib.Core.Bool.{true};
-ghost use Rattle.generator.specs.Generator.{validMultiplier, firstMultipliers};
+ghost use Rattle.generator.specs.Generator.{validMultiplier};
+ghost use Rattle.generator.specs.Shape.{firstMultipliers};
 ghost use Rattle.generator.specs.Generator.{multipliers as Generator·multipliers};
 use crate::firsts::FIRST_16807;
 use crate::firsts::FIRST_48271;

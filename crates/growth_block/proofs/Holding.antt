@@ -16,7 +16,8 @@ use Rattle.hashing.specs.Limits.{validParameters, validGrowth}
 use Rattle.pages.specs.Page.{part}
 use Rattle.pages.specs.Position.{validWord}
 use Rattle.placement.specs.Rule.{Star, Hash, keep, filter, first, left, pour}
-use Rattle.placement.specs.File.{File, Sized, starsAt, gathered}
+use Rattle.placement.specs.File.{File, starsAt, gathered}
+use Rattle.placement.specs.Shape.{Sized}
 use Rattle.placement.specs.Hash.{hashOf}
 use Rattle.placement.proofs.Filters.{Within, filter-none-on, length-within}
 use Rattle.placement.proofs.Order.{filter-pour, length-pour}

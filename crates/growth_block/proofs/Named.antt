@@ -8,10 +8,13 @@ use lib.ListN.{length, getD, take, drop, length-map, length-drop}
 use lib.Seq.{drop-cons, getD-take, getD-drop, length-take-le}
 use Rattle.buffers.specs.Lists.{written, padded}
 use Rattle.buffers.proofs.Written.{taken-written}
-use Rattle.pages.specs.Page.{part, stretch}
+use Rattle.pages.specs.Page.{part}
+use Rattle.pages.specs.Shape.{stretch}
 use Rattle.hashing.specs.declared.Parameters.{Parameters}
-use Rattle.placement.specs.Rule.{Star, Contents, separators, blank}
-use Rattle.placement.specs.File.{File, Sized, column, replaced}
+use Rattle.placement.specs.Rule.{Star, Contents, separators}
+use Rattle.placement.specs.Shape.{blank}
+use Rattle.placement.specs.File.{File, column, replaced}
+use Rattle.placement.specs.Shape.{Sized}
 use Rattle.placement.proofs.Standing.{length-separators}
 use Rattle.placement.proofs.Writing.{Roomy, length-column, part-column, getD-separators}
 use Rattle.placement.proofs.Files.{numberOf, wordOf, ownerOf}

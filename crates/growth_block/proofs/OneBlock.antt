@@ -18,8 +18,10 @@ use Rattle.hashing.specs.Limits.{validParameters, validGrowth}
 use Rattle.hashing.specs.Home.{home}
 use Rattle.generator.specs.Generator.{topOf}
 use Rattle.pages.specs.Position.{validWord}
-use Rattle.placement.specs.Rule.{Star, Hash, Contents, filter, first, below, staying, passing, separatorFrom, separatorOf, contentsOf, onward, pages, left, separators, blank}
-use Rattle.placement.specs.File.{File, Sized, starsAt, gathered}
+use Rattle.placement.specs.Rule.{Star, Hash, Contents, filter, first, below, staying, passing, separatorFrom, separatorOf, contentsOf, onward, pages, left, separators}
+use Rattle.placement.specs.Shape.{blank}
+use Rattle.placement.specs.File.{File, starsAt, gathered}
+use Rattle.placement.specs.Shape.{Sized}
 use Rattle.placement.specs.Hash.{hashOf}
 use Rattle.placement.proofs.Filters.{filter-ext, filter-none, member-filter, filter-member}
 use Rattle.placement.proofs.Irrelevance.{near, far, near-covers, is-far, far-home, pages-irr, left-far}

@@ -17,10 +17,13 @@ use Rattle.hashing.specs.declared.Growth.{Growth}
 use Rattle.hashing.specs.Geometry.{multiplierOf, pageCount, grown}
 use Rattle.hashing.specs.Limits.{validParameters, validGrowth}
 use Rattle.hashing.specs.Home.{home}
-use Rattle.pages.specs.Page.{stretch}
-use Rattle.placement.specs.Rule.{Hash, Contents, below, pages, blank, without}
-use Rattle.placement.specs.File.{File, Sized, gathered, replaced}
-use Rattle.placement.specs.Hash.{hashOf, soundAt, homeIn}
+use Rattle.pages.specs.Shape.{stretch}
+use Rattle.placement.specs.Rule.{Hash, Contents, below, pages, without}
+use Rattle.placement.specs.Shape.{blank}
+use Rattle.placement.specs.File.{File, gathered, replaced}
+use Rattle.placement.specs.Shape.{Sized}
+use Rattle.placement.specs.Hash.{hashOf, soundAt}
+use Rattle.placement.specs.Shape.{homeIn}
 use Rattle.placement.proofs.Composition.{length-pages}
 use Rattle.placement.proofs.Files.{roomy-pages}
 use Rattle.page_separator.specs.Lists.{allBelow}
@@ -33,7 +36,7 @@ use Rattle.removal_reach.specs.Stretch.{StretchReady, newPages}
 use Rattle.removal_reach.proofs.Ruled.{applied-stretch}
 use Rattle.removal_reach.proofs.Items.{all-below, all-sound, all-numbered, numbers-below, plannable-stretch, ready-stretch}
 use Rattle.growth_in_place.specs.Expansion.{Spacious}
-use Rattle.growth_block.specs.Block.{homeUpTo, hashUpTo, homesUpTo, BlockAt, PlansBlock, NamesPage}
+use Rattle.growth_block.specs.Block.{homeUpTo, hashUpTo, homesTaken, BlockAt, PlansLocally, NamesPage}
 use Rattle.growth_block.proofs.OneBlock.{SameBelow, page-local}
 use Rattle.growth_block.proofs.Named.{page-named}
 
@@ -67,23 +70,23 @@ upto-low p g stop n = go (eqb n 0) (ltb stop (home (multiplierOf p) p g n)) refl
     go false true e = omega arith
     go false false e = omega (arith, ltb-false stop (home (multiplierOf p) p g n) e)
 
-pub upto-items : (p : Parameters) (g : Growth) (stop : ℕ) (ns : List ℕ) → homesUpTo p g stop ns ≡ map (itemHome (hashUpTo p g stop)) ns
-unfolding homesUpTo itemHome hashUpTo
+pub upto-items : (p : Parameters) (g : Growth) (stop : ℕ) (ns : List ℕ) → homesTaken p g stop ns ≡ map (itemHome (hashUpTo p g stop)) ns
+unfolding homesTaken itemHome hashUpTo
 upto-items p g stop ns = refl
 
-pub length-upto : (p : Parameters) (g : Growth) (stop : ℕ) (ns : List ℕ) → length (homesUpTo p g stop ns) ≡ length ns
-unfolding homesUpTo
+pub length-upto : (p : Parameters) (g : Growth) (stop : ℕ) (ns : List ℕ) → length (homesTaken p g stop ns) ≡ length ns
+unfolding homesTaken
 length-upto p g stop ns = length-map ns (λ n. cond (eqb n 0) 0 (homeUpTo p g stop n))
 
 -- the next item, from its home under the growth state
 pub upto-next : (p : Parameters) (g : Growth) (stop : ℕ) (ns : List ℕ) (first i next x : ℕ) → next ≡ homeIn p g (getD ns (first + i) 0) → x ≡ cond (ltb stop next) stop next
-    → x ≡ getD (drop first (homesUpTo p g stop ns)) i 0
-unfolding homesUpTo homeUpTo
+    → x ≡ getD (drop first (homesTaken p g stop ns)) i 0
+unfolding homesTaken homeUpTo
 upto-next p g stop ns first i next x e d =
     d
     ∙ ap (λ (h : ℕ). cond (ltb stop h) stop h) e
     ∙ go (eqb (getD ns (first + i) 0) 0)
-    ∙ sym (getD-drop first (homesUpTo p g stop ns) i 0 ∙ List·getD-map (λ n. cond (eqb n 0) 0 (homeUpTo p g stop n)) ns (first + i) 0)
+    ∙ sym (getD-drop first (homesTaken p g stop ns) i 0 ∙ List·getD-map (λ n. cond (eqb n 0) 0 (homeUpTo p g stop n)) ns (first + i) 0)
   where
     go : (t : Bool)
         → cond (ltb stop (cond t 0 (home (multiplierOf p) p g (getD ns (first + i) 0)))) stop (cond t 0 (home (multiplierOf p) p g (getD ns (first + i) 0)))
@@ -101,7 +104,7 @@ pasted-stretch b lo n l x hl hx =
 -- the items of the pages from lo to `stop`
 module _ (p : Parameters) (g : Growth) (ns : List ℕ) (lo stop : ℕ) (low : lo ≤ stop) (last : stop < p .pages) (many : length ns ≡ p .pages * p .places)
     (pool homes : List ℕ) (long : length pool ≡ p .pages * p .places)
-    (homes-are : homes ≡ paste pool (lo * p .places) (drop (lo * p .places) (homesUpTo p g stop ns)) (suc (stop - lo) * p .places)) where
+    (homes-are : homes ≡ paste pool (lo * p .places) (drop (lo * p .places) (homesTaken p g stop ns)) (suc (stop - lo) * p .places)) where
   abbrev n : ℕ
   n = suc (stop - lo)
 
@@ -117,7 +120,7 @@ module _ (p : Parameters) (g : Growth) (ns : List ℕ) (lo stop : ℕ) (low : lo
   pub upto-homes : stretch (p .places) lo n homes ≡ map (itemHome K) (stretch (p .places) lo n ns)
   upto-homes =
       ap (stretch (p .places) lo n) homes-are
-      ∙ pasted-stretch (p .places) lo n pool (homesUpTo p g stop ns) (omega (arith, fits)) (omega (arith, fits, length-upto p g stop ns))
+      ∙ pasted-stretch (p .places) lo n pool (homesTaken p g stop ns) (omega (arith, fits)) (omega (arith, fits, length-upto p g stop ns))
       ∙ ap (stretch (p .places) lo n) (upto-items p g stop ns)
       ∙ ap (take (n * p .places)) (map-drop (itemHome K) (lo * p .places) ns)
       ∙ map-take (itemHome K) (n * p .places) (drop (lo * p .places) ns)
@@ -132,7 +135,7 @@ module _ (p : Parameters) (g : Growth) (ns : List ℕ) (lo stop : ℕ) (low : lo
 
 module _ (p : Parameters) (g : Growth) (f : File) (valid : validParameters p ≡ true) (sized : Sized (p .places) (p .pages) f)
     (step : ℕ) (pool pool′ planned planned′ : List ℕ) (long : length pool ≡ p .pages * p .places)
-    (L : PlansBlock p g step (f .separators) (f .numbers) pool pool′ planned planned′)
+    (L : PlansLocally p g step (f .separators) (f .numbers) pool pool′ planned planned′)
     (grows : validGrowth p g ≡ true) (all : firstUnsound p g f 0 (p .pages) ≡ p .pages) (room : pageCount p g < p .pages) (spacious : Spacious p g (f .separators) (f .numbers))
     (other : step ≡ pageCount p g → ⊥) (wide : p .pages ≤ length planned) (kept : length pool′ ≡ length pool) (kept′ : length planned′ ≡ length planned) where
   abbrev from : ℕ

@@ -34,8 +34,8 @@ hashUpTo p g stop =
     }
 
 -- of a place's number, 0 for an empty place
-unfoldable pub homesUpTo : Parameters → Growth → ℕ → List ℕ → List ℕ
-homesUpTo p g stop ns = map (λ n. cond (eqb n 0) 0 (homeUpTo p g stop n)) ns
+unfoldable pub homesTaken : Parameters → Growth → ℕ → List ℕ → List ℕ
+homesTaken p g stop ns = map (λ n. cond (eqb n 0) 0 (homeUpTo p g stop n)) ns
 
 -- page lo is the first of the block that `page` stands in: the page before it has the separator `top`, those from it up to `page` have not
 pub record StartsBlock (stored : List ℕ) (top page lo : ℕ) : Type 0 where
@@ -53,7 +53,7 @@ pub record BlockAt (p : Parameters) (stored : List ℕ) (step lo last stop : ℕ
   pub ends : suc last < p .pages → getD stored last 0 ≡ topOf (p .bits)
 
 -- the plan of these pages: of their items, whose homes under the next growth state are taken up to `stop`
-pub record PlansBlock (p : Parameters) (g : Growth) (step : ℕ) (stored ns pool pool′ planned planned′ : List ℕ) : Type 0 where
+pub record PlansLocally (p : Parameters) (g : Growth) (step : ℕ) (stored ns pool pool′ planned planned′ : List ℕ) : Type 0 where
   pub lo : ℕ
   pub last : ℕ
   pub stop : ℕ
@@ -61,7 +61,7 @@ pub record PlansBlock (p : Parameters) (g : Growth) (step : ℕ) (stored ns pool
   pub homes : List ℕ
   pub homes-are :
       homes
-      ≡ paste pool (lo * p .places) (drop (lo * p .places) (homesUpTo p (grown p g) stop ns)) (suc (stop - lo) * p .places)
+      ≡ paste pool (lo * p .places) (drop (lo * p .places) (homesTaken p (grown p g) stop ns)) (suc (stop - lo) * p .places)
   pub homes-long : length homes ≡ length pool
   pub waiting : List ℕ
   pub past-it : ℕ

@@ -7,12 +7,12 @@ ghost use lib.ListN.{length, drop, getD};
 ghost use lib.Seq.{paste};
 ghost use Rattle.generator.specs.Generator.{topOf};
 ghost use Rattle.hashing.specs.Geometry.{pageCount, grown};
-ghost use Rattle.pages.specs.Page.{stretch};
-ghost use Rattle.placement.specs.Hash.{homesOf};
+ghost use Rattle.pages.specs.Shape.{stretch};
+ghost use Rattle.placement.specs.Shape.{homesOf};
 ghost use Rattle.placement.specs.Ready.{Homing};
 ghost use Rattle.page_separator.specs.Lists.{allBelow};
 ghost use Rattle.growth_in_place.specs.Expansion.{NoneCounted};
-ghost use Rattle.growth_block.specs.Block.{homesUpTo, StartsBlock, PlansBlock, IsLocal};
+ghost use Rattle.growth_block.specs.Block.{homesTaken, StartsBlock, PlansLocally, IsLocal};
 use hashing::Geometry;
 
 // The first page of the block that a page stands in.
@@ -65,7 +65,7 @@ fn rehome_items(
     requires { ⌜ first + count ≤ length (now numbers) ⌝ }
     requires { ⌜ now homes ≡ homesOf (geometry .parameters) (geometry .growth) (now numbers) ⌝ }
     ensures { λ _. ⌜ now (homes .exit) ≡ paste (now (homes .entry)) first
-        (drop first (homesUpTo (geometry .parameters) (grown (geometry .parameters) (geometry .growth)) stop (now (numbers .entry)))) count ⌝ }
+        (drop first (homesTaken (geometry .parameters) (grown (geometry .parameters) (geometry .growth)) stop (now (numbers .entry)))) count ⌝ }
 {
     let mut i = 0;
     while i < count {
@@ -121,7 +121,7 @@ pub fn plan_block(
     requires { ⌜ geometry .parameters .pages ≤ length (now planned) ⌝ }
     requires { ⌜ ((lo n : ℕ) → lo + n ≤ geometry .parameters .pages → allBelow (2 ^ 31) (stretch (geometry .parameters .places) lo n (now numbers)) ≡ true) ⌝ }
     requires { ⌜ now pool ≡ homesOf (geometry .parameters) (geometry .growth) (now numbers) ⌝ }
-    ensures { λ _. ⌜ PlansBlock (geometry .parameters) (geometry .growth) step (now (separators .entry)) (now (numbers .entry)) (now (pool .entry)) (now (pool .exit))
+    ensures { λ _. ⌜ PlansLocally (geometry .parameters) (geometry .growth) step (now (separators .entry)) (now (numbers .entry)) (now (pool .entry)) (now (pool .exit))
         (now (planned .entry)) (now (planned .exit)) ⌝ }
 {
     let parameters = geometry.parameters;

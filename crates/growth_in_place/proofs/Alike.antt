@@ -11,9 +11,11 @@ use lib.Seq.{getD-drop, drop-drop, take-take}
 use Rattle.buffers.specs.Lists.{written}
 use Rattle.buffers.proofs.Lists.{drop-take, map-take, map-drop}
 use Rattle.buffers.proofs.Written.{written-same, taken-written, written-behind, alike-later}
-use Rattle.pages.specs.Page.{part, stretch}
+use Rattle.pages.specs.Page.{part}
+use Rattle.pages.specs.Shape.{stretch}
 use Rattle.placement.specs.Rule.{Star, Hash, Contents, separators, pages, filter}
-use Rattle.placement.specs.File.{File, Sized, starsAt, contentsAt, pagesAt, gathered, column, replaced}
+use Rattle.placement.specs.File.{File, starsAt, contentsAt, pagesAt, gathered, column, replaced}
+use Rattle.placement.specs.Shape.{Sized}
 use Rattle.placement.proofs.Order.{rising-sorted, pour-nil}
 use Rattle.placement.proofs.Separator.{Bounded}
 use Rattle.placement.proofs.Standing.{first-home, length-separators}

@@ -8,11 +8,13 @@ use lib.ListN.{getD, take}
 use Rattle.hashing.specs.declared.Parameters.{Parameters}
 use Rattle.hashing.specs.declared.Geometry.{Geometry}
 use Rattle.generator.specs.Generator.{topOf}
-use Rattle.pages.specs.Page.{part, stretch}
+use Rattle.pages.specs.Page.{part}
+use Rattle.pages.specs.Shape.{stretch}
 use Rattle.pages.specs.Position.{validWord}
 use Rattle.placement.specs.Rule.{Hash, pages, left, without}
 use Rattle.placement.specs.File.{File, pagesAt, gathered, replaced}
-use Rattle.placement.specs.Hash.{hashOf, homeIn, homesOf}
+use Rattle.placement.specs.Hash.{hashOf}
+use Rattle.placement.specs.Shape.{homeIn, homesOf}
 use Rattle.placement.proofs.Composition.{length-pages}
 use Rattle.placement.proofs.Files.{roomy-pages}
 use Rattle.placement.proofs.Sound.{AllSound, replaced-same}

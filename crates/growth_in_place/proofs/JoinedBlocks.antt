@@ -8,7 +8,8 @@ use native.Mathlib.Omega.{arith}
 use lib.ListN.{getD}
 use borrow.Author.Tests.{le-ltb}
 use Rattle.placement.specs.Rule.{Star, Hash, filter, pages, left, first, pour}
-use Rattle.placement.specs.File.{File, Sized, gathered}
+use Rattle.placement.specs.File.{File, gathered}
+use Rattle.placement.specs.Shape.{Sized}
 use Rattle.placement.proofs.Filters.{filter-all, filter-none-on}
 use Rattle.placement.proofs.Separator.{Bounded}
 use Rattle.placement.proofs.Irrelevance.{near}

@@ -12,7 +12,7 @@ use Rattle.hashing.specs.declared.Parameters.{Parameters}
 use Rattle.hashing.specs.declared.Growth.{Growth}
 use Rattle.pages.specs.Page.{part}
 use Rattle.placement.specs.Rule.{keep, filter}
-use Rattle.placement.specs.Hash.{homeIn, homesOf}
+use Rattle.placement.specs.Shape.{homeIn, homesOf}
 use Rattle.placement.proofs.Filters.{filter-append, length-filter}
 use Rattle.growth_in_place.specs.Expansion.{joinsAt, joinersIn, joinersBelow}
 

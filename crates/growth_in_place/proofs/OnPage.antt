@@ -17,11 +17,11 @@ use Rattle.hashing.specs.Home.{home}
 use Rattle.pages.specs.Page.{part}
 use Rattle.pages.proofs.Parts.{part-item, part-length}
 use Rattle.placement.specs.Rule.{Star}
-use Rattle.placement.specs.Hash.{homeIn}
+use Rattle.placement.specs.Shape.{homeIn}
 use Rattle.placement.proofs.Pages.{Numbered, length-starsOf}
 use Rattle.placement.proofs.Files.{numberOf}
 use Rattle.page_edit.proofs.Shifted.{of-numbers}
-use Rattle.growth_in_place.specs.Expansion.{joins, joinsAt, pageStars, NoneJoins, SettledBelow, homeOn, Underway, KeptStars}
+use Rattle.growth_in_place.specs.Expansion.{joins, joinsAt, pageStars, NoneJoins, SettledBelow, homeOn, Moving, KeptStars}
 use Rattle.growth_in_place.proofs.Step.{ordered, numbered}
 
 module _ (p : Parameters) (g : Growth) where
@@ -81,7 +81,7 @@ module _ (p : Parameters) (g : Growth) where
       (List·Memᴰ·cases-cons m)
   first-behind (t ∷ l) (suc j) e n h s m = first-behind l j e (λ x y. n x (List·Memᴰ·tail y)) h s m
 
-  module _ (ns ws os hs : List ℕ) (u : Underway p g ns ws os hs) (q : ℕ) (inside : q < p .pages) where
+  module _ (ns ws os hs : List ℕ) (u : Moving p g ns ws os hs) (q : ℕ) (inside : q < p .pages) where
     abbrev stars : List Star
     stars = pageStars p ns ws os q
 
@@ -120,7 +120,7 @@ module _ (p : Parameters) (g : Growth) where
       let same : suc (i - 1) ≡ i = omega arith in
       n s (rw (e, same) at m)
 
-  pub left-there : (ns ws os hs : List ℕ) → Underway p g ns ws os hs → (q i : ℕ) → q < p .pages → 0 < i → i ≤ p .places
+  pub left-there : (ns ws os hs : List ℕ) → Moving p g ns ws os hs → (q i : ℕ) → q < p .pages → 0 < i → i ≤ p .places
       → joinsAt p g (getD ns (q * p .places + (i - 1)) 0) ≡ false → NoneJoins p g (drop i (pageStars p ns ws os q)) → NoneJoins p g (drop (i - 1) (pageStars p ns ws os q))
   left-there ns ws os hs u q i inside h k e n =
       let same : i ≡ suc (i - 1) = omega arith in

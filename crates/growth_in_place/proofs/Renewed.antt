@@ -13,11 +13,13 @@ use Rattle.hashing.specs.declared.Parameters.{Parameters}
 use Rattle.hashing.specs.declared.Growth.{Growth}
 use Rattle.hashing.specs.declared.Geometry.{Geometry}
 use Rattle.generator.specs.Generator.{topOf}
-use Rattle.pages.specs.Page.{stretch}
+use Rattle.pages.specs.Shape.{stretch}
 use Rattle.pages.specs.Position.{validWord}
 use Rattle.placement.specs.Rule.{Star, Hash, Contents, separators, pages, left}
-use Rattle.placement.specs.File.{File, Sized, gathered, column, replaced}
-use Rattle.placement.specs.Hash.{hashOf, soundAt, homeIn, homesOf}
+use Rattle.placement.specs.File.{File, gathered, column, replaced}
+use Rattle.placement.specs.Shape.{Sized}
+use Rattle.placement.specs.Hash.{hashOf, soundAt}
+use Rattle.placement.specs.Shape.{homeIn, homesOf}
 use Rattle.placement.specs.Ready.{Pooled}
 use Rattle.placement.proofs.Composition.{length-pages}
 use Rattle.placement.proofs.Writing.{Roomy}

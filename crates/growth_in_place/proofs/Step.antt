@@ -23,10 +23,10 @@ use Rattle.placement.specs.File.{orderly, greatest}
 use Rattle.placement.proofs.Order.{Rising, Absent, rising-insert, rising-without, member-insert, inserted, insert-keeps, member-without, length-insert}
 use Rattle.placement.proofs.Pages.{Proper, Numbered, proper-insert, orderly-rising, orderly-proper, orderly-padded, starsOf-padded, length-starsOf}
 use Rattle.placement.proofs.Files.{numberOf, wordOf, ownerOf}
-use Rattle.page_edit.specs.Shift.{numberAt, Ordered, Vacant, Occupied, openedAt, closed}
+use Rattle.page_edit.specs.Shift.{numberAt, Ordered, Vacant, Occupied, openedAt, closedUp}
 use Rattle.page_edit.proofs.Splits.{Split}
 use Rattle.page_edit.proofs.Shifted.{of-numbers, of-words, of-owners, put-list, take-list, taken-split, occupied-place}
-use Rattle.growth_in_place.specs.Expansion.{joins, joinsAt, joinersIn, joinersBelow, pageStars, homeOn, Vacancy, Underway, KeptStars}
+use Rattle.growth_in_place.specs.Expansion.{joins, joinsAt, joinersIn, joinersBelow, pageStars, homeOn, Vacancy, Moving, KeptStars}
 use Rattle.growth_in_place.proofs.TwoPages.{part-there, written-long, TwoPages, two-pages}
 use Rattle.growth_in_place.proofs.Fewer.{split-cases, split-middle, split-drop, joiners-padded, joiners-split, below-less}
 
@@ -44,7 +44,7 @@ which a b r = go (eqb r a) refl (eqb r b) refl
     go false e true f = second (eqb-true r b f)
     go false e false f = neither (eqb-false r a e) (eqb-false r b f)
 
-module _ (p : Parameters) (g : Growth) (ns ws os hs : List ℕ) (u : Underway p g ns ws os hs) where
+module _ (p : Parameters) (g : Growth) (ns ws os hs : List ℕ) (u : Moving p g ns ws os hs) where
   pub ordered : (q : ℕ) → q < p .pages → Ordered (p .places) q ns ws os
   ordered q h =
       record {
@@ -283,7 +283,7 @@ module _ (p : Parameters) (g : Growth) (ns ws os hs : List ℕ) (u : Underway p 
           (fn : ns₂ ≡ written (q * p .places) (padded (p .places) (map numberOf (without (numberAt (p .places) q i ns₁) (pageStars p ns₁ ws₁ os₁ q)))) ns₁)
           (fw : ws₂ ≡ written (q * p .places) (padded (p .places) (map wordOf (without (numberAt (p .places) q i ns₁) (pageStars p ns₁ ws₁ os₁ q)))) ws₁)
           (fo : os₂ ≡ written (q * p .places) (padded (p .places) (map ownerOf (without (numberAt (p .places) q i ns₁) (pageStars p ns₁ ws₁ os₁ q)))) os₁)
-          (fh : hs₂ ≡ closed (q * p .places + i) (p .places - i - 1) hs₁) where
+          (fh : hs₂ ≡ closedUp (q * p .places + i) (p .places - i - 1) hs₁) where
         moved : (f h : Star → ℕ) (l l₁ l₂ : List ℕ) → length l ≡ p .pages * p .places → Put f l l₁
             → l₂ ≡ written (q * p .places) (padded (p .places) (map h (without (numberAt (p .places) q i ns₁) (pageStars p ns₁ ws₁ os₁ q)))) l₁
             → TwoPages (p .places) (p .pages) P q f h L N l l₂
@@ -387,7 +387,7 @@ module _ (p : Parameters) (g : Growth) (ns ws os hs : List ℕ) (u : Underway p 
             below-less p g ns ns₂ q P low (λ r h d. numbers .others r (λ z. omega (arith, z)) d)
             (on-page ∙ ap suc (sym (ap (joinersIn p g) (numbers .there) ∙ joiners-padded p g (p .places) (map numberOf N))))
 
-        pub step-underway : Underway p g ns₂ ws₂ os₂ hs₂
+        pub step-underway : Moving p g ns₂ ws₂ os₂ hs₂
         step-underway =
             record {
               ofNumbers = numbers .long ∙ u .ofNumbers;
@@ -438,8 +438,8 @@ module _ (p : Parameters) (g : Growth) (ns ws os hs : List ℕ) (u : Underway p 
             (fn : ns₂ ≡ written (q * p .places) (padded (p .places) (map numberOf (without (numberAt (p .places) q i ns₁) (pageStars p ns₁ ws₁ os₁ q)))) ns₁)
             (fw : ws₂ ≡ written (q * p .places) (padded (p .places) (map wordOf (without (numberAt (p .places) q i ns₁) (pageStars p ns₁ ws₁ os₁ q)))) ws₁)
             (fo : os₂ ≡ written (q * p .places) (padded (p .places) (map ownerOf (without (numberAt (p .places) q i ns₁) (pageStars p ns₁ ws₁ os₁ q)))) os₁)
-            (fh : hs₂ ≡ closed (q * p .places + i) (p .places - i - 1) hs₁) where
-          pub stepped : Underway p g ns₂ ws₂ os₂ hs₂ × KeptStars p g ns ws os ns₂ ws₂ os₂ × (drop i (pageStars p ns₂ ws₂ os₂ q) ≡ drop (suc i) (S q))
+            (fh : hs₂ ≡ closedUp (q * p .places + i) (p .places - i - 1) hs₁) where
+          pub stepped : Moving p g ns₂ ws₂ os₂ hs₂ × KeptStars p g ns ws os ns₂ ws₂ os₂ × (drop i (pageStars p ns₂ ws₂ os₂ q) ≡ drop (suc i) (S q))
           stepped = (
             step-underway ns₁ ws₁ os₁ hs₁ (rw is at en) (rw is at ew) (rw is at eo) (rw is at eh) ns₂ ws₂ os₂ hs₂ fn fw fo fh,
             step-kept ns₁ ws₁ os₁ hs₁ (rw is at en) (rw is at ew) (rw is at eo) (rw is at eh) ns₂ ws₂ os₂ hs₂ fn fw fo fh,

@@ -25,8 +25,10 @@ use Rattle.pages.specs.Page.{part}
 use Rattle.pages.specs.Position.{validWord}
 use Rattle.pages.proofs.Parts.{page-fits, part-length}
 use Rattle.placement.specs.Rule.{Star, filter, first}
-use Rattle.placement.specs.File.{File, Sized, starsAt, orderly}
-use Rattle.placement.specs.Hash.{hashOf, hashFrom, soundAt, namedPage, homeIn, homesOf, lent}
+use Rattle.placement.specs.File.{File, starsAt, orderly}
+use Rattle.placement.specs.Shape.{Sized}
+use Rattle.placement.specs.Hash.{hashOf, soundAt, namedPage, lent}
+use Rattle.placement.specs.Shape.{hashFrom, homeIn, homesOf}
 use Rattle.placement.proofs.Order.{rising-same}
 use Rattle.placement.proofs.Pages.{Numbered, length-starsOf}
 use Rattle.placement.proofs.Files.{numberOf}
@@ -42,7 +44,7 @@ use Rattle.reach.proofs.Surveyed.{unsound}
 use Rattle.page_edit.specs.Shift.{numberAt, Ordered}
 use Rattle.page_edit.proofs.Shifted.{of-numbers}
 use Rattle.page_edit.proofs.OnePage.{named-home}
-use Rattle.growth_in_place.specs.Expansion.{joins, joinsAt, joinersIn, joinersBelow, NoneJoins, pageStars, runsTo, isNear, NoneAway, NoneCounted, RoomFor, homeOn, Underway, KeptStars, SettledBelow, Spacious, Moved}
+use Rattle.growth_in_place.specs.Expansion.{joins, joinsAt, joinersIn, joinersBelow, NoneJoins, pageStars, runsTo, isNear, NoneAway, NoneCounted, RoomFor, homeOn, Moving, KeptStars, SettledBelow, Spacious, Moved}
 use Rattle.growth_in_place.proofs.TwoPages.{part-here, part-there, written-long}
 use Rattle.growth_in_place.proofs.Step.{ordered, numbered}
 use Rattle.growth_in_place.proofs.Joiners.{length-homes, joiners-none}
@@ -306,7 +308,7 @@ module _ (p : Parameters) (g : Growth) (f : File) (valid : validParameters p ≡
         ∙ homes-page p g q (f .numbers) (f .words) (f .owners) (ordered-before q h) (numbered-before q h)
         ∙ ap (padded (p .places)) (sym (map-same (homeOn p g q) (homeOf p g) (pageStars p (f .numbers) (f .words) (f .owners) q) (λ s m. home-on q false e s)))
 
-    pub begun : Underway p g (f .numbers) (f .words) (f .owners) hs₁
+    pub begun : Moving p g (f .numbers) (f .words) (f .owners) hs₁
     begun =
         record {
           ofNumbers = sized .ofNumbers;
@@ -321,7 +323,7 @@ module _ (p : Parameters) (g : Growth) (f : File) (valid : validParameters p ≡
         }
 
   -- after the last one
-  module _ (ns ws os hs : List ℕ) (u : Underway p g ns ws os hs) (kept : KeptStars p g (f .numbers) (f .words) (f .owners) ns ws os) (settled : SettledBelow p g P ns ws os) where
+  module _ (ns ws os hs : List ℕ) (u : Moving p g ns ws os hs) (kept : KeptStars p g (f .numbers) (f .words) (f .owners) ns ws os) (settled : SettledBelow p g P ns ws os) where
     abbrev after : File
     after = lent (f .separators) ns ws os
 
@@ -416,12 +418,12 @@ module _ (p : Parameters) (g : Growth) (f : File) (valid : validParameters p ≡
     (all : firstUnsound p g f 0 (p .pages) ≡ p .pages) (room : pageCount p g < p .pages) (spacious : Spacious p g (f .separators) (f .numbers))
     (added : ℕ) (is : added ≡ pageCount p g) where
   pub begun-at : (hs hs₁ : List ℕ) → hs ≡ homesOf p g (f .numbers)
-      → hs₁ ≡ paste hs (added * p .places) (drop (added * p .places) (homesOf p (grown p g) (f .numbers))) (p .places) → Underway p g (f .numbers) (f .words) (f .owners) hs₁
+      → hs₁ ≡ paste hs (added * p .places) (drop (added * p .places) (homesOf p (grown p g) (f .numbers))) (p .places) → Moving p g (f .numbers) (f .words) (f .owners) hs₁
   begun-at hs hs₁ homes rehomed = begun p g f valid grows sized all room (spacious .top) hs hs₁ homes _ refl (spacious .room) (rw is at rehomed)
 
   pub none-away-at : NoneAway p g (f .separators) (f .numbers) (f .words) (f .owners)
   none-away-at = none-away p g f valid grows sized all room (spacious .top)
 
-  pub moved-at : (ns ws os hs : List ℕ) → Underway p g ns ws os hs → KeptStars p g (f .numbers) (f .words) (f .owners) ns ws os → SettledBelow p g added ns ws os
+  pub moved-at : (ns ws os hs : List ℕ) → Moving p g ns ws os hs → KeptStars p g (f .numbers) (f .words) (f .owners) ns ws os → SettledBelow p g added ns ws os
       → Moved p g f (lent (f .separators) ns ws os) hs
   moved-at ns ws os hs u kept settled = all-moved p g f valid grows sized all room (spacious .top) ns ws os hs u kept (λ r h. settled r (omega (arith, is)))

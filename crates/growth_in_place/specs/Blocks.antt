@@ -6,9 +6,11 @@ use Prim.Native.Nat.{ℕ, _+_, _*_, _≤_, _<_}
 use lib.ListN.{drop}
 use Rattle.hashing.specs.declared.Geometry.{Geometry}
 use Rattle.hashing.specs.Limits.{validParameters}
-use Rattle.pages.specs.Page.{stretch}
-use Rattle.placement.specs.File.{File, Sized}
-use Rattle.placement.specs.Hash.{soundAt, homesOf}
+use Rattle.pages.specs.Shape.{stretch}
+use Rattle.placement.specs.File.{File}
+use Rattle.placement.specs.Shape.{Sized}
+use Rattle.placement.specs.Hash.{soundAt}
+use Rattle.placement.specs.Shape.{homesOf}
 use Rattle.placement.specs.Ready.{Pooled}
 
 -- valid parameters, and a file and a pool as long as they say

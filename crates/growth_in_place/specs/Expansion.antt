@@ -17,8 +17,10 @@ use Rattle.buffers.specs.Lists.{padded}
 use Rattle.pages.specs.Page.{part}
 use Rattle.pages.specs.Position.{validWord}
 use Rattle.placement.specs.Rule.{Star, filter}
-use Rattle.placement.specs.File.{File, Sized, orderly}
-use Rattle.placement.specs.Hash.{soundAt, homesOf}
+use Rattle.placement.specs.File.{File, orderly}
+use Rattle.placement.specs.Shape.{Sized}
+use Rattle.placement.specs.Hash.{soundAt}
+use Rattle.placement.specs.Shape.{homesOf}
 use Rattle.placement.specs.Lent.{Lent, held, before}
 use Rattle.reach.specs.Reach.{firstUnsound, allStars}
 use Rattle.page_edit.specs.Shift.{starsOn, numberAt, Ordered}
@@ -86,7 +88,7 @@ homeOn p g q s =
     (home (multiplierOf p) p g (s .number))
 
 -- while stars are moved: pages in order, no number on two of them, room on the new page for those still below it, none of these above it
-pub record Underway (p : Parameters) (g : Growth) (ns ws os hs : List ℕ) : Type 0 where
+pub record Moving (p : Parameters) (g : Growth) (ns ws os hs : List ℕ) : Type 0 where
   pub ofNumbers : length ns ≡ p .pages * p .places
   pub ofWords : length ws ≡ p .pages * p .places
   pub ofOwners : length os ≡ p .pages * p .places
@@ -111,7 +113,7 @@ pub record KeptStars (p : Parameters) (g : Growth) (ns ws os ns′ ws′ os′ :
 
 -- what one move, the moves from a page, and those from all pages leave
 pub record Stepped (p : Parameters) (g : Growth) (numbers words owners homes : Lent) : Type 0 where
-  pub underway : Underway p g (now (numbers .exit)) (now (words .exit)) (now (owners .exit)) (now (homes .exit))
+  pub underway : Moving p g (now (numbers .exit)) (now (words .exit)) (now (owners .exit)) (now (homes .exit))
   pub kept :
       KeptStars p g (now (numbers .entry)) (now (words .entry)) (now (owners .entry)) (now (numbers .exit)) (now (words .exit)) (now (owners .exit))
 

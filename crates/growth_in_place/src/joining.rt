@@ -1,7 +1,7 @@
 // Which stars' home becomes the new page.
 ghost use mathlib.Core.Path.{_≡_};
 ghost use Rattle.hashing.specs.Geometry.{pageCount};
-ghost use Rattle.placement.specs.Hash.{homeIn};
+ghost use Rattle.placement.specs.Shape.{homeIn};
 ghost use Rattle.placement.specs.Ready.{Homing};
 ghost use Rattle.growth_in_place.specs.Expansion.{joinsAt};
 use hashing::Geometry;

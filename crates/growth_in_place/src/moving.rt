@@ -7,8 +7,8 @@ ghost use Rattle.hashing.specs.Limits.{validParameters};
 ghost use Rattle.hashing.specs.Geometry.{pageCount};
 ghost use Rattle.pages.specs.Page.{part, placeOf};
 ghost use Rattle.placement.specs.Rule.{insert, without, starWith};
-ghost use Rattle.page_edit.specs.Shift.{Occupied, StandsOn, starsBefore, numberAt, openedAt, closed};
-ghost use Rattle.growth_in_place.specs.Expansion.{joins, Underway, Stepped, ClosedUp, Vacancy};
+ghost use Rattle.page_edit.specs.Shift.{Occupied, StandsOn, starsBefore, numberAt, openedAt, closedUp};
+ghost use Rattle.growth_in_place.specs.Expansion.{joins, Moving, Stepped, ClosedUp, Vacancy};
 use hashing::Geometry;
 
 // The first place of a page that is empty or holds a number not below this one.
@@ -75,7 +75,7 @@ fn take_homed(
     requires { ⌜ Occupied places page place (now numbers) (now words) (now owners) ⌝ }
     requires { ⌜ page * places + places ≤ length (now homes) ⌝ }
     ensures { λ _. ⌜ StandsOn places page (without (numberAt places page place (now (numbers .entry))) (starsBefore places page numbers words owners)) numbers words owners ⌝ }
-    ensures { λ _. ⌜ now (homes .exit) ≡ closed (page * places + place) (places - place - 1) (now (homes .entry)) ⌝ }
+    ensures { λ _. ⌜ now (homes .exit) ≡ closedUp (page * places + place) (places - place - 1) (now (homes .entry)) ⌝ }
 {
     page_edit::take_star(numbers, words, owners, places, page, place);
     page_edit::take_number(homes, page * places + place, places - place - 1);
@@ -93,7 +93,7 @@ pub fn move_star(
     added: u32,
 )
     requires { ⌜ validParameters (geometry .parameters) ≡ true ⌝ }
-    requires { ⌜ Underway (geometry .parameters) (geometry .growth) (now numbers) (now words) (now owners) (now homes) ⌝ }
+    requires { ⌜ Moving (geometry .parameters) (geometry .growth) (now numbers) (now words) (now owners) (now homes) ⌝ }
     requires { ⌜ (added ≡ pageCount (geometry .parameters) (geometry .growth)) × (added < geometry .parameters .pages) ⌝ }
     requires { ⌜ (page < added) × (place < geometry .parameters .places) ⌝ }
     requires { ⌜ 0 < numberAt (geometry .parameters .places) page place (now numbers) ⌝ }

@@ -6,11 +6,11 @@ ghost use lib.ListN.{length, drop, getD};
 ghost use lib.Seq.{paste};
 ghost use Rattle.generator.specs.Generator.{topOf};
 ghost use Rattle.hashing.specs.Geometry.{pageCount, grown};
-ghost use Rattle.placement.specs.Hash.{homesOf};
+ghost use Rattle.placement.specs.Shape.{homesOf};
 ghost use Rattle.placement.specs.Lent.{held};
 ghost use Rattle.placement.specs.Ready.{Homing, Ready};
 ghost use Rattle.reach.specs.Reach.{firstUnsound};
-ghost use Rattle.growth_in_place.specs.Expansion.{Underway, Stepped, NoneJoins, pageStars, SettledBelow, NoneAway, NoneCounted, Spacious, Expanded};
+ghost use Rattle.growth_in_place.specs.Expansion.{Moving, Stepped, NoneJoins, pageStars, SettledBelow, NoneAway, NoneCounted, Spacious, Expanded};
 use crate::joining::joins;
 use crate::moving::move_star;
 use crate::tallying::count_stars;
@@ -58,7 +58,7 @@ fn move_from(
     added: u32,
 )
     requires { ⌜ Homing geometry (now table) ⌝ }
-    requires { ⌜ Underway (geometry .parameters) (geometry .growth) (now numbers) (now words) (now owners) (now homes) ⌝ }
+    requires { ⌜ Moving (geometry .parameters) (geometry .growth) (now numbers) (now words) (now owners) (now homes) ⌝ }
     requires { ⌜ (added ≡ pageCount (geometry .parameters) (geometry .growth)) × (added < geometry .parameters .pages) ⌝ }
     requires { ⌜ page < added ⌝ }
     ensures { λ _. ⌜ Stepped (geometry .parameters) (geometry .growth) numbers words owners homes ⌝ }
@@ -91,7 +91,7 @@ fn move_below(
 )
     requires { ⌜ Homing geometry (now table) ⌝ }
     requires { ⌜ length (now separators) ≡ geometry .parameters .pages ⌝ }
-    requires { ⌜ Underway (geometry .parameters) (geometry .growth) (now numbers) (now words) (now owners) (now homes) ⌝ }
+    requires { ⌜ Moving (geometry .parameters) (geometry .growth) (now numbers) (now words) (now owners) (now homes) ⌝ }
     requires { ⌜ (added ≡ pageCount (geometry .parameters) (geometry .growth)) × (added < geometry .parameters .pages) ⌝ }
     requires { ⌜ NoneAway (geometry .parameters) (geometry .growth) (now separators) (now numbers) (now words) (now owners) ⌝ }
     ensures { λ _. ⌜ Stepped (geometry .parameters) (geometry .growth) numbers words owners homes ⌝ }

@@ -5,7 +5,7 @@ ghost use Prim.Native.Nat.{_+_, _*_, _≤_, _<_};
 ghost use lib.ListN.{length};
 ghost use Rattle.hashing.specs.Geometry.{pageCount};
 ghost use Rattle.pages.specs.Page.{part};
-ghost use Rattle.placement.specs.Hash.{homesOf};
+ghost use Rattle.placement.specs.Shape.{homesOf};
 ghost use Rattle.placement.specs.Ready.{Homing};
 ghost use Rattle.growth_in_place.specs.Expansion.{joinersIn, joinersBelow, RoomFor, NoneCounted};
 use crate::joining::joins;

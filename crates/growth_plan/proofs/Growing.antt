@@ -9,7 +9,7 @@ use lib.Dec.{ltb, eqb}
 use lib.ListN.{length, getD, set, take, drop, length-map, take-append-drop, List·getD-map}
 use lib.Seq.{paste}
 use borrow.Author.Tests.{lt-ltb, le-ltb}
-use Rattle.pages.specs.Page.{stretch}
+use Rattle.pages.specs.Shape.{stretch}
 use Rattle.hashing.specs.declared.Parameters.{Parameters}
 use Rattle.hashing.specs.declared.Growth.{Growth}
 use Rattle.hashing.specs.Geometry.{multiplierOf, highest, grown, isUngrown, shrunk}
@@ -19,8 +19,10 @@ use Rattle.hashing.proofs.Bounds.{limits, growth-within, spread}
 use Rattle.hashing.proofs.Homes.{grown-valid}
 use Rattle.hashing.proofs.Shrinking.{shrunk-valid}
 use Rattle.placement.specs.Rule.{Hash, left, without}
-use Rattle.placement.specs.File.{File, Sized, gathered}
-use Rattle.placement.specs.Hash.{hashOf, homeIn, homesOf, soundAt}
+use Rattle.placement.specs.File.{File, gathered}
+use Rattle.placement.specs.Shape.{Sized}
+use Rattle.placement.specs.Hash.{hashOf, soundAt}
+use Rattle.placement.specs.Shape.{homeIn, homesOf}
 use Rattle.placement.proofs.Probing.{homed-real}
 use Rattle.placement.proofs.Tested.{item-on}
 use Rattle.home_update.proofs.Rehomed.{home-shrunk}
@@ -36,7 +38,7 @@ use Rattle.page_plan.proofs.Placed.{Gatherable, probes-real, homes-real}
 use Rattle.page_plan.specs.declared.outcome.Outcome.{Outcome}
 use Rattle.page_plan.specs.declared.outcome.Outcome.the-variants.{On, Unsound, Overflows}
 use Rattle.removal_reach.specs.Stretch.{StretchReady, fitting, restretched}
-use Rattle.growth_plan.specs.Growth.{nextOf, Movable, firstMoved, HomesStay, growthAnswer, growthFile, GrowsInPlace}
+use Rattle.growth_plan.specs.Growth.{stateAfter, Movable, firstMoved, HomesStay, growthAnswer, growthFile, GrowsInPlace}
 use Rattle.removal_reach.proofs.Ruled.{fitting-is, restretched-is}
 use Rattle.removal_reach.proofs.Items.{all-below, all-sound, all-numbered, numbers-below, plannable-stretch, ready-stretch}
 
@@ -53,7 +55,7 @@ same-front h h′ (suc n) (x ∷ ns) t = rw (t 0 (omega arith), same-front h h�
 
 -- .. where they have them already
 pub rehomed-front : (back : Bool) (p : Parameters) (g : Growth) (ns homes : List ℕ) (i : ℕ) → homes ≡ homesOf p g ns → HomesStay back p g ns
-    → i ≡ firstMoved back p g → Rehomed p g (nextOf back p g) ns homes i
+    → i ≡ firstMoved back p g → Rehomed p g (stateAfter back p g) ns homes i
 unfolding homesOf
 rehomed-front back p g ns homes i e stay at =
     record {
@@ -61,7 +63,7 @@ rehomed-front back p g ns homes i e stay at =
           e
           ∙ sym (take-append-drop i (homesOf p g ns))
           ∙ ap (λ (l : List ℕ). l ++ drop i (homesOf p g ns))
-          (sym (same-front (homeIn p g) (homeIn p (nextOf back p g)) i ns (λ j h. stay .same j (omega arith))))
+          (sym (same-front (homeIn p g) (homeIn p (stateAfter back p g)) i ns (λ j h. stay .same j (omega arith))))
           ∙ rw (zero-add i);
       kept = ap length e;
     }
@@ -104,7 +106,7 @@ item-shrunk p g valid grows old n = go (eqb n 0)
     go true h = refl
     go false h = home-shrunk p g valid old grows (multiplierOf p) n (λ e. omega arith)
 
-pub next-valid : (back : Bool) (p : Parameters) (g : Growth) → validParameters p ≡ true → validGrowth p g ≡ true → Movable back p g → validGrowth p (nextOf back p g) ≡ true
+pub next-valid : (back : Bool) (p : Parameters) (g : Growth) → validParameters p ≡ true → validGrowth p g ≡ true → Movable back p g → validGrowth p (stateAfter back p g) ≡ true
 next-valid true p g v w m = shrunk-valid p g v m w
 next-valid false p g v w m = grown-valid p g v w m
 
@@ -114,8 +116,8 @@ pub grows-movable : (back : Bool) (p : Parameters) (g : Growth) → back ≡ fal
 grows-movable back p g e m = subst (λ (b : Bool). Movable b p g) e m
 
 pub grows-in-place : (back : Bool) (p : Parameters) (g : Growth) (f f′ : File) (pool pool′ : List ℕ) (r : Bool) → back ≡ false
-    → GrowsInPlace p g (grown p g) f f′ pool pool′ r → GrowsInPlace p g (nextOf back p g) f f′ pool pool′ r
-grows-in-place back p g f f′ pool pool′ r e d = subst (λ (b : Bool). GrowsInPlace p g (nextOf b p g) f f′ pool pool′ r) (sym e) d
+    → GrowsInPlace p g (grown p g) f f′ pool pool′ r → GrowsInPlace p g (stateAfter back p g) f f′ pool pool′ r
+grows-in-place back p g f f′ pool pool′ r e d = subst (λ (b : Bool). GrowsInPlace p g (stateAfter b p g) f f′ pool pool′ r) (sym e) d
 
 -- of a file that is still the one before
 pub still-done : (p : Parameters) (g next : Growth) (f f₁ f′ : File) (page : ℕ) (r : Outcome) → f₁ ≡ f

@@ -13,7 +13,8 @@ use Rattle.hashing.specs.declared.Parameters.{Parameters}
 use Rattle.hashing.specs.declared.Growth.{Growth}
 use Rattle.hashing.specs.Geometry.{grown}
 use Rattle.placement.specs.Rule.{Star, Contents, pages, left, separators}
-use Rattle.placement.specs.File.{File, Sized, column, fileOf, replaced}
+use Rattle.placement.specs.File.{File, column, fileOf, replaced}
+use Rattle.placement.specs.Shape.{Sized}
 use Rattle.placement.specs.Hash.{hashOf}
 use Rattle.placement.proofs.Composition.{length-pages}
 use Rattle.placement.proofs.Standing.{length-separators}

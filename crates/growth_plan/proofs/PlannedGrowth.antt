@@ -14,10 +14,13 @@ use Rattle.hashing.specs.declared.Growth.{Growth}
 use Rattle.hashing.specs.Geometry.{pageCount, grown}
 use Rattle.hashing.specs.Limits.{validParameters, validGrowth}
 use Rattle.hashing.proofs.Bounds.{limits}
-use Rattle.pages.specs.Page.{stretch}
-use Rattle.placement.specs.Rule.{pages, left, blank}
-use Rattle.placement.specs.File.{File, Sized, replaced}
-use Rattle.placement.specs.Hash.{hashOf, homesOf, lent}
+use Rattle.pages.specs.Shape.{stretch}
+use Rattle.placement.specs.Rule.{pages, left}
+use Rattle.placement.specs.Shape.{blank}
+use Rattle.placement.specs.File.{File, replaced}
+use Rattle.placement.specs.Shape.{Sized}
+use Rattle.placement.specs.Hash.{hashOf, lent}
+use Rattle.placement.specs.Shape.{homesOf}
 use Rattle.placement.proofs.Composition.{length-pages}
 use Rattle.placement.proofs.Files.{roomy-pages}
 use Rattle.page_separator.specs.Lists.{all, allBelow}

@@ -12,8 +12,10 @@ use Rattle.pages.specs.Page.{part}
 use Rattle.pages.specs.Position.{validWord}
 use Rattle.hashing.specs.declared.Parameters.{Parameters}
 use Rattle.hashing.specs.declared.Growth.{Growth}
-use Rattle.placement.specs.Rule.{Contents, pages, left, blank}
-use Rattle.placement.specs.File.{File, Sized, pagesAt, fileOf, replaced, laid}
+use Rattle.placement.specs.Rule.{Contents, pages, left}
+use Rattle.placement.specs.Shape.{blank}
+use Rattle.placement.specs.File.{File, pagesAt, fileOf, replaced, laid}
+use Rattle.placement.specs.Shape.{Sized}
 use Rattle.placement.specs.Hash.{hashOf, lent}
 use Rattle.placement.proofs.Composition.{length-pages}
 use Rattle.placement.proofs.Sound.{gathered-proper}

@@ -11,7 +11,8 @@ use Rattle.hashing.specs.declared.Growth.{Growth}
 use Rattle.hashing.specs.Geometry.{pageCount, highest, grown, isUngrown, shrunk}
 use Rattle.placement.specs.Rule.{pages, left}
 use Rattle.placement.specs.File.{File, replaced}
-use Rattle.placement.specs.Hash.{hashOf, homeIn, homesOf}
+use Rattle.placement.specs.Hash.{hashOf}
+use Rattle.placement.specs.Shape.{homeIn, homesOf}
 use Rattle.placement.specs.Lent.{Lent}
 use Rattle.reach.specs.Reach.{isEmpty, firstUnsound, allStars}
 use Rattle.page_plan.specs.Gather.{stretchWords}
@@ -20,8 +21,8 @@ use Rattle.page_plan.specs.declared.outcome.Outcome.{Outcome}
 use Rattle.page_plan.specs.declared.outcome.Outcome.the-variants.{On, Unsound, Overflows}
 
 -- the next growth state, or the one before the latest growth
-abbrev pub nextOf : Bool → Parameters → Growth → Growth
-nextOf back p g = cond back (shrunk p g) (grown p g)
+abbrev pub stateAfter : Bool → Parameters → Growth → Growth
+stateAfter back p g = cond back (shrunk p g) (grown p g)
 
 -- there is such a state
 abbrev pub Movable : Bool → Parameters → Growth → Type 0
@@ -57,7 +58,7 @@ firstMoved back p g = cond back (highest p g * p .places) 0
 -- the items before it keep their homes
 pub record HomesStay (back : Bool) (p : Parameters) (g : Growth) (ns : List ℕ) : Type 0 where
   pub inside : firstMoved back p g ≤ length ns
-  pub same : (i : ℕ) → i < firstMoved back p g → homeIn p (nextOf back p g) (getD ns i 0) ≡ homeIn p g (getD ns i 0)
+  pub same : (i : ℕ) → i < firstMoved back p g → homeIn p (stateAfter back p g) (getD ns i 0) ≡ homeIn p g (getD ns i 0)
 
 -- all pages planned over the stars of these numbers, homed under the growth state `next`
 abbrev pub PlansAll : Parameters → Growth → List ℕ → Lent → Lent → Lent → Bool → Type 0

@@ -7,7 +7,8 @@ use Rattle.hashing.specs.declared.Parameters.{Parameters}
 use Rattle.hashing.specs.declared.Growth.{Growth}
 use Rattle.hashing.specs.Geometry.{grown}
 use Rattle.placement.specs.File.{File, pagesAt, replaced}
-use Rattle.placement.specs.Rule.{pages, blank}
+use Rattle.placement.specs.Rule.{pages}
+use Rattle.placement.specs.Shape.{blank}
 use Rattle.placement.specs.Hash.{hashOf}
 use Rattle.reach.specs.Reach.{allStars}
 use Rattle.growth_block.specs.Block.{NamesPage}

@@ -1,10 +1,10 @@
 // Growth by one page and its undoing: all stars placed anew under the next growth state, or `back` under the one before.
 ghost use mathlib.Core.Path.{_≡_};
-ghost use Rattle.placement.specs.Hash.{homesOf};
+ghost use Rattle.placement.specs.Shape.{homesOf};
 ghost use Rattle.placement.specs.Lent.{held, before, after};
 ghost use Rattle.placement.specs.Ready.{Ready, Pooled};
 ghost use Rattle.reach.specs.Reach.{firstUnsound};
-ghost use Rattle.growth_plan.specs.Growth.{nextOf, Movable, GrowsInPlace, growthAnswer, growthFile};
+ghost use Rattle.growth_plan.specs.Growth.{stateAfter, Movable, GrowsInPlace, growthAnswer, growthFile};
 use crate::planning::plan_all;
 use hashing::Geometry;
 use page_plan::Outcome;
@@ -28,9 +28,9 @@ fn replace_all(
     requires { ⌜ Movable back (geometry .parameters) (geometry .growth) ⌝ }
     requires { ⌜ firstUnsound (geometry .parameters) (geometry .growth) (held separators numbers words owners) 0 (geometry .parameters .pages) ≡ geometry .parameters .pages ⌝ }
     requires { ⌜ now pool ≡ homesOf (geometry .parameters) (geometry .growth) (now numbers) ⌝ }
-    ensures { λ r. ⌜ r ≡ growthAnswer (geometry .parameters) (geometry .growth) (before separators numbers words owners) (nextOf back (geometry .parameters) (geometry .growth)) page ⌝ }
+    ensures { λ r. ⌜ r ≡ growthAnswer (geometry .parameters) (geometry .growth) (before separators numbers words owners) (stateAfter back (geometry .parameters) (geometry .growth)) page ⌝ }
     ensures { λ r. ⌜ after separators numbers words owners ≡ growthFile (geometry .parameters) (geometry .growth)
-        (before separators numbers words owners) (nextOf back (geometry .parameters) (geometry .growth)) ⌝ }
+        (before separators numbers words owners) (stateAfter back (geometry .parameters) (geometry .growth)) ⌝ }
 {
     let mut planned = [0u8; 1024];
     if !plan_all(table, geometry, back, numbers, pool, waiting, &mut planned) {
@@ -76,7 +76,7 @@ fn grow_in_place(
     requires { ⌜ Movable back (geometry .parameters) (geometry .growth) ⌝ }
     requires { ⌜ firstUnsound (geometry .parameters) (geometry .growth) (held separators numbers words owners) 0 (geometry .parameters .pages) ≡ geometry .parameters .pages ⌝ }
     requires { ⌜ now pool ≡ homesOf (geometry .parameters) (geometry .growth) (now numbers) ⌝ }
-    ensures { λ r. ⌜ GrowsInPlace (geometry .parameters) (geometry .growth) (nextOf back (geometry .parameters) (geometry .growth)) (before separators numbers words owners)
+    ensures { λ r. ⌜ GrowsInPlace (geometry .parameters) (geometry .growth) (stateAfter back (geometry .parameters) (geometry .growth)) (before separators numbers words owners)
         (after separators numbers words owners) (now (pool .entry)) (now (pool .exit)) r ⌝ }
 {
     if back {
@@ -117,9 +117,9 @@ pub fn regrow(
     requires { ⌜ Ready geometry (now table) (held separators numbers words owners) ⌝ }
     requires { ⌜ Pooled (geometry .parameters) (now pool) (now waiting) (now poolowners) ⌝ }
     requires { ⌜ Movable back (geometry .parameters) (geometry .growth) ⌝ }
-    ensures { λ r. ⌜ r ≡ growthAnswer (geometry .parameters) (geometry .growth) (before separators numbers words owners) (nextOf back (geometry .parameters) (geometry .growth)) page ⌝ }
+    ensures { λ r. ⌜ r ≡ growthAnswer (geometry .parameters) (geometry .growth) (before separators numbers words owners) (stateAfter back (geometry .parameters) (geometry .growth)) page ⌝ }
     ensures { λ r. ⌜ after separators numbers words owners ≡ growthFile (geometry .parameters) (geometry .growth)
-        (before separators numbers words owners) (nextOf back (geometry .parameters) (geometry .growth)) ⌝ }
+        (before separators numbers words owners) (stateAfter back (geometry .parameters) (geometry .growth)) ⌝ }
 {
     let pages = geometry.parameters.pages as usize;
     let bad = reach::survey_pages(

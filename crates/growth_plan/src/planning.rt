@@ -3,12 +3,12 @@ ghost use mathlib.Core.Path.{_≡_};
 ghost use mathlib.Core.Bool.{true};
 ghost use Prim.Native.Nat.{_*_, _^_, _≤_};
 ghost use lib.ListN.{length};
-ghost use Rattle.pages.specs.Page.{stretch};
+ghost use Rattle.pages.specs.Shape.{stretch};
 ghost use Rattle.hashing.specs.Limits.{validParameters, validGrowth};
-ghost use Rattle.placement.specs.Hash.{homeIn, homesOf};
+ghost use Rattle.placement.specs.Shape.{homeIn, homesOf};
 ghost use Rattle.placement.specs.Ready.{Homing};
 ghost use Rattle.page_separator.specs.Lists.{allBelow};
-ghost use Rattle.growth_plan.specs.Growth.{nextOf, Movable, firstMoved, HomesStay, PlansAll};
+ghost use Rattle.growth_plan.specs.Growth.{stateAfter, Movable, firstMoved, HomesStay, PlansAll};
 use hashing::Geometry;
 
 // An item's home under that growth state, from its home under this one; 0 for an empty place.
@@ -16,7 +16,7 @@ fn next_home(table: &[u32; 90], geometry: Geometry, back: bool, number: u32, old
     requires { ⌜ Homing geometry (now table) ⌝ }
     requires { ⌜ Movable back (geometry .parameters) (geometry .growth) ⌝ }
     requires { ⌜ old ≡ homeIn (geometry .parameters) (geometry .growth) number ⌝ }
-    ensures { λ r. ⌜ r ≡ homeIn (geometry .parameters) (nextOf back (geometry .parameters) (geometry .growth)) number ⌝ }
+    ensures { λ r. ⌜ r ≡ homeIn (geometry .parameters) (stateAfter back (geometry .parameters) (geometry .growth)) number ⌝ }
 {
     if back {
         return home_update::item_shrunk(table, geometry, number, old);
@@ -42,7 +42,7 @@ fn rehome(table: &[u32; 90], geometry: Geometry, back: bool, numbers: &[u32], ho
     requires { ⌜ Movable back (geometry .parameters) (geometry .growth) ⌝ }
     requires { ⌜ now homes ≡ homesOf (geometry .parameters) (geometry .growth) (now numbers) ⌝ }
     requires { ⌜ HomesStay back (geometry .parameters) (geometry .growth) (now numbers) ⌝ }
-    ensures { λ _. ⌜ now (homes .exit) ≡ homesOf (geometry .parameters) (nextOf back (geometry .parameters) (geometry .growth)) (now (numbers .entry)) ⌝ }
+    ensures { λ _. ⌜ now (homes .exit) ≡ homesOf (geometry .parameters) (stateAfter back (geometry .parameters) (geometry .growth)) (now (numbers .entry)) ⌝ }
 {
     let mut i = first_moved(geometry, back);
     while i < numbers.len() {
@@ -71,7 +71,7 @@ pub fn plan_all(
     requires { ⌜ allBelow (2 ^ 31) (stretch (geometry .parameters .places) 0 (geometry .parameters .pages) (now numbers)) ≡ true ⌝ }
     requires { ⌜ now pool ≡ homesOf (geometry .parameters) (geometry .growth) (now numbers) ⌝ }
     requires { ⌜ HomesStay back (geometry .parameters) (geometry .growth) (now numbers) ⌝ }
-    ensures { λ r. ⌜ PlansAll (geometry .parameters) (nextOf back (geometry .parameters) (geometry .growth)) (now (numbers .entry)) pool waiting planned r ⌝ }
+    ensures { λ r. ⌜ PlansAll (geometry .parameters) (stateAfter back (geometry .parameters) (geometry .growth)) (now (numbers .entry)) pool waiting planned r ⌝ }
 {
     let parameters = geometry.parameters;
     let places = parameters.places as usize;

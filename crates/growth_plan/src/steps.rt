@@ -8,7 +8,7 @@ ghost use Rattle.pages.specs.Page.{part};
 ghost use Rattle.buffers.specs.Lists.{written};
 ghost use Rattle.plan_transfer.specs.Sources.{namedItem};
 ghost use Rattle.hashing.specs.Geometry.{grown};
-ghost use Rattle.placement.specs.File.{Sized};
+ghost use Rattle.placement.specs.Shape.{Sized};
 ghost use Rattle.placement.specs.Lent.{held, before, after};
 ghost use Rattle.placement.specs.Ready.{Ready, Pooled};
 ghost use Rattle.growth_plan.specs.Growth.{Movable, growthAnswer};

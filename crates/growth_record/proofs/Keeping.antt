@@ -20,7 +20,7 @@ use Rattle.calls.specs.declared.answers.Answer.{Answer}
 use Rattle.calls.specs.Answers.{After, Pool, accepted, refused, spotted, placed, refusedBy, refusalNumber, cleared}
 use Rattle.calls.specs.Records.{validSteps, unlessOpen, growUnder, shrinkUnder, recordAfter}
 use Rattle.calls.specs.Calls.{unless, fileFits, poolFits, unlent, guarded, unchanged, regrowTo, growOn, growOf, shrinkOn, shrinkOf}
-use Rattle.growth_record.specs.Record.{keptBy}
+use Rattle.growth_record.specs.Shape.{keptBy}
 
 -- refused, a call left the growth state g
 unfoldable pub Keeps : Growth → After → Type 0

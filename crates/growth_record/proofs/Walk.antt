@@ -59,7 +59,7 @@ use Rattle.calls.proofs.records.Recorded.Laws as R′
 use Rattle.calls.proofs.answers.Placed as Q
 use Rattle.calls.proofs.answers.Placed.Laws as Q′
 use Rattle.starfile.proofs.grow as grow
-use Rattle.growth_record.specs.Record.{keptBy}
+use Rattle.growth_record.specs.Shape.{keptBy}
 use Rattle.growth_record.proofs.Keeping.{Keeps, keeps}
 use Rattle.growth_record.proofs.kept as kept
 use Rattle.growth_record.proofs.kept.Symbol.{name as #growth-record·kept}

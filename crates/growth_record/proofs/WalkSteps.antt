@@ -58,7 +58,7 @@ use Rattle.calls.proofs.records.Recorded.Laws as R′
 use Rattle.calls.proofs.answers.Placed as Q
 use Rattle.calls.proofs.answers.Placed.Laws as Q′
 use Rattle.starfile.proofs.open_growth as opening
-use Rattle.growth_record.specs.Record.{recorded}
+use Rattle.growth_record.specs.Record.{recordedAs}
 use Rattle.growth_record.proofs.Walk.{passed, goes-passed}
 use Rattle.growth_record.proofs.open_growth as f
 
@@ -180,7 +180,7 @@ module _ (call : Parameters → GrowthRecord → File → File → Pool → Afte
       record {
         ghost = Unit {0};
         requires = λ _. emp 𝓤;
-        ensures = λ _ r e. fact 𝓤 (Left (after (a .0) (now (a .1 .0)) (a .1 .1)) (recorded r (now (e .1 .0))) (lists (e .1 .1)));
+        ensures = λ _ r e. fact 𝓤 (Left (after (a .0) (now (a .1 .0)) (a .1 .1)) (recordedAs r (now (e .1 .0))) (lists (e .1 .1)));
       }
 
   module _ {M : Type 1} (𝓤 : URA M) (H : Heap 𝓤) (A : Atoms 𝓤) (at-mem : Memory → SProp 𝓤) (run : Routine → Fun 𝓤) where

@@ -4,7 +4,8 @@ ghost use Rattle.placement.specs.Lent.{before, after};
 ghost use Rattle.calls.specs.Answers.{Leaves, placed};
 ghost use Rattle.calls.specs.Lent.{poolBefore, poolAfter};
 ghost use Rattle.calls.specs.Records.{growUnder, shrinkUnder, recordAfter, openUnder, stepUnder, LeavesStep};
-ghost use Rattle.growth_record.specs.Record.{keptBy, recorded};
+ghost use Rattle.growth_record.specs.Record.{recordedAs};
+ghost use Rattle.growth_record.specs.Shape.{keptBy};
 use calls::answers::Placed;
 use calls::records::GrowthRecord;
 use calls::records::Recorded;
@@ -94,7 +95,7 @@ pub fn open_growth(
 ) -> Placed
     ensures leaves { λ r. ⌜ LeavesStep (openUnder parameters (now (growth .entry)) (before separators numbers words owners)
         (before secondseparators secondnumbers secondwords secondowners) (poolBefore poolnumbers poolwords poolowners))
-        (recorded r (now (growth .exit))) (after secondseparators secondnumbers secondwords secondowners) (poolAfter poolnumbers poolwords poolowners) ⌝ }
+        (recordedAs r (now (growth .exit))) (after secondseparators secondnumbers secondwords secondowners) (poolAfter poolnumbers poolwords poolowners) ⌝ }
 {
     let old = *growth;
     let opened = starfile::open_growth(
@@ -134,7 +135,7 @@ pub fn step_growth(
 ) -> Placed
     ensures leaves { λ r. ⌜ LeavesStep (stepUnder parameters (now (growth .entry)) (before separators numbers words owners)
         (before secondseparators secondnumbers secondwords secondowners) (poolBefore poolnumbers poolwords poolowners))
-        (recorded r (now (growth .exit))) (after secondseparators secondnumbers secondwords secondowners) (poolAfter poolnumbers poolwords poolowners) ⌝ }
+        (recordedAs r (now (growth .exit))) (after secondseparators secondnumbers secondwords secondowners) (poolAfter poolnumbers poolwords poolowners) ⌝ }
 {
     let old = *growth;
     let stepped = starfile::step_growth(

@@ -18,7 +18,7 @@ use Rattle.generator.specs.Generator.{modulus}
 use Rattle.generator.proofs.Scrambling.{scrambled-key}
 use Rattle.hashing.specs.Geometry.{sizeAt, countAt, rank}
 use Rattle.hashing.specs.Home.{rankAt, chosen, movedIf, stepFrom, afterSteps, home}
-use Rattle.hashing.specs.Moves.{codeAt, moves, codeCount, codePage, movedTo, followed, landing, Narrow, Landed, Rising}
+use Rattle.hashing.specs.Moves.{codeAt, moves, codeCount, codePage, movedTo, followed, landing, Narrow, Landed, NarrowRising}
 use Rattle.generator.proofs.Numbers.{next, Next, div-mono}
 use Rattle.hashing.proofs.Bounds.{Limits, Within, size-most}
 use Rattle.hashing.proofs.Homes.{step-over, steps-one, rank-below, span-most, count-fits}
@@ -120,16 +120,16 @@ moves-followed a p g k (suc i) l h =
     go true = moved-code p i (afterSteps a p g k i) l
     go false = refl
 
-rising-more : (p : Parameters) (low high higher : ℕ) (cs : List ℕ) → Rising p low cs high → high ≤ higher → Rising p low cs higher
+rising-more : (p : Parameters) (low high higher : ℕ) (cs : List ℕ) → NarrowRising p low cs high → high ≤ higher → NarrowRising p low cs higher
 rising-more p low high higher [] h l = le-trans h l
 rising-more p low high higher (c ∷ cs) h l = (h .0, rising-more p (c / 8) high higher cs (h .1) l)
 
-rising-one : (p : Parameters) (low high c : ℕ) (cs : List ℕ) → Rising p low cs high → high ≤ c / 8 → Narrow p c → Rising p low (cs ++ (c ∷ [])) (c / 8)
+rising-one : (p : Parameters) (low high c : ℕ) (cs : List ℕ) → NarrowRising p low cs high → high ≤ c / 8 → Narrow p c → NarrowRising p low (cs ++ (c ∷ [])) (c / 8)
 rising-one p low high c [] h l n = ((le-trans h l, n), le-refl (c / 8))
 rising-one p low high c (d ∷ cs) h l n = (h .0, rising-one p (d / 8) high c cs (h .1) l n)
 
 pub moves-rising :
-    (a : ℕ) (p : Parameters) (g : Growth) (k i : ℕ) → Limits p → Within p g → i ≤ g .expansions → Rising p 0 (moves a p k i) (i / p .width)
+    (a : ℕ) (p : Parameters) (g : Growth) (k i : ℕ) → Limits p → Within p g → i ≤ g .expansions → NarrowRising p 0 (moves a p k i) (i / p .width)
 unfolding moves
 moves-rising a p g k zero l w h = omega arith
 moves-rising a p g k (suc i) l w h = go (chosen a p k i) (moves-rising a p g k i l w (omega arith))
@@ -137,7 +137,7 @@ moves-rising a p g k (suc i) l w h = go (chosen a p k i) (moves-rising a p g k i
     up : i / p .width ≤ suc i / p .width
     up = div-mono (p .width) (omega arith)
 
-    go : (t : Bool) → Rising p 0 (moves a p k i) (i / p .width) → Rising p 0 (moves a p k i ++ cond t (codeAt p i ∷ []) []) (suc i / p .width)
+    go : (t : Bool) → NarrowRising p 0 (moves a p k i) (i / p .width) → NarrowRising p 0 (moves a p k i ++ cond t (codeAt p i ∷ []) []) (suc i / p .width)
     go true r =
         rising-more p 0 (codeAt p i / 8) (suc i / p .width) (moves a p k i ++ (codeAt p i ∷ []))
         (rising-one p 0 (i / p .width) (codeAt p i) (moves a p k i) r (rw (code-level p i l) (le-refl (i / p .width))) (code-narrow p g i l w (omega arith)))
@@ -191,7 +191,7 @@ landing-page p code order [] = refl
 landing-page p code order (c ∷ cs) = landing-page p c (rank (p .step) (codeCount p c) (codePage p code order % codeCount p c)) cs
 
 pub landing-landed :
-    (p : Parameters) (code order high : ℕ) (codes : List ℕ) → Limits p → Landed p code order → Rising p (code / 8) codes high →
+    (p : Parameters) (code order high : ℕ) (codes : List ℕ) → Limits p → Landed p code order → NarrowRising p (code / 8) codes high →
     Landed p (landing p code order codes .code) (landing p code order codes .order) × (landing p code order codes .code / 8 ≤ high)
 unfolding landing
 landing-landed p code order high [] l h r = (h, r)
@@ -228,11 +228,11 @@ started p start l h =
 -- the page with that code and order is reached after j steps: the others lead from it to the same end
 pub record Reached (p : Parameters) (ending : Landing) (codes : List ℕ) (code order j : ℕ) : Type 0 where
   pub landed : Landed p code order
-  pub rising : Rising p (code / 8) (drop j codes) 10
+  pub rising : NarrowRising p (code / 8) (drop j codes) 10
   pub same : landing p code order (drop j codes) ≡ ending
 
 pub reached-start :
-    (p : Parameters) (start : ℕ) (codes : List ℕ) → Limits p → start < p .width * p .groups → Rising p 0 codes 10 →
+    (p : Parameters) (start : ℕ) (codes : List ℕ) → Limits p → start < p .width * p .groups → NarrowRising p 0 codes 10 →
     Reached p (landing p (start / p .groups) (start % p .groups) codes) codes (start / p .groups) (start % p .groups) 0
 reached-start p start codes l h r =
     let s = started p start l h in
@@ -243,7 +243,7 @@ pub reached-next :
     Reached p ending codes (getD codes j 0) (rank (p .step) (codeCount p (getD codes j 0)) (codePage p code order % codeCount p (getD codes j 0))) (suc j)
 unfolding landing
 reached-next p ending codes code order j l h w =
-    let opened : Rising p (code / 8) (getD codes j 0 ∷ drop (suc j) codes) 10 = rw (drop-cons codes j 0 h) at (w .rising) in
+    let opened : NarrowRising p (code / 8) (getD codes j 0 ∷ drop (suc j) codes) 10 = rw (drop-cons codes j 0 h) at (w .rising) in
     record {
       landed = (order-below p (getD codes j 0) (codePage p code order) l, opened .0 .1);
       rising = opened .1;
@@ -255,7 +255,7 @@ pub reached-level :
     (p : Parameters) (ending : Landing) (codes : List ℕ) (code order j : ℕ) → j < length codes → Reached p ending codes code order j →
     (code / 8 ≤ getD codes j 0 / 8) × (codeCount p (getD codes j 0) ≤ 1024)
 reached-level p ending codes code order j h w =
-    let opened : Rising p (code / 8) (getD codes j 0 ∷ drop (suc j) codes) 10 = rw (drop-cons codes j 0 h) at (w .rising) in
+    let opened : NarrowRising p (code / 8) (getD codes j 0 ∷ drop (suc j) codes) 10 = rw (drop-cons codes j 0 h) at (w .rising) in
     (opened .0 .0, opened .0 .1 .0)
 
 pub reached-end :
@@ -274,9 +274,9 @@ pub record Passed (a : ℕ) (p : Parameters) (g : Growth) (k : ℕ) (ending : La
 
 pub chosen-rising :
     (a : ℕ) (p : Parameters) (g : Growth) (k high : ℕ) (codes : List ℕ) → Limits p → Within p g → g .expansions / p .width ≤ high →
-    codes ≡ moves a p k (g .expansions) → Rising p 0 codes high
+    codes ≡ moves a p k (g .expansions) → NarrowRising p 0 codes high
 chosen-rising a p g k high codes l w h e =
-    subst⁻¹ (λ (cs : List ℕ). Rising p 0 cs high) e
+    subst⁻¹ (λ (cs : List ℕ). NarrowRising p 0 cs high) e
     (rising-more p 0 (g .expansions / p .width) high (moves a p k (g .expansions)) (moves-rising a p g k (g .expansions) l w (le-refl (g .expansions))) h)
 
 pub passed :
@@ -289,7 +289,7 @@ passed a p g k start codes ending l w h s m e = subst⁻¹ (λ (r : Landing). Pa
     first : Started p start
     first = started p start l h
 
-    rising : Rising p (start / p .groups / 8) codes (g .expansions / p .width)
+    rising : NarrowRising p (start / p .groups / 8) codes (g .expansions / p .width)
     rising = rw (first .level) (chosen-rising a p g k (g .expansions / p .width) codes l w (le-refl (g .expansions / p .width)) m)
 
     near :

@@ -47,9 +47,9 @@ abbrev pub Landed : Parameters → ℕ → ℕ → Type 0
 Landed p code order = (order < codeCount p code) × Narrow p code
 
 -- the doublings of narrow steps do not fall, from low to high
-abbrev pub Rising : Parameters → ℕ → List ℕ → ℕ → Type 0
-Rising p low [] high = low ≤ high
-Rising p low (code ∷ codes) high = ((low ≤ code / 8) × Narrow p code) × Rising p (code / 8) codes high
+abbrev pub NarrowRising : Parameters → ℕ → List ℕ → ℕ → Type 0
+NarrowRising p low [] high = low ≤ high
+NarrowRising p low (code ∷ codes) high = ((low ≤ code / 8) × Narrow p code) × NarrowRising p (code / 8) codes high
 
 -- t div s is t times this div 524,288 where t·s is below that
 unfoldable pub inverseOf : ℕ → ℕ

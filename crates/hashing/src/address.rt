@@ -2,7 +2,8 @@
 ghost use mathlib.Core.Path.{_≡_};
 ghost use mathlib.Core.Bool.{true};
 ghost use Prim.Native.Nat.{_*_, _/_, _%_, _<_, _≤_};
-ghost use Rattle.generator.specs.Generator.{modulus, firstMultipliers, scrambled};
+ghost use Rattle.generator.specs.Generator.{modulus, scrambled};
+ghost use Rattle.generator.specs.Shape.{firstMultipliers};
 ghost use Rattle.hashing.specs.Geometry.{multiplierOf};
 ghost use Rattle.hashing.specs.Limits.{validParameters, validGrowth};
 ghost use Rattle.hashing.specs.Home.{stepFrom, chosen as Home·chosen, home as Home·home};

@@ -4,10 +4,11 @@ ghost use mathlib.Core.Bool.{true};
 ghost use Prim.Native.Nat.{_+_, _*_, _/_, _%_, _≤_, _<_};
 ghost use lib.ListN.{length, take};
 ghost use lib.Dec.{leb};
-ghost use Rattle.generator.specs.Generator.{modulus, firstMultipliers};
+ghost use Rattle.generator.specs.Generator.{modulus};
+ghost use Rattle.generator.specs.Shape.{firstMultipliers};
 ghost use Rattle.hashing.specs.Geometry.{multiplierOf, rank};
 ghost use Rattle.hashing.specs.Limits.{validParameters};
-ghost use Rattle.hashing.specs.Moves.{codeAt, moves, codeCount, codePage, inverseOf, landing, Landed, Rising};
+ghost use Rattle.hashing.specs.Moves.{codeAt, moves, codeCount, codePage, inverseOf, landing, Landed, NarrowRising};
 use crate::Parameters;
 use crate::ranks::swept;
 use generator::residue;
@@ -145,7 +146,7 @@ pub fn follow(
     requires { ⌜ inverse ≡ inverseOf (parameters .step) ⌝ }
     requires { ⌜ length (now steps) ≡ 32 ⌝ }
     requires { ⌜ count ≤ 32 ⌝ }
-    requires { ⌜ Rising parameters 0 (take count (now steps)) 10 ⌝ }
+    requires { ⌜ NarrowRising parameters 0 (take count (now steps)) 10 ⌝ }
     requires { ⌜ start < parameters .width * parameters .groups ⌝ }
     ensures { λ r. ⌜ r ≡ landing parameters (start / parameters .groups) (start % parameters .groups) (take count (now (steps .entry))) ⌝ }
 {

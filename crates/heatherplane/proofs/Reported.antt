@@ -12,13 +12,14 @@ use Rattle.reports.specs.TrayCalls.{AfterAdding}
 use Rattle.tray.specs.declared.adding.Added.{Added as Adding}
 use Rattle.tray.specs.declared.filing.Filing.{Filing}
 use Rattle.tray.specs.Filing.{FilesTray}
-use Rattle.tray.specs.Lent.{Adds}
+use Rattle.tray.specs.Lent.{AddsReport}
 use Rattle.heatherplane.specs.declared.trays.Added.{Added}
 use Rattle.heatherplane.specs.declared.trays.Filed.{Filed}
-use Rattle.heatherplane.specs.Trays.{RepliesAdding, RepliesFiling, addedReply, filedReply}
+use Rattle.heatherplane.specs.Trays.{RepliesAdding, RepliesFiling}
+use Rattle.heatherplane.specs.Shape.{addedReply, filedReply}
 
 pub told-added : {after : AfterAdding} {reports : List Report} {filter : List ℕ} (d : Adding) (reply : Added) →
-    reply ≡ addedReply d → Adds after d reports filter → RepliesAdding after reply reports filter
+    reply ≡ addedReply d → AddsReport after d reports filter → RepliesAdding after reply reports filter
 told-added d reply e adds =
     record {
       refusals = ap (λ (r : Added). r .refusal) e ∙ ap (λ (a : Answer). a .refusal) (adds .answers);

@@ -10,7 +10,8 @@ ghost use Rattle.reports.specs.TrayCalls.{addOf, combinedOf};
 ghost use Rattle.tray.specs.Lent.{trayOf};
 ghost use Rattle.tray_filter.specs.Shown.{shown as Shown·shown};
 ghost use Rattle.heatherplane.specs.Reply.{replyOf};
-ghost use Rattle.heatherplane.specs.Trays.{RepliesAdding, RepliesFiling, numbered, recorded, askedOf, addedReply, filedReply, bitsReply};
+ghost use Rattle.heatherplane.specs.Trays.{RepliesAdding, RepliesFiling, parametersIn, recordIn, bitsReply};
+ghost use Rattle.heatherplane.specs.Shape.{askedOf, addedReply, filedReply};
 use crate::replies::Growth;
 use crate::replies::Reply;
 use crate::replies::record_of;
@@ -75,7 +76,7 @@ pub extern "C" fn heatherplane_add_report(
     filter: &mut [u64],
     report: Report,
 ) -> Added
-    ensures { λ r. ⌜ RepliesAdding (addOf (numbered parameters) (recorded growth)
+    ensures { λ r. ⌜ RepliesAdding (addOf (parametersIn parameters) (recordIn growth)
         (trayOf (now (reports .entry)) count) (now (filter .entry)) report) r (now (reports .exit)) (now (filter .exit)) ⌝ }
 {
     let asked = asked_of(parameters, growth);
@@ -104,8 +105,8 @@ pub extern "C" fn heatherplane_look_up_with_tray(
     filter: &[u64],
     number: u32,
 ) -> Reply
-    ensures { λ r. ⌜ r ≡ replyOf (combinedOf (numbered parameters) (recorded growth)
-        (before separators numbers words owners) (trayOf (now (reports .entry)) count) (now (filter .entry)) number) (recorded growth) ⌝ }
+    ensures { λ r. ⌜ r ≡ replyOf (combinedOf (parametersIn parameters) (recordIn growth)
+        (before separators numbers words owners) (trayOf (now (reports .entry)) count) (now (filter .entry)) number) (recordIn growth) ⌝ }
 {
     let asked = asked_of(parameters, growth);
     let found = tray::look_up(
@@ -139,7 +140,7 @@ pub extern "C" fn heatherplane_file_reports(
     count: u32,
     filter: &mut [u64],
 ) -> Filed
-    ensures { λ r. ⌜ RepliesFiling (filingOf (numbered parameters) (recorded growth)
+    ensures { λ r. ⌜ RepliesFiling (filingOf (parametersIn parameters) (recordIn growth)
         (before separators numbers words owners) (poolBefore poolnumbers poolwords poolowners) (trayOf (now (reports .entry)) count) (now (filter .entry))) r
         (after separators numbers words owners) (poolAfter poolnumbers poolwords poolowners) (now (reports .exit)) (now (filter .exit)) ⌝ }
 {

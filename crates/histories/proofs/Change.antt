@@ -11,7 +11,7 @@ use Rattle.pages.specs.declared.position.Position.{Position}
 use Rattle.pages.specs.Position.{validNumber, validPosition, validWord, packed}
 use Rattle.pages.specs.Page.{part}
 use Rattle.pages.proofs.Places.{held-there}
-use Rattle.placement.specs.Rule.{reworded, changed}
+use Rattle.placement.specs.Shape.{reworded, changed}
 use Rattle.placement.specs.File.{File, laid}
 use Rattle.placement.specs.Hash.{hashOf, namedPage}
 use Rattle.placement.proofs.Mapping.{left-map}

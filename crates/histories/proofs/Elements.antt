@@ -28,7 +28,7 @@ use Rattle.reports.specs.Reports.{Tray, trayFits}
 use Rattle.reports.specs.Filing.{notFiled, leftBy, filingOf}
 use Rattle.histories.specs.Model.{Model, Request, lookUp, Made, made, starsEntered, fedAll, callsMade, fedBy}
 use Rattle.histories.specs.Call.{plain, mend, lost, carriedInto, carriedFrom, readFrom, writtenTo, fileReports, combinedLookUp, addReport, isAccepted, onFile, step, effect, feeding, givenState, tableStars, tellsOfFile}
-use Rattle.histories.specs.Loss.{Loss, Underway, noCall, anEntry, aChange, aRemoval, lossFits, wholeCall, mendedAfter, sameFile, madeOf, counted}
+use Rattle.histories.specs.Loss.{Loss, Underway, noCall, anEntry, aChange, aRemoval, lossFits, wholeCall, mendedAfter, sameFile, madeOf, countedCall}
 use Rattle.histories.specs.Filing.{begins, filingMade}
 use Rattle.histories.proofs.Matching.{Matches, ElementConforms}
 use Rattle.histories.proofs.Histories.{Conforming}
@@ -99,7 +99,7 @@ module _ (p : Parameters) (m : Model) (r : GrowthRecord) (f second : File) (x : 
 
   -- what follows a loss is at rest
   lost-conforms : (l : Loss) → ElementConforms p m r f pool (lost l) (effect p r f second set pool (lost l))
-  unfolding effect feeding fedBy fedAll callsMade counted validSteps spotted
+  unfolding effect feeding fedBy fedAll callsMade countedCall validSteps spotted
   lost-conforms l = go (lossFits p l) refl
     where
       mended : After

@@ -18,7 +18,7 @@ use Rattle.calls.specs.Calls.{fileFits, poolFits, unless, orElse, unlent, uncha
 use Rattle.calls.specs.Records.{validSteps, closedRecord, enterUnder, changeUnder, removeUnder}
 use Rattle.reports.specs.Bits.{marked, passes}
 use Rattle.reports.specs.declared.Report.{Report}
-use Rattle.reports.specs.Reports.{Tray, waiting, trayFits, withReport, positionOf, isRemoval, reported, latestOr}
+use Rattle.reports.specs.Reports.{Tray, waiting, trayFits, withReport, reportedPosition, isRemoval, reported, latestOr}
 use Rattle.reports.specs.TrayCalls.{trayRefusal, addRefusal, addedUnless, AfterAdding, addOf, answeredUnless, soughtRefusal, plainAnswer, combinedOf}
 use Rattle.reports.specs.Filing.{removalFiled, positionFiled, reportFiled, filedFrom, notFiled, filedUnless, leftBy, filingOf}
 use Rattle.histories.specs.Model.{Model, Request, lookUp, enter, change, remove, updated, fed, Made, made, fedAll, modelFile}
@@ -99,17 +99,17 @@ module _ (p : Parameters) (m : Model) (t : Fitting p m) (pool : Pool) (x : Repor
   position-reported = go (eqb (changed .answer .refusal) 7)
     where
       changed : After
-      changed = changeOf p (m .growth) f pool (x .owner) (x .number) (positionOf x)
+      changed = changeOf p (m .growth) f pool (x .owner) (x .number) (reportedPosition x)
 
       entered : After
-      entered = enterOf p (m .growth) f pool (x .owner) (x .number) (positionOf x)
+      entered = enterOf p (m .growth) f pool (x .owner) (x .number) (reportedPosition x)
 
       go : (b : Bool)
           → Reported p m
-          (cond b (made (enter (x .owner) (x .number) (positionOf x)) (entered .answer .refusal)) (made (change (x .owner) (x .number) (positionOf x)) (changed .answer .refusal)))
+          (cond b (made (enter (x .owner) (x .number) (reportedPosition x)) (entered .answer .refusal)) (made (change (x .owner) (x .number) (reportedPosition x)) (changed .answer .refusal)))
           (cond b entered changed)
-      go true = as-made (enter (x .owner) (x .number) (positionOf x)) refl entered (enter-conforms p m t (x .owner) (x .number) (positionOf x) pool)
-      go false = as-made (change (x .owner) (x .number) (positionOf x)) refl changed (change-conforms p m t (x .owner) (x .number) (positionOf x) pool)
+      go true = as-made (enter (x .owner) (x .number) (reportedPosition x)) refl entered (enter-conforms p m t (x .owner) (x .number) (reportedPosition x) pool)
+      go false = as-made (change (x .owner) (x .number) (reportedPosition x)) refl changed (change-conforms p m t (x .owner) (x .number) (reportedPosition x) pool)
 
   report-conforms : Reported p m (callMade p r f pool x) (reportFiled p r f pool x)
   unfolding callMade reportFiled
@@ -183,7 +183,7 @@ module _ (p : Parameters) (m : Model) (r : GrowthRecord) (f second : File) (x : 
   not-damaged M k [] plain h = h
   not-damaged M k (y ∷ xs) plain h = not-damaged M k xs (cond (eqb (y .number) k) (reported M y) plain) (go (eqb (y .number) k) (isRemoval y))
     where
-      go : (b c : Bool) → cond b (cond c (spotted 0 M 0) (foundAt M 0 (positionOf y))) plain .refusal ≡ 5 → ⊥
+      go : (b c : Bool) → cond b (cond c (spotted 0 M 0) (foundAt M 0 (reportedPosition y))) plain .refusal ≡ 5 → ⊥
       go true true = λ z. omega arith
       go true false = λ z. omega arith
       go false c = h
@@ -209,7 +209,7 @@ module _ (p : Parameters) (m : Model) (r : GrowthRecord) (f second : File) (x : 
   pub added-undamaged : (t : Tray) (filter : List ℕ) (y : Report) → addOf p r t filter y .answer .refusal ≡ 5 → ⊥
   unfolding addOf addRefusal addedUnless spotted
   added-undamaged t filter y =
-      rw (tray-lent (trayFits t filter)) (go (trayFits t filter) (validNumber (y .number)) (isRemoval y || validPosition (positionOf y)) (ltb (t .count) 256))
+      rw (tray-lent (trayFits t filter)) (go (trayFits t filter) (validNumber (y .number)) (isRemoval y || validPosition (reportedPosition y)) (ltb (t .count) 256))
     where
       go : (a b c d : Bool)
           → addedUnless (orElse (unless a 2) (orElse (unless b 3) (orElse (unless c 4) (unless d 14)))) t filter (adding t filter y) .answer .refusal ≡ 5 → ⊥

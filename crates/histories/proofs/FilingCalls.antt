@@ -18,7 +18,7 @@ use Rattle.calls.specs.Answers.{Pool, After, unpooled, cleared, accepted, accep
 use Rattle.calls.specs.Calls.{fileFits, poolFits, unless, orElse, unlent, guarded, unchanged, readable, named, holds, placeFor, itemOf, mayAlter, ownerFor, allowed, changeOn, changeOf}
 use Rattle.calls.specs.Records.{enterUnder, changeUnder, removeUnder}
 use Rattle.reports.specs.declared.Report.{Report}
-use Rattle.reports.specs.Reports.{Tray, waiting, trayFits, positionOf, isRemoval}
+use Rattle.reports.specs.Reports.{Tray, waiting, trayFits, reportedPosition, isRemoval}
 use Rattle.reports.specs.TrayCalls.{trayRefusal}
 use Rattle.reports.specs.Filing.{removalFiled, positionFiled, reportFiled, oneMore, filedFrom, filedUnless, leftBy, filingOf}
 use Rattle.reports.proofs.Trying.{Begun, begun, goes-on, Tried, entered-tried, changed-tried, removed-tried, report-tried}
@@ -98,9 +98,9 @@ module _ (s : HistoryState) (second : File) (pool : Pool) (t : Begun (s .paramet
       let l : o .growth ≡ r = ap (λ (x : Outcome). x .growth) e ∙ (λ i. record { state = g i; growing = r .growing; steps = r .steps }) in
       λ i. record { parameters = e i .parameters; growth = l i; file = e i .file; second = e i .second; model = m i }
 
-  change-under : (x : Report) → Alike (changeUnder p r f unpooled (x .owner) (x .number) (positionOf x)) (changeUnder p r f pool (x .owner) (x .number) (positionOf x))
+  change-under : (x : Report) → Alike (changeUnder p r f unpooled (x .owner) (x .number) (reportedPosition x)) (changeUnder p r f pool (x .owner) (x .number) (reportedPosition x))
   unfolding changeUnder
-  change-under x = rw (t .steps, t .closed) (change-of p (r .state) f unpooled pool (x .owner) (x .number) (positionOf x))
+  change-under x = rw (t .steps, t .closed) (change-of p (r .state) f unpooled pool (x .owner) (x .number) (reportedPosition x))
 
   abbrev Goal : Made → After → Type 0
   Goal c a = next s (callOf pool second (c .request)) ≡ going s (a .file) (fedOne p c (s .model))
@@ -124,23 +124,23 @@ module _ (s : HistoryState) (second : File) (pool : Pool) (t : Begun (s .paramet
   position-call x = go (eqb (changed .answer .refusal) 7)
     where
       changed : After
-      changed = changeUnder p r f pool (x .owner) (x .number) (positionOf x)
+      changed = changeUnder p r f pool (x .owner) (x .number) (reportedPosition x)
 
       entered : After
-      entered = enterUnder p r f pool (x .owner) (x .number) (positionOf x)
+      entered = enterUnder p r f pool (x .owner) (x .number) (reportedPosition x)
 
       q : Request
-      q = change (x .owner) (x .number) (positionOf x)
+      q = change (x .owner) (x .number) (reportedPosition x)
 
-      same : Alike (changeUnder p r f unpooled (x .owner) (x .number) (positionOf x)) changed
+      same : Alike (changeUnder p r f unpooled (x .owner) (x .number) (reportedPosition x)) changed
       same = change-under x
 
       go : (b : Bool)
-          → Goal (cond b (made (enter (x .owner) (x .number) (positionOf x)) (entered .answer .refusal)) (made q (changed .answer .refusal))) (cond b entered changed)
-      go true = calls-next (enter (x .owner) (x .number) (positionOf x)) entered refl (entered-tried p r f pool t (x .owner) (x .number) (positionOf x) .growth)
+          → Goal (cond b (made (enter (x .owner) (x .number) (reportedPosition x)) (entered .answer .refusal)) (made q (changed .answer .refusal))) (cond b entered changed)
+      go true = calls-next (enter (x .owner) (x .number) (reportedPosition x)) entered refl (entered-tried p r f pool t (x .owner) (x .number) (reportedPosition x) .growth)
       go false =
-          calls-next q (keepingPool pool (changeUnder p r f unpooled (x .owner) (x .number) (positionOf x))) refl
-          (same .growth ∙ changed-tried p r f pool t (x .owner) (x .number) (positionOf x) .growth)
+          calls-next q (keepingPool pool (changeUnder p r f unpooled (x .owner) (x .number) (reportedPosition x))) refl
+          (same .growth ∙ changed-tried p r f pool t (x .owner) (x .number) (reportedPosition x) .growth)
           ∙ λ i. going s (same .file i) (fed p q (eqb (same .answer i .refusal) 0) (s .model))
 
   one-call : (x : Report) → Goal (callMade p r f pool x) (reportFiled p r f pool x)

@@ -14,7 +14,8 @@ use Rattle.hashing.proofs.Homes.{home-pages}
 use Rattle.pages.specs.Position.{validNumber, validWord}
 use Rattle.placement.proofs.Probing.{bounded-real}
 use Rattle.placement.specs.Rule.{Star, Hash, left}
-use Rattle.placement.specs.File.{laid, Sized, greatest, fileOf}
+use Rattle.placement.specs.File.{laid, greatest, fileOf}
+use Rattle.placement.specs.Shape.{Sized}
 use Rattle.placement.specs.Hash.{hashOf, soundAt}
 use Rattle.placement.proofs.Order.{Rising, rising-less}
 use Rattle.placement.proofs.Pages.{Proper}

@@ -18,7 +18,8 @@ use Rattle.pages.specs.Position.{validNumber, validPosition, validWord, packed}
 use Rattle.pages.specs.Page.{part}
 use Rattle.pages.proofs.Parts.{part-item}
 use Rattle.placement.specs.Rule.{Star, Contents, first, pages, left, insert, without}
-use Rattle.placement.specs.File.{File, starsAt, gathered, replaced, Sized}
+use Rattle.placement.specs.File.{File, starsAt, gathered, replaced}
+use Rattle.placement.specs.Shape.{Sized}
 use Rattle.placement.specs.Hash.{hashOf, namedPage}
 use Rattle.placement.proofs.Standing.{first-le}
 use Rattle.placement.proofs.Order.{member-insert, member-without}
@@ -35,7 +36,7 @@ use Rattle.calls.specs.declared.records.GrowthRecord.{GrowthRecord}
 use Rattle.calls.specs.Records.{validSteps, unlessOpen, enterUnder, cascadeUnder, changeUnder, removeUnder}
 use Rattle.calls.proofs.Refusals.{unlent-facts, sized}
 use Rattle.reports.specs.declared.Report.{Report}
-use Rattle.reports.specs.Reports.{waiting, trayFits, positionOf, isRemoval}
+use Rattle.reports.specs.Reports.{waiting, trayFits, reportedPosition, isRemoval}
 use Rattle.reports.specs.TrayCalls.{trayRefusal}
 use Rattle.reports.specs.Filing.{removalFiled, positionFiled, reportFiled, oneMore, filedFrom, notFiled, filedUnless, leftBy, filingOf}
 use Rattle.histories.specs.Model.{lookUp, enter, cascade, change, remove, grow, shrink, due, check, openGrowth, stepGrowth, callerOf}
@@ -276,9 +277,9 @@ report-untouched p r f pool x observer s other =
     (λ _. record { same = refl })
     (λ _. under-kept p r f (x .owner) observer s other _ pool _ (remove-kept p (r .state) f (x .owner) observer s other pool (x .number))))
     (λ _.
-    split (eqb (changeUnder p r f pool (x .owner) (x .number) (positionOf x) .answer .refusal) 7) _ _
-    (λ _. under-kept p r f (x .owner) observer s other _ pool _ (enter-kept p (r .state) f (x .owner) observer s other pool (x .number) (positionOf x)))
-    (λ _. under-kept p r f (x .owner) observer s other _ pool _ (change-kept p (r .state) f (x .owner) observer s other pool (x .number) (positionOf x))))
+    split (eqb (changeUnder p r f pool (x .owner) (x .number) (reportedPosition x) .answer .refusal) 7) _ _
+    (λ _. under-kept p r f (x .owner) observer s other _ pool _ (enter-kept p (r .state) f (x .owner) observer s other pool (x .number) (reportedPosition x)))
+    (λ _. under-kept p r f (x .owner) observer s other _ pool _ (change-kept p (r .state) f (x .owner) observer s other pool (x .number) (reportedPosition x))))
     .same
   where
     split : (t : Bool) (a b : After)

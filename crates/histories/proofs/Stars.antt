@@ -11,7 +11,8 @@ use borrow.Author.Tests.{eqb-true, le-leb, lt-leb, eqb-false}
 use Rattle.pages.specs.declared.position.Position.{Position}
 use Rattle.pages.specs.Position.{validNumber, validWord, packed}
 use Rattle.pages.proofs.Words.{pack-valid}
-use Rattle.placement.specs.Rule.{Star, keep, filter, insert, without, reworded, changed, starWith}
+use Rattle.placement.specs.Rule.{Star, keep, filter, insert, without, starWith}
+use Rattle.placement.specs.Shape.{reworded, changed}
 use Rattle.placement.proofs.Order.{Rising, Absent, rising-member}
 use Rattle.placement.proofs.Change.{changed-absent}
 use Rattle.histories.specs.Model.{Entry, setPosition, strike, heldPosition, heldOwner, entryStars}

@@ -17,7 +17,8 @@ use Rattle.hashing.specs.Limits.{validParameters, validGrowth}
 use Rattle.hashing.proofs.Bounds.{limits, growth-within, spread}
 use Rattle.pages.specs.Position.{validWord}
 use Rattle.placement.specs.Rule.{Star, Contents, pages, left, separators}
-use Rattle.placement.specs.File.{File, Sized, column, fileOf, laid, replaced, written}
+use Rattle.placement.specs.File.{File, column, fileOf, laid, replaced, written}
+use Rattle.placement.specs.Shape.{Sized}
 use Rattle.placement.specs.Hash.{hashOf}
 use Rattle.placement.proofs.Composition.{length-pages}
 use Rattle.placement.proofs.Pages.{Proper}

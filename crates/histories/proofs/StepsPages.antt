@@ -15,7 +15,8 @@ use Rattle.hashing.specs.Limits.{validParameters}
 use Rattle.pages.specs.Position.{validWord}
 use Rattle.placement.proofs.Probing.{bounded-real}
 use Rattle.placement.specs.Rule.{Star, Contents, pages, separators}
-use Rattle.placement.specs.File.{File, Sized, pagesAt, column, fileOf, laid, replaced, written}
+use Rattle.placement.specs.File.{File, pagesAt, column, fileOf, laid, replaced, written}
+use Rattle.placement.specs.Shape.{Sized}
 use Rattle.placement.specs.Hash.{hashOf}
 use Rattle.placement.proofs.Composition.{length-pages}
 use Rattle.placement.proofs.Pages.{Proper}

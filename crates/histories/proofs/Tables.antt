@@ -27,10 +27,11 @@ use Rattle.calls.specs.Answers.{Pool, After, spotted, counted, accepted, refuse
 use Rattle.calls.specs.Calls.{unless, orElse, unlent, guarded, unchanged, fileFits, poolFits}
 use Rattle.calls.specs.Records.{validSteps}
 use Rattle.fits_table.specs.Header.{tableIn}
-use Rattle.fits_table.specs.Rows.{from32, positionAt, rowAnswer, rowAt, goodAfter, goodRows, rowsRead, RowsUp}
+use Rattle.fits_table.specs.Rows.{from32, positionAt, rowAnswer, rowAt, goodAfter, goodRows, rowsRead}
+use Rattle.fits_table.specs.Shape.{RowsUp}
 use Rattle.fits_table.specs.declared.cards.Table.{Table}
 use Rattle.fits_table.specs.declared.cards.Table.the-variants.{Rows, Nothing}
-use Rattle.exchange.specs.Tables.{tableFrom, notWritten, guardedWrite, writeOn, writeUnder, goodData, starsRead, readTo, readOn, readOf, readUnder}
+use Rattle.exchange.specs.Tables.{tableOfFile, notWritten, guardedWrite, writeOn, writeUnder, goodData, starsRead, readTo, readOn, readOf, readUnder}
 use Rattle.exchange.proofs.Exchanged.{WasRead, was-read, rows-rise, rows-proper}
 use Rattle.histories.specs.Model.{emptyModel}
 use Rattle.histories.specs.Call.{tableStars}
@@ -144,11 +145,11 @@ read-undamaged p r f pool given =
 pub write-undamaged : (p : Parameters) (r : GrowthRecord) (f : File) → Modelled p (r .state) f → (out : List ℕ) → writeUnder p r f out .answer .refusal ≡ 5 → ⊥
 unfolding writeUnder writeOn spotted counted
 write-undamaged p r f c out =
-    rw (none-bad p (r .state) f c, le-ltb (p .pages) (p .pages) (le-refl (p .pages))) (go (validSteps p r) (unlent p (r .state) (fileFits p f)) (few p (r .state) (fileFits p f)) (ltb (length out) (length (tableFrom p f))))
+    rw (none-bad p (r .state) f c, le-ltb (p .pages) (p .pages) (le-refl (p .pages))) (go (validSteps p r) (unlent p (r .state) (fileFits p f)) (few p (r .state) (fileFits p f)) (ltb (length out) (length (tableOfFile p f))))
   where
     go : (a : Bool) (n : ℕ) → (n ≡ 5 → ⊥) → (b : Bool)
         → guardedWrite out (orElse (unless a 1) n)
-        (cond b (notWritten out (refused 12 0)) (record { answer = counted false (length (tableFrom p f)); output = Rattle.buffers.specs.Lists.written 0 (tableFrom p f) out }))
+        (cond b (notWritten out (refused 12 0)) (record { answer = counted false (length (tableOfFile p f)); output = Rattle.buffers.specs.Lists.written 0 (tableOfFile p f) out }))
         .answer .refusal ≡ 5 → ⊥
     go false n h b e = omega arith
     go true (suc n) h b e = h e

@@ -16,8 +16,10 @@ use Rattle.hashing.specs.declared.Parameters.{Parameters}
 use Rattle.hashing.specs.declared.Growth.{Growth}
 use Rattle.pages.specs.declared.position.Position.{Position}
 use Rattle.pages.specs.Position.{validWord}
-use Rattle.placement.specs.Rule.{Star, Hash, keep, pages, left, without, insert, blank}
-use Rattle.placement.specs.File.{File, Sized, laid, fileOf, starsAt}
+use Rattle.placement.specs.Rule.{Star, Hash, keep, pages, left, without, insert}
+use Rattle.placement.specs.Shape.{blank}
+use Rattle.placement.specs.File.{File, laid, fileOf, starsAt}
+use Rattle.placement.specs.Shape.{Sized}
 use Rattle.placement.specs.Hash.{hashOf, namedPage}
 use Rattle.placement.proofs.Order.{Rising, Absent, member-without, inserted}
 use Rattle.placement.proofs.Filters.{filter-all-on}

@@ -24,7 +24,7 @@ use Rattle.reports.specs.Reports.{Tray}
 use Rattle.reports.specs.TrayCalls.{addOf, combinedOf}
 use Rattle.reports.specs.Filing.{AfterFiling, filingOf}
 use Rattle.histories.specs.Model.{Request, lookUp, enter, cascade, change, remove, grow, shrink, due, check, openGrowth, stepGrowth, made, starsEntered, Feeding, goesOn, anew}
-use Rattle.histories.specs.Loss.{Loss, lossFits, wholeCall, mendedAfter, counted}
+use Rattle.histories.specs.Loss.{Loss, lossFits, wholeCall, mendedAfter, countedCall}
 use Rattle.histories.specs.Filing.{filingMade}
 
 -- A call that the book is fed as it is. A mending, and power lost, then a mending: document 02 (xii). Carrying another file, under its parameters and record,
@@ -196,7 +196,7 @@ countsAs r q o = cond (finishes r (o .growth)) grow q
 unfoldable pub feeding : Parameters → GrowthRecord → File → Pool → Outcome → Element → Feeding
 feeding p r f pool o (plain q) = goesOn (made (countsAs r q o) (o .answer .refusal) ∷ [])
 feeding p r f pool o mend = goesOn []
-feeding p r f pool o (lost x) = goesOn (cond (lossFits p x) (counted p (x .underway) (wholeCall p r f pool (x .underway)) (o .file)) [])
+feeding p r f pool o (lost x) = goesOn (cond (lossFits p x) (countedCall p (x .underway) (wholeCall p r f pool (x .underway)) (o .file)) [])
 feeding p r f pool o (carriedInto old s source q g) = cond (isAccepted (o .answer)) (anew g (starsEntered (allStars old source))) (goesOn [])
 feeding p r f pool o (carriedFrom q s) = goesOn []
 feeding p r f pool o (readFrom given q g) = cond (isAccepted (o .answer)) (anew g (starsEntered (tableStars given (tableIn given)))) (goesOn [])

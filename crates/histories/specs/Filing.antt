@@ -10,7 +10,7 @@ use Rattle.calls.specs.Answers.{Pool, cleared}
 use Rattle.calls.specs.Calls.{fileFits, poolFits}
 use Rattle.calls.specs.Records.{enterUnder, changeUnder, removeUnder}
 use Rattle.reports.specs.declared.Report.{Report}
-use Rattle.reports.specs.Reports.{Tray, waiting, trayFits, positionOf, isRemoval}
+use Rattle.reports.specs.Reports.{Tray, waiting, trayFits, reportedPosition, isRemoval}
 use Rattle.reports.specs.TrayCalls.{trayRefusal}
 use Rattle.reports.specs.Filing.{isNotHeld, reportFiled}
 use Rattle.histories.specs.Model.{enter, change, remove, Made, made}
@@ -18,10 +18,10 @@ use Rattle.histories.specs.Model.{enter, change, remove, Made, made}
 -- a position on this file: a change of a held star, an entry of another
 unfoldable pub positionMade : Parameters → GrowthRecord → File → Pool → Report → Made
 positionMade p r f pool x =
-    let after = changeUnder p r f pool (x .owner) (x .number) (positionOf x) in
+    let after = changeUnder p r f pool (x .owner) (x .number) (reportedPosition x) in
     cond (isNotHeld after)
-    (made (enter (x .owner) (x .number) (positionOf x)) (enterUnder p r f pool (x .owner) (x .number) (positionOf x) .answer .refusal))
-    (made (change (x .owner) (x .number) (positionOf x)) (after .answer .refusal))
+    (made (enter (x .owner) (x .number) (reportedPosition x)) (enterUnder p r f pool (x .owner) (x .number) (reportedPosition x) .answer .refusal))
+    (made (change (x .owner) (x .number) (reportedPosition x)) (after .answer .refusal))
 
 -- a removal; of a star not held it is refused with 7, and so no step
 unfoldable pub removalMade : Parameters → GrowthRecord → File → Pool → Report → Made

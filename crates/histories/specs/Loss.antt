@@ -63,5 +63,5 @@ madeOf (aChange caller k q) n = made (change caller k q) n ∷ []
 madeOf (aRemoval caller k) n = made (remove caller k) n ∷ []
 
 -- "a history .. counts the call if the mended file is the one after it"
-unfoldable pub counted : Parameters → Underway → After → File → List Made
-counted p u whole mended = cond (sameFile p mended (whole .file)) (madeOf u (whole .answer .refusal)) []
+unfoldable pub countedCall : Parameters → Underway → After → File → List Made
+countedCall p u whole mended = cond (sameFile p mended (whole .file)) (madeOf u (whole .answer .refusal)) []

@@ -23,29 +23,7 @@ use Rattle.history_replay.specs.declared.replaying.Replayed.{Replayed}
 use Rattle.history_replay.specs.declared.replaying.Replayed.the-variants.{Done, BadKind, Refused}
 use Rattle.histories.specs.Model.{modelFile}
 use Rattle.histories.specs.Run.{fresh, initial, end}
-use Rattle.history_replay.specs.Replay.{
-  LentHistory,
-  allKinds,
-  requestsOf,
-  evenLengths,
-  evenPool,
-  agreeing,
-  unknownKind,
-  refusalOf,
-  noSecond,
-  startOf,
-  historyOf,
-  replayedWith,
-  replayOf,
-  resumptionRefusal,
-  resumedWith,
-  resumeOf,
-  refusalSaid,
-  growthSaid,
-  Replays,
-  Resumes,
-  EveryReplay,
-}
+use Rattle.history_replay.specs.Replay.{LentHistory, allKinds, requestsOf, evenLengths, evenPool, evenlyLent, unknownKind, refusalOf, noSecond, startOf, historyOf, replayedWith, replayOf, resumptionRefusal, resumedWith, resumeOf, refusalSaid, growthSaid, Replays, Resumes, EveryReplay}
 use Rattle.history_replay.specs.Steps.{Runs}
 use Rattle.histories.proofs.Histories.{end-agrees}
 use Rattle.histories.proofs.Make.{initial-agrees}
@@ -85,23 +63,23 @@ module _ (p : Parameters) (f : File) (pool : Pool) (h : LentHistory) (answers : 
   pools = evenPool (length (f .numbers)) (length (f .words)) (length (f .owners)) (length (pool .numbers)) (length (pool .words)) (length (pool .owners))
 
   pub uneven-history : lengths ≡ false → Replays (replayOf p f pool h answers) (Refused BadLength) answers f pool
-  unfolding refusalOf agreeing refusalSaid growthSaid
+  unfolding refusalOf evenlyLent refusalSaid growthSaid
   uneven-history e = refused-replays 1 (rw e) (Refused BadLength) refl refl
 
   module _ (even : lengths ≡ true) where
     pub uneven-pool : pools ≡ false → Replays (replayOf p f pool h answers) (Refused BadLength) answers f pool
-    unfolding refusalOf agreeing refusalSaid growthSaid
+    unfolding refusalOf evenlyLent refusalSaid growthSaid
     uneven-pool e = refused-replays 1 (rw (even, e)) (Refused BadLength) refl refl
 
     module _ (lent : pools ≡ true) where
       pub unknown-kind : allKinds (h .kinds) ≡ false → Replays (replayOf p f pool h answers) BadKind answers f pool
-      unfolding refusalOf agreeing refusalSaid growthSaid
+      unfolding refusalOf evenlyLent refusalSaid growthSaid
       unknown-kind e = refused-replays 255 (rw (even, lent, e)) BadKind refl refl
 
       module _ (known : allKinds (h .kinds) ≡ true) (a : Placed) (file : File) (made : Leaves (makeOf p f unpooled) (placed a) file unpooled) where
         -- the rest is what make says
         as-made : refusalOf p f pool h answers ≡ placed a .refusal
-        unfolding refusalOf agreeing
+        unfolding refusalOf evenlyLent
         as-made = rw (even, lent, known) (sym (ap (λ (x : Answer). x .refusal) (made .answers)))
 
         pub make-refused : (r : Refusal) (place : ℕ) → a ≡ NotPlaced r place → Replays (replayOf p f pool h answers) (Refused r) answers file pool
@@ -177,7 +155,7 @@ pub every-replay : EveryReplay
 unfolding replayOf replayedWith refusalOf initial
 every-replay p f pool h answers e =
     let n : refusalOf p f pool h answers ≡ 0 = accepted-run (refusalOf p f pool h answers) p f pool h answers e in
-    let rest = either-none (unless (agreeing f pool h answers) 2) _ n in
+    let rest = either-none (unless (evenlyLent f pool h answers) 2) _ n in
     let made : makeOf p f unpooled .answer .refusal ≡ 0 = either-none (unless (allKinds (h .kinds)) unknownKind) _ rest in
     let keeps : end (startOf p f) (historyOf p f pool h) .parameters ≡ p = same-parameters (startOf p f) pool h (length (h .kinds)) refl in
     let agrees = end-agrees conforming (startOf p f) (initial-agrees p f noSecond unpooled made) (historyOf p f pool h) in

@@ -102,8 +102,8 @@ abbrev pub evenPool : ℕ → ℕ → ℕ → ℕ → ℕ → ℕ → Bool
 evenPool numbers words owners poolnumbers poolwords poolowners =
     eqb poolnumbers numbers && (eqb poolwords words && eqb poolowners owners)
 
-unfoldable pub agreeing : File → Pool → LentHistory → List ℕ → Bool
-agreeing f pool h answers =
+unfoldable pub evenlyLent : File → Pool → LentHistory → List ℕ → Bool
+evenlyLent f pool h answers =
     evenLengths (length (h .kinds)) (length (h .callers)) (length (h .stars)) (length (h .ras)) (length (h .decs)) (length answers)
     && evenPool (length (f .numbers)) (length (f .words)) (length (f .owners)) (length (pool .numbers)) (length (pool .words)) (length (pool .owners))
 
@@ -114,7 +114,7 @@ unknownKind = 256
 -- lengths that do not agree are 2, then an unknown kind, else it is what make says of parameters and lengths
 unfoldable pub refusalOf : Parameters → File → Pool → LentHistory → List ℕ → ℕ
 refusalOf p f pool h answers =
-    orElse (unless (agreeing f pool h answers) 2)
+    orElse (unless (evenlyLent f pool h answers) 2)
     (orElse (unless (allKinds (h .kinds)) unknownKind) (makeOf p f unpooled .answer .refusal))
 
 -- a replay is lent no second set of pages

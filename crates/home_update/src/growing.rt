@@ -1,7 +1,7 @@
 // The home under the next growth state, from the home under this one.
 ghost use mathlib.Core.Path.{_≡_};
 ghost use mathlib.Core.Bool.{true};
-ghost use Rattle.generator.specs.Generator.{firstMultipliers};
+ghost use Rattle.generator.specs.Shape.{firstMultipliers};
 ghost use Rattle.hashing.specs.Geometry.{multiplierOf, grown};
 ghost use Rattle.hashing.specs.Limits.{validParameters, validGrowth};
 ghost use Rattle.hashing.specs.Home.{rankAt, home as Home·home};

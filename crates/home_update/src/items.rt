@@ -2,7 +2,7 @@
 ghost use mathlib.Core.Path.{_≡_};
 ghost use mathlib.Core.Bool.{false};
 ghost use Rattle.hashing.specs.Geometry.{grown, isUngrown, shrunk};
-ghost use Rattle.placement.specs.Hash.{homeIn};
+ghost use Rattle.placement.specs.Shape.{homeIn};
 ghost use Rattle.placement.specs.Ready.{Homing};
 use crate::growing::home_grown;
 use crate::shrinking::home_shrunk;

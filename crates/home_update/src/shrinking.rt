@@ -1,7 +1,7 @@
 // The home under the growth state before, from the home under this one.
 ghost use mathlib.Core.Path.{_≡_};
 ghost use mathlib.Core.Bool.{true, false};
-ghost use Rattle.generator.specs.Generator.{firstMultipliers};
+ghost use Rattle.generator.specs.Shape.{firstMultipliers};
 ghost use Rattle.hashing.specs.Geometry.{multiplierOf, isUngrown, shrunk as Geometry·shrunk};
 ghost use Rattle.hashing.specs.Limits.{validParameters, validGrowth};
 ghost use Rattle.hashing.specs.Home.{home as Home·home};

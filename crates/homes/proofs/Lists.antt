@@ -8,7 +8,8 @@ use native.Mathlib.Numerals.{add-one}
 use native.Mathlib.Omega.{arith}
 use lib.ListN.{length, getD, take, drop, set, length-append, List·getD-append, List·getD-map, length-map}
 use lib.Seq.{drop-cons, drop-length, set-at, append-snoc, getD-at, getD-append-add, getD-take, getD-drop, ext-getD, length-take-le, paste, take-paste, drop-paste}
-use Rattle.homes.specs.Lanes.{lanes, blockAt, Blocks}
+use Rattle.homes.specs.Lanes.{blockAt, Blocks}
+use Rattle.homes.specs.Indexed.{lanes}
 
 pub lanes-length : (n : ℕ) (f : ℕ → ℕ) → length (lanes n f) ≡ n
 unfolding lanes

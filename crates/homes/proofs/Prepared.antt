@@ -13,7 +13,8 @@ use lib.Pow.{pow-mono}
 use borrow.Author.Tests.{leb-true, leb-false}
 use Rattle.hashing.specs.declared.Parameters.{Parameters}
 use Rattle.hashing.specs.declared.Growth.{Growth}
-use Rattle.generator.specs.Generator.{modulus, power, firstMultipliers}
+use Rattle.generator.specs.Generator.{modulus}
+use Rattle.generator.specs.Shape.{power, firstMultipliers}
 use Rattle.hashing.specs.Geometry.{multiplierOf, sizeAt, countAt}
 use Rattle.hashing.specs.Limits.{validParameters, validGrowth}
 use Rattle.generator.proofs.Numbers.{next, Next, div-mono}

@@ -11,7 +11,8 @@ use lib.ListN.{length, getD}
 use borrow.Author.Tests.{le-leb, lt-leb, lt-ltb, le-ltb}
 use Rattle.hashing.specs.declared.Parameters.{Parameters}
 use Rattle.hashing.specs.declared.Growth.{Growth}
-use Rattle.generator.specs.Generator.{modulus, power, scrambled}
+use Rattle.generator.specs.Generator.{modulus, scrambled}
+use Rattle.generator.specs.Shape.{power}
 use Rattle.hashing.specs.Geometry.{sizeAt, countAt, rank}
 use Rattle.hashing.specs.Home.{rankAt, chosen, expandedAt, stepFrom, afterSteps, home}
 use Rattle.generator.proofs.Numbers.{mul-mod-right, halves}
@@ -21,7 +22,8 @@ use Rattle.hashing.proofs.Homes.{rank-below, rank-at-below, steps-one, steps-be
 use Rattle.homes.specs.declared.stages.Stage.{Stage}
 use Rattle.homes.specs.declared.stages.Sweep.{Sweep}
 use Rattle.homes.specs.Stages.{stageAt, sweepOf, limitAt, Rankable}
-use Rattle.homes.specs.Lanes.{lanes, Under, keyOf, keysAt, hitOf, movedBy, stepped, pagesAfter, groupsAfter, Grouped}
+use Rattle.homes.specs.Lanes.{Under, residueOf, keysAt, hitOf, movedBy, stepped, pagesAfter, groupsAfter, Grouped}
+use Rattle.homes.specs.Indexed.{lanes}
 use Rattle.homes.proofs.Numbers.{quotient-test, quotient-over}
 use Rattle.homes.proofs.Lists.{lane, lanes-length, lanes-same}
 use Rattle.homes.proofs.Prepared.{sweep-step, stage-size, stage-count}
@@ -207,14 +209,14 @@ starts-are a factor p g keys e = lanes-same 8 _ _ (λ j b. rw (e, scrambled-by a
 
 -- a key has its number's home
 module _ (a k : ℕ) where
-  scrambled-key : (j : ℕ) → scrambled a j (keyOf k) ≡ scrambled a j k
-  unfolding scrambled keyOf
+  scrambled-key : (j : ℕ) → scrambled a j (residueOf k) ≡ scrambled a j k
+  unfolding scrambled residueOf
   scrambled-key j =
-      sym (mul-mod-right (a ^ j) modulus (keyOf k))
+      sym (mul-mod-right (a ^ j) modulus (residueOf k))
       ∙ ap (λ (t : ℕ). a ^ j * t % modulus) (halves k)
       ∙ mul-mod-right (a ^ j) modulus k
 
-  after-key : (p : Parameters) (g : Growth) (i : ℕ) → afterSteps a p g (keyOf k) i ≡ afterSteps a p g k i
+  after-key : (p : Parameters) (g : Growth) (i : ℕ) → afterSteps a p g (residueOf k) i ≡ afterSteps a p g k i
   unfolding afterSteps stepFrom chosen
   after-key p g zero = rw (scrambled-key 1)
   after-key p g (suc i) = rw (scrambled-key (2 * suc i), after-key p g i)
@@ -225,4 +227,4 @@ pub homes-are :
 unfolding keysAt home
 homes-are a p g numbers keys at e i h =
     page-at a p g keys (g .expansions + 1) i h
-    ∙ rw (e, lane 8 (λ i. keyOf (getD numbers (at + i) 0)) i h) (after-key a (getD numbers (at + i) 0) p g (g .expansions + 1))
+    ∙ rw (e, lane 8 (λ i. residueOf (getD numbers (at + i) 0)) i h) (after-key a (getD numbers (at + i) 0) p g (g .expansions + 1))

@@ -1,8 +1,8 @@
 -- Eight numbers at once: a list by its places, and what becomes of each place.
 use mathlib.Core.Bool.{cond}
-use mathlib.Core.List.{List, [], _∷_, _++_}
+use mathlib.Core.List.{List}
 use mathlib.Core.Path.{_≡_}
-use Prim.Native.Nat.{ℕ, zero, suc, _+_, _*_, _/_, _%_, _<_}
+use Prim.Native.Nat.{ℕ, _+_, _*_, _/_, _%_, _<_}
 use lib.Dec.{leb, eqb}
 use lib.ListN.{getD}
 use Rattle.hashing.specs.declared.Parameters.{Parameters}
@@ -13,11 +13,7 @@ use Rattle.hashing.specs.Geometry.{multiplierOf, sizeAt, countAt, rank}
 use Rattle.hashing.specs.Home.{afterSteps}
 use Rattle.homes.specs.declared.stages.Stage.{Stage}
 use Rattle.homes.specs.declared.stages.Sweep.{Sweep}
-
--- the list of f at 0 to n − 1
-unfoldable pub lanes : ℕ → (ℕ → ℕ) → List ℕ
-lanes zero f = []
-lanes (suc n) f = lanes n f ++ (f n ∷ [])
+use Rattle.homes.specs.Indexed.{lanes}
 
 -- the eight items of a list from `at` on
 unfoldable pub blockAt : List ℕ → ℕ → List ℕ
@@ -28,11 +24,11 @@ abbrev pub Blocks : ℕ → (ℕ → Type 0) → Type 0
 Blocks places holds = (at : ℕ) → at % 8 ≡ 0 → at < places → holds at
 
 -- a number at most 2^31 with the remainder of K by m
-unfoldable pub keyOf : ℕ → ℕ
-keyOf k = k / 2147483648 + k % 2147483648
+unfoldable pub residueOf : ℕ → ℕ
+residueOf k = k / 2147483648 + k % 2147483648
 
 unfoldable pub keysAt : List ℕ → ℕ → List ℕ
-keysAt numbers at = lanes 8 (λ i. keyOf (getD numbers (at + i) 0))
+keysAt numbers at = lanes 8 (λ i. residueOf (getD numbers (at + i) 0))
 
 -- each of the eight places holds less than n
 abbrev pub Under : ℕ → List ℕ → Type 0

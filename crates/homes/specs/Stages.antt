@@ -5,7 +5,8 @@ use Prim.Native.Nat.{ℕ, suc, _+_, _*_, _/_, _%_, _≤_}
 use lib.Dec.{leb, ltb}
 use Rattle.hashing.specs.declared.Parameters.{Parameters}
 use Rattle.hashing.specs.declared.Growth.{Growth}
-use Rattle.generator.specs.Generator.{modulus, power}
+use Rattle.generator.specs.Generator.{modulus}
+use Rattle.generator.specs.Shape.{power}
 use Rattle.hashing.specs.Geometry.{multiplierOf, sizeAt, countAt}
 use Rattle.homes.specs.declared.stages.Stage.{Stage}
 use Rattle.homes.specs.declared.stages.Sweep.{Sweep}

@@ -4,7 +4,7 @@ ghost use mathlib.Core.Bool.{true};
 ghost use Prim.Native.Nat.{_+_, _≤_};
 ghost use lib.ListN.{length};
 ghost use lib.Seq.{paste};
-ghost use Rattle.generator.specs.Generator.{firstMultipliers};
+ghost use Rattle.generator.specs.Shape.{firstMultipliers};
 ghost use Rattle.hashing.specs.Geometry.{multiplierOf, countAt};
 ghost use Rattle.hashing.specs.Limits.{validParameters, validGrowth};
 ghost use Rattle.homes.specs.Stages.{stageAt, sweepOf, testAt};

@@ -4,13 +4,13 @@ ghost use Prim.Native.Nat.{_+_, _*_, _/_, _%_, _≤_, _<_, min};
 ghost use Rattle.generator.specs.Generator.{modulus};
 ghost use Rattle.hashing.specs.Geometry.{rank};
 ghost use Rattle.homes.specs.Stages.{sweepOf, Rankable};
-ghost use Rattle.homes.specs.Lanes.{keyOf, hitOf, movedBy};
+ghost use Rattle.homes.specs.Lanes.{residueOf, hitOf, movedBy};
 use crate::stages::Stage;
 use crate::stages::Sweep;
 
 // At most 2^31, in a lane as wide as the product.
 pub fn keyed(number: u32) -> u64
-    ensures { λ r. ⌜ (r ≡ keyOf number) × (r ≤ 2147483648) ⌝ }
+    ensures { λ r. ⌜ (r ≡ residueOf number) × (r ≤ 2147483648) ⌝ }
 {
     (number / 2147483648 + number % 2147483648) as u64
 }

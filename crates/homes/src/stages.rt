@@ -2,7 +2,8 @@
 ghost use mathlib.Core.Path.{_≡_};
 ghost use mathlib.Core.Bool.{true};
 ghost use Prim.Native.Nat.{_+_, _*_, _/_, _%_, _≤_};
-ghost use Rattle.generator.specs.Generator.{modulus, firstMultipliers};
+ghost use Rattle.generator.specs.Generator.{modulus};
+ghost use Rattle.generator.specs.Shape.{firstMultipliers};
 ghost use Rattle.hashing.specs.Geometry.{multiplierOf, countAt};
 ghost use Rattle.hashing.specs.Limits.{validParameters, validGrowth};
 ghost use Rattle.homes.specs.Stages.{stageAt, sweepOf, limitAt, testAt};

@@ -7,7 +7,8 @@ use mathlib.Core.Path.{_≡_, refl}
 use borrow.Author.Tests.{eqb-true, ne-eqb}
 use lib.Dec.{eqb}
 use lib.ListN.{length, drop, getD}
-use Rattle.lines.specs.Grammar.{fields, inFirst, fieldLength, naturalOf, declinationOf, enterWith, enterFrom, numberFrom, numberWith, growFrom, letterOf, byLetter, byFields, commandOf}
+use Rattle.lines.specs.Grammar.{fields, inFirst, naturalOf, declinationOf, enterWith, enterFrom, numberFrom, numberWith, growFrom, letterOf, byLetter, byFields, commandOf}
+use Rattle.lines.specs.Shape.{fieldLength}
 use Rattle.lines.specs.declared.Command.the-variants.{LookUp, Remove, Grow, Bad}
 use Rattle.lines.specs.declared.Natural.{Natural}
 use Rattle.lines.specs.declared.Natural.the-variants.{Of, Wrong}

@@ -8,7 +8,7 @@ use mathlib.Core.Path.{_≡_, refl, ap, _∙_}
 use borrow.Author.Tests.{lt-ltb, le-ltb}
 use lib.Dec.{ltb}
 use lib.ListN.{length, set, length-append}
-use Rattle.lines.specs.Replies.{digitsBy, digits, fieldBytes, Written}
+use Rattle.lines.specs.Replies.{digitsBy, digits, fieldBytes, TextAt}
 use Rattle.lines.proofs.Writing.{one-more}
 
 pub digits-small : (n : ℕ) → n < 10 → digits n ≡ (48 + n % 10) ∷ []
@@ -46,12 +46,12 @@ lone n h = ap length (digits-small n h)
 pub longer : (n : ℕ) → 10 ≤ n → n < 4294967296 → length (digits n) ≡ length (digits (n / 10)) + 1
 longer n h small = ap length (digits-more n h small) ∙ length-append (digits (n / 10)) ((48 + n % 10) ∷ [])
 
-pub one-digit : (at n : ℕ) (l : List ℕ) → n < 10 → Written at (digits n) l (set l at (48 + n)) (at + 1)
+pub one-digit : (at n : ℕ) (l : List ℕ) → n < 10 → TextAt at (digits n) l (set l at (48 + n)) (at + 1)
 one-digit at n l h = rw (digits-small n h, mod-eq-of-lt h) (record { buffer = refl; end = refl })
 
 pub digit-more :
-    (at n : ℕ) (l mid : List ℕ) (m : ℕ) → 10 ≤ n → n < 4294967296 → Written at (digits (n / 10)) l mid m →
-    Written at (digits n) l (set mid m (48 + n % 10)) (m + 1)
+    (at n : ℕ) (l mid : List ℕ) (m : ℕ) → 10 ≤ n → n < 4294967296 → TextAt at (digits (n / 10)) l mid m →
+    TextAt at (digits n) l (set mid m (48 + n % 10)) (m + 1)
 digit-more at n l mid m h small w = rw (digits-more n h small) (one-more at (digits (n / 10)) (48 + n % 10) l mid m w)
 
 pub length-field : (n last : ℕ) → length (fieldBytes n last) ≤ 11

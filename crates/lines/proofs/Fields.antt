@@ -9,7 +9,8 @@ use borrow.Author.Tests.{eq-eqb, ne-eqb}
 use lib.Dec.{eqb}
 use lib.ListN.{length, take, drop, getD, length-drop}
 use lib.Seq.{drop-cons, take-all}
-use Rattle.lines.specs.Grammar.{fields, inFirst, fieldLength}
+use Rattle.lines.specs.Grammar.{fields, inFirst}
+use Rattle.lines.specs.Shape.{fieldLength}
 
 pub field-within : (l : List ℕ) → fieldLength l ≤ length l
 unfolding fieldLength

@@ -9,7 +9,8 @@ use borrow.Author.Tests.{eqb-true}
 use lib.Dec.{eqb, leb, ltb}
 use lib.IntN.{pos, negℤ}
 use lib.ListN.{length, drop}
-use Rattle.lines.specs.Grammar.{fields, fieldLength, isDigit, allDigits, noBytes, isDecimal, isUpTo, naturalOf, declinationOf, value, numberFrom, numberWith, enterFrom, enterWith}
+use Rattle.lines.specs.Grammar.{fields, isDigit, allDigits, noBytes, isDecimal, isUpTo, naturalOf, declinationOf, value, numberFrom, numberWith, enterFrom, enterWith}
+use Rattle.lines.specs.Shape.{fieldLength}
 use Rattle.lines.specs.declared.Command.{Command}
 use Rattle.lines.specs.declared.Command.the-variants.{Bad}
 use Rattle.lines.specs.declared.Natural.{Natural}

@@ -6,7 +6,7 @@ use mathlib.Core.List.{List, [], _∷_, _++_}
 use mathlib.Core.Path.{_≡_, refl, _∙_}
 use lib.ListN.{length, take, getD, set, length-append}
 use lib.Seq.{sets, take-suc, length-take-le}
-use Rattle.lines.specs.Replies.{Written}
+use Rattle.lines.specs.Replies.{TextAt}
 
 pub sets-append : (l : List ℕ) (i : ℕ) (a b : List ℕ) → sets l i (a ++ b) ≡ sets (sets l i a) (i + length a) b
 sets-append l i [] b = rw add-zero
@@ -22,7 +22,7 @@ copied l at text i h =
 -- one text after another
 pub then :
     (at : ℕ) (a b : List ℕ) (before mid after : List ℕ) (m n : ℕ) →
-    Written at a before mid m → Written m b mid after n → Written at (a ++ b) before after n
+    TextAt at a before mid m → TextAt m b mid after n → TextAt at (a ++ b) before after n
 then at a b before mid after m n p q =
     record {
       buffer = q .buffer ∙ rw (p .buffer, p .end, sets-append before at a b);
@@ -31,6 +31,6 @@ then at a b before mid after m n p q =
 
 pub one-more :
     (at : ℕ) (a : List ℕ) (x : ℕ) (before mid : List ℕ) (m : ℕ) →
-    Written at a before mid m → Written at (a ++ (x ∷ [])) before (set mid m x) (m + 1)
+    TextAt at a before mid m → TextAt at (a ++ (x ∷ [])) before (set mid m x) (m + 1)
 one-more at a x before mid m p =
     then at a (x ∷ []) before mid (set mid m x) m (m + 1) p (record { buffer = refl; end = refl })

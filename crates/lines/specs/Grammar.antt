@@ -1,5 +1,5 @@
 -- What a line of starline's input means (document 01, "Host and program"). A line is the list of its bytes, without the newline that ends it.
-use Prim.Native.Nat.{ℕ, zero, suc, _+_, _-_, _*_}
+use Prim.Native.Nat.{ℕ, _+_, _-_, _*_}
 use mathlib.Core.Bool.{Bool, true, false, cond, _&&_}
 use mathlib.Core.List.{List, [], _∷_, _++_}
 use lib.Dec.{leb, ltb, eqb}
@@ -22,11 +22,6 @@ inFirst c (f ∷ fs) = (c ∷ f) ∷ fs
 unfoldable pub fields : List ℕ → List (List ℕ)
 fields [] = [] ∷ []
 fields (c ∷ l) = cond (eqb c 32) ([] ∷ fields l) (inFirst c (fields l))
-
--- how many bytes stand before the first blank
-unfoldable pub fieldLength : List ℕ → ℕ
-fieldLength [] = zero
-fieldLength (c ∷ l) = cond (eqb c 32) zero (suc (fieldLength l))
 
 -- `0` to `9`
 unfoldable pub isDigit : ℕ → Bool

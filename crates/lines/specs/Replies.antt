@@ -37,6 +37,6 @@ replyBytes (Refused refusal page) = (110 ∷ 111 ∷ 32 ∷ []) ++ (fieldBytes r
 replyBytes Malformed = 98 ∷ 97 ∷ 100 ∷ 10 ∷ []
 
 -- text stands in a buffer from place at on, the rest of the buffer is as before, and next is the place after the text
-pub record Written (at : ℕ) (text : List ℕ) (before after : List ℕ) (next : ℕ) : Type 0 where
+pub record TextAt (at : ℕ) (text : List ℕ) (before after : List ℕ) (next : ℕ) : Type 0 where
   pub buffer : after ≡ sets before at text
   pub end : next ≡ at + length text

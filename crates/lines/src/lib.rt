@@ -3,8 +3,9 @@ ghost use Prim.Native.Nat.{ℕ, _+_, _≤_};
 ghost use mathlib.Core.Path.{_≡_};
 ghost use mathlib.Core.List.{List, [], _∷_, _++_};
 ghost use lib.ListN.{length};
-ghost use Rattle.lines.specs.Grammar.{fields, fieldLength, commandOf, enterFrom, naturalOf, declinationOf, noBytes, kept, lineBytes};
-ghost use Rattle.lines.specs.Replies.{digits, signedDigits, fieldBytes, replyBytes, Written};
+ghost use Rattle.lines.specs.Grammar.{fields, commandOf, enterFrom, naturalOf, declinationOf, noBytes, kept, lineBytes};
+ghost use Rattle.lines.specs.Shape.{fieldLength};
+ghost use Rattle.lines.specs.Replies.{digits, signedDigits, fieldBytes, replyBytes, TextAt};
 
 pub enum Command {
     Enter { number: u32, ra: u32, dec: i32 },
@@ -225,7 +226,7 @@ pub fn parse_line(line: Line) -> Command
 // Writes the text of a reply at a place of a lent buffer, and answers the place after it.
 pub fn format(out: &mut [u8], at: usize, reply: Reply) -> usize
     requires { ⌜ at + 64 ≤ length (now out) ⌝ }
-    ensures { λ r. ⌜ Written at (replyBytes reply) (now (out .entry)) (now (out .exit)) r ⌝ }
+    ensures { λ r. ⌜ TextAt at (replyBytes reply) (now (out .entry)) (now (out .exit)) r ⌝ }
 {
     match reply {
         Reply::Accepted(page) => {
@@ -253,7 +254,7 @@ pub fn format(out: &mut [u8], at: usize, reply: Reply) -> usize
 
 pub fn put(out: &mut [u8], at: usize, text: &[u8]) -> usize
     requires { ⌜ at + length (now text) ≤ length (now out) ⌝ }
-    ensures { λ r. ⌜ Written at (now (text .entry)) (now (out .entry)) (now (out .exit)) r ⌝ }
+    ensures { λ r. ⌜ TextAt at (now (text .entry)) (now (out .entry)) (now (out .exit)) r ⌝ }
 {
     let mut i = 0;
     while i < text.len() {
@@ -265,7 +266,7 @@ pub fn put(out: &mut [u8], at: usize, text: &[u8]) -> usize
 
 fn put_digits(out: &mut [u8], at: usize, n: u32) -> usize
     requires { ⌜ at + length (digits n) ≤ length (now out) ⌝ }
-    ensures { λ r. ⌜ Written at (digits n) (now (out .entry)) (now (out .exit)) r ⌝ }
+    ensures { λ r. ⌜ TextAt at (digits n) (now (out .entry)) (now (out .exit)) r ⌝ }
 {
     if n < 10 {
         out[at] = 48 + n as u8;
@@ -279,7 +280,7 @@ fn put_digits(out: &mut [u8], at: usize, n: u32) -> usize
 // A number and the byte after it.
 pub fn put_field(out: &mut [u8], at: usize, n: u32, end: u8) -> usize
     requires { ⌜ at + 11 ≤ length (now out) ⌝ }
-    ensures { λ r. ⌜ Written at (fieldBytes n end) (now (out .entry)) (now (out .exit)) r ⌝ }
+    ensures { λ r. ⌜ TextAt at (fieldBytes n end) (now (out .entry)) (now (out .exit)) r ⌝ }
 {
     let next = put_digits(out, at, n);
     out[next] = end;
@@ -289,7 +290,7 @@ pub fn put_field(out: &mut [u8], at: usize, n: u32, end: u8) -> usize
 // A declination and the newline after it.
 pub fn put_declination(out: &mut [u8], at: usize, dec: i32) -> usize
     requires { ⌜ at + 12 ≤ length (now out) ⌝ }
-    ensures { λ r. ⌜ Written at (signedDigits dec ++ (10 ∷ [])) (now (out .entry)) (now (out .exit)) r ⌝ }
+    ensures { λ r. ⌜ TextAt at (signedDigits dec ++ (10 ∷ [])) (now (out .entry)) (now (out .exit)) r ⌝ }
 {
     if dec < 0 {
         out[at] = b'-';

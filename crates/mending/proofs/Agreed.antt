@@ -20,7 +20,7 @@ use Rattle.placement.proofs.Mixture.{Single}
 use Rattle.page_plan.specs.Sources.{namedItem, renamed}
 use Rattle.page_plan.specs.Plans.{starOf}
 use Rattle.calls.specs.Mend.{agrees, agreeing}
-use Rattle.duplicates.specs.Words.{keyOf, pairAgrees, leadsAgreed, neighboursAgree, firstsAfter}
+use Rattle.duplicates.specs.Words.{numberKey, pairAgrees, leadsAgreed, neighboursAgree, firstsAfter}
 
 -- the star that a word names
 abbrev pub named : List ℕ → List ℕ → ℕ → Star
@@ -47,34 +47,34 @@ rises-member b [] u x m = absurd (List·Memᴰ·not-nil m)
 rises-member b (y ∷ l) u x m =
     ⊎-elim (λ (e : x ≡ y). omega (arith, e, rises-head b y l u)) (λ (n : List·Memᴰ x l). omega (arith, rises-head b y l u, rises-member y l (rises-tail b y l u) x n)) (List·Memᴰ·cases-cons m)
 
-key-between : (x z y : ℕ) → x ≤ z → z ≤ y → keyOf x ≡ keyOf y → keyOf x ≡ keyOf z
-unfolding keyOf
+key-between : (x z y : ℕ) → x ≤ z → z ≤ y → numberKey x ≡ numberKey y → numberKey x ≡ numberKey z
+unfolding numberKey
 key-between x z y a b k = omega (arith, k)
 
-pub key-of-both : (x y : ℕ) → keyOf x < keyOf y → homeOf x ≡ homeOf y → numberIn x ≡ numberIn y → ⊥
-unfolding keyOf homeOf numberIn
+pub key-of-both : (x y : ℕ) → numberKey x < numberKey y → homeOf x ≡ homeOf y → numberIn x ≡ numberIn y → ⊥
+unfolding numberKey homeOf numberIn
 key-of-both x y h a b = omega arith
 
-pub key-from : (x y : ℕ) → homeOf x ≡ homeOf y → numberIn x ≡ numberIn y → keyOf x ≡ keyOf y
-unfolding keyOf homeOf numberIn
+pub key-from : (x y : ℕ) → homeOf x ≡ homeOf y → numberIn x ≡ numberIn y → numberKey x ≡ numberKey y
+unfolding numberKey homeOf numberIn
 key-from x y a b = omega arith
 
-pub number-from : (x y : ℕ) → keyOf x ≡ keyOf y → numberIn x ≡ numberIn y
-unfolding keyOf numberIn
+pub number-from : (x y : ℕ) → numberKey x ≡ numberKey y → numberIn x ≡ numberIn y
+unfolding numberKey numberIn
 number-from x y k = ap (λ (z : ℕ). z % 2 ^ 31) k
 
-pub number-zero : (x : ℕ) → keyOf x ≡ 0 → numberIn x ≡ 0
-unfolding keyOf numberIn
+pub number-zero : (x : ℕ) → numberKey x ≡ 0 → numberIn x ≡ 0
+unfolding numberKey numberIn
 number-zero x k = ap (λ (z : ℕ). z % 2 ^ 31) k
 
-pub key-mono : (x y : ℕ) → x ≤ y → keyOf x ≤ keyOf y
-unfolding keyOf
+pub key-mono : (x y : ℕ) → x ≤ y → numberKey x ≤ numberKey y
+unfolding numberKey
 key-mono x y h = omega arith
 
 module _ (ws os : List ℕ) where
   -- two words of one key that agree
-  pair-same : (x y : ℕ) → pairAgrees ws os x y ≡ true → keyOf x ≡ keyOf y → named ws os x ≡ named ws os y
-  unfolding pairAgrees keyOf
+  pair-same : (x y : ℕ) → pairAgrees ws os x y ≡ true → numberKey x ≡ numberKey y → named ws os x ≡ named ws os y
+  unfolding pairAgrees numberKey
   pair-same x y e k =
       let t = and-true (eqb (namedItem ws 0 (sourceOf x)) (namedItem ws 0 (sourceOf y))) (eqb (namedItem os 0 (sourceOf x)) (namedItem os 0 (sourceOf y)))
       (rw (eq-eqb (x / 2 ^ 16) (y / 2 ^ 16) k) at e) in
@@ -83,23 +83,23 @@ module _ (ws os : List ℕ) where
       ∙ rw (n, eqb-true (namedItem ws 0 (sourceOf x)) (namedItem ws 0 (sourceOf y)) (t .0), eqb-true (namedItem os 0 (sourceOf x)) (namedItem os 0 (sourceOf y)) (t .1))
       (sym (named-is ws os y))
 
-  same-pair : (x y : ℕ) → (keyOf x ≡ keyOf y → named ws os x ≡ named ws os y) → pairAgrees ws os x y ≡ true
+  same-pair : (x y : ℕ) → (numberKey x ≡ numberKey y → named ws os x ≡ named ws os y) → pairAgrees ws os x y ≡ true
   unfolding pairAgrees
-  same-pair x y h = go (ℕ-discrete (keyOf x) (keyOf y))
+  same-pair x y h = go (ℕ-discrete (numberKey x) (numberKey y))
     where
-      go : Dec (keyOf x ≡ keyOf y)
-          → not (eqb (keyOf x) (keyOf y)) || (eqb (namedItem ws 0 (sourceOf x)) (namedItem ws 0 (sourceOf y)) && eqb (namedItem os 0 (sourceOf x)) (namedItem os 0 (sourceOf y))) ≡ true
+      go : Dec (numberKey x ≡ numberKey y)
+          → not (eqb (numberKey x) (numberKey y)) || (eqb (namedItem ws 0 (sourceOf x)) (namedItem ws 0 (sourceOf y)) && eqb (namedItem os 0 (sourceOf x)) (namedItem os 0 (sourceOf y))) ≡ true
       go (yes d) =
           let s = sym (named-is ws os x) ∙ h d ∙ named-is ws os y in
           rw (
-            eq-eqb (keyOf x) (keyOf y) d,
+            eq-eqb (numberKey x) (numberKey y) d,
             eq-eqb (namedItem ws 0 (sourceOf x)) (namedItem ws 0 (sourceOf y)) (ap (λ (z : Star). z .payload .word) s),
             eq-eqb (namedItem os 0 (sourceOf x)) (namedItem os 0 (sourceOf y)) (ap (λ (z : Star). z .payload .owner) s),
           )
-      go (no d) = rw (ne-eqb (keyOf x) (keyOf y) d)
+      go (no d) = rw (ne-eqb (numberKey x) (numberKey y) d)
 
   -- in order, the words of one key stand side by side
-  lead-same : (x : ℕ) (l : List ℕ) → rises x l ≡ true → leadsAgreed ws os x l ≡ true → (y : ℕ) → List·Memᴰ y l → keyOf x ≡ keyOf y → named ws os x ≡ named ws os y
+  lead-same : (x : ℕ) (l : List ℕ) → rises x l ≡ true → leadsAgreed ws os x l ≡ true → (y : ℕ) → List·Memᴰ y l → numberKey x ≡ numberKey y → named ws os x ≡ named ws os y
   unfolding leadsAgreed
   lead-same x [] u a y m k = absurd (List·Memᴰ·not-nil m)
   lead-same x (z ∷ l) u a y m k = go (List·Memᴰ·cases-cons m) (lead-same z l (rises-tail x z l u) (t .1) y)
@@ -107,16 +107,16 @@ module _ (ws os : List ℕ) where
       t : (pairAgrees ws os x z ≡ true) × (leadsAgreed ws os z l ≡ true)
       t = and-true (pairAgrees ws os x z) (leadsAgreed ws os z l) a
 
-      between : z ≤ y → keyOf x ≡ keyOf z
+      between : z ≤ y → numberKey x ≡ numberKey z
       between h = key-between x z y (rises-head x z l u) h k
 
-      go : (y ≡ z) ⊎ List·Memᴰ y l → (List·Memᴰ y l → keyOf z ≡ keyOf y → named ws os z ≡ named ws os y) → named ws os x ≡ named ws os y
+      go : (y ≡ z) ⊎ List·Memᴰ y l → (List·Memᴰ y l → numberKey z ≡ numberKey y → named ws os z ≡ named ws os y) → named ws os x ≡ named ws os y
       go (inl e) ih = rw e (pair-same x z (t .0) (rw e at k))
       go (inr n) ih =
-          let b : keyOf x ≡ keyOf z = between (rises-member z l (rises-tail x z l u) y n) in
+          let b : numberKey x ≡ numberKey z = between (rises-member z l (rises-tail x z l u) y n) in
           pair-same x z (t .0) b ∙ ih n (sym b ∙ k)
 
-  pub agreed-same : (b : ℕ) (l : List ℕ) → rises b l ≡ true → neighboursAgree ws os l ≡ true → (x y : ℕ) → List·Memᴰ x l → List·Memᴰ y l → keyOf x ≡ keyOf y → named ws os x ≡ named ws os y
+  pub agreed-same : (b : ℕ) (l : List ℕ) → rises b l ≡ true → neighboursAgree ws os l ≡ true → (x y : ℕ) → List·Memᴰ x l → List·Memᴰ y l → numberKey x ≡ numberKey y → named ws os x ≡ named ws os y
   unfolding neighboursAgree
   agreed-same b [] u a x y m n k = absurd (List·Memᴰ·not-nil m)
   agreed-same b (z ∷ l) u a x y m n k = go (List·Memᴰ·cases-cons m) (List·Memᴰ·cases-cons n) (rest l a) (agreed-same z l (rises-tail b z l u))
@@ -126,13 +126,13 @@ module _ (ws os : List ℕ) where
       rest (v ∷ r) e = and-true (pairAgrees ws os z v) (leadsAgreed ws os v r) (unfold leadsAgreed in e) .1
 
       go : (x ≡ z) ⊎ List·Memᴰ x l → (y ≡ z) ⊎ List·Memᴰ y l → neighboursAgree ws os l ≡ true
-          → (neighboursAgree ws os l ≡ true → (v w : ℕ) → List·Memᴰ v l → List·Memᴰ w l → keyOf v ≡ keyOf w → named ws os v ≡ named ws os w) → named ws os x ≡ named ws os y
+          → (neighboursAgree ws os l ≡ true → (v w : ℕ) → List·Memᴰ v l → List·Memᴰ w l → numberKey v ≡ numberKey w → named ws os v ≡ named ws os w) → named ws os x ≡ named ws os y
       go (inl e) (inl d) r ih = ap (named ws os) (e ∙ sym d)
-      go (inl e) (inr d) r ih = ap (named ws os) e ∙ lead-same z l (rises-tail b z l u) a y d (sym (ap keyOf e) ∙ k)
-      go (inr e) (inl d) r ih = sym (ap (named ws os) d ∙ lead-same z l (rises-tail b z l u) a x e (sym (ap keyOf d) ∙ sym k))
+      go (inl e) (inr d) r ih = ap (named ws os) e ∙ lead-same z l (rises-tail b z l u) a y d (sym (ap numberKey e) ∙ k)
+      go (inr e) (inl d) r ih = sym (ap (named ws os) d ∙ lead-same z l (rises-tail b z l u) a x e (sym (ap numberKey d) ∙ sym k))
       go (inr e) (inr d) r ih = ih r x y e d k
 
-  pub same-agreed : (l : List ℕ) → ((x y : ℕ) → List·Memᴰ x l → List·Memᴰ y l → keyOf x ≡ keyOf y → named ws os x ≡ named ws os y) → neighboursAgree ws os l ≡ true
+  pub same-agreed : (l : List ℕ) → ((x y : ℕ) → List·Memᴰ x l → List·Memᴰ y l → numberKey x ≡ numberKey y → named ws os x ≡ named ws os y) → neighboursAgree ws os l ≡ true
   unfolding neighboursAgree leadsAgreed
   same-agreed [] h = refl
   same-agreed (x ∷ []) h = refl
@@ -167,11 +167,11 @@ agreeing-single (x ∷ w) e s t m n k = go (List·Memᴰ·cases-cons m) (List·M
 pub firsts-member : (k : ℕ) (l : List ℕ) (x : ℕ) → List·Memᴰ x (firstsAfter k l) → List·Memᴰ x l
 unfolding firstsAfter
 firsts-member k [] x m = m
-firsts-member k (y ∷ l) x m = go (eqb (keyOf y) k) m (λ j. firsts-member j l x)
+firsts-member k (y ∷ l) x m = go (eqb (numberKey y) k) m (λ j. firsts-member j l x)
   where
-    go : (t : Bool) → List·Memᴰ x (cond t (firstsAfter k l) (y ∷ firstsAfter (keyOf y) l)) → ((j : ℕ) → List·Memᴰ x (firstsAfter j l) → List·Memᴰ x l) → List·Memᴰ x (y ∷ l)
+    go : (t : Bool) → List·Memᴰ x (cond t (firstsAfter k l) (y ∷ firstsAfter (numberKey y) l)) → ((j : ℕ) → List·Memᴰ x (firstsAfter j l) → List·Memᴰ x l) → List·Memᴰ x (y ∷ l)
     go true n ih = List·Memᴰ·tail (ih k n)
-    go false n ih = ⊎-elim (λ (e : x ≡ y). List·Memᴰ·head e) (λ (j : List·Memᴰ x (firstsAfter (keyOf y) l)). List·Memᴰ·tail (ih (keyOf y) j)) (List·Memᴰ·cases-cons n)
+    go false n ih = ⊎-elim (λ (e : x ≡ y). List·Memᴰ·head e) (λ (j : List·Memᴰ x (firstsAfter (numberKey y) l)). List·Memᴰ·tail (ih (numberKey y) j)) (List·Memᴰ·cases-cons n)
 
 pub firsts-all : (q : ℕ → Bool) (k : ℕ) (l : List ℕ) → all q l ≡ true → all q (firstsAfter k l) ≡ true
 firsts-all q k l e = member-all q (firstsAfter k l) (λ x m. all-member q l e x (firsts-member k l x m))
@@ -179,22 +179,22 @@ firsts-all q k l e = member-all q (firstsAfter k l) (λ x m. all-member q l e x 
 pub record Kept (k : ℕ) (l : List ℕ) (x : ℕ) : Type 0 where
   pub word : ℕ
   pub there : List·Memᴰ word (firstsAfter k l)
-  pub same : keyOf word ≡ keyOf x
+  pub same : numberKey word ≡ numberKey x
 
-pub firsts-cover : (k : ℕ) (l : List ℕ) (x : ℕ) → List·Memᴰ x l → (keyOf x ≡ k) ⊎ Kept k l x
+pub firsts-cover : (k : ℕ) (l : List ℕ) (x : ℕ) → List·Memᴰ x l → (numberKey x ≡ k) ⊎ Kept k l x
 unfolding firstsAfter
 firsts-cover k [] x m = absurd (List·Memᴰ·not-nil m)
-firsts-cover k (y ∷ l) x m = go (ℕ-discrete (keyOf y) k) (List·Memᴰ·cases-cons m) (λ j. firsts-cover j l x)
+firsts-cover k (y ∷ l) x m = go (ℕ-discrete (numberKey y) k) (List·Memᴰ·cases-cons m) (λ j. firsts-cover j l x)
   where
-    go : Dec (keyOf y ≡ k) → (x ≡ y) ⊎ List·Memᴰ x l → ((j : ℕ) → List·Memᴰ x l → (keyOf x ≡ j) ⊎ Kept j l x) → (keyOf x ≡ k) ⊎ Kept k (y ∷ l) x
-    go (yes d) (inl e) ih = inl (ap keyOf e ∙ d)
+    go : Dec (numberKey y ≡ k) → (x ≡ y) ⊎ List·Memᴰ x l → ((j : ℕ) → List·Memᴰ x l → (numberKey x ≡ j) ⊎ Kept j l x) → (numberKey x ≡ k) ⊎ Kept k (y ∷ l) x
+    go (yes d) (inl e) ih = inl (ap numberKey e ∙ d)
     go (yes d) (inr n) ih =
-        ⊎-elim (λ (e : keyOf x ≡ k). inl e) (λ (w : Kept k l x). inr (record { word = w .word; there = rw (eq-eqb (keyOf y) k d) (w .there); same = w .same })) (ih k n)
-    go (no d) (inl e) ih = inr (record { word = y; there = rw (ne-eqb (keyOf y) k d) (List·Memᴰ·head refl); same = ap keyOf (sym e) })
+        ⊎-elim (λ (e : numberKey x ≡ k). inl e) (λ (w : Kept k l x). inr (record { word = w .word; there = rw (eq-eqb (numberKey y) k d) (w .there); same = w .same })) (ih k n)
+    go (no d) (inl e) ih = inr (record { word = y; there = rw (ne-eqb (numberKey y) k d) (List·Memᴰ·head refl); same = ap numberKey (sym e) })
     go (no d) (inr n) ih =
-        ⊎-elim (λ (e : keyOf x ≡ keyOf y). inr (record { word = y; there = rw (ne-eqb (keyOf y) k d) (List·Memᴰ·head refl); same = sym e }))
-        (λ (w : Kept (keyOf y) l x). inr (record { word = w .word; there = rw (ne-eqb (keyOf y) k d) (List·Memᴰ·tail (w .there)); same = w .same }))
-        (ih (keyOf y) n)
+        ⊎-elim (λ (e : numberKey x ≡ numberKey y). inr (record { word = y; there = rw (ne-eqb (numberKey y) k d) (List·Memᴰ·head refl); same = sym e }))
+        (λ (w : Kept (numberKey y) l x). inr (record { word = w .word; there = rw (ne-eqb (numberKey y) k d) (List·Memᴰ·tail (w .there)); same = w .same }))
+        (ih (numberKey y) n)
 
 rises-later : (a b : ℕ) (l : List ℕ) → a ≤ b → rises b l ≡ true → rises a l ≡ true
 rises-later a b [] h u = unfold rises in refl
@@ -203,23 +203,23 @@ rises-later a b (x ∷ l) h u = Rattle.page_plan.proofs.Order.rises-cons a x l 
 pub firsts-rise : (b k : ℕ) (l : List ℕ) → rises b l ≡ true → rises b (firstsAfter k l) ≡ true
 unfolding firstsAfter
 firsts-rise b k [] u = u
-firsts-rise b k (y ∷ l) u = go (eqb (keyOf y) k) (λ j. firsts-rise y j l (rises-tail b y l u))
+firsts-rise b k (y ∷ l) u = go (eqb (numberKey y) k) (λ j. firsts-rise y j l (rises-tail b y l u))
   where
-    go : (t : Bool) → ((j : ℕ) → rises y (firstsAfter j l) ≡ true) → rises b (cond t (firstsAfter k l) (y ∷ firstsAfter (keyOf y) l)) ≡ true
+    go : (t : Bool) → ((j : ℕ) → rises y (firstsAfter j l) ≡ true) → rises b (cond t (firstsAfter k l) (y ∷ firstsAfter (numberKey y) l)) ≡ true
     go true ih = rises-later b y (firstsAfter k l) (rises-head b y l u) (ih k)
-    go false ih = Rattle.page_plan.proofs.Order.rises-cons b y (firstsAfter (keyOf y) l) (rises-head b y l u) (ih (keyOf y))
+    go false ih = Rattle.page_plan.proofs.Order.rises-cons b y (firstsAfter (numberKey y) l) (rises-head b y l u) (ih (numberKey y))
 
 -- the keys of those that stay rise strictly
-pub firsts-above : (k y : ℕ) (l : List ℕ) → rises y l ≡ true → k ≤ keyOf y → (x : ℕ) → List·Memᴰ x (firstsAfter k l) → k < keyOf x
+pub firsts-above : (k y : ℕ) (l : List ℕ) → rises y l ≡ true → k ≤ numberKey y → (x : ℕ) → List·Memᴰ x (firstsAfter k l) → k < numberKey x
 unfolding firstsAfter
 firsts-above k y [] u h x m = absurd (List·Memᴰ·not-nil m)
-firsts-above k y (z ∷ l) u h x m = go (ℕ-discrete (keyOf z) k) m (firsts-above k z l (rises-tail y z l u) up x) (firsts-above (keyOf z) z l (rises-tail y z l u) (omega arith) x)
+firsts-above k y (z ∷ l) u h x m = go (ℕ-discrete (numberKey z) k) m (firsts-above k z l (rises-tail y z l u) up x) (firsts-above (numberKey z) z l (rises-tail y z l u) (omega arith) x)
   where
-    up : k ≤ keyOf z
+    up : k ≤ numberKey z
     up = omega (arith, h, key-mono y z (rises-head y z l u))
 
-    go : Dec (keyOf z ≡ k) → List·Memᴰ x (cond (eqb (keyOf z) k) (firstsAfter k l) (z ∷ firstsAfter (keyOf z) l))
-        → (List·Memᴰ x (firstsAfter k l) → k < keyOf x) → (List·Memᴰ x (firstsAfter (keyOf z) l) → keyOf z < keyOf x) → k < keyOf x
-    go (yes d) n same later = same (rw (eq-eqb (keyOf z) k d) at n)
+    go : Dec (numberKey z ≡ k) → List·Memᴰ x (cond (eqb (numberKey z) k) (firstsAfter k l) (z ∷ firstsAfter (numberKey z) l))
+        → (List·Memᴰ x (firstsAfter k l) → k < numberKey x) → (List·Memᴰ x (firstsAfter (numberKey z) l) → numberKey z < numberKey x) → k < numberKey x
+    go (yes d) n same later = same (rw (eq-eqb (numberKey z) k d) at n)
     go (no d) n same later =
-        ⊎-elim (λ (e : x ≡ z). omega (arith, ap keyOf e, up, d)) (λ (j : List·Memᴰ x (firstsAfter (keyOf z) l)). omega (arith, later j, up)) (List·Memᴰ·cases-cons (rw (ne-eqb (keyOf z) k d) at n))
+        ⊎-elim (λ (e : x ≡ z). omega (arith, ap numberKey e, up, d)) (λ (j : List·Memᴰ x (firstsAfter (numberKey z) l)). omega (arith, later j, up)) (List·Memᴰ·cases-cons (rw (ne-eqb (numberKey z) k d) at n))

@@ -9,7 +9,7 @@ use native.Mathlib.Nat.{zero-mul}
 use lib.Dec.{eqb, ltb}
 use lib.ListN.{length}
 use borrow.Author.Tests.{eq-eqb, ne-eqb, eqb-true, eqb-false, not-true, ltb-true}
-use Rattle.pages.specs.Page.{stretch}
+use Rattle.pages.specs.Shape.{stretch}
 use Rattle.hashing.specs.declared.Parameters.{Parameters}
 use Rattle.page_separator.specs.Lists.{selected, rises, all}
 use Rattle.page_separator.specs.Words.{homeOf, numberIn, sourceOf, lowOf}
@@ -31,7 +31,7 @@ use Rattle.page_plan.proofs.Placed.{Gatherable, stretch-homed, stretch-grouped,
 use Rattle.sorting.proofs.Joining.{rises-ordered, all-ordered, member-ordered, ordered-member}
 use Rattle.calls.specs.Mend.{agreeing}
 use Rattle.calls.proofs.Mending.{single-agreeing}
-use Rattle.duplicates.specs.Words.{keyOf, neighboursAgree, firstsAfter}
+use Rattle.duplicates.specs.Words.{numberKey, neighboursAgree, firstsAfter}
 use Rattle.mending.specs.Collect.{fileWords}
 use Rattle.mending.proofs.Agreed.{named, named-is, all-member, member-all, agreed-same, same-agreed, agreeing-single, firsts-member, firsts-all, firsts-cover, Kept, firsts-above}
 
@@ -137,25 +137,25 @@ apart-distinct ws os (x ∷ l) a = (
 )
 
 -- words of rising keys, whose homes are their numbers'
-firsts-apart : (H : Hash) (k y : ℕ) (l : List ℕ) → rises y l ≡ true → k ≤ keyOf y → ((x : ℕ) → List·Memᴰ x l → H .home (numberIn x) ≡ homeOf x) → Apart (firstsAfter k l)
+firsts-apart : (H : Hash) (k y : ℕ) (l : List ℕ) → rises y l ≡ true → k ≤ numberKey y → ((x : ℕ) → List·Memᴰ x l → H .home (numberIn x) ≡ homeOf x) → Apart (firstsAfter k l)
 unfolding firstsAfter
 firsts-apart H k y [] u h e = tt
 firsts-apart H k y (z ∷ l) u h e =
-    go (eqb (keyOf z) k) (firsts-apart H k z l (Rattle.page_plan.proofs.Order.rises-tail y z l u) up (λ x m. e x (List·Memᴰ·tail m)))
-    (firsts-apart H (keyOf z) z l (Rattle.page_plan.proofs.Order.rises-tail y z l u) (omega arith) (λ x m. e x (List·Memᴰ·tail m)))
+    go (eqb (numberKey z) k) (firsts-apart H k z l (Rattle.page_plan.proofs.Order.rises-tail y z l u) up (λ x m. e x (List·Memᴰ·tail m)))
+    (firsts-apart H (numberKey z) z l (Rattle.page_plan.proofs.Order.rises-tail y z l u) (omega arith) (λ x m. e x (List·Memᴰ·tail m)))
   where
-    up : k ≤ keyOf z
+    up : k ≤ numberKey z
     up = omega (arith, h, Rattle.mending.proofs.Agreed.key-mono y z (Rattle.page_plan.proofs.Order.rises-head y z l u))
 
-    other : (x : ℕ) → List·Memᴰ x (firstsAfter (keyOf z) l) → numberIn x ≡ numberIn z → ⊥
+    other : (x : ℕ) → List·Memᴰ x (firstsAfter (numberKey z) l) → numberIn x ≡ numberIn z → ⊥
     other x m d =
-        key-apart z x (firsts-above (keyOf z) z l (Rattle.page_plan.proofs.Order.rises-tail y z l u) (omega arith) x m)
-        (sym (e z (List·Memᴰ·head refl)) ∙ ap (H .home) (sym d) ∙ e x (List·Memᴰ·tail (firsts-member (keyOf z) l x m))) (sym d)
+        key-apart z x (firsts-above (numberKey z) z l (Rattle.page_plan.proofs.Order.rises-tail y z l u) (omega arith) x m)
+        (sym (e z (List·Memᴰ·head refl)) ∙ ap (H .home) (sym d) ∙ e x (List·Memᴰ·tail (firsts-member (numberKey z) l x m))) (sym d)
       where
-        key-apart : (a b : ℕ) → keyOf a < keyOf b → homeOf a ≡ homeOf b → numberIn a ≡ numberIn b → ⊥
+        key-apart : (a b : ℕ) → numberKey a < numberKey b → homeOf a ≡ homeOf b → numberIn a ≡ numberIn b → ⊥
         key-apart a b h₁ h₂ h₃ = Rattle.mending.proofs.Agreed.key-of-both a b h₁ h₂ h₃
 
-    go : (t : Bool) → Apart (firstsAfter k l) → Apart (firstsAfter (keyOf z) l) → Apart (cond t (firstsAfter k l) (z ∷ firstsAfter (keyOf z) l))
+    go : (t : Bool) → Apart (firstsAfter k l) → Apart (firstsAfter (numberKey z) l) → Apart (cond t (firstsAfter k l) (z ∷ firstsAfter (numberKey z) l))
     go true a b = a
     go false a b = (other, b)
 
@@ -238,7 +238,7 @@ module _ (H : Hash) (q : Parameters) (real : Probes H q) (f : File) (hs : List �
   of-star : (x : ℕ) → List·Memᴰ x S → List·Memᴰ (star x) stars
   of-star x m = rw stars-poured at (poured (map star L) [] (star x) (member-map star L x (word-in x m)))
 
-  same-key : (x y : ℕ) → List·Memᴰ x S → List·Memᴰ y S → numberIn x ≡ numberIn y → keyOf x ≡ keyOf y
+  same-key : (x y : ℕ) → List·Memᴰ x S → List·Memᴰ y S → numberIn x ≡ numberIn y → numberKey x ≡ numberKey y
   same-key x y m n e = Rattle.mending.proofs.Agreed.key-from x y (sym (home-is x m) ∙ ap (H .home) e ∙ home-is y n) e
 
   single-if : neighboursAgree (f .words) (f .owners) S ≡ true → Single stars

@@ -11,15 +11,17 @@ use lib.Seq.{length-take-le, getD-take, getD-drop, take-all, paste}
 use borrow.Author.Tests.{ne-eqb, lt-ltb, ltb-true}
 use Rattle.buffers.proofs.Lists.{map-take, map-drop}
 use Rattle.buffers.proofs.Written.{written-whole, paste-written, pasted-whole}
-use Rattle.pages.specs.Page.{stretch}
+use Rattle.pages.specs.Shape.{stretch}
 use Rattle.hashing.specs.declared.Parameters.{Parameters}
 use Rattle.hashing.specs.declared.Growth.{Growth}
 use Rattle.hashing.specs.Limits.{validParameters}
 use Rattle.hashing.proofs.Bounds.{limits, growth-within, spread}
 use Rattle.placement.specs.Rule.{Star, Hash, Contents, pages, left, separators}
-use Rattle.placement.specs.File.{File, Sized, replaced, laid, fileOf, column}
+use Rattle.placement.specs.File.{File, replaced, laid, fileOf, column}
+use Rattle.placement.specs.Shape.{Sized}
 use Rattle.placement.specs.Distinct.{distinct}
-use Rattle.placement.specs.Hash.{hashOf, homeIn, homesOf, lent}
+use Rattle.placement.specs.Hash.{hashOf, lent}
+use Rattle.placement.specs.Shape.{homeIn, homesOf}
 use Rattle.plan_transfer.specs.Sources.{namedItem}
 use Rattle.placement.proofs.Composition.{length-pages}
 use Rattle.placement.proofs.Standing.{length-separators}
@@ -42,9 +44,10 @@ use Rattle.page_plan.proofs.Sourcing.{itemHome, length-stretch}
 use Rattle.page_plan.proofs.Placed.{Gatherable, probes-real, homes-real, planned-pages, layout, applied-layout, left-count}
 use Rattle.removal_reach.proofs.Items.{all-below, ready-stretch}
 use Rattle.sorting.specs.Order.{ordered}
-use Rattle.calls.specs.Answers.{Pool, Stores, placed, refusedBy, accepted, refused}
+use Rattle.calls.specs.Answers.{Pool, placed, refusedBy, accepted, refused}
+use Rattle.calls.specs.Shape.{Stores}
 use Rattle.calls.specs.Calls.{unchanged}
-use Rattle.calls.specs.Lent.{Admitted}
+use Rattle.calls.specs.Shape.{Admitted}
 use Rattle.calls.specs.Mend.{validItems, agreeing, mendable, mendOn}
 use Rattle.calls.specs.declared.answers.Placed.the-variants.{On, Refused}
 use Rattle.calls.specs.declared.answers.Refusal.the-variants.{BadContents, Full}

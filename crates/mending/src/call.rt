@@ -1,9 +1,11 @@
 // The call, its refusals in the documents' order: 1, 2, 16, 15, 8.
 ghost use Rattle.placement.specs.Lent.{held, before, after};
 ghost use Rattle.placement.specs.Ready.{Pooled};
-ghost use Rattle.calls.specs.Answers.{Leaves, Stores, cleared, placed};
+ghost use Rattle.calls.specs.Answers.{Leaves, cleared, placed};
+ghost use Rattle.calls.specs.Shape.{Stores};
 ghost use Rattle.calls.specs.Mend.{mendOn, mendOf, mendUnder};
-ghost use Rattle.calls.specs.Lent.{Admitted, poolBefore, poolAfter};
+ghost use Rattle.calls.specs.Lent.{poolBefore, poolAfter};
+ghost use Rattle.calls.specs.Shape.{Admitted};
 use crate::collection::collect;
 use crate::contents::items_valid;
 use crate::item_homes::find_homes;

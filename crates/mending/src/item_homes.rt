@@ -2,7 +2,7 @@
 ghost use mathlib.Core.Path.{_≡_};
 ghost use Prim.Native.Nat.{_≤_};
 ghost use lib.ListN.{length};
-ghost use Rattle.placement.specs.Hash.{homesOf};
+ghost use Rattle.placement.specs.Shape.{homesOf};
 ghost use Rattle.placement.specs.Ready.{Homing};
 use hashing::Geometry;
 

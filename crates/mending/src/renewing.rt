@@ -5,7 +5,7 @@ ghost use mathlib.Core.List.{map};
 ghost use Prim.Native.Nat.{_≤_};
 ghost use lib.ListN.{length, take};
 ghost use Rattle.hashing.specs.Limits.{validParameters};
-ghost use Rattle.placement.specs.File.{Sized};
+ghost use Rattle.placement.specs.Shape.{Sized};
 ghost use Rattle.placement.specs.Hash.{lent};
 ghost use Rattle.placement.specs.Lent.{held, before, after};
 ghost use Rattle.plan_transfer.specs.Sources.{namedItem};

@@ -13,15 +13,18 @@ use Rattle.hashing.specs.declared.Parameters.{Parameters}
 use Rattle.hashing.specs.declared.Growth.{Growth}
 use Rattle.hashing.specs.Geometry.{multiplierOf}
 use Rattle.hashing.specs.Home.{home}
-use Rattle.pages.specs.Page.{part, filled, placeOf, placeIn, pageAt}
+use Rattle.pages.specs.Page.{part, placeOf}
+use Rattle.pages.specs.Shape.{filled, placeIn, pageAt}
 use Rattle.pages.specs.Position.{validWord, validNumber}
 use Rattle.pages.specs.declared.page.Page.{Page}
 use Rattle.pages.specs.declared.page.Place.{Place}
 use Rattle.pages.proofs.Parts.{page-fits, take-filled, part-length, part-item, filled-item}
 use Rattle.pages.proofs.Places.{place-le, held-there}
 use Rattle.placement.specs.Rule.{starWith}
-use Rattle.placement.specs.File.{File, Sized, starsAt}
-use Rattle.placement.specs.Hash.{hashOf, soundAt, namedPage, homesOf}
+use Rattle.placement.specs.File.{File, starsAt}
+use Rattle.placement.specs.Shape.{Sized}
+use Rattle.placement.specs.Hash.{hashOf, soundAt, namedPage}
+use Rattle.placement.specs.Shape.{homesOf}
 use Rattle.soundness.proofs.Items.{paste-front}
 use Rattle.placement.proofs.Standing.{first-le}
 use Rattle.placement.proofs.Search.{held-star}

@@ -11,7 +11,7 @@ use Rattle.hashing.specs.Home.{home}
 use Rattle.pages.specs.Page.{part}
 use Rattle.pages.specs.Position.{validWord}
 use Rattle.placement.specs.File.{File}
-use Rattle.placement.specs.Hash.{homesOf}
+use Rattle.placement.specs.Shape.{homesOf}
 use Rattle.calls.specs.Calls.{named, readable, holds, placeFor, itemOf, ownerFor}
 use Rattle.named_page.specs.declared.finding.Named.{Named}
 

@@ -7,7 +7,8 @@ use lib.ListN.{length, replicate}
 use Rattle.placement.specs.Rule.{left}
 use Rattle.placement.specs.File.{File}
 use Rattle.calls.specs.declared.answers.Answer.{Answer}
-use Rattle.calls.specs.Answers.{After, Pool, Leaves, Stores, pooled, cleared, zeros}
+use Rattle.calls.specs.Answers.{After, Pool, Leaves, pooled, cleared, zeros}
+use Rattle.calls.specs.Shape.{Stores}
 
 -- zeros of the lengths that the pool had
 pub cleared-is : (ns ws os ns′ ws′ os′ : List ℕ) (n m l : ℕ) → ns′ ≡ replicate n 0 → ws′ ≡ replicate m 0 → os′ ≡ replicate l 0

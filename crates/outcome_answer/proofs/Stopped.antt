@@ -5,8 +5,9 @@ use Prim.Native.Nat.{ℕ, _≤_}
 use Rattle.hashing.specs.declared.Parameters.{Parameters}
 use Rattle.placement.specs.File.{File}
 use Rattle.calls.specs.declared.answers.Answer.{Answer}
-use Rattle.calls.specs.Answers.{Pool, After, Leaves, Stores}
-use Rattle.calls.specs.Stores.{stoppedFile, stopped}
+use Rattle.calls.specs.Answers.{Pool, After, Leaves}
+use Rattle.calls.specs.Shape.{Stores}
+use Rattle.calls.specs.Shape.{stoppedFile, stopped}
 use Rattle.calls.proofs.Stored.{none-stored, whole-stopped}
 
 module _ (lowest : Bool) (p : Parameters) (n : ℕ) where

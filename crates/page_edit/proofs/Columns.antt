@@ -9,7 +9,7 @@ use Rattle.placement.specs.Rule.{Star}
 use Rattle.buffers.specs.Lists.{padded, written}
 use Rattle.buffers.proofs.Written.{around}
 use Rattle.buffers.proofs.Lists.{length-padded}
-use Rattle.page_edit.specs.Shift.{openedAt, closed}
+use Rattle.page_edit.specs.Shift.{openedAt, closedUp}
 use Rattle.page_edit.proofs.Moving.{opened-is, closed-is}
 
 module _ (g : Star → ℕ) (s : Star) (front back : List Star) (places : ℕ) (room : length front + length back < places) where
@@ -82,9 +82,9 @@ module _ (g : Star → ℕ) (s : Star) (front back : List Star) (places : ℕ) (
         (length-padded places (map g (front ++ (s ∷ back))) (omega (arith, length-map (front ++ (s ∷ back)) g, length-append front (s ∷ back)))) more
 
     pub take-column : take places (drop at l) ≡ padded places (map g (front ++ (s ∷ back)))
-        → closed (at + length front) (places - length front - 1) l ≡ written at (padded places (map g (front ++ back))) l
+        → closedUp (at + length front) (places - length front - 1) l ≡ written at (padded places (map g (front ++ back))) l
     take-column e =
-        ap (closed (at + length front) (places - length front - 1))
+        ap (closedUp (at + length front) (places - length front - 1))
         (surrounded (padded places (map g (front ++ (s ∷ back)))) (g s ∷ behind) (map g front) e more)
         ∙ closed-is (take at l ++ map g front) behind rest (g s) (at + length front) (places - length front - 1) ahead (omega (arith, length-behind))
         ∙ ap (λ (m : List ℕ). take at l ++ map g front ++ m) (sym (append-assoc behind (0 ∷ []) rest))

@@ -8,7 +8,7 @@ use lib.ListN.{length, take, drop, getD, set, length-append, length-drop, List·
 use lib.Seq.{paste, drop-drop, drop-paste, take-all, take-at, drop-at, getD-drop, getD-take, getD-at, append-snoc, length-take-le}
 use Rattle.buffers.proofs.Copies.{Copied, turn}
 use Rattle.buffers.proofs.Copies.{done}
-use Rattle.page_edit.specs.Shift.{openedAt, closed}
+use Rattle.page_edit.specs.Shift.{openedAt, closedUp}
 
 -- an item that is not yet written is as it was
 pub unwritten : (d : List ℕ) (at : ℕ) (s e : List ℕ) (j i : ℕ) → at + j ≤ length d → j ≤ length s → Copied d at s e j → getD e (at + j + i) 0 ≡ getD d (at + j + i) 0
@@ -87,7 +87,7 @@ module _ (d : List ℕ) (from behind : ℕ) (fits : from + behind < length d) wh
 
 -- the item y between F and D taken out
 pub closed-is : (F D R : List ℕ) (y from behind : ℕ) → length F ≡ from → behind ≡ length D
-    → closed from behind (F ++ (y ∷ (D ++ R))) ≡ F ++ (D ++ (0 ∷ R))
+    → closedUp from behind (F ++ (y ∷ (D ++ R))) ≡ F ++ (D ++ (0 ∷ R))
 closed-is F D R y from behind lf lb =
     ap (λ (l : List ℕ). take from d ++ l ++ drop (from + (behind + 1)) d) mid
     ∙ ap (λ (l : List ℕ). take from d ++ (D ++ (0 ∷ [])) ++ l) rest

@@ -17,7 +17,8 @@ use Rattle.hashing.specs.Limits.{validParameters}
 use Rattle.pages.specs.Position.{validWord}
 use Rattle.pages.proofs.Parts.{page-fits}
 use Rattle.placement.specs.Rule.{Star, Hash, separators, filter, below, passing, separatorOf, contentsOf, onward, pages, left, first}
-use Rattle.placement.specs.File.{File, Sized, starsAt, gathered, column, replaced}
+use Rattle.placement.specs.File.{File, starsAt, gathered, column, replaced}
+use Rattle.placement.specs.Shape.{Sized}
 use Rattle.placement.specs.Hash.{hashOf, soundAt, namedPage, lent}
 use Rattle.placement.proofs.Filters.{filter-all-on, filter-none-on}
 use Rattle.placement.proofs.Order.{rising-sorted, pour-nil}

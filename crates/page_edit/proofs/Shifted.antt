@@ -12,7 +12,7 @@ use Rattle.buffers.specs.Lists.{padded, written}
 use Rattle.placement.proofs.Order.{Rising}
 use Rattle.placement.proofs.Pages.{Numbered, Columns, orderly-rising, orderly-proper, orderly-columns, length-starsOf}
 use Rattle.placement.proofs.Files.{numberOf, wordOf, ownerOf}
-use Rattle.page_edit.specs.Shift.{openedAt, closed, starsOn, numberAt, Ordered, Vacant, Occupied}
+use Rattle.page_edit.specs.Shift.{openedAt, closedUp, starsOn, numberAt, Ordered, Vacant, Occupied}
 use Rattle.page_edit.proofs.Splits.{numbered, Split, insert-split, without-split, room-left}
 use Rattle.page_edit.proofs.Columns.{put-column, take-column}
 
@@ -91,10 +91,10 @@ module _ (places page : ℕ) (ns ws os : List ℕ) (o : Ordered places page ns w
     take-place : place < places
     take-place = omega (arith, fewer, divided .1 .at)
 
-    take-items : (g : Star → ℕ) (l : List ℕ) → Of g l → closed (page * places + place) (places - place - 1) l ≡ written (page * places) (padded places (map g (without taken stars))) l
+    take-items : (g : Star → ℕ) (l : List ℕ) → Of g l → closedUp (page * places + place) (places - place - 1) l ≡ written (page * places) (padded places (map g (without taken stars))) l
     unfolding part
     take-items g l e =
-        ap (λ (i : ℕ). closed (page * places + i) (places - i - 1) l) (sym (divided .1 .at))
+        ap (λ (i : ℕ). closedUp (page * places + i) (places - i - 1) l) (sym (divided .1 .at))
         ∙ take-column g (divided .0) (divided .1 .front) (divided .1 .back) places fewer (page * places) l (e .0) (e .1 ∙ ap (λ (m : List Star). padded places (map g m)) (divided .1 .isMore))
         ∙ ap (λ (m : List Star). written (page * places) (padded places (map g m)) l) (sym (divided .1 .isLess))
 
@@ -130,5 +130,5 @@ module _ {places page place : ℕ} {ns ws os : List ℕ} (h : Occupied places pa
   taken-split = divided places page ns ws os (h .ordered) place (h .held)
 
   pub take-list : (g : Star → ℕ) (l : List ℕ) → Of places page ns ws os (h .ordered) g l
-      → closed (page * places + place) (places - place - 1) l ≡ written (page * places) (padded places (map g (without (numberAt places page place ns) (starsOn places page ns ws os)))) l
+      → closedUp (page * places + place) (places - place - 1) l ≡ written (page * places) (padded places (map g (without (numberAt places page place ns) (starsOn places page ns ws os)))) l
   take-list = take-items places page ns ws os (h .ordered) place (h .held)

@@ -21,8 +21,8 @@ abbrev pub openedAt : ℕ → ℕ → ℕ → List ℕ → List ℕ
 openedAt from count x l = paste l from (x ∷ drop from l) count
 
 -- without the item at `from`: the `behind` items after it moved down by one, and 0 after them
-abbrev pub closed : ℕ → ℕ → List ℕ → List ℕ
-closed from behind l = paste l from (take behind (drop (from + 1) l) ++ (0 ∷ [])) (behind + 1)
+abbrev pub closedUp : ℕ → ℕ → List ℕ → List ℕ
+closedUp from behind l = paste l from (take behind (drop (from + 1) l) ++ (0 ∷ [])) (behind + 1)
 
 -- the stars of a page of the lent lists
 abbrev pub starsOn : ℕ → ℕ → List ℕ → List ℕ → List ℕ → List Star

@@ -2,7 +2,7 @@
 ghost use mathlib.Core.Path.{_≡_};
 ghost use Prim.Native.Nat.{_+_, _≤_, _<_};
 ghost use lib.ListN.{length};
-ghost use Rattle.page_edit.specs.Shift.{openedAt, closed};
+ghost use Rattle.page_edit.specs.Shift.{openedAt, closedUp};
 
 // The item put at `from`, and the `count` items from there moved up: the last of them is lost.
 pub fn put_number(numbers: &mut [u32], from: usize, count: usize, number: u32)
@@ -50,7 +50,7 @@ pub fn put_owner(owners: &mut [u8], from: usize, count: usize, owner: u8)
 // The item at `from` taken out, and the `behind` items after it moved down: 0 is left in the last place.
 pub fn take_number(numbers: &mut [u32], from: usize, behind: usize)
     requires { ⌜ from + behind < length (now numbers) ⌝ }
-    ensures { λ _. ⌜ now (numbers .exit) ≡ closed from behind (now (numbers .entry)) ⌝ }
+    ensures { λ _. ⌜ now (numbers .exit) ≡ closedUp from behind (now (numbers .entry)) ⌝ }
 {
     let mut i = 0;
     while i < behind {
@@ -62,7 +62,7 @@ pub fn take_number(numbers: &mut [u32], from: usize, behind: usize)
 
 pub fn take_word(words: &mut [u64], from: usize, behind: usize)
     requires { ⌜ from + behind < length (now words) ⌝ }
-    ensures { λ _. ⌜ now (words .exit) ≡ closed from behind (now (words .entry)) ⌝ }
+    ensures { λ _. ⌜ now (words .exit) ≡ closedUp from behind (now (words .entry)) ⌝ }
 {
     let mut i = 0;
     while i < behind {
@@ -74,7 +74,7 @@ pub fn take_word(words: &mut [u64], from: usize, behind: usize)
 
 pub fn take_owner(owners: &mut [u8], from: usize, behind: usize)
     requires { ⌜ from + behind < length (now owners) ⌝ }
-    ensures { λ _. ⌜ now (owners .exit) ≡ closed from behind (now (owners .entry)) ⌝ }
+    ensures { λ _. ⌜ now (owners .exit) ≡ closedUp from behind (now (owners .entry)) ⌝ }
 {
     let mut i = 0;
     while i < behind {

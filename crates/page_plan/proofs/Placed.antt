@@ -8,7 +8,7 @@ use native.Mathlib.Omega.{arith}
 use lib.ListN.{length, take, drop, length-map, length-drop, take-append-drop}
 use lib.Seq.{paste, length-take-le, drop-append-le, take-append-le, take-add, drop-drop}
 use borrow.Author.Tests.{eq-eqb, le-leb}
-use Rattle.pages.specs.Page.{stretch}
+use Rattle.pages.specs.Shape.{stretch}
 use Rattle.buffers.proofs.Lists.{map-take}
 use Rattle.buffers.proofs.Written.{taken-written, paste-written}
 use Rattle.buffers.specs.Lists.{written}
@@ -17,7 +17,8 @@ use Rattle.hashing.specs.declared.Growth.{Growth}
 use Rattle.hashing.specs.Home.{home}
 use Rattle.placement.specs.Rule.{Star, Hash, Contents, pages, left, insert, without, separators, starWith}
 use Rattle.placement.specs.File.{File, gathered, column, replaced}
-use Rattle.placement.specs.Hash.{hashOf, homesOf}
+use Rattle.placement.specs.Hash.{hashOf}
+use Rattle.placement.specs.Shape.{homesOf}
 use Rattle.placement.proofs.Mapping.{Keeps, mapped, pages-map, left-map}
 use Rattle.placement.proofs.Standing.{length-separators}
 use Rattle.placement.proofs.Writing.{length-column, column-append, separators-append}

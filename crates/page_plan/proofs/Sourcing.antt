@@ -15,7 +15,8 @@ use Rattle.buffers.proofs.Tests.{and-true, either-false}
 use Rattle.buffers.proofs.Lists.{within}
 use Rattle.placement.specs.Rule.{Star, Hash, keep, insert, pour, without, starWith}
 use Rattle.placement.specs.Rule.{filter as select}
-use Rattle.pages.specs.Page.{part, stretch}
+use Rattle.pages.specs.Page.{part}
+use Rattle.pages.specs.Shape.{stretch}
 use Rattle.pages.proofs.Parts.{part-length, pages-apart, stretch-suc}
 use Rattle.placement.specs.File.{File, starsOf, starsAt, gathered}
 use Rattle.placement.proofs.Search.{starsOf-append}

@@ -7,7 +7,7 @@ use lib.Dec.{eqb, leb}
 use lib.ListN.{length, getD, take, drop}
 use lib.Seq.{slice}
 use denote.Ref.{now}
-use Rattle.pages.specs.Page.{stretch}
+use Rattle.pages.specs.Shape.{stretch}
 use Rattle.hashing.specs.declared.Parameters.{Parameters}
 use Rattle.hashing.specs.Limits.{validParameters}
 use Rattle.placement.specs.Rule.{Star, Hash, Contents, separators, starWith}
@@ -122,7 +122,7 @@ pub record Settling (q : Parameters) (lo count carried : ℕ) (l W pool planned 
   pub long-planned : length planned′ ≡ length planned
 
 -- some of the pages are settled, of lists that were as settling needs them
-pub record Underway (q : Parameters) (lo count end : ℕ) (ends pool′ W′ planned′ : List ℕ) (done : Progress) : Type 0 where
+pub record PartSettled (q : Parameters) (lo count end : ℕ) (ends pool′ W′ planned′ : List ℕ) (done : Progress) : Type 0 where
   pub carried : ℕ
   pub waiting : List ℕ
   pub pool : List ℕ

@@ -5,7 +5,7 @@ ghost use mathlib.Core.List.{map};
 ghost use Prim.Native.Nat.{_+_, _-_, _*_, _^_, _≤_, _<_};
 ghost use lib.ListN.{length, take};
 ghost use lib.Seq.{slice};
-ghost use Rattle.pages.specs.Page.{stretch};
+ghost use Rattle.pages.specs.Shape.{stretch};
 ghost use Rattle.hashing.specs.Limits.{validParameters};
 ghost use Rattle.placement.specs.File.{padded, written};
 ghost use Rattle.placement.specs.Ready.{Signers};
@@ -13,7 +13,7 @@ ghost use Rattle.page_separator.specs.Words.{sourceOf};
 ghost use Rattle.page_separator.specs.Lists.{allBelow};
 ghost use Rattle.page_plan.specs.Gather.{starsIn};
 ghost use Rattle.page_separator.specs.Probes.{homesUpTo, Probing, Signable};
-ghost use Rattle.page_plan.specs.Plans.{slotSource, Plannable, Settleable, SettlesPages, Underway, Continues, Ended, PlacesAll, PlansPage, PlansStretch};
+ghost use Rattle.page_plan.specs.Plans.{slotSource, Plannable, Settleable, SettlesPages, PartSettled, Continues, Ended, PlacesAll, PlansPage, PlansStretch};
 use crate::gathering::gather;
 use crate::settling::settle;
 use crate::settling::signs_words;
@@ -105,7 +105,7 @@ fn settle_run(
     done: Progress,
 ) -> Progress
     requires { ⌜ Signers parameters (now table) ⌝ }
-    requires { ⌜ (spare ≤ 32768) × Underway parameters lo count end (now ends) (now pool) (now waiting) (now planned) done ⌝ }
+    requires { ⌜ (spare ≤ 32768) × PartSettled parameters lo count end (now ends) (now pool) (now waiting) (now planned) done ⌝ }
     ensures { λ r. ⌜ Continues parameters lo count end (now (ends .entry)) pool waiting planned done r ⌝ }
     ensures { λ r. ⌜ (2049 ≤ length (now (table .entry)) → Ended parameters count end spare r) ⌝ }
 {
@@ -149,7 +149,7 @@ fn run_beyond(
     done: Progress,
 ) -> Progress
     requires { ⌜ validParameters parameters ≡ true ⌝ }
-    requires { ⌜ (spare ≤ 32768) × Underway parameters lo count end (now ends) (now pool) (now waiting) (now planned) done ⌝ }
+    requires { ⌜ (spare ≤ 32768) × PartSettled parameters lo count end (now ends) (now pool) (now waiting) (now planned) done ⌝ }
     ensures { λ r. ⌜ Continues parameters lo count end (now (ends .entry)) pool waiting planned done r ⌝ }
     ensures { λ r. ⌜ Ended parameters count end spare r ⌝ }
 {
@@ -194,7 +194,7 @@ fn run_by_48271(
     done: Progress,
 ) -> Progress
     requires { ⌜ (validParameters parameters ≡ true) × (parameters .multiplier ≡ 48271) ⌝ }
-    requires { ⌜ (spare ≤ 32768) × Underway parameters lo count end (now ends) (now pool) (now waiting) (now planned) done ⌝ }
+    requires { ⌜ (spare ≤ 32768) × PartSettled parameters lo count end (now ends) (now pool) (now waiting) (now planned) done ⌝ }
     ensures { λ r. ⌜ Continues parameters lo count end (now (ends .entry)) pool waiting planned done r ⌝ }
     ensures { λ r. ⌜ Ended parameters count end spare r ⌝ }
 {
@@ -227,7 +227,7 @@ fn run_by_16807(
     done: Progress,
 ) -> Progress
     requires { ⌜ (validParameters parameters ≡ true) × (parameters .multiplier ≡ 16807) ⌝ }
-    requires { ⌜ (spare ≤ 32768) × Underway parameters lo count end (now ends) (now pool) (now waiting) (now planned) done ⌝ }
+    requires { ⌜ (spare ≤ 32768) × PartSettled parameters lo count end (now ends) (now pool) (now waiting) (now planned) done ⌝ }
     ensures { λ r. ⌜ Continues parameters lo count end (now (ends .entry)) pool waiting planned done r ⌝ }
     ensures { λ r. ⌜ Ended parameters count end spare r ⌝ }
 {

@@ -10,13 +10,13 @@ use lib.Dec.{eqb}
 use lib.ListN.{length, getD, set, length-set}
 use lib.Seq.{getD-set-same, getD-set-other, slice, slice-cons, slice-empty, length-slice}
 use borrow.Author.Tests.{eqb-true, eqb-false, eq-eqb, ne-eqb}
-use Rattle.page_separator.specs.Lists.{selected, alike, sumTo}
+use Rattle.page_separator.specs.Lists.{selected, having, sumTo}
 use Rattle.page_separator.proofs.Lists.{filter-length, filter-true, filter-false}
 
-pub alike-here : (f : ℕ → ℕ) (v x : ℕ) (l : List ℕ) → f x ≡ v → alike f v (x ∷ l) ≡ x ∷ alike f v l
+pub alike-here : (f : ℕ → ℕ) (v x : ℕ) (l : List ℕ) → f x ≡ v → having f v (x ∷ l) ≡ x ∷ having f v l
 alike-here f v x l e = filter-true (λ y. eqb (f y) v) x l (eq-eqb (f x) v e)
 
-pub alike-other : (f : ℕ → ℕ) (v x : ℕ) (l : List ℕ) → (f x ≡ v → ⊥) → alike f v (x ∷ l) ≡ alike f v l
+pub alike-other : (f : ℕ → ℕ) (v x : ℕ) (l : List ℕ) → (f x ≡ v → ⊥) → having f v (x ∷ l) ≡ having f v l
 alike-other f v x l e = filter-false (λ y. eqb (f y) v) x l (ne-eqb (f x) v e)
 
 pub set-here : (l : List ℕ) (i j x : ℕ) → i ≡ j → j < length l → getD (set l i x) j 0 ≡ x
@@ -27,21 +27,21 @@ set-elsewhere l i j x e = getD-set-other l i j x 0 (λ q. e (sym q))
 
 -- counters that lack what is still to come, e being what they come to: the next item is counted
 pub counted : (f e : ℕ → ℕ) (n : ℕ) (counts : List ℕ) (g x : ℕ) (l : List ℕ) → f x ≡ g → n ≤ length counts
-    → ((v : ℕ) → v < n → getD counts v 0 + length (alike f v (x ∷ l)) ≡ e v)
-    → (v : ℕ) → v < n → getD (set counts g (getD counts g 0 + 1)) v 0 + length (alike f v l) ≡ e v
+    → ((v : ℕ) → v < n → getD counts v 0 + length (having f v (x ∷ l)) ≡ e v)
+    → (v : ℕ) → v < n → getD (set counts g (getD counts g 0 + 1)) v 0 + length (having f v l) ≡ e v
 counted f e n counts g x l eg long H v h = go (eqb g v) refl
   where
-    go : (t : Bool) → eqb g v ≡ t → getD (set counts g (getD counts g 0 + 1)) v 0 + length (alike f v l) ≡ e v
+    go : (t : Bool) → eqb g v ≡ t → getD (set counts g (getD counts g 0 + 1)) v 0 + length (having f v l) ≡ e v
     go true q =
         let same : g ≡ v = eqb-true g v q in
         let now : getD (set counts g (getD counts g 0 + 1)) v 0 ≡ getD counts g 0 + 1 = set-here counts g v (getD counts g 0 + 1) same (omega arith) in
         let old : getD counts g 0 ≡ getD counts v 0 = rw same in
-        let more : length (alike f v (x ∷ l)) ≡ suc (length (alike f v l)) = ap length (alike-here f v x l (eg ∙ same)) in
+        let more : length (having f v (x ∷ l)) ≡ suc (length (having f v l)) = ap length (alike-here f v x l (eg ∙ same)) in
         omega (arith, H v h)
     go false q =
         let other : g ≡ v → ⊥ = eqb-false g v q in
         let now : getD (set counts g (getD counts g 0 + 1)) v 0 ≡ getD counts v 0 = set-elsewhere counts g v (getD counts g 0 + 1) other in
-        let more : length (alike f v (x ∷ l)) ≡ length (alike f v l) = ap length (alike-other f v x l (λ p. other (sym eg ∙ p))) in
+        let more : length (having f v (x ∷ l)) ≡ length (having f v l) = ap length (alike-other f v x l (λ p. other (sym eg ∙ p))) in
         omega (arith, H v h)
 
 pub sum-next : (n : ℕ) (l : List ℕ) → sumTo (suc n) l ≡ sumTo n l + getD l n 0
@@ -85,7 +85,7 @@ pub record Lacking (f : ℕ → ℕ) (n : ℕ) (l : List ℕ) (from reach : ℕ)
   pub upto : i ≤ reach
   pub inside : reach ≤ length l
   pub size : length counts ≡ n
-  pub lacks : (v : ℕ) → v < n → getD counts v 0 + length (alike f v (slice i reach l)) ≡ length (alike f v (slice from reach l))
+  pub lacks : (v : ℕ) → v < n → getD counts v 0 + length (having f v (slice i reach l)) ≡ length (having f v (slice from reach l))
 
 pub lacking-none : (f : ℕ → ℕ) (n : ℕ) (l : List ℕ) (from reach : ℕ) (counts : List ℕ) → from ≤ reach → reach ≤ length l → length counts ≡ n
     → ((v : ℕ) → v < n → getD counts v 0 ≡ 0) → Lacking f n l from reach counts from
@@ -102,7 +102,7 @@ module _ (f : ℕ → ℕ) (n : ℕ) (l : List ℕ) (from reach : ℕ) (counts :
         size = length-set counts g (getD counts g 0 + 1) ∙ L .size;
         lacks =
             rw (add-one i)
-            (counted f (λ v. length (alike f v (slice from reach l))) n counts g (getD l i 0) (slice (suc i) reach l) e (omega (arith, L .size))
+            (counted f (λ v. length (having f v (slice from reach l))) n counts g (getD l i 0) (slice (suc i) reach l) e (omega (arith, L .size))
             (λ v k. rw (slice-cons i reach l 0 h (L .inside)) at (L .lacks v k)));
       }
 
@@ -110,6 +110,6 @@ module _ (f : ℕ → ℕ) (n : ℕ) (l : List ℕ) (from reach : ℕ) (counts :
   lacking-fits g h =
       omega (arith, L .lacks g h, filter-length (λ x. eqb (f x) g) (slice from reach l), length-slice from reach l (L .inside))
 
-  pub lacking-all : i ≡ reach → (v : ℕ) → v < n → getD counts v 0 ≡ length (alike f v (slice from reach l))
+  pub lacking-all : i ≡ reach → (v : ℕ) → v < n → getD counts v 0 ≡ length (having f v (slice from reach l))
   unfolding selected
   lacking-all e v h = sym (add-zero (getD counts v 0)) ∙ rw (e, slice-empty reach l) at (L .lacks v h)

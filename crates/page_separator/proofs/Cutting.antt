@@ -12,7 +12,7 @@ use Rattle.hashing.specs.declared.Parameters.{Parameters}
 use Rattle.generator.specs.Generator.{topOf}
 use Rattle.hashing.specs.Geometry.{multiplierOf}
 use Rattle.generator.proofs.Scrambling.{signature-below}
-use Rattle.page_separator.specs.Lists.{selected, alike, sumTo}
+use Rattle.page_separator.specs.Lists.{selected, having, sumTo}
 use Rattle.page_separator.specs.Words.{homeOf, numberIn}
 use Rattle.page_separator.specs.Probes.{signatureOf, under, stayingWords, passingWords, wordsSeparatorFrom, wordsSeparator}
 use Rattle.page_separator.proofs.Lists.{filter-append, filter-length, filter-true, filter-false}
@@ -60,14 +60,14 @@ module _ (q : Parameters) (p : ℕ) where
   staying-zero (w ∷ l) = ap length (goes 0 w l zero-le) ∙ staying-zero l
 
   -- one separator higher: those of that signature stay too
-  pub staying-suc : (v : ℕ) (l : List ℕ) → length (stayingWords q p (suc v) l) ≡ length (stayingWords q p v l) + length (alike (signatureOf q p) v l)
+  pub staying-suc : (v : ℕ) (l : List ℕ) → length (stayingWords q p (suc v) l) ≡ length (stayingWords q p v l) + length (having (signatureOf q p) v l)
   unfolding selected
   staying-suc v [] = rw (staying-nil v, staying-nil (suc v))
   staying-suc v (w ∷ l) = go (ltb (signatureOf q p w) v) refl (eqb (signatureOf q p w) v) refl (staying-suc v l)
     where
       go : (a : Bool) → ltb (signatureOf q p w) v ≡ a → (b : Bool) → eqb (signatureOf q p w) v ≡ b
-          → length (stayingWords q p (suc v) l) ≡ length (stayingWords q p v l) + length (alike (signatureOf q p) v l)
-          → length (stayingWords q p (suc v) (w ∷ l)) ≡ length (stayingWords q p v (w ∷ l)) + length (alike (signatureOf q p) v (w ∷ l))
+          → length (stayingWords q p (suc v) l) ≡ length (stayingWords q p v l) + length (having (signatureOf q p) v l)
+          → length (stayingWords q p (suc v) (w ∷ l)) ≡ length (stayingWords q p v (w ∷ l)) + length (having (signatureOf q p) v (w ∷ l))
       go a ea true eb rec =
           let same : signatureOf q p w ≡ v = eqb-true (signatureOf q p w) v eb in
           omega (arith, ap length (stays (suc v) w l (omega arith)), ap length (goes v w l (omega arith)), ap length (alike-here (signatureOf q p) v w l same))
@@ -91,7 +91,7 @@ module _ (q : Parameters) (p : ℕ) where
       go false e rec = let same : u ≡ suc v = omega (arith, leb-false u v e) in rw same (omega arith)
 
   -- the counts of the signatures below v are those that stay under it
-  pub staying-sum : (l counts : List ℕ) → ((v : ℕ) → v < 256 → getD counts v 0 ≡ length (alike (signatureOf q p) v l))
+  pub staying-sum : (l counts : List ℕ) → ((v : ℕ) → v < 256 → getD counts v 0 ≡ length (having (signatureOf q p) v l))
       → (v : ℕ) → v ≤ 256 → sumTo v counts ≡ length (stayingWords q p v l)
   staying-sum l counts H zero h = sum-none counts ∙ sym (staying-zero l)
   staying-sum l counts H (suc v) h =

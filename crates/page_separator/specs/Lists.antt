@@ -10,8 +10,8 @@ selected q [] = []
 selected q (x ∷ l) = cond (q x) (x ∷ selected q l) (selected q l)
 
 -- those of which f is v
-abbrev pub alike : (ℕ → ℕ) → ℕ → List ℕ → List ℕ
-alike f v l = selected (λ x. eqb (f x) v) l
+abbrev pub having : (ℕ → ℕ) → ℕ → List ℕ → List ℕ
+having f v l = selected (λ x. eqb (f x) v) l
 
 -- all pass the test
 unfoldable pub all : (ℕ → Bool) → List ℕ → Bool

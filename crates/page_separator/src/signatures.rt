@@ -6,7 +6,7 @@ ghost use lib.ListN.{length, getD};
 ghost use lib.Seq.{slice};
 ghost use Rattle.hashing.specs.Limits.{validParameters};
 ghost use Rattle.placement.specs.Ready.{Signers};
-ghost use Rattle.page_separator.specs.Lists.{alike};
+ghost use Rattle.page_separator.specs.Lists.{having};
 ghost use Rattle.page_separator.specs.Words.{homeOf};
 ghost use Rattle.page_separator.specs.Probes.{Probing, Signed, Signable, factorOf, signatureOf};
 use crate::words::home_of;
@@ -94,7 +94,7 @@ pub fn tally_signatures(
     requires { ⌜ length (now signatures) ≡ 256 ⌝ }
     requires { ⌜ Signable (length (now table)) page from reach (now waiting) ⌝ }
     ensures { λ _. ⌜ length (now (counts .exit)) ≡ 256 ⌝ }
-    ensures { λ _. ⌜ ((v : ℕ) → v < 256 → getD (now (counts .exit)) v 0 ≡ length (alike (signatureOf parameters page) v (slice from reach (now (waiting .entry))))) ⌝ }
+    ensures { λ _. ⌜ ((v : ℕ) → v < 256 → getD (now (counts .exit)) v 0 ≡ length (having (signatureOf parameters page) v (slice from reach (now (waiting .entry))))) ⌝ }
     ensures { λ _. ⌜ Signed parameters page from reach (now (waiting .entry)) (now (signatures .exit)) ⌝ }
 {
     let mut factor = first_factor(table, parameters);

@@ -13,7 +13,7 @@ use borrow.Author.Tests.{eqb-true, eq-eqb, ne-eqb, not-true, not-false}
 use Rattle.buffers.proofs.Tests.{and-true}
 use Rattle.pages.specs.Page.{part}
 use Rattle.page_store.specs.Columns.{Columns}
-use Rattle.page_store.specs.Stores.{alike, pageChanges}
+use Rattle.page_store.specs.Stores.{alike, columnsChange}
 
 and-right : (t : Bool) → t && true ≡ t
 and-right true = refl
@@ -76,36 +76,36 @@ pub record SamePage (b : ℕ) (old new : Columns) (r : ℕ) : Type 0 where
   pub words : part b r (old .words) ≡ part b r (new .words)
   pub owners : part b r (old .owners) ≡ part b r (new .owners)
 
-pub unchanged-same : (b : ℕ) (old new : Columns) (r : ℕ) → pageChanges b old new r ≡ false → SamePage b old new r
-unfolding pageChanges
+pub unchanged-same : (b : ℕ) (old new : Columns) (r : ℕ) → columnsChange b old new r ≡ false → SamePage b old new r
+unfolding columnsChange
 unchanged-same b old new r e =
     let one = and-true _ _ (not-false _ e) in
     let two = and-true _ _ (one .1) in
     record { numbers = alike-same _ _ (one .0); words = alike-same _ _ (two .0); owners = alike-same _ _ (two .1) }
 
-pub same-unchanged : (b : ℕ) (old new : Columns) (r : ℕ) → SamePage b old new r → pageChanges b old new r ≡ false
-unfolding pageChanges
+pub same-unchanged : (b : ℕ) (old new : Columns) (r : ℕ) → SamePage b old new r → columnsChange b old new r ≡ false
+unfolding columnsChange
 same-unchanged b old new r s =
     rw (s .numbers, s .words, s .owners, alike-self (part b r (new .numbers)), alike-self (part b r (new .words))) (ap not (alike-self (part b r (new .owners))))
 
 -- Whether a page changes is told from that page alone.
-pub changes-alike : (b : ℕ) (cur old new : Columns) (r : ℕ) → SamePage b cur old r → pageChanges b cur new r ≡ pageChanges b old new r
-unfolding pageChanges
+pub changes-alike : (b : ℕ) (cur old new : Columns) (r : ℕ) → SamePage b cur old r → columnsChange b cur new r ≡ columnsChange b old new r
+unfolding columnsChange
 changes-alike b cur old new r s = rw (s .numbers, s .words, s .owners)
 
 -- The test of a page, column by column: `numbers`, `words` and `owners` say whether the columns agree there.
 module _ (b : ℕ) (old new : Columns) (r : ℕ) where
-  pub numbers-differ : (numbers : Bool) → numbers ≡ alike (part b r (old .numbers)) (part b r (new .numbers)) → not numbers ≡ true → true ≡ pageChanges b old new r
-  unfolding pageChanges
+  pub numbers-differ : (numbers : Bool) → numbers ≡ alike (part b r (old .numbers)) (part b r (new .numbers)) → not numbers ≡ true → true ≡ columnsChange b old new r
+  unfolding columnsChange
   numbers-differ numbers e d = rw (← e, not-true numbers d)
 
   pub words-differ : (numbers words : Bool) → numbers ≡ alike (part b r (old .numbers)) (part b r (new .numbers)) → words ≡ alike (part b r (old .words)) (part b r (new .words))
-      → not numbers ≡ false → not words ≡ true → true ≡ pageChanges b old new r
-  unfolding pageChanges
+      → not numbers ≡ false → not words ≡ true → true ≡ columnsChange b old new r
+  unfolding columnsChange
   words-differ numbers words e f s d = rw (← e, ← f, not-false numbers s, not-true words d)
 
   pub owners-differ : (numbers words owners : Bool) → numbers ≡ alike (part b r (old .numbers)) (part b r (new .numbers)) → words ≡ alike (part b r (old .words)) (part b r (new .words))
       → owners ≡ alike (part b r (old .owners)) (part b r (new .owners))
-      → not numbers ≡ false → not words ≡ false → not owners ≡ pageChanges b old new r
-  unfolding pageChanges
+      → not numbers ≡ false → not words ≡ false → not owners ≡ columnsChange b old new r
+  unfolding columnsChange
   owners-differ numbers words owners e f g s t = rw (← e, ← f, ← g, not-false numbers s, not-false words t)

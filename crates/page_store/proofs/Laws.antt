@@ -9,9 +9,10 @@ use lib.Dec.{leb}
 use lib.ListN.{length, take, drop}
 use borrow.Author.Tests.{le-leb, leb-true}
 use Rattle.buffers.specs.Lists.{written}
-use Rattle.pages.specs.Page.{part, stretch}
+use Rattle.pages.specs.Page.{part}
+use Rattle.pages.specs.Shape.{stretch}
 use Rattle.page_store.specs.Columns.{Columns}
-use Rattle.page_store.specs.Stores.{pageChanges, changedPages, enough, columnStored, pageInTurn}
+use Rattle.page_store.specs.Stores.{columnsChange, changedPages, enough, columnStored, pageInTurn}
 use Rattle.page_store.proofs.OnePage.{stretch-written}
 use Rattle.page_store.proofs.Order.{todo, todo-few, changed-todo, turnOf, turn-of}
 use Rattle.page_store.proofs.Reached.{Given, Reached, stop, stop-all, stop-within, reached-none, reached-after}
@@ -68,18 +69,18 @@ all-reached upward b lo count new old out f h =
 
 -- the turn at which n stores end: the same for the three columns
 unfoldable pub ended : Bool → ℕ → ℕ → ℕ → Columns → Columns → ℕ → ℕ
-ended upward b lo count old new n = stop (pageChanges b old new) (pageInTurn upward lo count) 0 count n
+ended upward b lo count old new n = stop (columnsChange b old new) (pageInTurn upward lo count) 0 count n
 
 module _ (upward : Bool) (b lo count : ℕ) (old new : Columns) where
   pub ended-within : (n : ℕ) → ended upward b lo count old new n ≤ count
   unfolding ended
-  ended-within n = rw (zero-add count) at (stop-within (pageChanges b old new) (pageInTurn upward lo count) 0 count n)
+  ended-within n = rw (zero-add count) at (stop-within (columnsChange b old new) (pageInTurn upward lo count) 0 count n)
 
   -- "with a store for every changed page, or more"
   pub ended-all : (n : ℕ) → enough n (changedPages upward b lo count old new) ≡ true → ended upward b lo count old new n ≡ count
   unfolding ended enough
   ended-all n e =
-      stop-all (pageChanges b old new) (pageInTurn upward lo count) 0 count n
+      stop-all (columnsChange b old new) (pageInTurn upward lo count) 0 count n
       (rw (changed-todo upward b lo count old new) at (leb-true (length (changedPages upward b lo count old new)) n e))
       ∙ zero-add count
 
@@ -88,10 +89,10 @@ module _ (upward : Bool) (b lo count : ℕ) (old new : Columns) where
   unfolding enough
   enough-count n h =
       le-leb (length (changedPages upward b lo count old new)) n
-      (rw (changed-todo upward b lo count old new) (omega (arith, todo-few (pageChanges b old new) (pageInTurn upward lo count) 0 count)))
+      (rw (changed-todo upward b lo count old new) (omega (arith, todo-few (columnsChange b old new) (pageInTurn upward lo count) 0 count)))
 
 module _ (upward : Bool) (b lo count : ℕ) (old new : Columns) (fo : Fits b (lo + count) old) (fn : Fits b (lo + count) new) where
-  after : {x y : List ℕ} (n : ℕ) → Given b lo count (pageInTurn upward lo count) (pageChanges b old new) y x
+  after : {x y : List ℕ} (n : ℕ) → Given b lo count (pageInTurn upward lo count) (columnsChange b old new) y x
       → Reached b lo count (pageInTurn upward lo count) y x (ended upward b lo count old new n) (columnStored b y (take n (changedPages upward b lo count old new)) x)
   unfolding ended
   after {x} {y} n g = rw (changed-todo upward b lo count old new) (reached-after g 0 count n x (zero-add count) (reached-none g))

@@ -13,7 +13,7 @@ use borrow.Author.Tests.{le-leb, lt-leb}
 use Rattle.buffers.specs.Lists.{written}
 use Rattle.pages.specs.Page.{part}
 use Rattle.page_store.specs.Columns.{Columns, columns}
-use Rattle.page_store.specs.Stores.{pageChanges, changedPages, enough, columnStored, pageInTurn}
+use Rattle.page_store.specs.Stores.{columnsChange, changedPages, enough, columnStored, pageInTurn}
 use Rattle.page_store.proofs.Alike.{SamePage, unchanged-same, changes-alike}
 use Rattle.page_store.proofs.Order.{todo, todo-skip, todo-store, changed-todo, turn-inside, turn-apart}
 use Rattle.page_store.proofs.Reached.{Given, Reached, page-fits, reached-none, reached-skip, reached-store}
@@ -118,7 +118,7 @@ pub record Fits (b hi : ℕ) (c : Columns) : Type 0 where
   pub owners : hi * b ≤ length (c .owners)
 
 module _ (upward : Bool) (b lo count : ℕ) (old new : Columns) (fo : Fits b (lo + count) old) (fn : Fits b (lo + count) new) where
-  pub of-numbers : Given b lo count (pageInTurn upward lo count) (pageChanges b old new) (new .numbers) (old .numbers)
+  pub of-numbers : Given b lo count (pageInTurn upward lo count) (columnsChange b old new) (new .numbers) (old .numbers)
   of-numbers =
       record {
         inside = turn-inside upward lo count;
@@ -128,7 +128,7 @@ module _ (upward : Bool) (b lo count : ℕ) (old new : Columns) (fo : Fits b (lo
         fitsNew = fn .numbers;
       }
 
-  pub of-words : Given b lo count (pageInTurn upward lo count) (pageChanges b old new) (new .words) (old .words)
+  pub of-words : Given b lo count (pageInTurn upward lo count) (columnsChange b old new) (new .words) (old .words)
   of-words =
       record {
         inside = turn-inside upward lo count;
@@ -138,7 +138,7 @@ module _ (upward : Bool) (b lo count : ℕ) (old new : Columns) (fo : Fits b (lo
         fitsNew = fn .words;
       }
 
-  pub of-owners : Given b lo count (pageInTurn upward lo count) (pageChanges b old new) (new .owners) (old .owners)
+  pub of-owners : Given b lo count (pageInTurn upward lo count) (columnsChange b old new) (new .owners) (old .owners)
   of-owners =
       record {
         inside = turn-inside upward lo count;
@@ -152,10 +152,10 @@ module _ (upward : Bool) (b lo count : ℕ) (old new : Columns) (fo : Fits b (lo
 pub record Storing (upward : Bool) (b lo count limit : ℕ) (old new : Columns) (i stored : ℕ) (ns ws os : List ℕ) : Type 0 where
   pub fitsOld : Fits b (lo + count) old
   pub fitsNew : Fits b (lo + count) new
-  pub numbers : Going b lo count limit (pageInTurn upward lo count) (pageChanges b old new) (new .numbers) (old .numbers) i stored ns
-  pub words : Going b lo count limit (pageInTurn upward lo count) (pageChanges b old new) (new .words) (old .words) i stored ws
-  pub owners : Going b lo count limit (pageInTurn upward lo count) (pageChanges b old new) (new .owners) (old .owners) i stored os
-  pub counted : Counted count limit (pageInTurn upward lo count) (pageChanges b old new) i stored
+  pub numbers : Going b lo count limit (pageInTurn upward lo count) (columnsChange b old new) (new .numbers) (old .numbers) i stored ns
+  pub words : Going b lo count limit (pageInTurn upward lo count) (columnsChange b old new) (new .words) (old .words) i stored ws
+  pub owners : Going b lo count limit (pageInTurn upward lo count) (columnsChange b old new) (new .owners) (old .owners) i stored os
+  pub counted : Counted count limit (pageInTurn upward lo count) (columnsChange b old new) i stored
 
 -- What `store_pages` promises.
 pub record Stored (upward : Bool) (b lo count limit : ℕ) (old new : Columns) (answer : Bool) (ns ws os : List ℕ) : Type 0 where
@@ -183,7 +183,7 @@ module _ {upward : Bool} {b lo count limit : ℕ} {old new : Columns} where
 
 module _ {upward : Bool} {b lo count limit : ℕ} {old new : Columns} {i stored : ℕ} {ns ws os : List ℕ}
     (m : Storing upward b lo count limit old new i stored ns ws os) where
-  changed : changedPages upward b lo count old new ≡ todo (pageChanges b old new) (pageInTurn upward lo count) 0 count
+  changed : changedPages upward b lo count old new ≡ todo (columnsChange b old new) (pageInTurn upward lo count) 0 count
   changed = changed-todo upward b lo count old new
 
   -- what is compared and stored lies within
@@ -200,12 +200,12 @@ module _ {upward : Bool} {b lo count limit : ℕ} {old new : Columns} {i stored 
       )
 
   -- the page in turn is as it was, so it is told from it whether it changes
-  pub storing-told : (page : ℕ) (t : Bool) → page ≡ pageInTurn upward lo count i → i < count → t ≡ pageChanges b (columns ns ws os) new page
-      → pageChanges b old new (pageInTurn upward lo count i) ≡ t
+  pub storing-told : (page : ℕ) (t : Bool) → page ≡ pageInTurn upward lo count i → i < count → t ≡ columnsChange b (columns ns ws os) new page
+      → columnsChange b old new (pageInTurn upward lo count i) ≡ t
   storing-told page t e h d =
       sym
       (d
-      ∙ ap (pageChanges b (columns ns ws os) new) e
+      ∙ ap (columnsChange b (columns ns ws os) new) e
       ∙ changes-alike b (columns ns ws os) old new (pageInTurn upward lo count i)
       (record {
         numbers = m .numbers .reached .ahead i (le-refl i) h;
@@ -213,7 +213,7 @@ module _ {upward : Bool} {b lo count limit : ℕ} {old new : Columns} {i stored 
         owners = m .owners .reached .ahead i (le-refl i) h;
       }))
 
-  pub storing-skip : i < count → pageChanges b old new (pageInTurn upward lo count i) ≡ false → Storing upward b lo count limit old new (i + 1) stored ns ws os
+  pub storing-skip : i < count → columnsChange b old new (pageInTurn upward lo count i) ≡ false → Storing upward b lo count limit old new (i + 1) stored ns ws os
   storing-skip h e =
       rw (add-one i)
       (record {
@@ -226,7 +226,7 @@ module _ {upward : Bool} {b lo count limit : ℕ} {old new : Columns} {i stored 
       })
 
   pub storing-store : (page : ℕ) (ns' ws' os' : List ℕ) → page ≡ pageInTurn upward lo count i → i < count → stored < limit
-      → pageChanges b old new (pageInTurn upward lo count i) ≡ true
+      → columnsChange b old new (pageInTurn upward lo count i) ≡ true
       → ns' ≡ written (page * b) (part b page (new .numbers)) ns
       → ws' ≡ written (page * b) (part b page (new .words)) ws
       → os' ≡ written (page * b) (part b page (new .owners)) os
@@ -243,11 +243,11 @@ module _ {upward : Bool} {b lo count limit : ℕ} {old new : Columns} {i stored 
       })
 
   -- no store is left for the page in turn
-  pub storing-stop : i < count → limit ≤ stored → pageChanges b old new (pageInTurn upward lo count i) ≡ true → Stored upward b lo count limit old new false ns ws os
+  pub storing-stop : i < count → limit ≤ stored → columnsChange b old new (pageInTurn upward lo count i) ≡ true → Stored upward b lo count limit old new false ns ws os
   unfolding enough
   storing-stop h k e =
       record {
-        all = rw changed (sym (lt-leb (length (todo (pageChanges b old new) (pageInTurn upward lo count) 0 count)) limit (counted-stop h (m .counted) e k)));
+        all = rw changed (sym (lt-leb (length (todo (columnsChange b old new) (pageInTurn upward lo count) 0 count)) limit (counted-stop h (m .counted) e k)));
         numbers = rw changed (going-stop (of-numbers upward b lo count old new (m .fitsOld) (m .fitsNew)) k (m .numbers));
         words = rw changed (going-stop (of-words upward b lo count old new (m .fitsOld) (m .fitsNew)) k (m .words));
         owners = rw changed (going-stop (of-owners upward b lo count old new (m .fitsOld) (m .fitsNew)) k (m .owners));
@@ -258,7 +258,7 @@ module _ {upward : Bool} {b lo count limit : ℕ} {old new : Columns} {i stored 
   unfolding enough
   storing-end h =
       record {
-        all = rw changed (sym (le-leb (length (todo (pageChanges b old new) (pageInTurn upward lo count) 0 count)) limit (counted-end h (m .counted))));
+        all = rw changed (sym (le-leb (length (todo (columnsChange b old new) (pageInTurn upward lo count) 0 count)) limit (counted-end h (m .counted))));
         numbers = rw changed (going-end (of-numbers upward b lo count old new (m .fitsOld) (m .fitsNew)) h (m .numbers));
         words = rw changed (going-end (of-words upward b lo count old new (m .fitsOld) (m .fitsNew)) h (m .words));
         owners = rw changed (going-end (of-owners upward b lo count old new (m .fitsOld) (m .fitsNew)) h (m .owners));

@@ -7,7 +7,7 @@ use native.Mathlib.Nat.{add-suc, add-zero, zero-add, suc-add}
 use native.Mathlib.Omega.{arith}
 use lib.ListN.{length, take}
 use Rattle.page_store.specs.Columns.{Columns}
-use Rattle.page_store.specs.Stores.{pageChanges, lowestFirst, highestFirst, changedPages, pageInTurn}
+use Rattle.page_store.specs.Stores.{columnsChange, lowestFirst, highestFirst, changedPages, pageInTurn}
 
 -- of n turns from turn i on, the pages that change
 unfoldable pub todo : (ℕ → Bool) → (ℕ → ℕ) → ℕ → ℕ → List ℕ
@@ -29,10 +29,10 @@ todo-down changes lo count i (suc n) e =
     ∙ ap (λ (l : List ℕ). cond (changes (lo + n)) ((lo + n) ∷ l) l) (todo-down changes lo count (suc i) n (omega arith))
 
 pub changed-todo : (upward : Bool) (b lo count : ℕ) (old new : Columns)
-    → changedPages upward b lo count old new ≡ todo (pageChanges b old new) (pageInTurn upward lo count) 0 count
+    → changedPages upward b lo count old new ≡ todo (columnsChange b old new) (pageInTurn upward lo count) 0 count
 unfolding changedPages
-changed-todo true b lo count old new = sym (todo-up (pageChanges b old new) lo count 0 count ∙ ap (λ (k : ℕ). lowestFirst (pageChanges b old new) k count) (add-zero lo))
-changed-todo false b lo count old new = sym (todo-down (pageChanges b old new) lo count 0 count (zero-add count))
+changed-todo true b lo count old new = sym (todo-up (columnsChange b old new) lo count 0 count ∙ ap (λ (k : ℕ). lowestFirst (columnsChange b old new) k count) (add-zero lo))
+changed-todo false b lo count old new = sym (todo-down (columnsChange b old new) lo count 0 count (zero-add count))
 
 -- each page of the stretch has its one turn
 pub turn-inside : (upward : Bool) (lo count j : ℕ) → j < count → (lo ≤ pageInTurn upward lo count j) × (pageInTurn upward lo count j < lo + count)

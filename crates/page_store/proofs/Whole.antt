@@ -12,10 +12,11 @@ use lib.ListN.{length, take, drop, take-append-drop}
 use lib.Seq.{length-take-le}
 use Rattle.buffers.specs.Lists.{written}
 use Rattle.buffers.proofs.Written.{alike-later}
-use Rattle.pages.specs.Page.{part, stretch}
+use Rattle.pages.specs.Page.{part}
+use Rattle.pages.specs.Shape.{stretch}
 use Rattle.pages.proofs.Parts.{pages-apart}
 use Rattle.page_store.specs.Columns.{Columns}
-use Rattle.page_store.specs.Stores.{pageChanges, lowestFirst, highestFirst, changedPages, enough, columnStored, pageInTurn}
+use Rattle.page_store.specs.Stores.{columnsChange, lowestFirst, highestFirst, changedPages, enough, columnStored, pageInTurn}
 use Rattle.page_store.proofs.Alike.{SamePage, same-unchanged}
 use Rattle.page_store.proofs.OnePage.{part-front}
 use Rattle.page_store.proofs.Order.{turnOf, turn-of}
@@ -132,8 +133,8 @@ within-down changes lo hi (suc n) g = go (changes (lo + n)) (within-down changes
 
 pub within-changed : (upward : Bool) (b lo count : ℕ) (old new : Columns) → Within lo (lo + count) (changedPages upward b lo count old new)
 unfolding changedPages
-within-changed true b lo count old new = within-up (pageChanges b old new) lo (lo + count) lo count (le-refl lo) (le-refl (lo + count))
-within-changed false b lo count old new = within-down (pageChanges b old new) lo (lo + count) count (le-refl (lo + count))
+within-changed true b lo count old new = within-up (columnsChange b old new) lo (lo + count) lo count (le-refl lo) (le-refl (lo + count))
+within-changed false b lo count old new = within-down (columnsChange b old new) lo (lo + count) count (le-refl (lo + count))
 
 -- A column stored from lists that agree on those pages.
 stored-alike : (b lo hi : ℕ) (x y : List ℕ) → ((r : ℕ) → lo ≤ r → r < hi → part b r x ≡ part b r y) → (l old : List ℕ) → Within lo hi l
@@ -194,11 +195,11 @@ module _ (upward : Bool) (b lo count M : ℕ) (old new : Columns) (inside : lo +
         owners = sym (there (old .owners) (new .owners) _ (fo .owners) (owners-all upward b lo count count old new fo fn all) os r o);
       }
 
-  changes-here : (r : ℕ) → lo ≤ r → r < lo + count → pageChanges b old (finished b lo count old new) r ≡ pageChanges b old new r
-  unfolding pageChanges
+  changes-here : (r : ℕ) → lo ≤ r → r < lo + count → columnsChange b old (finished b lo count old new) r ≡ columnsChange b old new r
+  unfolding columnsChange
   changes-here r f g = let s = finished-here r f g in rw (s .numbers, s .words, s .owners)
 
-  changes-there : (r : ℕ) → r < M → (r < lo) ⊎ (lo + count ≤ r) → pageChanges b old (finished b lo count old new) r ≡ false
+  changes-there : (r : ℕ) → r < M → (r < lo) ⊎ (lo + count ≤ r) → columnsChange b old (finished b lo count old new) r ≡ false
   changes-there r h o = same-unchanged b old (finished b lo count old new) r (finished-there r o)
 
   -- Law 4. The changed pages of the whole file are those of the stretch.
@@ -207,8 +208,8 @@ module _ (upward : Bool) (b lo count M : ℕ) (old new : Columns) (inside : lo +
   changed-whole = go upward
     where
       go : (u : Bool) → changedPages u b 0 M old (finished b lo count old new) ≡ changedPages u b lo count old new
-      go true = whole-up (pageChanges b old (finished b lo count old new)) (pageChanges b old new) lo count M inside changes-here changes-there
-      go false = whole-down (pageChanges b old (finished b lo count old new)) (pageChanges b old new) lo count M inside changes-here changes-there
+      go true = whole-up (columnsChange b old (finished b lo count old new)) (columnsChange b old new) lo count M inside changes-here changes-there
+      go false = whole-down (columnsChange b old (finished b lo count old new)) (columnsChange b old new) lo count M inside changes-here changes-there
 
   -- .. and storing n of them from the finished file is storing n of them from the pool
   pub numbers-whole : (n : ℕ)

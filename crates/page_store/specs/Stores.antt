@@ -17,8 +17,8 @@ alike (x ∷ xs) [] = false
 alike (x ∷ xs) (y ∷ ys) = eqb x y && alike xs ys
 
 -- "those whose places change"
-unfoldable pub pageChanges : ℕ → Columns → Columns → ℕ → Bool
-pageChanges places old new page =
+unfoldable pub columnsChange : ℕ → Columns → Columns → ℕ → Bool
+columnsChange places old new page =
     not (alike (part places page (old .numbers)) (part places page (new .numbers))
     && (alike (part places page (old .words)) (part places page (new .words))
     && alike (part places page (old .owners)) (part places page (new .owners))))
@@ -36,7 +36,7 @@ highestFirst changes page (suc n) = cond (changes (page + n)) ((page + n) ∷ hi
 -- the stores of the call, in their order
 unfoldable pub changedPages : Bool → ℕ → ℕ → ℕ → Columns → Columns → List ℕ
 changedPages upward places lo count old new =
-    cond upward (lowestFirst (pageChanges places old new) lo count) (highestFirst (pageChanges places old new) lo count)
+    cond upward (lowestFirst (columnsChange places old new) lo count) (highestFirst (columnsChange places old new) lo count)
 
 -- "a store for every changed page, or more"
 unfoldable pub enough : ℕ → List ℕ → Bool

@@ -5,7 +5,7 @@ ghost use Prim.Native.Nat.{_+_, _*_, _≤_, _<_};
 ghost use lib.ListN.{length, take, drop};
 ghost use Rattle.buffers.specs.Lists.{written};
 ghost use Rattle.page_store.specs.Stores.{pageInTurn, changedPages, enough, columnStored};
-ghost use Rattle.page_store.specs.Columns.{before};
+ghost use Rattle.page_store.specs.Columns.{columnsBefore};
 use crate::one_page::page_differs;
 use crate::one_page::store_page;
 
@@ -37,13 +37,13 @@ fn store_pages(
     requires { ⌜ ((lo + count) * places ≤ length (now numbers)) × ((lo + count) * places ≤ length (now poolnumbers)) ⌝ }
     requires { ⌜ ((lo + count) * places ≤ length (now words)) × ((lo + count) * places ≤ length (now poolwords)) ⌝ }
     requires { ⌜ ((lo + count) * places ≤ length (now owners)) × ((lo + count) * places ≤ length (now poolowners)) ⌝ }
-    ensures { λ r. ⌜ r ≡ enough limit (changedPages upward places lo count (before numbers words owners) (before poolnumbers poolwords poolowners)) ⌝ }
+    ensures { λ r. ⌜ r ≡ enough limit (changedPages upward places lo count (columnsBefore numbers words owners) (columnsBefore poolnumbers poolwords poolowners)) ⌝ }
     ensures { λ _. ⌜ now (numbers .exit) ≡ columnStored places (now (poolnumbers .entry)) (take limit
-        (changedPages upward places lo count (before numbers words owners) (before poolnumbers poolwords poolowners))) (now (numbers .entry)) ⌝ }
+        (changedPages upward places lo count (columnsBefore numbers words owners) (columnsBefore poolnumbers poolwords poolowners))) (now (numbers .entry)) ⌝ }
     ensures { λ _. ⌜ now (words .exit) ≡ columnStored places (now (poolwords .entry)) (take limit
-        (changedPages upward places lo count (before numbers words owners) (before poolnumbers poolwords poolowners))) (now (words .entry)) ⌝ }
+        (changedPages upward places lo count (columnsBefore numbers words owners) (columnsBefore poolnumbers poolwords poolowners))) (now (words .entry)) ⌝ }
     ensures { λ _. ⌜ now (owners .exit) ≡ columnStored places (now (poolowners .entry)) (take limit
-        (changedPages upward places lo count (before numbers words owners) (before poolnumbers poolwords poolowners))) (now (owners .entry)) ⌝ }
+        (changedPages upward places lo count (columnsBefore numbers words owners) (columnsBefore poolnumbers poolwords poolowners))) (now (owners .entry)) ⌝ }
 {
     let mut stored = 0;
     let mut turn = 0;
@@ -99,15 +99,15 @@ pub fn store(
     requires { ⌜ ((lo + count) * places ≤ length (now numbers)) × ((lo + count) * places ≤ length (now poolnumbers)) ⌝ }
     requires { ⌜ ((lo + count) * places ≤ length (now words)) × ((lo + count) * places ≤ length (now poolwords)) ⌝ }
     requires { ⌜ ((lo + count) * places ≤ length (now owners)) × ((lo + count) * places ≤ length (now poolowners)) ⌝ }
-    ensures { λ r. ⌜ r ≡ enough limit (changedPages upward places lo count (before numbers words owners) (before poolnumbers poolwords poolowners)) ⌝ }
-    ensures { λ _. ⌜ now (separators .exit) ≡ cond (enough limit (changedPages upward places lo count (before numbers words owners)
-        (before poolnumbers poolwords poolowners))) (written lo (take count (drop lo (now (planned .entry)))) (now (separators .entry))) (now (separators .entry)) ⌝ }
+    ensures { λ r. ⌜ r ≡ enough limit (changedPages upward places lo count (columnsBefore numbers words owners) (columnsBefore poolnumbers poolwords poolowners)) ⌝ }
+    ensures { λ _. ⌜ now (separators .exit) ≡ cond (enough limit (changedPages upward places lo count (columnsBefore numbers words owners)
+        (columnsBefore poolnumbers poolwords poolowners))) (written lo (take count (drop lo (now (planned .entry)))) (now (separators .entry))) (now (separators .entry)) ⌝ }
     ensures { λ _. ⌜ now (numbers .exit) ≡ columnStored places (now (poolnumbers .entry)) (take limit
-        (changedPages upward places lo count (before numbers words owners) (before poolnumbers poolwords poolowners))) (now (numbers .entry)) ⌝ }
+        (changedPages upward places lo count (columnsBefore numbers words owners) (columnsBefore poolnumbers poolwords poolowners))) (now (numbers .entry)) ⌝ }
     ensures { λ _. ⌜ now (words .exit) ≡ columnStored places (now (poolwords .entry)) (take limit
-        (changedPages upward places lo count (before numbers words owners) (before poolnumbers poolwords poolowners))) (now (words .entry)) ⌝ }
+        (changedPages upward places lo count (columnsBefore numbers words owners) (columnsBefore poolnumbers poolwords poolowners))) (now (words .entry)) ⌝ }
     ensures { λ _. ⌜ now (owners .exit) ≡ columnStored places (now (poolowners .entry)) (take limit
-        (changedPages upward places lo count (before numbers words owners) (before poolnumbers poolwords poolowners))) (now (owners .entry)) ⌝ }
+        (changedPages upward places lo count (columnsBefore numbers words owners) (columnsBefore poolnumbers poolwords poolowners))) (now (owners .entry)) ⌝ }
 {
     let all = store_pages(
         numbers,

@@ -4,8 +4,8 @@ ghost use Prim.Native.Nat.{_+_, _*_, _≤_};
 ghost use lib.ListN.{length};
 ghost use Rattle.buffers.specs.Lists.{written};
 ghost use Rattle.pages.specs.Page.{part};
-ghost use Rattle.page_store.specs.Stores.{pageChanges};
-ghost use Rattle.page_store.specs.Columns.{before};
+ghost use Rattle.page_store.specs.Stores.{columnsChange};
+ghost use Rattle.page_store.specs.Columns.{columnsBefore};
 use crate::items::same_8;
 use crate::items::same_32;
 use crate::items::same_64;
@@ -23,7 +23,7 @@ pub fn page_differs(
     requires { ⌜ (page * places + places ≤ length (now numbers)) × (page * places + places ≤ length (now poolnumbers)) ⌝ }
     requires { ⌜ (page * places + places ≤ length (now words)) × (page * places + places ≤ length (now poolwords)) ⌝ }
     requires { ⌜ (page * places + places ≤ length (now owners)) × (page * places + places ≤ length (now poolowners)) ⌝ }
-    ensures { λ r. ⌜ r ≡ pageChanges places (before numbers words owners) (before poolnumbers poolwords poolowners) page ⌝ }
+    ensures { λ r. ⌜ r ≡ columnsChange places (columnsBefore numbers words owners) (columnsBefore poolnumbers poolwords poolowners) page ⌝ }
 {
     let at = page * places;
     if !same_32(numbers, poolnumbers, at, places) {

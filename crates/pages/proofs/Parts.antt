@@ -10,7 +10,8 @@ use lib.ListN.{length, take, drop, set, getD, replicate, length-drop, length-set
 use lib.Seq.{length-take-le, take-at, take-add, drop-drop, take-suc, getD-take, getD-drop, append-snoc, set-at}
 use Rattle.buffers.specs.Lists.{padded}
 use Rattle.buffers.proofs.Lists.{padded-item, length-padded}
-use Rattle.pages.specs.Page.{part, stretch, filled}
+use Rattle.pages.specs.Page.{part}
+use Rattle.pages.specs.Shape.{stretch, filled}
 
 -- a page that stands before another ends where the other begins, or before
 pub pages-apart : (places p q : ℕ) → p < q → p * places + places ≤ q * places

@@ -12,7 +12,8 @@ use borrow.Author.Tests.{ltb-true, eqb-true, lt-ltb, le-ltb, le-leb, lt-leb, eq-
 use lib.Dec.{ltb, eqb}
 use lib.ListN.{length, take, drop, getD, replicate, drop-of-length-le}
 use lib.Seq.{length-take-le, drop-cons, getD-take}
-use Rattle.pages.specs.Page.{stops, placeOf, heldAt, placeIn, empties, rising, orderlyNumbers}
+use Rattle.pages.specs.Page.{stops, placeOf, heldAt, empties}
+use Rattle.pages.specs.Shape.{placeIn, rising, orderlyNumbers}
 
 cond-le : (t : Bool) {x y : ℕ} → x ≤ y → cond t 0 (suc x) ≤ suc y
 cond-le true h = zero-le

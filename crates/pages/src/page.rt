@@ -2,7 +2,7 @@
 ghost use mathlib.Core.Path.{_≡_};
 ghost use Prim.Native.Nat.{_+_, _*_, _≤_};
 ghost use lib.ListN.{length, take};
-ghost use Rattle.pages.specs.Page.{pageAt, placeIn};
+ghost use Rattle.pages.specs.Shape.{pageAt, placeIn};
 
 // Unused places are empty: number 0, word 0, owner 0.
 pub struct Page {

@@ -5,7 +5,8 @@ use mathlib.Core.List.{List, [], _∷_, _++_}
 use Prim.Native.Nat.{ℕ, zero, suc, _+_, _≤_}
 use native.Mathlib.Omega.{arith}
 use borrow.Author.Tests.{lt-ltb}
-use Rattle.placement.specs.Rule.{Star, Hash, Contents, filter, staying, passing, separatorOf, contentsOf, onward, pages, left, pour, collected}
+use Rattle.placement.specs.Rule.{Star, Hash, Contents, filter, staying, passing, separatorOf, contentsOf, onward, pages, left, pour}
+use Rattle.placement.specs.Shape.{collected}
 use Rattle.placement.proofs.Filters.{filter-within}
 use Rattle.placement.proofs.Separator.{stays, below-home}
 use Rattle.placement.proofs.Irrelevance.{near}

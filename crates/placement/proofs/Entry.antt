@@ -9,7 +9,8 @@ use native.Mathlib.Omega.{arith}
 use lib.ListN.{length, take, drop, getD, length-append}
 use lib.Seq.{getD-take, getD-drop, drop-at, length-take-le}
 use Rattle.buffers.specs.Lists.{written}
-use Rattle.placement.specs.Rule.{Star, Hash, Contents, pages, left, first, insert, without, separators, blank}
+use Rattle.placement.specs.Rule.{Star, Hash, Contents, pages, left, first, insert, without, separators}
+use Rattle.placement.specs.Shape.{blank}
 use Rattle.placement.specs.File.{File, gathered, fileOf, replaced, laid}
 use Rattle.placement.proofs.Separator.{Bounded}
 use Rattle.placement.proofs.Composition.{length-pages, left-add, middle-pages}

@@ -10,8 +10,10 @@ use lib.Seq.{drop-cons, take-all, length-take-le}
 use Rattle.buffers.proofs.Written.{written-add, length-written}
 use Rattle.buffers.specs.Lists.{written, padded}
 use Rattle.pages.specs.Page.{part}
-use Rattle.placement.specs.Rule.{Star, Hash, Contents, contentsOf, onward, pages, left, pour, collected, separators, blank}
-use Rattle.placement.specs.File.{File, starsAt, contentsAt, pagesAt, gathered, column, fileOf, replaced, laid, Sized}
+use Rattle.placement.specs.Rule.{Star, Hash, Contents, contentsOf, onward, pages, left, pour, separators}
+use Rattle.placement.specs.Shape.{collected, blank}
+use Rattle.placement.specs.File.{File, starsAt, contentsAt, pagesAt, gathered, column, fileOf, replaced, laid}
+use Rattle.placement.specs.Shape.{Sized}
 use Rattle.placement.proofs.Separator.{sep-fits}
 use Rattle.placement.proofs.Composition.{length-pages, middle-pages}
 use Rattle.placement.proofs.Standing.{length-separators, page-first, stands-first, standsAt}

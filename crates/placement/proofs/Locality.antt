@@ -11,7 +11,8 @@ use lib.ListN.{length, getD}
 use borrow.Author.Tests.{lt-ltb, le-ltb, eqb-true, ne-eqb, eq-eqb}
 use Rattle.buffers.proofs.Written.{written-middle}
 use Rattle.buffers.specs.Lists.{written}
-use Rattle.placement.specs.Rule.{Star, Hash, Contents, separators, filter, pages, left, first, insert, pour, without, collected}
+use Rattle.placement.specs.Rule.{Star, Hash, Contents, separators, filter, pages, left, first, insert, pour, without}
+use Rattle.placement.specs.Shape.{collected}
 use Rattle.placement.proofs.Filters.{Within, filter-none, filter-comm, filter-filter, filter-within, filter-absorb, filter-rest}
 use Rattle.placement.proofs.Separator.{Bounded}
 use Rattle.placement.proofs.Composition.{left-add, pages-add, length-pages}

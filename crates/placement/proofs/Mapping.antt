@@ -5,7 +5,8 @@ use mathlib.Core.List.{List, [], _∷_, map}
 use Prim.Native.Nat.{ℕ, zero, suc}
 use lib.Dec.{leb, eqb}
 use lib.ListN.{length-map}
-use Rattle.placement.specs.Rule.{Star, Hash, Contents, keep, filter, below, staying, passing, separatorFrom, separatorOf, contentsOf, onward, pages, left, insert, pour, without, collected}
+use Rattle.placement.specs.Rule.{Star, Hash, Contents, keep, filter, below, staying, passing, separatorFrom, separatorOf, contentsOf, onward, pages, left, insert, pour, without}
+use Rattle.placement.specs.Shape.{collected}
 
 abbrev pub Keeps : (Star → Star) → Type 0
 Keeps g = (s : Star) → g s .number ≡ s .number

@@ -7,11 +7,13 @@ use native.Mathlib.Omega.{arith}
 use lib.ListN.{length}
 use Rattle.hashing.specs.declared.Parameters.{Parameters}
 use Rattle.hashing.specs.declared.Geometry.{Geometry}
-use Rattle.generator.specs.Generator.{chain, multipliers, firstMultipliers}
+use Rattle.generator.specs.Generator.{chain, multipliers}
+use Rattle.generator.specs.Shape.{firstMultipliers}
 use Rattle.generator.proofs.Powers.{length-chain, lent-chain}
 use Rattle.hashing.specs.Geometry.{multiplierOf}
 use Rattle.hashing.specs.Limits.{validParameters, validGrowth}
-use Rattle.placement.specs.File.{File, Sized}
+use Rattle.placement.specs.File.{File}
+use Rattle.placement.specs.Shape.{Sized}
 use Rattle.placement.specs.Ready.{Signers, Homing, Ready, Pooled}
 
 pub homing : {g : Geometry} {t : List ℕ} → t ≡ firstMultipliers (multiplierOf (g .parameters)) → validParameters (g .parameters) ≡ true

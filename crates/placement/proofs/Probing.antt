@@ -14,7 +14,8 @@ use Rattle.hashing.proofs.Bounds.{limits}
 use Rattle.generator.proofs.Scrambling.{signature-below}
 use Rattle.hashing.proofs.Homes.{home-pages}
 use Rattle.placement.specs.Rule.{below, first}
-use Rattle.placement.specs.Hash.{hashOf, hashFrom, namedPage}
+use Rattle.placement.specs.Hash.{hashOf, namedPage}
+use Rattle.placement.specs.Shape.{hashFrom}
 use Rattle.placement.proofs.Separator.{Bounded}
 use Rattle.placement.proofs.Standing.{first-le}
 

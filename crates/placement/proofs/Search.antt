@@ -11,6 +11,7 @@ use lib.ListN.{length, getD}
 use borrow.Author.Tests.{lt-ltb, eqb-false, ne-eqb}
 use Rattle.buffers.specs.Lists.{padded}
 use Rattle.pages.specs.Page as page
+use Rattle.pages.specs.Shape as shape
 use Rattle.pages.specs.Page.{part, placeOf, heldAt}
 use Rattle.pages.proofs.Places.{held-there, place-is, held-at, rising-orderly}
 use Rattle.placement.specs.Rule.{Star, Hash, keep, pages, left, first, separators, starWith}
@@ -22,8 +23,8 @@ use Rattle.placement.proofs.Pages.{Proper, orderly-rising, orderly-colu
 use Rattle.placement.proofs.Files.{numberOf, page-member, starsAt-laid, sized-laid}
 use Rattle.placement.proofs.Sound.{sound-laid}
 
-rising-numbers : (last : ℕ) (l : List Star) → Rising (suc last) l → page.rising last (map numberOf l) ≡ true
-unfolding page.rising
+rising-numbers : (last : ℕ) (l : List Star) → Rising (suc last) l → shape.rising last (map numberOf l) ≡ true
+unfolding shape.rising
 rising-numbers last [] r = refl
 rising-numbers last (s ∷ l) r = rw (lt-ltb last (s .number) (r .0)) (rising-numbers (s .number) l (r .1))
 
@@ -50,10 +51,10 @@ starsOf-append (n ∷ ns) (w ∷ ws) (o ∷ os) ns′ ws′ os′ h = go (not (e
     go false ih = ih
 
 -- The numbers of an orderly page are orderly in the sense of the search.
-pub orderly-numbers : (ok : ℕ → Bool) (last : ℕ) (ns ws os : List ℕ) → last ≤ greatest → Even ns ws os → orderly ok last ns ws os ≡ true → page.orderlyNumbers last ns ≡ true
+pub orderly-numbers : (ok : ℕ → Bool) (last : ℕ) (ns ws os : List ℕ) → last ≤ greatest → Even ns ws os → orderly ok last ns ws os ≡ true → shape.orderlyNumbers last ns ≡ true
 unfolding padded
 orderly-numbers ok last ns ws os h l e =
-    ap (page.orderlyNumbers last) (orderly-columns ok last ns ws os (l .0) (l .1) e .0)
+    ap (shape.orderlyNumbers last) (orderly-columns ok last ns ws os (l .0) (l .1) e .0)
     ∙ rising-orderly last (map numberOf (starsOf ns ws os)) (length ns - length (map numberOf (starsOf ns ws os)))
     (rising-numbers last (starsOf ns ws os) (orderly-rising ok last ns ws os h e))
 
@@ -107,7 +108,7 @@ pub star-held : (ok : ℕ → Bool) (ns ws os : List ℕ) (s : Star) → Even ns
     → (heldAt (s .number) ns ≡ true) × (getD ws (placeOf (s .number) ns) 0 ≡ s .payload .word) × (getD os (placeOf (s .number) ns) 0 ≡ s .payload .owner)
 star-held ok ns ws os s l e m =
     let r = star-at ns ws os s m in
-    let o : page.orderlyNumbers 0 ns ≡ true = orderly-numbers ok 0 ns ws os (omega arith) l e in
+    let o : shape.orderlyNumbers 0 ns ≡ true = orderly-numbers ok 0 ns ws os (omega arith) l e in
     let at : placeOf (s .number) ns ≡ r .0 = place-is 0 (s .number) ns (r .0) o (r .5) (r .1) (r .2) in (
       held-at 0 (s .number) ns (r .0) o (r .5) (r .1) (r .2),
       ap (λ (i : ℕ). getD ws i 0) at ∙ r .3,

@@ -15,8 +15,10 @@ use Rattle.buffers.proofs.Tests.{and-true}
 use Rattle.buffers.proofs.Written.{written-same}
 use Rattle.buffers.specs.Lists.{written, padded}
 use Rattle.pages.specs.Page.{part}
-use Rattle.placement.specs.Rule.{Star, Hash, Contents, filter, contentsOf, onward, pages, left, first, insert, pour, separators, blank}
-use Rattle.placement.specs.File.{File, starsAt, contentsAt, pagesAt, gathered, orderly, every, sound, column, fileOf, replaced, laid, Sized, Clean}
+use Rattle.placement.specs.Rule.{Star, Hash, Contents, filter, contentsOf, onward, pages, left, first, insert, pour, separators}
+use Rattle.placement.specs.Shape.{blank}
+use Rattle.placement.specs.File.{File, starsAt, contentsAt, pagesAt, gathered, orderly, every, sound, column, fileOf, replaced, laid, Clean}
+use Rattle.placement.specs.Shape.{Sized}
 use Rattle.placement.proofs.Filters.{filter-all, filter-ext-on, filter-all-on, filter-none-on}
 use Rattle.placement.proofs.Separator.{Bounded, sep-le}
 use Rattle.placement.proofs.Composition.{length-pages}

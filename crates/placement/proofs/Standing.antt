@@ -9,7 +9,8 @@ use native.Mathlib.Omega.{arith}
 use lib.Dec.{eqb}
 use lib.ListN.{length, getD, take, drop, length-map}
 use borrow.Author.Tests.{leb-false, eqb-true, eq-eqb, ne-eqb}
-use Rattle.placement.specs.Rule.{Star, Hash, Contents, filter, below, staying, passing, separatorOf, contentsOf, onward, pages, left, first, separators, blank}
+use Rattle.placement.specs.Rule.{Star, Hash, Contents, filter, below, staying, passing, separatorOf, contentsOf, onward, pages, left, first, separators}
+use Rattle.placement.specs.Shape.{blank}
 use Rattle.placement.proofs.Filters.{filter-ext, filter-all, filter-filter, member-filter, filter-member}
 use Rattle.placement.proofs.Separator.{Bounded, stays, below-top, below-home}
 use Rattle.placement.proofs.Composition.{length-pages}

@@ -18,8 +18,10 @@ use Rattle.pages.specs.Position.{validNumber, validWord}
 use Rattle.pages.specs.Page.{part}
 use Rattle.pages.proofs.Parts.{page-fits, part-length, part-item}
 use Rattle.placement.specs.Rule.{Star}
-use Rattle.placement.specs.File.{File, Sized, starsAt, greatest, orderly}
-use Rattle.placement.specs.Hash.{hashOf, soundAt, namedPage, homeIn, homesOf}
+use Rattle.placement.specs.File.{File, starsAt, greatest, orderly}
+use Rattle.placement.specs.Shape.{Sized}
+use Rattle.placement.specs.Hash.{hashOf, soundAt, namedPage}
+use Rattle.placement.specs.Shape.{homeIn, homesOf}
 use Rattle.placement.proofs.Separator.{below-home, below-signature}
 use Rattle.placement.proofs.Standing.{first-below}
 use Rattle.placement.proofs.Search.{starAt, at-star}

@@ -9,7 +9,8 @@ use lib.Seq.{take-at, drop-at, take-append-le, drop-append-le, length-take-le, d
 use Rattle.buffers.specs.Lists.{written, padded}
 use Rattle.buffers.proofs.Lists.{length-padded}
 use Rattle.buffers.proofs.Written.{around, written-middle}
-use Rattle.placement.specs.Rule.{Star, Contents, separators, blank}
+use Rattle.placement.specs.Rule.{Star, Contents, separators}
+use Rattle.placement.specs.Shape.{blank}
 use Rattle.pages.specs.Page.{part}
 use Rattle.pages.proofs.Parts.{part-length, page-fits}
 use Rattle.placement.specs.File.{column}

@@ -4,7 +4,7 @@ use mathlib.Core.Bool.{Bool, true, false, not, cond, _&&_}
 use mathlib.Core.List.{List, [], _∷_, _++_, map}
 use Prim.Native.Nat.{ℕ, zero, suc, _*_, _<_}
 use lib.Dec.{leb, ltb, eqb}
-use lib.ListN.{length, getD}
+use lib.ListN.{getD}
 unfoldable pub use Rattle.buffers.specs.Lists.{padded, written}
 use Rattle.pages.specs.Page.{part}
 use Rattle.placement.specs.Rule.{Star, Hash, Contents, keep, pages, first, pour, separators, starWith}
@@ -92,13 +92,6 @@ replaced places f p cs =
 -- The whole file under the rule.
 unfoldable pub laid : ℕ → Hash → ℕ → List Star → File
 laid places H M w = fileOf places (pages H 0 M w)
-
--- "M separators; M·b star numbers; M·b position words", and M·b owners.
-pub record Sized (places M : ℕ) (f : File) : Type 0 where
-  pub ofSeparators : length (f .separators) ≡ M
-  pub ofNumbers : length (f .numbers) ≡ M * places
-  pub ofWords : length (f .words) ≡ M * places
-  pub ofOwners : length (f .owners) ≡ M * places
 
 -- All pages are sound, and the file is what the rule gives its stars.
 pub record Clean (ok : ℕ → Bool) (H : Hash) (M : ℕ) (f : File) : Type 0 where

@@ -1,11 +1,9 @@
 -- The rule's hash by document 01's home and signature, with the soundness of a page and the page that the separators name.
-use mathlib.Core.Bool.{Bool, cond}
-use mathlib.Core.List.{List, map}
+use mathlib.Core.Bool.{Bool}
+use mathlib.Core.List.{List}
 use Prim.Native.Nat.{ℕ, _+_, _-_}
-use lib.Dec.{eqb}
 use Rattle.hashing.specs.declared.Parameters.{Parameters}
 use Rattle.hashing.specs.declared.Growth.{Growth}
-use Rattle.hashing.specs.declared.Geometry.{Geometry}
 use Rattle.generator.specs.Generator.{signature, topOf}
 use Rattle.hashing.specs.Geometry.{multiplierOf}
 use Rattle.hashing.specs.Home.{home}
@@ -23,16 +21,6 @@ hashOf p g =
       room = p .places;
     }
 
--- The same for a number whose home is known.
-unfoldable pub hashFrom : Parameters → ℕ → Hash
-hashFrom p from =
-    record {
-      home = λ k. from;
-      signature = λ k page. signature (multiplierOf p) (p .bits) k (page - from + 1);
-      top = topOf (p .bits);
-      room = p .places;
-    }
-
 -- "A page is sound if".
 unfoldable pub soundAt : Parameters → Growth → File → ℕ → Bool
 soundAt p g f page = sound validWord (hashOf p g) f page
@@ -40,17 +28,6 @@ soundAt p g f page = sound validWord (hashOf p g) f page
 -- "The page the separators name", M if none is named.
 unfoldable pub namedPage : Parameters → Growth → List ℕ → ℕ → ℕ
 namedPage p g seps k = first (hashOf p g) 0 seps k
-
--- A number's home under a geometry.
-abbrev pub homeUnder : Geometry → ℕ → ℕ
-homeUnder g k = home (multiplierOf (g .parameters)) (g .parameters) (g .growth) k
-
--- The homes of a page's numbers, 0 for an empty place.
-abbrev pub homeIn : Parameters → Growth → ℕ → ℕ
-homeIn p g n = cond (eqb n 0) 0 (home (multiplierOf p) p g n)
-
-unfoldable pub homesOf : Parameters → Growth → List ℕ → List ℕ
-homesOf p g ns = map (homeIn p g) ns
 
 -- The lent file buffers by their contents.
 abbrev pub lent : List ℕ → List ℕ → List ℕ → List ℕ → File

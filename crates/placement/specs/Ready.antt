@@ -6,10 +6,12 @@ use Prim.Native.Nat.{ℕ, _*_, _≤_}
 use lib.ListN.{length}
 use Rattle.hashing.specs.declared.Parameters.{Parameters}
 use Rattle.hashing.specs.declared.Geometry.{Geometry}
-use Rattle.generator.specs.Generator.{chain, firstMultipliers}
+use Rattle.generator.specs.Generator.{chain}
+use Rattle.generator.specs.Shape.{firstMultipliers}
 use Rattle.hashing.specs.Geometry.{multiplierOf}
 use Rattle.hashing.specs.Limits.{validParameters, validGrowth}
-use Rattle.placement.specs.File.{File, Sized}
+use Rattle.placement.specs.File.{File}
+use Rattle.placement.specs.Shape.{Sized}
 
 -- for signatures: the table is that of the parameters' own multiplier, its first ninety entries or more, and the parameters are valid
 pub record Signers (p : Parameters) (t : List ℕ) : Type 0 where

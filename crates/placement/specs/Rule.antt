@@ -93,20 +93,5 @@ pour (x ∷ xs) l = insert x (pour xs l)
 unfoldable pub without : ℕ → List Star → List Star
 without k w = filter (λ (s : Star). not (eqb (s .number) k)) w
 
--- "A change writes one word", "a change leaves the owner": the star of number k gets the word v.
-unfoldable pub reworded : ℕ → ℕ → Star → Star
-reworded k v s = cond (eqb (s .number) k) (starWith (s .number) v (s .payload .owner)) s
-
-unfoldable pub changed : ℕ → ℕ → List Star → List Star
-changed k v w = map (reworded k v) w
-
--- The stars that stand on these pages, by number.
-unfoldable pub collected : List Contents → List Star
-collected [] = []
-collected (c ∷ cs) = pour (c .stars) (collected cs)
-
 unfoldable pub separators : List Contents → List ℕ
 separators cs = map (λ (c : Contents). c .separator) cs
-
-abbrev pub blank : Contents
-blank = record { separator = 0; stars = [] }

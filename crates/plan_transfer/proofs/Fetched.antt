@@ -9,7 +9,7 @@ use lib.Seq.{paste, drop-paste, getD-drop}
 use Rattle.buffers.specs.Lists.{written}
 use Rattle.buffers.proofs.Lists.{map-take, within}
 use Rattle.buffers.proofs.Written.{paste-written, through}
-use Rattle.pages.specs.Page.{stretch}
+use Rattle.pages.specs.Shape.{stretch}
 use Rattle.plan_transfer.specs.Sources.{namedItem}
 
 suc-sub : (i : ℕ) → suc i - 1 ≡ i

@@ -4,7 +4,7 @@ ghost use mathlib.Core.List.{map};
 ghost use Prim.Native.Nat.{_+_, _*_, _≤_};
 ghost use lib.ListN.{length, take, drop, replicate};
 ghost use lib.Seq.{paste};
-ghost use Rattle.pages.specs.Page.{stretch};
+ghost use Rattle.pages.specs.Shape.{stretch};
 ghost use Rattle.buffers.specs.Lists.{written};
 ghost use Rattle.plan_transfer.specs.Sources.{namedItem};
 

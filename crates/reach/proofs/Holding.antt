@@ -11,7 +11,8 @@ use lib.ListN.{length, take, drop, getD, length-append}
 use lib.Seq.{length-take-le}
 use borrow.Author.Tests.{eq-eqb, ne-eqb}
 use Rattle.buffers.specs.Lists.{written}
-use Rattle.placement.specs.Rule.{Star, Hash, Contents, staying, passing, separatorOf, contentsOf, onward, pages, left, blank}
+use Rattle.placement.specs.Rule.{Star, Hash, Contents, staying, passing, separatorOf, contentsOf, onward, pages, left}
+use Rattle.placement.specs.Shape.{blank}
 use Rattle.placement.proofs.Filters.{member-filter}
 use Rattle.placement.proofs.Separator.{stays}
 use Rattle.placement.proofs.Composition.{length-pages}

@@ -10,7 +10,8 @@ use lib.Seq.{length-take-le}
 use Rattle.buffers.specs.Lists.{written}
 use Rattle.buffers.proofs.Written.{written-middle}
 use Rattle.placement.specs.Rule.{Star, Hash, Contents, below, pages, left, first, insert, pour, separators}
-use Rattle.placement.specs.File.{File, Sized, pagesAt, gathered, column, replaced}
+use Rattle.placement.specs.File.{File, pagesAt, gathered, column, replaced}
+use Rattle.placement.specs.Shape.{Sized}
 use Rattle.placement.proofs.Filters.{filter-all}
 use Rattle.placement.proofs.Standing.{length-separators, first-before}
 use Rattle.placement.proofs.Order.{Absent}

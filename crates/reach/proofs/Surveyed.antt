@@ -17,14 +17,17 @@ use Rattle.hashing.specs.declared.Growth.{Growth}
 use Rattle.hashing.specs.declared.Geometry.{Geometry}
 use Rattle.pages.specs.Page.{part}
 use Rattle.pages.proofs.Parts.{page-fits, part-length}
-use Rattle.placement.specs.File.{File, Sized}
-use Rattle.placement.specs.Hash.{soundAt, homesOf, homeIn}
+use Rattle.placement.specs.File.{File}
+use Rattle.placement.specs.Shape.{Sized}
+use Rattle.placement.specs.Hash.{soundAt}
+use Rattle.placement.specs.Shape.{homesOf, homeIn}
 use Rattle.placement.proofs.Writing.{part-front, part-back}
 use Rattle.soundness.specs.Stretch.{Lowest}
 use Rattle.soundness.proofs.Pastes.{homes-next}
 use Rattle.soundness.proofs.Lent.{Passed, ahead as items-ahead}
 use Rattle.reach.specs.Known.{Known}
-use Rattle.reach.specs.Reach.{firstUnsound, firstSuch, homesKept}
+use Rattle.reach.specs.Reach.{firstUnsound, firstSuch}
+use Rattle.reach.specs.Shape.{homesKept}
 use Rattle.reach.proofs.Search.{Sought, sought-none, sought-next, sought-found, sought-all, sought-passed}
 use Rattle.reach.proofs.Pastes.{paste-more, paste-same}
 

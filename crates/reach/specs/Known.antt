@@ -7,7 +7,8 @@ use Rattle.hashing.specs.declared.Parameters.{Parameters}
 use Rattle.hashing.specs.declared.Growth.{Growth}
 use Rattle.pages.specs.Page.{part}
 use Rattle.placement.specs.File.{File}
-use Rattle.placement.specs.Hash.{soundAt, homesOf}
+use Rattle.placement.specs.Hash.{soundAt}
+use Rattle.placement.specs.Shape.{homesOf}
 
 -- if it is one of the file's, it is sound, and its homes are kept; the page past them says nothing
 pub record Known (p : Parameters) (g : Growth) (f : File) (homes : List ℕ) (page : ℕ) : Type 0 where

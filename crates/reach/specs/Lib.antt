@@ -1,3 +1,4 @@
 pub mod Reach
 pub mod Known
 pub mod Cascade
+pub mod Shape

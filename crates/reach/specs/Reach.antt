@@ -1,16 +1,14 @@
 -- Which pages a call re-places: document 01, "The cut".
 use mathlib.Core.Bool.{Bool, true, false, not, cond, _&&_, _||_}
 use mathlib.Core.List.{List, [], _∷_}
-use Prim.Native.Nat.{ℕ, zero, suc, _-_, _*_}
+use Prim.Native.Nat.{ℕ, zero, suc, _-_}
 use lib.Dec.{eqb}
-use lib.ListN.{getD, drop}
-use lib.Seq.{paste}
+use lib.ListN.{getD}
 use Rattle.hashing.specs.declared.Parameters.{Parameters}
 use Rattle.hashing.specs.declared.Growth.{Growth}
-use Rattle.hashing.specs.declared.Geometry.{Geometry}
 use Rattle.placement.specs.Rule.{Star, Hash, Contents, left, insert}
 use Rattle.placement.specs.File.{File, gathered}
-use Rattle.placement.specs.Hash.{soundAt, homesOf}
+use Rattle.placement.specs.Hash.{soundAt}
 
 -- the first number that passes the test, of the n from `from` on; the one past them if there is none
 unfoldable pub firstSuch : (ℕ → Bool) → ℕ → ℕ → ℕ
@@ -57,12 +55,6 @@ entryEnd H m f s =
 -- "pages of the reach, or all pages, upward, each as it is reached": the first unsound one of n, the page past them if there is none
 unfoldable pub firstUnsound : Parameters → Growth → File → ℕ → ℕ → ℕ
 firstUnsound p g f from n = firstSuch (λ (q : ℕ). not (soundAt p g f q)) from n
-
--- the list hs with the homes of the numbers ns at the items of the pages from `from` up to the one before `stop`
-abbrev pub homesKept : Geometry → ℕ → ℕ → List ℕ → List ℕ → List ℕ
-homesKept g from stop ns hs =
-    paste hs (from * g .parameters .places) (homesOf (g .parameters) (g .growth) (drop (from * g .parameters .places) ns))
-    ((stop - from) * g .parameters .places)
 
 unfoldable pub hasNumber : ℕ → List Star → Bool
 hasNumber k [] = false

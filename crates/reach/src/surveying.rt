@@ -5,7 +5,8 @@ ghost use lib.ListN.{length};
 ghost use Rattle.placement.specs.Lent.{held, before};
 ghost use Rattle.placement.specs.Ready.{Ready};
 ghost use Rattle.reach.specs.Known.{Known};
-ghost use Rattle.reach.specs.Reach.{firstUnsound, homesKept};
+ghost use Rattle.reach.specs.Reach.{firstUnsound};
+ghost use Rattle.reach.specs.Shape.{homesKept};
 use hashing::Geometry;
 
 // The survey of a stretch in which a page is known: that one is not tested again.

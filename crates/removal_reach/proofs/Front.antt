@@ -12,8 +12,10 @@ use lib.Seq.{length-take-le, getD-take, getD-drop}
 use borrow.Author.Tests.{ne-eqb, eqb-true}
 use Rattle.buffers.specs.Lists.{written}
 use Rattle.buffers.proofs.Written.{written-same, written-behind, taken-written, length-written}
-use Rattle.placement.specs.Rule.{Star, Hash, Contents, keep, filter, below, staying, passing, separatorOf, contentsOf, onward, pages, left, first, pour, without, collected, separators, blank}
-use Rattle.placement.specs.File.{File, Sized, pagesAt, gathered, column, replaced}
+use Rattle.placement.specs.Rule.{Star, Hash, Contents, keep, filter, below, staying, passing, separatorOf, contentsOf, onward, pages, left, first, pour, without, separators}
+use Rattle.placement.specs.Shape.{collected, blank}
+use Rattle.placement.specs.File.{File, pagesAt, gathered, column, replaced}
+use Rattle.placement.specs.Shape.{Sized}
 use Rattle.placement.proofs.Filters.{filter-filter, filter-all-on, filter-none-on, length-filter, length-split}
 use Rattle.placement.proofs.Order.{Rising, rising-member, filter-pour, length-pour}
 use Rattle.placement.proofs.Composition.{pages-add, length-pages, take-pages}

@@ -9,15 +9,17 @@ use lib.Dec.{ltb, eqb}
 use lib.ListN.{length, drop, getD, length-map, List·getD-map}
 use lib.Seq.{paste, getD-take, getD-drop}
 use borrow.Author.Tests.{lt-ltb, ne-eqb, not-false}
-use Rattle.pages.specs.Page.{stretch}
+use Rattle.pages.specs.Shape.{stretch}
 use Rattle.hashing.specs.declared.Parameters.{Parameters}
 use Rattle.hashing.specs.declared.Growth.{Growth}
 use Rattle.hashing.specs.Limits.{validParameters}
 use Rattle.hashing.proofs.Bounds.{limits}
 use Rattle.pages.specs.Position.{validWord}
 use Rattle.placement.specs.Rule.{Star, Hash, without}
-use Rattle.placement.specs.File.{File, Sized, gathered, greatest}
-use Rattle.placement.specs.Hash.{hashOf, soundAt, homeIn, homesOf}
+use Rattle.placement.specs.File.{File, gathered, greatest}
+use Rattle.placement.specs.Shape.{Sized}
+use Rattle.placement.specs.Hash.{hashOf, soundAt}
+use Rattle.placement.specs.Shape.{homeIn, homesOf}
 use Rattle.placement.proofs.Filters.{filter-all-on}
 use Rattle.placement.proofs.Sound.{AllSound, gathered-proper}
 use Rattle.placement.proofs.Tested.{item-on, real-facts}

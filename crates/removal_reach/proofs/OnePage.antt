@@ -17,7 +17,8 @@ use Rattle.pages.specs.Page.{part, placeOf}
 use Rattle.pages.specs.Position.{validNumber, validWord}
 use Rattle.pages.proofs.Places.{held-there}
 use Rattle.placement.specs.Rule.{Star, pages, without}
-use Rattle.placement.specs.File.{File, Sized, starsAt, gathered, replaced}
+use Rattle.placement.specs.File.{File, starsAt, gathered, replaced}
+use Rattle.placement.specs.Shape.{Sized}
 use Rattle.placement.specs.Hash.{hashOf, soundAt, namedPage, lent}
 use Rattle.placement.proofs.Filters.{length-filter}
 use Rattle.placement.proofs.Order.{member-without}

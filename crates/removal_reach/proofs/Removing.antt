@@ -18,8 +18,10 @@ use Rattle.hashing.specs.Limits.{validParameters, validGrowth}
 use Rattle.pages.specs.Page.{part}
 use Rattle.pages.specs.Position.{validWord}
 use Rattle.placement.specs.Rule.{Star, pages, without}
-use Rattle.placement.specs.File.{File, Sized, pagesAt, gathered, column, replaced}
-use Rattle.placement.specs.Hash.{hashOf, homesOf}
+use Rattle.placement.specs.File.{File, pagesAt, gathered, column, replaced}
+use Rattle.placement.specs.Shape.{Sized}
+use Rattle.placement.specs.Hash.{hashOf}
+use Rattle.placement.specs.Shape.{homesOf}
 use Rattle.placement.proofs.Probing.{homed-real}
 use Rattle.reach.specs.Known.{Known}
 use Rattle.reach.specs.Reach.{firstSuch, storedTop, removalEnd, firstUnsound}

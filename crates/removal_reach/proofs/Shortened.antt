@@ -12,10 +12,12 @@ use lib.Seq.{take-all, take-at}
 use Rattle.hashing.specs.declared.Parameters.{Parameters}
 use Rattle.hashing.specs.declared.Growth.{Growth}
 use Rattle.hashing.specs.Limits.{validParameters}
-use Rattle.pages.specs.Page.{stretch}
+use Rattle.pages.specs.Shape.{stretch}
 use Rattle.pages.specs.Position.{validWord}
-use Rattle.placement.specs.Rule.{Star, Hash, Contents, pages, without, collected}
-use Rattle.placement.specs.File.{File, Sized, pagesAt, gathered, replaced}
+use Rattle.placement.specs.Rule.{Star, Hash, Contents, pages, without}
+use Rattle.placement.specs.Shape.{collected}
+use Rattle.placement.specs.File.{File, pagesAt, gathered, replaced}
+use Rattle.placement.specs.Shape.{Sized}
 use Rattle.placement.specs.Hash.{hashOf, soundAt}
 use Rattle.placement.proofs.Composition.{take-pages}
 use Rattle.placement.proofs.Mapping.{mapped, collected-map}

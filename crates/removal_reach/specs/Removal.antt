@@ -11,7 +11,8 @@ use Rattle.pages.specs.Page.{part, heldAt, placeOf}
 use Rattle.pages.specs.Position.{validNumber}
 use Rattle.placement.specs.Rule.{pages, without, starWith}
 use Rattle.placement.specs.File.{File, gathered, replaced}
-use Rattle.placement.specs.Hash.{hashOf, soundAt, namedPage, homeUnder}
+use Rattle.placement.specs.Hash.{hashOf, soundAt, namedPage}
+use Rattle.placement.specs.Shape.{homeUnder}
 use Rattle.placement.specs.Ready.{Ready}
 use Rattle.reach.specs.Reach.{pagesTo, removalEnd, firstUnsound}
 use Rattle.page_plan.specs.declared.outcome.Outcome.{Outcome}

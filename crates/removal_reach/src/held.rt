@@ -4,7 +4,7 @@ ghost use mathlib.Core.Bool.{true};
 ghost use Rattle.placement.specs.Lent.{held, before, after};
 ghost use Rattle.placement.specs.Ready.{Pooled};
 ghost use Rattle.reach.specs.Known.{Known};
-ghost use Rattle.calls.specs.Stores.{stoppedFile};
+ghost use Rattle.calls.specs.Shape.{stoppedFile};
 ghost use Rattle.removal_reach.specs.Removal.{Removes, removalAnswer, removalFile};
 use crate::removal::decide_removal;
 use crate::star::HeldStar;

@@ -11,14 +11,16 @@ use lib.ListN.{length, take, drop, getD, drop-of-length-le}
 use lib.Seq.{drop-cons, getD-take, length-take-le}
 use borrow.Author.Tests.{eq-eqb, ne-eqb}
 use Rattle.hashing.specs.declared.Parameters.{Parameters}
-use Rattle.placement.specs.File.{File, Sized}
+use Rattle.placement.specs.File.{File}
+use Rattle.placement.specs.Shape.{Sized}
 use Rattle.placement.specs.Ready.{Pooled}
 use Rattle.calls.specs.declared.answers.Answer.{Answer}
 use Rattle.calls.specs.declared.answers.Refusal.{Refusal}
 use Rattle.calls.specs.declared.answers.Placed.{Placed}
 use Rattle.calls.specs.declared.answers.Placed.the-variants.{On, Refused}
 use Rattle.calls.specs.declared.records.GrowthRecord.{GrowthRecord}
-use Rattle.calls.specs.Answers.{Pool, Stores, placed, refusedBy, refusalNumber, spotted, pooled, cleared}
+use Rattle.calls.specs.Answers.{Pool, placed, refusedBy, refusalNumber, spotted, pooled, cleared}
+use Rattle.calls.specs.Shape.{Stores}
 use Rattle.calls.specs.Calls.{poolFits}
 use Rattle.calls.proofs.Numbers.{numbered}
 use Rattle.reports.specs.declared.Report.{Report}

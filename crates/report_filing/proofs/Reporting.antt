@@ -16,12 +16,13 @@ use Rattle.placement.specs.Hash.{hashOf, lent}
 use Rattle.placement.specs.Rule.{Star}
 use Rattle.reach.specs.Reach.{removalEnd, entryEnd}
 use Rattle.calls.specs.declared.answers.Answer.{Answer}
-use Rattle.calls.specs.Answers.{Pool, After, Stores, cleared, accepted, acceptedAt, refused, refusedAt, spotted}
+use Rattle.calls.specs.Answers.{Pool, After, cleared, accepted, acceptedAt, refused, refusedAt, spotted}
+use Rattle.calls.specs.Shape.{Stores}
 use Rattle.calls.specs.Calls.{fileFits, poolFits, unlent, unchanged, readable, named, holds, placeFor, itemOf, ownerFor, mayAlter, allowed, entered, enterTo, enterOn, enterOf, changeOn, changeOf, removeTo, removeOn, removeOf}
 use Rattle.calls.specs.Records.{validSteps, closedRecord, enterUnder, changeUnder, removeUnder}
 use Rattle.calls.proofs.Refusals.{well-lent}
 use Rattle.reports.specs.declared.Report.{Report}
-use Rattle.reports.specs.Reports.{positionOf, isRemoval}
+use Rattle.reports.specs.Reports.{reportedPosition, isRemoval}
 use Rattle.reports.specs.Filing.{removalFiled, positionFiled, reportFiled}
 use Rattle.reports.proofs.Trying.{sized-fits}
 use Rattle.reports.proofs.Filing.{Admitted, position-damaged, position-entered, position-changed, removal-damaged, removal-nothing, removal-removed}
@@ -38,8 +39,8 @@ left-out true t e h = absurd (false≢true (sym h))
 left-out false t e h = e
 
 -- what a valid report that is no removal has
-pub placed-well : (x : Report) → isRemoval x || validPosition (positionOf x) ≡ true → isRemoval x ≡ false → validPosition (positionOf x) ≡ true
-placed-well x e h = left-out (isRemoval x) (validPosition (positionOf x)) e h
+pub placed-well : (x : Report) → isRemoval x || validPosition (reportedPosition x) ≡ true → isRemoval x ≡ false → validPosition (reportedPosition x) ≡ true
+placed-well x e h = left-out (isRemoval x) (validPosition (reportedPosition x)) e h
 
 module _ {geometry : Geometry} {table : List ℕ} {f : File} (ready : Ready geometry table f) (pool : Pool) (x : Report)
     (fits : poolFits (geometry .parameters) pool ≡ true) where
@@ -56,7 +57,7 @@ module _ {geometry : Geometry} {table : List ℕ} {f : File} (ready : Ready geom
   place = placeFor p f page (x .number)
 
   abbrev star : Star
-  star = entered (x .owner) (x .number) (positionOf x)
+  star = entered (x .owner) (x .number) (reportedPosition x)
 
   abbrev filed : After
   filed = reportFiled p (closedRecord g) f pool x
@@ -105,16 +106,16 @@ module _ {geometry : Geometry} {table : List ℕ} {f : File} (ready : Ready geom
 
   module _ (n : validNumber (x .number) ≡ true) where
     -- 4, not for a removal
-    pub bad-position : isRemoval x || validPosition (positionOf x) ≡ false → Stores filed (refused 4 0) f
+    pub bad-position : isRemoval x || validPosition (reportedPosition x) ≡ false → Stores filed (refused 4 0) f
     bad-position bad =
-        let t = either-false (isRemoval x) (validPosition (positionOf x)) bad in
+        let t = either-false (isRemoval x) (validPosition (reportedPosition x)) bad in
         stores _ _ g _ pool (as-position (t .0) ∙ is (t .1))
       where
-        is : validPosition (positionOf x) ≡ false → positionFiled p (closedRecord g) f pool x ≡ unchanged g f pool (refused 4 0)
+        is : validPosition (reportedPosition x) ≡ false → positionFiled p (closedRecord g) f pool x ≡ unchanged g f pool (refused 4 0)
         is q = unfold positionFiled changeUnder changeOf validSteps spotted in rw (file-lent, n, q)
 
     -- 5
-    pub damaged : isRemoval x || validPosition (positionOf x) ≡ true → readable p g f page ≡ false → Stores filed (refused 5 page) f
+    pub damaged : isRemoval x || validPosition (reportedPosition x) ≡ true → readable p g f page ≡ false → Stores filed (refused 5 page) f
     damaged q bad =
         by-kind
         (λ e. stores _ _ g _ (cleared pool) (removal-damaged p (closedRecord g) f pool x (admitted n) bad))
@@ -126,7 +127,7 @@ module _ {geometry : Geometry} {table : List ℕ} {f : File} (ready : Ready geom
       nothing e new = stores _ _ g _ pool (as-removal e ∙ removal-nothing p (closedRecord g) f pool x (admitted n) good new)
 
       -- a star not held is entered
-      pub enters : isRemoval x ≡ false → validPosition (positionOf x) ≡ true → holds p f page (x .number) ≡ false
+      pub enters : isRemoval x ≡ false → validPosition (reportedPosition x) ≡ true → holds p f page (x .number) ≡ false
           → filed ≡ enterTo p g f (cleared pool) star place (entryEnd (hashOf p g) (p .pages) f star)
       enters e q new =
           as-position e
@@ -139,30 +140,30 @@ module _ {geometry : Geometry} {table : List ℕ} {f : File} (ready : Ready geom
             removal-removed p (closedRecord g) f pool x (admitted n) good old
             ∙ (unfold removeUnder removeOf removeOn validSteps in rw (all-lent, n, good, old))
 
-        position : validPosition (positionOf x) ≡ true → positionFiled p (closedRecord g) f pool x ≡ changeOn p g f pool page (x .owner) (x .number) (packed (positionOf x))
+        position : validPosition (reportedPosition x) ≡ true → positionFiled p (closedRecord g) f pool x ≡ changeOn p g f pool page (x .owner) (x .number) (packed (reportedPosition x))
         position q = position-changed p (closedRecord g) f pool x (admitted n) q good old ∙ (unfold changeUnder changeOf validSteps in rw (file-lent, n, q))
 
         -- 13
-        pub stranger : isRemoval x || validPosition (positionOf x) ≡ true → mayAlter (x .owner) (ownerFor p f page (x .number)) ≡ false
+        pub stranger : isRemoval x || validPosition (reportedPosition x) ≡ true → mayAlter (x .owner) (ownerFor p f page (x .number)) ≡ false
             → Stores filed (refusedAt 13 0 place) f
         stranger q may = by-kind (λ e. stores _ _ g _ (cleared pool) refused-removal) (λ e. stores _ _ g _ pool (refused-change (placed-well x q e)))
           where
             refused-removal : removalFiled p (closedRecord g) f pool x ≡ unchanged g f (cleared pool) (refusedAt 13 0 place)
             refused-removal = removal ∙ (unfold allowed in rw may)
 
-            refused-change : validPosition (positionOf x) ≡ true → positionFiled p (closedRecord g) f pool x ≡ unchanged g f pool (refusedAt 13 0 place)
+            refused-change : validPosition (reportedPosition x) ≡ true → positionFiled p (closedRecord g) f pool x ≡ unchanged g f pool (refusedAt 13 0 place)
             refused-change v = position v ∙ (unfold changeOn allowed in rw (good, old, may))
 
         pub removes : isRemoval x ≡ true → mayAlter (x .owner) (ownerFor p f page (x .number)) ≡ true
             → filed ≡ removeTo p g f (cleared pool) page (x .number) place (removalEnd (hashOf p g) (p .pages) f (hashOf p g .home (x .number)))
         removes e may = as-removal e ∙ removal ∙ (unfold allowed in rw may)
 
-        pub changes : isRemoval x ≡ false → validPosition (positionOf x) ≡ true → mayAlter (x .owner) (ownerFor p f page (x .number)) ≡ true
+        pub changes : isRemoval x ≡ false → validPosition (reportedPosition x) ≡ true → mayAlter (x .owner) (ownerFor p f page (x .number)) ≡ true
             → filed
             ≡ record {
               answer = acceptedAt page place;
               growth = g;
-              file = lent (f .separators) (f .numbers) (set (f .words) (itemOf p f page (x .number)) (packed (positionOf x))) (f .owners);
+              file = lent (f .separators) (f .numbers) (set (f .words) (itemOf p f page (x .number)) (packed (reportedPosition x))) (f .owners);
               pool = pool;
             }
         changes e q may = as-position e ∙ position q ∙ (unfold changeOn allowed in rw (good, old, may))

@@ -21,10 +21,11 @@ use Rattle.entry_reach.specs.Entry.{Unheld, entryAnswer, entryFile}
 use Rattle.removal_reach.specs.Removal.{Held, removalAnswer, removalFile}
 use Rattle.calls.specs.declared.answers.Answer.{Answer}
 use Rattle.calls.specs.declared.answers.Placed.{Placed}
-use Rattle.calls.specs.Answers.{Pool, After, Stores, placed, cleared, unpooled, accepted, acceptedAt, refusedAt}
+use Rattle.calls.specs.Answers.{Pool, After, placed, cleared, unpooled, accepted, acceptedAt, refusedAt}
+use Rattle.calls.specs.Shape.{Stores}
 use Rattle.calls.specs.Calls.{poolFits, unchanged, readable, named, holds, placeFor, itemOf, ownerFor, mayAlter, enterTo}
 use Rattle.calls.specs.Records.{closedRecord}
-use Rattle.calls.specs.Stores.{stoppedFile}
+use Rattle.calls.specs.Shape.{stoppedFile}
 use Rattle.calls.proofs.Stored.{whole-stopped}
 use Rattle.outcome_answer.specs.Outcomes.{OutcomeSmall, outcomePlaced}
 use Rattle.call_enter.proofs.Outcomes.{entered-is}
@@ -33,7 +34,7 @@ use Rattle.call_remove.proofs.Outcomes.{outcome-told, removal-small, removed-is
 use Rattle.call_remove.proofs.Pools.{held-star}
 use Rattle.named_page.specs.declared.finding.Named.{Named}
 use Rattle.reports.specs.declared.Report.{Report}
-use Rattle.reports.specs.Reports.{positionOf, isRemoval}
+use Rattle.reports.specs.Reports.{reportedPosition, isRemoval}
 use Rattle.reports.specs.Filing.{reportFiled}
 use Rattle.report_filing.specs.Filing.{Sought}
 use Rattle.report_filing.proofs.Reporting.{placed-well, nothing, enters, stranger, removes, changes}
@@ -81,7 +82,7 @@ module _ {geometry : Geometry} {table : List ℕ} {f : File} (ready : Ready geom
   pub absent-here : r .held ≡ false → Unheld p g f (x .number)
   absent-here new = unheld p g f (x .number) good (here false new)
 
-  pub position-valid : isRemoval x ≡ false → validPosition (positionOf x) ≡ true
+  pub position-valid : isRemoval x ≡ false → validPosition (reportedPosition x) ≡ true
   position-valid e = placed-well x (t .position) e
 
   pub removal-fits : OutcomeSmall (removalAnswer p g f (x .number) (r .page))
@@ -96,7 +97,7 @@ module _ {geometry : Geometry} {table : List ℕ} {f : File} (ready : Ready geom
     pub filed-nothing : r .held ≡ false → isRemoval x ≡ true → Stores filed (accepted 0) f
     filed-nothing new e = nothing ready pool x fits (t .number) good e (here false new)
 
-    pub filed-entry : r .held ≡ false → isRemoval x ≡ false → (word : ℕ) → word ≡ packed (positionOf x) → (answer : Placed) (o : Outcome) (l : File)
+    pub filed-entry : r .held ≡ false → isRemoval x ≡ false → (word : ℕ) → word ≡ packed (reportedPosition x) → (answer : Placed) (o : Outcome) (l : File)
         → answer ≡ outcomePlaced o (r .place) → o ≡ entryAnswer p g f (starWith (x .number) word (x .owner))
         → l ≡ stoppedFile false p f (entryFile p g f (starWith (x .number) word (x .owner))) (p .pages) → Stores filed (placed answer) l
     filed-entry new e word same answer o l a b m =
@@ -123,7 +124,7 @@ module _ {geometry : Geometry} {table : List ℕ} {f : File} (ready : Ready geom
           (outcome-told a (b ∙ ap (removalAnswer p g f (x .number)) (t .named .pageIs)) place-is ∙ is .0)
           (m ∙ whole-file true p g f _ ∙ is .1)
 
-      pub filed-change : isRemoval x ≡ false → mayAlter (x .owner) (r .owner) ≡ true → (word : ℕ) → word ≡ packed (positionOf x)
+      pub filed-change : isRemoval x ≡ false → mayAlter (x .owner) (r .owner) ≡ true → (word : ℕ) → word ≡ packed (reportedPosition x)
           → Stores filed (acceptedAt (r .page) (r .place)) (lent (f .separators) (f .numbers) (set (f .words) (r .item) word) (f .owners))
       filed-change e may word same =
           stored (changes ready pool x fits (t .number) good (here true old) e (position-valid e) (owned true old may))

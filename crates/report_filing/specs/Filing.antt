@@ -9,13 +9,14 @@ use Rattle.pages.specs.Position.{validNumber, validPosition}
 use Rattle.placement.specs.File.{File}
 use Rattle.reach.specs.Known.{Known}
 use Rattle.calls.specs.declared.answers.Answer.{Answer}
-use Rattle.calls.specs.Answers.{Pool, Stores, placed}
+use Rattle.calls.specs.Answers.{Pool, placed}
+use Rattle.calls.specs.Shape.{Stores}
 use Rattle.calls.specs.Calls.{poolFits}
 use Rattle.calls.specs.Records.{closedRecord}
 use Rattle.named_page.specs.declared.finding.Named.{Named}
 use Rattle.named_page.specs.Named.{NamedAs}
 use Rattle.reports.specs.declared.Report.{Report}
-use Rattle.reports.specs.Reports.{isRemoval, positionOf}
+use Rattle.reports.specs.Reports.{isRemoval, reportedPosition}
 use Rattle.reports.specs.Filing.{reportFiled}
 use Rattle.reports.specs.Filing as reports
 use Rattle.report_filing.specs.declared.filing.Filed.{Filed}
@@ -34,7 +35,7 @@ ReportFiled p g f x answer file =
 -- a report that meets neither 3 nor 4, and what its search found: the named page is readable, and the pool has its homes
 pub record Sought (p : Parameters) (g : Growth) (f : File) (homes : List ℕ) (x : Report) (r : Named) : Type 0 where
   pub number : validNumber (x .number) ≡ true
-  pub position : isRemoval x || validPosition (positionOf x) ≡ true
+  pub position : isRemoval x || validPosition (reportedPosition x) ≡ true
   pub named : NamedAs p g f (x .number) r
   pub readable : r .readable ≡ true
   pub known : Known p g f homes (r .page)

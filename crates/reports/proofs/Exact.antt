@@ -17,10 +17,10 @@ use Rattle.calls.specs.declared.answers.Answer.{Answer}
 use Rattle.calls.specs.Answers.{Pool, cleared}
 use Rattle.calls.specs.Calls.{unless, orElse, fileFits, poolFits}
 use Rattle.reports.specs.Bits.{noBits, bitAt, marked, passes}
-use Rattle.reports.specs.Reports.{Report, Tray, blank, stored, emptyTray, waiting, trayFits, withReport, closedUp, filterOf, isBitOfAny, latestOr, positionOf, isRemoval}
+use Rattle.reports.specs.Reports.{Report, Tray, noReport, stored, emptyTray, waiting, trayFits, withReport, closedUp, filterOf, isBitOfAny, latestOr, reportedPosition, isRemoval}
 use Rattle.reports.specs.TrayCalls.{trayRefusal, addRefusal, addedUnless, AfterAdding, addOf, answeredUnless, soughtRefusal, plainAnswer, combinedOf, unfilteredOf}
 use Rattle.reports.specs.Filing.{reportFiled, oneMore, filedFrom, AfterFiling, filedUnless, leftBy, notFiled, filingOf}
-use Rattle.reports.specs.Exact.{TrayCall, add, seek, filing, multiplierOf, Kept, fromZeros, called, calledAll, OneMultiplier, Exact, FilterExact}
+use Rattle.reports.specs.Exact.{TrayCall, add, seek, filing, calledUnder, Kept, fromZeros, called, calledAll, OneMultiplier, Exact, FilterExact}
 use Rattle.reports.proofs.Words.{words-filterOf}
 use Rattle.reports.proofs.BitCount.{shown-is}
 use Rattle.reports.proofs.Marks.{marked-last, length-filterOf, exact-bits, unnamed, not-reported}
@@ -65,7 +65,7 @@ exact a t filter b =
 -- from zeros
 zeros-belong : (a : ℕ) → Belongs a (fromZeros .tray) (fromZeros .filter)
 unfolding fromZeros emptyTray waiting filterOf Rattle.reports.specs.Reports.markedAll
-zeros-belong a = record { made = refl; lent = length-replicate 256 blank; within = omega arith }
+zeros-belong a = record { made = refl; lent = length-replicate 256 noReport; within = omega arith }
 
 -- adding
 
@@ -99,10 +99,10 @@ unfolding addRefusal
 add-room p r t filter x e =
     ltb-true (t .count) 256
     (unless-zero (ltb (t .count) 256) 13
-    (or-else-zero (unless (isRemoval x || validPosition (positionOf x)) 4) (unless (ltb (t .count) 256) 14)
-    (or-else-zero (unless (validNumber (x .number)) 3) (orElse (unless (isRemoval x || validPosition (positionOf x)) 4) (unless (ltb (t .count) 256) 14))
+    (or-else-zero (unless (isRemoval x || validPosition (reportedPosition x)) 4) (unless (ltb (t .count) 256) 14)
+    (or-else-zero (unless (validNumber (x .number)) 3) (orElse (unless (isRemoval x || validPosition (reportedPosition x)) 4) (unless (ltb (t .count) 256) 14))
     (or-else-zero (trayRefusal p r (trayFits t filter))
-    (orElse (unless (validNumber (x .number)) 3) (orElse (unless (isRemoval x || validPosition (positionOf x)) 4) (unless (ltb (t .count) 256) 14)))
+    (orElse (unless (validNumber (x .number)) 3) (orElse (unless (isRemoval x || validPosition (reportedPosition x)) 4) (unless (ltb (t .count) 256) 14)))
     e))))
 
 added-belongs : (a : ℕ) (t : Tray) (filter : List ℕ) (n : ℕ) (after : AfterAdding) → Belongs a t filter
@@ -137,13 +137,13 @@ closed-belongs : (a : ℕ) (rest : List Report) → length rest ≤ 256 → Belo
 unfolding closedUp waiting
 closed-belongs a rest h =
     record {
-      made = ap (λ (l : List Report). filterOf a l) (sym (take-append-seam rest (replicate (256 - length rest) blank)));
-      lent = length-append rest (replicate (256 - length rest) blank) ∙ size;
+      made = ap (λ (l : List Report). filterOf a l) (sym (take-append-seam rest (replicate (256 - length rest) noReport)));
+      lent = length-append rest (replicate (256 - length rest) noReport) ∙ size;
       within = h;
     }
   where
-    size : length rest + length (replicate (256 - length rest) blank) ≡ 256
-    size = let n : length (replicate (256 - length rest) blank) ≡ 256 - length rest = length-replicate (256 - length rest) blank in omega (arith, n, h)
+    size : length rest + length (replicate (256 - length rest) noReport) ≡ 256
+    size = let n : length (replicate (256 - length rest) noReport) ≡ 256 - length rest = length-replicate (256 - length rest) noReport in omega (arith, n, h)
 
 waiting-most : (t : Tray) → length (t .reports) ≡ 256 → length (waiting t) ≤ 256
 unfolding waiting
@@ -173,8 +173,8 @@ after-filing p r f pool t filter b =
 
 -- every list of calls
 
-step-belongs : (a : ℕ) (s : Kept) (c : TrayCall) → multiplierOf c ≡ a → Belongs a (s .tray) (s .filter) → Belongs a (called s c .tray) (called s c .filter)
-unfolding called multiplierOf
+step-belongs : (a : ℕ) (s : Kept) (c : TrayCall) → calledUnder c ≡ a → Belongs a (s .tray) (s .filter) → Belongs a (called s c .tray) (called s c .filter)
+unfolding called calledUnder
 step-belongs a s (add p r x) e b = rw (← e) (after-adding p r (s .tray) (s .filter) x (rw e b))
 step-belongs a s (seek p r f k) e b = b
 step-belongs a s (filing p r f pool) e b = rw (← e) (after-filing p r f pool (s .tray) (s .filter) (rw e b))

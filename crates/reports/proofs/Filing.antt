@@ -16,7 +16,7 @@ use Rattle.calls.specs.Answers.{Pool, After, cleared, accepted, acceptedAt, ref
 use Rattle.calls.specs.Calls.{fileFits, poolFits, unchanged, readable, named, holds, placeFor, ownerFor, mayAlter, allowed, changeOn, changeOf, removeTo, removeOn, removeOf}
 use Rattle.calls.specs.Records.{validSteps, enterUnder, changeUnder, removeUnder}
 use Rattle.calls.proofs.Refusals.{well-lent}
-use Rattle.reports.specs.Reports.{Report, positionOf}
+use Rattle.reports.specs.Reports.{Report, reportedPosition}
 use Rattle.reports.specs.Filing.{removalFiled, positionFiled}
 
 -- what a filing past its own refusals has, and a report whose number is valid
@@ -50,16 +50,16 @@ removing-not-7 p g f pool page k place to =
 
 module _ (p : Parameters) (r : GrowthRecord) (f : File) (pool : Pool) (x : Report) (t : Admitted p r f pool (x .number)) where
   -- a damaged page
-  pub position-damaged : validPosition (positionOf x) ≡ true → readable p (r .state) f (named p (r .state) f (x .number)) ≡ false
+  pub position-damaged : validPosition (reportedPosition x) ≡ true → readable p (r .state) f (named p (r .state) f (x .number)) ≡ false
       → positionFiled p r f pool x ≡ unchanged (r .state) f pool (refused 5 (named p (r .state) f (x .number)))
   unfolding positionFiled changeUnder changeOf changeOn spotted
   position-damaged valid bad =
       rw (t .steps, t .closed, well-lent p (r .state) (fileFits p f) (t .state) (t .file), t .number, valid, bad)
 
   -- a star not held
-  pub position-entered : validPosition (positionOf x) ≡ true → readable p (r .state) f (named p (r .state) f (x .number)) ≡ true
+  pub position-entered : validPosition (reportedPosition x) ≡ true → readable p (r .state) f (named p (r .state) f (x .number)) ≡ true
       → holds p f (named p (r .state) f (x .number)) (x .number) ≡ false
-      → positionFiled p r f pool x ≡ enterUnder p r f pool (x .owner) (x .number) (positionOf x)
+      → positionFiled p r f pool x ≡ enterUnder p r f pool (x .owner) (x .number) (reportedPosition x)
   unfolding positionFiled changeUnder changeOf changeOn spotted
   position-entered valid good new =
       rw (t .steps, t .closed, well-lent p (r .state) (fileFits p f) (t .state) (t .file), t .number, valid, good, new)
@@ -79,15 +79,15 @@ module _ (p : Parameters) (r : GrowthRecord) (f : File) (pool : Pool) (x : Repor
       rw (t .steps, t .closed, well-lent p (r .state) (fileFits p f && poolFits p pool) (t .state) (t .pooled), t .number, good, new)
 
   -- a held star: a change, allowed or 13
-  pub position-changed : validPosition (positionOf x) ≡ true → readable p (r .state) f (named p (r .state) f (x .number)) ≡ true
+  pub position-changed : validPosition (reportedPosition x) ≡ true → readable p (r .state) f (named p (r .state) f (x .number)) ≡ true
       → holds p f (named p (r .state) f (x .number)) (x .number) ≡ true
-      → positionFiled p r f pool x ≡ changeUnder p r f pool (x .owner) (x .number) (positionOf x)
+      → positionFiled p r f pool x ≡ changeUnder p r f pool (x .owner) (x .number) (reportedPosition x)
   unfolding positionFiled changeUnder changeOf changeOn allowed spotted
   position-changed valid good old =
       go (mayAlter (x .owner) (ownerFor p f (named p (r .state) f (x .number)) (x .number))) refl
     where
       go : (y : Bool) → mayAlter (x .owner) (ownerFor p f (named p (r .state) f (x .number)) (x .number)) ≡ y
-          → positionFiled p r f pool x ≡ changeUnder p r f pool (x .owner) (x .number) (positionOf x)
+          → positionFiled p r f pool x ≡ changeUnder p r f pool (x .owner) (x .number) (reportedPosition x)
       go true e = rw (t .steps, t .closed, well-lent p (r .state) (fileFits p f) (t .state) (t .file), t .number, valid, good, old, e)
       go false e = rw (t .steps, t .closed, well-lent p (r .state) (fileFits p f) (t .state) (t .file), t .number, valid, good, old, e)
 

@@ -19,7 +19,7 @@ use Rattle.calls.specs.Answers.{Pool, spotted, zeros, cleared}
 use Rattle.calls.specs.Calls.{fileFits, poolFits, unlent, readable, holds, itemOf, mayAlter, allowed, enterTo, enteredAgain, enterOn, enterOf, changeOn, changeOf, removeTo, removeOn, removeOf}
 use Rattle.calls.specs.Records.{closedRecord, validSteps, enterUnder, changeUnder, removeUnder}
 use Rattle.reports.specs.Bits.{noBits}
-use Rattle.reports.specs.Reports.{Report, waiting, trayFits, blank, closedUp}
+use Rattle.reports.specs.Reports.{Report, waiting, trayFits, noReport, closedUp}
 use Rattle.reports.specs.TrayCalls.{trayRefusal}
 use Rattle.reports.specs.Filing.{removalFiled, positionFiled, reportFiled, filedFrom, AfterFiling, filedUnless, leftBy, filingOf}
 
@@ -55,5 +55,5 @@ record Points : Type 0 where
   rest : filing .tray ≡ closedUp (gone 2 32 ∷ seen 1 7 ∷ [])
 
 points : Points
-unfolding filingOf filedUnless leftBy filedFrom reportFiled positionFiled removalFiled trayRefusal trayFits waiting closedUp blank noBits validSteps enterUnder changeUnder removeUnder changeOf changeOn removeOf removeOn removeTo removalEnd allowed mayAlter itemOf enteredAgain without pageCount firstSuch enterOf enterOn enterTo unlent validParameters validGrowth within validMultiplier fileFits poolFits validNumber validPosition readable holds heldAt placeOf part soundAt sound orderly every starsAt starsOf first below namedPage hashOf home afterSteps stepFrom expandedAt chosen rankAt rank swept sizeAt countAt scrambled signature topOf validWord entryEnd entersWithin entering insert gathered pour left onward passing filter separatorOf separatorFrom staying firstUnsound replaced separators column padded written pages contentsOf holding hasNumber cleared zeros packed spotted
+unfolding filingOf filedUnless leftBy filedFrom reportFiled positionFiled removalFiled trayRefusal trayFits waiting closedUp noReport noBits validSteps enterUnder changeUnder removeUnder changeOf changeOn removeOf removeOn removeTo removalEnd allowed mayAlter itemOf enteredAgain without pageCount firstSuch enterOf enterOn enterTo unlent validParameters validGrowth within validMultiplier fileFits poolFits validNumber validPosition readable holds heldAt placeOf part soundAt sound orderly every starsAt starsOf first below namedPage hashOf home afterSteps stepFrom expandedAt chosen rankAt rank swept sizeAt countAt scrambled signature topOf validWord entryEnd entersWithin entering insert gathered pour left onward passing filter separatorOf separatorFrom staying firstUnsound replaced separators column padded written pages contentsOf holding hasNumber cleared zeros packed spotted
 points = record { filed = refl; stopped = refl; file = refl; pooled = refl; rest = refl }

@@ -14,7 +14,8 @@ use Rattle.hashing.proofs.Bounds.{both}
 use Rattle.pages.specs.declared.position.Position.{Position}
 use Rattle.pages.specs.Position.{validNumber, validPosition, packed}
 use Rattle.placement.specs.Rule.{Star, pages, without}
-use Rattle.placement.specs.File.{File, Sized, gathered, replaced}
+use Rattle.placement.specs.File.{File, gathered, replaced}
+use Rattle.placement.specs.Shape.{Sized}
 use Rattle.placement.specs.Hash.{hashOf}
 use Rattle.placement.proofs.Composition.{length-pages}
 use Rattle.placement.proofs.Files.{roomy-pages, sized-replaced}
@@ -26,7 +27,7 @@ use Rattle.calls.specs.Answers.{Pool, After, zeros, cleared, spotted, acceptedA
 use Rattle.calls.specs.Calls.{fileFits, poolFits, unless, orElse, unlent, guarded, unchanged, readable, named, holds, placeFor, itemOf, ownerFor, mayAlter, allowed, enterTo, enteredAgain, enterOn, entered, enterOf, changeOn, changeOf, removeTo, removeOn, removeOf}
 use Rattle.calls.specs.Records.{validSteps, enterUnder, changeUnder, removeUnder}
 use Rattle.calls.proofs.Refusals.{well-lent, sized, unlent-facts}
-use Rattle.reports.specs.Reports.{Report, positionOf, isRemoval}
+use Rattle.reports.specs.Reports.{Report, reportedPosition, isRemoval}
 use Rattle.reports.specs.TrayCalls.{trayRefusal}
 use Rattle.reports.specs.Filing.{removalFiled, positionFiled, reportFiled}
 
@@ -254,6 +255,6 @@ module _ (p : Parameters) (r : GrowthRecord) (f : File) (pool : Pool) (t : Begun
       (λ _. stays p (r .state) f pool (t .state) (t .file) 0 0 0 not-own-0)
       (λ _. removed-tried (x .owner) (x .number)))
       (λ _.
-      either p (r .state) f pool (t .state) (t .file) (eqb (changeUnder p r f pool (x .owner) (x .number) (positionOf x) .answer .refusal) 7) _ _
-      (λ _. entered-tried (x .owner) (x .number) (positionOf x))
-      (λ _. changed-tried (x .owner) (x .number) (positionOf x)))
+      either p (r .state) f pool (t .state) (t .file) (eqb (changeUnder p r f pool (x .owner) (x .number) (reportedPosition x) .answer .refusal) 7) _ _
+      (λ _. entered-tried (x .owner) (x .number) (reportedPosition x))
+      (λ _. changed-tried (x .owner) (x .number) (reportedPosition x)))

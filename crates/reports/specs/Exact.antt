@@ -19,10 +19,10 @@ pub data TrayCall : Type 0 where
   seek : Parameters → GrowthRecord → File → ℕ → TrayCall
   filing : Parameters → GrowthRecord → File → Pool → TrayCall
 
-unfoldable pub multiplierOf : TrayCall → ℕ
-multiplierOf (add p r x) = p .multiplier
-multiplierOf (seek p r f k) = p .multiplier
-multiplierOf (filing p r f pool) = p .multiplier
+unfoldable pub calledUnder : TrayCall → ℕ
+calledUnder (add p r x) = p .multiplier
+calledUnder (seek p r f k) = p .multiplier
+calledUnder (filing p r f pool) = p .multiplier
 
 pub record Kept : Type 0 where
   pub tray : Tray
@@ -46,7 +46,7 @@ calledAll s (c ∷ cs) = calledAll (called s c) cs
 -- "under one multiplier"
 unfoldable pub OneMultiplier : ℕ → List TrayCall → Type 0
 OneMultiplier a [] = Unit {0}
-OneMultiplier a (c ∷ cs) = (multiplierOf c ≡ a) × OneMultiplier a cs
+OneMultiplier a (c ∷ cs) = (calledUnder c ≡ a) × OneMultiplier a cs
 
 pub record Exact (a : ℕ) (t : Tray) (filter : List ℕ) : Type 0 where
   -- "the bits set are exactly those of the waiting reports"

@@ -10,7 +10,7 @@ use Rattle.calls.specs.declared.answers.Answer.{Answer}
 use Rattle.calls.specs.Answers.{Pool, After, accepted, refused, cleared}
 use Rattle.calls.specs.Calls.{fileFits, poolFits, unchanged}
 use Rattle.calls.specs.Records.{enterUnder, changeUnder, removeUnder}
-use Rattle.reports.specs.Reports.{Report, Tray, waiting, trayFits, closedUp, filterOf, positionOf, isRemoval}
+use Rattle.reports.specs.Reports.{Report, Tray, waiting, trayFits, closedUp, filterOf, reportedPosition, isRemoval}
 use Rattle.reports.specs.TrayCalls.{trayRefusal}
 
 -- One report, "tried as the call it made": 7 is met exactly where the named page is sound and does not hold the star
@@ -27,8 +27,8 @@ removalFiled p r f pool x =
 -- "changing .. held stars and entering the rest"
 unfoldable pub positionFiled : Parameters → GrowthRecord → File → Pool → Report → After
 positionFiled p r f pool x =
-    let after = changeUnder p r f pool (x .owner) (x .number) (positionOf x) in
-    cond (isNotHeld after) (enterUnder p r f pool (x .owner) (x .number) (positionOf x)) after
+    let after = changeUnder p r f pool (x .owner) (x .number) (reportedPosition x) in
+    cond (isNotHeld after) (enterUnder p r f pool (x .owner) (x .number) (reportedPosition x)) after
 
 unfoldable pub reportFiled : Parameters → GrowthRecord → File → Pool → Report → After
 reportFiled p r f pool x = cond (isRemoval x) (removalFiled p r f pool x) (positionFiled p r f pool x)

@@ -12,15 +12,15 @@ use Rattle.reports.specs.Bits.{noBits, isBitOf, marked}
 
 -- "number, position .., owner and a mark for "removed""
 
-abbrev pub positionOf : Report → Position
-positionOf x = record { ra = x .ra; dec = x .dec }
+abbrev pub reportedPosition : Report → Position
+reportedPosition x = record { ra = x .ra; dec = x .dec }
 
 -- the mark "removed" is any number but 0
 abbrev pub isRemoval : Report → Bool
 isRemoval x = not (eqb (x .removed) 0)
 
-unfoldable pub blank : Report
-blank = record { number = 0; ra = 0; dec = origin .dec; owner = 0; removed = 0 }
+unfoldable pub noReport : Report
+noReport = record { number = 0; ra = 0; dec = origin .dec; owner = 0; removed = 0 }
 
 -- "(unread and stored as 0, 0 in a removal)"
 unfoldable pub stored : Report → Report
@@ -39,7 +39,7 @@ pub record Tray : Type 0 where
   pub count : ℕ
 
 unfoldable pub emptyTray : Tray
-emptyTray = record { reports = replicate 256 blank; count = 0 }
+emptyTray = record { reports = replicate 256 noReport; count = 0 }
 
 unfoldable pub waiting : Tray → List Report
 waiting t = take (t .count) (t .reports)
@@ -54,7 +54,7 @@ withReport t x = record { reports = set (t .reports) (t .count) (stored x); coun
 
 -- "the others close up before zeros"
 unfoldable pub closedUp : List Report → Tray
-closedUp rest = record { reports = rest ++ replicate (256 - length rest) blank; count = length rest }
+closedUp rest = record { reports = rest ++ replicate (256 - length rest) noReport; count = length rest }
 
 -- "the filter is made anew from them"
 unfoldable pub markedAll : ℕ → List ℕ → List Report → List ℕ
@@ -76,7 +76,7 @@ namesStar k (x ∷ xs) = eqb (x .number) k || namesStar k xs
 
 -- "a report so found answers (a removal "none"), with page M, place 0"
 unfoldable pub reported : ℕ → Report → Answer
-reported M x = cond (isRemoval x) (acceptedAt M 0) (foundAt M 0 (positionOf x))
+reported M x = cond (isRemoval x) (acceptedAt M 0) (foundAt M 0 (reportedPosition x))
 
 -- "the latest on a star answers", or else `plain`
 unfoldable pub latestOr : ℕ → ℕ → List Report → Answer → Answer

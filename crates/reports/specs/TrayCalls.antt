@@ -12,7 +12,7 @@ use Rattle.calls.specs.Answers.{accepted, refused, unpooled}
 use Rattle.calls.specs.Calls.{unless, orElse, unlent, fileFits}
 use Rattle.calls.specs.Records.{validSteps, lookUpUnder}
 use Rattle.reports.specs.Bits.{marked, passes}
-use Rattle.reports.specs.Reports.{Report, Tray, waiting, trayFits, withReport, latestOr, positionOf, isRemoval}
+use Rattle.reports.specs.Reports.{Report, Tray, waiting, trayFits, withReport, latestOr, reportedPosition, isRemoval}
 
 -- 1 for parameters and record, 2 for the lengths
 unfoldable pub trayRefusal : Parameters → GrowthRecord → Bool → ℕ
@@ -30,7 +30,7 @@ unfoldable pub addRefusal : Parameters → GrowthRecord → Tray → List ℕ �
 addRefusal p r t filter x =
     orElse (trayRefusal p r (trayFits t filter))
     (orElse (unless (validNumber (x .number)) 3)
-    (orElse (unless (isRemoval x || validPosition (positionOf x)) 4) (unless (ltb (t .count) 256) 14)))
+    (orElse (unless (isRemoval x || validPosition (reportedPosition x)) 4) (unless (ltb (t .count) 256) 14)))
 
 -- "a refused call leaves tray and filter as found"
 unfoldable pub addedUnless : ℕ → Tray → List ℕ → AfterAdding → AfterAdding

@@ -9,7 +9,7 @@ use lib.Dec.{eqb, ltb}
 use lib.ListN.{length, take, drop, getD, length-map}
 use lib.Seq.{paste, take-all, length-take-le, getD-take}
 use borrow.Author.Tests.{lt-ltb, ne-eqb}
-use Rattle.pages.specs.Page.{stretch}
+use Rattle.pages.specs.Shape.{stretch}
 use Rattle.buffers.proofs.Written.{pasted-whole, written-whole}
 use Rattle.buffers.specs.Lists.{written}
 use Rattle.hashing.specs.declared.Parameters.{Parameters}
@@ -20,8 +20,10 @@ use Rattle.hashing.proofs.Bounds.{limits}
 use Rattle.hashing.proofs.Homes.{home-pages}
 use Rattle.pages.specs.Position.{validWord}
 use Rattle.placement.specs.Rule.{Star, pages, without}
-use Rattle.placement.specs.File.{File, Sized, greatest, gathered, replaced}
-use Rattle.placement.specs.Hash.{hashOf, homeIn, homesOf, lent}
+use Rattle.placement.specs.File.{File, greatest, gathered, replaced}
+use Rattle.placement.specs.Shape.{Sized}
+use Rattle.placement.specs.Hash.{hashOf, lent}
+use Rattle.placement.specs.Shape.{homeIn, homesOf}
 use Rattle.placement.proofs.Filters.{filter-all-on}
 use Rattle.placement.proofs.Sound.{gathered-proper}
 use Rattle.placement.proofs.Tested.{item-on, real-facts}

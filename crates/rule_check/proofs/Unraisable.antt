@@ -5,7 +5,8 @@ use native.Mathlib.Omega.{arith}
 use Rattle.hashing.specs.declared.Parameters.{Parameters}
 use Rattle.hashing.specs.declared.Growth.{Growth}
 use Rattle.pages.specs.Position.{validWord}
-use Rattle.placement.specs.File.{File, Sized}
+use Rattle.placement.specs.File.{File}
+use Rattle.placement.specs.Shape.{Sized}
 use Rattle.placement.specs.Hash.{hashOf, soundAt}
 use Rattle.placement.proofs.Sound.{sound-facts}
 use Rattle.reach.specs.Reach.{firstSuch, firstUnsound}

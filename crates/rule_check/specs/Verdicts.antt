@@ -6,7 +6,7 @@ use Rattle.hashing.specs.declared.Parameters.{Parameters}
 use Rattle.hashing.specs.declared.Growth.{Growth}
 use Rattle.placement.specs.File.{File}
 use Rattle.reach.specs.Reach.{firstUnsound}
-use Rattle.calls.specs.Spots.{spotOf}
+use Rattle.calls.specs.Shape.{spotOf}
 use Rattle.rule_check.specs.declared.telling.Verdict.{Verdict}
 use Rattle.rule_check.specs.declared.telling.Verdict.the-variants.{Clean, Differs, Unsound}
 

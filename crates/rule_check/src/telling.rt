@@ -2,13 +2,13 @@
 ghost use mathlib.Core.Path.{_≡_};
 ghost use Prim.Native.Nat.{suc, _+_, _*_, _≤_};
 ghost use lib.ListN.{length};
-ghost use Rattle.generator.specs.Generator.{firstMultipliers};
+ghost use Rattle.generator.specs.Shape.{firstMultipliers};
 ghost use Rattle.hashing.specs.Geometry.{multiplierOf};
-ghost use Rattle.placement.specs.Hash.{homesOf};
+ghost use Rattle.placement.specs.Shape.{homesOf};
 ghost use Rattle.placement.specs.Lent.{held, before};
 ghost use Rattle.placement.specs.Ready.{Ready, Pooled};
 ghost use Rattle.reach.specs.Reach.{firstUnsound};
-ghost use Rattle.calls.specs.Spots.{spotOf};
+ghost use Rattle.calls.specs.Shape.{spotOf};
 ghost use Rattle.rule_check.specs.Verdicts.{verdictFor};
 use comparison::Spot;
 use comparison::compare;

@@ -4,7 +4,8 @@ use mathlib.Core.List.{List, [], _∷_, map}
 use mathlib.Core.Path.{_≡_, refl, ap, _∙_}
 use Rattle.lines.specs.Grammar.{commandOf, linesOf}
 use Rattle.sessions.specs.Commands.{newFile}
-use Rattle.sessions.specs.Runs.{Run, opened, runs, followedBy, lastAnswer, joined, writtenOut, answersOf, runOf, Stands}
+use Rattle.sessions.specs.Runs.{Run, opened, runs, followedBy, lastAnswer, runOf, Stands}
+use Rattle.sessions.specs.Shape.{joined, writtenOut, answersOf}
 use Rattle.sessions.specs.Program.{Turn, Answers, Turns, output, blocksOf}
 use Rattle.sessions.specs.declared.blocks.Session.{Session}
 use Rattle.sessions.proofs.Running.{run-of}

@@ -33,7 +33,8 @@ use Rattle.calls.specs.Calls.{
   removeOn,
   removeTo,
 }
-use Rattle.sessions.specs.Commands.{starline, State, stateOf, called, unlessRefused, foundReply, replyWith, replyTo, nextSession, Follows}
+use Rattle.sessions.specs.Commands.{starline, State, stateIn, called, unlessRefused, foundReply, replyWith, replyTo, nextSession}
+use Rattle.sessions.specs.Shape.{Follows}
 use Rattle.sessions.specs.declared.commands.Replied.{Replied}
 
 -- what a look-up shows, by whether the star was found
@@ -95,7 +96,7 @@ pub follows :
     (s : State) (c : Command) (r : Replied) (a : Answer) (pool : Pool) →
     Leaves (called s c) a (lent (r .file .separators) (r .file .numbers) (r .file .words) (r .file .owners)) pool →
     r .file .growth ≡ called s c .growth → r .reply ≡ replyWith c a → Follows s c r
-unfolding stateOf replyTo nextSession
+unfolding stateIn replyTo nextSession
 follows s c r a pool l g e =
     record {
       replies = e ∙ ap (replyWith c) (l .answers);

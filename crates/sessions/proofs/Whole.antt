@@ -8,18 +8,8 @@ use Rattle.lines.specs.Grammar.{commandOf, noBytes, kept, linesFrom, linesOf}
 use Rattle.lines.specs.Replies.{replyBytes}
 use Rattle.lines.proofs.Kept.{kept-command, kept-then, kept-empty}
 use Rattle.sessions.specs.Commands.{newFile, replyTo}
-use Rattle.sessions.specs.Runs.{
-  Run,
-  opened,
-  ended,
-  steppedBy,
-  runs,
-  followedBy,
-  lastAnswer,
-  joined,
-  writtenOut,
-  answersOf,
-}
+use Rattle.sessions.specs.Runs.{Run, opened, ended, steppedBy, runs, followedBy, lastAnswer}
+use Rattle.sessions.specs.Shape.{joined, writtenOut, answersOf}
 use Rattle.sessions.proofs.Running.{behind, runs-append, runs-onward}
 
 kept-means : (k m : List ℕ) → k ≡ kept m → commandOf k ≡ commandOf m

@@ -1,6 +1,5 @@
 -- What the program replies to a command, and what becomes of its star file: document 01, "Host and program".
 use mathlib.Core.Bool.{cond}
-use mathlib.Core.Path.{_≡_}
 use lib.Dec.{eqb}
 use lib.ListN.{replicate}
 use Rattle.hashing.specs.Geometry.{ungrown}
@@ -15,7 +14,6 @@ use Rattle.calls.specs.declared.answers.Answer.{Answer}
 use Rattle.calls.specs.Answers.{After, Pool, lent, pooled, unpooled, accepted}
 use Rattle.calls.specs.Calls.{unchanged, emptyFile, enterOf, lookUpOf, removeOf, growOf}
 use Rattle.sessions.specs.declared.commands.StarFile.{StarFile}
-use Rattle.sessions.specs.declared.commands.Replied.{Replied}
 
 -- "N=2, n0=2, s=1, b=2, k=8, A=80, M=8", and 16,807
 unfoldable pub starline : Parameters
@@ -26,8 +24,8 @@ pub record State : Type 0 where
   pub growth : Growth
   pub file : File
 
-unfoldable pub stateOf : StarFile → State
-stateOf f = record { growth = f .growth; file = lent (f .separators) (f .numbers) (f .words) (f .owners) }
+unfoldable pub stateIn : StarFile → State
+stateIn f = record { growth = f .growth; file = lent (f .separators) (f .numbers) (f .words) (f .owners) }
 
 unfoldable pub newFile : State
 newFile = record { growth = ungrown; file = emptyFile starline }
@@ -70,8 +68,3 @@ replyTo s c = replyWith c (called s c .answer)
 
 unfoldable pub nextSession : State → Command → State
 nextSession s c = record { growth = called s c .growth; file = called s c .file }
-
--- a reply and a file after a command
-pub record Follows (s : State) (c : Command) (r : Replied) : Type 0 where
-  pub replies : r .reply ≡ replyTo s c
-  pub leaves : stateOf (r .file) ≡ nextSession s c

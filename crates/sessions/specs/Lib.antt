@@ -1,3 +1,4 @@
 pub mod Commands
 pub mod Runs
 pub mod Program
+pub mod Shape

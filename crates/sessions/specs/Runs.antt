@@ -5,9 +5,8 @@ use mathlib.Core.List.{List, [], _∷_, _++_}
 use mathlib.Core.Path.{_≡_}
 use lib.Dec.{eqb}
 use Rattle.lines.specs.Grammar.{commandOf, noBytes, kept, lineBytes}
-use Rattle.lines.specs.Replies.{replyBytes, Written}
-use Rattle.lines.specs.declared.Command.{Command}
-use Rattle.sessions.specs.Commands.{State, stateOf, newFile, replyTo, nextSession}
+use Rattle.lines.specs.Replies.{replyBytes, TextAt}
+use Rattle.sessions.specs.Commands.{State, stateIn, newFile, replyTo, nextSession}
 use Rattle.sessions.specs.declared.blocks.Session.{Session}
 
 -- the star file, what is kept of the present line, and the answers so far
@@ -46,27 +45,12 @@ followedBy r = record { state = r .state; begun = r .begun; text = [] }
 unfoldable pub lastAnswer : Run → List ℕ
 lastAnswer r = cond (noBytes (r .begun)) [] (ended (followedBy r) .text)
 
--- blocks of input as one
-unfoldable pub joined : List (List ℕ) → List ℕ
-joined [] = []
-joined (b ∷ bs) = b ++ joined bs
-
--- what is written of a run whose input comes in blocks: after each block the answers in it, and the last one
-unfoldable pub writtenOut : Run → List (List ℕ) → List ℕ
-writtenOut r [] = lastAnswer r
-writtenOut r (b ∷ bs) = runs (followedBy r) b .text ++ writtenOut (runs (followedBy r) b) bs
-
--- the answers to commands, one after another
-unfoldable pub answersOf : State → List Command → List ℕ
-answersOf s [] = []
-answersOf s (c ∷ cs) = replyBytes (replyTo s c) ++ answersOf (nextSession s c) cs
-
 -- the run that has a session's file and line, and no answer yet
 unfoldable pub runOf : Session → Run
-runOf s = record { state = stateOf (s .file); begun = lineBytes (s .line); text = [] }
+runOf s = record { state = stateIn (s .file); begun = lineBytes (s .line); text = [] }
 
 -- a session and a buffer stand where a run stands
 pub record Stands (r : Run) (at : ℕ) (before after : List ℕ) (s : Session) (next : ℕ) : Type 0 where
-  pub state : stateOf (s .file) ≡ r .state
+  pub state : stateIn (s .file) ≡ r .state
   pub line : lineBytes (s .line) ≡ r .begun
-  pub text : Written at (r .text) before after next
+  pub text : TextAt at (r .text) before after next

@@ -2,7 +2,7 @@
 ghost use Prim.Native.Nat.{_+_, _*_, _≤_};
 ghost use mathlib.Core.Path.{_≡_};
 ghost use lib.ListN.{length};
-ghost use Rattle.lines.specs.Replies.{Written};
+ghost use Rattle.lines.specs.Replies.{TextAt};
 ghost use Rattle.sessions.specs.Runs.{opened, ended, steppedBy, runs, lastAnswer, runOf, Stands};
 use crate::commands::StarFile;
 use crate::commands::empty_file;
@@ -89,7 +89,7 @@ pub fn answer_block(session: Session, block: &[u8], out: &mut [u8]) -> Answered
 // The answer to a last line that lacks its newline, where there is one. Answers the text's length.
 pub fn finish(session: Session, out: &mut [u8]) -> usize
     requires { ⌜ 64 ≤ length (now out) ⌝ }
-    ensures { λ r. ⌜ (Written 0 (lastAnswer (runOf session)) (now (out .entry)) (now (out .exit)) r) × (r ≤ 37) ⌝ }
+    ensures { λ r. ⌜ (TextAt 0 (lastAnswer (runOf session)) (now (out .entry)) (now (out .exit)) r) × (r ≤ 37) ⌝ }
 {
     let line = session.line;
     if lines::is_blank(line) {

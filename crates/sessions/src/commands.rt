@@ -1,7 +1,8 @@
 // The star file of the program, and its reply to each command.
 ghost use mathlib.Core.Path.{_≡_};
 ghost use Rattle.lines.specs.declared.Command.the-variants.{Enter, LookUp, Remove, Grow};
-ghost use Rattle.sessions.specs.Commands.{starline, newFile, stateOf, unlessRefused, placedReply, foundReply, replyTo, Follows};
+ghost use Rattle.sessions.specs.Commands.{starline, newFile, stateIn, unlessRefused, placedReply, foundReply, replyTo};
+ghost use Rattle.sessions.specs.Shape.{Follows};
 use calls::answers::Answer;
 use calls::answers::placed_answer;
 use calls::answers::sought_answer;
@@ -45,7 +46,7 @@ fn parameters() -> Parameters
 }
 
 pub fn empty_file() -> StarFile
-    ensures { λ r. ⌜ stateOf r ≡ newFile ⌝ }
+    ensures { λ r. ⌜ stateIn r ≡ newFile ⌝ }
 {
     let mut separators = [0u8; 8];
     let mut numbers = [0u32; 16];
@@ -70,7 +71,7 @@ pub fn empty_file() -> StarFile
 }
 
 pub fn follow(file: StarFile, command: Command) -> Replied
-    ensures { λ r. ⌜ Follows (stateOf file) command r ⌝ }
+    ensures { λ r. ⌜ Follows (stateIn file) command r ⌝ }
 {
     match command {
         Command::Enter { number, ra, dec } => enter(file, number, Position { ra, dec }),
@@ -88,7 +89,7 @@ pub fn follow(file: StarFile, command: Command) -> Replied
 }
 
 fn enter(file: StarFile, number: u32, position: Position) -> Replied
-    ensures { λ r. ⌜ Follows (stateOf file) (Enter number (position .ra) (position .dec)) r ⌝ }
+    ensures { λ r. ⌜ Follows (stateIn file) (Enter number (position .ra) (position .dec)) r ⌝ }
 {
     let growth = file.growth;
     let mut separators = file.separators;
@@ -129,7 +130,7 @@ fn enter(file: StarFile, number: u32, position: Position) -> Replied
 }
 
 fn look_up(file: StarFile, number: u32) -> Reply
-    ensures { λ r. ⌜ r ≡ replyTo (stateOf file) (LookUp number) ⌝ }
+    ensures { λ r. ⌜ r ≡ replyTo (stateIn file) (LookUp number) ⌝ }
 {
     let growth = file.growth;
     let separators = file.separators;
@@ -153,7 +154,7 @@ fn look_up(file: StarFile, number: u32) -> Reply
 }
 
 fn remove(file: StarFile, number: u32) -> Replied
-    ensures { λ r. ⌜ Follows (stateOf file) (Remove number) r ⌝ }
+    ensures { λ r. ⌜ Follows (stateIn file) (Remove number) r ⌝ }
 {
     let growth = file.growth;
     let mut separators = file.separators;
@@ -193,7 +194,7 @@ fn remove(file: StarFile, number: u32) -> Replied
 }
 
 fn grow(file: StarFile) -> Replied
-    ensures { λ r. ⌜ Follows (stateOf file) Grow r ⌝ }
+    ensures { λ r. ⌜ Follows (stateIn file) Grow r ⌝ }
 {
     let growth = file.growth;
     let mut separators = file.separators;

@@ -16,12 +16,14 @@ use Rattle.hashing.specs.declared.Growth.{Growth}
 use Rattle.generator.specs.Generator.{topOf}
 use Rattle.hashing.specs.Home.{home}
 use Rattle.pages.specs.Position.{validWord}
-use Rattle.pages.specs.Page.{part, pageAt}
+use Rattle.pages.specs.Page.{part}
+use Rattle.pages.specs.Shape.{pageAt}
 use Rattle.pages.specs.declared.page.Page.{Page}
 use Rattle.pages.proofs.Parts.{take-filled}
 use Rattle.placement.specs.Rule.{Star, keep, starWith}
 use Rattle.placement.specs.File.{File, starsOf, starsAt, greatest, orderly, every, sound}
-use Rattle.placement.specs.Hash.{hashOf, soundAt, namedPage, homeIn, homesOf}
+use Rattle.placement.specs.Hash.{hashOf, soundAt, namedPage}
+use Rattle.placement.specs.Shape.{homeIn, homesOf}
 use Rattle.placement.proofs.Filters.{and-true}
 use Rattle.soundness.specs.Survey.{admits, soundIn, admitsItem, lastAfter}
 

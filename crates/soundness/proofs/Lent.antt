@@ -17,8 +17,10 @@ use Rattle.hashing.specs.declared.Geometry.{Geometry}
 use Rattle.hashing.specs.Geometry.{multiplierOf}
 use Rattle.hashing.specs.Home.{home}
 use Rattle.soundness.specs.Survey.{admits, admitsItem, lastAfter, soundIn}
-use Rattle.placement.specs.File.{File, Sized}
-use Rattle.placement.specs.Hash.{homeIn, homesOf, soundAt}
+use Rattle.placement.specs.File.{File}
+use Rattle.placement.specs.Shape.{Sized}
+use Rattle.placement.specs.Hash.{soundAt}
+use Rattle.placement.specs.Shape.{homeIn, homesOf}
 use Rattle.pages.specs.Page.{part}
 use Rattle.soundness.specs.Stretch.{Items, HomesAt, Lowest, soundFrom, soundOf}
 use Rattle.soundness.proofs.Items.{Admitting, admitting-none, admitting-refused, admitting-more, map-at, sound-items}

@@ -9,7 +9,7 @@ use lib.Seq.{paste, take-paste, drop-paste, drop-drop, take-add, take-take}
 use Rattle.buffers.proofs.Written.{around}
 use Rattle.buffers.proofs.Lists.{map-drop}
 use Rattle.hashing.specs.declared.Geometry.{Geometry}
-use Rattle.placement.specs.Hash.{homeIn, homesOf}
+use Rattle.placement.specs.Shape.{homeIn, homesOf}
 
 pub paste-more : (d : List ℕ) (at : ℕ) (s : List ℕ) (n : ℕ) (t : List ℕ) (m : ℕ) → at ≤ length d → n ≤ length s → take m t ≡ take m (drop n s)
     → paste (paste d at s n) (at + n) t m ≡ paste d at s (n + m)

@@ -20,7 +20,8 @@ use Rattle.hashing.specs.Limits.{validParameters}
 use Rattle.hashing.proofs.Bounds.{limits}
 use Rattle.generator.proofs.Scrambling.{signature-below}
 use Rattle.placement.specs.Rule.{Hash, below, first}
-use Rattle.placement.specs.Hash.{hashOf, hashFrom, namedPage}
+use Rattle.placement.specs.Hash.{hashOf, namedPage}
+use Rattle.placement.specs.Shape.{hashFrom}
 use Rattle.placement.proofs.Standing.{first-le, first-home, first-home-on, first-later, first-within, first-below, first-before, first-append}
 use Rattle.placement.proofs.Probing.{first-from}
 

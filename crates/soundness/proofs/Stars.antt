@@ -11,7 +11,7 @@ use lib.ListN.{length, getD, take, drop, set, length-append, length-set, length-
 use lib.Seq.{take-suc, take-suc-set, take-set-le, take-length, take-all, length-take-le, paste, paste-zero, paste-suc, getD-take, getD-drop}
 use Rattle.buffers.proofs.Lists.{map-take}
 use Rattle.hashing.specs.declared.Geometry.{Geometry}
-use Rattle.placement.specs.Hash.{homeIn, homesOf, homeUnder}
+use Rattle.placement.specs.Shape.{homeIn, homesOf, homeUnder}
 use Rattle.soundness.specs.Stars.{oneIfStar, starNumbers, spreadFrom}
 use Rattle.soundness.proofs.Items.{item-at}
 

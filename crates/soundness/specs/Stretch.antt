@@ -5,7 +5,7 @@ use mathlib.Core.List.{List}
 use Prim.Native.Nat.{ℕ, _+_, _-_, _*_, _≤_, _<_}
 use lib.ListN.{length, getD, take, drop}
 use Rattle.hashing.specs.declared.Geometry.{Geometry}
-use Rattle.placement.specs.Hash.{homeIn}
+use Rattle.placement.specs.Shape.{homeIn}
 use Rattle.soundness.specs.Survey.{soundIn}
 
 -- hs has, from `to` on, the homes of n items of ns from `at` on

@@ -14,7 +14,8 @@ use Rattle.hashing.specs.Home.{home}
 use Rattle.pages.specs.Position.{validWord}
 use Rattle.placement.specs.Rule.{Star}
 use Rattle.placement.specs.File.{starsOf, greatest, orderly, every}
-use Rattle.placement.specs.Hash.{namedPage, homeIn, homesOf}
+use Rattle.placement.specs.Hash.{namedPage}
+use Rattle.placement.specs.Shape.{homeIn, homesOf}
 use Rattle.soundness.specs.declared.testing.Item.{Item}
 
 -- The items after the number `last` are in order, and each star stands on this page.
@@ -50,8 +51,8 @@ Found g ns hs =
     → getD hs i 0 ≡ home (multiplierOf (g .parameters)) (g .parameters) (g .growth) (getD ns i 0)
 
 -- a table of n entries has what signs each star on the page, by its home
-abbrev pub Signable : ℕ → ℕ → List ℕ → List ℕ → Type 0
-Signable n page ns hs = (i : ℕ) → i < 32 → (getD ns i 0 ≡ 0 → ⊥) → 2 * (page + 1 - getD hs i 0) < n
+abbrev pub SignableOn : ℕ → ℕ → List ℕ → List ℕ → Type 0
+SignableOn n page ns hs = (i : ℕ) → i < 32 → (getD ns i 0 ≡ 0 → ⊥) → 2 * (page + 1 - getD hs i 0) < n
 
 -- What testing a page's items needs, by the values of its places: a separator in range, and the homes found.
 pub record Testable (g : Geometry) (seps : List ℕ) (page : ℕ) (ns ws os found hs : List ℕ) : Type 0 where

@@ -3,7 +3,7 @@ ghost use mathlib.Core.Path.{_≡_};
 ghost use Prim.Native.Nat.{_+_, _≤_, _<_};
 ghost use lib.ListN.{length, take, drop};
 ghost use lib.Seq.{paste};
-ghost use Rattle.placement.specs.Hash.{homesOf};
+ghost use Rattle.placement.specs.Shape.{homesOf};
 ghost use Rattle.placement.specs.Ready.{Homing};
 ghost use Rattle.soundness.specs.Stars.{oneIfStar, spreadFrom, Gathered};
 use hashing::Geometry;

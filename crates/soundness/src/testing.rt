@@ -10,7 +10,7 @@ ghost use Rattle.hashing.specs.Home.{home as Home·home};
 ghost use Rattle.pages.specs.Position.{validWord};
 ghost use Rattle.placement.specs.File.{greatest};
 ghost use Rattle.placement.specs.Ready.{Signers, Homing};
-ghost use Rattle.soundness.specs.Survey.{TestedItem, Signable, Testable, Tested};
+ghost use Rattle.soundness.specs.Survey.{TestedItem, SignableOn, Testable, Tested};
 use crate::probing::stands_on;
 use crate::star_homes::wide;
 use hashing::Geometry;
@@ -93,7 +93,7 @@ fn count_stars(numbers: &[u32; 32], places: usize) -> usize
 // How many stars of a page are 44 pages or more above their home, so that the first ninety multipliers do not sign them on it.
 fn count_far(numbers: &[u32; 32], found: &[u16; 32], page: usize) -> u32
     requires { ⌜ page < 1024 ⌝ }
-    ensures { λ r. ⌜ (r ≡ 0 → Signable 90 page (now (numbers .entry)) (now (found .entry))) ⌝ }
+    ensures { λ r. ⌜ (r ≡ 0 → SignableOn 90 page (now (numbers .entry)) (now (found .entry))) ⌝ }
 {
     if page < 44 {
         return 0;
@@ -135,7 +135,7 @@ fn items_sound<'a>(
 ) -> bool
     requires { ⌜ Signers (geometry .parameters) (now table) ⌝ }
     requires { ⌜ Testable geometry (now separators) page (now numbers) (now words) (now owners) (now found) (now homes) ⌝ }
-    requires { ⌜ Signable (length (now table)) page (now numbers) (now found) ⌝ }
+    requires { ⌜ SignableOn (length (now table)) page (now numbers) (now found) ⌝ }
     ensures { λ r. ⌜ Tested geometry (now (separators .entry)) page (now (numbers .entry)) (now (words .entry)) (now (owners .entry)) (now (homes .exit)) r ⌝ }
 {
     let places = geometry.parameters.places as usize;

@@ -11,7 +11,8 @@ use Rattle.hashing.specs.Geometry.{grown}
 use Rattle.hashing.specs.Limits.{validParameters, validGrowth}
 use Rattle.hashing.proofs.Bounds.{both}
 use Rattle.placement.specs.Rule.{left}
-use Rattle.placement.specs.File.{File, Sized, pagesAt, replaced}
+use Rattle.placement.specs.File.{File, pagesAt, replaced}
+use Rattle.placement.specs.Shape.{Sized}
 use Rattle.placement.specs.Hash.{hashOf}
 use Rattle.placement.specs.Ready.{Pooled}
 use Rattle.placement.proofs.Prepared.{ready, pool-ready}
@@ -47,9 +48,10 @@ use Rattle.calls.specs.declared.answers.Refusal.the-variants.{
 }
 use Rattle.calls.specs.declared.records.GrowthRecord.{GrowthRecord}
 use Rattle.calls.specs.declared.records.Recorded.{Recorded}
-use Rattle.calls.specs.Answers.{Pool, admissionNumber, refusalNumber, refusedBy, spotted, placed, cleared}
+use Rattle.calls.specs.Answers.{Pool, refusalNumber, refusedBy, spotted, placed, cleared}
+use Rattle.calls.specs.Shape.{admissionNumber}
 use Rattle.calls.specs.Calls.{unless, orElse, unlent, fileFits, poolFits, emptyFile, growOn}
-use Rattle.calls.specs.Lent.{Admitted}
+use Rattle.calls.specs.Shape.{Admitted}
 use Rattle.calls.specs.Records.{validSteps, closedRecord, openRecord, AfterStep, guardedStep, stepRefusal, growthAccepted, openOn, stepOn, withPage, LeavesStep}
 use Rattle.calls.proofs.Numbers.{numbered}
 use Rattle.calls.proofs.Refusals.{unlent-facts, sized, pool-sized}

@@ -2,11 +2,12 @@
 ghost use mathlib.Core.Path.{_≡_};
 ghost use mathlib.Core.Bool.{true};
 ghost use Prim.Native.Nat.{_<_};
-ghost use Rattle.placement.specs.File.{Sized};
+ghost use Rattle.placement.specs.Shape.{Sized};
 ghost use Rattle.placement.specs.Lent.{held, before, after};
 ghost use Rattle.placement.specs.Ready.{Pooled};
 ghost use Rattle.calls.specs.Answers.{Pool};
-ghost use Rattle.calls.specs.Lent.{Admitted, poolBefore, poolAfter};
+ghost use Rattle.calls.specs.Lent.{poolBefore, poolAfter};
+ghost use Rattle.calls.specs.Shape.{Admitted};
 ghost use Rattle.calls.specs.Records.{LeavesStep, stepUnder, validSteps};
 ghost use Rattle.starfile.specs.Steps.{stepAdmitted, StoresStep, advancedBy};
 use crate::opening::both_fit;

@@ -2,10 +2,10 @@
 ghost use mathlib.Core.Path.{_≡_};
 ghost use Prim.Native.Nat.{_*_, _<_};
 ghost use lib.ListN.{length};
-ghost use Rattle.placement.specs.File.{Sized};
+ghost use Rattle.placement.specs.Shape.{Sized};
 ghost use Rattle.placement.specs.Lent.{held, before, after};
 ghost use Rattle.placement.specs.Ready.{Pooled};
-ghost use Rattle.calls.specs.Lent.{Admitted};
+ghost use Rattle.calls.specs.Shape.{Admitted};
 ghost use Rattle.starfile.specs.Steps.{GrowsAs, StepsAs, acceptedBy};
 use call_whole_file::Step;
 use call_whole_file::step_of;

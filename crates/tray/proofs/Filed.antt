@@ -20,12 +20,12 @@ use Rattle.calls.specs.declared.answers.Refusal.{Refusal}
 use Rattle.calls.specs.declared.answers.Refusal.the-variants.{OutOfTurn}
 use Rattle.calls.specs.Answers.{Pool, placed, pooled, cleared, zeros, refusalNumber, refusedBy}
 use Rattle.calls.specs.Calls.{unless, orElse, fileFits, poolFits, unlent}
-use Rattle.calls.specs.Lent.{Admitted}
+use Rattle.calls.specs.Shape.{Admitted}
 use Rattle.calls.specs.Records.{validSteps, closedRecord}
 use Rattle.calls.proofs.Numbers.{numbered}
 use Rattle.calls.proofs.Refusals.{unlent-facts, well-lent, admitted-pool}
 use Rattle.reports.specs.declared.Report.{Report}
-use Rattle.reports.specs.Reports.{blank, trayFits, waiting, closedUp, filterOf}
+use Rattle.reports.specs.Reports.{noReport, trayFits, waiting, closedUp, filterOf}
 use Rattle.reports.specs.TrayCalls.{trayRefusal}
 use Rattle.reports.specs.Filing.{Filed, filedFrom, filedUnless, notFiled, leftBy, AfterFiling, filingOf}
 use Rattle.reports.proofs.Latest.{rest-is, filed-and-rest}
@@ -36,7 +36,8 @@ use Rattle.tray_list.proofs.ClosedUp.{taken-loaded, closed-up}
 use Rattle.tray.specs.Lent.{trayOf}
 use Rattle.tray.specs.Refusals.{trayLengths}
 use Rattle.tray.specs.declared.filing.Filing.{Filing}
-use Rattle.tray.specs.Filing.{limitOf, FiledBelow, FilesTray}
+use Rattle.tray.specs.Filing.{FilesTray}
+use Rattle.tray.specs.Shape.{limitOf, FiledBelow}
 use Rattle.tray.proofs.Refused.{pageless, tray-refusal-most, tray-refusal-none, first-none, lengths-are}
 
 unless-refused : (n : ℕ) (f : File) (pool : Pool) (reports : List Report) (count : ℕ) (filter : List ℕ) (after : AfterFiling) → 1 ≤ n
@@ -107,7 +108,7 @@ module _ (p : Parameters) (r : GrowthRecord) (f : File) (pool : Pool) (reports :
   unfolding leftBy closedUp
   filed-files n answer file filter′ copy is-copy filed answers files filters =
       let fits : done .filed + (count - done .filed) ≤ 256 = omega (arith, filed-most, most) in
-      let closes : closedTo (done .filed) (count - done .filed) 256 reports ≡ done .rest ++ replicate (256 - length (done .rest)) blank = rw (closed-up (done .filed) (count - done .filed) reports size fits, stays, length-rest) in
+      let closes : closedTo (done .filed) (count - done .filed) 256 reports ≡ done .rest ++ replicate (256 - length (done .rest)) noReport = rw (closed-up (done .filed) (count - done .filed) reports size fits, stays, length-rest) in
       rw (is-left, filed) (record {
         fileds = refl;
         answers = answers;

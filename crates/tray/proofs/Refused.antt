@@ -43,9 +43,10 @@ use Rattle.calls.proofs.Numbers.{numbered}
 use Rattle.calls.proofs.Refusals.{unlent-facts}
 use Rattle.reports.specs.declared.Report.{Report}
 use Rattle.reports.specs.Bits.{marked}
-use Rattle.reports.specs.Reports.{Tray, trayFits, isRemoval, positionOf, stored, withReport}
+use Rattle.reports.specs.Reports.{Tray, trayFits, isRemoval, reportedPosition, stored, withReport}
 use Rattle.reports.specs.TrayCalls.{trayRefusal, addRefusal, AfterAdding, addedUnless, addOf}
-use Rattle.tray.specs.Lent.{trayOf, Adds, turned}
+use Rattle.tray.specs.Lent.{trayOf, AddsReport}
+use Rattle.tray.specs.Shape.{turned}
 use Rattle.call_guard.specs.Turn.{recordRefusal}
 use Rattle.tray.specs.Refusals.{trayLengths, reportRefusal, screenRefusal, scanned}
 
@@ -106,7 +107,7 @@ other (suc m) s t u h e = omega (arith, h, e)
 pub report-not-five : (p : Parameters) (r : GrowthRecord) (lengths : Bool) (count : ℕ) (x : Report) → reportRefusal p r lengths count x ≡ 5 → ⊥
 unfolding reportRefusal
 report-not-five p r lengths count x =
-    other (trayRefusal p r lengths) (validNumber (x .number)) (isRemoval x || validPosition (positionOf x)) (ltb count 256) (tray-refusal-most p r lengths)
+    other (trayRefusal p r lengths) (validNumber (x .number)) (isRemoval x || validPosition (reportedPosition x)) (ltb count 256) (tray-refusal-most p r lengths)
 
 screened-most : (m : ℕ) (s : Bool) → m ≤ 2 → orElse m (unless s 3) ≤ 3
 screened-most zero true h = omega arith
@@ -131,7 +132,7 @@ unless-refused (suc n) t filter after h = refl
 -- a refused report leaves tray and filter
 pub refused-adds : (p : Parameters) (r : GrowthRecord) (reports : List Report) (count places : ℕ) (filter : List ℕ) (x : Report) (a : Refusal) → length reports ≡ places
     → refusalNumber a ≡ reportRefusal p r (trayLengths places count (length filter)) count x
-    → Adds (addOf p r (trayOf reports count) filter x) (turned a count places x .added) (set reports places x) filter
+    → AddsReport (addOf p r (trayOf reports count) filter x) (turned a count places x .added) (set reports places x) filter
 unfolding addOf placed
 refused-adds p r reports count places filter x a size e =
     let number : addRefusal p r (trayOf reports count) filter x ≡ refusalNumber a = add-refusal-is p r reports count filter x ∙ rw size (sym e) in
@@ -146,7 +147,7 @@ refused-adds p r reports count places filter x a size e =
 -- an accepted one is added
 pub accepted-adds : (p : Parameters) (r : GrowthRecord) (reports : List Report) (count places : ℕ) (filter filter′ : List ℕ) (x : Report) → length reports ≡ places
     → reportRefusal p r (trayLengths places count (length filter)) count x ≡ 0 → filter′ ≡ marked (p .multiplier) filter (x .number)
-    → Adds (addOf p r (trayOf reports count) filter x) (record { answer = On 0 0; count = count + 1 }) (set reports count (stored x)) filter′
+    → AddsReport (addOf p r (trayOf reports count) filter x) (record { answer = On 0 0; count = count + 1 }) (set reports count (stored x)) filter′
 unfolding addOf addedUnless withReport placed
 accepted-adds p r reports count places filter filter′ x size e m =
     let number : addRefusal p r (trayOf reports count) filter x ≡ 0 = add-refusal-is p r reports count filter x ∙ rw size e in
@@ -183,7 +184,7 @@ unfolding reportRefusal
 report-admitted p r places count n x e =
     let one = first-none (trayRefusal p r (trayLengths places count n)) _ e in
     let two = first-none (unless (validNumber (x .number)) 3) _ (one .1) in
-    let three = first-none (unless (isRemoval x || validPosition (positionOf x)) 4) _ (two .1) in
+    let three = first-none (unless (isRemoval x || validPosition (reportedPosition x)) 4) _ (two .1) in
     let well = tray-refusal-none p r (trayLengths places count n) (one .0) in
     (well .0, (lengths-are places count n (well .1) .1 .0, ltb-true count 256 (below-limit (ltb count 256) 14 (omega arith) (three .1))))
 

@@ -1,3 +1,4 @@
 pub mod Lent
 pub mod Refusals
 pub mod Filing
+pub mod Shape

@@ -7,7 +7,7 @@ use Rattle.pages.specs.Position.{validNumber, validPosition}
 use Rattle.calls.specs.declared.records.GrowthRecord.{GrowthRecord}
 use Rattle.calls.specs.Calls.{unless, orElse}
 use Rattle.reports.specs.declared.Report.{Report}
-use Rattle.reports.specs.Reports.{isRemoval, positionOf}
+use Rattle.reports.specs.Reports.{isRemoval, reportedPosition}
 use Rattle.reports.specs.TrayCalls.{trayRefusal}
 
 -- `trayFits` by the lengths
@@ -19,7 +19,7 @@ unfoldable pub reportRefusal : Parameters → GrowthRecord → Bool → ℕ → 
 reportRefusal p r lengths count x =
     orElse (trayRefusal p r lengths)
     (orElse (unless (validNumber (x .number)) 3)
-    (orElse (unless (isRemoval x || validPosition (positionOf x)) 4) (unless (ltb count 256) 14)))
+    (orElse (unless (isRemoval x || validPosition (reportedPosition x)) 4) (unless (ltb count 256) 14)))
 
 -- `soughtRefusal`; `lengths`: those of the file too
 unfoldable pub screenRefusal : Parameters → GrowthRecord → Bool → ℕ → ℕ

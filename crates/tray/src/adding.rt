@@ -4,10 +4,11 @@ ghost use mathlib.Core.List.{List};
 ghost use lib.ListN.{length, set};
 ghost use mathlib.Core.Bool.{_||_};
 ghost use Rattle.pages.specs.Position.{validPosition};
-ghost use Rattle.reports.specs.Reports.{positionOf, isRemoval, stored as Reports·stored};
+ghost use Rattle.reports.specs.Reports.{reportedPosition, isRemoval, stored as Reports·stored};
 ghost use Rattle.reports.specs.TrayCalls.{addOf};
-ghost use Rattle.calls.specs.Answers.{admissionNumber};
-ghost use Rattle.tray.specs.Lent.{trayOf, Adds, turned};
+ghost use Rattle.calls.specs.Shape.{admissionNumber};
+ghost use Rattle.tray.specs.Lent.{trayOf, AddsReport};
+ghost use Rattle.tray.specs.Shape.{turned};
 ghost use Rattle.tray.specs.Refusals.{trayLengths, reportRefusal};
 use calls::answers::Admission;
 use calls::answers::Placed;
@@ -40,7 +41,7 @@ pub fn add(
     filter: &mut [u64],
     report: Report,
 ) -> Added
-    ensures leaves { λ r. ⌜ Adds (addOf parameters growth (trayOf (now (reports .entry)) count) (now (filter .entry)) report) r (now (reports .exit)) (now (filter .exit)) ⌝ }
+    ensures leaves { λ r. ⌜ AddsReport (addOf parameters growth (trayOf (now (reports .entry)) count) (now (filter .entry)) report) r (now (reports .exit)) (now (filter .exit)) ⌝ }
 {
     let adding = decide(parameters, growth, reports.len(), count, filter, report);
     put(reports, adding.at, adding.report);
@@ -56,7 +57,7 @@ fn decide(
     filter: &mut [u64],
     report: Report,
 ) -> Adding
-    ensures { λ r. ⌜ ((reports : List Report) → length reports ≡ places → Adds (addOf parameters growth (trayOf reports count) (now (filter .entry)) report)
+    ensures { λ r. ⌜ ((reports : List Report) → length reports ≡ places → AddsReport (addOf parameters growth (trayOf reports count) (now (filter .entry)) report)
         (r .added) (set reports (r .at) (r .report)) (now (filter .exit))) ⌝ }
 {
     let fits = tray_fits(places, count, filter.len());
@@ -129,7 +130,7 @@ fn turn_away(refusal: Refusal, count: u32, places: usize, report: Report) -> Add
 
 // A removal has no position that could be out of range.
 fn placed_well(report: Report) -> bool
-    ensures { λ r. ⌜ r ≡ (isRemoval report || validPosition (positionOf report)) ⌝ }
+    ensures { λ r. ⌜ r ≡ (isRemoval report || validPosition (reportedPosition report)) ⌝ }
 {
     if report.removed != 0 {
         return true;
@@ -138,7 +139,7 @@ fn placed_well(report: Report) -> bool
 }
 
 pub fn position_of(report: Report) -> Position
-    ensures { λ r. ⌜ r ≡ positionOf report ⌝ }
+    ensures { λ r. ⌜ r ≡ reportedPosition report ⌝ }
 {
     Position {
         ra: report.ra,

@@ -11,13 +11,13 @@ use lib.ListN.{length, take, drop, getD, set, replicate, length-append, length-d
 use lib.Seq.{drop-cons, getD-append-add, getD-drop, set-at}
 use borrow.Author.Tests.{lt-ltb, le-ltb, ltb-true, ltb-false}
 use Rattle.reports.specs.declared.Report.{Report}
-use Rattle.reports.specs.Reports.{blank}
-use Rattle.tray_list.specs.Closing.{sourceOf, keptOr, placesAfter, closedTo}
+use Rattle.reports.specs.Reports.{noReport}
+use Rattle.tray_list.specs.Closing.{cameFrom, keptOr, placesAfter, closedTo}
 
 pub length-places : (m n i : ℕ) (ys : List Report) → length (placesAfter m n i ys) ≡ i
 unfolding placesAfter
 length-places m n zero ys = refl
-length-places m n (suc i) ys = length-append (placesAfter m n i ys) (keptOr i n (getD ys (m + i) blank) ∷ []) ∙ rw (length-places m n i ys) (omega arith)
+length-places m n (suc i) ys = length-append (placesAfter m n i ys) (keptOr i n (getD ys (m + i) noReport) ∷ []) ∙ rw (length-places m n i ys) (omega arith)
 
 pub length-closed : (m n i : ℕ) (ys : List Report) → i ≤ length ys → length (closedTo m n i ys) ≡ length ys
 unfolding closedTo
@@ -28,18 +28,18 @@ unfolding closedTo placesAfter
 closed-none m n ys = refl
 
 -- what is not closed up yet stands as it stood
-unread : (m n i j : ℕ) (ys : List Report) → i ≤ j → getD (closedTo m n i ys) j blank ≡ getD ys j blank
+unread : (m n i j : ℕ) (ys : List Report) → i ≤ j → getD (closedTo m n i ys) j noReport ≡ getD ys j noReport
 unfolding closedTo
 unread m n i j ys h =
     let rest : j ≡ length (placesAfter m n i ys) + (j - i) = rw (length-places m n i ys) (omega (arith, h)) in
     let back : i + (j - i) ≡ j = omega (arith, h) in
-    ap (λ (u : ℕ). getD (placesAfter m n i ys ++ drop i ys) u blank) rest
-    ∙ getD-append-add (placesAfter m n i ys) (drop i ys) (j - i) blank
-    ∙ getD-drop i ys (j - i) blank
-    ∙ ap (λ (u : ℕ). getD ys u blank) back
+    ap (λ (u : ℕ). getD (placesAfter m n i ys ++ drop i ys) u noReport) rest
+    ∙ getD-append-add (placesAfter m n i ys) (drop i ys) (j - i) noReport
+    ∙ getD-drop i ys (j - i) noReport
+    ∙ ap (λ (u : ℕ). getD ys u noReport) back
 
-pub source-below : (i m n l : ℕ) → m + n ≤ l → i < l → sourceOf i m n < l
-unfolding sourceOf
+pub source-below : (i m n l : ℕ) → m + n ≤ l → i < l → cameFrom i m n < l
+unfolding cameFrom
 source-below i m n l h g = go (ltb i n) refl
   where
     go : (t : Bool) → ltb i n ≡ t → cond t (m + i) i < l
@@ -47,17 +47,17 @@ source-below i m n l h g = go (ltb i n) refl
     go false e = g
 
 -- what is kept of the report at the source is what comes to the place
-pub source-read : (i m n : ℕ) (ys : List Report) → i < length ys → keptOr i n (getD (closedTo m n i ys) (sourceOf i m n) blank) ≡ keptOr i n (getD ys (m + i) blank)
-unfolding keptOr sourceOf
+pub source-read : (i m n : ℕ) (ys : List Report) → i < length ys → keptOr i n (getD (closedTo m n i ys) (cameFrom i m n) noReport) ≡ keptOr i n (getD ys (m + i) noReport)
+unfolding keptOr cameFrom
 source-read i m n ys h = go (ltb i n)
   where
-    go : (t : Bool) → cond t (getD (closedTo m n i ys) (cond t (m + i) i) blank) blank ≡ cond t (getD ys (m + i) blank) blank
+    go : (t : Bool) → cond t (getD (closedTo m n i ys) (cond t (m + i) i) noReport) noReport ≡ cond t (getD ys (m + i) noReport) noReport
     go true = unread m n i (m + i) ys (omega arith)
     go false = refl
 
-pub closed-next : (m n i : ℕ) (ys : List Report) → i < length ys → set (closedTo m n i ys) i (keptOr i n (getD ys (m + i) blank)) ≡ closedTo m n (suc i) ys
+pub closed-next : (m n i : ℕ) (ys : List Report) → i < length ys → set (closedTo m n i ys) i (keptOr i n (getD ys (m + i) noReport)) ≡ closedTo m n (suc i) ys
 unfolding closedTo placesAfter
 closed-next m n i ys h =
-    rw (drop-cons ys i blank h)
-    (set-at (placesAfter m n i ys) (getD ys i blank) (drop (suc i) ys) (keptOr i n (getD ys (m + i) blank)) i (length-places m n i ys)
-    ∙ sym (append-assoc (placesAfter m n i ys) (keptOr i n (getD ys (m + i) blank) ∷ []) (drop (suc i) ys)))
+    rw (drop-cons ys i noReport h)
+    (set-at (placesAfter m n i ys) (getD ys i noReport) (drop (suc i) ys) (keptOr i n (getD ys (m + i) noReport)) i (length-places m n i ys)
+    ∙ sym (append-assoc (placesAfter m n i ys) (keptOr i n (getD ys (m + i) noReport) ∷ []) (drop (suc i) ys)))

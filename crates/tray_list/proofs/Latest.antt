@@ -8,7 +8,7 @@ use lib.ListN.{length, take, getD}
 use lib.Seq.{take-suc}
 use Rattle.calls.specs.declared.answers.Answer.{Answer}
 use Rattle.reports.specs.declared.Report.{Report}
-use Rattle.reports.specs.Reports.{blank, latestOr, reported}
+use Rattle.reports.specs.Reports.{noReport, latestOr, reported}
 use Rattle.tray_list.specs.declared.reading.Latest.{Latest}
 use Rattle.tray_list.specs.Latest.{later, latestIn, orPlain, nothing}
 
@@ -18,8 +18,8 @@ latest-last k l [] x = refl
 latest-last k l (y ∷ ys) x = latest-last k (later k l y) ys x
 
 -- one report more
-pub latest-next : (k : ℕ) (l : Latest) (ys : List Report) (i : ℕ) → i < length ys → later k (latestIn k l (take i ys)) (getD ys i blank) ≡ latestIn k l (take (suc i) ys)
-latest-next k l ys i h = rw (take-suc ys i blank h, latest-last)
+pub latest-next : (k : ℕ) (l : Latest) (ys : List Report) (i : ℕ) → i < length ys → later k (latestIn k l (take i ys)) (getD ys i noReport) ≡ latestIn k l (take (suc i) ys)
+latest-next k l ys i h = rw (take-suc ys i noReport h, latest-last)
 
 later-answers : (M k : ℕ) (l : Latest) (x : Report) (plain : Answer) → orPlain M (later k l x) plain ≡ cond (eqb (x .number) k) (reported M x) (orPlain M l plain)
 unfolding later orPlain

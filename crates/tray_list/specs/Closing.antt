@@ -5,19 +5,19 @@ use Prim.Native.Nat.{ℕ, zero, suc, _+_}
 use lib.Dec.{ltb}
 use lib.ListN.{getD, drop}
 use Rattle.reports.specs.declared.Report.{Report}
-use Rattle.reports.specs.Reports.{blank}
+use Rattle.reports.specs.Reports.{noReport}
 
 -- the place whose report comes to place i, if one does
-unfoldable pub sourceOf : ℕ → ℕ → ℕ → ℕ
-sourceOf i from stay = cond (ltb i stay) (from + i) i
+unfoldable pub cameFrom : ℕ → ℕ → ℕ → ℕ
+cameFrom i from stay = cond (ltb i stay) (from + i) i
 
 unfoldable pub keptOr : ℕ → ℕ → Report → Report
-keptOr i stay x = cond (ltb i stay) x blank
+keptOr i stay x = cond (ltb i stay) x noReport
 
 -- what comes to the first n places
 unfoldable pub placesAfter : ℕ → ℕ → ℕ → List Report → List Report
 placesAfter from stay zero reports = []
-placesAfter from stay (suc n) reports = placesAfter from stay n reports ++ (keptOr n stay (getD reports (from + n) blank) ∷ [])
+placesAfter from stay (suc n) reports = placesAfter from stay n reports ++ (keptOr n stay (getD reports (from + n) noReport) ∷ [])
 
 -- the others as they were
 unfoldable pub closedTo : ℕ → ℕ → ℕ → List Report → List Report

@@ -5,11 +5,11 @@ use Prim.Native.Nat.{ℕ}
 use lib.Dec.{eqb}
 use Rattle.calls.specs.declared.answers.Answer.{Answer}
 use Rattle.reports.specs.declared.Report.{Report}
-use Rattle.reports.specs.Reports.{blank, reported}
+use Rattle.reports.specs.Reports.{noReport, reported}
 use Rattle.tray_list.specs.declared.reading.Latest.{Latest}
 
 unfoldable pub nothing : Latest
-nothing = record { found = false; report = blank }
+nothing = record { found = false; report = noReport }
 
 -- the report, if it is on the star
 abbrev pub ifOn : ℕ → Report → Latest

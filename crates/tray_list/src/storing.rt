@@ -2,7 +2,7 @@
 ghost use mathlib.Core.Path.{_≡_};
 ghost use Prim.Native.Nat.{_+_, _≤_, _<_};
 ghost use lib.ListN.{length, set};
-ghost use Rattle.tray_list.specs.Closing.{closedTo, sourceOf, keptOr};
+ghost use Rattle.tray_list.specs.Closing.{closedTo, cameFrom, keptOr};
 use reports::Report;
 
 // Stores a report, unless its place is behind the list.
@@ -30,7 +30,7 @@ pub fn close_up(reports: &mut [Report], from: usize, stay: usize, places: usize)
 // The place whose report comes to place i, if one does.
 fn source_of(i: usize, from: usize, stay: usize) -> usize
     requires { ⌜ from + stay < 18446744073709551616 ⌝ }
-    ensures { λ r. ⌜ r ≡ sourceOf i from stay ⌝ }
+    ensures { λ r. ⌜ r ≡ cameFrom i from stay ⌝ }
 {
     if i < stay {
         return from + i;

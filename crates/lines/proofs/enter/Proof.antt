@@ -6,7 +6,8 @@ use mathlib.Core.List.{_∷_}
 use mathlib.Core.Path.{_≡_, sym, ap, _∙_}
 use lib.ListN.{length, take, drop}
 use lib.Seq.{length-take-le}
-use Rattle.lines.specs.Grammar.{fields, fieldLength, enterFrom}
+use Rattle.lines.specs.Grammar.{fields, enterFrom}
+use Rattle.lines.specs.Shape.{fieldLength}
 use Rattle.lines.proofs.Fields.{fields-more, rest-is}
 use Rattle.lines.proofs.Commands.{enter-short, enter-wrong}
 use borrow.Author.Needs.{needs}

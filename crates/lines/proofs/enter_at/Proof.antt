@@ -8,7 +8,8 @@ use lib.ListN.{length, take, drop}
 use lib.Seq.{length-take-le}
 use mir.Syntax.{w32}
 use mir.Val.{toZ, ofZ}
-use Rattle.lines.specs.Grammar.{fields, fieldLength, declinationOf, enterFrom, enterWith}
+use Rattle.lines.specs.Grammar.{fields, declinationOf, enterFrom, enterWith}
+use Rattle.lines.specs.Shape.{fieldLength}
 use Rattle.lines.proofs.Fields.{fields-more, rest-is}
 use Rattle.lines.proofs.SingleField.{enter-alone, nowhere}
 use Rattle.lines.proofs.Commands.{enter-ra-short, enter-wrong-ra}

@@ -5,7 +5,7 @@ use native.Mathlib.Omega.{arith}
 use mathlib.Core.Path.{_≡_, _∙_}
 use lib.ListN.{length, drop, length-drop}
 use Rattle.lines.proofs.Fields.{blank-here, blank-later, field-within}
-use Rattle.lines.specs.Grammar.{fieldLength}
+use Rattle.lines.specs.Shape.{fieldLength}
 use Rattle.lines.proofs.first_blank.Statement.{statement}
 use Rattle.lines.proofs.first_blank.Tie as tie
 

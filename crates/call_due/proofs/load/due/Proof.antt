@@ -10,7 +10,7 @@ use Rattle.hashing.specs.Geometry.{pageCount, highest}
 use Rattle.hashing.proofs.Bounds.{limits, growth-within, spread}
 use Rattle.placement.specs.File.{File}
 use Rattle.calls.specs.Answers.{After, lent, dueSaid}
-use Rattle.calls.specs.Lent.{Admitted}
+use Rattle.calls.specs.Shape.{Admitted}
 use Rattle.calls.specs.Calls.{unlent, dueOf, fileFits}
 use Rattle.call_due.specs.Used.{Reaches}
 use Rattle.calls.specs.Due.{stars, pagesInUse, exceeds, isDue}

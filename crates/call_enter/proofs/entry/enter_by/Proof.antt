@@ -8,9 +8,9 @@ use Rattle.placement.specs.File.{File}
 use Rattle.placement.specs.Hash.{lent}
 use Rattle.placement.specs.Ready.{Pooled}
 use Rattle.calls.specs.Answers.{Pool, After, placed, refusedBy, pooled, cleared}
-use Rattle.calls.specs.Lent.{Admitted}
+use Rattle.calls.specs.Shape.{Admitted}
 use Rattle.calls.specs.Calls.{unlent, guarded, entryRefusal, named, entered, fileFits, poolFits}
-use Rattle.call_enter.specs.Entries.{entryOn, entryOf}
+use Rattle.call_enter.specs.Entries.{entryOn, enteredBy}
 use Rattle.calls.proofs.Refusals.{turned-away-first, refusal-is, none-is, admitted-pool, leaves}
 use Rattle.outcome_answer.proofs.Pools.{cleared-is, leaves-cleared}
 use Rattle.call_enter.proofs.Pools.{entry-pool, entry-way, kept-leaves, stopped-pool}
@@ -25,10 +25,10 @@ abbrev poolOf : tie.Start → Pool
 poolOf s = pooled (now (s .args .poolnumbers)) (now (s .args .poolwords)) (now (s .args .poolowners))
 
 abbrev call : tie.Start → After
-call s = entryOf (s .args .cascading) (s .args .parameters) (s .args .growth) (fileOf s) (poolOf s) (s .args .caller) (s .args .number) (s .args .position)
+call s = enteredBy (s .args .cascading) (s .args .parameters) (s .args .growth) (fileOf s) (poolOf s) (s .args .caller) (s .args .number) (s .args .position)
 
 way : (s : tie.Start)
-    → entryOf (s .args .cascading) (s .args .parameters) (s .args .growth) (fileOf s) (poolOf s) (s .args .caller) (s .args .number) (s .args .position)
+    → enteredBy (s .args .cascading) (s .args .parameters) (s .args .growth) (fileOf s) (poolOf s) (s .args .caller) (s .args .number) (s .args .position)
     ≡ guarded (s .args .growth) (fileOf s) (poolOf s) (entryRefusal (s .args .parameters) (s .args .growth) (fileOf s) (poolOf s) (s .args .number) (s .args .position))
     (entryOn (s .args .cascading) (s .args .parameters) (s .args .growth) (fileOf s) (cleared (poolOf s)) (named (s .args .parameters) (s .args .growth) (fileOf s) (s .args .number)) (entered (s .args .caller) (s .args .number) (s .args .position)))
 way s = entry-way (s .args .parameters) (s .args .growth) (fileOf s) (poolOf s) (s .args .cascading) (s .args .caller) (s .args .number) (s .args .position)

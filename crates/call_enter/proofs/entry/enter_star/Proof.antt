@@ -14,7 +14,7 @@ use Rattle.placement.specs.Rule.{Star}
 use Rattle.entry_reach.specs.Entry.{Unheld, newStar}
 use Rattle.calls.specs.declared.answers.Refusal.the-variants.{Damaged}
 use Rattle.calls.specs.declared.answers.Placed.the-variants.{Refused}
-use Rattle.calls.specs.Stores.{stoppedFile}
+use Rattle.calls.specs.Shape.{stoppedFile}
 use Rattle.calls.specs.Answers.{Pool, After, placed, refusedBy, pooled, cleared}
 use Rattle.calls.specs.Calls.{readable, holds, enteredAgain, named, placeFor}
 use Rattle.outcome_answer.proofs.Resent.{again-is}

@@ -12,7 +12,7 @@ use lib.ListN.{set}
 use Rattle.calls.specs.declared.answers.Refusal.the-variants.{Damaged, NotHeld, NotOwner}
 use Rattle.calls.specs.declared.answers.Placed.the-variants.{On, Refused}
 use Rattle.calls.specs.Answers.{After, Leaves, unpooled, placed, refusedBy}
-use Rattle.calls.specs.Lent.{Admitted}
+use Rattle.calls.specs.Shape.{Admitted}
 use Rattle.calls.specs.Calls.{unlent, changeOf, changeOn, allowed, fileFits}
 use Rattle.calls.proofs.Refusals.{turned-away-first, refusal-is, none-is, admitted, items-most, leaves}
 use Rattle.call_guard.proofs.Admitting.{prepared, tabled, altered}

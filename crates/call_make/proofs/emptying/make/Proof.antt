@@ -6,7 +6,7 @@ use Rattle.placement.specs.File.{File}
 use Rattle.placement.specs.Hash.{lent}
 use Rattle.calls.specs.Answers.{placed, unpooled}
 use Rattle.calls.specs.Calls.{fileFits, unlent}
-use Rattle.calls.specs.Lent.{Admitted}
+use Rattle.calls.specs.Shape.{Admitted}
 use Rattle.calls.proofs.Refusals.{unlent-facts, refusal-is, none-is, admitted}
 use Rattle.call_make.proofs.Making.{make-refused, make-empty}
 use borrow.Author.Needs.{needs}

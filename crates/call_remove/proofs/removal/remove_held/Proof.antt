@@ -11,7 +11,7 @@ use Rattle.placement.specs.File.{File}
 use Rattle.placement.specs.Hash.{lent}
 use Rattle.calls.specs.declared.answers.Refusal.the-variants.{Damaged, NotHeld, NotOwner}
 use Rattle.calls.specs.declared.answers.Placed.the-variants.{Refused}
-use Rattle.calls.specs.Stores.{stoppedFile}
+use Rattle.calls.specs.Shape.{stoppedFile}
 use Rattle.calls.specs.Answers.{Pool, After, placed, refusedBy, pooled, cleared}
 use Rattle.calls.specs.Calls.{removeOn, allowed, named, placeFor}
 use Rattle.removal_reach.specs.Removal.{removalAnswer}

@@ -9,7 +9,7 @@ use Rattle.placement.specs.Hash.{lent}
 use Rattle.placement.specs.Ready.{Pooled}
 use Rattle.calls.specs.Stores.{removeStoppedOf}
 use Rattle.calls.specs.Answers.{Pool, After, placed, refusedBy, pooled, cleared}
-use Rattle.calls.specs.Lent.{Admitted}
+use Rattle.calls.specs.Shape.{Admitted}
 use Rattle.calls.specs.Calls.{unlent, removeOf, fileFits, poolFits}
 use Rattle.calls.proofs.Refusals.{turned-away-first, refusal-is, none-is, admitted-pool, leaves}
 use Rattle.outcome_answer.proofs.Pools.{cleared-is, leaves-cleared}

@@ -6,7 +6,7 @@ use Rattle.placement.specs.File.{File}
 use Rattle.placement.specs.Hash.{lent}
 use Rattle.placement.specs.Ready.{Pooled}
 use Rattle.calls.specs.Answers.{Pool, checked, pooled}
-use Rattle.calls.specs.Lent.{Admitted}
+use Rattle.calls.specs.Shape.{Admitted}
 use Rattle.calls.specs.Calls.{unlent, checkOf, fileFits, poolFits}
 use Rattle.call_whole_file.specs.Outcomes.{verdictChecked}
 use Rattle.call_whole_file.proofs.Outcomes.{verdict-is, verdict-small}

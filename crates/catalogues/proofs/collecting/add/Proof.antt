@@ -1,7 +1,8 @@
 -- `catalogues::collecting::add` meets its contract.
 use native.Mathlib.Omega.{arith}
 use Prim.Native.Nat.{_<_}
-use Rattle.catalogues.specs.Entries.{addedTo, isAdded}
+use Rattle.catalogues.specs.Entries.{addedTo}
+use Rattle.catalogues.specs.Shape.{isAdded}
 use Rattle.catalogues.proofs.Held.{held-add}
 use borrow.Author.Needs.{needs}
 use Rattle.catalogues.proofs.collecting.add.Statement.{statement}

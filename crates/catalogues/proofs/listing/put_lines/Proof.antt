@@ -4,7 +4,7 @@ use Prim.Native.Nat.{_+_, _*_, _-_, _≤_}
 use mathlib.Core.Path.{_≡_, refl, ap, _∙_}
 use lib.ListN.{length}
 use lib.Seq.{length-sets}
-use Rattle.lines.specs.Replies.{Written}
+use Rattle.lines.specs.Replies.{TextAt}
 use Rattle.fits_table.specs.Rows.{rowsRead}
 use Rattle.catalogues.specs.Listing.{rowLines}
 use Rattle.catalogues.proofs.Listed.{line-more}
@@ -13,7 +13,7 @@ use Rattle.catalogues.proofs.listing.put_lines.Tie as tie
 
 abbrev Inv-loop : tie.InvT-loop
 Inv-loop given rows first count out₀ at₀ i₀ out at i =
-    (i ≤ count) × (at ≤ 36 * i) × Written 0 (rowLines (rowsRead given (5760 + 12 * first) i)) out₀ out at
+    (i ≤ count) × (at ≤ 36 * i) × TextAt 0 (rowLines (rowsRead given (5760 + 12 * first) i)) out₀ out at
 
 abbrev μ-loop : tie.MeasureT-loop
 μ-loop given rows first count out₀ at₀ i₀ out at i = count - i

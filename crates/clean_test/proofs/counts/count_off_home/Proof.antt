@@ -5,7 +5,8 @@ use native.Mathlib.Nat.{le-refl, suc-mul, mul-le-mul-right}
 use native.Mathlib.Omega.{arith}
 use lib.ListN.{length, getD}
 use Rattle.hashing.proofs.Bounds.{limits}
-use Rattle.placement.specs.Hash.{hashOf, homeUnder}
+use Rattle.placement.specs.Hash.{hashOf}
+use Rattle.placement.specs.Shape.{homeUnder}
 use Rattle.clean_test.specs.Raising.{hashUnder}
 use Rattle.calls.proofs.Spots.{item-within}
 use Rattle.clean_test.proofs.Counters.{PlacesCounted, places-none, places-empty, places-star, places-counts, places-home, places-all, home-item}

@@ -8,14 +8,14 @@ use lib.ListN.{length}
 use borrow.Author.Tests.{not-true, not-false}
 use Rattle.placement.specs.Hash.{hashOf}
 use Rattle.calls.proofs.Refusals.{items-most}
-use Rattle.clean_test.specs.Raising.{hashUnder, Counted}
+use Rattle.clean_test.specs.Raising.{hashUnder, PassersCounted}
 use Rattle.clean_test.proofs.Counters.{counted-next, counted-most, homed-page}
 use Rattle.clean_test.proofs.counts.count_pages.Statement.{statement}
 use Rattle.clean_test.proofs.counts.count_pages.Tie as tie
 
 abbrev Inv-loop : tie.InvT-loop
 Inv-loop table geometry separators numbers homes counts₀ from start stop page₀ counts page =
-    (start ≤ page) × ((page ≤ stop) × Counted (hashUnder geometry) separators numbers from page counts)
+    (start ≤ page) × ((page ≤ stop) × PassersCounted (hashUnder geometry) separators numbers from page counts)
 
 abbrev μ-loop : tie.MeasureT-loop
 μ-loop table geometry separators numbers homes counts₀ from start stop page₀ counts page = stop - page

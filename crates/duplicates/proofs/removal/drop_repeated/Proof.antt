@@ -1,7 +1,7 @@
 use Prim.Native.Nat.{_-_}
 use native.Mathlib.Omega.{arith}
 use borrow.Author.Needs.{needs}
-use Rattle.duplicates.specs.Words.{keyOf}
+use Rattle.duplicates.specs.Words.{numberKey}
 use Rattle.duplicates.proofs.Firsts.{Keeping, keeping-none, keeping-repeated, keeping-first, keeping-all}
 use Rattle.duplicates.proofs.removal.drop_repeated.Statement.{statement}
 use Rattle.duplicates.proofs.removal.drop_repeated.Tie as tie
@@ -37,13 +37,13 @@ loop-less : tie.Need-loop-less Inv-loop μ-loop
 loop-less c = omega (arith, c .before .before .loop-test .taken)
 
 loop-again : tie.Need-loop-again Inv-loop μ-loop
-loop-again c = let b = c .before .before .before in unfold keyOf in keeping-first _ _ _ _ _ _ (b .loop .inv) (b .before .pre) (c .before .before .loop-test .taken) (c .if1 .taken)
+loop-again c = let b = c .before .before .before in unfold numberKey in keeping-first _ _ _ _ _ _ (b .loop .inv) (b .before .pre) (c .before .before .loop-test .taken) (c .if1 .taken)
 
 loop-less-2 : tie.Need-loop-less-2 Inv-loop μ-loop
 loop-less-2 c = omega (arith, c .before .before .loop-test .taken)
 
 loop-again-2 : tie.Need-loop-again-2 Inv-loop μ-loop
-loop-again-2 c = let b = c .before .before .before in keeping-repeated _ _ _ _ _ _ (b .loop .inv) (b .before .pre) (c .before .before .loop-test .taken) (unfold keyOf in c .if1 .left)
+loop-again-2 c = let b = c .before .before .before in keeping-repeated _ _ _ _ _ _ (b .loop .inv) (b .before .pre) (c .before .before .loop-test .taken) (unfold numberKey in c .if1 .left)
 
 same-length : tie.Need-same-length Inv-loop μ-loop
 same-length c = c .before .loop .inv .size

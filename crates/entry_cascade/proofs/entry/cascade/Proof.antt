@@ -14,7 +14,7 @@ use Rattle.entry_reach.specs.declared.blocks.Reach.{Reach}
 use Rattle.entry_reach.specs.declared.blocks.Reach.the-variants.{Ends, Unsound, Overflows}
 use Rattle.entry_reach.specs.Entry.{newStar}
 use Rattle.entry_reach.proofs.Holding.{lists-applied}
-use Rattle.entry_cascade.specs.Cascade.{visited, Plans, Kept}
+use Rattle.entry_cascade.specs.Cascade.{visited, Plans, CascadeKept}
 use Rattle.entry_cascade.proofs.Entered.{stopped-answer, spilled-answer, kept-answer, kept-file, named-holds}
 use Rattle.entry_cascade.proofs.entry.cascade.Statement.{statement}
 use Rattle.entry_cascade.proofs.entry.cascade.Tie as tie
@@ -40,7 +40,7 @@ known x r e =
 
 -- where the cascade ends at `last`
 module _ (x : Place) (last : ℕ) (v : x .push .result ≡ Ends last) where
-  ends : (start x .args .page ≤ last) × ((last < start x .args .geometry .parameters .pages) × ((word owner : ℕ) → Kept (start x .args .geometry .parameters) (start x .args .geometry .growth) (file (start x)) (start x .args .number) word owner (start x .args .page) (x .push .last .1 .1 .1 .1 .1 .1 .0) (x .push .last .1 .1 .1 .1 .1 .1 .1 .1 .0) last))
+  ends : (start x .args .page ≤ last) × ((last < start x .args .geometry .parameters .pages) × ((word owner : ℕ) → CascadeKept (start x .args .geometry .parameters) (start x .args .geometry .growth) (file (start x)) (start x .args .number) word owner (start x .args .page) (x .push .last .1 .1 .1 .1 .1 .1 .0) (x .push .last .1 .1 .1 .1 .1 .1 .1 .1 .0) last))
   ends = known x (Ends last) v
 
   stop : start x .args .page + (last + 1 - start x .args .page) ≡ last + 1
@@ -201,7 +201,7 @@ returns-3 c =
     let pool = x .push .last .1 .1 .1 .1 .1 .1 .0 in
     let planned = x .push .last .1 .1 .1 .1 .1 .1 .1 .1 .0 in
     let y = c .before .before .before .before .before .before .before .before .before .before .before .before .before .before .before .before .apply in
-    let k : Kept p g (file s) (s .args .number) (s .args .word) (s .args .owner) (s .args .page) pool planned last = ends x last (v .1) .1 .1 (s .args .word) (s .args .owner) in
+    let k : CascadeKept p g (file s) (s .args .number) (s .args .word) (s .args .owner) (s .args .page) pool planned last = ends x last (v .1) .1 .1 (s .args .word) (s .args .owner) in
     let count : last + 1 - s .args .page ≡ pagesTo (s .args .page) last = omega (arith, ends x last (v .1) .0) in
     let whole : lent (y .last .0) (y .last .1 .0) (y .last .1 .1 .0) (y .last .1 .1 .1 .0) ≡ replaced (p .places) (file s) (s .args .page) (visited p g (file s) (newStar (s .args .number) (s .args .word) (s .args .owner)) (s .args .page)) =
     lists-applied (p .places) (s .args .page) (last + 1 - s .args .page) (s .args .number) (s .args .word) (s .args .owner) pool planned (file s) (y .last .0) (y .last .1 .0) (y .last .1 .1 .0) (y .last .1 .1 .1 .0)

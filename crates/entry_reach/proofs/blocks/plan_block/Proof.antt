@@ -8,7 +8,8 @@ use denote.Ref.{now}
 use borrow.Author.Needs.{needs}
 use Rattle.hashing.proofs.Bounds.{Limits, limits}
 use Rattle.placement.specs.File.{File}
-use Rattle.placement.specs.Hash.{lent, homesOf}
+use Rattle.placement.specs.Hash.{lent}
+use Rattle.placement.specs.Shape.{homesOf}
 use Rattle.reach.specs.Reach.{firstUnsound}
 use Rattle.entry_reach.specs.Entry.{Extends, BlockSound}
 use Rattle.entry_reach.proofs.Surveyed.{extent-low, extent-high, extent-unsound, extent-homes, block-unsound, bad-none, block-clear, found-numbers, found-below, found-count, block-planned, block-crowded}

@@ -12,7 +12,7 @@ use Rattle.placement.specs.File.{File}
 use Rattle.placement.specs.Hash.{lent}
 use Rattle.page_edit.proofs.OnePage.{home-start}
 use Rattle.page_edit.specs.Shift.{takesAlone}
-use Rattle.calls.specs.Stores.{stoppedFile}
+use Rattle.calls.specs.Shape.{stoppedFile}
 use Rattle.decision.specs.declared.chosen.Decision.the-variants.{Put}
 use Rattle.entry_reach.specs.Entry.{newStar, entryStart, Decides}
 use Rattle.entry_reach.proofs.OnePage.{alone-decided}

@@ -7,7 +7,7 @@ use borrow.Author.Needs.{needs}
 use Rattle.placement.specs.File.{File}
 use Rattle.placement.specs.Hash.{lent}
 use Rattle.calls.specs.Calls.{fileFits}
-use Rattle.calls.specs.Lent.{Admitted}
+use Rattle.calls.specs.Shape.{Admitted}
 use Rattle.calls.proofs.Refusals.{items-most}
 use Rattle.call_guard.proofs.Admitting.{prepared, tabled}
 use Rattle.fits.proofs.Output.{refused-first, well-admitted, unsound-first, rows-rise, sound-written}

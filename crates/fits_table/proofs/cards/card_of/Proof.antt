@@ -1,5 +1,5 @@
 use Rattle.fits_table.proofs.Fields.{slot-small, slot-is}
-use Rattle.fits_table.specs.Header.{cardTable}
+use Rattle.fits_table.specs.Shape.{cardTable}
 use lib.ListN.{getD}
 use Prim.Native.Nat.{ℕ}
 use mathlib.Core.List.{List, []}

@@ -1,7 +1,8 @@
 use Rattle.fits_table.proofs.Fields.{card-long, template-next, template-none, template-all}
 use lib.Seq.{length-paste}
 use Rattle.buffers.specs.Lists.{written}
-use Rattle.fits_table.specs.Header.{ascii, card, cardTable, template}
+use Rattle.fits_table.specs.Header.{ascii, card}
+use Rattle.fits_table.specs.Shape.{cardTable, template}
 use lib.ListN.{length, take}
 use Prim.Native.Nat.{_*_, _-_, _≤_}
 use mathlib.Core.Path.{_≡_, refl, sym, ap, _∙_}

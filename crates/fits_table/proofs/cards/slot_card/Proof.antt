@@ -1,4 +1,4 @@
-use Rattle.fits_table.specs.Header.{slotCard}
+use Rattle.fits_table.specs.Shape.{slotCard}
 use borrow.Author.Tests.{lt-ltb, le-ltb}
 use borrow.Author.Needs.{needs}
 use Rattle.fits_table.proofs.cards.slot_card.Statement.{statement}

@@ -1,5 +1,5 @@
 -- `generator::first_multipliers` meets its contract, by the same test.
-use Rattle.generator.specs.Generator.{firstMultipliers}
+use Rattle.generator.specs.Shape.{firstMultipliers}
 use Rattle.generator.proofs.Powers.{is-chain, the-other}
 use Rattle.generator.proofs.copies.first_multipliers.Statement.{statement}
 use Rattle.generator.proofs.copies.first_multipliers.Tie as tie

@@ -7,7 +7,8 @@ use denote.Ref.{now}
 use lib.ListN.{length}
 use Rattle.hashing.proofs.Bounds.{limits}
 use Rattle.page_separator.specs.Lists.{all}
-use Rattle.placement.specs.File.{File, Sized}
+use Rattle.placement.specs.File.{File}
+use Rattle.placement.specs.Shape.{Sized}
 use Rattle.placement.specs.Hash.{lent}
 use Rattle.removal_reach.specs.Stretch.{StretchReady}
 use Rattle.removal_reach.proofs.Items.{plannable-stretch}

@@ -6,14 +6,14 @@ use borrow.Author.Needs.{needs}
 use Rattle.hashing.specs.Geometry.{grown}
 use Rattle.buffers.proofs.Copies.{Copied, none, turn, done, unread}
 use Rattle.growth_in_place.proofs.Joiners.{home-item, length-homes}
-use Rattle.growth_block.specs.Block.{homesUpTo}
+use Rattle.growth_block.specs.Block.{homesTaken}
 use Rattle.growth_block.proofs.Planned.{length-upto, upto-next}
 use Rattle.growth_block.proofs.block.rehome_items.Statement.{statement}
 use Rattle.growth_block.proofs.block.rehome_items.Tie as tie
 
 abbrev Inv-loop : tie.InvT-loop
 Inv-loop table geometry numbers homes₀ first count stop i₀ homes i =
-    (i ≤ count) × Copied homes₀ first (drop first (homesUpTo (geometry .parameters) (grown (geometry .parameters) (geometry .growth)) stop numbers)) homes i
+    (i ≤ count) × Copied homes₀ first (drop first (homesTaken (geometry .parameters) (grown (geometry .parameters) (geometry .growth)) stop numbers)) homes i
 
 abbrev μ-loop : tie.MeasureT-loop
 μ-loop table geometry numbers homes₀ first count stop i₀ homes i = count - i
@@ -23,10 +23,10 @@ long s = length-homes _ _ _ _ (s .pre .1 .1)
 
 next-long : (s : tie.Start Inv-loop μ-loop)
     → let p = s .args .geometry .parameters in
-    length (drop (s .args .first) (homesUpTo p (grown p (s .args .geometry .growth)) (s .args .stop) (s .args .numbers .now))) ≡ length (s .args .numbers .now) - s .args .first
+    length (drop (s .args .first) (homesTaken p (grown p (s .args .geometry .growth)) (s .args .stop) (s .args .numbers .now))) ≡ length (s .args .numbers .now) - s .args .first
 next-long s =
     let p = s .args .geometry .parameters in
-    length-drop (s .args .first) (homesUpTo p (grown p (s .args .geometry .growth)) (s .args .stop) (s .args .numbers .now))
+    length-drop (s .args .first) (homesTaken p (grown p (s .args .geometry .growth)) (s .args .stop) (s .args .numbers .now))
     ∙ ap (λ (n : ℕ). n - s .args .first) (length-upto p (grown p (s .args .geometry .growth)) (s .args .stop) (s .args .numbers .now))
 
 loop-holds : tie.Need-loop-holds Inv-loop μ-loop

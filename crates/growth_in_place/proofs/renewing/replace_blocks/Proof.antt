@@ -3,7 +3,7 @@ use Prim.Native.Nat.{_-_, _≤_, _<_}
 use native.Mathlib.Omega.{arith}
 use borrow.Author.Needs.{needs}
 use Rattle.hashing.proofs.Bounds.{limits}
-use Rattle.placement.specs.File.{Sized}
+use Rattle.placement.specs.Shape.{Sized}
 use Rattle.placement.specs.Hash.{lent}
 use Rattle.growth_in_place.proofs.Renewed.{Renewed, renewed-none, renewed-all, renewed-sized, ends-least, ends-most, renewed-block, renewed-next}
 use Rattle.growth_in_place.proofs.renewing.replace_blocks.Statement.{statement}

@@ -3,7 +3,7 @@ use Prim.Native.Nat.{_+_, _-_, _≤_, _<_}
 use native.Mathlib.Omega.{arith}
 use Rattle.hashing.specs.Geometry.{pageCount}
 use Rattle.hashing.proofs.Bounds.{limits}
-use Rattle.growth_in_place.specs.Expansion.{SettledBelow, Underway, KeptStars, runsTo, isNear}
+use Rattle.growth_in_place.specs.Expansion.{SettledBelow, Moving, KeptStars, runsTo, isNear}
 use Rattle.growth_in_place.proofs.OnPage.{kept-none, kept-more, settled-next}
 use Rattle.growth_in_place.proofs.Walk.{runs-none, runs-next, near-is, none-left}
 use Rattle.growth_in_place.proofs.stars.move_below.Statement.{statement}
@@ -11,7 +11,7 @@ use Rattle.growth_in_place.proofs.stars.move_below.Tie as tie
 
 abbrev Inv-loop : tie.InvT-loop
 Inv-loop table geometry separators numbers₀ words₀ owners₀ homes₀ added parameters stop runs₀ page₀ numbers words owners homes runs page =
-    (page ≤ added) × Underway (geometry .parameters) (geometry .growth) numbers words owners homes
+    (page ≤ added) × Moving (geometry .parameters) (geometry .growth) numbers words owners homes
     × KeptStars (geometry .parameters) (geometry .growth) numbers₀ words₀ owners₀ numbers words owners
     × SettledBelow (geometry .parameters) (geometry .growth) page numbers words owners
     × (runs ≡ runsTo (geometry .parameters) (geometry .growth) separators page)

@@ -9,14 +9,14 @@ use Rattle.hashing.specs.Geometry.{pageCount}
 use Rattle.hashing.proofs.Bounds.{limits}
 use Rattle.pages.proofs.Parts.{page-fits, part-item}
 use Rattle.page_edit.specs.Shift.{numberAt}
-use Rattle.growth_in_place.specs.Expansion.{joins, joinsAt, NoneJoins, pageStars, Underway, KeptStars}
+use Rattle.growth_in_place.specs.Expansion.{joins, joinsAt, NoneJoins, pageStars, Moving, KeptStars}
 use Rattle.growth_in_place.proofs.OnPage.{held-joins, kept-none, kept-more, home-there, none-behind, taken-there, left-there}
 use Rattle.growth_in_place.proofs.stars.move_from.Statement.{statement}
 use Rattle.growth_in_place.proofs.stars.move_from.Tie as tie
 
 abbrev Inv-loop : tie.InvT-loop
 Inv-loop table geometry numbers₀ words₀ owners₀ homes₀ page added places first i₀ numbers words owners homes i =
-    (i ≤ geometry .parameters .places) × Underway (geometry .parameters) (geometry .growth) numbers words owners homes
+    (i ≤ geometry .parameters .places) × Moving (geometry .parameters) (geometry .growth) numbers words owners homes
     × KeptStars (geometry .parameters) (geometry .growth) numbers₀ words₀ owners₀ numbers words owners
     × NoneJoins (geometry .parameters) (geometry .growth) (drop i (pageStars (geometry .parameters) numbers words owners page))
 

@@ -6,7 +6,7 @@ use native.Mathlib.Omega.{arith}
 use lib.ListN.{length, drop, length-drop}
 use borrow.Author.Needs.{needs}
 use Rattle.hashing.specs.Geometry.{grown}
-use Rattle.placement.specs.Hash.{homesOf}
+use Rattle.placement.specs.Shape.{homesOf}
 use Rattle.buffers.proofs.Copies.{Copied, none, turn, done, unread}
 use Rattle.growth_in_place.proofs.stars.rehome_page.Statement.{statement}
 use Rattle.growth_in_place.proofs.stars.rehome_page.Tie as tie

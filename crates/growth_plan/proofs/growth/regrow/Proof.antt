@@ -3,7 +3,8 @@ use native.Mathlib.Nat.{le-refl}
 use native.Mathlib.Omega.{arith}
 use denote.Ref.{now}
 use Rattle.placement.specs.File.{File}
-use Rattle.placement.specs.Hash.{homesOf, lent}
+use Rattle.placement.specs.Hash.{lent}
+use Rattle.placement.specs.Shape.{homesOf}
 use Rattle.placement.specs.Ready.{Ready, Pooled}
 use Rattle.reach.specs.Reach.{firstUnsound}
 use Rattle.reach.proofs.Surveyed.{known-none}

@@ -12,7 +12,7 @@ use Rattle.hashing.proofs.Bounds.{limits}
 use Rattle.placement.specs.File.{File}
 use Rattle.placement.specs.Hash.{lent}
 use Rattle.removal_reach.proofs.Ruled.{applied-lists}
-use Rattle.growth_plan.specs.Growth.{nextOf}
+use Rattle.growth_plan.specs.Growth.{stateAfter}
 use Rattle.growth_plan.proofs.Growing.{next-valid, sound-numbers, homes-stay}
 use Rattle.growth_plan.proofs.PlannedGrowth.{plan-overflows, plan-fits}
 use Rattle.growth_plan.proofs.growth.replace_all.Statement.{statement}
@@ -21,7 +21,7 @@ use Rattle.growth_plan.proofs.growth.replace_all.Tie as tie
 abbrev file : tie.Start → File
 file s = lent (now (s .args .separators)) (now (s .args .numbers)) (now (s .args .words)) (now (s .args .owners))
 
-later : (s : tie.Start) → let p = s .args .geometry .parameters in validGrowth p (nextOf (s .args .back) p (s .args .geometry .growth)) ≡ true
+later : (s : tie.Start) → let p = s .args .geometry .parameters in validGrowth p (stateAfter (s .args .back) p (s .args .geometry .growth)) ≡ true
 later s = next-valid (s .args .back) _ _ (s .pre .0 .homing .valid) (s .pre .0 .homing .growth) (s .pre .1 .1 .0)
 
 most : (s : tie.Start) → s .args .geometry .parameters .pages ≤ 1024

@@ -4,14 +4,14 @@ use native.Mathlib.Nat.{le-antisymm}
 use native.Mathlib.Omega.{arith}
 use borrow.Author.Needs.{needs}
 use lib.ListN.{length}
-use Rattle.growth_plan.specs.Growth.{nextOf}
+use Rattle.growth_plan.specs.Growth.{stateAfter}
 use Rattle.growth_plan.proofs.Growing.{Rehomed, rehomed-front, homes-long, home-there, rehomed-next, rehomed-all}
 use Rattle.growth_plan.proofs.planning.rehome.Statement.{statement}
 use Rattle.growth_plan.proofs.planning.rehome.Tie as tie
 
 abbrev Inv-loop : tie.InvT-loop
 Inv-loop table geometry back numbers homes₀ i₀ homes i =
-    (i ≤ length numbers) × Rehomed (geometry .parameters) (geometry .growth) (nextOf back (geometry .parameters) (geometry .growth)) numbers homes i
+    (i ≤ length numbers) × Rehomed (geometry .parameters) (geometry .growth) (stateAfter back (geometry .parameters) (geometry .growth)) numbers homes i
 
 abbrev μ-loop : tie.MeasureT-loop
 μ-loop table geometry back numbers homes₀ i₀ homes i = length numbers - i

@@ -6,7 +6,8 @@ use denote.Ref.{now}
 use Rattle.hashing.specs.Limits.{validGrowth}
 use Rattle.hashing.specs.Geometry.{grown}
 use Rattle.placement.specs.File.{File}
-use Rattle.placement.specs.Hash.{homesOf, lent}
+use Rattle.placement.specs.Hash.{lent}
+use Rattle.placement.specs.Shape.{homesOf}
 use Rattle.reach.specs.Reach.{firstUnsound}
 use Rattle.reach.proofs.Surveyed.{known-none}
 use Rattle.growth_in_place.proofs.Whole.{none-counted}

@@ -47,7 +47,7 @@ use Rattle.reports.specs.TrayCalls.{addOf}
 use Rattle.reports.proofs.Report as R
 use Rattle.reports.proofs.Report.Laws as R′
 use Rattle.tray.specs.declared.adding.Added.{Added as Adding}
-use Rattle.tray.specs.Lent.{trayOf, Adds}
+use Rattle.tray.specs.Lent.{trayOf, AddsReport}
 use Rattle.tray.proofs.Given.{gone, goes-gone}
 use Rattle.tray.proofs.adding.Added as D
 use Rattle.tray.proofs.adding.Added.Laws as D′
@@ -59,7 +59,8 @@ use Rattle.heatherplane.specs.declared.replies.Growth.{Growth}
 use Rattle.heatherplane.specs.declared.trays.Added.{Added}
 use Rattle.heatherplane.specs.declared.trays.Asked.{Asked}
 use Rattle.heatherplane.specs.declared.trays.Parameters.{Parameters as Numbers}
-use Rattle.heatherplane.specs.Trays.{RepliesAdding, askedOf, addedReply, numbered, recorded}
+use Rattle.heatherplane.specs.Trays.{RepliesAdding, parametersIn, recordIn}
+use Rattle.heatherplane.specs.Shape.{askedOf, addedReply}
 use Rattle.heatherplane.proofs.Reported.{told-added}
 use Rattle.heatherplane.proofs.replies.Growth as K
 use Rattle.heatherplane.proofs.replies.Growth.Laws as K′
@@ -138,7 +139,7 @@ module _ {M : Type 1} (𝓤 : URA M) (H : Heap 𝓤) (A : Atoms 𝓤) (W : Given
   left₁ fs = left (mutSlice {n = 2} 1 tt (λ _. u64) .row (κ₀, (κ₁, tt)) .exit yes) y fs
 
   exits : (a : Added) (zs : List Report) (fs : List ℕ) → Is N.the-row p (mn ∷ []) → Is K.the-row g (mk ∷ []) → c < 2 ^ 32 → Is R.the-row v (mv ∷ []) → Is S.the-row a (LL.val S.the-type S′.the-laws a ∷ [])
-      → RepliesAdding (addOf (numbered p) (recorded g) (trayOf (now x) c) (now y) v) a zs fs
+      → RepliesAdding (addOf (parametersIn p) (recordIn g) (trayOf (now x) c) (now y) v) a zs fs
       → ent 𝓤 (⋆ 𝓤 H A ((‵ (flft κ₀ q₀) ⊛ (‵ (flft κ₁ q₁) ⊛ ‵ ftrue)) ∷ ‵ (left₀ zs) ∷ ‵ (left₁ fs) ∷ [])) (Post (LL.val S.the-type S′.the-laws a))
   exits a zs fs is-p is-g gc is-v is-a adds =
       qed W ((‵ (flft κ₀ q₀) ⊛ (‵ (flft κ₁ q₁) ⊛ ‵ ftrue)) ∷ ‵ (left₀ zs) ∷ ‵ (left₁ fs) ∷ []) ∵
@@ -221,8 +222,8 @@ module _ {M : Type 1} (𝓤 : URA M) (H : Heap 𝓤) (A : Atoms 𝓤) (W : Given
         (and-then ! (load ! (from ! (fld ! refl (stop !))) (look-in ! 11 (sub ! 0 refl (whole !)))) (and-then ! (load ! (from ! (fld ! refl (stop !))) (look-in ! 11 (sub ! 1 refl (whole !)))) (and-then ! (load ! (from ! (stop !)) (look ! 5 refl))
         (and-then ! (load ! (from ! (stop !)) (look ! 17 refl)) (and-then ! (load ! (from ! (stop !)) (look ! 1 refl)) (and-then ! (load ! (from ! (stop !)) (look ! 13 refl)) (no-more !))))))) (λ u′.
         use1 W (later (some (λ (d : Adding). ((‵ (flft κ₀ q₀) ⊛ (‵ (flft κ₁ q₁) ⊛ ‵ ftrue)) ⊛ ‵ (D.the-row .own d (u′ ∷ []))) ⊛ raw (ensured 𝓤 H A add.ended (add.clauses 𝓤 H A mem run) (κ₀, (κ₁, tt)) (given r) tt d)))) (id⊢ 𝓤 _) $ await ! tt $ pick ! (λ d.
-        split ! $ move ! (1 ∷ []) $ use1 W (some (λ (ws : Lasts). ‵ (lasts add.ended (κ₀, (κ₁, tt)) (given r) ws) ⊛ raw (fact 𝓤 (Adds (addOf (r .parameters) (r .growth) (trayOf (now x) c) (now y) v) d (ws .1 .1 .0) (ws .1 .1 .1 .1 .0))))) (id⊢ 𝓤 _) $ pick ! (λ ws.
-        split ! $ move ! (1 ∷ []) $ heard ! (Adds (addOf (r .parameters) (r .growth) (trayOf (now x) c) (now y) v) d (ws .1 .1 .0) (ws .1 .1 .1 .1 .0)) (λ adds.
+        split ! $ move ! (1 ∷ []) $ use1 W (some (λ (ws : Lasts). ‵ (lasts add.ended (κ₀, (κ₁, tt)) (given r) ws) ⊛ raw (fact 𝓤 (AddsReport (addOf (r .parameters) (r .growth) (trayOf (now x) c) (now y) v) d (ws .1 .1 .0) (ws .1 .1 .1 .1 .0))))) (id⊢ 𝓤 _) $ pick ! (λ ws.
+        split ! $ move ! (1 ∷ []) $ heard ! (AddsReport (addOf (r .parameters) (r .growth) (trayOf (now x) c) (now y) v) d (ws .1 .1 .0) (ws .1 .1 .1 .1 .0)) (λ adds.
         fsplit ! $ drop ! $ fsplit ! $ drop ! $ fsplit ! $ move ! (1 ∷ []) $ fsplit ! $ drop ! $ fsplit ! $ move ! (1 ∷ []) $ drop ! $
         move ! (2 ∷ []) $ split ! $ move ! (1 ∷ []) $ peeks ! D.the-row (Is D.the-row) (shows 𝓤 H A D.the-row) d (u′ ∷ []) (λ is-d. drop ! $
         -- [the tokens; what is said of the filter; what is said of the list; _12; …]: local i stands at 27 − 2·i

@@ -63,7 +63,8 @@ use Rattle.heatherplane.specs.declared.replies.Growth.{Growth}
 use Rattle.heatherplane.specs.declared.trays.Asked.{Asked}
 use Rattle.heatherplane.specs.declared.trays.Filed.{Filed}
 use Rattle.heatherplane.specs.declared.trays.Parameters.{Parameters as Numbers}
-use Rattle.heatherplane.specs.Trays.{RepliesFiling, askedOf, filedReply}
+use Rattle.heatherplane.specs.Trays.{RepliesFiling}
+use Rattle.heatherplane.specs.Shape.{askedOf, filedReply}
 use Rattle.heatherplane.proofs.Reported.{told-filed}
 use Rattle.heatherplane.proofs.replies.Growth as K
 use Rattle.heatherplane.proofs.replies.Growth.Laws as K′

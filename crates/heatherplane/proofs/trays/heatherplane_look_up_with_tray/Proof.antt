@@ -65,7 +65,8 @@ use Rattle.heatherplane.specs.declared.replies.Reply.{Reply}
 use Rattle.heatherplane.specs.declared.trays.Asked.{Asked}
 use Rattle.heatherplane.specs.declared.trays.Parameters.{Parameters as Numbers}
 use Rattle.heatherplane.specs.Reply.{replyOf}
-use Rattle.heatherplane.specs.Trays.{askedOf, numbered, recorded}
+use Rattle.heatherplane.specs.Trays.{parametersIn, recordIn}
+use Rattle.heatherplane.specs.Shape.{askedOf}
 use Rattle.heatherplane.proofs.replies.Growth as K
 use Rattle.heatherplane.proofs.replies.Growth.Laws as K′
 use Rattle.heatherplane.proofs.replies.Reply as Y
@@ -236,7 +237,7 @@ module _ {M : Type 1} (𝓤 : URA M) (H : Heap 𝓤) (A : Atoms 𝓤) (W : Given
   abbrev Says : Asked → Answer
   Says r = combinedOf (r .parameters) (r .growth) (lent (now x₀) (now x₁) (now x₂) (now x₃)) (trayOf (now xr) c) (now xf) k
 
-  exits : (a : Reply) (v : Val) → a ≡ replyOf (Says (askedOf p g)) (recorded g) → ent 𝓤 (⋆ 𝓤 H A (‵ (Y.the-row .own a (v ∷ [])) ∷ Tokens ∷ ‵ Whole ∷ [])) (Post v)
+  exits : (a : Reply) (v : Val) → a ≡ replyOf (Says (askedOf p g)) (recordIn g) → ent 𝓤 (⋆ 𝓤 H A (‵ (Y.the-row .own a (v ∷ [])) ∷ Tokens ∷ ‵ Whole ∷ [])) (Post v)
   exits a v e =
       qed W (‵ (Y.the-row .own a (v ∷ [])) ∷ Tokens ∷ ‵ Whole ∷ []) ∵
       suffices ! _ (ends-at 𝓤 H A f.ended stayed (f.clauses 𝓤 H A mem run) W bound v a (tt, (tt, (tt, (tt, (tt, (tt, (tt, (tt, (tt, (tt, tt)))))))))) (tt, (tt, (tt, (tt, (tt, (tt, (tt, (tt, (tt, (tt, tt))))))))))) $ says ! e $
@@ -284,7 +285,7 @@ module _ {M : Type 1} (𝓤 : URA M) (H : Heap 𝓤) (A : Atoms 𝓤) (W : Given
     rp-of : (r : Asked) (a : Found) (y : Reply) → ent 𝓤 (ensured 𝓤 H A reply.ended (reply.clauses 𝓤 H A mem run) tt (a, (r .growth, tt)) tt y) (fact 𝓤 (y ≡ replyOf (sought a) (r .growth)))
     rp-of r a y = exE 𝓤 _ (λ ws. snd∗ 𝓤 (sem 𝓤 H A (lasts reply.ended tt (a, (r .growth, tt)) ws)) (fact 𝓤 (y ≡ replyOf (sought a) (r .growth))))
 
-    told : (r : Asked) (a : Found) (y : Reply) → r ≡ askedOf p g → sought a ≡ Says r → y ≡ replyOf (sought a) (r .growth) → y ≡ replyOf (Says (askedOf p g)) (recorded g)
+    told : (r : Asked) (a : Found) (y : Reply) → r ≡ askedOf p g → sought a ≡ Says r → y ≡ replyOf (sought a) (r .growth) → y ≡ replyOf (Says (askedOf p g)) (recordIn g)
     told r a y asks found replies = subst (λ (q : Asked). y ≡ replyOf (Says q) (q .growth)) asks (replies ∙ ap (λ (w : Answer). replyOf w (r .growth)) found)
 
     module _ (C : Calls 𝓤 H) (Λ : Loops 𝓤 H) (fm : FmC 𝓤 H (W .laws) C) (known-ak : Triple 𝓤 (C #asked) (Ak 𝓤 H A mem run)) (known-lu : Triple 𝓤 (C #look-up) (Lu 𝓤 H A mem run)) (known-rp : Triple 𝓤 (C #reply) (Rp 𝓤 H A mem run))

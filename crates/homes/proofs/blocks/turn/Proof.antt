@@ -1,7 +1,7 @@
 -- `homes::blocks::turn` meets its contract: the step of the lanes is the step of the rule.
 use mathlib.Core.Path.{_≡_, _∙_}
 use Prim.Native.Nat.{suc, _*_, _≤_}
-use Rattle.generator.specs.Generator.{power}
+use Rattle.generator.specs.Shape.{power}
 use Rattle.hashing.specs.Geometry.{multiplierOf}
 use Rattle.hashing.proofs.Bounds.{Limits, limits}
 use Rattle.homes.specs.Lanes.{pagesAfter}

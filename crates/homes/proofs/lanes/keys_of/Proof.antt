@@ -6,7 +6,8 @@ use native.Mathlib.Nat.{not-suc-le-zero}
 use native.Mathlib.Omega.{arith}
 use borrow.Author.Needs.{needs}
 use lib.ListN.{length, getD, drop}
-use Rattle.homes.specs.Lanes.{lanes, keyOf, keysAt}
+use Rattle.homes.specs.Lanes.{residueOf, keysAt}
+use Rattle.homes.specs.Indexed.{lanes}
 use Rattle.homes.proofs.Lists.{lane, lane-none, lane-next, lane-more, lane-end}
 use Rattle.homes.proofs.lanes.keys_of.Statement.{statement}
 use Rattle.homes.proofs.lanes.keys_of.Tie as tie
@@ -14,14 +15,14 @@ use Rattle.homes.proofs.lanes.keys_of.Tie as tie
 abbrev Inv-loop : tie.InvT-loop
 Inv-loop numbers at keys₀ i₀ keys i =
     (i ≤ 8)
-    × ((keys ≡ lanes i (λ j. keyOf (getD numbers (at + j) 0)) ++ drop i keys₀)
-    × ((j : ℕ) → j < i → keyOf (getD numbers (at + j) 0) ≤ 2147483648))
+    × ((keys ≡ lanes i (λ j. residueOf (getD numbers (at + j) 0)) ++ drop i keys₀)
+    × ((j : ℕ) → j < i → residueOf (getD numbers (at + j) 0) ≤ 2147483648))
 
 abbrev μ-loop : tie.MeasureT-loop
 μ-loop numbers at keys₀ i₀ keys i = 8 - i
 
 abbrev value : tie.Start Inv-loop μ-loop → ℕ → ℕ
-value c j = keyOf (getD (c .args .numbers .now) (c .args .at + j) 0)
+value c j = residueOf (getD (c .args .numbers .now) (c .args .at + j) 0)
 
 loop-holds : tie.Need-loop-holds Inv-loop μ-loop
 loop-holds c = (omega arith, (lane-none (value c) (c .args .keys .now), λ j h. absurd (not-suc-le-zero h)))

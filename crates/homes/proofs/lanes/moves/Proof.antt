@@ -4,7 +4,8 @@ use mathlib.Core.List.{_++_}
 use Prim.Native.Nat.{ℕ, _-_, _≤_, _<_}
 use native.Mathlib.Omega.{arith}
 use lib.ListN.{length, getD, drop}
-use Rattle.homes.specs.Lanes.{lanes, movedBy}
+use Rattle.homes.specs.Lanes.{movedBy}
+use Rattle.homes.specs.Indexed.{lanes}
 use Rattle.homes.proofs.Lists.{lane-none, lane-next, lane-unread, lane-end}
 use Rattle.homes.proofs.lanes.moves.Statement.{statement}
 use Rattle.homes.proofs.lanes.moves.Tie as tie

@@ -7,7 +7,8 @@ use native.Mathlib.Omega.{arith}
 use lib.ListN.{length, getD}
 use lib.Seq.{length-paste}
 use Rattle.generator.specs.Generator.{modulus}
-use Rattle.homes.specs.Lanes.{lanes, blockAt, Blocks, keysAt, KeysOf}
+use Rattle.homes.specs.Lanes.{blockAt, Blocks, keysAt, KeysOf}
+use Rattle.homes.specs.Indexed.{lanes}
 use Rattle.homes.proofs.Lists.{lanes-length, blocks-more}
 use Rattle.homes.proofs.page.prepare.Statement.{statement}
 use Rattle.homes.proofs.page.prepare.Tie as tie

@@ -2,7 +2,7 @@
 use mathlib.Core.Path.{refl}
 use native.Mathlib.Omega.{arith}
 use borrow.Author.Needs.{needs}
-use Rattle.homes.specs.Lanes.{keyOf}
+use Rattle.homes.specs.Lanes.{residueOf}
 use Rattle.homes.proofs.scalars.keyed.Statement.{statement}
 use Rattle.homes.proofs.scalars.keyed.Tie as tie
 
@@ -13,7 +13,7 @@ cast-result : tie.Need-cast-result
 cast-result c = search needs
 
 returns : tie.Need-returns
-unfolding keyOf
+unfolding residueOf
 returns c = (refl, omega (arith, c .fits .number))
 
 pub keyed-spec : {M : Type 1} → statement M

@@ -4,7 +4,7 @@ use Prim.Native.Nat.{_+_, _*_, suc}
 use native.Mathlib.Omega.{arith}
 use borrow.Author.Needs.{needs}
 use lib.ListN.{getD}
-use Rattle.generator.specs.Generator.{power}
+use Rattle.generator.specs.Shape.{power}
 use Rattle.hashing.specs.Geometry.{multiplierOf}
 use Rattle.homes.specs.Stages.{testAt}
 use Rattle.homes.proofs.Prepared.{Steady, steady, expanded-most, factor-is, stage-size}

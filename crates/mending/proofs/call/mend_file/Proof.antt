@@ -8,7 +8,8 @@ use lib.ListN.{replicate}
 use denote.Ref.{now}
 use Rattle.hashing.proofs.Bounds.{limits, passed, failed}
 use Rattle.placement.specs.File.{File}
-use Rattle.placement.specs.Hash.{lent, homesOf}
+use Rattle.placement.specs.Hash.{lent}
+use Rattle.placement.specs.Shape.{homesOf}
 use Rattle.call_guard.proofs.Admitting.{prepared, tabled}
 use Rattle.calls.specs.Answers.{Pool, pooled, cleared}
 use Rattle.calls.specs.Mend.{validItems}

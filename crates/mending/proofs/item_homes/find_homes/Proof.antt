@@ -3,7 +3,7 @@ use mathlib.Core.Path.{_≡_, _∙_}
 use lib.ListN.{length, length-map}
 use borrow.Author.Needs.{needs}
 use Rattle.buffers.proofs.Written.{pasted-whole}
-use Rattle.placement.specs.Hash.{homeIn, homesOf}
+use Rattle.placement.specs.Shape.{homeIn, homesOf}
 use Rattle.mending.proofs.item_homes.find_homes.Statement.{statement}
 use Rattle.mending.proofs.item_homes.find_homes.Tie as tie
 

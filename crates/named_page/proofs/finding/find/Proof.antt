@@ -10,7 +10,8 @@ use Rattle.hashing.proofs.Bounds.{limits}
 use Rattle.pages.specs.Page.{part}
 use Rattle.pages.proofs.Parts.{page-fits}
 use Rattle.placement.specs.File.{File}
-use Rattle.placement.specs.Hash.{lent, soundAt, homesOf}
+use Rattle.placement.specs.Hash.{lent, soundAt}
+use Rattle.placement.specs.Shape.{homesOf}
 use Rattle.soundness.proofs.Items.{sound-loaded, homes-loaded}
 use Rattle.calls.proofs.Refusals.{items-most}
 use Rattle.named_page.proofs.Found.{named-most, past-file, in-file, unread-as, absent-as, held-as, held-is, place-is, place-most, at-is, at-below, word-is, owner-is, item-below, word-valid, one-least}

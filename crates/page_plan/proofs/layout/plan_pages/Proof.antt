@@ -7,7 +7,7 @@ use borrow.Author.Needs.{needs}
 use lib.ListN.{length, take}
 use lib.Seq.{slice}
 use denote.Ref.{now}
-use Rattle.pages.specs.Page.{stretch}
+use Rattle.pages.specs.Shape.{stretch}
 use Rattle.hashing.proofs.Bounds.{limits}
 use Rattle.page_plan.specs.Gather.{stretchWords, grouped}
 use Rattle.page_plan.proofs.Items.{words-count}

@@ -6,7 +6,7 @@ use native.Mathlib.Omega.{arith}
 use lib.ListN.{length, getD}
 use lib.Seq.{slice}
 use denote.Ref.{now}
-use Rattle.pages.specs.Page.{stretch}
+use Rattle.pages.specs.Shape.{stretch}
 use Rattle.hashing.proofs.Bounds.{limits}
 use Rattle.page_separator.specs.Lists.{all}
 use Rattle.page_plan.specs.Gather.{stretchWords, grouped}

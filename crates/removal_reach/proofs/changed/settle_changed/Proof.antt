@@ -8,7 +8,7 @@ use native.Mathlib.Omega.{arith}
 use lib.ListN.{length, getD, take}
 use lib.Seq.{slice}
 use denote.Ref.{now}
-use Rattle.pages.specs.Page.{stretch}
+use Rattle.pages.specs.Shape.{stretch}
 use Rattle.hashing.proofs.Bounds.{limits}
 use Rattle.page_separator.specs.Probes.{homesUpTo}
 use Rattle.page_plan.specs.Gather.{starsIn}

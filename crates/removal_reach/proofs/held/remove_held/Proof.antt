@@ -9,7 +9,7 @@ use Rattle.generator.specs.Generator.{topOf}
 use Rattle.hashing.proofs.Bounds.{limits}
 use Rattle.placement.specs.File.{File}
 use Rattle.placement.specs.Hash.{lent}
-use Rattle.calls.specs.Stores.{stoppedFile}
+use Rattle.calls.specs.Shape.{stoppedFile}
 use Rattle.decision.specs.declared.chosen.Decision.the-variants.{Take}
 use Rattle.removal_reach.specs.Removal.{removalStart, Decides}
 use Rattle.removal_reach.proofs.Removing.{star-home, star-inside}

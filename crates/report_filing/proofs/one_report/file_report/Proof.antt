@@ -10,7 +10,7 @@ use Rattle.pages.specs.Position.{validNumber, validPosition}
 use Rattle.placement.specs.Hash.{lent}
 use Rattle.placement.specs.Ready.{Pooled}
 use Rattle.calls.specs.Answers.{placed, refusedBy, refused}
-use Rattle.reports.specs.Reports.{positionOf, isRemoval}
+use Rattle.reports.specs.Reports.{reportedPosition, isRemoval}
 use Rattle.report_filing.specs.Filing.{Sought}
 use Rattle.report_filing.proofs.Reporting.{bad-number, bad-position, damaged}
 use Rattle.report_filing.proofs.Searched.{filed-nothing}
@@ -43,7 +43,7 @@ returns-2 c pool fits =
 abbrev start : tie.Else2 → tie.Start
 start c = c .before .before .before .before .before .before .before .before .before .before .before
 
-positioned : (c : tie.Else2) → isRemoval (start c .args .report) || validPosition (positionOf (start c .args .report)) ≡ true
+positioned : (c : tie.Else2) → isRemoval (start c .args .report) || validPosition (reportedPosition (start c .args .report)) ≡ true
 positioned c = passed _ _ (c .before .position-fits .ensures) (c .if2 .left)
 
 find-kept-requires : tie.Need-find-kept-requires

@@ -5,9 +5,11 @@ use native.Mathlib.Nat.{le-refl, add-zero}
 use denote.Ref.{now}
 use Rattle.pages.specs.Page.{part}
 use Rattle.placement.specs.File.{File}
-use Rattle.placement.specs.Hash.{homesOf, lent}
+use Rattle.placement.specs.Hash.{lent}
+use Rattle.placement.specs.Shape.{homesOf}
 use Rattle.placement.proofs.Prepared.{ready}
-use Rattle.reach.specs.Reach.{firstUnsound, homesKept}
+use Rattle.reach.specs.Reach.{firstUnsound}
+use Rattle.reach.specs.Shape.{homesKept}
 use Rattle.reach.specs.Known.{Known}
 use Rattle.reach.proofs.Surveyed.{known-none, surveyed-pages}
 use Rattle.calls.proofs.Ruled.{all-sound}

@@ -1,7 +1,7 @@
 use Rattle.hashing.specs.Limits.{validParameters, within}
 use Rattle.generator.specs.Generator.{validMultiplier}
 use Rattle.calls.specs.Calls.{makeOf, fileFits}
-use Rattle.sessions.specs.Commands.{starline, newFile, stateOf}
+use Rattle.sessions.specs.Commands.{starline, newFile, stateIn}
 use borrow.Author.Needs.{needs}
 use Rattle.sessions.proofs.commands.empty_file.Statement.{statement}
 use Rattle.sessions.proofs.commands.empty_file.Tie as tie
@@ -25,7 +25,7 @@ make-requires : tie.Need-make-requires
 make-requires c κs = search needs
 
 returns : tie.Need-returns
-unfolding stateOf newFile makeOf fileFits starline validParameters validMultiplier within
+unfolding stateIn newFile makeOf fileFits starline validParameters validMultiplier within
 returns c =
     let made = rw (c .before .before .before .before .before .before .before .before .before .before .before .parameters .ensures) at (c .before .before .before .before .before .before .make .ensures) in
     λ i. record { growth = made .1 i .state; file = made .0 .files i }

@@ -9,7 +9,7 @@ use Rattle.hashing.specs.Geometry.{multiplierOf}
 use Rattle.hashing.proofs.Bounds.{limits}
 use Rattle.hashing.proofs.Homes.{home-pages}
 use Rattle.placement.specs.Rule.{first}
-use Rattle.placement.specs.Hash.{hashFrom}
+use Rattle.placement.specs.Shape.{hashFrom}
 use Rattle.placement.proofs.Prepared.{first-long, first-signers}
 use Rattle.soundness.proofs.Probed.{none-first, none-found, named-is, named-found}
 use Rattle.soundness.proofs.probing.named_from.Statement.{statement}

@@ -13,7 +13,7 @@ use Rattle.hashing.proofs.Bounds.{limits}
 use Rattle.generator.proofs.Powers.{lent-below}
 use Rattle.generator.proofs.Scrambling.{lent-signature}
 use Rattle.placement.specs.Rule.{below}
-use Rattle.placement.specs.Hash.{hashFrom}
+use Rattle.placement.specs.Shape.{hashFrom}
 use Rattle.soundness.proofs.Probed.{Probed, probed-from, probed-more, probed-found, probed-all, below-from}
 use Rattle.soundness.proofs.probing.probe.Statement.{statement}
 use Rattle.soundness.proofs.probing.probe.Tie as tie

@@ -5,7 +5,7 @@ use native.Mathlib.Omega.{arith}
 use lib.ListN.{length, drop}
 use lib.Seq.{paste, paste-zero}
 use borrow.Author.Needs.{needs}
-use Rattle.placement.specs.Hash.{homesOf}
+use Rattle.placement.specs.Shape.{homesOf}
 use Rattle.soundness.proofs.Pastes.{homes-next}
 use Rattle.soundness.proofs.star_homes.find_homes.Statement.{statement}
 use Rattle.soundness.proofs.star_homes.find_homes.Tie as tie

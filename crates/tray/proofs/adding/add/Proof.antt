@@ -53,7 +53,7 @@ use Rattle.tray_list.proofs.put.Symbol.{name as #put}
 use Rattle.tray_list.proofs.put.Met as put-thm
 use Rattle.tray.specs.declared.adding.Added.{Added}
 use Rattle.tray.specs.declared.adding.Adding.{Adding}
-use Rattle.tray.specs.Lent.{trayOf, Adds}
+use Rattle.tray.specs.Lent.{trayOf, AddsReport}
 use Rattle.tray.proofs.Given.{gone, goes-gone}
 use Rattle.tray.proofs.adding.Added as D
 use Rattle.tray.proofs.adding.Added.Laws as D′
@@ -74,7 +74,7 @@ stayed =
 
 -- what `decide` ensures
 abbrev Decides : Parameters → GrowthRecord → ℕ → ℕ → List ℕ → Report → Adding → List ℕ → Type 0
-Decides p g places c fs v r fs′ = (reports : List Report) → length reports ≡ places → Adds (addOf p g (trayOf reports c) fs v) (r .added) (set reports (r .at) (r .report)) fs′
+Decides p g places c fs v r fs′ = (reports : List Report) → length reports ≡ places → AddsReport (addOf p g (trayOf reports c) fs v) (r .added) (set reports (r .at) (r .report)) fs′
 
 module _ {M : Type 1} (𝓤 : URA M) (H : Heap 𝓤) (A : Atoms 𝓤) (mem : Memory → SProp 𝓤) (run : Routine → Fun 𝓤) where
   -- the contracts that the proof cites
@@ -121,7 +121,7 @@ module _ {M : Type 1} (𝓤 : URA M) (H : Heap 𝓤) (A : Atoms 𝓤) (W : Given
   left₁ fs = left (mutSlice {n = 2} 1 tt (λ _. u64) .row (κ₀, (κ₁, tt)) .exit yes) y fs
 
   exits : (r : Adding) (zs : List Report) (fs : List ℕ) → Is P.the-row p (mp ∷ []) → Is G.the-row g (mg ∷ []) → c < 2 ^ 32 → Is R.the-row v (mv v ∷ []) → Is D.the-row (r .added) (LL.val D.the-type D′.the-laws (r .added) ∷ [])
-      → Adds (addOf p g (trayOf (now x) c) (now y) v) (r .added) zs fs
+      → AddsReport (addOf p g (trayOf (now x) c) (now y) v) (r .added) zs fs
       → ent 𝓤 (⋆ 𝓤 H A ((‵ (flft κ₀ q₀) ⊛ ‵ ftrue) ∷ ‵ (left₀ zs) ∷ (‵ (flft κ₁ q₁) ⊛ ‵ ftrue) ∷ ‵ (left₁ fs) ∷ [])) (Post (LL.val D.the-type D′.the-laws (r .added)))
   exits r zs fs is-p is-g gc is-v is-d adds =
       qed W ((‵ (flft κ₀ q₀) ⊛ ‵ ftrue) ∷ ‵ (left₀ zs) ∷ (‵ (flft κ₁ q₁) ⊛ ‵ ftrue) ∷ ‵ (left₁ fs) ∷ []) ∵
@@ -209,7 +209,7 @@ module _ {M : Type 1} (𝓤 : URA M) (H : Heap 𝓤) (A : Atoms 𝓤) (W : Given
         forget ! 26 refl $ forget ! 28 refl $ forget ! 30 refl $
         move ! (30 ∷ 31 ∷ []) $ free1 ! $ move ! (28 ∷ 29 ∷ []) $ free1 ! $ move ! (26 ∷ 27 ∷ []) $ free1 ! $ move ! (24 ∷ 25 ∷ []) $ free1 ! $ move ! (22 ∷ 23 ∷ []) $ free1 ! $ move ! (20 ∷ 21 ∷ []) $ free1 ! $ move ! (18 ∷ 19 ∷ []) $ free1 ! $
         move ! (16 ∷ 17 ∷ []) $ free1 ! $ move ! (14 ∷ 15 ∷ []) $ free1 ! $ move ! (12 ∷ 13 ∷ []) $ free1 ! $ move ! (10 ∷ 11 ∷ []) $ free1 ! $ move ! (8 ∷ 9 ∷ []) $ free1 ! $ move ! (6 ∷ 7 ∷ []) $ free1 ! $ move ! (4 ∷ 5 ∷ []) $ free1 ! $ free0 ! $
-        by ! (exits r (zs .0) (ws .1 .1 .1 .1 .0) is-p is-g gc is-v (added-is r _ is-r) (subst (λ (l : List Report). Adds (addOf p g (trayOf (now x) c) (now y) v) (r .added) l (ws .1 .1 .1 .1 .0)) (sym stores) (decides (now x) refl)))))))))))))))))))))))))))
+        by ! (exits r (zs .0) (ws .1 .1 .1 .1 .0) is-p is-g gc is-v (added-is r _ is-r) (subst (λ (l : List Report). AddsReport (addOf p g (trayOf (now x) c) (now y) v) (r .added) l (ws .1 .1 .1 .1 .0)) (sym stores) (decides (now x) refl)))))))))))))))))))))))))))
       where
         -- the parts of what `decide` answers
         added-is : (r : Adding) (us : List Val) → Is J.the-row r us → Is D.the-row (r .added) (LL.val D.the-type D′.the-laws (r .added) ∷ [])

@@ -3,7 +3,7 @@ use mathlib.Core.Path.{_≡_, sym, ap, _∙_}
 use borrow.Author.Needs.{needs}
 use borrow.Author.Tests.{lt-ltb, le-ltb}
 use Rattle.hashing.proofs.Bounds.{passed, failed}
-use Rattle.calls.specs.Answers.{admissionNumber}
+use Rattle.calls.specs.Shape.{admissionNumber}
 use Rattle.reports.specs.TrayCalls.{trayRefusal}
 use Rattle.tray.specs.Refusals.{reportRefusal}
 use Rattle.tray.proofs.Refused.{record-is, report-turned}

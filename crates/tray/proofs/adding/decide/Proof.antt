@@ -6,7 +6,7 @@ use native.Mathlib.Omega.{arith}
 use lib.ListN.{length}
 use borrow.Author.Needs.{needs}
 use Rattle.generator.specs.Generator.{validMultiplier}
-use Rattle.calls.specs.Answers.{admissionNumber}
+use Rattle.calls.specs.Shape.{admissionNumber}
 use Rattle.tray.specs.Refusals.{trayLengths, reportRefusal}
 use Rattle.tray.proofs.Refused.{refused-adds, accepted-adds, report-admitted}
 use Rattle.tray.proofs.adding.decide.Statement.{statement}

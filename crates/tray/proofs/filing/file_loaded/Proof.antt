@@ -6,7 +6,8 @@ use denote.Ref.{now}
 use borrow.Author.Needs.{needs}
 use Rattle.placement.specs.File.{File}
 use Rattle.placement.specs.Hash.{lent}
-use Rattle.calls.specs.Answers.{Pool, pooled, admissionNumber}
+use Rattle.calls.specs.Answers.{Pool, pooled}
+use Rattle.calls.specs.Shape.{admissionNumber}
 use Rattle.calls.specs.Calls.{fileFits, poolFits}
 use Rattle.reports.specs.TrayCalls.{trayRefusal}
 use Rattle.tray.proofs.Refused.{record-is}

@@ -67,7 +67,8 @@ use Rattle.tray_list.proofs.close_up.Symbol.{name as #close-up}
 use Rattle.tray_list.proofs.close_up.Met as cu-thm
 use Rattle.tray.specs.declared.filing.Filing.{Filing}
 use Rattle.tray.specs.declared.filing.Closing.{Closing}
-use Rattle.tray.specs.Filing.{limitOf, FilesTray}
+use Rattle.tray.specs.Filing.{FilesTray}
+use Rattle.tray.specs.Shape.{limitOf}
 use Rattle.tray.specs.Lent.{trayOf}
 use Rattle.tray.proofs.Given.{gone, goes-gone}
 use Rattle.tray.proofs.LentRead.{LentRead, lends-read, comes-back}

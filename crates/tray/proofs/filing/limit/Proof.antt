@@ -2,7 +2,7 @@
 use mathlib.Core.Path.{_≡_, refl}
 use native.Mathlib.Omega.{arith}
 use borrow.Author.Tests.{eq-eqb, ne-eqb, le-leb, lt-leb}
-use Rattle.tray.specs.Filing.{limitOf}
+use Rattle.tray.specs.Shape.{limitOf}
 use Rattle.tray.proofs.filing.limit.Statement.{statement}
 use Rattle.tray.proofs.filing.limit.Tie as tie
 

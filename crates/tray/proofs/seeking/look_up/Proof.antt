@@ -46,7 +46,8 @@ use Rattle.hashing.proofs.Parameters.Laws as P′
 use Rattle.placement.specs.Hash.{lent}
 use Rattle.calls.specs.declared.records.GrowthRecord.{GrowthRecord}
 use Rattle.calls.specs.declared.answers.Found.{Found}
-use Rattle.calls.specs.Answers.{admissionNumber, sought}
+use Rattle.calls.specs.Answers.{sought}
+use Rattle.calls.specs.Shape.{admissionNumber}
 use Rattle.calls.specs.Calls.{fileLengths}
 use Rattle.calls.proofs.records.GrowthRecord as G
 use Rattle.calls.proofs.records.GrowthRecord.Laws as G′

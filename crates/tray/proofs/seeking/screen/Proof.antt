@@ -8,7 +8,7 @@ use borrow.Author.Needs.{needs}
 use borrow.Author.Tests.{not-true, not-false}
 use Rattle.generator.specs.Generator.{validMultiplier}
 use Rattle.hashing.proofs.Bounds.{passed, failed}
-use Rattle.calls.specs.Answers.{admissionNumber}
+use Rattle.calls.specs.Shape.{admissionNumber}
 use Rattle.calls.specs.Calls.{fileLengths}
 use Rattle.calls.proofs.Numbers.{numbered}
 use Rattle.reports.specs.TrayCalls.{trayRefusal}

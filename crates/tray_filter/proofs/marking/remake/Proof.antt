@@ -4,7 +4,7 @@ use Prim.Native.Nat.{_-_, _≤_, _<_}
 use native.Mathlib.Omega.{arith}
 use lib.ListN.{length, take, drop, getD, length-replicate}
 use borrow.Author.Needs.{needs}
-use Rattle.reports.specs.Reports.{blank, filterOf}
+use Rattle.reports.specs.Reports.{noReport, filterOf}
 use Rattle.reports.proofs.Marks.{length-marked, length-filterOf}
 use Rattle.tray_filter.proofs.Anew.{none-marked, one-marked}
 use Rattle.tray_filter.proofs.marking.remake.Statement.{statement}
@@ -62,7 +62,7 @@ loop-less c = omega arith
 
 -- src/marking.rt:100:5
 loop-again : tie.Need-loop-again Inv-loop μ-loop
-unfolding blank
+unfolding noReport
 loop-again c =
     let m = c .before .before in
     let t = c .before .before .before .before .before .before in
@@ -73,7 +73,7 @@ loop-again c =
       (
         omega arith,
         (
-          one-marked (s .args .multiplier) (s .args .from) (t .loop .i) (s .args .t3) (t .loop .filter) _ (getD (s .args .t3) (t .loop .i) blank) (t .loop .inv .0) (omega (arith, size, below, s .pre .1 .1)) (t .loop .inv .1 .1 .0) refl (m .mark .ensures),
+          one-marked (s .args .multiplier) (s .args .from) (t .loop .i) (s .args .t3) (t .loop .filter) _ (getD (s .args .t3) (t .loop .i) noReport) (t .loop .inv .0) (omega (arith, size, below, s .pre .1 .1)) (t .loop .inv .1 .1 .0) refl (m .mark .ensures),
           rw (m .mark .ensures, length-marked) (t .loop .inv .1 .1 .1),
         ),
       ),

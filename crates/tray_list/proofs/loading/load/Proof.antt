@@ -51,7 +51,7 @@ use denote.Triple.Table.{entered, cited}
 use denote.Triple.Walked.{says, needs, Stays, stay-none-slice, stay-none, walkOf, goes-none-slice, goes-none, Walks, ends-at, walked, walk-meets}
 use denote.Exit.{yes}
 use Rattle.reports.specs.declared.Report.{Report}
-use Rattle.reports.specs.Reports.{blank}
+use Rattle.reports.specs.Reports.{noReport}
 use Rattle.reports.proofs.Report as R
 use Rattle.reports.proofs.Report.Laws as R′
 use Rattle.tray_list.specs.Loading.{loaded}
@@ -174,16 +174,16 @@ module _ {M : Type 1} (𝓤 : URA M) (H : Heap 𝓤) (A : Atoms 𝓤) (W : Given
         assigns ! (bin ! (load ! (from ! (stop !)) (look ! 2 refl)) (lit ! tt) (record { fits = far })) (from ! (stop !)) (init ! 4 refl (tt, record { fits = far })) $
         assigns ! (bin ! (load ! (from ! (fld ! refl (stop !))) (look-in ! 10 (sub ! 0 refl (whole !)))) (load ! (from ! (stop !)) (look ! 4 refl)) tt) (from ! (stop !)) (init ! 5 refl (tt, tt)) $
         rewrite ! 5 (λ (u : ℕ). ‵ (fat fullShare tyPtr l₈ 0 (vptr b u))) (sym (lies-at o i)) refl $
-        elem-out ! R.the-row (Is R.the-row) (shows 𝓤 H A R.the-row) (LL.vals R.the-type R′.the-laws) (LL.tells R.the-type R′.the-laws) q′ ys i blank b o within (λ is-y.
+        elem-out ! R.the-row (Is R.the-row) (shows 𝓤 H A R.the-row) (LL.vals R.the-type R′.the-laws) (LL.tells R.the-type R′.the-laws) q′ ys i noReport b o within (λ is-y.
         -- [the report; what it owns; the others; the array; _4; _6; _7; _8; _9; …]
         assigns ! (of-opd ! (load ! (from ! (hop ! (look ! 7 refl) (stop !))) (look-raw ! 0 refl))) (from ! (stop !)) (init ! 8 refl (LL.lawful R.the-type R′.the-laws 𝓤 H A W .typed y _ is-y .0)) $
-        elem-back ! R.the-row q′ ys i blank (val y ∷ []) b o within $
+        elem-back ! R.the-row q′ ys i noReport (val y ∷ []) b o within $
         -- its place in the array
         assigns ! (bin ! (load ! (from ! (stop !)) (look ! 2 refl)) (lit ! tt) (record { fits = far })) (from ! (stop !)) (init ! 7 refl (tt, record { fits = far })) $
         assigns ! (addr ! (from ! (stop !))) (from ! (stop !)) (init ! 8 refl (tt, tt)) $
         assigns ! (bin ! (load ! (from ! (stop !)) (look ! 8 refl)) (load ! (from ! (stop !)) (look ! 7 refl)) tt) (from ! (stop !)) (init ! 9 refl (tt, tt)) $
         rewrite ! 9 (λ (u : ℕ). ‵ (fat fullShare tyPtr l₁₂ 0 (vptr l₃ u))) (sym (lies-at 0 i)) refl $
-        move ! (1 ∷ []) $ elem-out ! R.the-row (Is R.the-row) (shows 𝓤 H A R.the-row) (LL.vals R.the-type R′.the-laws) (LL.tells R.the-type R′.the-laws) fullShare (copied i) i blank l₃ 0 inside (λ _.
+        move ! (1 ∷ []) $ elem-out ! R.the-row (Is R.the-row) (shows 𝓤 H A R.the-row) (LL.vals R.the-type R′.the-laws) (LL.tells R.the-type R′.the-laws) fullShare (copied i) i noReport l₃ 0 inside (λ _.
         -- [the place; what it owns; the others; the list; _4; _6; _7; _8; _9; _10; _11; _12; …]
         assigns ! (of-opd ! (load ! (from ! (stop !)) (look ! 8 refl))) (from ! (hop ! (look ! 11 refl) (stop !))) (store-raw ! 0 refl (LL.lawful R.the-type R′.the-laws 𝓤 H A W .typed y _ is-y .0)) $
         move ! (1 ∷ []) $ drop ! $ owned ! R.the-row (Is R.the-row) (LL.makes R.the-type R′.the-plain 𝓤 H A) y _ is-y $ move ! (1 ∷ 0 ∷ []) $ elem-put ! R.the-row fullShare (copied i) i y (val y ∷ []) l₃ 0 inside $
@@ -199,7 +199,7 @@ module _ {M : Type 1} (𝓤 : URA M) (H : Heap 𝓤) (A : Atoms 𝓤) (W : Given
         inside = omega (arith, small, fit .1, size i (omega (arith, small)))
 
         y : Report
-        y = getD ys i blank
+        y = getD ys i noReport
 
         far : i * 16 < 2 ^ 64
         far = offset-fits (length ys) i room (omega (arith, within))

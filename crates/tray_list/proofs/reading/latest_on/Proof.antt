@@ -49,7 +49,7 @@ use denote.Triple.Table.{entered, cited}
 use denote.Triple.Walked.{says, needs, Stays, stay-none-slice, stay-none, walkOf, goes-none-slice, goes-none, Walks, ends-at, walked, walk-meets}
 use denote.Exit.{yes}
 use Rattle.reports.specs.declared.Report.{Report}
-use Rattle.reports.specs.Reports.{blank}
+use Rattle.reports.specs.Reports.{noReport}
 use Rattle.reports.proofs.Report as R
 use Rattle.reports.proofs.Report.Laws as R′
 use Rattle.tray_list.specs.declared.reading.Latest.{Latest}
@@ -197,10 +197,10 @@ module _ {M : Type 1} (𝓤 : URA M) (H : Heap 𝓤) (A : Atoms 𝓤) (W : Given
         assigns ! (bin ! (load ! (from ! (stop !)) (look ! 1 refl)) (lit ! tt) (record { fits = far })) (from ! (stop !)) (init ! 3 refl (tt, record { fits = far })) $
         assigns ! (bin ! (load ! (from ! (fld ! refl (stop !))) (look-in ! 7 (sub ! 0 refl (whole !)))) (load ! (from ! (stop !)) (look ! 3 refl)) tt) (from ! (stop !)) (init ! 4 refl (tt, tt)) $
         rewrite ! 4 (λ (p : ℕ). ‵ (fat fullShare tyPtr l₈ 0 (vptr b p))) (sym (lies-at o i)) refl $
-        move ! (6 ∷ []) $ elem-out ! R.the-row (Is R.the-row) (shows 𝓤 H A R.the-row) (LL.vals R.the-type R′.the-laws) (LL.tells R.the-type R′.the-laws) q′ ys i blank b o within (λ is-y.
+        move ! (6 ∷ []) $ elem-out ! R.the-row (Is R.the-row) (shows 𝓤 H A R.the-row) (LL.vals R.the-type R′.the-laws) (LL.tells R.the-type R′.the-laws) q′ ys i noReport b o within (λ is-y.
         -- [the report; what it owns; the others; _4; _5; _6; _7; _8; _9; _1; _2; _3; …]
         assigns ! (of-opd ! (load ! (from ! (hop ! (look ! 7 refl) (stop !))) (look-raw ! 0 refl))) (from ! (stop !)) (init ! 8 refl (LL.lawful R.the-type R′.the-laws 𝓤 H A W .typed y _ is-y .0)) $
-        elem-back ! R.the-row q′ ys i blank (val y ∷ []) b o within $
+        elem-back ! R.the-row q′ ys i noReport (val y ∷ []) b o within $
         -- [the list; _4; _5; _6; _7; _8; _9; _1; _2; _3; …]
         use0 W (raw (Lt 𝓤 H A mem run .pre (to-lt (found i) y))) (goes-lt (found i) y ok gk is-y) $
         calls-at ! fm (Lt 𝓤 H A mem run) known-lt (to-lt (found i) y) (and-then ! (load ! (from ! (stop !)) (look ! 2 refl)) (and-then ! (load ! (from ! (stop !)) (look ! 10 refl)) (and-then ! (load ! (from ! (stop !)) (look ! 7 refl)) (no-more !)))) (λ v.
@@ -219,7 +219,7 @@ module _ {M : Type 1} (𝓤 : URA M) (H : Heap 𝓤) (A : Atoms 𝓤) (W : Given
         within = omega (arith, small, least)
 
         y : Report
-        y = getD ys i blank
+        y = getD ys i noReport
 
         far : i * 16 < 2 ^ 64
         far = offset-fits (length ys) i room (omega (arith, within))

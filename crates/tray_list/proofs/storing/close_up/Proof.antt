@@ -50,10 +50,10 @@ use denote.Triple.Table.{entered, cited}
 use denote.Triple.Walked.{says, needs, Stays, stay-slice, stay-none, walkOf, goes-slice, goes-none, Walks, ends-at, walked, walk-meets}
 use denote.Exit.{yes}
 use Rattle.reports.specs.declared.Report.{Report}
-use Rattle.reports.specs.Reports.{blank}
+use Rattle.reports.specs.Reports.{noReport}
 use Rattle.reports.proofs.Report as R
 use Rattle.reports.proofs.Report.Laws as R′
-use Rattle.tray_list.specs.Closing.{sourceOf, keptOr, closedTo}
+use Rattle.tray_list.specs.Closing.{cameFrom, keptOr, closedTo}
 use Rattle.tray_list.proofs.Row.{val, Ok, lies-at, offset-fits}
 use Rattle.tray_list.proofs.Closing.{length-closed, source-below, source-read, closed-next, closed-none}
 use Rattle.tray_list.proofs.storing.source_of as so
@@ -87,8 +87,8 @@ module _ {M : Type 1} (𝓤 : URA M) (H : Heap 𝓤) (A : Atoms 𝓤) (mem : Mem
   abbrev Kb : Contract 𝓤
   Kb = tripleOf 𝓤 H A kb.signature (kb.spec 𝓤 H A mem run)
 
-  so-of : (i m n r : ℕ) → ent 𝓤 (ensured 𝓤 H A so.ended (so.clauses 𝓤 H A mem run) tt (i, (m, (n, tt))) tt r) (fact 𝓤 (r ≡ sourceOf i m n))
-  so-of i m n r = exE 𝓤 _ (λ ws. snd∗ 𝓤 (sem 𝓤 H A (lasts so.ended tt (i, (m, (n, tt))) ws)) (fact 𝓤 (r ≡ sourceOf i m n)))
+  so-of : (i m n r : ℕ) → ent 𝓤 (ensured 𝓤 H A so.ended (so.clauses 𝓤 H A mem run) tt (i, (m, (n, tt))) tt r) (fact 𝓤 (r ≡ cameFrom i m n))
+  so-of i m n r = exE 𝓤 _ (λ ws. snd∗ 𝓤 (sem 𝓤 H A (lasts so.ended tt (i, (m, (n, tt))) ws)) (fact 𝓤 (r ≡ cameFrom i m n)))
 
   kb-of : (i n : ℕ) (y r : Report) → ent 𝓤 (ensured 𝓤 H A kb.ended (kb.clauses 𝓤 H A mem run) tt (i, (n, (y, tt))) tt r) (fact 𝓤 (r ≡ keptOr i n y))
   kb-of i n y r = exE 𝓤 _ (λ ws. snd∗ 𝓤 (sem 𝓤 H A (lasts kb.ended tt (i, (n, (y, tt))) ws)) (fact 𝓤 (r ≡ keptOr i n y)))
@@ -190,7 +190,7 @@ module _ {M : Type 1} (𝓤 : URA M) (H : Heap 𝓤) (A : Atoms 𝓤) (W : Given
         use0 W (raw (So 𝓤 H A mem run .pre (to-so i))) (goes-so i gi gm gn (omega (arith, stay, gp))) $
         calls-at ! fm (So 𝓤 H A mem run) known-so (to-so i) (and-then ! (load ! (from ! (stop !)) (look ! 2 refl)) (and-then ! (load ! (from ! (stop !)) (look ! 12 refl)) (and-then ! (load ! (from ! (stop !)) (look ! 13 refl)) (no-more !)))) (λ v.
         use1 W (later (some (λ (r : ℕ). (‵ ftrue ⊛ ‵ (usize .own r (v ∷ []))) ⊛ raw (ensured 𝓤 H A so.ended (so.clauses 𝓤 H A mem run) tt (i, (m, (n, tt))) tt r)))) (id⊢ 𝓤 _) $ await ! tt $ pick ! (λ r.
-        split ! $ move ! (1 ∷ []) $ use1 W (raw (fact 𝓤 (r ≡ sourceOf i m n))) (so-of 𝓤 H A mem run i m n r) $ heard ! (r ≡ sourceOf i m n) (λ e. split ! $ drop ! $
+        split ! $ move ! (1 ∷ []) $ use1 W (raw (fact 𝓤 (r ≡ cameFrom i m n))) (so-of 𝓤 H A mem run i m n r) $ heard ! (r ≡ cameFrom i m n) (λ e. split ! $ drop ! $
         peeks ! usize (Is usize) (shows 𝓤 H A usize) r (v ∷ []) (λ is-r. drop ! $
         land ! (from ! (stop !)) (init ! 2 refl (uint-lawful 𝓤 H A W w64 .typed r _ is-r .0)) $
         rewrite ! 2 (λ (u : Val). ‵ (fat fullShare word l₆ 0 u)) (ap only (uint-tells w64 r _ is-r)) refl $
@@ -199,10 +199,10 @@ module _ {M : Type 1} (𝓤 : URA M) (H : Heap 𝓤) (A : Atoms 𝓤) (W : Given
         assigns ! (bin ! (load ! (from ! (stop !)) (look ! 2 refl)) (lit ! tt) (record { fits = far j (omega (arith, below-j)) })) (from ! (stop !)) (init ! 5 refl (tt, record { fits = far j (omega (arith, below-j)) })) $
         assigns ! (bin ! (load ! (from ! (fld ! refl (stop !))) (look-in ! 10 (sub ! 0 refl (whole !)))) (load ! (from ! (stop !)) (look ! 5 refl)) tt) (from ! (stop !)) (init ! 6 refl (tt, tt)) $
         rewrite ! 6 (λ (u : ℕ). ‵ (fat fullShare tyPtr l₁₀ 0 (vptr b u))) (sym (lies-at o j)) refl $
-        elem-out ! R.the-row (Is R.the-row) (shows 𝓤 H A R.the-row) (LL.vals R.the-type R′.the-laws) (LL.tells R.the-type R′.the-laws) fullShare (closed i) j blank b o (inside j below-j) (λ is-y.
+        elem-out ! R.the-row (Is R.the-row) (shows 𝓤 H A R.the-row) (LL.vals R.the-type R′.the-laws) (LL.tells R.the-type R′.the-laws) fullShare (closed i) j noReport b o (inside j below-j) (λ is-y.
         -- [the report; what it owns; the others; _5; _6; _7; _8; _9; _10; _11; _12; _13; _1; …]
         assigns ! (of-opd ! (load ! (from ! (hop ! (look ! 8 refl) (stop !))) (look-raw ! 0 refl))) (from ! (stop !)) (init ! 9 refl (LL.lawful R.the-type R′.the-laws 𝓤 H A W .typed y _ is-y .0)) $
-        elem-back ! R.the-row fullShare (closed i) j blank (val y ∷ []) b o (inside j below-j) $
+        elem-back ! R.the-row fullShare (closed i) j noReport (val y ∷ []) b o (inside j below-j) $
         use0 W (raw (Kb 𝓤 H A mem run .pre (to-kb i y))) (goes-kb i y gi gn is-y) $
         calls-at ! fm (Kb 𝓤 H A mem run) known-kb (to-kb i y) (and-then ! (load ! (from ! (stop !)) (look ! 2 refl)) (and-then ! (load ! (from ! (stop !)) (look ! 13 refl)) (and-then ! (load ! (from ! (stop !)) (look ! 8 refl)) (no-more !)))) (λ v′.
         use1 W (later (some (λ (z : Report). (‵ ftrue ⊛ ‵ (R.the-row .own z (v′ ∷ []))) ⊛ raw (ensured 𝓤 H A kb.ended (kb.clauses 𝓤 H A mem run) tt (i, (n, (y, tt))) tt z)))) (id⊢ 𝓤 _) $ await ! tt $ pick ! (λ z.
@@ -214,7 +214,7 @@ module _ {M : Type 1} (𝓤 : URA M) (H : Heap 𝓤) (A : Atoms 𝓤) (W : Given
         assigns ! (bin ! (load ! (from ! (stop !)) (look ! 1 refl)) (lit ! tt) (record { fits = far i (omega (arith, within)) })) (from ! (stop !)) (init ! 8 refl (tt, record { fits = far i (omega (arith, within)) })) $
         assigns ! (bin ! (load ! (from ! (fld ! refl (stop !))) (look-in ! 10 (sub ! 0 refl (whole !)))) (load ! (from ! (stop !)) (look ! 8 refl)) tt) (from ! (stop !)) (init ! 9 refl (tt, tt)) $
         rewrite ! 9 (λ (u : ℕ). ‵ (fat fullShare tyPtr l₁₃ 0 (vptr b u))) (sym (lies-at o i)) refl $
-        elem-out ! R.the-row (Is R.the-row) (shows 𝓤 H A R.the-row) (LL.vals R.the-type R′.the-laws) (LL.tells R.the-type R′.the-laws) fullShare (closed i) i blank b o (inside i within) (λ _.
+        elem-out ! R.the-row (Is R.the-row) (shows 𝓤 H A R.the-row) (LL.vals R.the-type R′.the-laws) (LL.tells R.the-type R′.the-laws) fullShare (closed i) i noReport b o (inside i within) (λ _.
         assigns ! (of-opd ! (load ! (from ! (stop !)) (look ! 6 refl))) (from ! (hop ! (look ! 11 refl) (stop !))) (store-raw ! 0 refl (LL.lawful R.the-type R′.the-laws 𝓤 H A W .typed z _ (good z _ is-z) .0)) $
         move ! (1 ∷ []) $ drop ! $ owned ! R.the-row (Is R.the-row) (LL.makes R.the-type R′.the-plain 𝓤 H A) z _ (good z _ is-z) $ move ! (1 ∷ 0 ∷ []) $ elem-put ! R.the-row fullShare (closed i) i z (val z ∷ []) b o (inside i within) $
         rewrite ! 0 (λ (l : List Report). ‵ (row R.the-row fullShare l b o)) (ap (set (closed i) i) e′ ∙ next) refl $
@@ -229,7 +229,7 @@ module _ {M : Type 1} (𝓤 : URA M) (H : Heap 𝓤) (A : Atoms 𝓤) (W : Given
         gi = omega (arith, small, gp)
 
         j : ℕ
-        j = sourceOf i m n
+        j = cameFrom i m n
 
         below-j : j < length ys
         below-j = source-below i m n (length ys) (omega (arith, stay, least)) within
@@ -241,7 +241,7 @@ module _ {M : Type 1} (𝓤 : URA M) (H : Heap 𝓤) (A : Atoms 𝓤) (W : Given
         far u h = offset-fits (length ys) u room h
 
         y : Report
-        y = getD (closed i) j blank
+        y = getD (closed i) j noReport
 
         good : (z : Report) (vs : List Val) → Is R.the-row z vs → Ok z
         good z vs is = LL.owes R.the-type R′.the-laws z (LL.owed R.the-type R′.the-laws z vs is)

@@ -1,12 +1,12 @@
 -- `tray_list::storing::kept_or_blank` meets its contract.
 use borrow.Author.Tests.{lt-ltb, le-ltb}
-use Rattle.reports.specs.Reports.{blank}
+use Rattle.reports.specs.Reports.{noReport}
 use Rattle.tray_list.specs.Closing.{keptOr}
 use Rattle.tray_list.proofs.storing.kept_or_blank.Statement.{statement}
 use Rattle.tray_list.proofs.storing.kept_or_blank.Tie as tie
 
 returns : tie.Need-returns
-unfolding keptOr blank
+unfolding keptOr noReport
 returns c = rw (le-ltb _ _ (c .if1 .taken))
 
 returns-2 : tie.Need-returns-2

@@ -43,7 +43,7 @@ use denote.Triple.Table.{entered}
 use denote.Triple.Walked.{says, Stays, stay-slice, stay-none, walkOf, goes-slice, goes-none, Walks, ends-at, walked, walk-meets}
 use denote.Exit.{yes}
 use Rattle.reports.specs.declared.Report.{Report}
-use Rattle.reports.specs.Reports.{blank}
+use Rattle.reports.specs.Reports.{noReport}
 use Rattle.reports.proofs.Report as R
 use Rattle.reports.proofs.Report.Laws as R′
 use Rattle.tray_list.proofs.Row.{val, Ok, beyond, lies-at, offset-fits}
@@ -127,7 +127,7 @@ module _ {M : Type 1} (𝓤 : URA M) (H : Heap 𝓤) (A : Atoms 𝓤) (W : Given
         assigns ! (bin ! (load ! (from ! (stop !)) (look ! 17 refl)) (lit ! tt) (record { fits = offset-fits (length ys) i room (omega (arith, l)) })) (from ! (stop !)) (init ! 9 refl (tt, record { fits = offset-fits (length ys) i room (omega (arith, l)) })) $
         assigns ! (bin ! (load ! (from ! (fld ! refl (stop !))) (look-in ! 19 (sub ! 0 refl (whole !)))) (load ! (from ! (stop !)) (look ! 9 refl)) tt) (from ! (stop !)) (init ! 7 refl (tt, tt)) $
         rewrite ! 7 (λ (p : ℕ). ‵ (fat fullShare tyPtr l₇ 0 (vptr b p))) (sym (lies-at o i)) refl $
-        elem-out ! R.the-row (Is R.the-row) (shows 𝓤 H A R.the-row) (LL.vals R.the-type R′.the-laws) (LL.tells R.the-type R′.the-laws) fullShare ys i blank b o l (λ _.
+        elem-out ! R.the-row (Is R.the-row) (shows 𝓤 H A R.the-row) (LL.vals R.the-type R′.the-laws) (LL.tells R.the-type R′.the-laws) fullShare ys i noReport b o l (λ _.
         -- [the report; what it owns; the others; the open borrow; obs; auth; true; the slice's fact; what the others own; _7; …]: local i stands at 23 − 2·i
         assigns-last ! (of-opd ! (load ! (from ! (stop !)) (look ! 17 refl))) (from ! (hop ! (look ! 9 refl) (stop !))) (store-raw ! 0 refl (LL.lawful R.the-type R′.the-laws 𝓤 H A W .typed v _ is-v .0)) $
         move ! (1 ∷ []) $ drop ! $ owned ! R.the-row (Is R.the-row) (LL.makes R.the-type R′.the-plain 𝓤 H A) v _ is-v $ move ! (1 ∷ 0 ∷ []) $ elem-put ! R.the-row fullShare ys i v (val v ∷ []) b o l $
