@@ -4,7 +4,6 @@ use mathlib.Core.Path.{_≡_, refl, sym, ap, _∙_}
 use mathlib.Core.Bool.{Bool, true, false, cond}
 use mathlib.Core.List.{List, [], _∷_, _++_}
 use Prim.Native.Nat.{ℕ, _+_, _<_, _≤_}
-use native.Mathlib.Nat.{add-zero}
 use native.Mathlib.Omega.{arith}
 use lib.Dec.{eqb, ltb}
 use lib.ListN.{length, length-append}
@@ -114,9 +113,6 @@ text-short n (Added number word) = omega arith
 text-short n Repeated = omega arith
 text-short n (Refused r) = simp length-append (omega (arith, length-field r 32, length-field n 10))
 text-short n Malformed = omega (arith, length-field n 10)
-
-pub nothing-put : (at : ℕ) (l : List ℕ) → TextAt at [] l l at
-nothing-put at l = record { buffer = refl; end = sym (add-zero at) }
 
 pub put-short : (n at : ℕ) (text before after : List ℕ) (next : ℕ) → TextAt at text before after next → length text ≤ n
     → (TextAt at text before after next) × (next ≤ at + n)

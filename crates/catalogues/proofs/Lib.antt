@@ -1,6 +1,5 @@
 pub mod Held
 pub mod Entering
 pub mod Rising
-pub mod Running
 pub mod Ending
 pub mod Listed

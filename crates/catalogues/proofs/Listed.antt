@@ -15,7 +15,10 @@ use mir.Val.{toZ, ofZ}
 use mir.ValLaws.{toZ-ofZ}
 use lib.ListN.{length, getD, take, drop, length-append}
 use lib.Seq.{take-all, take-append-le, take-append-add, take-take, length-take-le, paste, take-paste}
+use Rattle.lines.specs.Programs.{opened, writtenOut}
 use Rattle.lines.specs.Replies.{TextAt}
+use Rattle.lines.specs.Shape.{joined}
+use Rattle.lines.proofs.Programs.{as-one}
 use Rattle.lines.proofs.Writing.{then}
 use Rattle.fits_table.specs.Header.{tableIn}
 use Rattle.fits_table.specs.Rows.{from32, positionAt, rowAt, goodRows, rowsRead}
@@ -30,9 +33,7 @@ use Rattle.pages.specs.Position.{validWord, packed, unpacked}
 use Rattle.pages.proofs.Words.{valid-word, lowers}
 use Rattle.catalogues.specs.Listing.{rowLine, rowLines, refusalLine, listedBy, listed, keptTable, keptBlocks, isTable, converted, programOut, least, atFirst, partBy, partOf, inParts}
 use Rattle.catalogues.specs.Shape.{lineAt}
-use Rattle.catalogues.specs.Runs.{fromLines, opened, writtenOut}
-use Rattle.catalogues.specs.Shape.{joined}
-use Rattle.catalogues.proofs.Running.{every-catalogue}
+use Rattle.catalogues.specs.Runs.{cataloguing, fromLines}
 
 lines-next : (l : List ℕ) (at i : ℕ) → rowLines (rowsRead l at (suc i)) ≡ rowLines (rowsRead l at i) ++ lineAt l (at + 12 * i)
 unfolding rowLines rowsRead
@@ -244,9 +245,10 @@ same-kind (c ∷ b) more h = refl
 
 -- The program's output for every input, in whatever blocks it comes: the first one, which is empty only where the input is, tells its kind.
 pub every-input : (b : List ℕ) (bs : List (List ℕ)) → (b ≡ [] → joined bs ≡ []) → programOut (b ∷ bs) ≡ converted (joined (b ∷ bs))
-unfolding programOut converted joined
+unfolding programOut converted joined opened cataloguing
 every-input b bs none = rw (same-kind b (joined bs) none) (go (isTable b))
   where
-    go : (t : Bool) → cond t (inParts (keptBlocks [] (b ∷ bs))) (writtenOut opened (b ∷ bs)) ≡ cond t (listed (b ++ joined bs)) (fromLines (b ++ joined bs))
+    go : (t : Bool) → cond t (inParts (keptBlocks [] (b ∷ bs))) (writtenOut cataloguing (opened cataloguing) (b ∷ bs))
+        ≡ cond t (listed (b ++ joined bs)) (fromLines (b ++ joined bs))
     go true = parts-listed (keptBlocks [] (b ∷ bs)) ∙ blocks-listed (b ∷ bs)
-    go false = every-catalogue (b ∷ bs)
+    go false = as-one cataloguing (b ∷ bs) (opened cataloguing)

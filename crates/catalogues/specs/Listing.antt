@@ -5,6 +5,7 @@ use mathlib.Core.List.{List, [], _∷_, _++_}
 use Prim.Native.Nat.{ℕ, _+_, _-_, _*_}
 use lib.Dec.{eqb, ltb}
 use lib.ListN.{take, drop}
+use Rattle.lines.specs.Programs.{opened, writtenOut}
 use Rattle.lines.specs.Replies.{fieldBytes, signedDigits}
 use Rattle.pages.specs.Page.{empties}
 use Rattle.pages.specs.Position.{unpacked}
@@ -12,7 +13,7 @@ use Rattle.fits_table.specs.Header.{tableIn}
 use Rattle.fits_table.specs.Rows.{goodRows, rowsRead}
 use Rattle.fits_table.specs.declared.cards.Table.{Table}
 use Rattle.fits_table.specs.declared.cards.Table.the-variants.{Rows, Nothing}
-use Rattle.catalogues.specs.Runs.{fromLines, opened, writtenOut}
+use Rattle.catalogues.specs.Runs.{cataloguing, fromLines}
 
 -- a table begins with `S` (of SIMPLE), and no line that is taken does
 unfoldable pub isTable : List ℕ → Bool
@@ -77,4 +78,4 @@ inParts given = partOf 0 given ++ (partOf 1 given ++ (partOf 2 given ++ partOf 3
 -- what the program's calls put out for input in blocks, of which the first tells its kind
 unfoldable pub programOut : List (List ℕ) → List ℕ
 programOut [] = []
-programOut (b ∷ bs) = cond (isTable b) (inParts (keptBlocks [] (b ∷ bs))) (writtenOut opened (b ∷ bs))
+programOut (b ∷ bs) = cond (isTable b) (inParts (keptBlocks [] (b ∷ bs))) (writtenOut cataloguing (opened cataloguing) (b ∷ bs))

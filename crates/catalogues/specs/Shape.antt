@@ -1,17 +1,12 @@
 -- What the code is said by and no promise to a caller cites.
 use mathlib.Core.Bool.{Bool, true, false}
-use mathlib.Core.List.{List, [], _∷_, _++_}
-use Prim.Native.Nat.{ℕ, _+_}
+use mathlib.Core.List.{List}
+use Prim.Native.Nat.{ℕ}
 use Rattle.pages.specs.Position.{packed}
 use Rattle.fits_table.specs.Rows.{from32, positionAt}
 use Rattle.catalogues.specs.declared.entries.Effect.{Effect}
 use Rattle.catalogues.specs.declared.entries.Effect.the-variants.{Added, Repeated, Refused, Malformed}
 use Rattle.catalogues.specs.Listing.{rowLine}
-
--- blocks of input as one
-unfoldable pub joined : List (List ℕ) → List ℕ
-joined [] = []
-joined (b ∷ bs) = b ++ joined bs
 
 -- of the row at byte `at`
 abbrev pub lineAt : List ℕ → ℕ → List ℕ

@@ -1,13 +1,16 @@
 // The lines of a catalogue, collected block by block, and the table of their rows.
 ghost use mathlib.Core.Path.{_≡_};
 ghost use mathlib.Core.Bool.{true, _||_};
-ghost use mathlib.Core.List.{List};
+ghost use mathlib.Core.List.{List, [], _∷_};
 ghost use Prim.Native.Nat.{ℕ, _+_, _*_, _≤_, _<_};
 ghost use lib.ListN.{length};
+ghost use Rattle.lines.specs.Grammar.{lineBytes};
+ghost use Rattle.lines.specs.Programs.{opened, lastOf, Stands};
 ghost use Rattle.lines.specs.Replies.{TextAt};
+ghost use Rattle.lines.specs.Shape.{lackedBy};
 ghost use Rattle.catalogues.specs.Entries.{rowsHeld, addedTo, isRefusal, effectText};
 ghost use Rattle.catalogues.specs.Shape.{isAdded};
-ghost use Rattle.catalogues.specs.Runs.{lineAfter, tableFrom, opened, ended, steppedBy, runs, closed, lastOf, runOf, Proper, Fit, Stands};
+ghost use Rattle.catalogues.specs.Runs.{lineAfter, tableFrom, cataloguing, runHeld, Proper, Fit};
 use crate::entries::Effect;
 use crate::entries::line_effect;
 use fits_table::table::put_table;
@@ -28,7 +31,7 @@ pub struct Collected {
 }
 
 pub fn start() -> Collection
-    ensures { λ r. ⌜ ((ns ws : List ℕ) → runOf r ns ws ≡ opened) ⌝ }
+    ensures { λ r. ⌜ ((ns ws : List ℕ) → runHeld r ns ws ≡ opened cataloguing) ⌝ }
     ensures { λ r. ⌜ ((ns ws : List ℕ) → length ns ≡ 32768 → length ws ≡ 32768 → Fit r ns ws) ⌝ }
 {
     Collection {
@@ -107,8 +110,10 @@ fn end_line(
 ) -> Collected
     requires { ⌜ Fit collection (now numbers) (now words) ⌝ }
     requires { ⌜ at + 64 ≤ length (now out) ⌝ }
-    ensures { λ r. ⌜ (Stands (ended (runOf collection (now (numbers .entry)) (now (words .entry)))) at (now (out .entry)) (now (out .exit))
-        (r .collection) (now (numbers .exit)) (now (words .exit)) (r .at)) × (r .at ≤ at + 37) ⌝ }
+    ensures { λ r. ⌜ Fit (r .collection) (now (numbers .exit)) (now (words .exit)) ⌝ }
+    ensures { λ r. ⌜ (Stands cataloguing (runHeld collection (now (numbers .entry)) (now (words .entry))) (10 ∷ []) at
+        (now (out .entry)) (now (out .exit)) (runHeld (r .collection) (now (numbers .exit)) (now (words .exit))) (r .at))
+        × (r .at ≤ at + 37) ⌝ }
 {
     let done = line_effect(numbers, words, collection.count, collection.line);
     let lines = line_after(collection.lines);
@@ -145,8 +150,10 @@ fn take_byte(
 ) -> Collected
     requires { ⌜ Fit collection (now numbers) (now words) ⌝ }
     requires { ⌜ at + 64 ≤ length (now out) ⌝ }
-    ensures { λ r. ⌜ (Stands (steppedBy (runOf collection (now (numbers .entry)) (now (words .entry))) byte) at (now (out .entry)) (now (out .exit))
-        (r .collection) (now (numbers .exit)) (now (words .exit)) (r .at)) × (r .at ≤ at + 37) ⌝ }
+    ensures { λ r. ⌜ Fit (r .collection) (now (numbers .exit)) (now (words .exit)) ⌝ }
+    ensures { λ r. ⌜ (Stands cataloguing (runHeld collection (now (numbers .entry)) (now (words .entry))) (byte ∷ []) at
+        (now (out .entry)) (now (out .exit)) (runHeld (r .collection) (now (numbers .exit)) (now (words .exit))) (r .at))
+        × (r .at ≤ at + 37) ⌝ }
 {
     if byte == b'\n' {
         return end_line(collection, numbers, words, out, at);
@@ -173,8 +180,10 @@ pub fn collect(
 ) -> Collected
     requires { ⌜ Fit collection (now numbers) (now words) ⌝ }
     requires { ⌜ 37 * length (now block) + 64 ≤ length (now out) ⌝ }
-    ensures { λ r. ⌜ (Stands (runs (runOf collection (now (numbers .entry)) (now (words .entry))) (now (block .entry))) 0 (now (out .entry)) (now (out .exit))
-        (r .collection) (now (numbers .exit)) (now (words .exit)) (r .at)) × (r .at ≤ 37 * length (now (block .entry))) ⌝ }
+    ensures { λ r. ⌜ Fit (r .collection) (now (numbers .exit)) (now (words .exit)) ⌝ }
+    ensures { λ r. ⌜ (Stands cataloguing (runHeld collection (now (numbers .entry)) (now (words .entry))) (now (block .entry)) 0
+        (now (out .entry)) (now (out .exit)) (runHeld (r .collection) (now (numbers .exit)) (now (words .exit))) (r .at))
+        × (r .at ≤ 37 * length (now (block .entry))) ⌝ }
 {
     let mut state = collection;
     let mut at = 0;
@@ -200,8 +209,11 @@ fn close(
 ) -> Collected
     requires { ⌜ Fit collection (now numbers) (now words) ⌝ }
     requires { ⌜ 64 ≤ length (now out) ⌝ }
-    ensures { λ r. ⌜ (Stands (closed (runOf collection (now (numbers .entry)) (now (words .entry)))) 0 (now (out .entry)) (now (out .exit))
-        (r .collection) (now (numbers .exit)) (now (words .exit)) (r .at)) × (r .at ≤ 37) ⌝ }
+    ensures { λ r. ⌜ Fit (r .collection) (now (numbers .exit)) (now (words .exit)) ⌝ }
+    ensures { λ r. ⌜ (Stands cataloguing (runHeld collection (now (numbers .entry)) (now (words .entry)))
+        (lackedBy (lineBytes (collection .line))) 0 (now (out .entry)) (now (out .exit))
+        (runHeld (r .collection) (now (numbers .exit)) (now (words .exit))) (r .at))
+        × (r .at ≤ 37) ⌝ }
 {
     if lines::is_blank(collection.line) {
         return Collected { collection, at: 0 };
@@ -229,7 +241,8 @@ pub fn finish(
 ) -> usize
     requires { ⌜ Fit collection (now numbers) (now words) ⌝ }
     requires { ⌜ 400320 ≤ length (now out) ⌝ }
-    ensures { λ r. ⌜ (TextAt 0 (lastOf (runOf collection (now (numbers .entry)) (now (words .entry)))) (now (out .entry)) (now (out .exit)) r) × (r ≤ 400320) ⌝ }
+    ensures { λ r. ⌜ (TextAt 0 (lastOf cataloguing (runHeld collection (now (numbers .entry)) (now (words .entry))))
+        (now (out .entry)) (now (out .exit)) r) × (r ≤ 400320) ⌝ }
 {
     let last = close(collection, numbers, words, out);
     let all = last.collection;

@@ -13,7 +13,7 @@ use Rattle.lines.specs.Grammar.{commandOf, kept, noBytes, linesFrom}
 use Rattle.lines.specs.declared.Command.the-variants.{Bad}
 use Rattle.lines.proofs.Lengths.{long-bad}
 
-pub kept-command : (l : List ℕ) → commandOf (kept l) ≡ commandOf l
+kept-command : (l : List ℕ) → commandOf (kept l) ≡ commandOf l
 unfolding kept
 kept-command l = go (decLt 64 (length l))
   where
@@ -21,7 +21,7 @@ kept-command l = go (decLt 64 (length l))
     go (yes p) = long-bad (take 65 l) (omega (arith, length-take-le 65 l p)) ∙ sym (long-bad l p)
     go (no p) = ap commandOf (take-all 65 l (omega arith))
 
-pub kept-then : (l : List ℕ) (b : ℕ) → kept (kept l ++ (b ∷ [])) ≡ kept (l ++ (b ∷ []))
+kept-then : (l : List ℕ) (b : ℕ) → kept (kept l ++ (b ∷ [])) ≡ kept (l ++ (b ∷ []))
 unfolding kept
 kept-then l b = go (decLt 64 (length l))
   where
@@ -40,10 +40,10 @@ same : (k m : List ℕ) → kept k ≡ kept m → commandOf k ≡ commandOf m
 same k m e = sym (kept-command k) ∙ ap commandOf e ∙ kept-command m
 
 -- a byte more of what is kept of a line
-pub kept-next : (k l : List ℕ) (b : ℕ) → kept k ≡ kept l → kept (k ++ (b ∷ [])) ≡ kept (l ++ (b ∷ []))
+kept-next : (k l : List ℕ) (b : ℕ) → kept k ≡ kept l → kept (k ++ (b ∷ [])) ≡ kept (l ++ (b ∷ []))
 kept-next k l b e = sym (kept-then k b) ∙ ap (λ (m : List ℕ). kept (m ++ (b ∷ []))) e ∙ kept-then l b
 
-pub kept-empty : (l : List ℕ) → noBytes (kept l) ≡ noBytes l
+kept-empty : (l : List ℕ) → noBytes (kept l) ≡ noBytes l
 unfolding kept noBytes
 kept-empty [] = refl
 kept-empty (c ∷ l) = refl

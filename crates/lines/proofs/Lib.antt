@@ -9,3 +9,4 @@ pub mod Signs
 pub mod Lengths
 pub mod Kept
 pub mod Texts
+pub mod Programs

@@ -3,7 +3,7 @@ use Prim.Native.Nat.{ℕ, suc, _+_, _<_}
 use native.Mathlib.Nat.{add-zero, add-suc, suc-add}
 use native.Mathlib.Omega.{arith}
 use mathlib.Core.List.{List, [], _∷_, _++_}
-use mathlib.Core.Path.{_≡_, refl, _∙_}
+use mathlib.Core.Path.{_≡_, refl, sym, _∙_}
 use lib.ListN.{length, take, getD, set, length-append}
 use lib.Seq.{sets, take-suc, length-take-le}
 use Rattle.lines.specs.Replies.{TextAt}
@@ -18,6 +18,9 @@ pub copied :
     set (sets l at (take i text)) (at + i) (getD text i 0) ≡ sets l at (take (suc i) text)
 copied l at text i h =
     rw (take-suc text i 0 h, sets-append l at (take i text) (getD text i 0 ∷ []), length-take-le i text (omega arith))
+
+pub nothing-put : (at : ℕ) (l : List ℕ) → TextAt at [] l l at
+nothing-put at l = record { buffer = refl; end = sym (add-zero at) }
 
 -- one text after another
 pub then :

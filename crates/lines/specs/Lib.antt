@@ -1,3 +1,4 @@
 pub mod Grammar
 pub mod Replies
+pub mod Programs
 pub mod Shape

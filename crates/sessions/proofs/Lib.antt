@@ -1,4 +1,2 @@
 pub mod Replying
-pub mod Running
-pub mod Whole
 pub mod Program

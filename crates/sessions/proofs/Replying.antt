@@ -33,7 +33,7 @@ use Rattle.calls.specs.Calls.{
   removeOn,
   removeTo,
 }
-use Rattle.sessions.specs.Commands.{starline, State, stateIn, called, unlessRefused, foundReply, replyWith, replyTo, nextSession}
+use Rattle.sessions.specs.Commands.{starline, State, stateIn, commanded, unlessRefused, foundReply, replyWith, replyTo, nextSession}
 use Rattle.sessions.specs.Shape.{Follows}
 use Rattle.sessions.specs.declared.commands.Replied.{Replied}
 
@@ -94,8 +94,8 @@ remove-keeps p g f pool caller k =
 -- the reply and the file of a command, from what the command's call left
 pub follows :
     (s : State) (c : Command) (r : Replied) (a : Answer) (pool : Pool) →
-    Leaves (called s c) a (lent (r .file .separators) (r .file .numbers) (r .file .words) (r .file .owners)) pool →
-    r .file .growth ≡ called s c .growth → r .reply ≡ replyWith c a → Follows s c r
+    Leaves (commanded s c) a (lent (r .file .separators) (r .file .numbers) (r .file .words) (r .file .owners)) pool →
+    r .file .growth ≡ commanded s c .growth → r .reply ≡ replyWith c a → Follows s c r
 unfolding stateIn replyTo nextSession
 follows s c r a pool l g e =
     record {
@@ -105,7 +105,7 @@ follows s c r a pool l g e =
 
 -- a look-up leaves all as it was
 pub looked-keeps : (s : State) (k : ℕ) → nextSession s (LookUp k) ≡ s
-unfolding nextSession called lookUpOf
+unfolding nextSession commanded lookUpOf
 looked-keeps s k =
     go (orElse (unlent starline (s .growth) (fileFits starline (s .file))) (unless (validNumber k) 3))
     (lookedUp starline (s .growth) (s .file) (named starline (s .growth) (s .file) k) k)

@@ -2,6 +2,7 @@
 use mathlib.Core.Bool.{cond}
 use lib.Dec.{eqb}
 use lib.ListN.{replicate}
+use mathlib.Core.List.{[]}
 use Rattle.hashing.specs.Geometry.{ungrown}
 use Rattle.hashing.specs.declared.Growth.{Growth}
 use Rattle.hashing.specs.declared.Parameters.{Parameters}
@@ -9,10 +10,14 @@ use Rattle.lines.specs.declared.Command.{Command}
 use Rattle.lines.specs.declared.Command.the-variants.{Enter, LookUp, Remove, Grow, Bad}
 use Rattle.lines.specs.declared.Reply.{Reply}
 use Rattle.lines.specs.declared.Reply.the-variants.{Accepted, Found, Missing, Refused, Malformed}
+use Rattle.lines.specs.Grammar.{lineBytes}
+use Rattle.lines.specs.Replies.{replyBytes}
+use Rattle.lines.specs.Programs.{Program, Run}
 use Rattle.placement.specs.File.{File}
 use Rattle.calls.specs.declared.answers.Answer.{Answer}
 use Rattle.calls.specs.Answers.{After, Pool, lent, pooled, unpooled, accepted}
 use Rattle.calls.specs.Calls.{unchanged, emptyFile, enterOf, lookUpOf, removeOf, growOf}
+use Rattle.sessions.specs.declared.blocks.Session.{Session}
 use Rattle.sessions.specs.declared.commands.StarFile.{StarFile}
 
 -- "N=2, n0=2, s=1, b=2, k=8, A=80, M=8", and 16,807
@@ -35,12 +40,12 @@ unfoldable pub pool : Pool
 pool = pooled (replicate 16 0) (replicate 16 0) (replicate 16 0)
 
 -- the call that a command makes; a line that is none makes no call. "starline calls as 0": document 02 (x)
-unfoldable pub called : State → Command → After
-called s (Enter number ra dec) = enterOf starline (s .growth) (s .file) pool 0 number (record { ra = ra; dec = dec })
-called s (LookUp number) = lookUpOf starline (s .growth) (s .file) unpooled number
-called s (Remove number) = removeOf starline (s .growth) (s .file) pool 0 number
-called s Grow = growOf starline (s .growth) (s .file) pool
-called s Bad = unchanged (s .growth) (s .file) pool (accepted 0)
+unfoldable pub commanded : State → Command → After
+commanded s (Enter number ra dec) = enterOf starline (s .growth) (s .file) pool 0 number (record { ra = ra; dec = dec })
+commanded s (LookUp number) = lookUpOf starline (s .growth) (s .file) unpooled number
+commanded s (Remove number) = removeOf starline (s .growth) (s .file) pool 0 number
+commanded s Grow = growOf starline (s .growth) (s .file) pool
+commanded s Bad = unchanged (s .growth) (s .file) pool (accepted 0)
 
 -- "`no` the refusal and its page", or what an accepted call shows
 unfoldable pub unlessRefused : Answer → Reply → Reply
@@ -64,7 +69,15 @@ replyWith Grow a = placedReply a
 replyWith Bad a = Malformed
 
 unfoldable pub replyTo : State → Command → Reply
-replyTo s c = replyWith c (called s c .answer)
+replyTo s c = replyWith c (commanded s c .answer)
 
 unfoldable pub nextSession : State → Command → State
-nextSession s c = record { growth = called s c .growth; file = called s c .file }
+nextSession s c = record { growth = commanded s c .growth; file = commanded s c .file }
+
+-- the program: nothing more is answered when the input has ended
+unfoldable pub answering : Program State
+answering = record { first = newFile; next = nextSession; text = λ s c. replyBytes (replyTo s c); last = λ s. [] }
+
+-- the run that has a session's file and line
+unfoldable pub runIn : Session → Run State
+runIn s = record { state = stateIn (s .file); begun = lineBytes (s .line) }

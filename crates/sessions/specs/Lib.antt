@@ -1,4 +1,3 @@
 pub mod Commands
-pub mod Runs
 pub mod Program
 pub mod Shape

@@ -1,9 +1,11 @@
 // The answers to blocks of input, whatever lines they begin and end.
 ghost use Prim.Native.Nat.{_+_, _*_, _≤_};
 ghost use mathlib.Core.Path.{_≡_};
+ghost use mathlib.Core.List.{[], _∷_};
 ghost use lib.ListN.{length};
 ghost use Rattle.lines.specs.Replies.{TextAt};
-ghost use Rattle.sessions.specs.Runs.{opened, ended, steppedBy, runs, lastAnswer, runOf, Stands};
+ghost use Rattle.lines.specs.Programs.{opened, lastOf, Stands};
+ghost use Rattle.sessions.specs.Commands.{answering, runIn};
 use crate::commands::StarFile;
 use crate::commands::empty_file;
 use crate::commands::follow;
@@ -22,7 +24,7 @@ pub struct Answered {
 }
 
 pub fn start() -> Session
-    ensures { λ r. ⌜ runOf r ≡ opened ⌝ }
+    ensures { λ r. ⌜ runIn r ≡ opened answering ⌝ }
 {
     Session {
         line: lines::blank_line(),
@@ -33,7 +35,8 @@ pub fn start() -> Session
 // The answer to the line that is complete now.
 fn end_line(session: Session, out: &mut [u8], at: usize) -> Answered
     requires { ⌜ at + 64 ≤ length (now out) ⌝ }
-    ensures { λ r. ⌜ (Stands (ended (runOf session)) at (now (out .entry)) (now (out .exit)) (r .session) (r .at)) × (r .at ≤ at + 37) ⌝ }
+    ensures { λ r. ⌜ (Stands answering (runIn session) (10 ∷ []) at (now (out .entry)) (now (out .exit)) (runIn (r .session)) (r .at))
+        × (r .at ≤ at + 37) ⌝ }
 {
     let line = session.line;
     let file = session.file;
@@ -52,7 +55,8 @@ fn end_line(session: Session, out: &mut [u8], at: usize) -> Answered
 
 fn take_byte(session: Session, byte: u8, out: &mut [u8], at: usize) -> Answered
     requires { ⌜ at + 64 ≤ length (now out) ⌝ }
-    ensures { λ r. ⌜ (Stands (steppedBy (runOf session) byte) at (now (out .entry)) (now (out .exit)) (r .session) (r .at)) × (r .at ≤ at + 37) ⌝ }
+    ensures { λ r. ⌜ (Stands answering (runIn session) (byte ∷ []) at (now (out .entry)) (now (out .exit)) (runIn (r .session)) (r .at))
+        × (r .at ≤ at + 37) ⌝ }
 {
     if byte == b'\n' {
         return end_line(session, out, at);
@@ -71,7 +75,8 @@ fn take_byte(session: Session, byte: u8, out: &mut [u8], at: usize) -> Answered
 // The answers to all lines that end in a block. An answer has at most 37 bytes, so that 37 for each byte of the block and 64 are enough.
 pub fn answer_block(session: Session, block: &[u8], out: &mut [u8]) -> Answered
     requires { ⌜ 37 * length (now block) + 64 ≤ length (now out) ⌝ }
-    ensures { λ r. ⌜ (Stands (runs (runOf session) (now (block .entry))) 0 (now (out .entry)) (now (out .exit)) (r .session) (r .at))
+    ensures { λ r. ⌜ (Stands answering (runIn session) (now (block .entry)) 0
+        (now (out .entry)) (now (out .exit)) (runIn (r .session)) (r .at))
         × (r .at ≤ 37 * length (now (block .entry))) ⌝ }
 {
     let mut state = session;
@@ -89,7 +94,7 @@ pub fn answer_block(session: Session, block: &[u8], out: &mut [u8]) -> Answered
 // The answer to a last line that lacks its newline, where there is one. Answers the text's length.
 pub fn finish(session: Session, out: &mut [u8]) -> usize
     requires { ⌜ 64 ≤ length (now out) ⌝ }
-    ensures { λ r. ⌜ (TextAt 0 (lastAnswer (runOf session)) (now (out .entry)) (now (out .exit)) r) × (r ≤ 37) ⌝ }
+    ensures { λ r. ⌜ (TextAt 0 (lastOf answering (runIn session)) (now (out .entry)) (now (out .exit)) r) × (r ≤ 37) ⌝ }
 {
     let line = session.line;
     if lines::is_blank(line) {

@@ -17,8 +17,8 @@ slice-reshare-prefix-write-all c = search needs
 slice-aggregate-write-all : tie.Need-slice-aggregate-write-all
 slice-aggregate-write-all c =
     let d = c .before .before .before .before .before .before .before in
-    let kept : length (d .collect .last .1 .1 .1 .1 .0) ≡ length (c .before .before .before .before .before .before .before .before .before .before .before .before .before .before .before .args .out .now) = ap length (d .collect .ensures .0 .text .buffer) ∙ simp length-sets in
-    let within : d .collect .result .at ≤ length (d .collect .last .1 .1 .1 .1 .0) = omega (arith, kept, d .collect .ensures .1, c .before .before .before .before .before .before .before .before .before .before .before .before .before .before .before .pre .1) in
+    let kept : length (d .collect .last .1 .1 .1 .1 .0) ≡ length (c .before .before .before .before .before .before .before .before .before .before .before .before .before .before .before .args .out .now) = ap length (d .collect .ensures .1 .0 .text .buffer) ∙ simp length-sets in
+    let within : d .collect .result .at ≤ length (d .collect .last .1 .1 .1 .1 .0) = omega (arith, kept, d .collect .ensures .1 .1, c .before .before .before .before .before .before .before .before .before .before .before .before .before .before .before .pre .1) in
     sym (length-take-le _ _ within)
 
 write-all-requires : tie.Need-write-all-requires

@@ -5,7 +5,7 @@ use mathlib.Core.Path.{ap, _∙_}
 use Rattle.catalogues.specs.Entries.{rowsHeld}
 use Rattle.catalogues.proofs.Held.{held-length}
 use Rattle.catalogues.proofs.Entering.{effect-good, added-room}
-use Rattle.catalogues.proofs.Ending.{line-ended}
+use Rattle.catalogues.proofs.Ending.{line-fits, line-ended}
 use borrow.Author.Needs.{needs}
 use Rattle.catalogues.proofs.collecting.end_line.Statement.{statement}
 use Rattle.catalogues.proofs.collecting.end_line.Tie as tie
@@ -58,10 +58,15 @@ returns c =
     let after = put .before .before in
     let e = after .before in
     let s = e .before .before .before .before .before .before in (
-      line-ended (s .args .collection) (s .args .numbers .now) (s .args .words .now) _ _ (e .line-effect .result) _ _ _ _ (s .args .at) _ (s .args .out .now) _
-          (s .pre .0) (e .line-effect .ensures) (after .line-after .ensures) (put .put-effect .ensures .0) (add .add .ensures .0) (add .add .ensures .1)
-          (add .add .kept .0) (add .add .kept .1 .0) (c .before .either .ensures ∙ ap (λ (t : Bool). s .args .collection .refused || t) (c .before .before .is-refusal .ensures)) (c .blank-line .ensures),
-      put .put-effect .ensures .1,
+      line-fits _ _ _ _ _ _ (e .line-effect .result) (e .line-effect .ensures) (add .add .ensures .0) (s .pre .0) (add .add .ensures .1)
+          (add .add .kept .0) (add .add .kept .1 .0),
+      (
+        line-ended _ _ _ _ _ _ (e .line-effect .result) (e .line-effect .ensures) (add .add .ensures .0) _ _ _ _
+            (after .line-after .ensures) (put .put-effect .ensures .0)
+            (c .before .either .ensures ∙ ap (λ (t : Bool). s .args .collection .refused || t) (c .before .before .is-refusal .ensures))
+            (c .blank-line .ensures),
+        put .put-effect .ensures .1,
+      ),
     )
 
 pub end-line-spec : {M : Type 1} → statement M

@@ -23,13 +23,13 @@ same-length-3 c = search needs
 returns : tie.Need-returns
 returns c =
     let d = c .before .before .before .before .before .before .before .before in
-    (last-refused _ _ _ _ _ _ _ _ _ (d .close .ensures .0) (c .if1 .taken), omega (arith, d .close .ensures .1))
+    (last-refused _ _ _ _ _ _ _ _ _ (d .close .ensures .1 .0) (c .if1 .taken), omega (arith, d .close .ensures .1 .1))
 
 put-rows-requires : tie.Need-put-rows-requires
 put-rows-requires c κs =
     let d = c .before .before .before .before .before .before .before .before .before .before .before in
-    let f = d .close .ensures .0 .fit in
-    let kept : length (d .close .last .1 .1 .1 .0) ≡ length (d .before .before .before .before .before .before .before .args .out .now) = ap length (d .close .ensures .0 .text .buffer) ∙ simp length-sets in
+    let f = d .close .ensures .0 in
+    let kept : length (d .close .last .1 .1 .1 .0) ≡ length (d .before .before .before .before .before .before .before .args .out .now) = ap length (d .close .ensures .1 .0 .text .buffer) ∙ simp length-sets in
     ((f .few, (f .numbers, f .words)), (f .proper, omega (arith, kept, d .before .before .before .before .before .before .before .pre .1)))
 
 same-length-4 : tie.Need-same-length-4
@@ -45,7 +45,7 @@ returns-2 : tie.Need-returns-2
 returns-2 c =
     let r = c .before .before in
     let d = c .before .before .before .before .before .before .before .before .before .before .before .before .before .before in
-    (last-table _ _ _ _ _ _ _ _ _ (d .close .ensures .0) _ _ (c .before .before .before .before .before .before .if1 .left) (r .put-rows .ensures .0), r .put-rows .ensures .1)
+    (last-table _ _ _ _ _ _ _ _ _ (d .close .ensures .1 .0) _ _ (c .before .before .before .before .before .before .if1 .left) (r .put-rows .ensures .0), r .put-rows .ensures .1)
 
 pub finish-spec : {M : Type 1} → statement M
 finish-spec =

@@ -4,7 +4,8 @@ use Rattle.lines.proofs.Digits.{length-field}
 use Rattle.lines.proofs.Writing.{then}
 use Rattle.catalogues.specs.Entries.{effectText}
 use Rattle.catalogues.specs.declared.entries.Effect.the-variants.{Refused, Malformed}
-use Rattle.catalogues.proofs.Entering.{nothing-put, put-short, text-short}
+use Rattle.lines.proofs.Writing.{nothing-put}
+use Rattle.catalogues.proofs.Entering.{put-short, text-short}
 use borrow.Author.Needs.{needs}
 use Rattle.catalogues.proofs.collecting.put_effect.Statement.{statement}
 use Rattle.catalogues.proofs.collecting.put_effect.Tie as tie

@@ -1,8 +1,8 @@
 -- `catalogues::collecting::start` meets its contract.
 use native.Mathlib.Omega.{arith}
-use mathlib.Core.List.{[]}
+use Rattle.lines.specs.Programs.{opened}
 use Rattle.catalogues.specs.Entries.{pairs, rowsHeld}
-use Rattle.catalogues.specs.Runs.{noLines, opened, runOf}
+use Rattle.catalogues.specs.Runs.{noLines, cataloguing, runHeld}
 use borrow.Author.Needs.{needs}
 use Rattle.catalogues.proofs.collecting.start.Statement.{statement}
 use Rattle.catalogues.proofs.collecting.start.Tie as tie
@@ -11,9 +11,9 @@ blank-line-requires : tie.Need-blank-line-requires
 blank-line-requires c κs = search needs
 
 returns : tie.Need-returns
-unfolding runOf opened noLines rowsHeld pairs
+unfolding runHeld opened cataloguing noLines rowsHeld pairs
 returns c = (
-  λ ns ws i. record { state = noLines; begun = c .blank-line .ensures i; text = [] },
+  λ ns ws i. record { state = noLines; begun = c .blank-line .ensures i },
   λ ns ws a b. record { few = omega arith; numbers = a; words = b; proper = tt },
 )
 

@@ -5,7 +5,8 @@ use borrow.Author.Tests.{eq-eqb, ne-eqb}
 use Rattle.lines.proofs.Digits.{length-field}
 use Rattle.lines.proofs.Writing.{then}
 use Rattle.catalogues.specs.Listing.{refusalLine, atFirst}
-use Rattle.catalogues.proofs.Entering.{nothing-put, put-short}
+use Rattle.lines.proofs.Writing.{nothing-put}
+use Rattle.catalogues.proofs.Entering.{put-short}
 use borrow.Author.Needs.{needs}
 use Rattle.catalogues.proofs.listing.refuse.Statement.{statement}
 use Rattle.catalogues.proofs.listing.refuse.Tie as tie

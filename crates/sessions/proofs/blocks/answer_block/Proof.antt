@@ -4,14 +4,15 @@ use native.Mathlib.Omega.{arith}
 use mathlib.Core.Path.{_≡_, ap, _∙_}
 use lib.ListN.{length, take}
 use lib.Seq.{take-all, length-sets}
-use Rattle.sessions.specs.Runs.{runs, runOf, Stands}
-use Rattle.sessions.proofs.Running.{start-stands, block-more}
+use Rattle.lines.specs.Programs.{Stands}
+use Rattle.lines.proofs.Programs.{start-stands, block-more}
+use Rattle.sessions.specs.Commands.{answering, runIn}
 use Rattle.sessions.proofs.blocks.answer_block.Statement.{statement}
 use Rattle.sessions.proofs.blocks.answer_block.Tie as tie
 
 abbrev Inv-loop : tie.InvT-loop
 Inv-loop block out₀ state₀ at₀ i₀ out state at i =
-    (i ≤ length block) × (at ≤ 37 * i) × Stands (runs (runOf state₀) (take i block)) 0 out₀ out state at
+    (i ≤ length block) × (at ≤ 37 * i) × Stands answering (runIn state₀) (take i block) 0 out₀ out (runIn state) at
 
 abbrev μ-loop : tie.MeasureT-loop
 μ-loop block out₀ state₀ at₀ i₀ out state at i = length block - i
@@ -20,7 +21,7 @@ same-size : (c : tie.At-loop Inv-loop μ-loop) → length (c .loop .out) ≡ len
 same-size c = ap length (c .loop .inv .2 .text .buffer) ∙ simp length-sets
 
 loop-holds : tie.Need-loop-holds Inv-loop μ-loop
-loop-holds c = (omega arith, omega arith, start-stands _ _)
+loop-holds c = (omega arith, omega arith, start-stands _ _ _ _)
 
 shared-slice-read-take-byte : tie.Need-shared-slice-read-take-byte Inv-loop μ-loop
 shared-slice-read-take-byte c = omega arith
@@ -43,7 +44,7 @@ loop-again c =
     rw (add-one (turn .before .loop .i)) (
       omega arith,
       omega (arith, taken .take-byte .ensures .1),
-      block-more _ _ _ _ _ _ _ _ _ _ (turn .loop-test .taken) (turn .before .loop .inv .2) (taken .take-byte .ensures .0),
+      block-more _ _ _ _ _ _ _ _ _ _ _ (turn .loop-test .taken) (turn .before .loop .inv .2) (taken .take-byte .ensures .0),
     )
 
 same-length : tie.Need-same-length Inv-loop μ-loop

@@ -1,6 +1,7 @@
 use native.Mathlib.Omega.{arith}
 use Rattle.lines.proofs.Texts.{reply-length}
-use Rattle.sessions.specs.Runs.{ended, runOf}
+use Rattle.lines.proofs.Programs.{line-stands}
+use Rattle.sessions.specs.Commands.{answering, runIn}
 use borrow.Author.Needs.{needs}
 use Rattle.sessions.proofs.blocks.end_line.Statement.{statement}
 use Rattle.sessions.proofs.blocks.end_line.Tie as tie
@@ -21,12 +22,13 @@ same-length : tie.Need-same-length
 same-length c = search needs
 
 returns : tie.Need-returns
-unfolding ended runOf
+unfolding answering runIn
 returns c =
     let followed = c .before .before .before .before .before .before .follow .ensures in
-    rw (← c .before .before .before .before .before .before .before .parse-line .ensures, ← followed .replies) (
-      record { state = followed .leaves; line = c .blank-line .ensures; text = c .before .before .before .before .format .ensures },
-      omega (arith, reply-length (c .before .before .before .before .before .before .follow .result .reply), c .before .before .before .before .format .ensures .end),
+    let parsed = c .before .before .before .before .before .before .before .parse-line .ensures in
+    let put = c .before .before .before .before .format .ensures in (
+      line-stands answering _ _ _ _ _ _ (rw parsed at (followed .leaves)) (c .blank-line .ensures) (rw (followed .replies, parsed) at put),
+      omega (arith, reply-length (c .before .before .before .before .before .before .follow .result .reply), put .end),
     )
 
 pub end-line-spec : {M : Type 1} → statement M

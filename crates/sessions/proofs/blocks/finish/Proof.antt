@@ -1,6 +1,9 @@
-use mathlib.Core.Path.{refl, sym, _∙_}
+use mathlib.Core.Path.{sym, _∙_}
 use native.Mathlib.Omega.{arith}
-use Rattle.sessions.specs.Runs.{followedBy, lastAnswer, runOf}
+use Rattle.lines.specs.Grammar.{linesFrom}
+use Rattle.lines.specs.Programs.{putOut, runs, textFor, steppedBy, textBy, lastOf}
+use Rattle.lines.proofs.Writing.{nothing-put}
+use Rattle.sessions.specs.Commands.{answering, runIn}
 use borrow.Author.Needs.{needs}
 use Rattle.sessions.proofs.blocks.finish.Statement.{statement}
 use Rattle.sessions.proofs.blocks.finish.Tie as tie
@@ -9,8 +12,8 @@ is-blank-requires : tie.Need-is-blank-requires
 is-blank-requires c κs = search needs
 
 returns : tie.Need-returns
-unfolding lastAnswer runOf
-returns c = rw (sym (c .before .is-blank .ensures) ∙ c .if1 .taken) (record { buffer = refl; end = refl }, omega arith)
+unfolding lastOf putOut linesFrom answering runIn
+returns c = rw (sym (c .before .is-blank .ensures) ∙ c .if1 .taken) (nothing-put 0 _, omega arith)
 
 end-line-requires : tie.Need-end-line-requires
 end-line-requires c κs = search needs
@@ -19,7 +22,7 @@ same-length : tie.Need-same-length
 same-length c = search needs
 
 returns-2 : tie.Need-returns-2
-unfolding lastAnswer followedBy runOf
+unfolding lastOf putOut linesFrom runs textFor steppedBy textBy answering runIn
 returns-2 c =
     let kept = c .before .before .before .before in
     rw (sym (kept .before .is-blank .ensures) ∙ kept .if1 .left) (c .before .before .end-line .ensures .0 .text, omega arith)

@@ -1,8 +1,7 @@
-use mathlib.Core.Path.{refl, sym}
-use native.Mathlib.Nat.{add-zero}
+use mathlib.Core.Path.{refl}
 use native.Mathlib.Omega.{arith}
-use borrow.Author.Tests.{eq-eqb, ne-eqb}
-use Rattle.sessions.specs.Runs.{steppedBy, runOf}
+use Rattle.lines.proofs.Programs.{byte-stands}
+use Rattle.sessions.specs.Commands.{runIn}
 use borrow.Author.Needs.{needs}
 use Rattle.sessions.proofs.blocks.take_byte.Statement.{statement}
 use Rattle.sessions.proofs.blocks.take_byte.Tie as tie
@@ -14,19 +13,15 @@ same-length : tie.Need-same-length
 same-length c = search needs
 
 returns : tie.Need-returns
-unfolding steppedBy
-returns c = rw (eq-eqb _ 10 (c .before .before .before .before .if1 .taken)) (c .before .before .end-line .ensures)
+returns c = rw (c .before .before .before .before .if1 .taken) (c .before .before .end-line .ensures)
 
 push-requires : tie.Need-push-requires
 push-requires c κs = search needs
 
 returns-2 : tie.Need-returns-2
-unfolding steppedBy runOf
+unfolding runIn
 returns-2 c =
-    rw (ne-eqb _ 10 (c .before .before .before .if1 .left)) (
-      record { state = refl; line = c .push .ensures; text = record { buffer = refl; end = sym (add-zero _) } },
-      omega arith,
-    )
+    (byte-stands _ _ _ _ _ _ (c .before .before .before .if1 .left) refl (c .push .ensures), omega arith)
 
 pub take-byte-spec : {M : Type 1} → statement M
 take-byte-spec = tie.close (tie.spec end-line-requires same-length returns push-requires returns-2)

@@ -1,7 +1,7 @@
 use mir.Syntax.{w32}
 use mir.Val.{toZ, ofZ}
 use mathlib.Core.Path.{_≡_, refl, sym}
-use Rattle.sessions.specs.Commands.{called, replyWith, replyTo, nextSession}
+use Rattle.sessions.specs.Commands.{commanded, replyWith, replyTo, nextSession}
 use Rattle.sessions.proofs.Replying.{looked-keeps}
 use borrow.Author.Needs.{needs}
 use Rattle.sessions.proofs.commands.follow.Statement.{statement}
@@ -50,7 +50,7 @@ returns-4 : tie.Need-returns-4
 returns-4 c = rw (c .before .enum-told .given .1) (c .grow .ensures)
 
 returns-5 : tie.Need-returns-5
-unfolding called replyWith replyTo nextSession
+unfolding commanded replyWith replyTo nextSession
 returns-5 c = rw (c .enum-told2 .given .1) (record { replies = refl; leaves = refl })
 
 pub follow-spec : {M : Type 1} → statement M

@@ -2,7 +2,7 @@ use mathlib.Core.Path.{ap, _∙_}
 use Rattle.calls.specs.declared.records.GrowthRecord.{GrowthRecord}
 use Rattle.calls.specs.Answers.{placed}
 use Rattle.calls.specs.Records.{validSteps, growUnder}
-use Rattle.sessions.specs.Commands.{stateIn, pool, called, placedReply, replyWith}
+use Rattle.sessions.specs.Commands.{stateIn, pool, commanded, placedReply, replyWith}
 use Rattle.sessions.proofs.Replying.{follows}
 use borrow.Author.Needs.{needs}
 use Rattle.sessions.proofs.commands.grow.Statement.{statement}
@@ -42,7 +42,7 @@ placed-reply-requires : tie.Need-placed-reply-requires
 placed-reply-requires c κs = search needs
 
 returns : tie.Need-returns
-unfolding stateIn pool called replyWith growUnder validSteps
+unfolding stateIn pool commanded replyWith growUnder validSteps
 returns c =
     let called = c .before .before .before .before .before .before .before .before .before .before .before in
     let made = called .before .before .before .before .before .before .before .before in

@@ -1,6 +1,6 @@
 use mathlib.Core.Path.{ap, _∙_}
 use Rattle.calls.specs.Records.{validSteps, lookUpUnder}
-use Rattle.sessions.specs.Commands.{stateIn, called, foundReply, replyWith, replyTo}
+use Rattle.sessions.specs.Commands.{stateIn, commanded, foundReply, replyWith, replyTo}
 use borrow.Author.Needs.{needs}
 use Rattle.sessions.proofs.commands.look_up.Statement.{statement}
 use Rattle.sessions.proofs.commands.look_up.Tie as tie
@@ -30,7 +30,7 @@ found-reply-requires : tie.Need-found-reply-requires
 found-reply-requires c κs = search needs
 
 returns : tie.Need-returns
-unfolding stateIn called replyWith replyTo lookUpUnder validSteps
+unfolding stateIn commanded replyWith replyTo lookUpUnder validSteps
 returns c =
     let called = c .before .before in
     let looked = rw (called .before .before .before .before .before .parameters .ensures) at (called .look-up .ensures) in

@@ -1,7 +1,7 @@
 use mathlib.Core.Path.{sym, ap, _∙_}
 use Rattle.calls.specs.Answers.{placed}
 use Rattle.calls.specs.Records.{validSteps, removeUnder}
-use Rattle.sessions.specs.Commands.{stateIn, pool, called, placedReply, replyWith}
+use Rattle.sessions.specs.Commands.{stateIn, pool, commanded, placedReply, replyWith}
 use Rattle.sessions.proofs.Replying.{remove-keeps, follows}
 use borrow.Author.Needs.{needs}
 use Rattle.sessions.proofs.commands.remove.Statement.{statement}
@@ -41,7 +41,7 @@ placed-reply-requires : tie.Need-placed-reply-requires
 placed-reply-requires c κs = search needs
 
 returns : tie.Need-returns
-unfolding stateIn pool called replyWith removeUnder validSteps
+unfolding stateIn pool commanded replyWith removeUnder validSteps
 returns c =
     let called = c .before .before .before .before .before .before .before .before .before in
     let made = called .before .before .before .before .before .before .before .before in
