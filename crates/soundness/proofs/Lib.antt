@@ -3,3 +3,4 @@ pub mod Items
 pub mod Pastes
 pub mod Stars
 pub mod Lent
+pub mod AtHome

@@ -1,8 +1,9 @@
 -- A stretch of pages by its items and their homes, as lists that may begin elsewhere.
 use mathlib.Core.Path.{_≡_}
-use mathlib.Core.Bool.{Bool, true, false}
+use mathlib.Core.Bool.{Bool, true, false, _&&_}
 use mathlib.Core.List.{List}
 use Prim.Native.Nat.{ℕ, _+_, _-_, _*_, _≤_, _<_}
+use lib.Dec.{eqb}
 use lib.ListN.{length, getD, take, drop}
 use Rattle.hashing.specs.declared.Geometry.{Geometry}
 use Rattle.placement.specs.Shape.{homeIn}
@@ -30,6 +31,10 @@ pub record HomedItems (g : Geometry) (at to from stop : ℕ) (seps ns ws os hs :
   pub inside : stop ≤ g .parameters .pages
   pub items : Items (at + (stop - from) * g .parameters .places) (to + (stop - from) * g .parameters .places) ns ws os hs
   pub homes : HomesAt g ((stop - from) * g .parameters .places) at to ns hs
+
+-- the items from `first` up to the one before `last` are empty places that hold nothing
+abbrev pub Unused : List ℕ → List ℕ → List ℕ → ℕ → ℕ → Type 0
+Unused ns ws os first last = (j : ℕ) → first ≤ j → j < last → (getD ns j 0 ≡ 0) × (eqb (getD ws j 0) 0 && eqb (getD os j 0) 0 ≡ true)
 
 -- a page is sound, by its items from `at` on
 unfoldable pub soundFrom : Geometry → List ℕ → List ℕ → List ℕ → List ℕ → ℕ → ℕ → Bool

@@ -9,9 +9,11 @@ ghost use Rattle.placement.specs.Hash.{soundAt};
 ghost use Rattle.placement.specs.Shape.{homesOf};
 ghost use Rattle.placement.specs.Lent.{held, before};
 ghost use Rattle.placement.specs.Ready.{Signers, Ready};
-ghost use Rattle.soundness.specs.Stretch.{HomesAt, SignableAt, Items, HomedItems, soundFrom, Lowest, soundOf};
+ghost use Rattle.soundness.specs.Stretch.{HomesAt, SignableAt, Items, HomedItems, Unused, soundFrom, Lowest, soundOf};
 use crate::star_homes::find_homes;
+use crate::testing::LAST_NUMBER;
 use crate::testing::admitted;
+use crate::testing::unused;
 use hashing::Geometry;
 use placement::top_of;
 
@@ -100,6 +102,73 @@ fn homed_below(number: u32, home: u32, low: u32) -> u32
         return 0;
     }
     1
+}
+
+// Whether the items from `first` up to the one before `last` are empty places that hold nothing.
+fn all_unused(numbers: &[u32], words: &[u64], owners: &[u8], first: usize, last: usize) -> bool
+    requires { ⌜ (last ≤ length (now numbers)) × ((last ≤ length (now words)) × (last ≤ length (now owners))) ⌝ }
+    ensures { λ r. ⌜ (r ≡ true → Unused (now (numbers .entry)) (now (words .entry)) (now (owners .entry)) first last) ⌝ }
+{
+    let mut i = first;
+    while i < last {
+        if numbers[i] != 0 {
+            return false;
+        }
+        if !unused(words[i], owners[i]) {
+            return false;
+        }
+        i += 1;
+    }
+    true
+}
+
+// True only of a sound page, one with the greatest separator where all stars are at home: no star needs a signature there.
+fn sound_at_home(
+    geometry: Geometry,
+    separators: &[u8],
+    numbers: &[u32],
+    words: &[u64],
+    owners: &[u8],
+    homes: &[u32],
+    at: usize,
+    to: usize,
+    page: usize,
+) -> bool
+    requires { ⌜ validParameters (geometry .parameters) ≡ true ⌝ }
+    requires { ⌜ length (now separators) ≡ geometry .parameters .pages ⌝ }
+    requires { ⌜ page < geometry .parameters .pages ⌝ }
+    requires { ⌜ Items (at + geometry .parameters .places) (to + geometry .parameters .places) (now numbers) (now words) (now owners) (now homes) ⌝ }
+    requires { ⌜ HomesAt geometry (geometry .parameters .places) at to (now numbers) (now homes) ⌝ }
+    ensures { λ r. ⌜ (r ≡ true → soundFrom geometry (now (separators .entry)) (now (numbers .entry)) (now (words .entry)) (now (owners .entry)) at page ≡ true) ⌝ }
+{
+    if separators[page] != top_of(geometry.parameters) {
+        return false;
+    }
+    let places = geometry.parameters.places as usize;
+    let own = page as u32;
+    let mut last: u32 = 0;
+    let mut i = 0;
+    while i < places {
+        let number = numbers[at + i];
+        if number == 0 {
+            if LAST_NUMBER < last {
+                return false;
+            }
+            return all_unused(numbers, words, owners, at + i, at + places);
+        }
+        if number <= last {
+            return false;
+        }
+        if homes[to + i] != own {
+            return false;
+        }
+        if !pages::position::word_valid(words[at + i]) {
+            return false;
+        }
+        last = number;
+        i += 1;
+    }
+    last <= LAST_NUMBER
 }
 
 // The first unsound page from `from` up to the one before `stop`, or `stop`, by the whole table. Their items stand from `at` on,
@@ -278,22 +347,7 @@ fn first_unsound_near(
     while page < stop {
         let at = page * places;
         let kept = to + (page - from) * places;
-        if count_far(numbers, homes, at, kept, places, page) != 0 {
-            return first_unsound_beyond(
-                geometry,
-                separators,
-                numbers,
-                words,
-                owners,
-                homes,
-                at,
-                kept,
-                page,
-                stop,
-            );
-        }
-        if !lent_sound(
-            table,
+        if !sound_at_home(
             geometry,
             separators,
             numbers,
@@ -304,7 +358,34 @@ fn first_unsound_near(
             kept,
             page,
         ) {
-            return page;
+            if count_far(numbers, homes, at, kept, places, page) != 0 {
+                return first_unsound_beyond(
+                    geometry,
+                    separators,
+                    numbers,
+                    words,
+                    owners,
+                    homes,
+                    at,
+                    kept,
+                    page,
+                    stop,
+                );
+            }
+            if !lent_sound(
+                table,
+                geometry,
+                separators,
+                numbers,
+                words,
+                owners,
+                homes,
+                at,
+                kept,
+                page,
+            ) {
+                return page;
+            }
         }
         page += 1;
     }

@@ -16,7 +16,7 @@ use crate::star_homes::wide;
 use hashing::Geometry;
 use placement::top_of;
 
-const LAST_NUMBER: u32 = 2147483646;
+pub const LAST_NUMBER: u32 = 2147483646;
 
 // Whether an item is sound, and if so its star's home, 0 for an empty place, and the number that the next one must exceed.
 pub struct Item {
@@ -298,7 +298,7 @@ pub fn admitted(
 }
 
 // What an empty place must hold.
-fn unused(word: u64, owner: u8) -> bool
+pub fn unused(word: u64, owner: u8) -> bool
     ensures { λ r. ⌜ r ≡ (eqb word 0 && eqb owner 0) ⌝ }
 {
     if word != 0 {
