@@ -13,40 +13,39 @@ use borrow.Author.Tests.{eqb-true, eq-eqb, ne-eqb}
 use Rattle.calls.specs.Due.{stars}
 use Rattle.call_due.specs.Used.{Blank}
 
--- count stars were met in the first i of the list
-pub record Counted (l : List ℕ) (count i : ℕ) : Type 0 where
+-- `empty` zeros were met in the first i of the list: with the stars they are as many as i and the stars that follow
+pub record Counted (l : List ℕ) (empty i : ℕ) : Type 0 where
   pub within : i ≤ length l
-  pub few : count ≤ i
-  pub whole : stars l ≡ count + stars (drop i l)
+  pub few : empty ≤ i
+  pub whole : stars l + empty ≡ i + stars (drop i l)
 
 pub counted-none : (l : List ℕ) → Counted l 0 0
-counted-none l = record { within = omega arith; few = omega arith; whole = rw zero-add }
+counted-none l = record { within = omega arith; few = omega arith; whole = omega arith }
 
-module _ (l : List ℕ) (count i : ℕ) (c : Counted l count i) (h : i < length l) where
-  pub counted-empty : getD l i 0 ≡ 0 → Counted l count (i + 1)
+module _ (l : List ℕ) (empty i : ℕ) (c : Counted l empty i) (h : i < length l) where
+  pub counted-empty : getD l i 0 ≡ 0 → Counted l (empty + 1) (i + 1)
   unfolding stars
   counted-empty e =
+      let next : stars (drop i l) ≡ stars (drop (suc i) l) = rw (drop-cons l i 0 h, eq-eqb (getD l i 0) 0 e) in
       record {
         within = omega arith;
         few = omega (arith, c .few);
-        whole =
-            rw (add-one i) (c .whole ∙ rw (drop-cons l i 0 h, eq-eqb (getD l i 0) 0 e));
+        whole = rw (add-one i) (omega (arith, c .whole, next));
       }
 
-  pub counted-star : (getD l i 0 ≡ 0 → ⊥) → Counted l (count + 1) (i + 1)
+  pub counted-star : (getD l i 0 ≡ 0 → ⊥) → Counted l empty (i + 1)
   unfolding stars
   counted-star e =
+      let next : stars (drop i l) ≡ suc (stars (drop (suc i) l)) = rw (drop-cons l i 0 h, ne-eqb (getD l i 0) 0 e) in
       record {
         within = omega arith;
         few = omega (arith, c .few);
-        whole =
-            rw (add-one i)
-            (c .whole ∙ rw (drop-cons l i 0 h, ne-eqb (getD l i 0) 0 e) (omega arith));
+        whole = rw (add-one i) (omega (arith, c .whole, next));
       }
 
-pub counted-all : (l : List ℕ) (count i : ℕ) → Counted l count i → length l ≤ i → count ≡ stars l
+pub counted-all : (l : List ℕ) (empty i : ℕ) → Counted l empty i → length l ≤ i → length l - empty ≡ stars l
 unfolding stars
-counted-all l count i c h = omega (arith, rw (drop-of-length-le l h) at (c .whole))
+counted-all l empty i c h = omega (arith, c .within, rw (drop-of-length-le l h) at (c .whole))
 
 pub stars-most : (l : List ℕ) → stars l ≤ length l
 unfolding stars

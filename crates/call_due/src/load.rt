@@ -106,18 +106,18 @@ fn trimmed(numbers: &[u32]) -> usize
     end
 }
 
-// How many numbers are not 0.
+// How many numbers are not 0, by those that are: a vector of equal lanes is subtracted as it comes.
 fn occupied(numbers: &[u32]) -> u32
     requires { ⌜ length (now numbers) ≤ 32768 ⌝ }
     ensures { λ r. ⌜ r ≡ stars (now (numbers .entry)) ⌝ }
 {
-    let mut count: u32 = 0;
+    let mut empty: u32 = 0;
     let mut i = 0;
     while i < numbers.len() {
-        if numbers[i] != 0 {
-            count += 1;
+        if numbers[i] == 0 {
+            empty += 1;
         }
         i += 1;
     }
-    count
+    numbers.len() as u32 - empty
 }

@@ -40,6 +40,7 @@ pub fn look_up(
     }
     let geometry = Geometry { parameters, growth };
     let table = generator::first_multipliers(parameters.multiplier);
+    let home = hashing::home(&table, geometry, number);
     let mut homes = [0u32; 32];
     let named = find(
         &table,
@@ -49,6 +50,7 @@ pub fn look_up(
         words,
         owners,
         number,
+        home,
         &mut homes,
     );
     let page = named.page as u32;

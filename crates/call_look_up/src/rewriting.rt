@@ -78,6 +78,7 @@ pub fn change_stopped(
     }
     let geometry = Geometry { parameters, growth };
     let table = generator::first_multipliers(parameters.multiplier);
+    let home = hashing::home(&table, geometry, number);
     let mut homes = [0u32; 32];
     let named = find(
         &table,
@@ -87,6 +88,7 @@ pub fn change_stopped(
         words,
         owners,
         number,
+        home,
         &mut homes,
     );
     let page = named.page as u32;

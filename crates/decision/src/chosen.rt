@@ -1,4 +1,7 @@
 // What is to be done to the file.
+ghost use mathlib.Core.Path.{_≡_};
+ghost use Rattle.decision.specs.Carried.{outcomeOf};
+use page_plan::Outcome;
 
 // The first unsound page; a star is carried past the last page; a page and the place on it where one star is put in or taken out; or
 // the planned stretch, its first page and how many it has, with the page that the call answers.
@@ -18,4 +21,17 @@ pub struct Newcomer {
     pub home: u32,
     pub place: u32,
     pub page: usize,
+}
+
+// What the whole call answers. Apart from carrying it out: an answer handed on in memory, whose parts were just stored, is waited for.
+pub fn outcome_of(decision: Decision) -> Outcome
+    ensures { λ r. ⌜ r ≡ outcomeOf decision ⌝ }
+{
+    match decision {
+        Decision::Unsound(page) => Outcome::Unsound(page),
+        Decision::Overflows => Outcome::Overflows,
+        Decision::Put(page, _) => Outcome::On(page),
+        Decision::Take(page, _) => Outcome::On(page),
+        Decision::Planned(_, _, page) => Outcome::On(page),
+    }
 }

@@ -7,3 +7,4 @@ mod stretch;
 pub use carried::carry_out;
 pub use chosen::Decision;
 pub use chosen::Newcomer;
+pub use chosen::outcome_of;

@@ -16,6 +16,7 @@ use crate::stretch::decide_stretch;
 use decision::Decision;
 use decision::Newcomer;
 use decision::carry_out;
+use decision::outcome_of;
 use hashing::Geometry;
 use page_plan::Outcome;
 
@@ -99,7 +100,8 @@ pub fn enter_star(
     let page = star.home as usize;
     if page_edit::takes_alone(parameters, separators, numbers, page) {
         let none = [0u8; 1];
-        return carry_out(
+        let place = star.place as usize;
+        carry_out(
             parameters,
             separators,
             numbers,
@@ -109,11 +111,12 @@ pub fn enter_star(
             waiting,
             poolowners,
             &none,
-            Decision::Put(page, star.place as usize),
+            Decision::Put(page, place),
             star,
             limit,
             false,
         );
+        return Outcome::On(page);
     }
     let mut planned = [0u8; 1024];
     let decision = decide(
@@ -142,5 +145,6 @@ pub fn enter_star(
         star,
         limit,
         false,
-    )
+    );
+    outcome_of(decision)
 }

@@ -6,6 +6,7 @@ ghost use lib.ListN.{length};
 ghost use Rattle.pages.specs.Position.{validNumber};
 ghost use Rattle.placement.specs.Lent.{held, before};
 ghost use Rattle.placement.specs.Ready.{Ready};
+ghost use Rattle.placement.specs.Shape.{homeUnder};
 ghost use Rattle.reach.specs.Known.{Known};
 ghost use Rattle.named_page.specs.Named.{NamedAs, HomedAs};
 use hashing::Geometry;
@@ -25,7 +26,8 @@ pub struct Named {
 }
 
 // Reads the separators and one page, copied as a value before it is searched. If the page is readable, `homes` has its stars' homes, 0 for
-// an empty place. Callers make the geometry before the table: a copy that directly follows its stores waits for them.
+// an empty place. Callers make the geometry before the table, and find the number's home before the geometry is copied to here: a copy that
+// directly follows its stores waits for them, and the home with it.
 pub fn find(
     table: &[u32; 90],
     geometry: Geometry,
@@ -34,16 +36,17 @@ pub fn find(
     words: &[u64],
     owners: &[u8],
     number: u32,
+    home: u32,
     homes: &mut [u32; 32],
 ) -> Named
     requires { ⌜ Ready geometry (now table) (held separators numbers words owners) ⌝ }
     requires { ⌜ validNumber number ≡ true ⌝ }
+    requires { ⌜ home ≡ homeUnder geometry number ⌝ }
     requires { ⌜ length (now homes) ≡ 32 ⌝ }
     ensures { λ r. ⌜ NamedAs (geometry .parameters) (geometry .growth) (before separators numbers words owners) number r ⌝ }
     ensures { λ r. ⌜ HomedAs (geometry .parameters) (geometry .growth) (before separators numbers words owners) r (now (homes .exit)) ⌝ }
 {
     let places = geometry.parameters.places as usize;
-    let home = hashing::home(table, geometry, number);
     let page = soundness::named_from(table, geometry, separators, number, home);
     if page == geometry.parameters.pages as usize {
         return unread(home, page);
@@ -105,6 +108,7 @@ pub fn find_kept(
     ensures { λ r. ⌜ NamedAs (geometry .parameters) (geometry .growth) (before separators numbers words owners) number r ⌝ }
     ensures { λ r. ⌜ (r .readable ≡ true → Known (geometry .parameters) (geometry .growth) (before separators numbers words owners) (now (pool .exit)) (r .page)) ⌝ }
 {
+    let home = hashing::home(table, geometry, number);
     let mut homes = [0u32; 32];
     let named = find(
         table,
@@ -114,6 +118,7 @@ pub fn find_kept(
         words,
         owners,
         number,
+        home,
         &mut homes,
     );
     if !named.readable {

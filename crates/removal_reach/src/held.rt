@@ -11,6 +11,7 @@ use crate::star::HeldStar;
 use decision::Decision;
 use decision::Newcomer;
 use decision::carry_out;
+use decision::outcome_of;
 use hashing::Geometry;
 use page_plan::Outcome;
 
@@ -49,7 +50,7 @@ pub fn remove_held(
     if separators[first] == placement::top_of(parameters) {
         let none = [0u8; 1];
         let place = star.place as usize;
-        return carry_out(
+        carry_out(
             parameters,
             separators,
             numbers,
@@ -64,6 +65,7 @@ pub fn remove_held(
             limit,
             true,
         );
+        return Outcome::On(star.page);
     }
     let mut planned = [0u8; 1024];
     let decision = decide_removal(
@@ -92,5 +94,6 @@ pub fn remove_held(
         nobody,
         limit,
         true,
-    )
+    );
+    outcome_of(decision)
 }

@@ -67,19 +67,24 @@ numbered c = passed _ _ (c .before .number-valid .ensures) (c .if1 .left)
 first-multipliers-requires : tie.Need-first-multipliers-requires
 first-multipliers-requires c κs = tabled (lent-well (told c))
 
+home-requires : tie.Need-home-requires
+home-requires c κs =
+    let a = lent-well (told (c .before .before)) .homing in
+    (c .before .first-multipliers .ensures, (a .valid, a .growth))
+
 find-requires : tie.Need-find-requires
 find-requires c κs =
-    let d = c .before .before .before in
-    (prepared (c .before .before .first-multipliers .ensures) (lent-well (told d)), (numbered d, refl))
+    let d = c .before .before .before .before .before in
+    (prepared (c .before .before .before .before .first-multipliers .ensures) (lent-well (told d)), (numbered d, (c .before .before .home .ensures, refl)))
 
 cast-page : tie.Need-cast-page
-cast-page c = omega (arith, c .before .find .ensures .0 .pageMost, limits _ (lent-well (told (c .before .before .before .before .before)) .homing .valid) .pages-most)
+cast-page c = omega (arith, c .before .find .ensures .0 .pageMost, limits _ (lent-well (told (c .before .before .before .before .before .before .before)) .homing .valid) .pages-most)
 
 returns-3 : tie.Need-returns-3
 unfolding lookUpOf lookedUp sought refusedBy
 returns-3 c =
     let found = c .before .before .before .find .ensures .0 in
-    let d = c .before .before .before .before .before .before .before in
+    let d = c .before .before .before .before .before .before .before .before .before in
     rw (none (told d), numbered d, sym (found .readableIs) ∙ not-true _ (c .if2 .taken), found .pageIs)
 
 returns-4 : tie.Need-returns-4
@@ -87,7 +92,7 @@ unfolding lookUpOf lookedUp sought
 returns-4 c =
     let found = c .before .before .before .before .before .find .ensures .0 in
     let read = not-false _ (c .before .before .if2 .left) in
-    let d = c .before .before .before .before .before .before .before .before .before in
+    let d = c .before .before .before .before .before .before .before .before .before .before .before in
     rw (none (told d), numbered d, sym (found .readableIs) ∙ read, sym (found .heldIs read) ∙ not-true _ (c .if3 .taken), ← found .placeIs read, found .pageIs)
 
 unpack-requires : tie.Need-unpack-requires
@@ -99,7 +104,7 @@ returns-5 c =
     let found = c .before .before .before .before .before .before .find .ensures .0 in
     let read = not-false _ (c .before .before .before .if2 .left) in
     let held = not-false _ (c .before .if3 .left) in
-    let d = c .before .before .before .before .before .before .before .before .before .before in
+    let d = c .before .before .before .before .before .before .before .before .before .before .before .before in
     rw (none (told d), numbered d, sym (found .readableIs) ∙ read, sym (found .heldIs read) ∙ held, c .unpack .ensures, found .wordIs held, ← found .placeIs read, found .pageIs)
 
 pub look-up-spec : {M : Type 1} → statement M
@@ -114,6 +119,7 @@ look-up-spec =
     number-valid-requires
     returns-2
     first-multipliers-requires
+    home-requires
     find-requires
     cast-page
     returns-3

@@ -50,17 +50,17 @@ positioned : (c : tie.Else2) → validPosition (begun (told c) .args .position) 
 positioned c = passed _ _ (c .before .position-valid .ensures) (c .if2 .left)
 
 -- the star may be changed
-below : (c : tie.Else5) → c .before .before .before .before .before .before .before .find .result .item < c .before .before .before .before .before .before .before .before .before .before .before .before .before .before .before .before .before .before .before .before .before .before .before .before .args .parameters .pages * c .before .before .before .before .before .before .before .before .before .before .before .before .before .before .before .before .before .before .before .before .before .before .before .before .args .parameters .places
+below : (c : tie.Else5) → c .before .before .before .before .before .before .before .find .result .item < c .before .before .before .before .before .before .before .before .before .before .before .before .before .before .before .before .before .before .before .before .before .before .before .before .before .before .args .parameters .pages * c .before .before .before .before .before .before .before .before .before .before .before .before .before .before .before .before .before .before .before .before .before .before .before .before .before .before .args .parameters .places
 below c = c .before .before .before .before .before .before .before .find .ensures .0 .itemBelow (not-false _ (c .before .before .if4 .left))
 
-whole : (c : tie.Else5) → Leaves (call (c .before .before .before .before .before .before .before .before .before .before .before .before .before .before .before .before .before .before .before .before .before .before .before .before)) (placed (On (c .before .before .before .before .before .before .before .find .result .page) (c .before .before .before .before .before .before .before .find .result .place))) (lent (now (c .before .before .before .before .before .before .before .before .before .before .before .before .before .before .before .before .before .before .before .before .before .before .before .before .args .separators)) (now (c .before .before .before .before .before .before .before .before .before .before .before .before .before .before .before .before .before .before .before .before .before .before .before .before .args .numbers)) (set (now (c .before .before .before .before .before .before .before .before .before .before .before .before .before .before .before .before .before .before .before .before .before .before .before .before .args .words)) (c .before .before .before .before .before .before .before .find .result .item) (packed (c .before .before .before .before .before .before .before .before .before .before .before .before .before .before .before .before .before .before .before .before .before .before .before .before .args .position))) (now (c .before .before .before .before .before .before .before .before .before .before .before .before .before .before .before .before .before .before .before .before .before .before .before .before .args .owners))) unpooled
+whole : (c : tie.Else5) → Leaves (call (c .before .before .before .before .before .before .before .before .before .before .before .before .before .before .before .before .before .before .before .before .before .before .before .before .before .before)) (placed (On (c .before .before .before .before .before .before .before .find .result .page) (c .before .before .before .before .before .before .before .find .result .place))) (lent (now (c .before .before .before .before .before .before .before .before .before .before .before .before .before .before .before .before .before .before .before .before .before .before .before .before .before .before .args .separators)) (now (c .before .before .before .before .before .before .before .before .before .before .before .before .before .before .before .before .before .before .before .before .before .before .before .before .before .before .args .numbers)) (set (now (c .before .before .before .before .before .before .before .before .before .before .before .before .before .before .before .before .before .before .before .before .before .before .before .before .before .before .args .words)) (c .before .before .before .before .before .before .before .find .result .item) (packed (c .before .before .before .before .before .before .before .before .before .before .before .before .before .before .before .before .before .before .before .before .before .before .before .before .before .before .args .position))) (now (c .before .before .before .before .before .before .before .before .before .before .before .before .before .before .before .before .before .before .before .before .before .before .before .before .before .before .args .owners))) unpooled
 unfolding changeOf changeOn allowed placed
 whole c =
     let found = c .before .before .before .before .before .before .before .find .ensures .0 in
     let read = not-false _ (c .before .before .before .before .if3 .left) in
     let there = not-false _ (c .before .before .if4 .left) in
     let may = altered _ _ _ _ _ (found .ownerIs there) (c .before .may-alter .ensures) (not-false _ (c .if5 .left)) in
-    let d = c .before .before .before .before .before .before .before .before .before .before .before .before in
+    let d = c .before .before .before .before .before .before .before .before .before .before .before .before .before .before in
     leaves _ _ (begun (told d) .args .growth) _ _
     (rw (none (told d), numbered d, positioned d, sym (found .readableIs) ∙ read, sym (found .heldIs read) ∙ there, may, ← found .placeIs read, found .pageIs, found .itemIs there))
 
@@ -115,13 +115,18 @@ returns-3 c =
 first-multipliers-requires : tie.Need-first-multipliers-requires
 first-multipliers-requires c κs = tabled (lent-well (told c))
 
+home-requires : tie.Need-home-requires
+home-requires c κs =
+    let a = lent-well (told (c .before .before)) .homing in
+    (c .before .first-multipliers .ensures, (a .valid, a .growth))
+
 find-requires : tie.Need-find-requires
 find-requires c κs =
-    let d = c .before .before .before .before in
-    (prepared (c .before .before .before .first-multipliers .ensures) (lent-well (told d)), (numbered d, refl))
+    let d = c .before .before .before .before .before .before in
+    (prepared (c .before .before .before .before .before .first-multipliers .ensures) (lent-well (told d)), (numbered d, (c .before .before .before .home .ensures, refl)))
 
 cast-page : tie.Need-cast-page
-cast-page c = omega (arith, c .before .find .ensures .0 .pageMost, limits _ (lent-well (told (c .before .before .before .before .before .before)) .homing .valid) .pages-most)
+cast-page c = omega (arith, c .before .find .ensures .0 .pageMost, limits _ (lent-well (told (c .before .before .before .before .before .before .before .before)) .homing .valid) .pages-most)
 
 same-length : tie.Need-same-length
 same-length c = search needs
@@ -129,11 +134,11 @@ same-length c = search needs
 returns-4 : tie.Need-returns-4
 unfolding changeStoppedOf changeOf placed refusedBy changeOn
 returns-4 c =
-    let s = c .before .before .before .before .before .before .before .before .before .before .before .before .before .before .before .before .before .before .before .before in
+    let s = c .before .before .before .before .before .before .before .before .before .before .before .before .before .before .before .before .before .before .before .before .before .before in
     let found = c .before .before .before .find .ensures .0 in
-    let d = c .before .before .before .before .before .before .before .before in
+    let d = c .before .before .before .before .before .before .before .before .before .before in
     unmoved-leaves true (s .args .parameters) (s .args .stores) {after = call s} {answer = placed (Refused (Damaged (c .before .before .before .find .result .page)) 0)} {f = fileOf s} {pool = unpooled}
-    (leaves _ _ (c .before .before .before .before .before .before .before .before .before .before .before .before .before .before .before .before .before .before .before .before .args .growth) _ _
+    (leaves _ _ (c .before .before .before .before .before .before .before .before .before .before .before .before .before .before .before .before .before .before .before .before .before .before .args .growth) _ _
     (rw (none (told d), numbered d, positioned d, sym (found .readableIs) ∙ not-true _ (c .if3 .taken), found .pageIs)))
 
 same-length-2 : tie.Need-same-length-2
@@ -142,12 +147,12 @@ same-length-2 c = search needs
 returns-5 : tie.Need-returns-5
 unfolding changeStoppedOf changeOf placed refusedBy changeOn
 returns-5 c =
-    let s = c .before .before .before .before .before .before .before .before .before .before .before .before .before .before .before .before .before .before .before .before .before .before in
+    let s = c .before .before .before .before .before .before .before .before .before .before .before .before .before .before .before .before .before .before .before .before .before .before .before .before in
     let found = c .before .before .before .before .before .find .ensures .0 in
     let read = not-false _ (c .before .before .if3 .left) in
-    let d = c .before .before .before .before .before .before .before .before .before .before in
+    let d = c .before .before .before .before .before .before .before .before .before .before .before .before in
     unmoved-leaves true (s .args .parameters) (s .args .stores) {after = call s} {answer = placed (Refused NotHeld (c .before .before .before .before .before .find .result .place))} {f = fileOf s} {pool = unpooled}
-    (leaves _ _ (c .before .before .before .before .before .before .before .before .before .before .before .before .before .before .before .before .before .before .before .before .before .before .args .growth) _ _
+    (leaves _ _ (c .before .before .before .before .before .before .before .before .before .before .before .before .before .before .before .before .before .before .before .before .before .before .before .before .args .growth) _ _
     (rw (none (told d), numbered d, positioned d, sym (found .readableIs) ∙ read, sym (found .heldIs read) ∙ not-true _ (c .if4 .taken), ← found .placeIs read)))
 
 may-alter-requires : tie.Need-may-alter-requires
@@ -159,12 +164,12 @@ same-length-3 c = search needs
 returns-6 : tie.Need-returns-6
 unfolding changeStoppedOf changeOf placed refusedBy changeOn allowed
 returns-6 c =
-    let s = c .before .before .before .before .before .before .before .before .before .before .before .before .before .before .before .before .before .before .before .before .before .before .before .before in
+    let s = c .before .before .before .before .before .before .before .before .before .before .before .before .before .before .before .before .before .before .before .before .before .before .before .before .before .before in
     let found = c .before .before .before .before .before .before .before .find .ensures .0 in
     let read = not-false _ (c .before .before .before .before .if3 .left) in
     let there = not-false _ (c .before .before .if4 .left) in
     let may = altered _ _ _ _ _ (found .ownerIs there) (c .before .may-alter .ensures) (not-true _ (c .if5 .taken)) in
-    let d = c .before .before .before .before .before .before .before .before .before .before .before .before in
+    let d = c .before .before .before .before .before .before .before .before .before .before .before .before .before .before in
     unmoved-leaves true (s .args .parameters) (s .args .stores) {after = call s} {answer = placed (Refused NotOwner (c .before .before .before .before .before .before .before .find .result .place))} {f = fileOf s} {pool = unpooled}
     (leaves _ _ (begun (told d) .args .growth) _ _
     (rw (none (told d), numbered d, positioned d, sym (found .readableIs) ∙ read, sym (found .heldIs read) ∙ there, may, ← found .placeIs read)))
@@ -176,19 +181,19 @@ returns-7 : tie.Need-returns-7
 unfolding changeStoppedOf
 returns-7 c =
     let e = c .before in
-    let s = c .before .before .before .before .before .before .before .before .before .before .before .before .before .before .before .before .before .before .before .before .before .before .before .before .before in
-    let r = lent-well (told (c .before .before .before .before .before .before .before .before .before .before .before .before .before)) in
+    let s = c .before .before .before .before .before .before .before .before .before .before .before .before .before .before .before .before .before .before .before .before .before .before .before .before .before .before .before in
+    let r = lent-well (told (c .before .before .before .before .before .before .before .before .before .before .before .before .before .before .before)) in
     rewritten-leaves (s .args .parameters) (fileOf s) (r .sized) (limits _ (r .homing .valid) .places-least) (c .before .before .before .before .before .before .before .before .find .result .item) (packed (s .args .position)) (s .args .stores) (call s) _ unpooled _ (whole e)
     (rw (eq-eqb _ 0 (c .if6 .taken)))
 
 pack-requires : tie.Need-pack-requires
-pack-requires c κs = positioned (c .before .before .before .before .before .before .before .before .before .before .before .before .before)
+pack-requires c κs = positioned (c .before .before .before .before .before .before .before .before .before .before .before .before .before .before .before)
 
 mul-words : tie.Need-mul-words
-mul-words c = let e = c .before .before in omega (arith, below e, items-most _ (lent-well (told (c .before .before .before .before .before .before .before .before .before .before .before .before .before .before)) .homing .valid))
+mul-words c = let e = c .before .before in omega (arith, below e, items-most _ (lent-well (told (c .before .before .before .before .before .before .before .before .before .before .before .before .before .before .before .before)) .homing .valid))
 
 slice-write-words : tie.Need-slice-write-words
-slice-write-words c = let e = c .before .before in omega (arith, below e, lent-well (told (c .before .before .before .before .before .before .before .before .before .before .before .before .before .before)) .sized .ofWords)
+slice-write-words c = let e = c .before .before in omega (arith, below e, lent-well (told (c .before .before .before .before .before .before .before .before .before .before .before .before .before .before .before .before)) .sized .ofWords)
 
 same-length-5 : tie.Need-same-length-5
 same-length-5 c = search needs
@@ -197,8 +202,8 @@ returns-8 : tie.Need-returns-8
 unfolding changeStoppedOf
 returns-8 c =
     let e = c .before .before in
-    let s = c .before .before .before .before .before .before .before .before .before .before .before .before .before .before .before .before .before .before .before .before .before .before .before .before .before .before in
-    let r = lent-well (told (c .before .before .before .before .before .before .before .before .before .before .before .before .before .before)) in
+    let s = c .before .before .before .before .before .before .before .before .before .before .before .before .before .before .before .before .before .before .before .before .before .before .before .before .before .before .before .before in
+    let r = lent-well (told (c .before .before .before .before .before .before .before .before .before .before .before .before .before .before .before .before)) in
     rewritten-leaves (s .args .parameters) (fileOf s) (r .sized) (limits _ (r .homing .valid) .places-least) (c .before .before .before .before .before .before .before .before .before .find .result .item) (packed (s .args .position)) (s .args .stores) (call s) _ unpooled _ (whole e)
     (rw (ne-eqb _ 0 (c .before .if6 .left)) (ap (λ (w : ℕ). lent (now (s .args .separators)) (now (s .args .numbers)) (set (now (s .args .words)) (c .before .before .before .before .before .before .before .before .before .find .result .item) w) (now (s .args .owners))) (c .pack .ensures)))
 
@@ -216,6 +221,7 @@ change-stopped-spec =
     position-valid-requires
     returns-3
     first-multipliers-requires
+    home-requires
     find-requires
     cast-page
     same-length

@@ -62,8 +62,8 @@ takes-alone-requires c κs =
 slice-aggregate-carry-out : tie.Need-slice-aggregate-carry-out
 slice-aggregate-carry-out c = search needs
 
-cast-t38 : tie.Need-cast-t38
-cast-t38 c = search needs
+cast-place : tie.Need-cast-place
+cast-place c = search needs
 
 carry-out-requires : tie.Need-carry-out-requires
 carry-out-requires c κs =
@@ -99,7 +99,7 @@ returns c =
     let s = begun d in
     let done = c .before .before .before .before .before .before .before .before .before .before .before .before .before .before .carry-out .ensures in
     let chosen = decided d (now (s .args .pool)) (now (s .args .separators)) in
-    (done .0 ∙ chosen .answers, done .1 ∙ ap (λ (l : File). stoppedFile false (s .args .geometry .parameters) (file s) l (s .args .limit)) (chosen .files))
+    (chosen .answers, done ∙ ap (λ (l : File). stoppedFile false (s .args .geometry .parameters) (file s) l (s .args .limit)) (chosen .files))
 
 slice-aggregate-decide : tie.Need-slice-aggregate-decide
 slice-aggregate-decide c = search needs
@@ -149,12 +149,15 @@ same-length-13 c = search needs
 same-length-14 : tie.Need-same-length-14
 same-length-14 c = search needs
 
+outcome-of-requires : tie.Need-outcome-of-requires
+outcome-of-requires c κs = search needs
+
 returns-2 : tie.Need-returns-2
 returns-2 c =
-    let s = c .before .before .before .before .before .before .before .before .before .before .before .before .before .before .before .before .before .before .before .before .before .before .before .before .before .before .before .before .before .before .before .before .before .before .before .before .before .before .before .before .before .before .before .before .before .before .before .before .before in
-    let done = c .before .before .before .before .before .before .before .before .before .before .before .before .before .before .carry-out2 .ensures in
-    let chosen = c .before .before .before .before .before .before .before .before .before .before .before .before .before .before .before .before .before .before .before .before .before .before .before .before .before .before .before .before .decide .ensures in
-    (done .0 ∙ chosen .answers, done .1 ∙ ap (λ (l : File). stoppedFile false (s .args .geometry .parameters) (file s) l (s .args .limit)) (chosen .files))
+    let s = c .before .before .before .before .before .before .before .before .before .before .before .before .before .before .before .before .before .before .before .before .before .before .before .before .before .before .before .before .before .before .before .before .before .before .before .before .before .before .before .before .before .before .before .before .before .before .before .before .before .before in
+    let done = c .before .before .before .before .before .before .before .before .before .before .before .before .before .before .before .carry-out2 .ensures in
+    let chosen = c .before .before .before .before .before .before .before .before .before .before .before .before .before .before .before .before .before .before .before .before .before .before .before .before .before .before .before .before .before .decide .ensures in
+    (c .outcome-of .ensures ∙ chosen .answers, done ∙ ap (λ (l : File). stoppedFile false (s .args .geometry .parameters) (file s) l (s .args .limit)) (chosen .files))
 
 pub enter-star-spec : {M : Type 1} → statement M
 enter-star-spec =
@@ -162,8 +165,8 @@ enter-star-spec =
     (tie.spec
     cast-page
     takes-alone-requires
+    cast-place
     slice-aggregate-carry-out
-    cast-t38
     carry-out-requires
     same-length
     same-length-2
@@ -177,6 +180,7 @@ enter-star-spec =
     decide-requires
     slice-aggregate-carry-out-2
     carry-out-requires-2
+    outcome-of-requires
     same-length-8
     same-length-9
     same-length-10

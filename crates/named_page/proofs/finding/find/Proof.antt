@@ -25,13 +25,10 @@ fileOf s = lent (now (s .args .separators)) (now (s .args .numbers)) (now (s .ar
 cast-places : tie.Need-cast-places
 cast-places c = search needs
 
-home-requires : tie.Need-home-requires
-home-requires c κs = let ready = c .before .before .before .before .before .pre .0 .homing in (ready .table, (ready .valid, ready .growth))
-
 named-from-requires : tie.Need-named-from-requires
 named-from-requires c κs =
-    let pre = c .before .before .before .before .before .before .pre in
-    (pre .0 .homing, (pre .0 .sized .ofSeparators, c .home .ensures))
+    let pre = c .before .before .before .before .before .pre in
+    (pre .0 .homing, (pre .0 .sized .ofSeparators, pre .1 .1 .0))
 
 cast-if1 : tie.Need-cast-if1
 cast-if1 c = search needs
@@ -41,16 +38,16 @@ unread-requires c κs = search needs
 
 returns : tie.Need-returns
 returns c =
-    let s = c .before .before .before .before .before .before .before .before .before .before in
+    let s = c .before .before .before .before .before .before .before .before .before in
     rw (c .unread .ensures) (
-      unread-as (s .args .geometry .parameters) (s .args .geometry .growth) (fileOf s) (s .args .number) _ _ (s .pre .0 .sized) (c .before .before .before .before .home .ensures) (c .before .before .before .named-from .ensures)
+      unread-as (s .args .geometry .parameters) (s .args .geometry .growth) (fileOf s) (s .args .number) _ _ (s .pre .0 .sized) (s .pre .1 .1 .0) (c .before .before .before .named-from .ensures)
           (past-file _ _ _ _ (c .before .if1 .taken)),
-      record { long = s .pre .1 .1; homed = λ e. absurd (false≢true e) },
+      record { long = s .pre .1 .1 .1; homed = λ e. absurd (false≢true e) },
     )
 
 -- past the first test, the page is one of the file
 abbrev begun : tie.Else1 → tie.Start
-begun c = c .before .before .before .before .before .before .before .before .before
+begun c = c .before .before .before .before .before .before .before .before
 
 inside : (c : tie.Else1) → c .before .before .named-from .result < begun c .args .geometry .parameters .pages
 inside c =
@@ -74,7 +71,7 @@ page-sound-requires c κs =
     let e = c .before .before .before .before .before .before in
     let pre = begun e .pre in
     let page = c .before .before .before .before .before .load .ok in
-    (pre .0 .homing, (pre .0 .sized .ofSeparators, (inside e, ((search (needs, page), (search (needs, page), search (needs, page))), pre .1 .1))))
+    (pre .0 .homing, (pre .0 .sized .ofSeparators, (inside e, ((search (needs, page), (search (needs, page), search (needs, page))), pre .1 .1 .1))))
 
 -- from the test of the page on
 abbrev entered : tie.After-page-sound → tie.Else1
@@ -93,7 +90,7 @@ returns-2 c =
     let e = entered t in
     let s = begun e in
     rw (c .unread2 .ensures) (
-      unread-as (s .args .geometry .parameters) (s .args .geometry .growth) (fileOf s) (s .args .number) _ _ (s .pre .0 .sized) (e .before .before .before .home .ensures) (e .before .before .named-from .ensures)
+      unread-as (s .args .geometry .parameters) (s .args .geometry .growth) (fileOf s) (s .args .number) _ _ (s .pre .0 .sized) (s .pre .1 .1 .0) (e .before .before .named-from .ensures)
           (in-file _ _ _ _ _ (inside e) (sym (told t) ∙ not-true _ (c .before .if2 .taken))),
       record { long = t .page-sound .ensures .long; homed = λ e. absurd (false≢true e) },
     )
@@ -130,7 +127,7 @@ returns-3 c =
     let e = entered (tested d) in
     let s = begun e in
     let loaded = tested d .before .before .before .before .before .before .load .ensures in (
-      absent-as (s .args .geometry .parameters) (s .args .geometry .growth) (fileOf s) (s .args .number) _ _ (s .pre .0 .sized) (e .before .before .before .home .ensures) (e .before .before .named-from .ensures) _
+      absent-as (s .args .geometry .parameters) (s .args .geometry .growth) (fileOf s) (s .args .number) _ _ (s .pre .0 .sized) (s .pre .1 .1 .0) (e .before .before .named-from .ensures) _
           (in-file _ _ _ _ _ (inside e) (sound d))
           (sym (held-is (s .args .geometry .parameters) (fileOf s) _ _ _ _ (fits e) loaded (d .search .ensures)) ∙ not-true _ (c .if3 .taken))
           (place-is (s .args .geometry .parameters) (fileOf s) _ _ _ _ (fits e) loaded (d .search .ensures)),
@@ -174,7 +171,7 @@ returns-4 c =
     let e = entered (tested d) in
     let s = begun e in
     let loaded = tested d .before .before .before .before .before .before .load .ensures in (
-      held-as (s .args .geometry .parameters) (s .args .geometry .growth) (fileOf s) (s .args .number) _ _ (s .pre .0 .sized) (e .before .before .before .home .ensures) (e .before .before .named-from .ensures) _ _ _ _
+      held-as (s .args .geometry .parameters) (s .args .geometry .growth) (fileOf s) (s .args .number) _ _ (s .pre .0 .sized) (s .pre .1 .1 .0) (e .before .before .named-from .ensures) _ _ _ _
           (in-file _ _ _ _ _ (inside e) (sound d))
           (sym (held-is (s .args .geometry .parameters) (fileOf s) _ _ _ _ (fits e) loaded (d .search .ensures)) ∙ held h)
           (place-is (s .args .geometry .parameters) (fileOf s) _ _ _ _ (fits e) loaded (d .search .ensures))
@@ -193,7 +190,6 @@ find-spec =
     tie.close
     (tie.spec
     cast-places
-    home-requires
     named-from-requires
     cast-if1
     unread-requires

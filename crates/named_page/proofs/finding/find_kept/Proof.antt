@@ -12,8 +12,13 @@ use Rattle.named_page.proofs.Found.{named-inside, named-known}
 use Rattle.named_page.proofs.finding.find_kept.Statement.{statement}
 use Rattle.named_page.proofs.finding.find_kept.Tie as tie
 
+home-requires : tie.Need-home-requires
+home-requires c κs = let ready = c .before .before .before .before .before .pre .0 .homing in (ready .table, (ready .valid, ready .growth))
+
 find-requires : tie.Need-find-requires
-find-requires c κs = let pre = c .before .before .before .before .before .before .pre in (pre .0, (pre .1 .1, refl))
+find-requires c κs =
+    let pre = c .before .before .before .before .before .before .before .pre in
+    (pre .0, (pre .1 .1, (c .before .home .ensures, refl)))
 
 returns : tie.Need-returns
 returns c = (c .before .before .find .ensures .0, λ e. absurd (false≢true (sym (not-true _ (c .if1 .taken)) ∙ e)))
@@ -23,7 +28,7 @@ cast-places c = search needs
 
 -- past the test, the page is readable
 abbrev start : tie.Else1 → tie.Start
-start c = c .before .before .before .before .before .before .before .before .before
+start c = c .before .before .before .before .before .before .before .before .before .before
 
 opened : (c : tie.Else1) → c .before .before .find .result .readable ≡ true
 opened c = not-false _ (c .if1 .left)
@@ -60,6 +65,7 @@ pub find-kept-spec : {M : Type 1} → statement M
 find-kept-spec =
     tie.close
     (tie.spec
+    home-requires
     find-requires
     returns
     cast-places

@@ -88,7 +88,7 @@ returns c =
     let s = begun d in
     let done = c .before .before .before .before .before .before .before .before .before .before .before .before .before .before .carry-out .ensures in
     let chosen = decided d (now (s .args .pool)) (now (s .args .separators)) in
-    (done .0 ∙ chosen .answers, done .1 ∙ ap (λ (l : File). stoppedFile true (s .args .geometry .parameters) (file s) l (s .args .limit)) (chosen .files))
+    (chosen .answers, done ∙ ap (λ (l : File). stoppedFile true (s .args .geometry .parameters) (file s) l (s .args .limit)) (chosen .files))
 
 slice-aggregate-decide-removal : tie.Need-slice-aggregate-decide-removal
 slice-aggregate-decide-removal c = search needs
@@ -139,12 +139,15 @@ same-length-13 c = search needs
 same-length-14 : tie.Need-same-length-14
 same-length-14 c = search needs
 
+outcome-of-requires : tie.Need-outcome-of-requires
+outcome-of-requires c κs = search needs
+
 returns-2 : tie.Need-returns-2
 returns-2 c =
-    let s = c .before .before .before .before .before .before .before .before .before .before .before .before .before .before .before .before .before .before .before .before .before .before .before .before .before .before .before .before .before .before .before .before .before .before .before .before .before .before .before .before .before .before .before .before .before .before .before .before in
-    let done = c .before .before .before .before .before .before .before .before .before .before .before .before .before .before .carry-out2 .ensures in
-    let chosen = c .before .before .before .before .before .before .before .before .before .before .before .before .before .before .before .before .before .before .before .before .before .before .before .before .before .before .before .before .decide-removal .ensures in
-    (done .0 ∙ chosen .answers, done .1 ∙ ap (λ (l : File). stoppedFile true (s .args .geometry .parameters) (file s) l (s .args .limit)) (chosen .files))
+    let s = c .before .before .before .before .before .before .before .before .before .before .before .before .before .before .before .before .before .before .before .before .before .before .before .before .before .before .before .before .before .before .before .before .before .before .before .before .before .before .before .before .before .before .before .before .before .before .before .before .before in
+    let done = c .before .before .before .before .before .before .before .before .before .before .before .before .before .before .before .carry-out2 .ensures in
+    let chosen = c .before .before .before .before .before .before .before .before .before .before .before .before .before .before .before .before .before .before .before .before .before .before .before .before .before .before .before .before .before .decide-removal .ensures in
+    (c .outcome-of .ensures ∙ chosen .answers, done ∙ ap (λ (l : File). stoppedFile true (s .args .geometry .parameters) (file s) l (s .args .limit)) (chosen .files))
 
 pub remove-held-spec : {M : Type 1} → statement M
 remove-held-spec =
@@ -168,6 +171,7 @@ remove-held-spec =
     decide-removal-requires
     slice-aggregate-carry-out-2
     carry-out-requires-2
+    outcome-of-requires
     same-length-8
     same-length-9
     same-length-10
