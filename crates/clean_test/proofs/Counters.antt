@@ -18,7 +18,7 @@ use Rattle.placement.specs.Rule.{Hash, keep, filter}
 use Rattle.placement.specs.Hash.{hashOf}
 use Rattle.placement.specs.Shape.{homesOf, homeUnder}
 use Rattle.reach.specs.Reach.{firstSuch}
-use Rattle.clean_test.specs.Raising.{passed, countsOn, starNumber, countedItem, countOn, passedOn, starsAmong, countFrom, mayRise, raisableFrom, hashUnder, firstRaisable, firstRising, one, Counts, Added, PassersCounted, Homed, HomedFrom, SignablePassed}
+use Rattle.clean_test.specs.Raising.{passed, countsOn, starNumber, countedItem, countOn, passedOn, starsAmong, ownOn, countFrom, mayRise, raisableFrom, hashUnder, firstRaisable, firstRising, one, Counts, Added, AddedBelow, PassersCounted, Homed, HomedFrom, SignablePassed}
 
 pub one-most : (t : Bool) → one t ≤ 1
 one-most true = omega arith
@@ -328,48 +328,55 @@ count-parts H vs p q (x ∷ l) =
     go true e ih = omega (arith, ih, item-parts (starNumber x) true (passed H vs p q x) (λ _. passed-high H vs x p q (omega (arith, eqb-true q p e))))
     go false e ih = omega (arith, ih, item-parts (starNumber x) false (passed H vs p q x) (λ f. absurd (false≢true f)))
 
-cond-most : (t : Bool) (n : ℕ) → cond t n 0 ≤ n
-cond-most true n = omega arith
-cond-most false n = omega arith
+count-both : (H : Hash) (vs ns : List ℕ) (p q : ℕ) → countOn H vs ns p q ≡ ownOn H ns p q + passedOn H vs ns p q
+unfolding countOn passedOn
+count-both H vs ns p q = count-parts H vs p q (part (H .room) q ns)
 
--- a page is counted: its stars on it, and those that passed others
-module _ (H : Hash) (vs ns : List ℕ) (from page : ℕ) (entry : List ℕ) (stars : ℕ) (e : stars ≡ starsAmong (part (H .room) page ns)) (inside : page < 1024) where
-  pub stars-counts : (n m : ℕ) → Counts from n entry → n + H .room ≤ m → Counts from m (set entry page (getD entry page 0 + stars))
-  unfolding part
-  stars-counts n m most h =
-      let a = added-some from entry page stars (most .0) inside in (
-        a .size,
-        λ p o k. omega (arith, a .each p o k, most .1 p o k, cond-most (eqb page p) stars, e, taken-most starNumber (drop (page * H .room) ns) (H .room)),
-      )
+pub passed-most : (H : Hash) (vs ns : List ℕ) (p q : ℕ) → passedOn H vs ns p q ≤ H .room
+unfolding passedOn part
+passed-most H vs ns p q = taken-most (λ (n : ℕ). starNumber n && passed H vs p q n) (drop (q * H .room) ns) (H .room)
 
-  pub page-counted : length entry ≡ 1024 → (after : List ℕ) → Added from (λ p. passedOn H vs ns p page) (set entry page (getD entry page 0 + stars)) after
-      → Added from (λ p. countOn H vs ns p page) entry after
-  unfolding countOn passedOn
-  page-counted size after a =
-      added-then from (λ p. cond (eqb page p) stars 0) (λ p. passedOn H vs ns p page) (λ p. countOn H vs ns p page) entry (set entry page (getD entry page 0 + stars)) after
-      (added-some from entry page stars size inside) a
-      (λ p. rw e (count-parts H vs p page (part (H .room) page ns)))
+-- a page's own stars are counted on it, or need not be
+module _ (H : Hash) (vs ns : List ℕ) (page : ℕ) (entry : List ℕ) (size : length entry ≡ 1024) where
+  pub own-counted : page < 1024 → (stars : ℕ) → stars ≡ starsAmong (part (H .room) page ns)
+      → AddedBelow H vs (λ p. ownOn H ns p page) entry (set entry page (getD entry page 0 + stars))
+  own-counted inside stars e =
+      let a : Added 0 (λ p. ownOn H ns p page) entry (set entry page (getD entry page 0 + stars)) = rw e (added-some 0 entry page (starsAmong (part (H .room) page ns)) size inside) in
+      record { size = a .size; most = λ p h. omega (arith, a .each p (omega arith) h); each = λ p h _. a .each p (omega arith) h }
+
+  pub own-left : H .top ≤ getD vs page 0 → AddedBelow H vs (λ p. ownOn H ns p page) entry entry
+  own-left high = record { size = size; most = λ p h. omega arith; each = λ p h low. go p low (eqb page p) refl }
+    where
+      go : (p : ℕ) → getD vs p 0 < H .top → (t : Bool) → eqb page p ≡ t → getD entry p 0 ≡ getD entry p 0 + cond t (starsAmong (part (H .room) page ns)) 0
+      go p low true q = absurd (omega (arith, low, high, ap (λ (k : ℕ). getD vs k 0) (eqb-true page p q)))
+      go p low false q = omega arith
 
 pub counted-none : (H : Hash) (vs ns : List ℕ) (from : ℕ) → PassersCounted H vs ns from from (replicate {A = ℕ} 1024 0)
 unfolding countFrom
-counted-none H vs ns from =
-    let none : from - from ≡ 0 = omega arith in
-    record { size = refl; each = λ p o h. getD-replicate {A = ℕ} 1024 p 0 0 h ∙ sym (ap (countFrom H vs ns from p) none) }
+counted-none H vs ns from = record { size = refl; most = λ p o h. omega (arith, start p h); each = λ p o h _. start p h }
+  where
+    start : (p : ℕ) → p < 1024 → getD (replicate {A = ℕ} 1024 0) p 0 ≡ countFrom H vs ns from p (from - from)
+    start p h =
+        let none : from - from ≡ 0 = omega arith in
+        getD-replicate {A = ℕ} 1024 p 0 0 h ∙ sym (ap (countFrom H vs ns from p) none)
 
 module _ (H : Hash) (vs ns : List ℕ) (from page : ℕ) (counts : List ℕ) (c : PassersCounted H vs ns from page counts) where
-  pub counted-next : from ≤ page → (after : List ℕ) → Added from (λ p. countOn H vs ns p page) counts after → PassersCounted H vs ns from (page + 1) after
+  -- one page more is counted
+  further : from ≤ page → (p : ℕ) → countFrom H vs ns from p (page + 1 - from) ≡ countFrom H vs ns from p (page - from) + countOn H vs ns p page
   unfolding countFrom
-  counted-next low after a =
+  further low p =
       let one-more : page + 1 - from ≡ suc (page - from) = omega arith in
       let here : from + (page - from) ≡ page = omega arith in
+      ap (countFrom H vs ns from p) one-more
+      ∙ ap (λ (q : ℕ). countFrom H vs ns from p (page - from) + countOn H vs ns p q) here
+
+  pub counted-next : from ≤ page → (between after : List ℕ) → Added from (λ p. passedOn H vs ns p page) counts between → AddedBelow H vs (λ p. ownOn H ns p page) between after
+      → PassersCounted H vs ns from (page + 1) after
+  counted-next low between after a b =
       record {
-        size = a .size;
-        each = λ p o k.
-            a .each p o k
-            ∙ ap (λ (n : ℕ). n + countOn H vs ns p page) (c .each p o k)
-            ∙ sym
-            (ap (countFrom H vs ns from p) one-more
-            ∙ ap (λ (q : ℕ). countFrom H vs ns from p (page - from) + countOn H vs ns p q) here);
+        size = b .size;
+        most = λ p o k. omega (arith, further low p, count-both H vs ns p page, c .most p o k, a .each p o k, b .most p k);
+        each = λ p o k v. omega (arith, further low p, count-both H vs ns p page, c .each p o k v, a .each p o k, b .each p k v);
       }
 
   pub counted-most : (stop m : ℕ) → page ≤ stop → stop * H .room ≤ m → Counts from m counts
@@ -377,7 +384,7 @@ module _ (H : Hash) (vs ns : List ℕ) (from page : ℕ) (counts : List ℕ) (c 
     c .size,
     λ p o k. omega (
       arith,
-      c .each p o k,
+      c .most p o k,
       count-most H vs ns from p (page - from),
       mul-le-mul-right {m = page - from} {n = stop} (H .room) (omega arith),
     ),
@@ -394,8 +401,13 @@ pub rising-raisable : (g : Geometry) (vs ns counts : List ℕ) (from stop : ℕ)
     → PassersCounted (hashUnder g) vs ns from stop counts → firstRising (g .parameters) vs counts from stop ≡ firstRaisable g vs ns from stop
 unfolding raisableFrom hashOf
 rising-raisable g vs ns counts from stop low few c =
-    such-alike _ (raisableFrom (hashUnder g) from (stop - from) vs ns) from (stop - from)
-    (λ q o h. ap (mayRise (topOf (g .parameters .bits)) (g .parameters .places) (getD vs q 0)) (c .each q o (omega arith)))
+    such-alike _ (raisableFrom (hashUnder g) from (stop - from) vs ns) from (stop - from) (λ q o h. go q o h (decLt (getD vs q 0) (topOf (g .parameters .bits))))
+  where
+    go : (q : ℕ) → from ≤ q → q < from + (stop - from) → Dec (getD vs q 0 < topOf (g .parameters .bits))
+        → mayRise (topOf (g .parameters .bits)) (g .parameters .places) (getD vs q 0) (getD counts q 0)
+        ≡ mayRise (topOf (g .parameters .bits)) (g .parameters .places) (getD vs q 0) (countFrom (hashUnder g) vs ns from q (stop - from))
+    go q o h (yes d) = ap (mayRise (topOf (g .parameters .bits)) (g .parameters .places) (getD vs q 0)) (c .each q o (omega arith) d)
+    go q o h (no d) = rw (le-ltb (getD vs q 0) (topOf (g .parameters .bits)) (omega arith))
 
 -- one item more is looked at
 pub below-next : (number home : ℕ → ℕ) (low first i below r : ℕ) → (below ≡ 0 → (j : ℕ) → first ≤ j → j < i → (number j ≡ 0 → ⊥) → low ≤ home j)

@@ -43,6 +43,10 @@ passedOn H vs ns p q = length (filter (λ (n : ℕ). starNumber n && passed H vs
 abbrev pub starsAmong : List ℕ → ℕ
 starsAmong l = length (filter starNumber l)
 
+-- how many of the numbers ns of page q stand on page p
+abbrev pub ownOn : Hash → List ℕ → ℕ → ℕ → ℕ
+ownOn H ns p q = cond (eqb q p) (starsAmong (part (H .room) q ns)) 0
+
 -- how many of the numbers of the n pages from `from` on
 unfoldable pub countFrom : Hash → List ℕ → List ℕ → ℕ → ℕ → ℕ → ℕ
 countFrom H vs ns from p zero = zero
@@ -87,10 +91,20 @@ pub record Added (from : ℕ) (more : ℕ → ℕ) (entry exit : List ℕ) : Typ
 abbrev pub AddsCounts : ℕ → (ℕ → ℕ) → Lent → Type 0
 AddsCounts from more counts = Added from more (now (counts .entry)) (now (counts .exit))
 
--- the counters from page `from` on tell how many of the numbers of the pages up to the one before `page` count there
+-- so where the separator is below top, elsewhere not more
+pub record AddedBelow (H : Hash) (vs : List ℕ) (more : ℕ → ℕ) (entry exit : List ℕ) : Type 0 where
+  pub size : length exit ≡ 1024
+  pub most : (p : ℕ) → p < 1024 → getD exit p 0 ≤ getD entry p 0 + more p
+  pub each : (p : ℕ) → p < 1024 → getD vs p 0 < H .top → getD exit p 0 ≡ getD entry p 0 + more p
+
+abbrev pub AddsBelow : Hash → List ℕ → (ℕ → ℕ) → Lent → Type 0
+AddsBelow H vs more counts = AddedBelow H vs more (now (counts .entry)) (now (counts .exit))
+
+-- the counters from page `from` on tell how many of the numbers of the pages up to the one before `page` count there, if the separator is below top
 pub record PassersCounted (H : Hash) (vs ns : List ℕ) (from page : ℕ) (counts : List ℕ) : Type 0 where
   pub size : length counts ≡ 1024
-  pub each : (p : ℕ) → from ≤ p → p < 1024 → getD counts p 0 ≡ countFrom H vs ns from p (page - from)
+  pub most : (p : ℕ) → from ≤ p → p < 1024 → getD counts p 0 ≤ countFrom H vs ns from p (page - from)
+  pub each : (p : ℕ) → from ≤ p → p < 1024 → getD vs p 0 < H .top → getD counts p 0 ≡ countFrom H vs ns from p (page - from)
 
 -- the separators and numbers of a file, and the homes of the items of the pages from `from` up to the one before `stop`
 pub record Homed (g : Geometry) (vs ns hs : List ℕ) (from stop : ℕ) : Type 0 where

@@ -2,11 +2,11 @@
 ghost use mathlib.Core.Path.{_≡_};
 ghost use mathlib.Core.Bool.{true, false};
 ghost use Prim.Native.Nat.{suc, _+_, _-_, _*_, _≤_, _<_};
-ghost use lib.ListN.{length, take, drop};
+ghost use lib.ListN.{length, getD, take, drop};
 ghost use Rattle.hashing.specs.Limits.{validParameters};
 ghost use Rattle.placement.specs.Shape.{homeUnder};
 ghost use Rattle.placement.specs.Ready.{Signers};
-ghost use Rattle.clean_test.specs.Raising.{passed, passedOn, countOn, mayRise, one, starNumber, starsAmong, Counts, PassersCounted, AddsCounts, Homed, HomedFrom, SignablePassed, hashUnder, firstRaisable, firstRising};
+ghost use Rattle.clean_test.specs.Raising.{passed, passedOn, ownOn, mayRise, one, starNumber, starsAmong, Counts, PassersCounted, AddsCounts, AddsBelow, Homed, HomedFrom, SignablePassed, hashUnder, firstRaisable, firstRising};
 use hashing::Geometry;
 use hashing::Parameters;
 
@@ -160,9 +160,31 @@ fn signs_page(entries: usize, numbers: &[u32], homes: &[u32], places: usize, pag
     count_below(numbers, homes, first, first + places, low) == 0
 }
 
-// Counts the stars of a page: on it, and on those from `from` on that they passed. A star at home passed none. If the table does not sign
+// Counts the stars of a page on it, where its separator is below the greatest: only there a count matters.
+fn count_own(
+    geometry: Geometry,
+    separators: &[u8],
+    numbers: &[u32],
+    counts: &mut [u32; 1024],
+    page: usize,
+)
+    requires { ⌜ validParameters (geometry .parameters) ≡ true ⌝ }
+    requires { ⌜ (page < geometry .parameters .pages) × (length (now separators) ≡ geometry .parameters .pages) ⌝ }
+    requires { ⌜ length (now numbers) ≡ geometry .parameters .pages * geometry .parameters .places ⌝ }
+    requires { ⌜ (length (now counts) ≡ 1024) × (getD (now counts) page 0 ≤ 32800) ⌝ }
+    ensures { λ _. ⌜ AddsBelow (hashUnder geometry) (now (separators .entry)) (λ p. ownOn (hashUnder geometry) (now (numbers .entry)) p page) counts ⌝ }
+{
+    if placement::top_of(geometry.parameters) <= separators[page] {
+        return;
+    }
+    let places = geometry.parameters.places as usize;
+    let stars = count_stars(numbers, page * places, places);
+    counts[page] += stars;
+}
+
+// Counts the stars of a page on those from `from` on that they passed. A star at home passed none. If the table does not sign
 // them all, none is counted.
-fn count_page(
+fn count_passers(
     table: &[u32],
     geometry: Geometry,
     separators: &[u8],
@@ -175,22 +197,18 @@ fn count_page(
     requires { ⌜ Signers (geometry .parameters) (now table) ⌝ }
     requires { ⌜ Homed geometry (now separators) (now numbers) (now homes) page (suc page) ⌝ }
     requires { ⌜ Counts from 32768 (now counts) ⌝ }
-    requires { ⌜ from ≤ page ⌝ }
-    ensures { λ r. ⌜ (r ≡ true → AddsCounts from (λ p. countOn (hashUnder geometry) (now (separators .entry)) (now (numbers .entry)) p page) counts) ⌝ }
+    ensures { λ r. ⌜ (r ≡ true → AddsCounts from (λ p. passedOn (hashUnder geometry) (now (separators .entry)) (now (numbers .entry)) p page) counts) ⌝ }
     ensures { λ r. ⌜ (r ≡ false → now (counts .exit) ≡ now (counts .entry)) ⌝ }
     ensures { λ r. ⌜ (2 * page < length (now (table .entry)) → r ≡ true) ⌝ }
 {
     let places = geometry.parameters.places as usize;
     let first = page * places;
-    let stars = count_stars(numbers, first, places);
     if count_below(numbers, homes, first, first + places, page as u32) == 0 {
-        counts[page] += stars;
         return true;
     }
     if !signs_page(table.len(), numbers, homes, places, page) {
         return false;
     }
-    counts[page] += stars;
     count_off_home(
         table,
         geometry,
@@ -226,7 +244,7 @@ fn count_pages(
 {
     let mut page = start;
     while page < stop {
-        if !count_page(
+        if !count_passers(
             table,
             geometry,
             separators,
@@ -238,6 +256,7 @@ fn count_pages(
         ) {
             return page;
         }
+        count_own(geometry, separators, numbers, counts, page);
         page += 1;
     }
     page

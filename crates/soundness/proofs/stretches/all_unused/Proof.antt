@@ -1,11 +1,10 @@
 -- `soundness::stretches::all_unused` meets its contract. The invariant: the items before the i-th are unused.
 use mathlib.Core.Path.{sym, _∙_}
 use mathlib.Core.Bool.{false≢true}
-use Prim.Native.Nat.{_-_, _<_}
+use Prim.Native.Nat.{_-_}
 use native.Mathlib.Omega.{arith}
 use borrow.Author.Needs.{needs}
 use borrow.Author.Tests.{not-false}
-use lib.ListN.{length}
 use Rattle.soundness.specs.Stretch.{Unused}
 use Rattle.soundness.proofs.AtHome.{unused-next}
 use Rattle.soundness.proofs.stretches.all_unused.Statement.{statement}

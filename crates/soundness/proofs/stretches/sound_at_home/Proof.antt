@@ -1,5 +1,5 @@
 -- `soundness::stretches::sound_at_home` meets its contract. The invariant: the first i items are stars at home and in order.
-use mathlib.Core.Path.{_≡_, refl, sym, _∙_}
+use mathlib.Core.Path.{refl, sym, _∙_}
 use mathlib.Core.Bool.{false≢true}
 use Prim.Native.Nat.{_+_, _-_, _≤_, _<_}
 use native.Mathlib.Omega.{arith}
