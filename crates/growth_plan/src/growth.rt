@@ -1,10 +1,14 @@
 // Growth by one page and its undoing: all stars placed anew under the next growth state, or `back` under the one before.
 ghost use mathlib.Core.Path.{_≡_};
+ghost use mathlib.Core.Bool.{true, false};
+ghost use Rattle.hashing.specs.Limits.{validParameters, validGrowth};
 ghost use Rattle.placement.specs.Shape.{homesOf};
 ghost use Rattle.placement.specs.Lent.{held, before, after};
 ghost use Rattle.placement.specs.Ready.{Ready, Pooled};
 ghost use Rattle.reach.specs.Reach.{firstUnsound};
+ghost use Rattle.clean_test.specs.Raising.{Homed};
 ghost use Rattle.growth_plan.specs.Growth.{stateAfter, Movable, GrowsInPlace, growthAnswer, growthFile};
+ghost use Rattle.growth_plan.specs.Shrinking.{Simple, MovesOwn};
 use crate::planning::plan_all;
 use hashing::Geometry;
 use page_plan::Outcome;
@@ -100,6 +104,237 @@ fn grow_in_place(
     true
 }
 
+// A growth: in place, or all pages planned anew.
+fn grow(
+    table: &[u32; 90],
+    geometry: Geometry,
+    separators: &mut [u8],
+    numbers: &mut [u32],
+    words: &mut [u64],
+    owners: &mut [u8],
+    pool: &mut [u32],
+    waiting: &mut [u64],
+    poolowners: &mut [u8],
+    page: usize,
+) -> Outcome
+    requires { ⌜ Ready geometry (now table) (held separators numbers words owners) ⌝ }
+    requires { ⌜ Pooled (geometry .parameters) (now pool) (now waiting) (now poolowners) ⌝ }
+    requires { ⌜ Movable false (geometry .parameters) (geometry .growth) ⌝ }
+    ensures { λ r. ⌜ r ≡ growthAnswer (geometry .parameters) (geometry .growth) (before separators numbers words owners) (stateAfter false (geometry .parameters) (geometry .growth)) page ⌝ }
+    ensures { λ r. ⌜ after separators numbers words owners ≡ growthFile (geometry .parameters) (geometry .growth)
+        (before separators numbers words owners) (stateAfter false (geometry .parameters) (geometry .growth)) ⌝ }
+{
+    let pages = geometry.parameters.pages as usize;
+    let bad = reach::survey_pages(
+        table,
+        geometry,
+        separators,
+        numbers,
+        words,
+        owners,
+        pool,
+        0,
+        pages,
+        pages,
+    );
+    if bad < pages {
+        return Outcome::Unsound(bad);
+    }
+    if grow_in_place(
+        table,
+        geometry,
+        false,
+        separators,
+        numbers,
+        words,
+        owners,
+        pool,
+        waiting,
+        poolowners,
+    ) {
+        return Outcome::On(page);
+    }
+    replace_all(
+        table,
+        geometry,
+        false,
+        separators,
+        numbers,
+        words,
+        owners,
+        pool,
+        waiting,
+        poolowners,
+        page,
+    )
+}
+
+// Whether the page that a shrinking gives back has not overflowed, and all pages are the rule's; `homes` are those of the items.
+fn is_simple(geometry: Geometry, separators: &[u8], numbers: &[u32], homes: &[u32]) -> bool
+    requires { ⌜ validParameters (geometry .parameters) ≡ true ⌝ }
+    requires { ⌜ validGrowth (geometry .parameters) (geometry .growth) ≡ true ⌝ }
+    requires { ⌜ Homed geometry (now separators) (now numbers) (now homes) 0 (geometry .parameters .pages) ⌝ }
+    ensures { λ r. ⌜ (r ≡ true → Simple geometry (now (separators .entry)) (now (numbers .entry))) ⌝ }
+{
+    let pages = geometry.parameters.pages as usize;
+    let page = geometry.highest_address() as usize;
+    if separators[page] != placement::top_of(geometry.parameters) {
+        return false;
+    }
+    clean_test::first_raisable(geometry, separators, numbers, homes, 0, pages) == pages
+}
+
+// A shrinking of such pages: only the own stars of the page given back get another home. They are taken from it, which leaves all others where they
+// are, and entered one by one under the growth state before. If not all fit, the pages grow again, and the stars left are entered again.
+fn move_own(
+    table: &[u32; 90],
+    geometry: Geometry,
+    separators: &mut [u8],
+    numbers: &mut [u32],
+    words: &mut [u64],
+    owners: &mut [u8],
+    pool: &mut [u32],
+    waiting: &mut [u64],
+    poolowners: &mut [u8],
+) -> bool
+    requires { ⌜ Ready geometry (now table) (held separators numbers words owners) ⌝ }
+    requires { ⌜ Pooled (geometry .parameters) (now pool) (now waiting) (now poolowners) ⌝ }
+    requires { ⌜ Movable true (geometry .parameters) (geometry .growth) ⌝ }
+    requires { ⌜ firstUnsound (geometry .parameters) (geometry .growth) (held separators numbers words owners) 0 (geometry .parameters .pages) ≡ geometry .parameters .pages ⌝ }
+    requires { ⌜ now pool ≡ homesOf (geometry .parameters) (geometry .growth) (now numbers) ⌝ }
+    requires { ⌜ Simple geometry (now separators) (now numbers) ⌝ }
+    ensures { λ r. ⌜ MovesOwn (geometry .parameters) (geometry .growth) (before separators numbers words owners) (after separators numbers words owners) r ⌝ }
+{
+    let parameters = geometry.parameters;
+    let places = parameters.places as usize;
+    let page = geometry.highest_address() as usize;
+    let own = own_stars::find_own(numbers, words, owners, pool, places, page);
+    own_stars::take_own(
+        table,
+        geometry,
+        separators,
+        numbers,
+        words,
+        owners,
+        pool,
+        waiting,
+        poolowners,
+        own,
+        page,
+    );
+    let growth = hashing::shrunk(geometry);
+    let earlier = Geometry { parameters, growth };
+    let entered = own_stars::enter_own(
+        table,
+        earlier,
+        separators,
+        numbers,
+        words,
+        owners,
+        pool,
+        waiting,
+        poolowners,
+        own,
+        0,
+    );
+    if entered == places {
+        return true;
+    }
+    grow(
+        table,
+        earlier,
+        separators,
+        numbers,
+        words,
+        owners,
+        pool,
+        waiting,
+        poolowners,
+        page,
+    );
+    own_stars::enter_own(
+        table,
+        geometry,
+        separators,
+        numbers,
+        words,
+        owners,
+        pool,
+        waiting,
+        poolowners,
+        own,
+        entered,
+    );
+    false
+}
+
+// A shrinking: own stars moved, or all pages planned anew.
+fn shrink(
+    table: &[u32; 90],
+    geometry: Geometry,
+    separators: &mut [u8],
+    numbers: &mut [u32],
+    words: &mut [u64],
+    owners: &mut [u8],
+    pool: &mut [u32],
+    waiting: &mut [u64],
+    poolowners: &mut [u8],
+    page: usize,
+) -> Outcome
+    requires { ⌜ Ready geometry (now table) (held separators numbers words owners) ⌝ }
+    requires { ⌜ Pooled (geometry .parameters) (now pool) (now waiting) (now poolowners) ⌝ }
+    requires { ⌜ Movable true (geometry .parameters) (geometry .growth) ⌝ }
+    ensures { λ r. ⌜ r ≡ growthAnswer (geometry .parameters) (geometry .growth) (before separators numbers words owners) (stateAfter true (geometry .parameters) (geometry .growth)) page ⌝ }
+    ensures { λ r. ⌜ after separators numbers words owners ≡ growthFile (geometry .parameters) (geometry .growth)
+        (before separators numbers words owners) (stateAfter true (geometry .parameters) (geometry .growth)) ⌝ }
+{
+    let pages = geometry.parameters.pages as usize;
+    let bad = reach::survey_pages(
+        table,
+        geometry,
+        separators,
+        numbers,
+        words,
+        owners,
+        pool,
+        0,
+        pages,
+        pages,
+    );
+    if bad < pages {
+        return Outcome::Unsound(bad);
+    }
+    if !is_simple(geometry, separators, numbers, pool) {
+        return replace_all(
+            table,
+            geometry,
+            true,
+            separators,
+            numbers,
+            words,
+            owners,
+            pool,
+            waiting,
+            poolowners,
+            page,
+        );
+    }
+    if move_own(
+        table,
+        geometry,
+        separators,
+        numbers,
+        words,
+        owners,
+        pool,
+        waiting,
+        poolowners,
+    ) {
+        return Outcome::On(page);
+    }
+    Outcome::Overflows
+}
+
 // The stars of all pages, placed anew under that growth state. The answer is the page given, which comes or goes.
 pub fn regrow(
     table: &[u32; 90],
@@ -121,40 +356,23 @@ pub fn regrow(
     ensures { λ r. ⌜ after separators numbers words owners ≡ growthFile (geometry .parameters) (geometry .growth)
         (before separators numbers words owners) (stateAfter back (geometry .parameters) (geometry .growth)) ⌝ }
 {
-    let pages = geometry.parameters.pages as usize;
-    let bad = reach::survey_pages(
-        table,
-        geometry,
-        separators,
-        numbers,
-        words,
-        owners,
-        pool,
-        0,
-        pages,
-        pages,
-    );
-    if bad < pages {
-        return Outcome::Unsound(bad);
+    if back {
+        return shrink(
+            table,
+            geometry,
+            separators,
+            numbers,
+            words,
+            owners,
+            pool,
+            waiting,
+            poolowners,
+            page,
+        );
     }
-    if grow_in_place(
+    grow(
         table,
         geometry,
-        back,
-        separators,
-        numbers,
-        words,
-        owners,
-        pool,
-        waiting,
-        poolowners,
-    ) {
-        return Outcome::On(page);
-    }
-    replace_all(
-        table,
-        geometry,
-        back,
         separators,
         numbers,
         words,

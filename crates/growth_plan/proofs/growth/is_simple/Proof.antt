@@ -1,0 +1,57 @@
+-- `growth_plan::growth::is_simple` meets its contract.
+use mathlib.Core.Path.{_≡_, sym, ap, _∙_}
+use mathlib.Core.Bool.{false≢true}
+use mathlib.Core.List.{List}
+use Prim.Native.Nat.{ℕ}
+use native.Mathlib.Omega.{arith}
+use lib.ListN.{getD}
+use borrow.Author.Needs.{needs}
+use borrow.Author.Tests.{eqb-true}
+use denote.Ref.{now}
+use Rattle.growth_plan.proofs.GivenBack.{highest-inside}
+use Rattle.growth_plan.proofs.growth.is_simple.Statement.{statement}
+use Rattle.growth_plan.proofs.growth.is_simple.Tie as tie
+
+cast-pages : tie.Need-cast-pages
+cast-pages c = search needs
+
+highest-address-requires : tie.Need-highest-address-requires
+highest-address-requires c κs = search needs
+
+cast-page : tie.Need-cast-page
+cast-page c = search needs
+
+shared-slice-read-if1 : tie.Need-shared-slice-read-if1
+shared-slice-read-if1 c =
+    let s = c .before .before .before .before .before .before in
+    omega (arith, c .before .highest-address .ensures, highest-inside _ _ (s .pre .0) (s .pre .1 .0), s .pre .1 .1 .separators)
+
+top-of-requires : tie.Need-top-of-requires
+top-of-requires c κs = search needs
+
+returns : tie.Need-returns
+returns c e = absurd (false≢true e)
+
+first-raisable-requires : tie.Need-first-raisable-requires
+first-raisable-requires c κs = search needs
+
+returns-2 : tie.Need-returns-2
+returns-2 c e =
+    let s = c .before .before .before .before .before .before .before .before .before in
+    record {
+      top = ap (λ (q : ℕ). getD (now (s .args .separators)) q 0) (sym (c .before .before .before .before .highest-address .ensures)) ∙ c .before .if1 .left ∙ c .before .before .top-of .ensures;
+      clean = sym (c .first-raisable .ensures) ∙ eqb-true _ _ e;
+    }
+
+pub is-simple-spec : {M : Type 1} → statement M
+is-simple-spec =
+    tie.close
+    (tie.spec
+    cast-pages
+    highest-address-requires
+    cast-page
+    shared-slice-read-if1
+    top-of-requires
+    returns
+    first-raisable-requires
+    returns-2)

@@ -1,0 +1,4 @@
+pub mod Among
+pub mod Naming
+pub mod Laying
+pub mod Placing
