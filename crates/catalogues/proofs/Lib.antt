@@ -3,3 +3,4 @@ pub mod Entering
 pub mod Rising
 pub mod Ending
 pub mod Listed
+pub mod Program

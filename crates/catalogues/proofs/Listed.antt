@@ -15,10 +15,7 @@ use mir.Val.{toZ, ofZ}
 use mir.ValLaws.{toZ-ofZ}
 use lib.ListN.{length, getD, take, drop, length-append}
 use lib.Seq.{take-all, take-append-le, take-append-add, take-take, length-take-le, paste, take-paste}
-use Rattle.lines.specs.Programs.{opened, writtenOut}
 use Rattle.lines.specs.Replies.{TextAt}
-use Rattle.lines.specs.Shape.{joined}
-use Rattle.lines.proofs.Programs.{as-one}
 use Rattle.lines.proofs.Writing.{then}
 use Rattle.fits_table.specs.Header.{tableIn}
 use Rattle.fits_table.specs.Rows.{from32, positionAt, rowAt, goodRows, rowsRead}
@@ -31,9 +28,8 @@ use Rattle.fits_table.proofs.Reading.{told}
 use Rattle.pages.specs.Page.{empties}
 use Rattle.pages.specs.Position.{validWord, packed, unpacked}
 use Rattle.pages.proofs.Words.{valid-word, lowers}
-use Rattle.catalogues.specs.Listing.{rowLine, rowLines, refusalLine, listedBy, listed, keptTable, keptBlocks, isTable, converted, programOut, least, atFirst, partBy, partOf, inParts}
+use Rattle.catalogues.specs.Listing.{rowLine, rowLines, refusalLine, listedBy, listed, keptTable, isTable, least, atFirst, partBy, partOf, inParts}
 use Rattle.catalogues.specs.Shape.{lineAt}
-use Rattle.catalogues.specs.Runs.{cataloguing, fromLines}
 
 lines-next : (l : List ℕ) (at i : ℕ) → rowLines (rowsRead l at (suc i)) ≡ rowLines (rowsRead l at i) ++ lineAt l (at + 12 * i)
 unfolding rowLines rowsRead
@@ -109,7 +105,7 @@ rows-parts l n h =
     ∙ part-rows l n 24576
     ∙ ap (λ (k : ℕ). rowLines (rowsRead l 5760 k)) (least-ge 32768 n h)
 
-parts-listed : (l : List ℕ) → inParts l ≡ listed l
+pub parts-listed : (l : List ℕ) → inParts (λ (i : ℕ). partOf i l) ≡ listed l
 unfolding inParts partOf partBy listed listedBy atFirst
 parts-listed l = go (tableIn l) refl
   where
@@ -217,8 +213,8 @@ module _ (part : ℕ) (l : List ℕ) {t : Table} (e : t ≡ tableIn l) where
     unfolding partOf partBy
     part-listed g z first count f c = rw (c, f, sym e ∙ h, g, z)
 
--- Blocks of a table are kept as one input.
-kept-then : (a b : List ℕ) → keptTable (keptTable a ++ b) ≡ keptTable (a ++ b)
+-- what is kept after what was kept
+pub kept-then : (a b : List ℕ) → keptTable (keptTable a ++ b) ≡ keptTable (a ++ b)
 unfolding keptTable
 kept-then a b = go (decLt 400321 (length a))
   where
@@ -227,28 +223,3 @@ kept-then a b = go (decLt 400321 (length a))
         take-append-le 400321 (take 400321 a) b (omega (arith, length-take-le 400321 a (omega arith)))
         ∙ take-take 400321 400321 a (omega arith) ∙ sym (take-append-le 400321 a b (omega arith))
     go (no p) = ap (λ (k : List ℕ). take 400321 (k ++ b)) (take-all 400321 a (omega arith))
-
-kept-blocks : (bs : List (List ℕ)) (a : List ℕ) → keptBlocks (keptTable a) bs ≡ keptTable (a ++ joined bs)
-unfolding keptBlocks joined
-kept-blocks [] a = ap keptTable (sym (append-nil a))
-kept-blocks (b ∷ bs) a =
-    ap (λ (k : List ℕ). keptBlocks k bs) (kept-then a b) ∙ kept-blocks bs (a ++ b) ∙ ap keptTable (append-assoc a b (joined bs))
-
-blocks-listed : (bs : List (List ℕ)) → listed (keptBlocks [] bs) ≡ listed (joined bs)
-unfolding keptTable
-blocks-listed bs = ap listed (kept-blocks bs []) ∙ kept-listed (joined bs)
-
-same-kind : (b more : List ℕ) → (b ≡ [] → more ≡ []) → isTable (b ++ more) ≡ isTable b
-unfolding isTable
-same-kind [] more h = ap isTable (h refl)
-same-kind (c ∷ b) more h = refl
-
--- The program's output for every input, in whatever blocks it comes: the first one, which is empty only where the input is, tells its kind.
-pub every-input : (b : List ℕ) (bs : List (List ℕ)) → (b ≡ [] → joined bs ≡ []) → programOut (b ∷ bs) ≡ converted (joined (b ∷ bs))
-unfolding programOut converted joined opened cataloguing
-every-input b bs none = rw (same-kind b (joined bs) none) (go (isTable b))
-  where
-    go : (t : Bool) → cond t (inParts (keptBlocks [] (b ∷ bs))) (writtenOut cataloguing (opened cataloguing) (b ∷ bs))
-        ≡ cond t (listed (b ++ joined bs)) (fromLines (b ++ joined bs))
-    go true = parts-listed (keptBlocks [] (b ∷ bs)) ∙ blocks-listed (b ∷ bs)
-    go false = as-one cataloguing (b ∷ bs) (opened cataloguing)

@@ -1,4 +1,5 @@
 pub mod Entries
 pub mod Runs
 pub mod Listing
+pub mod Program
 pub mod Shape

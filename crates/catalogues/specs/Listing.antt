@@ -5,7 +5,6 @@ use mathlib.Core.List.{List, [], _∷_, _++_}
 use Prim.Native.Nat.{ℕ, _+_, _-_, _*_}
 use lib.Dec.{eqb, ltb}
 use lib.ListN.{take, drop}
-use Rattle.lines.specs.Programs.{opened, writtenOut}
 use Rattle.lines.specs.Replies.{fieldBytes, signedDigits}
 use Rattle.pages.specs.Page.{empties}
 use Rattle.pages.specs.Position.{unpacked}
@@ -13,7 +12,7 @@ use Rattle.fits_table.specs.Header.{tableIn}
 use Rattle.fits_table.specs.Rows.{goodRows, rowsRead}
 use Rattle.fits_table.specs.declared.cards.Table.{Table}
 use Rattle.fits_table.specs.declared.cards.Table.the-variants.{Rows, Nothing}
-use Rattle.catalogues.specs.Runs.{cataloguing, fromLines}
+use Rattle.catalogues.specs.Runs.{fromLines}
 
 -- a table begins with `S` (of SIMPLE), and no line that is taken does
 unfoldable pub isTable : List ℕ → Bool
@@ -59,6 +58,9 @@ partBy part given (Rows n) =
 unfoldable pub partOf : ℕ → List ℕ → List ℕ
 partOf part given = partBy part given (tableIn given)
 
+unfoldable pub inParts : (ℕ → List ℕ) → List ℕ
+inParts part = part 0 ++ (part 1 ++ (part 2 ++ part 3))
+
 -- the longest table has 400,320 bytes: one byte more tells that the input is none
 unfoldable pub keptTable : List ℕ → List ℕ
 keptTable l = take 400321 l
@@ -66,16 +68,3 @@ keptTable l = take 400321 l
 -- all that the program puts out for its input
 unfoldable pub converted : List ℕ → List ℕ
 converted input = cond (isTable input) (listed input) (fromLines input)
-
--- what is kept of a table that comes in blocks, after what was kept before
-unfoldable pub keptBlocks : List ℕ → List (List ℕ) → List ℕ
-keptBlocks k [] = k
-keptBlocks k (b ∷ bs) = keptBlocks (keptTable (k ++ b)) bs
-
-unfoldable pub inParts : List ℕ → List ℕ
-inParts given = partOf 0 given ++ (partOf 1 given ++ (partOf 2 given ++ partOf 3 given))
-
--- what the program's calls put out for input in blocks, of which the first tells its kind
-unfoldable pub programOut : List (List ℕ) → List ℕ
-programOut [] = []
-programOut (b ∷ bs) = cond (isTable b) (inParts (keptBlocks [] (b ∷ bs))) (writtenOut cataloguing (opened cataloguing) (b ∷ bs))

@@ -10,3 +10,4 @@ pub mod Lengths
 pub mod Kept
 pub mod Texts
 pub mod Programs
+pub mod Turns

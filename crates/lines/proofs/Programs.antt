@@ -10,7 +10,8 @@ use borrow.Author.Tests.{ne-eqb}
 use Rattle.lines.specs.Grammar.{commandOf, noBytes, kept, linesFrom}
 use Rattle.lines.specs.Programs.{Program, putOut, Run, steppedBy, textBy, runs, textFor, lastOf, writtenOut, Stands}
 use Rattle.lines.specs.Replies.{TextAt}
-use Rattle.lines.specs.Shape.{joined, lackedBy}
+use Rattle.lines.specs.Shape.{lackedBy}
+use Rattle.lines.specs.Turns.{joined}
 use Rattle.lines.proofs.Kept.{kept-twice, commands-kept}
 use Rattle.lines.proofs.Writing.{nothing-put, then}
 

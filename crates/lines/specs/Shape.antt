@@ -1,7 +1,7 @@
 -- What the code is said by and no promise to a caller cites.
 use Prim.Native.Nat.{ℕ, zero, suc}
 use mathlib.Core.Bool.{cond}
-use mathlib.Core.List.{List, [], _∷_, _++_}
+use mathlib.Core.List.{List, [], _∷_}
 use lib.Dec.{eqb}
 use Rattle.lines.specs.Grammar.{noBytes}
 
@@ -9,11 +9,6 @@ use Rattle.lines.specs.Grammar.{noBytes}
 unfoldable pub fieldLength : List ℕ → ℕ
 fieldLength [] = zero
 fieldLength (c ∷ l) = cond (eqb c 32) zero (suc (fieldLength l))
-
--- blocks of input as one
-unfoldable pub joined : List (List ℕ) → List ℕ
-joined [] = []
-joined (b ∷ bs) = b ++ joined bs
 
 -- the newline (byte 10) that the last line of an input lacks
 unfoldable pub lackedBy : List ℕ → List ℕ
