@@ -86,7 +86,7 @@ returns c t laid star named member =
     let s = start f in
     let e = s .pre .1 .1 in
     taken-one _ _ (file s) t (s .pre .0 .homing .valid) (s .pre .0 .homing .growth) laid (s .args .page) (s .args .number) (e .inside) (e .homed) (e .top) star named member _ _ (now (s .args .pool)) (now (s .args .separators)) (there f)
-    (c .before .before .before .before .before .before .before .before .before .before .before .before .before .before .carry-out .ensures .1)
+    (c .before .before .before .before .before .before .before .before .before .before .before .before .before .before .carry-out .ensures)
 
 pub take-one-spec : {M : Type 1} → statement M
 take-one-spec =
