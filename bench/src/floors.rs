@@ -72,3 +72,31 @@ fn reduce(product: u64) -> u64 {
         sum
     }
 }
+
+/// Items in rising order of number, as keys of a number and its item: a radix sort with scratch memory of its own.
+#[derive(Default)]
+pub struct Order {
+    keys: Vec<u64>,
+    scratch: Vec<u64>,
+}
+
+impl Order {
+    pub fn of(&mut self, numbers: &[u32]) -> &[u64] {
+        let held = numbers.iter().zip(0_u64..).filter(|(&number, _)| number != 0);
+        self.keys.clear();
+        self.keys.extend(held.map(|(&number, item)| u64::from(number) << 16 | item));
+        self.scratch.resize(self.keys.len(), 0);
+        for shift in [16, 24, 32, 40] {
+            let digit = |key: u64| (key >> shift & 255) as usize;
+            let mut places = [0; 257];
+            self.keys.iter().for_each(|&key| places[digit(key) + 1] += 1);
+            (0..256).for_each(|i| places[i + 1] += places[i]);
+            for &key in &self.keys {
+                self.scratch[places[digit(key)]] = key;
+                places[digit(key)] += 1;
+            }
+            std::mem::swap(&mut self.keys, &mut self.scratch);
+        }
+        &self.keys
+    }
+}

@@ -2,7 +2,7 @@
 //! beside them, run in turn with today's: times [--old LIBRARY] FIGURES
 
 use bench::files::{self, File, GROWING, OTHERS, SIZES};
-use bench::floors::Homes;
+use bench::floors::{Homes, Order};
 use bench::timing::{alone, heading, in_turn, many, nanoseconds, restored, warm_up, Row, Runs, Table, FEW_RUNS, RUNS};
 use bench::{libraries_with, load, today, Answer, Library};
 use model::hashing::MULTIPLIERS;
@@ -43,8 +43,8 @@ impl Report {
     }
 }
 
-/// Clearing the pool, every star's home, and the homes of one page of stars.
-fn floors(file: &File) -> [Runs; 3] {
+/// Clearing the pool, every star's home, the homes of one page of stars, and the stars in order of number.
+fn floors(file: &File) -> [Runs; 4] {
     let mut pool = (file.numbers.clone(), file.words.clone(), file.owners.clone());
     let clearing = alone(500, |_| {
         black_box(&mut pool.0).fill(0);
@@ -57,7 +57,9 @@ fn floors(file: &File) -> [Runs; 3] {
     let page = file.places();
     let every = alone(10, |_| _ = sum(black_box(&stars)));
     let one = alone(1_000, |i| _ = sum(black_box(&stars[i % (stars.len() / page) * page..][..page])));
-    [clearing, every, one]
+    let mut order = Order::default();
+    let sorted = alone(10, |_| _ = black_box(order.of(black_box(&file.numbers))));
+    [clearing, every, one, sorted]
 }
 
 /// The answers of one call on copies of the file; all libraries must give the same, and leave the same file.
@@ -268,7 +270,7 @@ fn entered(libraries: &Libraries, stars: &[u32], count: usize) -> Vec<u32> {
 fn calls(report: &mut Report, random: &mut Random, empty: File, shown: bool) -> Vec<Row> {
     let file = files::filled(random, empty);
     let mut libraries = libraries_with(&file, &[]);
-    let [clearing, every, one] = floors(&file);
+    let [clearing, every, one, sorted] = floors(&file);
     let mut table = report.table(&file, &clearing, shown);
     let mut held = file.stars();
     let load = 100 * held.len() / (file.addressed() * file.places());
@@ -291,6 +293,7 @@ fn calls(report: &mut Report, random: &mut Random, empty: File, shown: bool) -> 
     table.row("floor: pool cleared", &clearing);
     table.row("floor: every star's home", &every);
     table.row("floor: homes of one page's stars", &one);
+    table.row("floor: stars in order of number", &sorted);
     let look_up = |list: &[u32], libraries: &mut Libraries| {
         many(libraries, list.len(), |library, i| _ = black_box(library.look_up(list[i])))
     };
