@@ -293,7 +293,7 @@ fn calls(report: &mut Report, random: &mut Random, empty: File, shown: bool) -> 
     table.row("floor: pool cleared", &clearing);
     table.row("floor: every star's home", &every);
     table.row("floor: homes of one page's stars", &one);
-    table.row("floor: stars in order of number", &sorted);
+    table.row("by plain code: stars in order of number", &sorted);
     let look_up = |list: &[u32], libraries: &mut Libraries| {
         many(libraries, list.len(), |library, i| _ = black_box(library.look_up(list[i])))
     };

@@ -197,6 +197,7 @@ fn count_passers(
     requires { ⌜ Signers (geometry .parameters) (now table) ⌝ }
     requires { ⌜ Homed geometry (now separators) (now numbers) (now homes) page (suc page) ⌝ }
     requires { ⌜ Counts from 32768 (now counts) ⌝ }
+    requires { ⌜ from ≤ page ⌝ }
     ensures { λ r. ⌜ (r ≡ true → AddsCounts from (λ p. passedOn (hashUnder geometry) (now (separators .entry)) (now (numbers .entry)) p page) counts) ⌝ }
     ensures { λ r. ⌜ (r ≡ false → now (counts .exit) ≡ now (counts .entry)) ⌝ }
     ensures { λ r. ⌜ (2 * page < length (now (table .entry)) → r ≡ true) ⌝ }

@@ -44,7 +44,7 @@ count-passers-requires : tie.Need-count-passers-requires Inv-loop μ-loop
 count-passers-requires c κs =
     let l = c .before in
     let s = start-of l in
-    (s .pre .0, (homed-page _ _ _ _ _ _ _ (s .pre .1 .0) (low l) (l .loop-test .taken), few l))
+    (s .pre .0, (homed-page _ _ _ _ _ _ _ (s .pre .1 .0) (low l) (l .loop-test .taken), (few l, low l)))
 
 returns : tie.Need-returns Inv-loop μ-loop
 returns c =

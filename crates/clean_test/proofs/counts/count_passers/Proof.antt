@@ -61,7 +61,7 @@ unmoved c =
     let s = start (c .before .before) in
     let a = s .args in
     let first = a .page * a .geometry .parameters .places in
-    places-still _ _ _ _ _ _ (s .pre .1 .1 .0) (inside s .0)
+    places-still _ _ _ _ _ _ (s .pre .1 .1 .0 .0) (inside s .0)
     (λ i h star.
     omega (
       arith,
@@ -86,7 +86,7 @@ count-off-home-requires c κs =
       s .pre .0,
       (
         s .pre .1 .0,
-        ((s .pre .1 .1 .0, λ p o k. omega (arith, s .pre .1 .1 .1 p o k)), c .before .before .signs-page .ensures .0 (not-false _ (c .before .if2 .left))),
+        ((s .pre .1 .1 .0 .0, λ p o k. omega (arith, s .pre .1 .1 .0 .1 p o k)), c .before .before .signs-page .ensures .0 (not-false _ (c .before .if2 .left))),
       ),
     )
 
