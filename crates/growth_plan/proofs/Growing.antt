@@ -112,13 +112,6 @@ next-valid false p g v w m = grown-valid p g v w m
 
 -- a growth, where it is not a shrinking
 
-pub grows-movable : (back : Bool) (p : Parameters) (g : Growth) → back ≡ false → Movable back p g → Movable false p g
-grows-movable back p g e m = subst (λ (b : Bool). Movable b p g) e m
-
-pub grows-in-place : (back : Bool) (p : Parameters) (g : Growth) (f f′ : File) (pool pool′ : List ℕ) (r : Bool) → back ≡ false
-    → GrowsInPlace p g (grown p g) f f′ pool pool′ r → GrowsInPlace p g (stateAfter back p g) f f′ pool pool′ r
-grows-in-place back p g f f′ pool pool′ r e d = subst (λ (b : Bool). GrowsInPlace p g (stateAfter b p g) f f′ pool pool′ r) (sym e) d
-
 -- of a file that is still the one before
 pub still-done : (p : Parameters) (g next : Growth) (f f₁ f′ : File) (page : ℕ) (r : Outcome) → f₁ ≡ f
     → (r ≡ growthAnswer p g f₁ next page) × (f′ ≡ growthFile p g f₁ next) → (r ≡ growthAnswer p g f next page) × (f′ ≡ growthFile p g f next)

@@ -1,6 +1,7 @@
 // Growth by one page and its undoing: all stars placed anew under the next growth state, or `back` under the one before.
 ghost use mathlib.Core.Path.{_≡_};
 ghost use mathlib.Core.Bool.{true, false};
+ghost use Rattle.hashing.specs.Geometry.{grown};
 ghost use Rattle.hashing.specs.Limits.{validParameters, validGrowth};
 ghost use Rattle.placement.specs.Shape.{homesOf};
 ghost use Rattle.placement.specs.Lent.{held, before, after};
@@ -62,11 +63,10 @@ fn replace_all(
 }
 
 // A growth in place, where the new page has room for the stars whose home it becomes: they are moved there, and then only blocks of several
-// pages are placed anew. If it has not, or for a shrinking, the answer is no, and nothing is changed.
+// pages are placed anew. If it has not, the answer is no, and nothing is changed.
 fn grow_in_place(
     table: &[u32; 90],
     geometry: Geometry,
-    back: bool,
     separators: &mut [u8],
     numbers: &mut [u32],
     words: &mut [u64],
@@ -77,15 +77,12 @@ fn grow_in_place(
 ) -> bool
     requires { ⌜ Ready geometry (now table) (held separators numbers words owners) ⌝ }
     requires { ⌜ Pooled (geometry .parameters) (now pool) (now waiting) (now poolowners) ⌝ }
-    requires { ⌜ Movable back (geometry .parameters) (geometry .growth) ⌝ }
+    requires { ⌜ Movable false (geometry .parameters) (geometry .growth) ⌝ }
     requires { ⌜ firstUnsound (geometry .parameters) (geometry .growth) (held separators numbers words owners) 0 (geometry .parameters .pages) ≡ geometry .parameters .pages ⌝ }
     requires { ⌜ now pool ≡ homesOf (geometry .parameters) (geometry .growth) (now numbers) ⌝ }
-    ensures { λ r. ⌜ GrowsInPlace (geometry .parameters) (geometry .growth) (stateAfter back (geometry .parameters) (geometry .growth)) (before separators numbers words owners)
+    ensures { λ r. ⌜ GrowsInPlace (geometry .parameters) (geometry .growth) (grown (geometry .parameters) (geometry .growth)) (before separators numbers words owners)
         (after separators numbers words owners) (now (pool .entry)) (now (pool .exit)) r ⌝ }
 {
-    if back {
-        return false;
-    }
     if !growth_in_place::move_stars(table, geometry, separators, numbers, words, owners, pool) {
         return false;
     }
@@ -143,7 +140,6 @@ fn grow(
     if grow_in_place(
         table,
         geometry,
-        false,
         separators,
         numbers,
         words,

@@ -1,3 +1,4 @@
+-- `growth_plan::growth::grow` meets its contract.
 use mathlib.Core.Path.{_≡_, sym, ap, subst, _∙_}
 use native.Mathlib.Nat.{le-refl}
 use native.Mathlib.Omega.{arith}
@@ -130,7 +131,7 @@ replace-all-requires c κs =
     let p = s .args .geometry .parameters in
     let g = s .args .geometry .growth in
     let still = k .grow-in-place .ensures .kept (no .if2 .left) in
-    let lengths = k .grow-in-place .kept .1 .1 .1 .1 .1 .1 .1 in (
+    let lengths = k .grow-in-place .kept .1 .1 .1 .1 .1 .1 in (
       subst (λ (f : File). Ready (s .args .geometry) (s .args .table .now) f) (sym still) (s .pre .0),
       (
         record { ofNumbers = lengths .0 ∙ pooled x .ofNumbers; ofWords = lengths .1 .0 ∙ pooled x .ofWords; ofOwners = lengths .1 .1 .0 ∙ pooled x .ofOwners },
@@ -160,7 +161,7 @@ same-length-17 : tie.Need-same-length-17
 same-length-17 c =
     let d = c .before .before .before .before .before .before .before .before .before .before .before .before .before .before in
     let k = tried (anew d) in
-    d .replace-all .kept .1 .1 .1 .1 .1 .1 .1 .0 ∙ k .grow-in-place .kept .1 .1 .1 .1 .1 .1 .1 .0 ∙ surveyed (passed k) .survey-pages .kept .1 .1 .1 .1 .1 .1 .0
+    d .replace-all .kept .1 .1 .1 .1 .1 .1 .1 .0 ∙ k .grow-in-place .kept .1 .1 .1 .1 .1 .1 .0 ∙ surveyed (passed k) .survey-pages .kept .1 .1 .1 .1 .1 .1 .0
 
 same-length-18 : tie.Need-same-length-18
 same-length-18 c = search needs

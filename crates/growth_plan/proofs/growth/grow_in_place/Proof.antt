@@ -5,38 +5,32 @@ use Prim.Native.Nat.{ℕ}
 use borrow.Author.Tests.{not-true, not-false}
 use Rattle.placement.specs.Hash.{lent}
 use Rattle.growth_in_place.specs.Expansion.{Moved}
-use Rattle.growth_plan.proofs.Growing.{grows-movable, grows-in-place}
 use Rattle.growth_plan.proofs.InPlace.{grown-answer, grown-file}
 use borrow.Author.Needs.{needs}
 use Rattle.growth_plan.proofs.growth.grow_in_place.Statement.{statement}
 use Rattle.growth_plan.proofs.growth.grow_in_place.Tie as tie
 
 abbrev start : tie.After-move-stars → tie.Start
-start c = c .before .before .before .before .before .before .before .before .before .before .before .before .before .before
+start c = c .before .before .before .before .before .before .before .before .before .before .before .before .before
 
 same-file : (s n n′ w w′ o o′ : List ℕ) → n′ ≡ n → w′ ≡ w → o′ ≡ o → lent s n′ w′ o′ ≡ lent s n w o
 same-file s n n′ w w′ o o′ en ew eo = rw (en, ew, eo)
 
 -- the stars were moved
-abbrev moving : tie.Else2 → tie.After-move-stars
+abbrev moving : tie.Else1 → tie.After-move-stars
 moving c = c .before .before .before .before .before .before .before .before .before
 
-moved : (c : tie.Else2)
+moved : (c : tie.Else1)
     → let a = start (moving c) .args in
     let exit = moving c .move-stars .last .1 .1 .1 in
     Moved (a .geometry .parameters) (a .geometry .growth) (lent (a .separators .now) (a .numbers .now) (a .words .now) (a .owners .now))
     (lent (a .separators .now) (exit .0) (exit .1 .0) (exit .1 .1 .0)) (exit .1 .1 .1 .0)
-moved c = moving c .move-stars .ensures .moved (not-false _ (c .if2 .left))
-
-returns : tie.Need-returns
-returns c =
-    record { accepts = λ e. absurd (false≢true e); file = λ e. absurd (false≢true e); kept = λ _. refl; pool-kept = λ _. refl }
+moved c = moving c .move-stars .ensures .moved (not-false _ (c .if1 .left))
 
 move-stars-requires : tie.Need-move-stars-requires
 move-stars-requires c κs =
-    let else1 = c .before .before .before .before .before in
-    let pre = else1 .before .before .before .before .before .before .before .before .pre in
-    (pre .0, (pre .1 .1 .1 .1, (pre .1 .1 .1 .0, grows-movable _ _ _ (else1 .if1 .left) (pre .1 .1 .0))))
+    let pre = c .before .before .before .before .before .before .before .before .before .before .before .before .pre in
+    (pre .0, (pre .1 .1 .1 .1, (pre .1 .1 .1 .0, pre .1 .1 .0)))
 
 same-length : tie.Need-same-length
 same-length c = search needs
@@ -53,9 +47,9 @@ same-length-4 c = search needs
 same-length-5 : tie.Need-same-length-5
 same-length-5 c = search needs
 
-returns-2 : tie.Need-returns-2
-returns-2 c =
-    let still = c .before .before .before .before .before .before .before .before .before .move-stars .ensures .untouched (not-true _ (c .if2 .taken)) in
+returns : tie.Need-returns
+returns c =
+    let still = c .before .before .before .before .before .before .before .before .before .move-stars .ensures .untouched (not-true _ (c .if1 .taken)) in
     record {
       accepts = λ e. absurd (false≢true e);
       file = λ e. absurd (false≢true e);
@@ -64,10 +58,7 @@ returns-2 c =
     }
 
 grown-requires : tie.Need-grown-requires
-grown-requires c κs =
-    let k = moving (c .before) in
-    let pre = start k .pre in
-    (pre .0 .homing .valid, (pre .0 .homing .growth, grows-movable _ _ _ (k .before .before .before .before .before .before .if1 .left) (pre .1 .1 .0)))
+grown-requires c κs = let pre = start (moving (c .before)) .pre in (pre .0 .homing .valid, (pre .0 .homing .growth, pre .1 .1 .0))
 
 replace-blocks-requires : tie.Need-replace-blocks-requires
 replace-blocks-requires c κs =
@@ -104,13 +95,13 @@ same-length-11 c = search needs
 same-length-12 : tie.Need-same-length-12
 same-length-12 c = search needs
 
-returns-3 : tie.Need-returns-3
-returns-3 c =
+returns-2 : tie.Need-returns-2
+returns-2 c =
     let b = c .before .before .before .before .before .before .before .before .before .before .before .before .before .before in
     let e = b .before .before .before .before .before .before .before .before .before .before in
     let pre = start (moving e) .pre in
     let renewed = rw (b .before .before .before .before .before .before .before .before .grown .ensures) at (b .replace-blocks .ensures) in
-    grows-in-place _ _ _ _ _ _ _ _ (moving e .before .before .before .before .before .before .if1 .left) record {
+    record {
       accepts = λ _. grown-answer _ _ _ _ _ _ (pre .0 .sized) (pre .1 .1 .1 .0) (moved e) renewed;
       file = λ _. grown-file _ _ _ _ _ _ (pre .0 .sized) (pre .1 .1 .1 .0) (moved e) renewed;
       kept = λ e. absurd (false≢true (sym e));
@@ -121,14 +112,13 @@ pub grow-in-place-spec : {M : Type 1} → statement M
 grow-in-place-spec =
     tie.close
     (tie.spec
-    returns
     move-stars-requires
     same-length
     same-length-2
     same-length-3
     same-length-4
     same-length-5
-    returns-2
+    returns
     grown-requires
     replace-blocks-requires
     same-length-6
@@ -138,4 +128,4 @@ grow-in-place-spec =
     same-length-10
     same-length-11
     same-length-12
-    returns-3)
+    returns-2)
