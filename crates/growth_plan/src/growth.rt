@@ -1,5 +1,7 @@
 // Growth by one page and its undoing: all stars placed anew under the next growth state, or `back` under the one before.
 ghost use mathlib.Core.Path.{_≡_};
+ghost use Prim.Native.Nat.{_+_, _≤_, _<_};
+ghost use lib.ListN.{length};
 ghost use mathlib.Core.Bool.{true, false};
 ghost use Rattle.hashing.specs.Geometry.{grown};
 ghost use Rattle.hashing.specs.Limits.{validParameters, validGrowth};
@@ -165,7 +167,36 @@ fn grow(
     )
 }
 
-// Whether the page that a shrinking gives back has not overflowed, and all pages are the rule's; `homes` are those of the items.
+// How many pages in a row have overflowed, up to one with this separator: one more, or none if it is the greatest.
+fn run_with(run: usize, separator: u8, top: u8) -> usize
+    requires { ⌜ run < 1024 ⌝ }
+    ensures { λ r. ⌜ r ≤ run + 1 ⌝ }
+{
+    if top <= separator {
+        return 0;
+    }
+    run + 1
+}
+
+// The most pages in a row that have overflowed.
+fn longest_run(separators: &[u8], top: u8) -> usize
+    requires { ⌜ length (now separators) ≤ 1024 ⌝ }
+{
+    let mut longest = 0;
+    let mut run = 0;
+    let mut page = 0;
+    while page < separators.len() {
+        run = run_with(run, separators[page], top);
+        page += 1;
+        if longest < run {
+            longest = run;
+        }
+    }
+    longest
+}
+
+// Whether the page that a shrinking gives back has not overflowed, and all pages are the rule's; `homes` are those of the items. Where a star
+// may have to pass many pages, as many as there are for each place of a page, planning all of them is not slower: the answer is no.
 fn is_simple(geometry: Geometry, separators: &[u8], numbers: &[u32], homes: &[u32]) -> bool
     requires { ⌜ validParameters (geometry .parameters) ≡ true ⌝ }
     requires { ⌜ validGrowth (geometry .parameters) (geometry .growth) ≡ true ⌝ }
@@ -174,7 +205,11 @@ fn is_simple(geometry: Geometry, separators: &[u8], numbers: &[u32], homes: &[u3
 {
     let pages = geometry.parameters.pages as usize;
     let page = geometry.highest_address() as usize;
-    if separators[page] != placement::top_of(geometry.parameters) {
+    let top = placement::top_of(geometry.parameters);
+    if separators[page] != top {
+        return false;
+    }
+    if pages / (geometry.parameters.places as usize) < longest_run(separators, top) {
         return false;
     }
     clean_test::first_raisable(geometry, separators, numbers, homes, 0, pages) == pages
