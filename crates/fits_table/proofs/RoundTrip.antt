@@ -27,7 +27,7 @@ from-drop l at k =
     let three : at + k + 3 ≡ at + (k + 3) = omega arith in
     rw (getD-drop at l k 0, getD-drop at l (k + 1) 0, getD-drop at l (k + 2) 0, getD-drop at l (k + 3) 0, one, two, three)
 
-pub joined : (n : ℕ) → n < 4294967296 → n / 2 ^ 24 * 2 ^ 24 + n / 2 ^ 16 % 256 * 2 ^ 16 + n / 2 ^ 8 % 256 * 2 ^ 8 + n % 256 ≡ n
+joined : (n : ℕ) → n < 4294967296 → n / 2 ^ 24 * 2 ^ 24 + n / 2 ^ 16 % 256 * 2 ^ 16 + n / 2 ^ 8 % 256 * 2 ^ 8 + n % 256 ≡ n
 joined n h = omega arith
 
 pub signed-twos : (a : ℕ) → a ≤ 648000000 → signed (twos (pos a -ℤ pos 324000000)) ≡ pos a -ℤ pos 324000000
@@ -48,14 +48,11 @@ twos-small a h = go (decLt a 324000000)
     go (yes p) = rw (lt-ltb a 324000000 p) (omega arith)
     go (no p) = rw (le-ltb a 324000000 (omega arith)) (omega arith)
 
-pub number-first : (l r : List ℕ) (at n w : ℕ) → drop at l ≡ rowBytes n w ++ r → n < 4294967296 → from32 l at ≡ n
-unfolding from32 rowBytes be32
-number-first l r at n w is small = ap (from32 l) (sym (add-zero at)) ∙ from-drop l at 0 ∙ ap (λ (q : List ℕ). from32 q 0) is ∙ joined n small
-
 -- the three numbers of a written row
 module _ (l r : List ℕ) (at n w : ℕ) (is : drop at l ≡ rowBytes n w ++ r) (small : n < 4294967296) (ok : validWord w ≡ true) where
   number-read : from32 l at ≡ n
-  number-read = number-first l r at n w is small
+  unfolding from32 rowBytes be32
+  number-read = ap (from32 l) (sym (add-zero at)) ∙ from-drop l at 0 ∙ ap (λ (q : List ℕ). from32 q 0) is ∙ joined n small
 
   ra-read : from32 l (at + 4) ≡ w / 2 ^ 32
   unfolding from32 rowBytes be32 unpacked

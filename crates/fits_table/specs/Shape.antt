@@ -1,16 +1,14 @@
 -- What the code is said by and no promise to a caller cites.
-use mathlib.Core.Bool.{Bool, true, cond}
+use mathlib.Core.Bool.{true, cond}
 use mathlib.Core.List.{List, [], _∷_, _++_, map}
-use Prim.Native.Nat.{ℕ, zero, suc, _+_, _-_, _*_, _<_}
+use Prim.Native.Nat.{ℕ, _+_, _-_, _<_}
 use Prim.Native.String.{String}
 use lib.Dec.{ltb}
-use lib.ListN.{length, getD, take, drop}
+use lib.ListN.{length, getD}
 use mathlib.Core.Path.{_≡_}
 use Rattle.pages.specs.Position.{validNumber, validWord}
 use Rattle.fits_table.specs.Header.{blanks, card, primary, tableFirst, tableLast, front, behind}
-use Rattle.fits_table.specs.Items.{itemsAt, heldItems, Framed}
-use Rattle.buffers.specs.Lists.{written}
-use Rattle.fits_table.specs.Rows.{from32, rowBytes, rowsBytes}
+use Rattle.fits_table.specs.Items.{heldItems}
 use Rattle.fits_table.specs.Order.{sortBy}
 
 unfoldable pub template : List ℕ
@@ -42,18 +40,3 @@ ValidWords ns ws items = (j : ℕ) → j < length items → validWord (getD ws (
 abbrev pub RowsUp : ℕ → List (ℕ × ℕ) → Type 0
 RowsUp last [] = Unit {0}
 RowsUp last (r ∷ rs) = (last < r .0) × ((validNumber (r .0) ≡ true) × ((validWord (r .1) ≡ true) × RowsUp (r .0) rs))
-
--- how many of the n rows from byte `at` on stand before the first whose number is not below v
-unfoldable pub leadRows : List ℕ → ℕ → ℕ → ℕ → ℕ
-leadRows l at zero v = 0
-leadRows l at (suc n) v = cond (ltb (from32 l at) v) (suc (leadRows l (at + 12) n v)) 0
-
--- j rows moved over the place of one before them, and a row put behind them
-unfoldable pub rowInserted : List ℕ → ℕ → ℕ → ℕ → ℕ → List ℕ
-rowInserted o at j number word = written (at + 12 * j) (rowBytes number word) (written at (take (12 * j) (drop (at + 12) o)) o)
-
--- what a writing of the rows of n items leaves: all rows in rising order of number, if it was done, and it is if the items stand in that order
-pub record RowsPut (ns ws o e : List ℕ) (at n : ℕ) (all : Bool) : Type 0 where
-  pub rows : all ≡ true → e ≡ written at (rowsBytes (map (rowOf ns ws) (sortBy (λ (x : ℕ). getD ns x 0) (itemsAt o at n)))) o
-  pub frame : Framed at (6 * n) o e
-  pub done : (l : List ℕ) → itemsAt o at n ≡ sortBy (λ (x : ℕ). getD ns x 0) l → all ≡ true
