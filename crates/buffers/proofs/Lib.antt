@@ -3,3 +3,4 @@ pub mod Fills
 pub mod Lists
 pub mod Tests
 pub mod Written
+pub mod Zeros

@@ -192,7 +192,7 @@ fn enter_by(
         word,
         stores,
     );
-    plan_transfer::clear(poolnumbers, poolwords, poolowners);
+    plan_transfer::clear_used(poolnumbers, poolwords, poolowners);
     answer
 }
 

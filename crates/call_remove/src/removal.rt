@@ -105,7 +105,7 @@ pub fn remove_stopped(
         number,
         stores,
     );
-    plan_transfer::clear(poolnumbers, poolwords, poolowners);
+    plan_transfer::clear_used(poolnumbers, poolwords, poolowners);
     answer
 }
 

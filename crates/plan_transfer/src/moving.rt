@@ -193,3 +193,19 @@ pub fn clear(pool: &mut [u32], waiting: &mut [u64], poolowners: &mut [u8])
     buffers::fill_64(waiting, 0);
     buffers::fill_8(poolowners, 0);
 }
+
+// The same after a call that used little of the pool: blocks that hold zeros are read and not written. A shorter pool stays in the
+// processor's first cache, where writing all of it costs less.
+pub fn clear_used(pool: &mut [u32], waiting: &mut [u64], poolowners: &mut [u8])
+    ensures { λ _. ⌜ now (pool .exit) ≡ replicate (length (now (pool .entry))) 0 ⌝ }
+    ensures { λ _. ⌜ now (waiting .exit) ≡ replicate (length (now (waiting .entry))) 0 ⌝ }
+    ensures { λ _. ⌜ now (poolowners .exit) ≡ replicate (length (now (poolowners .entry))) 0 ⌝ }
+{
+    if pool.len() < 4096 {
+        clear(pool, waiting, poolowners);
+        return;
+    }
+    buffers::clear_32(pool);
+    buffers::clear_64(waiting);
+    buffers::clear_8(poolowners);
+}

@@ -48,8 +48,8 @@ pub fn page_sound<'a>(
         return false;
     }
     let mut found = [0u16; 32];
-    let stars = count_stars(numbers, places);
-    homes::of_page(table, geometry, numbers, stars, &mut found);
+    let occupied = occupied_places(numbers, places);
+    homes::of_page(table, geometry, numbers, occupied, &mut found);
     if count_far(numbers, &found, page) == 0 {
         return items_sound(
             table,
@@ -75,8 +75,8 @@ pub fn page_sound<'a>(
     )
 }
 
-// How many places stand before the first empty one: a sound page has no star behind it.
-fn count_stars(numbers: &[u32; 32], places: usize) -> usize
+// The places before the first eight that begin with an empty one: a sound page has no star behind it, and homes are computed by eights.
+fn occupied_places(numbers: &[u32; 32], places: usize) -> usize
     requires { ⌜ places ≤ 32 ⌝ }
     ensures { λ r. ⌜ (r ≤ places) × (r < places → getD (now (numbers .entry)) r 0 ≡ 0) ⌝ }
 {
@@ -85,9 +85,9 @@ fn count_stars(numbers: &[u32; 32], places: usize) -> usize
         if numbers[i] == 0 {
             return i;
         }
-        i += 1;
+        i += 8;
     }
-    i
+    places
 }
 
 // How many stars of a page are 44 pages or more above their home, so that the first ninety multipliers do not sign them on it.

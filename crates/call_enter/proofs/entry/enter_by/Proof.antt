@@ -110,8 +110,8 @@ enter-star-requires c κs =
     let d = c .before .before .before .before .before .before .before .before in
     (lent-well (told d) .0, (lent-well (told d) .1, numbered d))
 
-clear-requires : tie.Need-clear-requires
-clear-requires c κs = search needs
+clear-used-requires : tie.Need-clear-used-requires
+clear-used-requires c κs = search needs
 
 same-length : tie.Need-same-length
 same-length c = search needs
@@ -142,7 +142,7 @@ returns-4 c =
     rw (way s, none (told d), numbered d, positioned d)
     (leaves-cleared _ _ _ (poolOf s) _ (rw (c .before .before .before .before .before .before .before .before .before .before .before .before .before .before .before .before .before .before .before .before .before .before .before .before .before .before .before .before .before .before .before .before .pack .ensures) at (done .ensures))
     (stopped-pool (s .args .cascading) (s .args .parameters) (fileOf s) (s .args .stores) _ ∙ entry-pool (s .args .parameters) (s .args .growth) (fileOf s) (cleared (poolOf s)) (s .args .cascading) _ _)
-    (cleared-is _ _ _ _ _ _ _ _ _ (c .before .before .before .before .before .before .clear .ensures .0) (c .before .before .before .before .before .before .clear .ensures .1 .0) (c .before .before .before .before .before .before .clear .ensures .1 .1)
+    (cleared-is _ _ _ _ _ _ _ _ _ (c .before .before .before .before .before .before .clear-used .ensures .0) (c .before .before .before .before .before .before .clear-used .ensures .1 .0) (c .before .before .before .before .before .before .clear-used .ensures .1 .1)
     (done .kept .1 .1 .1 .1 .1 .1 .1 .0) (done .kept .1 .1 .1 .1 .1 .1 .1 .1 .0) (done .kept .1 .1 .1 .1 .1 .1 .1 .1 .1 .0)))
 
 pub enter-by-spec : {M : Type 1} → statement M
@@ -160,7 +160,7 @@ enter-by-spec =
     returns-3
     pack-requires
     enter-star-requires
-    clear-requires
+    clear-used-requires
     same-length
     same-length-2
     same-length-3

@@ -82,8 +82,8 @@ remove-held-requires c κs =
     let d = c .before .before .before .before .before .before .before in
     (lent-well (told d) .0, (lent-well (told d) .1, numbered d))
 
-clear-requires : tie.Need-clear-requires
-clear-requires c κs = search needs
+clear-used-requires : tie.Need-clear-used-requires
+clear-used-requires c κs = search needs
 
 same-length : tie.Need-same-length
 same-length c = search needs
@@ -115,7 +115,7 @@ returns-3 c =
     rw (none (told d), numbered d)
     (leaves-cleared _ _ _ (poolOf s) _ (done .ensures)
     (remove-pool (s .args .parameters) (s .args .growth) (fileOf s) (cleared (poolOf s)) _ _ _)
-    (cleared-is _ _ _ _ _ _ _ _ _ (c .before .before .before .before .before .before .clear .ensures .0) (c .before .before .before .before .before .before .clear .ensures .1 .0) (c .before .before .before .before .before .before .clear .ensures .1 .1)
+    (cleared-is _ _ _ _ _ _ _ _ _ (c .before .before .before .before .before .before .clear-used .ensures .0) (c .before .before .before .before .before .before .clear-used .ensures .1 .0) (c .before .before .before .before .before .before .clear-used .ensures .1 .1)
     (done .kept .1 .1 .1 .1 .1 .1 .0) (done .kept .1 .1 .1 .1 .1 .1 .1 .0) (done .kept .1 .1 .1 .1 .1 .1 .1 .1 .0)))
 
 pub remove-stopped-spec : {M : Type 1} → statement M
@@ -130,7 +130,7 @@ remove-stopped-spec =
     number-valid-requires
     returns-2
     remove-held-requires
-    clear-requires
+    clear-used-requires
     same-length
     same-length-2
     same-length-3

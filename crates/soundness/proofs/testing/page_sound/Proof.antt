@@ -32,14 +32,14 @@ returns c =
       homed = λ e. absurd (false≢true e);
     }
 
-count-stars-requires : tie.Need-count-stars-requires
-count-stars-requires c κs = limits _ (c .before .before .before .before .before .pre .0 .valid) .places-most
+occupied-places-requires : tie.Need-occupied-places-requires
+occupied-places-requires c κs = limits _ (c .before .before .before .before .before .pre .0 .valid) .places-most
 
 of-page-requires : tie.Need-of-page-requires
 of-page-requires c κs =
     let s = c .before .before .before .before .before .before .before in
     let ready = s .pre .0 in
-    (ready .table, (ready .valid, (ready .growth, (omega (arith, c .before .count-stars .ensures .0, limits (s .args .geometry .parameters) (ready .valid) .places-most), (s .pre .1 .1 .1 .0 .0, refl)))))
+    (ready .table, (ready .valid, (ready .growth, (omega (arith, c .before .occupied-places .ensures .0, limits (s .args .geometry .parameters) (ready .valid) .places-most), (s .pre .1 .1 .1 .0 .0, refl)))))
 
 abbrev start : tie.After-of-page → tie.Start
 start c = c .before .before .before .before .before .before .before .before
@@ -51,7 +51,7 @@ low-page c = omega (arith, start c .pre .1 .1 .0, limits _ (start c .pre .0 .val
 homed : (c : tie.After-of-page) → Found (start c .args .geometry) (start c .args .numbers .now) (c .of-page .last .1 .1 .1 .1 .0)
 homed c =
     let s = start c in
-    let led = c .before .before .count-stars .ensures in
+    let led = c .before .before .occupied-places .ensures in
     let most = limits (s .args .geometry .parameters) (s .pre .0 .valid) .places-most in
     found-led _ _ _ _ _ (omega (arith, led .0, most, s .pre .1 .1 .1 .0 .0)) (led .1) (c .of-page .ensures)
 
@@ -101,7 +101,7 @@ page-sound-spec =
     top-of-requires
     shared-slice-read-if1
     returns
-    count-stars-requires
+    occupied-places-requires
     of-page-requires
     count-far-requires
     items-sound-requires

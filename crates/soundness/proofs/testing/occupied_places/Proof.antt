@@ -1,13 +1,13 @@
-use Prim.Native.Nat.{_-_, _≤_}
+use Prim.Native.Nat.{_+_, _-_, _≤_}
 use native.Mathlib.Omega.{arith}
-use Rattle.soundness.proofs.testing.count_stars.Statement.{statement}
-use Rattle.soundness.proofs.testing.count_stars.Tie as tie
+use Rattle.soundness.proofs.testing.occupied_places.Statement.{statement}
+use Rattle.soundness.proofs.testing.occupied_places.Tie as tie
 
 abbrev Inv-loop : tie.InvT-loop
-Inv-loop numbers places i₀ i = i ≤ places
+Inv-loop numbers places i₀ i = i ≤ places + 7
 
 abbrev μ-loop : tie.MeasureT-loop
-μ-loop numbers places i₀ i = places - i
+μ-loop numbers places i₀ i = places + 7 - i
 
 loop-holds : tie.Need-loop-holds Inv-loop μ-loop
 loop-holds c = omega arith
@@ -31,10 +31,10 @@ loop-again : tie.Need-loop-again Inv-loop μ-loop
 loop-again c = omega arith
 
 returns-2 : tie.Need-returns-2 Inv-loop μ-loop
-returns-2 c = (c .before .loop .inv, λ h. omega (arith, c .loop-test .left))
+returns-2 c = (omega arith, λ h. omega arith)
 
-pub count-stars-spec : {M : Type 1} → statement M
-count-stars-spec =
+pub occupied-places-spec : {M : Type 1} → statement M
+occupied-places-spec =
     tie.close
     (tie.spec
     Inv-loop
