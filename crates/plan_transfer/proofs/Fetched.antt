@@ -4,10 +4,11 @@ use mathlib.Core.List.{List, map}
 use Prim.Native.Nat.{ℕ, zero, suc, _+_, _-_, _*_, _≤_, _<_}
 use native.Mathlib.Nat.{add-mul}
 use native.Mathlib.Omega.{arith}
-use lib.ListN.{length, getD, take, drop, length-drop, length-map, List·getD-map, List·getD-eq-default}
+use lib.ListN.{length, getD, set, take, drop, length-drop, length-map, List·getD-map, List·getD-eq-default}
 use lib.Seq.{paste, drop-paste, getD-drop}
 use Rattle.buffers.specs.Lists.{written}
 use Rattle.buffers.proofs.Lists.{map-take, within}
+use Rattle.buffers.proofs.Copies.{Copied, turn}
 use Rattle.buffers.proofs.Written.{paste-written, through}
 use Rattle.pages.specs.Shape.{stretch}
 use Rattle.plan_transfer.specs.Sources.{namedItem}
@@ -16,12 +17,19 @@ suc-sub : (i : ℕ) → suc i - 1 ≡ i
 suc-sub i = omega arith
 
 -- what a source names, item by item
-pub named-item : (l : List ℕ) (new at j : ℕ) (s : List ℕ) → namedItem l new (getD s (at + j) 0) ≡ getD (map (namedItem l new) (drop at s)) j 0
+named-item : (l : List ℕ) (new at j : ℕ) (s : List ℕ) → namedItem l new (getD s (at + j) 0) ≡ getD (map (namedItem l new) (drop at s)) j 0
 unfolding namedItem
 named-item l new at j s = rw (← getD-drop at s j 0) (sym (List·getD-map (namedItem l new) (drop at s) j 0))
 
 pub left-named : (l : List ℕ) (new at n j : ℕ) (s : List ℕ) → at + n ≤ length s → j < n → j < length (map (namedItem l new) (drop at s))
 left-named l new at n j s h k = rw (length-map (drop at s) (namedItem l new)) (rw (length-drop at s) (omega arith))
+
+-- one item more of d fetched by the sources of s
+pub fetched-next : (l : List ℕ) (new at n j : ℕ) (s d e : List ℕ) (x source : ℕ) → at + n ≤ length s → at + n ≤ length d → j < n → source ≡ getD s (at + j) 0
+    → x ≡ namedItem l new source → Copied d at (map (namedItem l new) (drop at s)) e j → Copied d at (map (namedItem l new) (drop at s)) (set e (at + j) x) (j + 1)
+fetched-next l new at n j s d e x source hs hd k from named c =
+    turn d at (map (namedItem l new) (drop at s)) e j x (omega arith) (left-named l new at n j s hs k)
+    (named ∙ ap (λ (y : ℕ). namedItem l new y) from ∙ named-item l new at j s) c
 
 -- what a source names, by its three cases
 pub named-none : (l : List ℕ) (new source : ℕ) → source ≡ 0 → 0 ≡ namedItem l new source

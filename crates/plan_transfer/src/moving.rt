@@ -47,56 +47,7 @@ pub fn owner_named(owners: &[u8], source: u32, newowner: u8) -> u8
     newowner
 }
 
-fn fetch_words(
-    words: &[u64],
-    pool: &[u32],
-    waiting: &mut [u64],
-    at: usize,
-    items: usize,
-    newword: u64,
-)
-    requires { ⌜ at + items ≤ length (now pool) ⌝ }
-    requires { ⌜ at + items ≤ length (now waiting) ⌝ }
-    ensures { λ _. ⌜ now (waiting .exit) ≡ paste (now (waiting .entry)) at (map (namedItem (now (words .entry)) newword) (drop at (now (pool .entry)))) items ⌝ }
-{
-    let mut i = 0;
-    while i < items {
-        waiting[at + i] = word_named(words, pool[at + i], newword);
-        i += 1;
-    }
-}
-
-fn fetch_owners(
-    owners: &[u8],
-    pool: &[u32],
-    poolowners: &mut [u8],
-    at: usize,
-    items: usize,
-    newowner: u8,
-)
-    requires { ⌜ at + items ≤ length (now pool) ⌝ }
-    requires { ⌜ at + items ≤ length (now poolowners) ⌝ }
-    ensures { λ _. ⌜ now (poolowners .exit) ≡ paste (now (poolowners .entry)) at (map (namedItem (now (owners .entry)) newowner) (drop at (now (pool .entry)))) items ⌝ }
-{
-    let mut i = 0;
-    while i < items {
-        poolowners[at + i] = owner_named(owners, pool[at + i], newowner);
-        i += 1;
-    }
-}
-
-fn fetch_numbers(numbers: &[u32], pool: &mut [u32], at: usize, items: usize, newnumber: u32)
-    requires { ⌜ at + items ≤ length (now pool) ⌝ }
-    ensures { λ _. ⌜ now (pool .exit) ≡ paste (now (pool .entry)) at (map (namedItem (now (numbers .entry)) newnumber) (drop at (now (pool .entry)))) items ⌝ }
-{
-    let mut i = 0;
-    while i < items {
-        pool[at + i] = number_named(numbers, pool[at + i], newnumber);
-        i += 1;
-    }
-}
-
-// Words and owners first: the sources stand where the numbers go.
+// Item by item, so that the three columns branch on a source once. The sources stand where the numbers go.
 pub fn fetch(
     numbers: &[u32],
     words: &[u64],
@@ -117,9 +68,14 @@ pub fn fetch(
     ensures { λ _. ⌜ now (waiting .exit) ≡ paste (now (waiting .entry)) at (map (namedItem (now (words .entry)) newword) (drop at (now (pool .entry)))) items ⌝ }
     ensures { λ _. ⌜ now (poolowners .exit) ≡ paste (now (poolowners .entry)) at (map (namedItem (now (owners .entry)) newowner) (drop at (now (pool .entry)))) items ⌝ }
 {
-    fetch_words(words, pool, waiting, at, items, newword);
-    fetch_owners(owners, pool, poolowners, at, items, newowner);
-    fetch_numbers(numbers, pool, at, items, newnumber);
+    let mut i = 0;
+    while i < items {
+        let source = pool[at + i];
+        waiting[at + i] = word_named(words, source, newword);
+        poolowners[at + i] = owner_named(owners, source, newowner);
+        pool[at + i] = number_named(numbers, source, newnumber);
+        i += 1;
+    }
 }
 
 // The stretch of `count` pages from page lo becomes what the planned sources and separators say. The pool stays behind it.
