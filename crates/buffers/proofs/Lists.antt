@@ -1,12 +1,16 @@
 -- Laws of lists that the library lacks: parts of parts, mapped parts, and places that are not there.
 use mathlib.Core.Path.{_≡_, refl, sym, ap, _∙_}
+use mathlib.Core.Bool.{true, false≢true}
 use mathlib.Core.List.{List, [], _∷_, _++_, map}
 use Prim.Native.Nat.{ℕ, zero, suc, _-_, _≤_, _<_}
 use native.Mathlib.Nat.{not-suc-le-zero, sub-zero, zero-sub, suc-sub-suc}
 use native.Mathlib.Omega.{arith}
+use lib.Dec.{eqb}
 use lib.ListN.{length, getD, take, drop, replicate, length-append, length-replicate}
 use lib.Seq.{take-nil}
-use Rattle.buffers.specs.Lists.{padded}
+use borrow.Author.Tests.{eqb-true, eq-eqb}
+use Rattle.buffers.specs.Lists.{padded, alike}
+use Rattle.buffers.proofs.Tests.{and-true}
 
 pub drop-take : {A : Type 0} (f t : ℕ) (l : List A) → drop f (take t l) ≡ take (t - f) (drop f l)
 drop-take zero t l = rw (sub-zero t)
@@ -53,3 +57,18 @@ padded-item n l i = go l (n - length l) i
 pub length-padded : (n : ℕ) (l : List ℕ) → length l ≤ n → length (padded n l) ≡ n
 unfolding padded
 length-padded n l h = length-append l (replicate (n - length l) 0) ∙ omega (arith, length-replicate {A = ℕ} (n - length l) 0)
+
+-- lists compared
+pub alike-self : (l : List ℕ) → alike l l ≡ true
+unfolding alike
+alike-self [] = refl
+alike-self (x ∷ xs) = rw (eq-eqb x x refl) (alike-self xs)
+
+pub alike-same : (k l : List ℕ) → alike k l ≡ true → k ≡ l
+unfolding alike
+alike-same [] [] e = refl
+alike-same [] (y ∷ ys) e = absurd (false≢true e)
+alike-same (x ∷ xs) [] e = absurd (false≢true e)
+alike-same (x ∷ xs) (y ∷ ys) e =
+    let both = and-true (eqb x y) (alike xs ys) e in
+    ap (λ (z : ℕ). z ∷ xs) (eqb-true x y (both .0)) ∙ ap (λ (l : List ℕ). y ∷ l) (alike-same xs ys (both .1))

@@ -118,3 +118,8 @@ module _ {A : Type 0} where
   alike-later k j c d h e =
       let sum : k + (j - k) ≡ j = omega arith in
       rw (← sum, ← drop-drop (j - k) k c, ← drop-drop (j - k) k d, e)
+
+  -- written to the front
+  pub written-to-front : (s d : List A) → written 0 s d ≡ s ++ drop (length s) d
+  unfolding written
+  written-to-front s d = ap (λ (k : ℕ). s ++ drop k d) (zero-add (length s))

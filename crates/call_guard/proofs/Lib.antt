@@ -1,2 +1,3 @@
 pub mod Admitting
 pub mod Turned
+pub mod Recorded

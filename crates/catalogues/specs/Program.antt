@@ -9,7 +9,7 @@ use Prim.Native.Nat.{ℕ, _≤_}
 use lib.ListN.{length, take}
 use Rattle.lines.specs.Programs.{Run, opened}
 use Rattle.lines.specs.Replies.{TextAt}
-use Rattle.lines.specs.Turns.{Turn, Turns, output, inputBlocks, joined, Written, Answers, Finishes}
+use Rattle.lines.specs.Turns.{Turn, Turns, output, inputBlocks, joined, PutOut, Answers, Finishes}
 use Rattle.catalogues.specs.Runs.{Catalogue, cataloguing, runHeld}
 use Rattle.catalogues.specs.Listing.{isTable, keptTable, partOf, inParts}
 use Rattle.catalogues.specs.declared.collecting.Collection.{Collection}
@@ -60,7 +60,7 @@ pub record Lists (rest : List ℕ) (k : Space) (last : List ℕ) : Type 0 where
   pub left : rest ≡ final .block ++ unread
   pub lists :
       (i : ℕ) → i ≤ 3 →
-      Written (λ before after at. TextAt 0 (partOf i (take (final .next .at) (final .next .given))) before after at) (part i)
+      PutOut (λ before after at. TextAt 0 (partOf i (take (final .next .at) (final .next .given))) before after at) (part i)
   pub writes : last ≡ inParts part
 
 -- for a table: `keep` on each block until nothing more is kept, and `list` of the four parts

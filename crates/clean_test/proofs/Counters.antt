@@ -11,6 +11,7 @@ use lib.Dec.{leb, ltb, eqb}
 use lib.ListN.{length, getD, set, take, drop, replicate, length-set, length-drop, getD-replicate}
 use lib.Seq.{getD-set-same, getD-set-other, getD-drop, getD-take}
 use borrow.Author.Tests.{le-leb, lt-leb, lt-ltb, le-ltb, eq-eqb, ne-eqb, eqb-true, eqb-false}
+use Rattle.buffers.specs.Counts.{one}
 use Rattle.hashing.specs.declared.Geometry.{Geometry}
 use Rattle.generator.specs.Generator.{topOf}
 use Rattle.pages.specs.Page.{part}
@@ -18,7 +19,7 @@ use Rattle.placement.specs.Rule.{Hash, keep, filter}
 use Rattle.placement.specs.Hash.{hashOf}
 use Rattle.placement.specs.Shape.{homesOf, homeUnder}
 use Rattle.reach.specs.Reach.{firstSuch}
-use Rattle.clean_test.specs.Raising.{passed, countsOn, starNumber, countedItem, countOn, passedOn, starsAmong, ownOn, countFrom, mayRise, raisableFrom, hashUnder, firstRaisable, firstRising, one, Counts, Added, AddedBelow, PassersCounted, Homed, HomedFrom, SignablePassed}
+use Rattle.clean_test.specs.Raising.{passed, countsOn, starNumber, countedItem, countOn, passedOn, starsAmong, ownOn, countFrom, mayRise, raisableFrom, hashUnder, firstRaisable, firstRising, Counts, Added, AddedBelow, PassersCounted, Homed, HomedFrom, SignablePassed}
 
 pub one-most : (t : Bool) → one t ≤ 1
 one-most true = omega arith

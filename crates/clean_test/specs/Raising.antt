@@ -6,6 +6,7 @@ use Prim.Native.Nat.{ℕ, zero, suc, _+_, _-_, _*_, _≤_, _<_}
 use lib.Dec.{leb, ltb, eqb}
 use lib.ListN.{length, getD}
 use denote.Ref.{now}
+use Rattle.buffers.specs.Counts.{one}
 use Rattle.hashing.specs.declared.Parameters.{Parameters}
 use Rattle.hashing.specs.declared.Geometry.{Geometry}
 use Rattle.generator.specs.Generator.{topOf}
@@ -75,9 +76,6 @@ firstRaisable g vs ns from stop = firstSuch (raisableFrom (hashUnder g) from (st
 abbrev pub firstRising : Parameters → List ℕ → List ℕ → ℕ → ℕ → ℕ
 firstRising q vs counts from stop =
     firstSuch (λ (p : ℕ). mayRise (topOf (q .bits)) (q .places) (getD vs p 0) (getD counts p 0)) from (stop - from)
-
-abbrev pub one : Bool → ℕ
-one t = cond t 1 0
 
 -- the counters from page `from` on are at most so much
 abbrev pub Counts : ℕ → ℕ → List ℕ → Type 0

@@ -3,10 +3,11 @@ ghost use mathlib.Core.Path.{_≡_};
 ghost use mathlib.Core.Bool.{true, false};
 ghost use Prim.Native.Nat.{suc, _+_, _-_, _*_, _≤_, _<_};
 ghost use lib.ListN.{length, getD, take, drop};
+ghost use Rattle.buffers.specs.Counts.{one};
 ghost use Rattle.hashing.specs.Limits.{validParameters};
 ghost use Rattle.placement.specs.Shape.{homeUnder};
 ghost use Rattle.placement.specs.Ready.{Signers};
-ghost use Rattle.clean_test.specs.Raising.{passed, passedOn, ownOn, mayRise, one, starNumber, starsAmong, Counts, PassersCounted, AddsCounts, AddsBelow, Homed, HomedFrom, SignablePassed, hashUnder, firstRaisable, firstRising};
+ghost use Rattle.clean_test.specs.Raising.{passed, passedOn, ownOn, mayRise, starNumber, starsAmong, Counts, PassersCounted, AddsCounts, AddsBelow, Homed, HomedFrom, SignablePassed, hashUnder, firstRaisable, firstRising};
 use hashing::Geometry;
 use hashing::Parameters;
 

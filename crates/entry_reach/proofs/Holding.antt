@@ -32,7 +32,7 @@ use Rattle.reach.specs.Reach.{pagesTo, entering, entersWithin, entryEnd, hasNum
 use Rattle.reach.proofs.Search.{Such, such}
 use Rattle.entry_reach.specs.declared.blocks.Reach.the-variants.{Ends, Unsound, Overflows}
 use Rattle.page_plan.specs.declared.outcome.Outcome.the-variants.{On, Unsound as outcome·Unsound, Overflows as outcome·Overflows}
-use Rattle.entry_reach.specs.Entry.{newStar, entryStart, entryLast, entryCount, entryUnsound, entryContents, reachAnswer, entryAnswer, entryFile, Applies, Decides}
+use Rattle.entry_reach.specs.Entry.{newStar, entryStart, entryLast, entryCount, entryUnsound, entryContents, reachAnswer, entryAnswer, entryFile, Applies, DecidesEntry}
 use Rattle.decision.specs.declared.chosen.Decision.the-variants.{Planned}
 use Rattle.entry_reach.specs.Blocks.{ending}
 use Rattle.entry_reach.proofs.Reached.{unsound-ends, overflows-ends}
@@ -233,7 +233,7 @@ module _ (p : Parameters) (g : Growth) (f : File) (k word owner : ℕ) where
         → applied (p .places) start (end + 1 - start) k word owner pool planned f ≡ entryFile p g f (newStar k word owner)
         → take (end + 1 - start) (drop start planned′) ≡ take (end + 1 - start) (drop start planned)
         → on ≡ namedPage p g (written start (take (end + 1 - start) (drop start planned)) (f .separators)) k
-        → Decides p g f (newStar k word owner) pool planned′ (Planned start (end + 1 - start) on)
+        → DecidesEntry p g f (newStar k word owner) pool planned′ (Planned start (end + 1 - start) on)
     unfolding applied
     written-decided pool planned planned′ start end on few low high long files same named =
         record {
@@ -267,7 +267,7 @@ module _ (p : Parameters) (g : Growth) (f : File) (k word owner : ℕ) where
       within : take (entryCount p g f (newStar k word owner)) (drop (entryStart p g k) (take (p .pages) planned)) ≡ take (entryCount p g f (newStar k word owner)) (drop (entryStart p g k) planned)
       within = taken-front (p .pages) (entryStart p g k) (entryCount p g f (newStar k word owner)) planned fits
 
-      pub ends-decided : (from page : ℕ) → from ≡ entryStart p g k → page ≡ namedPage p g (take (p .pages) planned) k → Decides p g f (newStar k word owner) pool planned (Planned from (last + 1 - from) page)
+      pub ends-decided : (from page : ℕ) → from ≡ entryStart p g k → page ≡ namedPage p g (take (p .pages) planned) k → DecidesEntry p g f (newStar k word owner) pool planned (Planned from (last + 1 - from) page)
       ends-decided from page at named =
           let low : from ≤ last = omega (arith, at, last-least) in
           let count : last + 1 - from ≡ pagesTo (entryStart p g k) last = omega (arith, at, low) in

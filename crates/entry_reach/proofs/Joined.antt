@@ -8,6 +8,7 @@ use native.Mathlib.Omega.{arith}
 use lib.Dec.{leb, eqb}
 use lib.ListN.{length, length-map, length-append}
 use borrow.Author.Tests.{eq-eqb, ne-eqb, leb-true}
+use Rattle.pages.proofs.Numbers.{number-range}
 use Rattle.pages.specs.Shape.{stretch}
 use Rattle.hashing.specs.declared.Parameters.{Parameters}
 use Rattle.hashing.specs.declared.Growth.{Growth}
@@ -56,10 +57,6 @@ plansTo p g f k n = plans p (entryStart p g k) 0 n (newWord p g f k ∷ []) (blo
 abbrev pub remainsTo : Parameters → Growth → File → ℕ → ℕ → List ℕ
 remainsTo p g f k n = remains p (entryStart p g k) 0 n (newWord p g f k ∷ []) (blockWords p g f (entryStart p g k) n)
 
-pub valid-most : (k : ℕ) → validNumber k ≡ true → (1 ≤ k) × (k ≤ 2147483646)
-unfolding validNumber
-valid-most k e = let t = both (leb 1 k) (leb k 2147483646) e in (leb-true 1 k (t .0), leb-true k 2147483646 (t .1))
-
 -- a stretch's words are those of two parts of it
 pub words-add : (p : Parameters) (g : Growth) (f : File) → Sized (p .places) (p .pages) f → (lo n m : ℕ) → lo + n ≤ p .pages
     → blockWords p g f lo (n + m) ≡ blockWords p g f lo n ++ blockWords p g f (lo + n) m
@@ -74,7 +71,7 @@ length-left H p n w = rw (left-first H p n w) (length-filter (standsAt H p (sepa
 
 module _ (p : Parameters) (g : Growth) (f : File) (k : ℕ) (valid : validParameters p ≡ true) (sized : Sized (p .places) (p .pages) f) (number : validNumber k ≡ true) (unheld : Unheld p g f k) where
   small : k < 2 ^ 31
-  small = omega (arith, valid-most k number)
+  small = omega (arith, number-range k number)
 
   few : length (f .numbers) + 1 < 2 ^ 16
   few = let l = limits p valid in omega (arith, sized .ofNumbers, mul-le-mul (l .pages-most) (l .places-most))

@@ -29,7 +29,7 @@ use Rattle.page_edit.specs.Shift.{numberAt, starsOn, Vacant, takesAlone}
 use Rattle.page_edit.proofs.Shifted.{vacant-room}
 use Rattle.page_edit.proofs.OnePage.{file-alone, pages-alone, left-alone, first-here, named-home, ordered-page, homed-here, gathered-alone}
 use Rattle.page_plan.specs.declared.outcome.Outcome.the-variants.{On, Unsound, Overflows}
-use Rattle.entry_reach.specs.Entry.{Unheld, newStar, entryStart, entryLast, entryUnsound, entryContents, entryAnswer, entryFile, Decides}
+use Rattle.entry_reach.specs.Entry.{Unheld, newStar, entryStart, entryLast, entryUnsound, entryContents, entryAnswer, entryFile, DecidesEntry}
 use Rattle.decision.specs.declared.chosen.Decision.the-variants.{Put}
 use Rattle.entry_reach.specs.Blocks.{ending}
 use Rattle.entry_reach.proofs.Reached.{by-reach}
@@ -145,7 +145,7 @@ module _ (p : Parameters) (g : Growth) (f : File) (k : ℕ) (valid : validParame
 
     -- the star is put on its home page
     pub alone-decided : (from page place : ℕ) → from ≡ entryStart p g k → page ≡ namedPage p g (f .separators) k → place ≡ placeOf k (part (p .places) page (f .numbers)) → (pool planned : List ℕ)
-        → Decides p g f (newStar k word owner) pool planned (Put from place)
+        → DecidesEntry p g f (newStar k word owner) pool planned (Put from place)
     alone-decided from page place at here there pool planned =
         let done = alone-lists from at _ _ _ refl refl refl in
         record {

@@ -18,13 +18,13 @@ use Rattle.hashing.proofs.Bounds.{limits}
 use Rattle.pages.specs.Position.{validNumber}
 use Rattle.pages.specs.Page.{part}
 use Rattle.pages.specs.Shape.{stretch}
-use Rattle.pages.proofs.Parts.{page-fits}
+use Rattle.pages.proofs.Parts.{page-fits, part-back}
 use Rattle.placement.specs.Rule.{Star}
 use Rattle.placement.specs.File.{File, written, replaced}
 use Rattle.placement.specs.Shape.{Sized}
 use Rattle.placement.specs.Hash.{hashOf, soundAt, namedPage}
 use Rattle.placement.specs.Shape.{homesOf}
-use Rattle.placement.proofs.Writing.{part-back, length-column}
+use Rattle.placement.proofs.Writing.{length-column}
 use Rattle.page_separator.specs.Lists.{all, selected, allBelow}
 use Rattle.page_separator.specs.Words.{homeOf}
 use Rattle.page_separator.specs.Probes.{Probing, homesUpTo, wordsSeparatorFrom}

@@ -9,6 +9,7 @@ use native.Mathlib.Omega.{arith}
 use lib.Dec.{leb, ltb, eqb}
 use lib.ListN.{length, take, drop, getD, length-map, length-append}
 use borrow.Author.Tests.{le-leb, leb-true}
+use Rattle.pages.proofs.Numbers.{number-range}
 use Rattle.pages.specs.Shape.{stretch}
 use Rattle.hashing.specs.declared.Parameters.{Parameters}
 use Rattle.hashing.specs.declared.Growth.{Growth}
@@ -33,7 +34,7 @@ use Rattle.page_plan.specs.Sources.{renamed, sourced}
 use Rattle.page_plan.proofs.Applying.{sourced-waits, sourced-append, sourced-filter}
 use Rattle.page_plan.proofs.Pouring.{length-waits}
 use Rattle.entry_reach.specs.Entry.{Unheld, newStar, entryStart}
-use Rattle.entry_reach.proofs.Joined.{sourced-on, newWord, valid-most, new-carried, new-carriable}
+use Rattle.entry_reach.proofs.Joined.{sourced-on, newWord, new-carried, new-carriable}
 use Rattle.entry_reach.specs.Blocks.{apart}
 use Rattle.entry_reach.specs.Pushing.{pageWords, loweredTo, loweredOn, Pushed}
 use Rattle.entry_reach.proofs.Visiting.{cascaded-add, carried-add, cascaded-one, carried-one}
@@ -47,7 +48,7 @@ carried-length g l = length-map (waits l) g ∙ length-waits l
 module _ (p : Parameters) (g : Growth) (f : File) (k page : ℕ) (valid : validParameters p ≡ true) (sized : Sized (p .places) (p .pages) f)
     (number : validNumber k ≡ true) (unheld : Unheld p g f k) (here : page ≡ namedPage p g (f .separators) k) where
   pub small : k < 2 ^ 31
-  small = omega (arith, valid-most k number)
+  small = omega (arith, number-range k number)
 
   pub few : length (f .numbers) + 1 < 2 ^ 16
   few = let l = limits p valid in omega (arith, sized .ofNumbers, mul-le-mul (l .pages-most) (l .places-most))

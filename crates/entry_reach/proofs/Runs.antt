@@ -50,7 +50,7 @@ use Rattle.page_plan.proofs.Applying.{applied}
 use Rattle.decision.specs.Carried.{withStars, starsThere}
 use Rattle.decision.specs.declared.chosen.Decision.the-variants.{Put, Planned}
 use Rattle.entry_reach.specs.declared.blocks.Reach.the-variants.{Ends, Unsound, Overflows}
-use Rattle.entry_reach.specs.Entry.{Unheld, newStar, entryStart, entryLast, entryUnsound, entryContents, blockEnd, reachAnswer, entryAnswer, entryFile, Decides}
+use Rattle.entry_reach.specs.Entry.{Unheld, newStar, entryStart, entryLast, entryUnsound, entryContents, blockEnd, reachAnswer, entryAnswer, entryFile, DecidesEntry}
 use Rattle.entry_reach.specs.Pushing.{PushedTo, Pushed}
 use Rattle.entry_reach.specs.Blocks.{enteredPages, enteredLeft, LeavesRun}
 use Rattle.entry_reach.proofs.Firsts.{such-is}
@@ -427,7 +427,7 @@ module _ (p : Parameters) (g : Growth) (f : File) (k page : ℕ) (valid : validP
         ∙ entered ended
 
     -- the star is put on its own page
-    pub run-decided : (pool planned : List ℕ) → Decides p g f new pool planned (Put page place)
+    pub run-decided : (pool planned : List ℕ) → DecidesEntry p g f new pool planned (Put page place)
     run-decided pool planned =
         record {
           answers = answered ended page (here ∙ ap (λ (x : File). namedPage p g (x .separators) k) put-file);
@@ -468,7 +468,7 @@ module _ (p : Parameters) (g : Growth) (f : File) (k page : ℕ) (valid : validP
     pub pushed-decided : (planned′ : List ℕ) (on : ℕ) → p .pages ≤ length planned′
         → take (end + 1 - page) (drop page planned′) ≡ take (end + 1 - page) (drop page planned)
         → on ≡ namedPage p g (written page (take (end + 1 - page) (drop page planned)) (f .separators)) k
-        → Decides p g f new pool planned′ (Planned page (end + 1 - page) on)
+        → DecidesEntry p g f new pool planned′ (Planned page (end + 1 - page) on)
     pushed-decided planned′ on long same named =
         let count : end + 1 - page ≡ n = omega (arith, low) in
         written-decided p g f k word owner last (run-ends none-over) pool planned planned′ page end on (omega (arith, page-low, page-inside, sized .ofSeparators)) low

@@ -90,7 +90,7 @@ pub record Enters (g : Geometry) (t : List ℕ) (f : File) (k home page : ℕ) :
   pub here : page ≡ namedPage (g .parameters) (g .growth) (f .separators) k
 
 -- a decision on the entry: it answers as the entry, and carried out it leaves the entry's file
-pub record Decides (p : Parameters) (g : Growth) (f : File) (s : Star) (pool planned : List ℕ) (d : Decision) : Type 0 where
+pub record DecidesEntry (p : Parameters) (g : Growth) (f : File) (s : Star) (pool planned : List ℕ) (d : Decision) : Type 0 where
   pub answers : outcomeOf d ≡ entryAnswer p g f s
   pub files : carriedOut (p .places) s pool planned f d ≡ entryFile p g f s
   pub feasible : Feasible p f (s .number) planned d

@@ -18,7 +18,7 @@ ghost use Rattle.page_separator.specs.Lists.{allBelow};
 ghost use Rattle.page_separator.specs.Probes.{Probing, homesUpTo};
 ghost use Rattle.page_plan.specs.Gather.{starsIn, stretchWords, groupsBelow};
 ghost use Rattle.decision.specs.Carried.{newcomer};
-ghost use Rattle.entry_reach.specs.Entry.{Enters, Decides, KnownTo};
+ghost use Rattle.entry_reach.specs.Entry.{Enters, DecidesEntry, KnownTo};
 ghost use Rattle.entry_reach.specs.Pushing.{Lowered, PushesPage, PushesTo, Ruled, isVacant};
 use crate::blocks::surveyed_block;
 use crate::onward::decide_onward;
@@ -259,7 +259,7 @@ pub fn decide_clean(
     requires { ⌜ geometry .parameters .pages ≤ length (now planned) ⌝ }
     requires { ⌜ star .place ≡ placeOf (star .number) (part (geometry .parameters .places) (star .page) (now numbers)) ⌝ }
     requires { ⌜ Ruled (geometry .parameters) (geometry .growth) (held separators numbers words owners) (now pool) (star .number) last ⌝ }
-    ensures { λ r. ⌜ Decides (geometry .parameters) (geometry .growth) (before separators numbers words owners) (newcomer star) (now (pool .exit)) (now (planned .exit)) r ⌝ }
+    ensures { λ r. ⌜ DecidesEntry (geometry .parameters) (geometry .growth) (before separators numbers words owners) (newcomer star) (now (pool .exit)) (now (planned .exit)) r ⌝ }
 {
     if has_room(geometry.parameters, numbers, star.page) {
         let place = star.place as usize;

@@ -4,7 +4,7 @@ ghost use Prim.Native.Nat.{_*_, _≤_};
 ghost use lib.ListN.{length, take};
 ghost use Rattle.placement.specs.Lent.{held, before};
 ghost use Rattle.decision.specs.Carried.{newcomer};
-ghost use Rattle.entry_reach.specs.Entry.{Enters, Decides};
+ghost use Rattle.entry_reach.specs.Entry.{Enters, DecidesEntry};
 ghost use Rattle.entry_reach.specs.Blocks.{LeavesRun};
 use crate::blocks::Reach;
 use crate::blocks::block_from;
@@ -35,7 +35,7 @@ pub fn decide_onward(
     requires { ⌜ carried ≤ length (now waiting) ⌝ }
     requires { ⌜ LeavesRun (geometry .parameters) (geometry .growth) (held separators numbers words owners) (star .number) (star .page) last
         (now pool) (now planned) (take carried (now waiting)) ⌝ }
-    ensures { λ r. ⌜ Decides (geometry .parameters) (geometry .growth) (before separators numbers words owners) (newcomer star) (now (pool .exit)) (now (planned .exit)) r ⌝ }
+    ensures { λ r. ⌜ DecidesEntry (geometry .parameters) (geometry .growth) (before separators numbers words owners) (newcomer star) (now (pool .exit)) (now (planned .exit)) r ⌝ }
 {
     let pages = geometry.parameters.pages as usize;
     let next = last + 1;

@@ -6,7 +6,7 @@ ghost use Rattle.pages.specs.Page.{part, placeOf};
 ghost use Rattle.placement.specs.Lent.{held, before};
 ghost use Rattle.reach.specs.Known.{Known};
 ghost use Rattle.decision.specs.Carried.{newcomer};
-ghost use Rattle.entry_reach.specs.Entry.{Enters, Decides, blockEnd};
+ghost use Rattle.entry_reach.specs.Entry.{Enters, DecidesEntry, blockEnd};
 use crate::blocks::surveyed_block;
 use crate::newcomers::decide_clean;
 use crate::stretch::decide_stretch;
@@ -34,7 +34,7 @@ pub fn decide_run(
     requires { ⌜ Known (geometry .parameters) (geometry .growth) (held separators numbers words owners) (now pool) (star .page) ⌝ }
     requires { ⌜ star .place ≡ placeOf (star .number) (part (geometry .parameters .places) (star .page) (now numbers)) ⌝ }
     requires { ⌜ last ≡ blockEnd (geometry .parameters) (geometry .growth) (held separators numbers words owners) (star .home) ⌝ }
-    ensures { λ r. ⌜ Decides (geometry .parameters) (geometry .growth) (before separators numbers words owners) (newcomer star) (now (pool .exit)) (now (planned .exit)) r ⌝ }
+    ensures { λ r. ⌜ DecidesEntry (geometry .parameters) (geometry .growth) (before separators numbers words owners) (newcomer star) (now (pool .exit)) (now (planned .exit)) r ⌝ }
 {
     let from = star.home as usize;
     let stop = last + 1;

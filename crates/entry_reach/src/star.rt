@@ -9,7 +9,7 @@ ghost use Rattle.placement.specs.Ready.{Pooled};
 ghost use Rattle.reach.specs.Known.{Known};
 ghost use Rattle.calls.specs.Shape.{stoppedFile};
 ghost use Rattle.decision.specs.Carried.{newcomer};
-ghost use Rattle.entry_reach.specs.Entry.{Enters, Decides, entryAnswer, entryFile};
+ghost use Rattle.entry_reach.specs.Entry.{Enters, DecidesEntry, entryAnswer, entryFile};
 use crate::blocks::block_from;
 use crate::run::decide_run;
 use crate::stretch::decide_stretch;
@@ -38,7 +38,7 @@ fn decide(
     requires { ⌜ geometry .parameters .pages ≤ length (now planned) ⌝ }
     requires { ⌜ Known (geometry .parameters) (geometry .growth) (held separators numbers words owners) (now pool) (star .page) ⌝ }
     requires { ⌜ star .place ≡ placeOf (star .number) (part (geometry .parameters .places) (star .page) (now numbers)) ⌝ }
-    ensures { λ r. ⌜ Decides (geometry .parameters) (geometry .growth) (before separators numbers words owners) (newcomer star) (now (pool .exit)) (now (planned .exit)) r ⌝ }
+    ensures { λ r. ⌜ DecidesEntry (geometry .parameters) (geometry .growth) (before separators numbers words owners) (newcomer star) (now (pool .exit)) (now (planned .exit)) r ⌝ }
 {
     let from = star.home as usize;
     let first = block_from(geometry.parameters, separators, from, star.page);

@@ -4,7 +4,7 @@ ghost use Prim.Native.Nat.{_*_, _≤_};
 ghost use lib.ListN.{length};
 ghost use Rattle.placement.specs.Lent.{held, before};
 ghost use Rattle.decision.specs.Carried.{newcomer};
-ghost use Rattle.entry_reach.specs.Entry.{Enters, Decides, Extends};
+ghost use Rattle.entry_reach.specs.Entry.{Enters, DecidesEntry, Extends};
 use crate::blocks::Extent;
 use crate::blocks::Reach;
 use crate::blocks::plan_entry;
@@ -30,7 +30,7 @@ pub fn decide_stretch(
     requires { ⌜ (length (now pool) ≡ geometry .parameters .pages * geometry .parameters .places) × (length (now waiting) ≡ geometry .parameters .pages * geometry .parameters .places) ⌝ }
     requires { ⌜ geometry .parameters .pages ≤ length (now planned) ⌝ }
     requires { ⌜ (star .home ≡ first .first) × Extends (geometry .parameters) (geometry .growth) (held separators numbers words owners) (now pool) first ⌝ }
-    ensures { λ r. ⌜ Decides (geometry .parameters) (geometry .growth) (before separators numbers words owners) (newcomer star) (now (pool .exit)) (now (planned .exit)) r ⌝ }
+    ensures { λ r. ⌜ DecidesEntry (geometry .parameters) (geometry .growth) (before separators numbers words owners) (newcomer star) (now (pool .exit)) (now (planned .exit)) r ⌝ }
 {
     let pages = geometry.parameters.pages as usize;
     let from = star.home as usize;

@@ -59,7 +59,7 @@ pub else-zero : (t : Bool) (m : ℕ) → orElse (unless t 1) m ≡ 0 → (t ≡ 
 else-zero true m e = (refl, e)
 else-zero false m e = absurd (omega arith)
 
-guarded-past : (g : Growth) (f : File) (pool : Pool) (n : ℕ) (after : After) → guarded g f pool n after .answer .refusal ≡ 0 → n ≡ 0
+pub guarded-past : (g : Growth) (f : File) (pool : Pool) (n : ℕ) (after : After) → guarded g f pool n after .answer .refusal ≡ 0 → n ≡ 0
 unfolding spotted
 guarded-past g f pool zero after e = refl
 guarded-past g f pool (suc n) after e = absurd (omega arith)

@@ -7,6 +7,7 @@ use native.Mathlib.Omega.{arith}
 use lib.Dec.{ltb}
 use lib.ListN.{length, getD, length-map}
 use borrow.Author.Tests.{lt-ltb, le-ltb}
+use Rattle.call_guard.proofs.Recorded.{refusal-most}
 use Rattle.buffers.specs.Lists.{written}
 use Rattle.hashing.specs.declared.Parameters.{Parameters}
 use Rattle.hashing.specs.declared.Growth.{Growth}
@@ -84,16 +85,6 @@ pageless TrayFull h = refl
 pageless BadContents h = refl
 pageless OutOfTurn h = refl
 
-record-most : (p : Parameters) (r : GrowthRecord) (lengths : Bool) → recordRefusal p r lengths ≤ 2
-unfolding recordRefusal unlent
-record-most p r lengths = go (validSteps p r) (validParameters p && validGrowth p (r .state)) lengths
-  where
-    go : (s t u : Bool) → orElse (unless s 1) (orElse (unless t 1) (unless u 2)) ≤ 2
-    go true true true = omega arith
-    go true true false = omega arith
-    go true false u = omega arith
-    go false t u = omega arith
-
 early : (out : List ℕ) (x : Refusal) (after : AfterWrite) → refusalNumber x ≤ 2 → guardedWrite out (refusalNumber x) after ≡ notWritten out (refusedBy x 0)
 unfolding refusedBy
 early out x after h = go (refusalNumber x) refl
@@ -109,7 +100,7 @@ module _ (p : Parameters) (r : GrowthRecord) (f : File) (out : List ℕ) where
   refused-first {a} {fits} {x} e l t =
       let is : refusalNumber x ≡ recordRefusal p r (fileFits p f) = sym (ap admissionNumber t) ∙ (e ∙ ap (recordRefusal p r) l) in
       writes (writeUnder p r f out)
-      (rw (← is) (early out x (writeOn p (r .state) f out) (rw is (record-most p r (fileFits p f))))) refl
+      (rw (← is) (early out x (writeOn p (r .state) f out) (rw is (refusal-most p r (fileFits p f))))) refl
 
   module _ {a : Admission} {fits : Bool} (e : admissionNumber a ≡ recordRefusal p r fits) (l : fits ≡ fileFits p f) (t : a ≡ Passed) where
     none-refused : orElse (unless (validSteps p r) 1) (unlent p (r .state) (fileFits p f)) ≡ 0

@@ -10,6 +10,7 @@ use lib.Dec.{leb, ltb, eqb}
 use lib.ListN.{length, getD, take, drop, replicate, length-map, length-replicate, drop-of-length-le}
 use lib.Seq.{take-all, paste, slice}
 use borrow.Author.Tests.{ltb-true, lt-ltb, ne-eqb, leb-true}
+use Rattle.pages.proofs.Numbers.{number-range}
 use Rattle.buffers.proofs.Lists.{map-item}
 use Rattle.buffers.specs.Lists.{written}
 use Rattle.buffers.proofs.Tests.{and-true}
@@ -72,10 +73,6 @@ good-up l (suc n) last at g =
         (ltb-true last (from32 l at) (p .0), (q .0, (pack-valid (positionAt l at) (q .1), ih e)))
 
 -- Rows that rise
-
-number-range : (k : ℕ) → validNumber k ≡ true → (1 ≤ k) × (k ≤ 2147483646)
-unfolding validNumber
-number-range k e = let t = and-true (leb 1 k) (leb k 2147483646) e in (leb-true 1 k (t .0), leb-true k 2147483646 (t .1))
 
 row-range : (rs : List (ℕ × ℕ)) (last i : ℕ) → RowsUp last rs → i < length rs
     → (1 ≤ getD (map (λ (r : ℕ × ℕ). r .0) rs) i 0) × (getD (map (λ (r : ℕ × ℕ). r .0) rs) i 0 ≤ 2147483646)

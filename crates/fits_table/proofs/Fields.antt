@@ -12,28 +12,15 @@ use lib.Dec.{ltb, eqb}
 use lib.ListN.{length, getD, set, take, drop, length-append, length-drop}
 use lib.Seq.{paste, take-suc, take-all, drop-cons, drop-length, drop-set-add, take-set-le, set-at, length-take-le, take-add}
 use borrow.Author.Tests.{le-leb, lt-leb, eqb-true, lt-ltb, le-ltb, eq-eqb, ne-eqb}
-use Rattle.buffers.specs.Lists.{written}
-use Rattle.buffers.proofs.Written.{written-whole, written-add, written-middle, written-none, paste-written, length-written}
+use Rattle.buffers.proofs.Lists.{alike-same}
+use Rattle.buffers.specs.Lists.{written, alike}
+use Rattle.buffers.proofs.Written.{written-whole, written-add, written-middle, written-none, paste-written, length-written, written-to-front}
 use Rattle.buffers.proofs.Tests.{and-true}
 use Rattle.fits_table.specs.declared.cards.Table.the-variants.{Rows, Nothing}
-use Rattle.fits_table.specs.Header.{ascii, card, cards, blanks, leading, field, front, behind, headers, digitStep, readDigits, candidate, alike, tells, tableIn, tableLength}
+use Rattle.fits_table.specs.Header.{ascii, card, cards, blanks, leading, field, front, behind, headers, digitStep, readDigits, candidate, tells, tableIn, tableLength}
 use Rattle.fits_table.specs.Shape.{template, cardTable, slotCard}
 
 -- bytes compared
-pub alike-eq : (a b : List ℕ) → alike a b ≡ true → a ≡ b
-unfolding alike
-alike-eq [] [] e = refl
-alike-eq [] (y ∷ ys) e = absurd (false≢true e)
-alike-eq (x ∷ xs) [] e = absurd (false≢true e)
-alike-eq (x ∷ xs) (y ∷ ys) e =
-    let p = and-true (eqb x y) (alike xs ys) e in
-    ap (λ (z : ℕ). z ∷ xs) (eqb-true x y (p .0)) ∙ ap (λ (l : List ℕ). y ∷ l) (alike-eq xs ys (p .1))
-
-pub alike-refl : (a : List ℕ) → alike a a ≡ true
-unfolding alike
-alike-refl [] = refl
-alike-refl (x ∷ xs) = rw (eq-eqb x x refl) (alike-refl xs)
-
 pub alike-next : (a b : List ℕ) (i : ℕ) → i < length a → i < length b → getD a i 0 ≡ getD b i 0 → alike (drop i a) (drop i b) ≡ alike (drop (i + 1) a) (drop (i + 1) b)
 unfolding alike
 alike-next a b i ha hb e = rw (drop-cons a i 0 ha, drop-cons b i 0 hb, eq-eqb (getD a i 0) (getD b i 0) e, add-one i)
@@ -100,7 +87,7 @@ front-long = refl
 pub slot-is : (s : ℕ) (d : List ℕ) → s < 72 → getD cardTable (slotCard s) d ≡ take 80 (drop (80 * s) template)
 slot-is s d h =
     any-default cardTable (slotCard s) d [] (omega (arith, slot-small s h, table-long))
-    ∙ alike-eq (getD cardTable (slotCard s) []) (take 80 (drop (80 * s) template)) (slot-right 72 s h all-right)
+    ∙ alike-same (getD cardTable (slotCard s) []) (take 80 (drop (80 * s) template)) (slot-right 72 s h all-right)
 
 pub card-long : (s : ℕ) → s < 72 → length (take 80 (drop (80 * s) template)) ≡ 80
 card-long s h = length-take-le 80 (drop (80 * s) template) (omega (arith, length-drop (80 * s) template, template-long))
@@ -200,10 +187,6 @@ filled-all o e at n rest room w =
     ∙ set-behind at (48 + n % 10) (leading 19 (n / 10)) o (omega arith)
 
 -- the field written into the template makes the headers
-zero-written : (x o : List ℕ) → written 0 x o ≡ x ++ drop (length x) o
-unfolding written
-zero-written x o = ap (λ (k : ℕ). x ++ drop k o) (zero-add (length x))
-
 template-size : length (front ++ (blanks 20 ++ behind)) ≡ 5760
 unfolding front behind cards card ascii
 template-size = refl
@@ -224,7 +207,7 @@ headers-made o rows room =
     length-blanks = refl
 
     opened : (x : List ℕ) → length x ≡ 20 → written 0 (front ++ (x ++ behind)) o ≡ front ++ (x ++ (behind ++ drop 5760 o))
-    opened x e = zero-written (front ++ (x ++ behind)) o ∙ ap (λ (k : ℕ). front ++ (x ++ behind) ++ drop k o) (headers-size x e)
+    opened x e = written-to-front (front ++ (x ++ behind)) o ∙ ap (λ (k : ℕ). front ++ (x ++ behind) ++ drop k o) (headers-size x e)
         ∙ append-assoc front (x ++ behind) (drop 5760 o) ∙ ap (λ (l : List ℕ). front ++ l) (append-assoc x behind (drop 5760 o))
 
 -- NAXIS2's digits read

@@ -9,15 +9,17 @@ use lib.Dec.{leb, eqb}
 use lib.ListN.{length, getD, take, drop, replicate, length-drop, take-append-drop}
 use lib.Seq.{drop-at, drop-drop, take-add}
 use borrow.Author.Tests.{leb-true, eqb-true}
+use Rattle.buffers.proofs.Lists.{alike-same}
+use Rattle.buffers.specs.Lists.{alike}
 use Rattle.buffers.proofs.Tests.{and-true}
 use Rattle.pages.specs.Page.{empties}
 use Rattle.fits_table.specs.declared.cards.Table.the-variants.{Rows}
 use Rattle.fits_table.specs.declared.rows.Row.{Row}
 use Rattle.fits_table.specs.declared.rows.Row.the-variants.{Star, Wrong}
-use Rattle.fits_table.specs.Header.{headers, candidate, alike, tells, answer, tableIn, tableLength, blocksOf}
+use Rattle.fits_table.specs.Header.{headers, candidate, tells, answer, tableIn, tableLength, blocksOf}
 use Rattle.fits_table.specs.Rows.{rowBytes, from32, rowAt, goodRows, goodAfter, rowsBytes, tableOf, rowsRead}
 use Rattle.fits_table.specs.Shape.{RowsUp}
-use Rattle.fits_table.proofs.Fields.{alike-eq, headers-long}
+use Rattle.fits_table.proofs.Fields.{headers-long}
 use Rattle.fits_table.proofs.RoundTrip.{row-read, Taken, row-back, taken-number, taken-word, number-small}
 use Rattle.fits_table.proofs.Told.{told-table}
 use Rattle.fits_table.proofs.Whole.{length-row, length-rows}
@@ -100,7 +102,7 @@ told l n e =
     let s = and-true (alike (take 5760 l) (headers (candidate l))) (eqb (length l) (tableLength (candidate l))) (r .1) in
     record {
       few = rw (p .1) at (leb-true (candidate l) 32768 (r .0));
-      starts = alike-eq (take 5760 l) (headers (candidate l)) (s .0) ∙ ap headers (p .1);
+      starts = alike-same (take 5760 l) (headers (candidate l)) (s .0) ∙ ap headers (p .1);
       size = eqb-true (length l) (tableLength (candidate l)) (s .1) ∙ ap tableLength (p .1);
     }
 

@@ -11,10 +11,12 @@ use lib.Dec.{eqb}
 use lib.ListN.{length, take, drop, replicate, length-append, length-replicate}
 use lib.Seq.{take-at, drop-at}
 use borrow.Author.Tests.{le-ltb, ne-eqb}
+use Rattle.buffers.proofs.Lists.{alike-self}
+use Rattle.buffers.specs.Lists.{alike}
 use Rattle.fits_table.specs.declared.cards.Table.the-variants.{Rows}
-use Rattle.fits_table.specs.Header.{leading, field, front, behind, headers, digitStep, readDigits, candidate, alike, tableIn, tableLength, blocksOf}
+use Rattle.fits_table.specs.Header.{leading, field, front, behind, headers, digitStep, readDigits, candidate, tableIn, tableLength, blocksOf}
 use Rattle.fits_table.specs.Rows.{rowsBytes, tableOf}
-use Rattle.fits_table.proofs.Fields.{read-snoc, length-field, front-long, headers-long, alike-refl, told-rows}
+use Rattle.fits_table.proofs.Fields.{read-snoc, length-field, front-long, headers-long, told-rows}
 use Rattle.fits_table.proofs.Whole.{length-rows}
 
 -- a digit behind v, and a blank
@@ -88,4 +90,4 @@ told-table rs h =
     same =
         ap (λ (k : ℕ). alike (take 5760 T) (headers k)) is
         ∙ ap (λ (l : List ℕ). alike l (headers (length rs))) (take-at (headers (length rs)) (rowsBytes rs ++ pad) 5760 (headers-long (length rs)))
-        ∙ alike-refl (headers (length rs))
+        ∙ alike-self (headers (length rs))

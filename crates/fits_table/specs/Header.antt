@@ -7,6 +7,7 @@ use Prim.Native.String.{String, [] as noText, _∷_ as _then_}
 use Prim.Native.Char.{code}
 use lib.Dec.{leb, ltb, eqb}
 use lib.ListN.{length, take, drop, replicate}
+use Rattle.buffers.specs.Lists.{alike}
 use Rattle.fits_table.specs.declared.cards.Table.{Table}
 use Rattle.fits_table.specs.declared.cards.Table.the-variants.{Rows, Nothing}
 
@@ -87,12 +88,6 @@ readDigits value (b ∷ l) = readDigits (digitStep value b) l
 -- what the bytes of NAXIS2's field would mean
 unfoldable pub candidate : List ℕ → ℕ
 candidate given = readDigits 0 (take 20 (drop 3210 given))
-
-unfoldable pub alike : List ℕ → List ℕ → Bool
-alike [] [] = true
-alike [] (y ∷ ys) = false
-alike (x ∷ xs) [] = false
-alike (x ∷ xs) (y ∷ ys) = eqb x y && alike xs ys
 
 -- "blocks of 2,880 bytes": the data's, and the whole table's length
 abbrev pub blocksOf : ℕ → ℕ

@@ -3,8 +3,8 @@ use buffers::copy_8;
 ghost use mathlib.Core.Path.{_≡_};
 ghost use Prim.Native.Nat.{_+_, _*_, _%_, _≤_, _<_};
 ghost use lib.ListN.{length, take, drop};
-ghost use Rattle.buffers.specs.Lists.{written};
-ghost use Rattle.fits_table.specs.Header.{field, headers, digitStep, candidate, alike, tableIn};
+ghost use Rattle.buffers.specs.Lists.{written, alike};
+ghost use Rattle.fits_table.specs.Header.{field, headers, digitStep, candidate, tableIn};
 ghost use Rattle.fits_table.specs.Shape.{cardTable, slotCard, template};
 
 // The primary header's cards, the table's with an empty field of 20 for NAXIS2, and a blank one.

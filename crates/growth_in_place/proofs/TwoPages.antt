@@ -11,9 +11,8 @@ use Rattle.buffers.specs.Lists.{padded, written}
 use Rattle.buffers.proofs.Lists.{length-padded}
 use Rattle.buffers.proofs.Written.{length-written, taken-written}
 use Rattle.pages.specs.Page.{part}
-use Rattle.pages.proofs.Parts.{pages-apart, page-fits}
+use Rattle.pages.proofs.Parts.{pages-apart, page-fits, part-front, part-back}
 use Rattle.placement.specs.Rule.{Star}
-use Rattle.placement.proofs.Writing.{part-front, part-back}
 
 module _ (b M q : ℕ) (inside : q < M) (X l : List ℕ) (size : length X ≡ b) (long : length l ≡ M * b) where
   fits : q * b + b ≤ length l

@@ -9,6 +9,7 @@ use lib.Dec.{eqb, ltb}
 use lib.ListN.{length, take, drop, getD, length-drop, List·getD-map}
 use lib.Seq.{length-take-le, getD-take, getD-drop, drop-cons}
 use borrow.Author.Tests.{eq-eqb, ne-eqb, le-ltb}
+use Rattle.buffers.specs.Lists.{among}
 use Rattle.hashing.specs.declared.Parameters.{Parameters}
 use Rattle.hashing.specs.declared.Growth.{Growth}
 use Rattle.hashing.specs.declared.Geometry.{Geometry}
@@ -47,7 +48,7 @@ use Rattle.growth_in_place.proofs.Alike.{map-part}
 use Rattle.clean_test.specs.Raising.{Homed, firstRaisable, raisable}
 use Rattle.clean_test.proofs.Raising.{clean-exactly}
 use Rattle.page_plan.specs.declared.outcome.Outcome.the-variants.{On, Unsound, Overflows}
-use Rattle.own_stars.specs.Own.{among, apartFrom, Fits, LaidOut, numbersOf, restFrom, Listed, OwnEntered, TakeableOwn, OwnOf}
+use Rattle.own_stars.specs.Own.{apartFrom, Fits, LaidOut, numbersOf, restFrom, Listed, OwnEntered, TakeableOwn, OwnOf}
 use Rattle.own_stars.proofs.Among.{rising-apart, apart-member}
 use Rattle.own_stars.proofs.Laying.{laid-sized, laid-sound}
 use Rattle.own_stars.proofs.Placing.{rest-all}

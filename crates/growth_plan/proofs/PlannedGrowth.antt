@@ -9,6 +9,7 @@ use lib.Dec.{eqb, ltb}
 use lib.ListN.{length, getD, take, replicate, length-replicate}
 use lib.Seq.{slice}
 use borrow.Author.Tests.{le-ltb}
+use Rattle.own_stars.proofs.Laying.{unsound-on, overflows-on}
 use Rattle.hashing.specs.declared.Parameters.{Parameters}
 use Rattle.hashing.specs.declared.Growth.{Growth}
 use Rattle.hashing.specs.Geometry.{pageCount, grown}
@@ -42,12 +43,6 @@ use Rattle.growth_block.proofs.Holding.{nothing-past}
 use Rattle.growth_block.proofs.Named.{page-named}
 use Rattle.growth_plan.specs.Growth.{growthAnswer, growthFile}
 use Rattle.growth_plan.proofs.Growing.{some-pages, homes-size, homes-within, growth-plannable, growth-done}
-
-pub unsound-on : (bad page : ℕ) → Unsound bad ≡ On page → ⊥
-unsound-on bad page e = let z : _≡_ {A = ℕ} 0 1 = cc in omega arith
-
-pub overflows-on : (page : ℕ) → Overflows ≡ On page → ⊥
-overflows-on page e = let z : _≡_ {A = ℕ} 0 1 = cc in omega arith
 
 -- the items alone, as a file
 pub all-ready : (p : Parameters) (next : Growth) (ns pool waiting : List ℕ) → validParameters p ≡ true → validGrowth p next ≡ true

@@ -7,6 +7,7 @@ use native.Mathlib.Omega.{arith}
 use lib.Dec.{ltb}
 use lib.ListN.{getD, take, drop}
 use borrow.Author.Tests.{ltb-false}
+use Rattle.own_stars.proofs.Laying.{unsound-on, overflows-on}
 use Rattle.buffers.specs.Lists.{written}
 use Rattle.pages.specs.Page.{part}
 use Rattle.pages.specs.Position.{validWord}
@@ -31,7 +32,7 @@ use Rattle.growth_block.proofs.Named.{one-item}
 use Rattle.growth_plan.specs.Growth.{growthAnswer, growthFile}
 use Rattle.growth_plan.proofs.InPlace.{replaced-whole}
 use Rattle.growth_plan.specs.Step.{pageStepped}
-use Rattle.growth_plan.proofs.PlannedGrowth.{unsound-on, overflows-on, ways, grown-file}
+use Rattle.growth_plan.proofs.PlannedGrowth.{ways, grown-file}
 
 -- which of three things the growth decides, by the answer
 

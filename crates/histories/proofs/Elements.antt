@@ -36,14 +36,11 @@ use Rattle.histories.proofs.Under.{request-conforms}
 use Rattle.histories.proofs.GoesOn.{mend-stays, survives}
 use Rattle.histories.proofs.Cleaned.{Modelled}
 use Rattle.histories.proofs.Tables.{read-begins, read-undamaged, write-undamaged}
-use Rattle.histories.proofs.Filing.{sought-undamaged, added-undamaged, filing-unlent, filing-open, filing-begun, filed}
+use Rattle.histories.proofs.Filing.{sought-undamaged, added-undamaged, filing-unlent, filing-open, filing-begun, filed, told}
 use Rattle.histories.proofs.Carrying.{past, own-order, carried-on, carried-closed, carried-undamaged}
 
 same-request : (q : Request) (k : ℕ) → plain q ≡ plain (lookUp k) → q ≡ lookUp k
 same-request q k e = cc
-
-told : {c d : Made} → c ≡ d → c .refusal ≡ 5 → d .refusal ≡ 5
-told e z = rw e at z
 
 -- stars entered, none of them refused
 stars-undamaged : (w : List Star) (c : Made) → List·Memᴰ c (starsEntered w) → c .refusal ≡ 5 → ⊥

@@ -9,6 +9,7 @@ use native.Mathlib.Omega.{arith}
 use lib.Dec.{eqb}
 use lib.ListN.{length}
 use borrow.Author.Tests.{eqb-true, eq-eqb, le-leb}
+use Rattle.histories.proofs.Carrying.{model-checked}
 use Rattle.hashing.specs.declared.Parameters.{Parameters}
 use Rattle.pages.specs.declared.position.Position.{Position}
 use Rattle.pages.specs.Position.{validNumber, validPosition, validWord}
@@ -105,10 +106,6 @@ clean-file : (p : Parameters) (m : Model) → Fitting p m → Clean validWord (h
 unfolding modelFile hashOf
 clean-file p m t =
     clean-laid validWord (hashFor p m) (p .pages) (starsFor m) (rising-from p m t) (proper p m t) (t .fits)
-
-check-accepts : (p : Parameters) (m : Model) → Fitting p m → (pool : Pool) → poolFits p pool ≡ true → checkOf p (m .growth) (modelFile p m) pool .answer .refusal ≡ 0
-unfolding checkOf spotted
-check-accepts p m t pool e = rw (lent-pool p m t (poolFits p pool), e, finds-nothing p m t)
 
 look-up-accepts : (p : Parameters) (m : Model) → Fitting p m → (pool : Pool) (k : ℕ) → validNumber k ≡ true → lookUpOf p (m .growth) (modelFile p m) pool k .answer ≡ answered p m k
 unfolding lookUpOf pageFor namedPage
@@ -490,7 +487,7 @@ unfolding outcome effect step checkUnder
 in-history s agrees second =
     record {
       clean = rw (agrees .growth, agrees .file) (clean-file (s .parameters) (s .model) (agrees .fitting));
-      checked = λ pool e. rw (agrees .steps, agrees .growth, agrees .file) (check-accepts (s .parameters) (s .model) (agrees .fitting) pool e);
+      checked = λ pool e. rw (agrees .steps, agrees .growth, agrees .file) (model-checked (s .parameters) (s .model) (agrees .fitting) pool e);
       sought = λ pool k e. looked-up s agrees pool k e;
       cascades = λ pool caller k q. (does-as-entry s agrees second pool caller k q, counts-as-entry s agrees second pool caller k q);
       mends = λ pool. (mended-stays s agrees second pool, mended-accepted s agrees second pool);

@@ -127,7 +127,7 @@ pub record AllReported (p : Parameters) (m : Model) (r : GrowthRecord) (f : File
   pub each : (c : Made) → List·Memᴰ c (callsTried p r f pool xs) → c .refusal ≡ 5 → ⊥
   pub undamaged : filedFrom p r f pool xs .answer .refusal ≡ 5 → ⊥
 
-told : {c d : Made} → c ≡ d → c .refusal ≡ 5 → d .refusal ≡ 5
+pub told : {c d : Made} → c ≡ d → c .refusal ≡ 5 → d .refusal ≡ 5
 told e z = rw e at z
 
 pub all-reported : (p : Parameters) (pool : Pool) (xs : List Report) (m : Model) → Fitting p m → (g : Growth) (f : File) → g ≡ m .growth → f ≡ modelFile p m

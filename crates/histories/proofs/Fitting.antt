@@ -25,7 +25,7 @@ use Rattle.calls.specs.Calls.{fileFits, readable}
 use Rattle.histories.specs.Model.{Model, entryStars, modelFile, pageFor}
 use Rattle.histories.proofs.Entries.{Ordered}
 use Rattle.histories.proofs.Stars.{stars-rise, stars-valid}
-use Rattle.histories.proofs.Naming.{page-named}
+use Rattle.placement.proofs.Naming.{page-named}
 
 -- Homes are pages.
 pub homed : (p : Parameters) (g : Growth) (k : ℕ) → validParameters p ≡ true → validGrowth p g ≡ true → hashOf p g .home k < p .pages

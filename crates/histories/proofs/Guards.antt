@@ -12,11 +12,6 @@ use Rattle.histories.specs.Model.{Model, modelFile}
 use Rattle.histories.proofs.Fitting.{Fitting, lengths}
 
 -- A call that is accepted has passed them, whatever the file.
-pub guard-passed : (g : Growth) (f : File) (pool : Pool) (n : ℕ) (after : After) → guarded g f pool n after .answer .refusal ≡ 0 → n ≡ 0
-unfolding spotted
-guard-passed g f pool zero after e = refl
-guard-passed g f pool (suc n) after e = absurd (omega arith)
-
 module _ (p : Parameters) (m : Model) (t : Fitting p m) where
   pub lent : unlent p (m .growth) (fileFits p (modelFile p m)) ≡ 0
   unfolding unlent

@@ -9,6 +9,7 @@ use native.Mathlib.Omega.{arith}
 use lib.Dec.{ltb, eqb}
 use lib.ListN.{length}
 use borrow.Author.Tests.{eqb-true, ne-eqb}
+use Rattle.reports.proofs.Exact.{unless-zero}
 use Rattle.hashing.specs.declared.Parameters.{Parameters}
 use Rattle.hashing.specs.declared.Growth.{Growth}
 use Rattle.hashing.specs.Limits.{validParameters, validGrowth}
@@ -56,10 +57,6 @@ owns caller owner observer e = sym (eqb-true caller owner (rw (ne-eqb caller 0 o
 neither : (a b : ℕ) → orElse a b ≡ 0 → (a ≡ 0) × (b ≡ 0)
 neither zero b e = (refl, e)
 neither (suc a) b e = absurd (omega arith)
-
-given : (t : Bool) (n : ℕ) → unless t (suc n) ≡ 0 → t ≡ true
-given true n e = refl
-given false n e = absurd (omega arith)
 
 module _ (p : Parameters) (g : Growth) (f : File) (caller : ℕ) (observer : caller ≡ 0 → ⊥) (s : Star) (other : s .payload .owner ≡ caller → ⊥) where
   -- what a call leaves holds s as often
@@ -223,7 +220,7 @@ module _ (p : Parameters) (g : Growth) (f : File) (caller : ℕ) (observer : cal
       (λ _.
       either (holds p f page k) _ _
       (λ _. record { same = refl })
-      (λ _. h (lent pool _ e) (in-range k (given (validNumber k) 2 (neither (unless (validNumber k) 3) _ rest .0)) .0)))
+      (λ _. h (lent pool _ e) (in-range k (unless-zero (validNumber k) 2 (neither (unless (validNumber k) 3) _ rest .0)) .0)))
       (λ _. record { same = refl }))
     where
       page : ℕ

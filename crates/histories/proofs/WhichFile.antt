@@ -12,6 +12,7 @@ use lib.Dec.{eqb, leb}
 use lib.ListN.{length, getD, take}
 use lib.Seq.{take-all}
 use borrow.Author.Tests.{eq-eqb, ne-eqb, eqb-true, le-leb, lt-leb, leb-true}
+use Rattle.buffers.specs.Lists.{among}
 use Rattle.hashing.specs.declared.Parameters.{Parameters}
 use Rattle.hashing.specs.declared.Growth.{Growth}
 use Rattle.pages.specs.declared.position.Position.{Position}
@@ -35,7 +36,7 @@ use Rattle.calls.proofs.Stores.{SamePage, Mixed, Mixture, same-self, same-both,
 use Rattle.calls.proofs.Mending.{mendedTo, lent-again, mend-same, mend-mixed}
 use Rattle.histories.specs.Model.{Model, enter, change, remove, updated, fed, heldPosition, heldOwner, modelFile}
 use Rattle.histories.specs.Call.{isAccepted}
-use Rattle.histories.specs.PowerLoss.{among, WhichFile, WhichAfterLoss}
+use Rattle.histories.specs.PowerLoss.{WhichFile, WhichAfterLoss}
 use Rattle.histories.proofs.Stars.{starOf, held-star, no-star, stars-enter, stars-strike}
 use Rattle.histories.proofs.Fitting.{Fitting, starsFor, rising-from, proper, sized}
 use Rattle.histories.proofs.Change.{change-conforms}

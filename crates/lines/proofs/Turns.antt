@@ -9,7 +9,7 @@ use lib.Seq.{sets-eq, take-append-le, take-all, drop-length}
 use Rattle.lines.specs.Grammar.{commandOf, linesOf}
 use Rattle.lines.specs.Programs.{Program, putOut, Run, opened, runs, textFor, lastOf, writtenOut}
 use Rattle.lines.specs.Replies.{TextAt}
-use Rattle.lines.specs.Turns.{Turn, Turns, output, inputBlocks, joined, Written, Answers, Finishes}
+use Rattle.lines.specs.Turns.{Turn, Turns, output, inputBlocks, joined, PutOut, Answers, Finishes}
 use Rattle.lines.proofs.Programs.{as-one}
 
 put-front : (text before after : List ℕ) (at : ℕ) → TextAt 0 text before after at → at ≤ length before → take at after ≡ text
@@ -20,7 +20,7 @@ put-front text before after at t room =
     ∙ take-all at text (omega arith)
 
 -- what is written after a call that puts text at the front of its buffer is this text
-pub written-is : (put text : List ℕ) → Written (λ before after at. TextAt 0 put before after at) text → text ≡ put
+pub written-is : (put text : List ℕ) → PutOut (λ before after at. TextAt 0 put before after at) text → text ≡ put
 written-is put text w = w .bytes ∙ put-front put (w .before) (w .after) (w .at) (w .contract) (w .room)
 
 -- a buffer of the text's own length will do

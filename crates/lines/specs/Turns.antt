@@ -32,7 +32,7 @@ joined (b ∷ bs) = b ++ joined bs
 
 -- What is written after a call, by its contract on the buffer that it is lent, on what it leaves there and on its answer: `&out[..at]`. The
 -- room is what the bounds give that each contract states.
-pub record Written (Contract : List ℕ → List ℕ → ℕ → Type 0) (text : List ℕ) : Type 0 where
+pub record PutOut (Contract : List ℕ → List ℕ → ℕ → Type 0) (text : List ℕ) : Type 0 where
   pub before : List ℕ
   pub after : List ℕ
   pub at : ℕ
@@ -43,8 +43,8 @@ pub record Written (Contract : List ℕ → List ℕ → ℕ → Type 0) (text :
 -- the contract of the call on a block; what the code keeps stands for a run of the program
 abbrev pub Answers : {C S : Type 0} → Program S → (C → Run S) → C → Turn C → Type 0
 Answers p runOf c t =
-    Written (λ before after at. Stands p (runOf c) (t .block) 0 before after (runOf (t .next)) at) (t .text)
+    PutOut (λ before after at. Stands p (runOf c) (t .block) 0 before after (runOf (t .next)) at) (t .text)
 
 -- that of the call at the end
 abbrev pub Finishes : {C S : Type 0} → Program S → (C → Run S) → C → List ℕ → Type 0
-Finishes p runOf c last = Written (λ before after at. TextAt 0 (lastOf p (runOf c)) before after at) last
+Finishes p runOf c last = PutOut (λ before after at. TextAt 0 (lastOf p (runOf c)) before after at) last

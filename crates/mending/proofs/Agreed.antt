@@ -8,6 +8,7 @@ use native.Mathlib.Omega.{arith}
 use native.Mathlib.Decide.{ℕ-discrete}
 use lib.Dec.{eqb}
 use borrow.Author.Tests.{eq-eqb, ne-eqb, eqb-true}
+use Rattle.page_plan.proofs.Pouring.{rises-lower}
 use Rattle.buffers.proofs.Tests.{and-true}
 use Rattle.page_separator.specs.Lists.{rises, all}
 use Rattle.page_separator.specs.Words.{homeOf, numberIn, sourceOf, lowOf}
@@ -196,17 +197,13 @@ firsts-cover k (y ∷ l) x m = go (ℕ-discrete (numberKey y) k) (List·Memᴰ·
         (λ (w : Kept (numberKey y) l x). inr (record { word = w .word; there = rw (ne-eqb (numberKey y) k d) (List·Memᴰ·tail (w .there)); same = w .same }))
         (ih (numberKey y) n)
 
-rises-later : (a b : ℕ) (l : List ℕ) → a ≤ b → rises b l ≡ true → rises a l ≡ true
-rises-later a b [] h u = unfold rises in refl
-rises-later a b (x ∷ l) h u = Rattle.page_plan.proofs.Order.rises-cons a x l (omega (arith, rises-head b x l u)) (rises-tail b x l u)
-
 pub firsts-rise : (b k : ℕ) (l : List ℕ) → rises b l ≡ true → rises b (firstsAfter k l) ≡ true
 unfolding firstsAfter
 firsts-rise b k [] u = u
 firsts-rise b k (y ∷ l) u = go (eqb (numberKey y) k) (λ j. firsts-rise y j l (rises-tail b y l u))
   where
     go : (t : Bool) → ((j : ℕ) → rises y (firstsAfter j l) ≡ true) → rises b (cond t (firstsAfter k l) (y ∷ firstsAfter (numberKey y) l)) ≡ true
-    go true ih = rises-later b y (firstsAfter k l) (rises-head b y l u) (ih k)
+    go true ih = rises-lower b y (firstsAfter k l) (rises-head b y l u) (ih k)
     go false ih = Rattle.page_plan.proofs.Order.rises-cons b y (firstsAfter (numberKey y) l) (rises-head b y l u) (ih (numberKey y))
 
 -- the keys of those that stay rise strictly

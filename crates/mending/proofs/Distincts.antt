@@ -26,7 +26,7 @@ use Rattle.page_plan.specs.Sources.{renamed, sourced}
 use Rattle.page_plan.specs.Plans.{starOf, waits, homed}
 use Rattle.page_plan.proofs.Applying.{renamed-keeps}
 use Rattle.page_plan.proofs.RuleOverWords.{Probes}
-use Rattle.page_plan.proofs.Sourcing.{ordered, fresh, fresh-led, waits-poured, words-ordered, words-fresh, gathered-stretch, true-stars, length-stretch}
+use Rattle.page_plan.proofs.Sourcing.{ordered, fresh, fresh-led, waits-poured, words-ordered, words-fresh, gathered-stretch, true-stars, length-stretch, map-map}
 use Rattle.page_plan.proofs.Placed.{Gatherable, stretch-homed, stretch-grouped, stretch-sourced}
 use Rattle.sorting.proofs.Joining.{rises-ordered, all-ordered, member-ordered, ordered-member}
 use Rattle.calls.specs.Mend.{agreeing}
@@ -51,10 +51,6 @@ map-member {A} f (x ∷ l) y m =
 member-map : {A B : Type 0} (f : A → B) (l : List A) (x : A) → List·Memᴰ x l → List·Memᴰ (f x) (map f l)
 member-map f [] x m = absurd (List·Memᴰ·not-nil m)
 member-map f (y ∷ l) x m = ⊎-elim (λ e. List·Memᴰ·head (ap f e)) (λ n. List·Memᴰ·tail (member-map f l x n)) (List·Memᴰ·cases-cons m)
-
-map-map : (g : Star → Star) (h : ℕ → Star) (l : List ℕ) → map g (map h l) ≡ map (λ w. g (h w)) l
-map-map g h [] = refl
-map-map g h (x ∷ l) = ap (λ (s : List Star). g (h x) ∷ s) (map-map g h l)
 
 -- the words in groups are the words
 selected-member : (q : ℕ → Bool) (l : List ℕ) (x : ℕ) → List·Memᴰ x (selected q l) → List·Memᴰ x l

@@ -9,6 +9,7 @@ use lib.Dec.{eqb, ltb}
 use lib.ListN.{length, getD, take, drop, length-map, List·getD-map}
 use lib.Seq.{length-take-le, getD-take, getD-drop, take-all, paste}
 use borrow.Author.Tests.{ne-eqb, lt-ltb, ltb-true}
+use Rattle.removal_reach.proofs.Ruled.{none-left}
 use Rattle.buffers.proofs.Lists.{map-take, map-drop}
 use Rattle.buffers.proofs.Written.{written-whole, paste-written, pasted-whole}
 use Rattle.pages.specs.Shape.{stretch}
@@ -194,10 +195,6 @@ applied-whole places M pool planned ss ns ws os lp ld z =
         ap (λ (n : ℕ). Rattle.buffers.specs.Lists.written n (map (namedItem l 0) (stretch places 0 M pool)) d) (zero-mul places)
         ∙ ap (λ (s : List ℕ). Rattle.buffers.specs.Lists.written 0 (map (namedItem l 0) s) d) all-pages
         ∙ written-whole (map (namedItem l 0) pool) d (length-map pool (namedItem l 0) ∙ lp ∙ sym e)
-
-none-left : (w : List Star) → eqb (length w) 0 ≡ isEmpty w
-none-left [] = refl
-none-left (s ∷ w) = ne-eqb (suc (length w)) 0 (λ e. omega arith)
 
 -- all pages replaced are the whole file
 all-laid : (H : Hash) (M : ℕ) (f : File) (w : List Star) → Sized (H .room) M f → replaced (H .room) f 0 (pages H 0 M w) ≡ laid (H .room) H M w

@@ -8,12 +8,13 @@ use native.Mathlib.Omega.{arith}
 use lib.Dec.{eqb}
 use lib.ListN.{length, take, drop, getD}
 use borrow.Author.Tests.{eqb-true, eqb-false, eq-eqb, ne-eqb, not-true}
+use Rattle.buffers.specs.Lists.{among}
 use Rattle.placement.specs.Rule.{Star, filter, insert, without}
 use Rattle.placement.proofs.Filters.{filter-ext-on, filter-filter, filter-all-on, member-filter, filter-member}
 use Rattle.placement.proofs.Order.{Rising, Absent, rising-filter, rising-insert, rising-same, rising-without, member-insert, inserted, insert-keeps, member-without, without-member}
 use Rattle.placement.proofs.Pages.{Numbered}
 use Rattle.placement.proofs.Mixture.{rising-single}
-use Rattle.own_stars.specs.Own.{among, apartFrom}
+use Rattle.own_stars.specs.Own.{apartFrom}
 
 other-head : (n k : ℕ) (ns : List ℕ) → (n ≡ k → ⊥) → among k (n ∷ ns) ≡ among k ns
 unfolding among

@@ -10,6 +10,7 @@ use lib.Dec.{leb, ltb}
 use lib.ListN.{length, getD}
 use lib.Seq.{paste}
 use borrow.Author.Tests.{leb-true, le-leb, le-ltb}
+use Rattle.pages.proofs.Numbers.{number-valid}
 use Rattle.hashing.specs.declared.Parameters.{Parameters}
 use Rattle.hashing.specs.declared.Growth.{Growth}
 use Rattle.generator.specs.Generator.{topOf}
@@ -43,10 +44,10 @@ use Rattle.decision.specs.declared.chosen.Decision.the-variants.{Take}
 use Rattle.page_plan.specs.declared.outcome.Outcome.{Outcome}
 use Rattle.page_plan.specs.declared.outcome.Outcome.the-variants.{On, Unsound, Overflows}
 use Rattle.entry_reach.specs.Entry.{Unheld, entryStart, entryLast, entryCount, entryUnsound, entryContents, entryAnswer, entryFile}
-use Rattle.removal_reach.specs.Removal.{Held, removalStart, removalCount, removalUnsound, removalFile, Decides}
+use Rattle.removal_reach.specs.Removal.{Held, removalStart, removalCount, removalUnsound, removalFile, DecidesRemoval}
 use Rattle.removal_reach.proofs.OnePage.{taken-decided}
 use Rattle.own_stars.specs.Own.{Fits, LaidOut, OneEntered}
-use Rattle.own_stars.proofs.Naming.{page-named}
+use Rattle.placement.proofs.Naming.{page-named}
 
 -- with a store for every page, all is stored
 pub whole-file : (lowest : Bool) (p : Parameters) (f l : File) → stoppedFile lowest p f l (p .pages) ≡ l
@@ -57,10 +58,6 @@ overflows-on page e = let z : _≡_ {A = ℕ} 0 1 = cc in omega arith
 
 pub unsound-on : (bad page : ℕ) → Unsound bad ≡ On page → ⊥
 unsound-on bad page e = let z : _≡_ {A = ℕ} 0 1 = cc in omega arith
-
-pub valid-number : (k : ℕ) → 1 ≤ k → k ≤ greatest → validNumber k ≡ true
-unfolding validNumber
-valid-number k l h = rw (le-leb 1 k l, le-leb k 2147483646 h)
 
 module _ (p : Parameters) (g : Growth) (t : List Star) (valid : validParameters p ≡ true) (grows : validGrowth p g ≡ true)
     (rising : Rising 0 t) (proper : Proper validWord t) (fits : Fits p g t) where
@@ -188,10 +185,10 @@ module _ (p : Parameters) (g : Growth) (f : File) (t : List Star) (valid : valid
     unfolding hashOf
     named-here = sym (named-home p g f laid-sized page inside valid k homed top)
 
-    pub take-decides : (place : ℕ) → place ≡ placeOf k (part (p .places) page (f .numbers)) → (pool planned : List ℕ) → Decides p g f k page pool planned (Take page place)
+    pub take-decides : (place : ℕ) → place ≡ placeOf k (part (p .places) page (f .numbers)) → (pool planned : List ℕ) → DecidesRemoval p g f k page pool planned (Take page place)
     take-decides place there pool planned =
         let ranged = L .proper s member in
-        taken-decided p g f k valid grows laid-sized (rw (← named) (valid-number (s .number) (ranged .0) (ranged .1))) (rw (← named) (laid-held s member)) stored-top page place named-here there pool planned
+        taken-decided p g f k valid grows laid-sized (rw (← named) (number-valid (s .number) (ranged .0) (ranged .1))) (rw (← named) (laid-held s member)) stored-top page place named-here there pool planned
 
     pub taken-one : (f′ : File) (place : ℕ) (pool planned : List ℕ) → place ≡ placeOf k (part (p .places) page (f .numbers))
         → f′ ≡ stoppedFile true p f (carriedOut (p .places) (starWith 0 0 0) pool planned f (Take page place)) (p .pages)

@@ -1,4 +1,3 @@
 pub mod Among
-pub mod Naming
 pub mod Laying
 pub mod Placing

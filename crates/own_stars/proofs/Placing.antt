@@ -8,6 +8,8 @@ use native.Mathlib.Omega.{arith}
 use borrow.Author.Tests.{eq-eqb, ne-eqb}
 use lib.ListN.{length, take, drop, getD, set, length-set}
 use lib.Seq.{length-take-le, drop-cons, getD-take, getD-set-same, getD-set-other}
+use Rattle.pages.proofs.Numbers.{number-valid}
+use Rattle.buffers.specs.Lists.{among}
 use Rattle.hashing.specs.declared.Parameters.{Parameters}
 use Rattle.hashing.specs.declared.Growth.{Growth}
 use Rattle.hashing.specs.Limits.{validParameters, validGrowth}
@@ -24,10 +26,10 @@ use Rattle.placement.specs.Shape.{Sized}
 use Rattle.placement.specs.Ready.{Pooled}
 use Rattle.placement.proofs.Order.{Rising, Absent, inserted}
 use Rattle.placement.proofs.Pages.{Proper, Numbered}
-use Rattle.own_stars.specs.Own.{among, apartFrom, Fits, LaidOut, OneEntered, EntersOne, Enterable, TakesOne, numbersOf, restFrom, Listed, Begun, PlaceEntered, OwnEntered, EntersPlace, Takeable, TakeableOwn, OwnOf, ownNumber}
+use Rattle.own_stars.specs.Own.{apartFrom, Fits, LaidOut, OneEntered, EntersOne, Enterable, TakesOne, numbersOf, restFrom, Listed, EnteredBelow, PlaceEntered, OwnEntered, EntersPlace, Takeable, TakeableOwn, OwnOf, ownNumber}
 use Rattle.generator.specs.Generator.{topOf}
 use Rattle.own_stars.proofs.Among.{apart-none, apart-zero, apart-without, apart-absent, apart-insert}
-use Rattle.own_stars.proofs.Laying.{valid-number, laid-sized}
+use Rattle.own_stars.proofs.Laying.{laid-sized}
 
 -- a number sought on a loaded page
 module _ (places page k : ℕ) (ns ws os : List ℕ) (v : Page) (r : Place) (loaded : v ≡ pageAt places page ns ws os) (found : r ≡ placeIn k (take places (v .numbers)))
@@ -92,7 +94,7 @@ module _ (places : ℕ) (own : Page) (w : List Star) (listed : Listed places own
       rest-member = rw (← rest-star) (inserted star (restFrom places own w i))
 
       pub star-number : validNumber n ≡ true
-      star-number = let r = listed .proper star (listed .star i h some) in valid-number n (r .0) (r .1)
+      star-number = let r = listed .proper star (listed .star i h some) in number-valid n (r .0) (r .1)
 
       pub star-word : validWord (getD (own .words) i 0) ≡ true
       star-word = listed .proper star (listed .star i h some) .2
@@ -108,7 +110,7 @@ module _ (p : Parameters) (g : Growth) (f : File) (own : Page) (i : ℕ) (h : i 
       }
 
   module _ (some : getD (own .numbers) i 0 ≡ 0 → ⊥) where
-    pub one-enterable : Begun p g f own i → Enterable p g f (getD (own .numbers) i 0) (getD (own .words) i 0)
+    pub one-enterable : EnteredBelow p g f own i → Enterable p g f (getD (own .numbers) i 0) (getD (own .words) i 0)
     one-enterable b =
         record {
           number = star-number (p .places) own (b .stars) (b .listed) i h some;
@@ -136,9 +138,9 @@ pub record Rolling (p : Parameters) (g : Growth) (f f′ : File) (own : Page) (p
   pub laid-out : (w : List Star) → Listed (p .places) own w → LaidOut p g f (restFrom (p .places) own w from) → LaidOut p g f′ (restFrom (p .places) own w i)
 
 module _ (p : Parameters) (g : Growth) (f f′ : File) (own : Page) (pool waiting poolowners : List ℕ) (from i : ℕ)
-    (valid : validParameters p ≡ true) (grows : validGrowth p g ≡ true) (b : Begun p g f own from)
+    (valid : validParameters p ≡ true) (grows : validGrowth p g ≡ true) (b : EnteredBelow p g f own from)
     (R : Rolling p g f f′ own pool waiting poolowners from i) (h : i < p .places) where
-  pub rolling-begun : Begun p g f′ own i
+  pub rolling-begun : EnteredBelow p g f′ own i
   rolling-begun = record { stars = b .stars; listed = b .listed; begun = R .most; laid-out = R .laid-out (b .stars) (b .listed) (b .laid-out) }
 
   module _ (f″ : File) (r : Bool) (E : EntersPlace p g f′ f″ own i r) where

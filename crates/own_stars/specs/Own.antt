@@ -5,6 +5,7 @@ use mathlib.Core.List.{List, [], _∷_, List·Memᴰ}
 use Prim.Native.Nat.{ℕ, suc, _+_, _*_, _≤_, _<_}
 use lib.Dec.{eqb}
 use lib.ListN.{length, take, drop, getD}
+use Rattle.buffers.specs.Lists.{among}
 use Rattle.hashing.specs.declared.Parameters.{Parameters}
 use Rattle.hashing.specs.declared.Growth.{Growth}
 use Rattle.generator.specs.Generator.{topOf}
@@ -17,11 +18,6 @@ use Rattle.placement.specs.File.{File, laid}
 use Rattle.placement.specs.Hash.{hashOf}
 use Rattle.placement.proofs.Order.{Rising, Absent}
 use Rattle.placement.proofs.Pages.{Proper}
-
--- k is one of these numbers
-unfoldable pub among : ℕ → List ℕ → Bool
-among k [] = false
-among k (n ∷ ns) = eqb n k || among k ns
 
 -- the stars but those of these numbers
 unfoldable pub apartFrom : List ℕ → List Star → List Star
@@ -91,7 +87,7 @@ pub record Listed (places : ℕ) (own : Page) (w : List Star) : Type 0 where
   pub once : (i : ℕ) → i < places → (getD (own .numbers) i 0 ≡ 0 → ⊥) → among (getD (own .numbers) i 0) (drop (suc i) (numbersOf places own)) ≡ false
 
 -- the stars of the value's places below `from` are in the file, with all others of w
-pub record Begun (p : Parameters) (g : Growth) (f : File) (own : Page) (from : ℕ) : Type 0 where
+pub record EnteredBelow (p : Parameters) (g : Growth) (f : File) (own : Page) (from : ℕ) : Type 0 where
   pub stars : List Star
   pub listed : Listed (p .places) own stars
   pub begun : from ≤ p .places

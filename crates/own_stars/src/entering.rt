@@ -3,7 +3,7 @@ ghost use Prim.Native.Nat.{_<_};
 ghost use Rattle.placement.specs.Rule.{starWith};
 ghost use Rattle.placement.specs.Lent.{held, before, after};
 ghost use Rattle.placement.specs.Ready.{Ready, Pooled};
-ghost use Rattle.own_stars.specs.Own.{Enterable, EntersOne, Begun, EntersPlace, EntersOwn};
+ghost use Rattle.own_stars.specs.Own.{Enterable, EntersOne, EnteredBelow, EntersPlace, EntersOwn};
 use decision::Newcomer;
 use hashing::Geometry;
 use page_plan::Outcome;
@@ -91,7 +91,7 @@ fn enter_place(
 ) -> bool
     requires { ⌜ Ready geometry (now table) (held separators numbers words owners) ⌝ }
     requires { ⌜ Pooled (geometry .parameters) (now pool) (now waiting) (now poolowners) ⌝ }
-    requires { ⌜ Begun (geometry .parameters) (geometry .growth) (held separators numbers words owners) own place ⌝ }
+    requires { ⌜ EnteredBelow (geometry .parameters) (geometry .growth) (held separators numbers words owners) own place ⌝ }
     requires { ⌜ place < geometry .parameters .places ⌝ }
     ensures { λ r. ⌜ EntersPlace (geometry .parameters) (geometry .growth) (before separators numbers words owners) (after separators numbers words owners) own place r ⌝ }
 {
@@ -130,7 +130,7 @@ pub fn enter_own(
 ) -> usize
     requires { ⌜ Ready geometry (now table) (held separators numbers words owners) ⌝ }
     requires { ⌜ Pooled (geometry .parameters) (now pool) (now waiting) (now poolowners) ⌝ }
-    requires { ⌜ Begun (geometry .parameters) (geometry .growth) (held separators numbers words owners) own from ⌝ }
+    requires { ⌜ EnteredBelow (geometry .parameters) (geometry .growth) (held separators numbers words owners) own from ⌝ }
     ensures { λ r. ⌜ EntersOwn (geometry .parameters) (geometry .growth) (before separators numbers words owners) (after separators numbers words owners) own from r ⌝ }
 {
     let places = geometry.parameters.places as usize;

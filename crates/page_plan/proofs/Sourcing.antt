@@ -128,7 +128,7 @@ star-insert x (y ∷ l) e =
     go true ih = refl
     go false ih = ap (λ (s : List Star). starOf y ∷ s) ih
 
-all-insert : (q : ℕ → Bool) (x : ℕ) (l : List ℕ) → q x ≡ true → all q l ≡ true → all q (insertLow x l) ≡ true
+pub all-insert : (q : ℕ → Bool) (x : ℕ) (l : List ℕ) → q x ≡ true → all q l ≡ true → all q (insertLow x l) ≡ true
 unfolding insertLow
 all-insert q x [] e h = all-cons q x [] e h
 all-insert q x (y ∷ l) e h = go (leb x y) (all-insert q x l e (all-tail q y l h))
@@ -315,7 +315,7 @@ gathered-stretch b f p (suc n) hn hw ho =
     ∙ rw (stretch-suc b p n (f .numbers), stretch-suc b p n (f .words), stretch-suc b p n (f .owners)))
 
 -- a map after a map
-map-map : (g : Star → Star) (h : ℕ → Star) (l : List ℕ) → map g (map h l) ≡ map (λ w. g (h w)) l
+pub map-map : (g : Star → Star) (h : ℕ → Star) (l : List ℕ) → map g (map h l) ≡ map (λ w. g (h w)) l
 map-map g h [] = refl
 map-map g h (x ∷ l) = ap (λ (s : List Star). g (h x) ∷ s) (map-map g h l)
 

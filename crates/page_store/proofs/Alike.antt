@@ -10,10 +10,12 @@ use lib.Dec.{eqb}
 use lib.ListN.{length, getD, take, drop, length-drop}
 use lib.Seq.{getD-drop}
 use borrow.Author.Tests.{eqb-true, eq-eqb, ne-eqb, not-true, not-false}
+use Rattle.buffers.proofs.Lists.{alike-self, alike-same}
+use Rattle.buffers.specs.Lists.{alike}
 use Rattle.buffers.proofs.Tests.{and-true}
 use Rattle.pages.specs.Page.{part}
 use Rattle.page_store.specs.Columns.{Columns}
-use Rattle.page_store.specs.Stores.{alike, columnsChange}
+use Rattle.page_store.specs.Stores.{columnsChange}
 
 and-right : (t : Bool) → t && true ≡ t
 and-right true = refl
@@ -26,20 +28,6 @@ and-no false = refl
 and-assoc : (s t u : Bool) → s && (t && u) ≡ (s && t) && u
 and-assoc true t u = refl
 and-assoc false t u = refl
-
-pub alike-self : (l : List ℕ) → alike l l ≡ true
-unfolding alike
-alike-self [] = refl
-alike-self (x ∷ xs) = rw (eq-eqb x x refl) (alike-self xs)
-
-pub alike-same : (k l : List ℕ) → alike k l ≡ true → k ≡ l
-unfolding alike
-alike-same [] [] e = refl
-alike-same [] (y ∷ ys) e = absurd (false≢true e)
-alike-same (x ∷ xs) [] e = absurd (false≢true e)
-alike-same (x ∷ xs) (y ∷ ys) e =
-    let both = and-true (eqb x y) (alike xs ys) e in
-    ap (λ (z : ℕ). z ∷ xs) (eqb-true x y (both .0)) ∙ ap (λ (l : List ℕ). y ∷ l) (alike-same xs ys (both .1))
 
 alike-next : (i : ℕ) (k l : List ℕ) → i < length k → i < length l
     → alike (take (suc i) k) (take (suc i) l) ≡ alike (take i k) (take i l) && eqb (getD k i 0) (getD l i 0)

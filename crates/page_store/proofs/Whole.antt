@@ -14,11 +14,10 @@ use Rattle.buffers.specs.Lists.{written}
 use Rattle.buffers.proofs.Written.{alike-later}
 use Rattle.pages.specs.Page.{part}
 use Rattle.pages.specs.Shape.{stretch}
-use Rattle.pages.proofs.Parts.{pages-apart}
+use Rattle.pages.proofs.Parts.{pages-apart, part-front}
 use Rattle.page_store.specs.Columns.{Columns}
 use Rattle.page_store.specs.Stores.{columnsChange, lowestFirst, highestFirst, changedPages, enough, columnStored, pageInTurn}
 use Rattle.page_store.proofs.Alike.{SamePage, same-unchanged}
-use Rattle.page_store.proofs.OnePage.{part-front}
 use Rattle.page_store.proofs.Order.{turnOf, turn-of}
 use Rattle.page_store.proofs.Reached.{Reached}
 use Rattle.page_store.proofs.Loop.{Fits}

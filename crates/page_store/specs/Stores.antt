@@ -5,16 +5,9 @@ use mathlib.Core.List.{List, [], _∷_}
 use Prim.Native.Nat.{ℕ, zero, suc, _+_, _-_, _*_}
 use lib.Dec.{eqb, leb}
 use lib.ListN.{length}
-use Rattle.buffers.specs.Lists.{written}
+use Rattle.buffers.specs.Lists.{written, alike}
 use Rattle.pages.specs.Page.{part}
 use Rattle.page_store.specs.Columns.{Columns}
-
--- the same items
-unfoldable pub alike : List ℕ → List ℕ → Bool
-alike [] [] = true
-alike [] (y ∷ ys) = false
-alike (x ∷ xs) [] = false
-alike (x ∷ xs) (y ∷ ys) = eqb x y && alike xs ys
 
 -- "those whose places change"
 unfoldable pub columnsChange : ℕ → Columns → Columns → ℕ → Bool

@@ -2,7 +2,7 @@
 ghost use mathlib.Core.Path.{_≡_};
 ghost use Prim.Native.Nat.{_+_, _≤_};
 ghost use lib.ListN.{length, take, drop};
-ghost use Rattle.page_store.specs.Stores.{alike};
+ghost use Rattle.buffers.specs.Lists.{alike};
 
 // Every item is compared, with no way out of the loop: so the compiler compares many at once.
 pub fn same_8(one: &[u8], other: &[u8], at: usize, items: usize) -> bool

@@ -3,11 +3,11 @@
 use mathlib.Core.Path.{_≡_, refl, sym, ap, _∙_}
 use mathlib.Core.List.{List, _++_}
 use Prim.Native.Nat.{ℕ, suc, _+_, _*_, _-_, _≤_, _<_}
-use native.Mathlib.Nat.{mul-le-mul-right, suc-mul, add-comm}
+use native.Mathlib.Nat.{mul-le-mul-right, suc-mul, add-mul, add-comm}
 use native.Mathlib.Numerals.{add-one}
 use native.Mathlib.Omega.{arith}
 use lib.ListN.{length, take, drop, set, getD, replicate, length-drop, length-set}
-use lib.Seq.{length-take-le, take-at, take-add, drop-drop, take-suc, getD-take, getD-drop, append-snoc, set-at}
+use lib.Seq.{length-take-le, take-at, take-append-le, take-add, drop-at, drop-append-le, drop-drop, take-suc, getD-take, getD-drop, append-snoc, set-at}
 use Rattle.buffers.specs.Lists.{padded}
 use Rattle.buffers.proofs.Lists.{padded-item, length-padded}
 use Rattle.pages.specs.Page.{part}
@@ -92,3 +92,15 @@ loaded-more {l} {v} {at} {i} h k before =
 pub loaded-all : (places p : ℕ) (l : List ℕ) {v : List ℕ} {i : ℕ} → p * places + places ≤ length l → i ≡ places → Loaded l (p * places) i v → v ≡ filled (part places p l)
 unfolding padded part
 loaded-all places p l fits e done = rw (done .is, e, part-length places p l fits)
+
+pub part-front : (b q : ℕ) (xs ys : List ℕ) → suc q * b ≤ length xs → part b q (xs ++ ys) ≡ part b q xs
+unfolding part
+part-front b q xs ys h =
+    ap (take b) (drop-append-le (q * b) xs ys (omega (arith, suc-mul q b)))
+    ∙ take-append-le b (drop (q * b) xs) ys (omega (arith, suc-mul q b, length-drop (q * b) xs))
+
+pub part-back : (b i j : ℕ) (xs ys : List ℕ) → length xs ≡ i * b → part b (i + j) (xs ++ ys) ≡ part b j ys
+unfolding part
+part-back b i j xs ys e =
+    ap (take b)
+    (ap (λ (k : ℕ). drop k (xs ++ ys)) (add-mul i j b) ∙ sym (drop-drop (j * b) (i * b) (xs ++ ys)) ∙ ap (drop (j * b)) (drop-at xs ys (i * b) e))

@@ -7,6 +7,7 @@ use native.Mathlib.Nat.{add-mul, mul-le-mul-right}
 use native.Mathlib.Omega.{arith}
 use lib.ListN.{length, take, drop, getD, drop-of-length-le}
 use lib.Seq.{drop-cons, take-all, length-take-le}
+use Rattle.pages.proofs.Parts.{part-front, part-back}
 use Rattle.buffers.proofs.Written.{written-add, length-written}
 use Rattle.buffers.specs.Lists.{written, padded}
 use Rattle.pages.specs.Page.{part}
@@ -20,7 +21,7 @@ use Rattle.placement.proofs.Standing.{length-separators, page-first, st
 use Rattle.placement.proofs.Order.{Rising, rising-same, rising-filter}
 use Rattle.placement.proofs.Collecting.{on-all}
 use Rattle.placement.proofs.Locality.{standing}
-use Rattle.placement.proofs.Writing.{Roomy, part-front, part-back, part-column, parts-same, length-column, column-append, written-column, written-separators, separators-append, getD-separators}
+use Rattle.placement.proofs.Writing.{Roomy, part-column, parts-same, length-column, column-append, written-column, written-separators, separators-append, getD-separators}
 use Rattle.placement.proofs.Pages.{Proper, Numbered, starsOf-padded}
 
 abbrev pub numberOf : Star → ℕ

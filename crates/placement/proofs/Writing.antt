@@ -26,18 +26,6 @@ part-suc b p l =
     ap (take b) (ap (λ (k : ℕ). drop k l) (suc-mul p b ∙ add-comm (p * b) b) ∙ sym (drop-drop (p * b) b l))
 
 -- Page q of a list that goes on, and page i + j of one that begins with i pages.
-pub part-front : (b q : ℕ) (xs ys : List ℕ) → suc q * b ≤ length xs → part b q (xs ++ ys) ≡ part b q xs
-unfolding part
-part-front b q xs ys h =
-    ap (take b) (drop-append-le (q * b) xs ys (omega (arith, suc-mul q b)))
-    ∙ take-append-le b (drop (q * b) xs) ys (omega (arith, suc-mul q b, length-drop (q * b) xs))
-
-pub part-back : (b i j : ℕ) (xs ys : List ℕ) → length xs ≡ i * b → part b (i + j) (xs ++ ys) ≡ part b j ys
-unfolding part
-part-back b i j xs ys e =
-    ap (take b)
-    (ap (λ (k : ℕ). drop k (xs ++ ys)) (add-mul i j b) ∙ sym (drop-drop (j * b) (i * b) (xs ++ ys)) ∙ ap (drop (j * b)) (drop-at xs ys (i * b) e))
-
 pub length-part : (b p M : ℕ) (l : List ℕ) → length l ≡ M * b → p < M → length (part b p l) ≡ b
 length-part b p M l e h = part-length b p l (page-fits b M p h e)
 

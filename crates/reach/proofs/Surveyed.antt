@@ -16,12 +16,11 @@ use Rattle.hashing.specs.declared.Parameters.{Parameters}
 use Rattle.hashing.specs.declared.Growth.{Growth}
 use Rattle.hashing.specs.declared.Geometry.{Geometry}
 use Rattle.pages.specs.Page.{part}
-use Rattle.pages.proofs.Parts.{page-fits, part-length}
+use Rattle.pages.proofs.Parts.{page-fits, part-length, part-front, part-back}
 use Rattle.placement.specs.File.{File}
 use Rattle.placement.specs.Shape.{Sized}
 use Rattle.placement.specs.Hash.{soundAt}
 use Rattle.placement.specs.Shape.{homesOf, homeIn}
-use Rattle.placement.proofs.Writing.{part-front, part-back}
 use Rattle.soundness.specs.Stretch.{Lowest}
 use Rattle.soundness.proofs.Pastes.{homes-next}
 use Rattle.soundness.proofs.Lent.{Passed, ahead as items-ahead}

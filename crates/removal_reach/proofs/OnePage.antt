@@ -30,7 +30,7 @@ use Rattle.page_edit.specs.Shift.{numberAt, starsOn, Occupied}
 use Rattle.page_edit.proofs.OnePage.{file-alone, pages-alone, first-here, named-home, ordered-page, homed-here, gathered-alone, unsound-alone}
 use Rattle.page_plan.specs.declared.outcome.Outcome.the-variants.{On}
 use Rattle.decision.specs.declared.chosen.Decision.the-variants.{Take}
-use Rattle.removal_reach.specs.Removal.{Held, removalStart, removalCount, removalUnsound, removalAnswer, removalFile, Decides}
+use Rattle.removal_reach.specs.Removal.{Held, removalStart, removalCount, removalUnsound, removalAnswer, removalFile, DecidesRemoval}
 
 module _ (p : Parameters) (g : Growth) (f : File) (k : ℕ) (valid : validParameters p ≡ true) (grows : validGrowth p g ≡ true) (sized : Sized (p .places) (p .pages) f) (number : validNumber k ≡ true)
     (held : Held p g f k) (stored : getD (f .separators) (removalStart p g k) 0 ≡ topOf (p .bits)) where
@@ -122,7 +122,7 @@ module _ (p : Parameters) (g : Growth) (f : File) (k : ℕ) (valid : validParame
 
   -- the star is taken from its page
   pub taken-decided : (page place : ℕ) → page ≡ namedPage p g (f .separators) k → place ≡ placeOf k (part (p .places) page (f .numbers)) → (pool planned : List ℕ)
-      → Decides p g f k page pool planned (Take page place)
+      → DecidesRemoval p g f k page pool planned (Take page place)
   taken-decided page place here there pool planned =
       let at : page ≡ removalStart p g k = here ∙ named-there in
       let sought : place ≡ placeOf k (part (p .places) (namedPage p g (f .separators) k) (f .numbers)) = there ∙ ap (λ (q : ℕ). placeOf k (part (p .places) q (f .numbers))) here in

@@ -38,7 +38,7 @@ use Rattle.page_edit.proofs.OnePage.{home-start}
 use Rattle.removal_reach.specs.declared.star.HeldStar.{HeldStar}
 use Rattle.removal_reach.specs.Stretch.{StretchReady}
 use Rattle.removal_reach.specs.Changed.{Changed}
-use Rattle.removal_reach.specs.Removal.{removalStart, removalCount, removalUnsound, removalAnswer, removalFile, Removes, Decides}
+use Rattle.removal_reach.specs.Removal.{removalStart, removalCount, removalUnsound, removalAnswer, removalFile, Removes, DecidesRemoval}
 use Rattle.removal_reach.proofs.Items.{all-sound, real-sound, plannable-surveyed, ready-surveyed}
 use Rattle.removal_reach.proofs.Shortened.{shortened}
 
@@ -165,7 +165,7 @@ module _ (p : Parameters) (g : Growth) (f : File) (k : ℕ) where
           → Changed p from (last + 1 - from) (stretchWords (p .places) from (last + 1 - from) k (f .numbers) pool′) (f .numbers) pool′ pool″ planned planned′ r
           → (r < last + 1 - from
           → pagesAt (p .places) f (from + r) (last + 1 - from - r) ≡ pages (hashOf p g) (from + r) (last + 1 - from - r) (gathered (p .places) f (from + r) (last + 1 - from - r)))
-          → Decides p g f k page pool″ planned′ (Planned from r page)
+          → DecidesRemoval p g f k page pool″ planned′ (Planned from r page)
       unfolding removalAnswer n
       removal-decided page pool″ planned planned′ r long long′ C ruled =
           record {

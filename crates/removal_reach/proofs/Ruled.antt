@@ -95,7 +95,7 @@ pub applied-lists : (places lo n : ℕ) (pool planned separators numbers words o
 unfolding applied
 applied-lists places lo n pool planned separators numbers words owners separators′ numbers′ words′ owners′ es en ew eo = rw (es, en, ew, eo)
 
-none-left : (w : List Star) → eqb (length w) 0 ≡ isEmpty w
+pub none-left : (w : List Star) → eqb (length w) 0 ≡ isEmpty w
 none-left [] = refl
 none-left (s ∷ w) = ne-eqb (suc (length w)) 0 (λ e. omega arith)
 

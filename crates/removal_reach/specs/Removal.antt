@@ -61,7 +61,7 @@ removalFile p g f k =
     (pages (hashOf p g) (removalStart p g k) (removalCount p g f k) (without k (gathered (p .places) f (removalStart p g k) (removalCount p g f k)))))
 
 -- a decision on the removal: it answers as the removal, and carried out it leaves the removal's file
-pub record Decides (p : Parameters) (g : Growth) (f : File) (k page : ℕ) (pool planned : List ℕ) (d : Decision) : Type 0 where
+pub record DecidesRemoval (p : Parameters) (g : Growth) (f : File) (k page : ℕ) (pool planned : List ℕ) (d : Decision) : Type 0 where
   pub answers : outcomeOf d ≡ removalAnswer p g f k page
   pub files : carriedOut (p .places) (starWith 0 0 0) pool planned f d ≡ removalFile p g f k
   pub feasible : Feasible p f 0 planned d

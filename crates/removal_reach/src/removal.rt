@@ -6,7 +6,7 @@ ghost use Rattle.placement.specs.Hash.{hashOf};
 ghost use Rattle.placement.specs.Lent.{held, before};
 ghost use Rattle.reach.specs.Known.{Known};
 ghost use Rattle.reach.specs.Reach.{removalEnd};
-ghost use Rattle.removal_reach.specs.Removal.{Removes, Decides};
+ghost use Rattle.removal_reach.specs.Removal.{Removes, DecidesRemoval};
 use crate::changed::plan_changed;
 use crate::star::HeldStar;
 use decision::Decision;
@@ -32,7 +32,7 @@ fn decide_whole(
     requires { ⌜ geometry .parameters .pages ≤ length (now planned) ⌝ }
     requires { ⌜ last ≡ removalEnd (hashOf (geometry .parameters) (geometry .growth)) (geometry .parameters .pages) (held separators numbers words owners) (star .home) ⌝ }
     requires { ⌜ Known (geometry .parameters) (geometry .growth) (held separators numbers words owners) (now pool) known ⌝ }
-    ensures { λ r. ⌜ Decides (geometry .parameters) (geometry .growth) (before separators numbers words owners) (star .number) (star .page) (now (pool .exit)) (now (planned .exit)) r ⌝ }
+    ensures { λ r. ⌜ DecidesRemoval (geometry .parameters) (geometry .growth) (before separators numbers words owners) (star .number) (star .page) (now (pool .exit)) (now (planned .exit)) r ⌝ }
 {
     let from = star.home as usize;
     let stop = last + 1;
@@ -85,7 +85,7 @@ fn decide_long(
     requires { ⌜ geometry .parameters .pages ≤ length (now planned) ⌝ }
     requires { ⌜ last ≡ removalEnd (hashOf (geometry .parameters) (geometry .growth)) (geometry .parameters .pages) (held separators numbers words owners) (star .home) ⌝ }
     requires { ⌜ Known (geometry .parameters) (geometry .growth) (held separators numbers words owners) (now pool) (star .page) ⌝ }
-    ensures { λ r. ⌜ Decides (geometry .parameters) (geometry .growth) (before separators numbers words owners) (star .number) (star .page) (now (pool .exit)) (now (planned .exit)) r ⌝ }
+    ensures { λ r. ⌜ DecidesRemoval (geometry .parameters) (geometry .growth) (before separators numbers words owners) (star .number) (star .page) (now (pool .exit)) (now (planned .exit)) r ⌝ }
 {
     let parameters = geometry.parameters;
     let from = star.home as usize;
@@ -156,7 +156,7 @@ pub fn decide_removal(
     requires { ⌜ (length (now pool) ≡ geometry .parameters .pages * geometry .parameters .places) × (length (now waiting) ≡ geometry .parameters .pages * geometry .parameters .places) ⌝ }
     requires { ⌜ geometry .parameters .pages ≤ length (now planned) ⌝ }
     requires { ⌜ Known (geometry .parameters) (geometry .growth) (held separators numbers words owners) (now pool) (star .page) ⌝ }
-    ensures { λ r. ⌜ Decides (geometry .parameters) (geometry .growth) (before separators numbers words owners) (star .number) (star .page) (now (pool .exit)) (now (planned .exit)) r ⌝ }
+    ensures { λ r. ⌜ DecidesRemoval (geometry .parameters) (geometry .growth) (before separators numbers words owners) (star .number) (star .page) (now (pool .exit)) (now (planned .exit)) r ⌝ }
 {
     let from = star.home as usize;
     let last = reach::stretch_end(separators, placement::top_of(geometry.parameters), from);

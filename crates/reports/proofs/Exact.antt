@@ -17,7 +17,7 @@ use Rattle.calls.specs.declared.answers.Answer.{Answer}
 use Rattle.calls.specs.Answers.{Pool, cleared}
 use Rattle.calls.specs.Calls.{unless, orElse, fileFits, poolFits}
 use Rattle.reports.specs.Bits.{noBits, bitAt, marked, passes}
-use Rattle.reports.specs.Reports.{Report, Tray, noReport, stored, emptyTray, waiting, trayFits, withReport, closedUp, filterOf, isBitOfAny, latestOr, reportedPosition, isRemoval}
+use Rattle.reports.specs.Reports.{Report, Tray, noReport, stored, emptyTray, waiting, trayFits, withReport, closedTray, filterOf, isBitOfAny, latestOr, reportedPosition, isRemoval}
 use Rattle.reports.specs.TrayCalls.{trayRefusal, addRefusal, addedUnless, AfterAdding, addOf, answeredUnless, soughtRefusal, plainAnswer, combinedOf, unfilteredOf}
 use Rattle.reports.specs.Filing.{reportFiled, oneMore, filedFrom, AfterFiling, filedUnless, leftBy, notFiled, filingOf}
 use Rattle.reports.specs.Exact.{TrayCall, add, seek, filing, calledUnder, Kept, fromZeros, called, calledAll, OneMultiplier, Exact, FilterExact}
@@ -90,7 +90,7 @@ or-else-zero : (m n : ℕ) → orElse m n ≡ 0 → n ≡ 0
 or-else-zero zero n e = e
 or-else-zero (suc m) n e = absurd (suc-ne-zero m e)
 
-unless-zero : (t : Bool) (n : ℕ) → unless t (suc n) ≡ 0 → t ≡ true
+pub unless-zero : (t : Bool) (n : ℕ) → unless t (suc n) ≡ 0 → t ≡ true
 unless-zero true n e = refl
 unless-zero false n e = absurd (suc-ne-zero n e)
 
@@ -133,8 +133,8 @@ rest-most p r f pool (x ∷ xs) = go (eqb (reportFiled p r f pool x .answer .ref
     go true h = omega (arith, h)
     go false h = le-refl (suc (length xs))
 
-closed-belongs : (a : ℕ) (rest : List Report) → length rest ≤ 256 → Belongs a (closedUp rest) (filterOf a rest)
-unfolding closedUp waiting
+closed-belongs : (a : ℕ) (rest : List Report) → length rest ≤ 256 → Belongs a (closedTray rest) (filterOf a rest)
+unfolding closedTray waiting
 closed-belongs a rest h =
     record {
       made = ap (λ (l : List Report). filterOf a l) (sym (take-append-seam rest (replicate (256 - length rest) noReport)));

@@ -19,7 +19,7 @@ use Rattle.calls.specs.Answers.{Pool, spotted, zeros, cleared}
 use Rattle.calls.specs.Calls.{fileFits, poolFits, unlent, readable, holds, itemOf, mayAlter, allowed, enterTo, enteredAgain, enterOn, enterOf, changeOn, changeOf, removeTo, removeOn, removeOf}
 use Rattle.calls.specs.Records.{closedRecord, validSteps, enterUnder, changeUnder, removeUnder}
 use Rattle.reports.specs.Bits.{noBits}
-use Rattle.reports.specs.Reports.{Report, waiting, trayFits, noReport, closedUp}
+use Rattle.reports.specs.Reports.{Report, waiting, trayFits, noReport, closedTray}
 use Rattle.reports.specs.TrayCalls.{trayRefusal}
 use Rattle.reports.specs.Filing.{removalFiled, positionFiled, reportFiled, filedFrom, AfterFiling, filedUnless, leftBy, filingOf}
 
@@ -45,15 +45,15 @@ abbrev five : List Report
 five = seen 1 32 ∷ gone 2 170 ∷ seen 2 170 ∷ gone 2 32 ∷ seen 1 7 ∷ []
 
 abbrev filing : AfterFiling
-filing = filingOf tiny (closedRecord ungrown) with32 pool (closedUp five) noBits
+filing = filingOf tiny (closedRecord ungrown) with32 pool (closedTray five) noBits
 
 record Points : Type 0 where
   filed : filing .filed ≡ 3
   stopped : filing .answer ≡ spotted 13 0 0
   file : filing .file ≡ record { separators = 223 ∷ 255 ∷ []; numbers = 170 ∷ 32 ∷ []; words = 4618967296 ∷ 4618967296 ∷ []; owners = 2 ∷ 1 ∷ [] }
   pooled : filing .pool ≡ record { numbers = 0 ∷ 0 ∷ []; words = 0 ∷ 0 ∷ []; owners = 0 ∷ 0 ∷ [] }
-  rest : filing .tray ≡ closedUp (gone 2 32 ∷ seen 1 7 ∷ [])
+  rest : filing .tray ≡ closedTray (gone 2 32 ∷ seen 1 7 ∷ [])
 
 points : Points
-unfolding filingOf filedUnless leftBy filedFrom reportFiled positionFiled removalFiled trayRefusal trayFits waiting closedUp noReport noBits validSteps enterUnder changeUnder removeUnder changeOf changeOn removeOf removeOn removeTo removalEnd allowed mayAlter itemOf enteredAgain without pageCount firstSuch enterOf enterOn enterTo unlent validParameters validGrowth within validMultiplier fileFits poolFits validNumber validPosition readable holds heldAt placeOf part soundAt sound orderly every starsAt starsOf first below namedPage hashOf home afterSteps stepFrom expandedAt chosen rankAt rank swept sizeAt countAt scrambled signature topOf validWord entryEnd entersWithin entering insert gathered pour left onward passing filter separatorOf separatorFrom staying firstUnsound replaced separators column padded written pages contentsOf holding hasNumber cleared zeros packed spotted
+unfolding filingOf filedUnless leftBy filedFrom reportFiled positionFiled removalFiled trayRefusal trayFits waiting closedTray noReport noBits validSteps enterUnder changeUnder removeUnder changeOf changeOn removeOf removeOn removeTo removalEnd allowed mayAlter itemOf enteredAgain without pageCount firstSuch enterOf enterOn enterTo unlent validParameters validGrowth within validMultiplier fileFits poolFits validNumber validPosition readable holds heldAt placeOf part soundAt sound orderly every starsAt starsOf first below namedPage hashOf home afterSteps stepFrom expandedAt chosen rankAt rank swept sizeAt countAt scrambled signature topOf validWord entryEnd entersWithin entering insert gathered pour left onward passing filter separatorOf separatorFrom staying firstUnsound replaced separators column padded written pages contentsOf holding hasNumber cleared zeros packed spotted
 points = record { filed = refl; stopped = refl; file = refl; pooled = refl; rest = refl }

@@ -10,7 +10,7 @@ use Rattle.calls.specs.declared.answers.Answer.{Answer}
 use Rattle.calls.specs.Answers.{Pool, After, accepted, refused, cleared}
 use Rattle.calls.specs.Calls.{fileFits, poolFits, unchanged}
 use Rattle.calls.specs.Records.{enterUnder, changeUnder, removeUnder}
-use Rattle.reports.specs.Reports.{Report, Tray, waiting, trayFits, closedUp, filterOf, reportedPosition, isRemoval}
+use Rattle.reports.specs.Reports.{Report, Tray, waiting, trayFits, closedTray, filterOf, reportedPosition, isRemoval}
 use Rattle.reports.specs.TrayCalls.{trayRefusal}
 
 -- One report, "tried as the call it made": 7 is met exactly where the named page is sound and does not hold the star
@@ -80,7 +80,7 @@ leftBy a d pool =
       answer = d .answer;
       file = d .file;
       pool = pool;
-      tray = closedUp (d .rest);
+      tray = closedTray (d .rest);
       filter = filterOf a (d .rest);
     }
 

@@ -53,8 +53,8 @@ unfoldable pub withReport : Tray → Report → Tray
 withReport t x = record { reports = set (t .reports) (t .count) (stored x); count = suc (t .count) }
 
 -- "the others close up before zeros"
-unfoldable pub closedUp : List Report → Tray
-closedUp rest = record { reports = rest ++ replicate (256 - length rest) noReport; count = length rest }
+unfoldable pub closedTray : List Report → Tray
+closedTray rest = record { reports = rest ++ replicate (256 - length rest) noReport; count = length rest }
 
 -- "the filter is made anew from them"
 unfoldable pub markedAll : ℕ → List ℕ → List Report → List ℕ

@@ -11,6 +11,7 @@ use lib.Dec.{leb, ltb, eqb}
 use lib.ListN.{length, getD, take, drop, set, length-map, length-set, length-take, drop-of-length-le}
 use lib.Seq.{drop-cons, length-take-le, getD-take, take-suc, take-suc-set, take-take, paste}
 use borrow.Author.Tests.{eq-eqb, ne-eqb, eqb-false, ltb-true, leb-true}
+use Rattle.buffers.proofs.Lists.{map-item}
 use Rattle.hashing.specs.declared.Parameters.{Parameters}
 use Rattle.hashing.specs.declared.Growth.{Growth}
 use Rattle.generator.specs.Generator.{topOf}
@@ -28,18 +29,13 @@ use Rattle.placement.proofs.Filters.{and-true}
 use Rattle.soundness.specs.Survey.{admits, soundIn, admitsItem, lastAfter}
 
 -- a function of all items at once, by one item
-pub map-at : (f : ℕ → ℕ) (l : List ℕ) (i : ℕ) → i < length l → getD (map f l) i 0 ≡ f (getD l i 0)
-map-at f [] i h = absurd (omega arith)
-map-at f (x ∷ l) zero h = refl
-map-at f (x ∷ l) (suc i) h = map-at f l i (omega arith)
-
 pub found-count : (f : ℕ → ℕ) (ns hs : List ℕ) (n : ℕ) → n ≤ length ns → take n hs ≡ map f (take n ns) → n ≤ length hs
 found-count f ns hs n h e = omega (arith, ap length e, length-map (take n ns) f, length-take-le n ns h, length-take n hs)
 
 pub item-at : (f : ℕ → ℕ) (ns hs : List ℕ) (n i : ℕ) → n ≤ length ns → i < n → take n hs ≡ map f (take n ns) → getD hs i 0 ≡ f (getD ns i 0)
 item-at f ns hs n i h b e =
     sym (getD-take n hs i 0 b)
-    ∙ rw e (map-at f (take n ns) i (omega (arith, length-take-le n ns h)) ∙ rw (getD-take n ns i 0 b))
+    ∙ rw e (map-item f (take n ns) i (omega (arith, length-take-le n ns h)) ∙ rw (getD-take n ns i 0 b))
 
 -- .. of the items before the first empty place
 pub found-led : (f : ℕ → ℕ) (ns hs : List ℕ) (stars places : ℕ) → stars ≤ length ns → (stars < places → getD ns stars 0 ≡ 0) → take stars hs ≡ map f (take stars ns)

@@ -10,6 +10,7 @@ use lib.ListN.{length, getD, take, drop, length-drop, length-map}
 use lib.Seq.{getD-drop, getD-take, getD-append-add, length-take-le, paste, take-paste}
 use lib.Dec.{leb}
 use borrow.Author.Tests.{ne-eqb}
+use Rattle.buffers.proofs.Lists.{map-item}
 use Rattle.generator.specs.Generator.{topOf}
 use Rattle.hashing.specs.declared.Parameters.{Parameters}
 use Rattle.hashing.specs.declared.Growth.{Growth}
@@ -23,7 +24,7 @@ use Rattle.placement.specs.Hash.{soundAt}
 use Rattle.placement.specs.Shape.{homeIn, homesOf}
 use Rattle.pages.specs.Page.{part}
 use Rattle.soundness.specs.Stretch.{Items, HomesAt, Lowest, soundFrom, soundOf}
-use Rattle.soundness.proofs.Items.{Admitting, admitting-none, admitting-refused, admitting-more, map-at, sound-items}
+use Rattle.soundness.proofs.Items.{Admitting, admitting-none, admitting-refused, admitting-more, sound-items}
 
 -- a star's home
 pub star-home : (p : Parameters) (g : Growth) (last n h : ℕ) → h ≡ homeIn p g n → last < n → h ≡ home (multiplierOf p) p g n
@@ -130,7 +131,7 @@ homes-put g ns d hs at to n h k e i l =
     let long : length (homesOf (g .parameters) (g .growth) (drop at ns)) ≡ length ns - at = length-map (drop at ns) f ∙ length-drop at ns in
     ap (λ (x : List ℕ). getD x (to + i) 0) e
     ∙ pasted-item d (homesOf (g .parameters) (g .growth) (drop at ns)) to n i (omega arith) (omega (arith, long)) l
-    ∙ map-at f (drop at ns) i (omega (arith, length-drop at ns))
+    ∙ map-item f (drop at ns) i (omega (arith, length-drop at ns))
     ∙ ap f (getD-drop at ns i 0)
 
 -- by its own items a page is sound as the file has it

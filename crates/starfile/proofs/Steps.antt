@@ -5,6 +5,7 @@ use Prim.Native.Nat.{ℕ, suc, _≤_, _<_}
 use native.Mathlib.Omega.{arith}
 use lib.Dec.{eqb, ltb}
 use borrow.Author.Tests.{ne-eqb, ltb-true}
+use Rattle.call_guard.proofs.Recorded.{refusal-most}
 use Rattle.hashing.specs.declared.Parameters.{Parameters}
 use Rattle.hashing.specs.declared.Growth.{Growth}
 use Rattle.hashing.specs.Geometry.{grown}
@@ -195,16 +196,6 @@ module _ (p : Parameters) (r : GrowthRecord) (f second : File) where
       pool-cases (r .growing) _ _ pool (pool-cases (growthAccepted p r f pool) _ _ pool (pool-cases (eqb (suc (r .steps)) (p .pages)) _ _ pool refl refl) refl) refl
 
 -- Refusals 1 and 2
-
-refusal-most : (p : Parameters) (r : GrowthRecord) (lengths : Bool) → recordRefusal p r lengths ≤ 2
-unfolding recordRefusal unlent
-refusal-most p r lengths = go (validSteps p r) (validParameters p && validGrowth p (r .state)) lengths
-  where
-    go : (s t u : Bool) → orElse (unless s 1) (orElse (unless t 1) (unless u 2)) ≤ 2
-    go true true true = omega arith
-    go true true false = omega arith
-    go true false u = omega arith
-    go false t u = omega arith
 
 module _ (r : GrowthRecord) (second : File) (pool : Pool) (after : AfterStep) where
   early : (a : Refusal) → refusalNumber a ≤ 2 → LeavesStep (guardedStep r second pool (refusalNumber a) after) (record { answer = Refused a 0; growth = r }) second pool

@@ -11,8 +11,8 @@ use Rattle.starfile_tests.specs.declared.replies.Record.{Record}
 use Rattle.starfile_tests.specs.declared.replies.Reply.{Reply}
 
 -- b, N, n0, s, k, A, M, the multiplier
-abbrev pub parametersOf : FileParameters → Parameters
-parametersOf p =
+abbrev pub fileParameters : FileParameters → Parameters
+fileParameters p =
     record {
       places = p .places;
       groups = p .groups;
@@ -25,8 +25,8 @@ parametersOf p =
     }
 
 -- e, x, whether a growth is open, the steps done
-abbrev pub recordOf : Record → GrowthRecord
-recordOf r =
+abbrev pub growthRecord : Record → GrowthRecord
+growthRecord r =
     record {
       state = record { expansions = r .expansions; expanded = r .expanded };
       growing = r .growing;
@@ -34,8 +34,8 @@ recordOf r =
     }
 
 -- an answer's number, page and place, with the growth record after the call
-abbrev pub replyOf : Answer → GrowthRecord → Reply
-replyOf a r =
+abbrev pub testReply : Answer → GrowthRecord → Reply
+testReply a r =
     record {
       refusal = a .refusal;
       page = a .page;
@@ -50,13 +50,13 @@ replyOf a r =
     }
 
 -- the reply and the buffers at exit are those of the definition, with this record
-pub record Replies (after : After) (growth : GrowthRecord) (reply : Reply) (file : File) (pool : Pool) : Type 0 where
-  pub replies : reply ≡ replyOf (after .answer) growth
+pub record TestReplies (after : After) (growth : GrowthRecord) (reply : Reply) (file : File) (pool : Pool) : Type 0 where
+  pub replies : reply ≡ testReply (after .answer) growth
   pub files : file ≡ after .file
   pub pools : pool ≡ after .pool
 
 -- the same of an opening or a step
-pub record RepliesStep (after : AfterStep) (reply : Reply) (second : File) (pool : Pool) : Type 0 where
-  pub replies : reply ≡ replyOf (after .answer) (after .growth)
+pub record TestRepliesStep (after : AfterStep) (reply : Reply) (second : File) (pool : Pool) : Type 0 where
+  pub replies : reply ≡ testReply (after .answer) (after .growth)
   pub seconds : second ≡ after .second
   pub pools : pool ≡ after .pool

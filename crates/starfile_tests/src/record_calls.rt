@@ -2,7 +2,7 @@
 ghost use Rattle.placement.specs.Lent.{before, after};
 ghost use Rattle.calls.specs.Records.{growUnder, shrinkUnder, recordAfter, openUnder, stepUnder};
 ghost use Rattle.calls.specs.Lent.{poolBefore, poolAfter};
-ghost use Rattle.starfile_tests.specs.Reply.{Replies, RepliesStep, parametersOf, recordOf};
+ghost use Rattle.starfile_tests.specs.Reply.{TestReplies, TestRepliesStep, fileParameters, growthRecord};
 use crate::lent_record;
 use crate::replies::FileParameters;
 use crate::replies::Record;
@@ -23,8 +23,8 @@ pub extern "C" fn sft_record_grow(
     poolwords: &mut [u64],
     poolowners: &mut [u8],
 ) -> Reply
-    ensures { λ r. ⌜ Replies (growUnder (parametersOf parameters) (recordOf growth) (before separators numbers words owners) (poolBefore poolnumbers poolwords poolowners))
-        (recordAfter (recordOf growth) (growUnder (parametersOf parameters) (recordOf growth) (before separators numbers words owners) (poolBefore poolnumbers poolwords poolowners)))
+    ensures { λ r. ⌜ TestReplies (growUnder (fileParameters parameters) (growthRecord growth) (before separators numbers words owners) (poolBefore poolnumbers poolwords poolowners))
+        (recordAfter (growthRecord growth) (growUnder (fileParameters parameters) (growthRecord growth) (before separators numbers words owners) (poolBefore poolnumbers poolwords poolowners)))
         r (after separators numbers words owners) (poolAfter poolnumbers poolwords poolowners) ⌝ }
 {
     let values = parameters_of(parameters);
@@ -55,8 +55,8 @@ pub extern "C" fn sft_record_shrink(
     poolwords: &mut [u64],
     poolowners: &mut [u8],
 ) -> Reply
-    ensures { λ r. ⌜ Replies (shrinkUnder (parametersOf parameters) (recordOf growth) (before separators numbers words owners) (poolBefore poolnumbers poolwords poolowners))
-        (recordAfter (recordOf growth) (shrinkUnder (parametersOf parameters) (recordOf growth) (before separators numbers words owners) (poolBefore poolnumbers poolwords poolowners)))
+    ensures { λ r. ⌜ TestReplies (shrinkUnder (fileParameters parameters) (growthRecord growth) (before separators numbers words owners) (poolBefore poolnumbers poolwords poolowners))
+        (recordAfter (growthRecord growth) (shrinkUnder (fileParameters parameters) (growthRecord growth) (before separators numbers words owners) (poolBefore poolnumbers poolwords poolowners)))
         r (after separators numbers words owners) (poolAfter poolnumbers poolwords poolowners) ⌝ }
 {
     let values = parameters_of(parameters);
@@ -91,7 +91,7 @@ pub extern "C" fn sft_record_open_growth(
     poolwords: &mut [u64],
     poolowners: &mut [u8],
 ) -> Reply
-    ensures { λ r. ⌜ RepliesStep (openUnder (parametersOf parameters) (recordOf growth) (before separators numbers words owners)
+    ensures { λ r. ⌜ TestRepliesStep (openUnder (fileParameters parameters) (growthRecord growth) (before separators numbers words owners)
         (before secondseparators secondnumbers secondwords secondowners) (poolBefore poolnumbers poolwords poolowners))
         r (after secondseparators secondnumbers secondwords secondowners) (poolAfter poolnumbers poolwords poolowners) ⌝ }
 {
@@ -131,7 +131,7 @@ pub extern "C" fn sft_record_step_growth(
     poolwords: &mut [u64],
     poolowners: &mut [u8],
 ) -> Reply
-    ensures { λ r. ⌜ RepliesStep (stepUnder (parametersOf parameters) (recordOf growth) (before separators numbers words owners)
+    ensures { λ r. ⌜ TestRepliesStep (stepUnder (fileParameters parameters) (growthRecord growth) (before separators numbers words owners)
         (before secondseparators secondnumbers secondwords secondowners) (poolBefore poolnumbers poolwords poolowners))
         r (after secondseparators secondnumbers secondwords secondowners) (poolAfter poolnumbers poolwords poolowners) ⌝ }
 {

@@ -1,7 +1,7 @@
 // What the Rust tests pass to crate growth_record and get back.
 ghost use mathlib.Core.Path.{_≡_};
 ghost use Rattle.calls.specs.Answers.{placed};
-ghost use Rattle.starfile_tests.specs.Reply.{parametersOf, recordOf, replyOf};
+ghost use Rattle.starfile_tests.specs.Reply.{fileParameters, growthRecord, testReply};
 use calls::answers::placed_answer;
 use calls::records::GrowthRecord;
 use calls::records::Recorded;
@@ -40,7 +40,7 @@ pub struct Reply {
 }
 
 pub fn parameters_of(given: FileParameters) -> Parameters
-    ensures { λ r. ⌜ r ≡ parametersOf given ⌝ }
+    ensures { λ r. ⌜ r ≡ fileParameters given ⌝ }
 {
     Parameters {
         places: given.places,
@@ -55,7 +55,7 @@ pub fn parameters_of(given: FileParameters) -> Parameters
 }
 
 pub fn record_of(given: Record) -> GrowthRecord
-    ensures { λ r. ⌜ r ≡ recordOf given ⌝ }
+    ensures { λ r. ⌜ r ≡ growthRecord given ⌝ }
 {
     let state = Growth {
         expansions: given.expansions,
@@ -69,7 +69,7 @@ pub fn record_of(given: Record) -> GrowthRecord
 }
 
 pub fn reply_of(recorded: Recorded) -> Reply
-    ensures { λ r. ⌜ r ≡ replyOf (placed (recorded .answer)) (recorded .growth) ⌝ }
+    ensures { λ r. ⌜ r ≡ testReply (placed (recorded .answer)) (recorded .growth) ⌝ }
 {
     let said = recorded.answer;
     let answer = placed_answer(said);

@@ -25,7 +25,7 @@ use Rattle.calls.specs.Records.{validSteps, closedRecord}
 use Rattle.calls.proofs.Numbers.{numbered}
 use Rattle.calls.proofs.Refusals.{unlent-facts, well-lent, admitted-pool}
 use Rattle.reports.specs.declared.Report.{Report}
-use Rattle.reports.specs.Reports.{noReport, trayFits, waiting, closedUp, filterOf}
+use Rattle.reports.specs.Reports.{noReport, trayFits, waiting, closedTray, filterOf}
 use Rattle.reports.specs.TrayCalls.{trayRefusal}
 use Rattle.reports.specs.Filing.{Filed, filedFrom, filedUnless, notFiled, leftBy, AfterFiling, filingOf}
 use Rattle.reports.proofs.Latest.{rest-is, filed-and-rest}
@@ -105,7 +105,7 @@ module _ (p : Parameters) (r : GrowthRecord) (f : File) (pool : Pool) (reports :
   pub filed-files : (n : ℕ) (answer : Placed) (file : File) (filter′ : List ℕ) (copy : List Report) → copy ≡ loaded (take count reports)
       → n ≡ done .filed → placed answer ≡ done .answer → file ≡ done .file → filter′ ≡ filterOf (p .multiplier) (drop n (take count copy))
       → FilesTray (filingOf p r f pool (trayOf reports count) filter) n answer (count - n) file (cleared pool) (closedTo n (count - n) 256 reports) filter′
-  unfolding leftBy closedUp
+  unfolding leftBy closedTray
   filed-files n answer file filter′ copy is-copy filed answers files filters =
       let fits : done .filed + (count - done .filed) ≤ 256 = omega (arith, filed-most, most) in
       let closes : closedTo (done .filed) (count - done .filed) 256 reports ≡ done .rest ++ replicate (256 - length (done .rest)) noReport = rw (closed-up (done .filed) (count - done .filed) reports size fits, stays, length-rest) in

@@ -7,6 +7,7 @@ use lib.ListN.{length, take, set, length-set}
 use lib.Seq.{take-suc-set}
 use denote.Ref.{now}
 use borrow.Author.Needs.{needs}
+use Rattle.pages.proofs.Numbers.{number-range}
 use Rattle.hashing.specs.Geometry.{multiplierOf}
 use Rattle.hashing.proofs.Bounds.{Limits, limits}
 use Rattle.hashing.proofs.Homes.{home-pages}
@@ -15,7 +16,7 @@ use Rattle.placement.specs.Hash.{lent}
 use Rattle.page_separator.specs.Words.{pack}
 use Rattle.entry_reach.specs.Entry.{entryStart}
 use Rattle.entry_reach.specs.Blocks.{Reached}
-use Rattle.entry_reach.proofs.Joined.{newWord, valid-most}
+use Rattle.entry_reach.proofs.Joined.{newWord}
 use Rattle.entry_reach.proofs.Reached.{some-items, home-starts, reached-first}
 use Rattle.entry_reach.proofs.blocks.plan_entry.Statement.{statement}
 use Rattle.entry_reach.proofs.blocks.plan_entry.Tie as tie
@@ -62,7 +63,7 @@ add-pack c = search needs
 pack-requires : tie.Need-pack-requires
 pack-requires c κs =
     let s = c .before .before .before .before .before .before .before in
-    (omega (arith, inside s, bounds s .pages-most), (omega (arith, valid-most (s .args .number) (s .pre .1 .1 .1 .0)), omega (arith, few s, s .pre .0 .sized .ofNumbers)))
+    (omega (arith, inside s, bounds s .pages-most), (omega (arith, number-range (s .args .number) (s .pre .1 .1 .1 .0)), omega (arith, few s, s .pre .0 .sized .ofNumbers)))
 
 slice-write-waiting : tie.Need-slice-write-waiting
 slice-write-waiting c = omega (arith, items (start c))

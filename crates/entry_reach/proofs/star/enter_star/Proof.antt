@@ -14,7 +14,7 @@ use Rattle.page_edit.proofs.OnePage.{home-start}
 use Rattle.page_edit.specs.Shift.{takesAlone}
 use Rattle.calls.specs.Shape.{stoppedFile}
 use Rattle.decision.specs.declared.chosen.Decision.the-variants.{Put}
-use Rattle.entry_reach.specs.Entry.{newStar, entryStart, Decides}
+use Rattle.entry_reach.specs.Entry.{newStar, entryStart, DecidesEntry}
 use Rattle.entry_reach.proofs.OnePage.{alone-decided}
 use borrow.Author.Needs.{needs}
 use Rattle.entry_reach.proofs.star.enter_star.Statement.{statement}
@@ -43,7 +43,7 @@ alone c =
     ap (takesAlone (s .args .geometry .parameters) (now (s .args .separators)) (now (s .args .numbers))) (sym (home-is s)) ∙ sym (c .before .takes-alone .ensures) ∙ c .if1 .taken
 
 decided : (c : tie.Then1) (pool planned : List ℕ)
-    → Decides (begun c .args .geometry .parameters) (begun c .args .geometry .growth) (file (begun c)) (newStar (begun c .args .star .number) (begun c .args .star .word) (begun c .args .star .owner)) pool planned (Put (begun c .args .star .home) (begun c .args .star .place))
+    → DecidesEntry (begun c .args .geometry .parameters) (begun c .args .geometry .growth) (file (begun c)) (newStar (begun c .args .star .number) (begun c .args .star .word) (begun c .args .star .owner)) pool planned (Put (begun c .args .star .home) (begun c .args .star .place))
 decided c pool planned =
     let s = begun c in
     let e = s .pre .0 in

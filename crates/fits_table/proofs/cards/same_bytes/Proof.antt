@@ -1,5 +1,5 @@
+use Rattle.buffers.specs.Lists.{alike}
 use Rattle.fits_table.proofs.Fields.{alike-next, alike-not, alike-end}
-use Rattle.fits_table.specs.Header.{alike}
 use lib.ListN.{length, drop}
 use Prim.Native.Nat.{_-_, _≤_}
 use mathlib.Core.Path.{_≡_, refl, sym, _∙_}

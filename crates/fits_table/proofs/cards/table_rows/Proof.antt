@@ -1,6 +1,7 @@
 use Prim.Native.Nat.{_≤_}
 use borrow.Author.Tests.{not-true, not-false}
-use Rattle.fits_table.specs.Header.{alike, headers, candidate}
+use Rattle.buffers.specs.Lists.{alike}
+use Rattle.fits_table.specs.Header.{headers, candidate}
 use lib.ListN.{take}
 use Rattle.fits_table.proofs.Fields.{headers-whole, told-short, told-many, told-unlike, told-long, told-rows}
 use mathlib.Core.Path.{_≡_, refl, sym, ap, _∙_}

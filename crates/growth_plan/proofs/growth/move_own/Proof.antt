@@ -21,7 +21,7 @@ use Rattle.placement.specs.Hash.{lent}
 use Rattle.placement.specs.Shape.{homesOf}
 use Rattle.placement.specs.Ready.{Pooled}
 use Rattle.reach.specs.Reach.{allStars}
-use Rattle.own_stars.specs.Own.{LaidOut, restFrom, Listed, Begun, OwnEntered, EntersOwn, TakeableOwn, OwnOf}
+use Rattle.own_stars.specs.Own.{LaidOut, restFrom, Listed, EnteredBelow, OwnEntered, EntersOwn, TakeableOwn, OwnOf}
 use Rattle.own_stars.proofs.Laying.{laid-sized}
 use Rattle.growth_plan.specs.Growth.{growthFile}
 use Rattle.growth_plan.proofs.GivenBack.{own-of, clean-laid, own-listed, own-takeable, others-laid, all-entered, back-grown, none-entered, highest-inside}
@@ -133,7 +133,7 @@ laid-again c =
 begun-again : (c : tie.After-grow)
     → let e = entering c in
     let s = origin e in
-    Begun (par s) (state s) (regrown c) (own e) (e .enter-own .result)
+    EnteredBelow (par s) (state s) (regrown c) (own e) (e .enter-own .result)
 begun-again c =
     let e = entering c in
     record { stars = stars (origin e); listed = listed (finding (taking e)); begun = some-entered e .most; laid-out = laid-again c }

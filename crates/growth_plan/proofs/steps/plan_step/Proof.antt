@@ -3,6 +3,7 @@ use mathlib.Core.Bool.{true, false}
 use native.Mathlib.Nat.{le-refl}
 use native.Mathlib.Omega.{arith}
 use denote.Ref.{now}
+use Rattle.own_stars.proofs.Laying.{unsound-on, overflows-on}
 use Rattle.hashing.specs.Limits.{validGrowth}
 use Rattle.hashing.specs.Geometry.{grown}
 use Rattle.placement.specs.File.{File}
@@ -13,7 +14,7 @@ use Rattle.reach.proofs.Surveyed.{known-none}
 use Rattle.growth_in_place.proofs.Whole.{none-counted}
 use Rattle.growth_block.specs.Block.{IsLocal}
 use Rattle.growth_block.proofs.Planned.{block-named}
-use Rattle.growth_plan.proofs.PlannedGrowth.{unsound-on, overflows-on, plan-overflows, plan-fits, all-named, spacious-answer}
+use Rattle.growth_plan.proofs.PlannedGrowth.{plan-overflows, plan-fits, all-named, spacious-answer}
 use Rattle.growth_plan.proofs.Growing.{next-valid, growth-refused, surveyed-all, surveyed-sound, sound-numbers, homes-stay}
 use borrow.Author.Needs.{needs}
 use borrow.Author.Tests.{not-true, not-false}

@@ -11,7 +11,7 @@ use Rattle.placement.specs.File.{File}
 use Rattle.placement.specs.Hash.{lent}
 use Rattle.calls.specs.Shape.{stoppedFile}
 use Rattle.decision.specs.declared.chosen.Decision.the-variants.{Take}
-use Rattle.removal_reach.specs.Removal.{removalStart, Decides}
+use Rattle.removal_reach.specs.Removal.{removalStart, DecidesRemoval}
 use Rattle.removal_reach.proofs.Removing.{star-home, star-inside}
 use Rattle.removal_reach.proofs.OnePage.{taken-decided}
 use borrow.Author.Needs.{needs}
@@ -32,7 +32,7 @@ stored c =
     ap (λ (q : ℕ). getD (now (s .args .separators)) q 0) (sym (star-home (s .pre .0))) ∙ c .if1 .taken ∙ c .before .top-of .ensures
 
 decided : (c : tie.Then1) (pool planned : List ℕ)
-    → Decides (begun c .args .geometry .parameters) (begun c .args .geometry .growth) (file (begun c)) (begun c .args .star .number) (begun c .args .star .page) pool planned (Take (begun c .args .star .page) (begun c .args .star .place))
+    → DecidesRemoval (begun c .args .geometry .parameters) (begun c .args .geometry .growth) (file (begun c)) (begun c .args .star .number) (begun c .args .star .page) pool planned (Take (begun c .args .star .page) (begun c .args .star .place))
 decided c pool planned =
     let s = begun c in
     let e = s .pre .0 in

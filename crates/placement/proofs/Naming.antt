@@ -8,16 +8,17 @@ use native.Mathlib.Decide.{decLt}
 use native.Mathlib.Omega.{arith}
 use lib.ListN.{length, getD}
 use borrow.Author.Tests.{le-leb}
 use Rattle.placement.specs.Rule.{Star, Hash, below, contentsOf, onward, pages, left, first, separators}
 use Rattle.placement.proofs.Separator.{Bounded, below-top, stay-all}
 use Rattle.placement.proofs.Composition.{length-pages}
 use Rattle.placement.proofs.Standing.{length-separators, first-before}
 
-last-top : (H : Hash) → Bounded H → (p n : ℕ) (w : List Star) → left H p (suc n) w ≡ [] → getD (separators (pages H p (suc n) w)) n 0 ≡ H .top
+pub last-top : (H : Hash) → Bounded H → (p n : ℕ) (w : List Star) → left H p (suc n) w ≡ [] → getD (separators (pages H p (suc n) w)) n 0 ≡ H .top
 unfolding left pages separators contentsOf
 last-top H b p zero w e = stay-all H b p w e
 last-top H b p (suc n) w e = last-top H b (suc p) n (onward H p w) e
 
+-- So every number whose home is one of the pages has a page named.
 pub page-named : (H : Hash) → Bounded H → (M : ℕ) (w : List Star) (k : ℕ) → left H 0 M w ≡ [] → H .home k < M → first H 0 (separators (pages H 0 M w)) k < M
 page-named H b zero w k e h = absurd (omega arith)
 page-named H b (suc n) w k e h = go (decLt (first H 0 vs k) (suc n))
