@@ -72,7 +72,10 @@ abbrev after-key-stars-2 : tie.After-gather-stars → tie.After-key-stars
 after-key-stars-2 c = c .before .before .before .before .before .before .before .before
 
 same-length-2 : tie.Need-same-length-2
-same-length-2 c = c .before .before .before .before .place-all .kept .1 .1 .0 ∙ after-gather-stars (c .before .before .before .before) .gather-stars .kept .1 .1 .0 ∙ after-key-stars-2 (after-gather-stars (c .before .before .before .before)) .key-stars .kept .1 .1 .1 .1 .0
+same-length-2 c =
+    let placed = c .before .before .before .before in
+    let gathered = after-gather-stars placed in
+    placed .place-all .kept .1 .1 .0 ∙ gathered .gather-stars .kept .1 .1 .0 ∙ after-key-stars-2 gathered .key-stars .kept .1 .1 .1 .1 .0
 
 returns : tie.Need-returns
 returns c =
