@@ -1,5 +1,5 @@
 -- `call_enter::entry::enter_star` meets its contract.
-use mathlib.Core.Path.{_≡_, sym, ap, _∙_}
+use mathlib.Core.Path.{_≡_, sym, ap, _∙_, refl}
 use mathlib.Core.Bool.{true, false}
 use Prim.Native.Nat.{ℕ}
 use native.Mathlib.Omega.{arith}
@@ -22,7 +22,6 @@ use Rattle.call_enter.proofs.Outcomes.{entry-small, cascade-small, ente
 use Rattle.call_guard.proofs.Admitting.{prepared, tabled}
 use Rattle.call_enter.specs.Entries.{entryOn}
 use Rattle.call_enter.proofs.Pools.{unheld, kept-stores}
-use borrow.Author.Needs.{needs}
 use Rattle.call_enter.proofs.entry.enter_star.Statement.{statement}
 use Rattle.call_enter.proofs.entry.enter_star.Tie as tie
 
@@ -49,19 +48,19 @@ cast-page : tie.Need-cast-page
 cast-page c = omega (arith, c .before .before .before .find-kept .ensures .0 .pageMost, limits _ (c .before .before .before .before .before .before .before .before .before .before .before .before .before .before .before .before .before .before .pre .0 .homing .valid) .pages-most)
 
 same-length : tie.Need-same-length
-same-length c = search needs
+same-length c = refl
 
 same-length-2 : tie.Need-same-length-2
-same-length-2 c = search needs
+same-length-2 c = refl
 
 same-length-3 : tie.Need-same-length-3
-same-length-3 c = search needs
+same-length-3 c = refl
 
 same-length-4 : tie.Need-same-length-4
-same-length-4 c = search needs
+same-length-4 c = refl
 
 same-length-5 : tie.Need-same-length-5
-same-length-5 c = search needs
+same-length-5 c = c .before .before .before .before .before .find-kept .kept .1 .1 .1 .1 .1 .1 .0
 
 returns : tie.Need-returns
 unfolding placed refusedBy
@@ -72,19 +71,19 @@ returns c =
     kept-stores (s .args .cascading) (s .args .parameters) (s .args .stores) {after = on s} {answer = placed (Refused (Damaged (c .before .before .before .before .before .find-kept .result .page)) 0)} {f = fileOf s} (record { answers = rw (unread, found .pageIs); files = rw unread })
 
 same-length-6 : tie.Need-same-length-6
-same-length-6 c = search needs
+same-length-6 c = refl
 
 same-length-7 : tie.Need-same-length-7
-same-length-7 c = search needs
+same-length-7 c = refl
 
 same-length-8 : tie.Need-same-length-8
-same-length-8 c = search needs
+same-length-8 c = refl
 
 same-length-9 : tie.Need-same-length-9
-same-length-9 c = search needs
+same-length-9 c = refl
 
 same-length-10 : tie.Need-same-length-10
-same-length-10 c = search needs
+same-length-10 c = c .before .before .before .before .before .before .before .find-kept .kept .1 .1 .1 .1 .1 .1 .0
 
 entered-again-requires : tie.Need-entered-again-requires
 entered-again-requires c κs = tt
@@ -152,26 +151,32 @@ placed-from-requires c κs =
     rw (c .before .before .before .before .before .before .before .before .before .before .before .before .before .before .cascade .ensures .0)
     (cascade-small (s .args .parameters) (s .args .growth) (fileOf s) (s .pre .0 .homing .valid) (s .pre .0 .homing .growth) (star e) (c .before .before .before .before .before .before .before .before .before .before .before .before .before .before .before .before .before .before .before .before .before .before .before .before .before .before .before .before .before .before .find-kept .result .page) (omega (arith, c .before .before .before .before .before .before .before .before .before .before .before .before .before .before .before .before .before .before .before .before .before .before .before .before .before .before .before .before .before .before .find-kept .ensures .0 .pageIs, missing e .named)))
 
+abbrev after-cascade : tie.After-placed-from → tie.After-cascade
+after-cascade c = c .before .before .before .before .before .before .before .before .before .before .before .before .before .before .before
+
 same-length-11 : tie.Need-same-length-11
-same-length-11 c = search needs
+same-length-11 c = after-cascade c .cascade .kept .1 .1 .0
 
 same-length-12 : tie.Need-same-length-12
-same-length-12 c = search needs
+same-length-12 c = after-cascade c .cascade .kept .1 .1 .1 .0
 
 same-length-13 : tie.Need-same-length-13
-same-length-13 c = search needs
+same-length-13 c = after-cascade c .cascade .kept .1 .1 .1 .1 .0
 
 same-length-14 : tie.Need-same-length-14
-same-length-14 c = search needs
+same-length-14 c = after-cascade c .cascade .kept .1 .1 .1 .1 .1 .0
+
+abbrev after-find-kept : tie.After-cascade → tie.After-find-kept
+after-find-kept c = c .before .before .before .before .before .before .before .before .before .before .before .before .before .before .before .before
 
 same-length-15 : tie.Need-same-length-15
-same-length-15 c = search needs
+same-length-15 c = after-cascade c .cascade .kept .1 .1 .1 .1 .1 .1 .0 ∙ after-find-kept (after-cascade c) .find-kept .kept .1 .1 .1 .1 .1 .1 .0
 
 same-length-16 : tie.Need-same-length-16
-same-length-16 c = search needs
+same-length-16 c = after-cascade c .cascade .kept .1 .1 .1 .1 .1 .1 .1 .0
 
 same-length-17 : tie.Need-same-length-17
-same-length-17 c = search needs
+same-length-17 c = after-cascade c .cascade .kept .1 .1 .1 .1 .1 .1 .1 .1 .0
 
 returns-3 : tie.Need-returns-3
 returns-3 c =
@@ -214,26 +219,32 @@ placed-from-requires-2 c κs =
     rw (c .before .before .before .before .before .before .before .before .before .before .before .before .before .before .enter-star .ensures .0)
     (entry-small (s .args .parameters) (s .args .growth) (fileOf s) (s .pre .0 .homing .valid) (s .pre .0 .homing .growth) (star e))
 
+abbrev after-enter-star : tie.After-placed-from2 → tie.After-enter-star
+after-enter-star c = c .before .before .before .before .before .before .before .before .before .before .before .before .before .before .before
+
 same-length-18 : tie.Need-same-length-18
-same-length-18 c = search needs
+same-length-18 c = after-enter-star c .enter-star .kept .1 .1 .0
 
 same-length-19 : tie.Need-same-length-19
-same-length-19 c = search needs
+same-length-19 c = after-enter-star c .enter-star .kept .1 .1 .1 .0
 
 same-length-20 : tie.Need-same-length-20
-same-length-20 c = search needs
+same-length-20 c = after-enter-star c .enter-star .kept .1 .1 .1 .1 .0
 
 same-length-21 : tie.Need-same-length-21
-same-length-21 c = search needs
+same-length-21 c = after-enter-star c .enter-star .kept .1 .1 .1 .1 .1 .0
+
+abbrev after-find-kept-2 : tie.After-enter-star → tie.After-find-kept
+after-find-kept-2 c = c .before .before .before .before .before .before .before .before .before .before .before .before .before .before .before .before
 
 same-length-22 : tie.Need-same-length-22
-same-length-22 c = search needs
+same-length-22 c = after-enter-star c .enter-star .kept .1 .1 .1 .1 .1 .1 .0 ∙ after-find-kept-2 (after-enter-star c) .find-kept .kept .1 .1 .1 .1 .1 .1 .0
 
 same-length-23 : tie.Need-same-length-23
-same-length-23 c = search needs
+same-length-23 c = after-enter-star c .enter-star .kept .1 .1 .1 .1 .1 .1 .1 .0
 
 same-length-24 : tie.Need-same-length-24
-same-length-24 c = search needs
+same-length-24 c = after-enter-star c .enter-star .kept .1 .1 .1 .1 .1 .1 .1 .1 .0
 
 returns-4 : tie.Need-returns-4
 returns-4 c =

@@ -1,6 +1,6 @@
 -- 1, 2, then the second set and the cleared pool.
 use borrow.Author.Needs.{needs}
-use mathlib.Core.Path.{_≡_, refl}
+use mathlib.Core.Path.{_≡_, refl, _∙_}
 use mathlib.Core.Bool.{true}
 use denote.Ref.{now}
 use Rattle.hashing.proofs.Bounds.{passed, failed}
@@ -78,26 +78,35 @@ carry-second-requires c κs =
 clear-requires : tie.Need-clear-requires
 clear-requires c κs = search needs
 
+abbrev after-carry-second : tie.After-slice-known16 → tie.After-carry-second
+after-carry-second c = c .before .before .before .before .before .before .before .before .before .before .before .before .before .before .before .before .before .before .before .before .before .before
+
 same-length : tie.Need-same-length
-same-length c = search needs
+same-length c = after-carry-second c .carry-second .kept .1 .1 .1 .1 .1 .1 .1 .1 .0
 
 same-length-2 : tie.Need-same-length-2
-same-length-2 c = search needs
+same-length-2 c = after-carry-second c .carry-second .kept .1 .1 .1 .1 .1 .1 .1 .1 .1 .0
 
 same-length-3 : tie.Need-same-length-3
-same-length-3 c = search needs
+same-length-3 c = after-carry-second c .carry-second .kept .1 .1 .1 .1 .1 .1 .1 .1 .1 .1 .0
 
 same-length-4 : tie.Need-same-length-4
-same-length-4 c = search needs
+same-length-4 c = after-carry-second c .carry-second .kept .1 .1 .1 .1 .1 .1 .1 .1 .1 .1 .1 .0
+
+abbrev after-clear : tie.After-slice-known16 → tie.After-clear
+after-clear c = c .before .before .before .before .before .before
+
+abbrev after-carry-second-2 : tie.After-clear → tie.After-carry-second
+after-carry-second-2 c = c .before .before .before .before .before .before .before .before .before .before .before .before .before .before .before .before
 
 same-length-5 : tie.Need-same-length-5
-same-length-5 c = search needs
+same-length-5 c = after-clear c .clear .kept .0 ∙ after-carry-second-2 (after-clear c) .carry-second .kept .1 .1 .1 .1 .1 .1 .1 .1 .1 .1 .1 .1 .0
 
 same-length-6 : tie.Need-same-length-6
-same-length-6 c = search needs
+same-length-6 c = after-clear c .clear .kept .1 .0 ∙ after-carry-second-2 (after-clear c) .carry-second .kept .1 .1 .1 .1 .1 .1 .1 .1 .1 .1 .1 .1 .1 .0
 
 same-length-7 : tie.Need-same-length-7
-same-length-7 c = search needs
+same-length-7 c = after-clear c .clear .kept .1 .1 .0
 
 returns-4 : tie.Need-returns-4
 returns-4 c =

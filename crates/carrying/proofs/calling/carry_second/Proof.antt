@@ -33,23 +33,26 @@ placed-from-requires c κs =
     let d = c .before .before .before .before .before .before .before .before .before .before .before .before in
     rw (d .carry-pages .ensures .0) (carry-small _ _ (file (start d)) (start d .pre .0 .homing .valid))
 
+abbrev after-carry-pages : tie.After-placed-from → tie.After-carry-pages
+after-carry-pages c = c .before .before .before .before .before .before .before .before .before .before .before .before .before
+
 same-length : tie.Need-same-length
-same-length c = search needs
+same-length c = after-carry-pages c .carry-pages .kept .1 .1 .1 .1 .1 .1 .0
 
 same-length-2 : tie.Need-same-length-2
-same-length-2 c = search needs
+same-length-2 c = after-carry-pages c .carry-pages .kept .1 .1 .1 .1 .1 .1 .1 .0
 
 same-length-3 : tie.Need-same-length-3
-same-length-3 c = search needs
+same-length-3 c = after-carry-pages c .carry-pages .kept .1 .1 .1 .1 .1 .1 .1 .1 .0
 
 same-length-4 : tie.Need-same-length-4
-same-length-4 c = search needs
+same-length-4 c = after-carry-pages c .carry-pages .kept .1 .1 .1 .1 .1 .1 .1 .1 .1 .0
 
 same-length-5 : tie.Need-same-length-5
-same-length-5 c = search needs
+same-length-5 c = after-carry-pages c .carry-pages .kept .1 .1 .1 .1 .1 .1 .1 .1 .1 .1 .0
 
 same-length-6 : tie.Need-same-length-6
-same-length-6 c = search needs
+same-length-6 c = after-carry-pages c .carry-pages .kept .1 .1 .1 .1 .1 .1 .1 .1 .1 .1 .1 .0
 
 returns-2 : tie.Need-returns-2
 returns-2 c =

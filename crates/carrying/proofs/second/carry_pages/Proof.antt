@@ -61,23 +61,26 @@ place-second-requires c κs =
       ),
     )
 
+abbrev after-place-second : tie.After-slice-known12 → tie.After-place-second
+after-place-second c = c .before .before .before .before .before .before .before .before .before .before .before .before
+
 same-length : tie.Need-same-length
-same-length c = search needs
+same-length c = after-place-second c .place-second .kept .1 .1 .1 .1 .1 .0
 
 same-length-2 : tie.Need-same-length-2
-same-length-2 c = search needs
+same-length-2 c = after-place-second c .place-second .kept .1 .1 .1 .1 .1 .1 .0
 
 same-length-3 : tie.Need-same-length-3
-same-length-3 c = search needs
+same-length-3 c = after-place-second c .place-second .kept .1 .1 .1 .1 .1 .1 .1 .0
 
 same-length-4 : tie.Need-same-length-4
-same-length-4 c = search needs
+same-length-4 c = after-place-second c .place-second .kept .1 .1 .1 .1 .1 .1 .1 .1 .0
 
 same-length-5 : tie.Need-same-length-5
-same-length-5 c = search needs
+same-length-5 c = after-place-second c .place-second .kept .1 .1 .1 .1 .1 .1 .1 .1 .1 .0
 
 same-length-6 : tie.Need-same-length-6
-same-length-6 c = search needs
+same-length-6 c = after-place-second c .place-second .kept .1 .1 .1 .1 .1 .1 .1 .1 .1 .1 .0
 
 returns : tie.Need-returns
 returns c =
@@ -111,23 +114,29 @@ place-second-requires-2 c κs =
       ),
     )
 
+abbrev after-place-second2 : tie.After-slice-known19 → tie.After-place-second2
+after-place-second2 c = c .before .before .before .before .before .before .before .before .before .before .before .before
+
 same-length-7 : tie.Need-same-length-7
-same-length-7 c = search needs
+same-length-7 c = after-place-second2 c .place-second2 .kept .1 .1 .1 .1 .1 .0
 
 same-length-8 : tie.Need-same-length-8
-same-length-8 c = search needs
+same-length-8 c = after-place-second2 c .place-second2 .kept .1 .1 .1 .1 .1 .1 .0
 
 same-length-9 : tie.Need-same-length-9
-same-length-9 c = search needs
+same-length-9 c = after-place-second2 c .place-second2 .kept .1 .1 .1 .1 .1 .1 .1 .0
 
 same-length-10 : tie.Need-same-length-10
-same-length-10 c = search needs
+same-length-10 c = after-place-second2 c .place-second2 .kept .1 .1 .1 .1 .1 .1 .1 .1 .0
+
+abbrev after-survey : tie.After-place-second2 → tie.After-survey
+after-survey c = c .before .before .before .before .before .before .before .before .before
 
 same-length-11 : tie.Need-same-length-11
-same-length-11 c = search needs
+same-length-11 c = after-place-second2 c .place-second2 .kept .1 .1 .1 .1 .1 .1 .1 .1 .1 .0 ∙ after-survey (after-place-second2 c) .survey .kept .1 .1 .1 .1 .1 .1 .0
 
 same-length-12 : tie.Need-same-length-12
-same-length-12 c = search needs
+same-length-12 c = after-place-second2 c .place-second2 .kept .1 .1 .1 .1 .1 .1 .1 .1 .1 .1 .0
 
 returns-2 : tie.Need-returns-2
 returns-2 c =

@@ -30,10 +30,10 @@ plan-all-requires c κs =
     ((s .pre .0 .homing .valid, s .pre .0 .homing .growth), (s .pre .1 .0 (omega arith), (s .pre .1 .1 .0, (s .pre .1 .1 .1, refl))))
 
 same-length : tie.Need-same-length
-same-length c = search needs
+same-length c = c .before .before .before .before .before .plan-all .kept .1 .1 .0
 
 same-length-2 : tie.Need-same-length-2
-same-length-2 c = search needs
+same-length-2 c = c .before .before .before .before .before .plan-all .kept .1 .1 .1 .0
 
 returns-2 : tie.Need-returns-2
 returns-2 c =
@@ -53,23 +53,29 @@ write-second-requires c κs =
       (omega (arith, z .ofNumbers, s .pre .1 .1 .0, k), (omega (arith, z .ofWords, s .pre .1 .1 .0, k), omega (arith, z .ofOwners, s .pre .1 .1 .0, k))),
     )
 
+abbrev after-write-second : tie.After-slice-known12 → tie.After-write-second
+after-write-second c = c .before .before .before .before .before .before .before .before
+
 same-length-3 : tie.Need-same-length-3
-same-length-3 c = search needs
+same-length-3 c = after-write-second c .write-second .kept .1 .1 .1 .0
 
 same-length-4 : tie.Need-same-length-4
-same-length-4 c = search needs
+same-length-4 c = after-write-second c .write-second .kept .1 .1 .1 .1 .0
 
 same-length-5 : tie.Need-same-length-5
-same-length-5 c = search needs
+same-length-5 c = after-write-second c .write-second .kept .1 .1 .1 .1 .1 .0
 
 same-length-6 : tie.Need-same-length-6
-same-length-6 c = search needs
+same-length-6 c = after-write-second c .write-second .kept .1 .1 .1 .1 .1 .1 .0
+
+abbrev after-plan-all : tie.After-slice-known12 → tie.After-plan-all
+after-plan-all c = c .before .before .before .before .before .before .before .before .before .before .before .before .before .before .before .before .before .before .before .before
 
 same-length-7 : tie.Need-same-length-7
-same-length-7 c = search needs
+same-length-7 c = after-plan-all c .plan-all .kept .1 .1 .0
 
 same-length-8 : tie.Need-same-length-8
-same-length-8 c = search needs
+same-length-8 c = after-plan-all c .plan-all .kept .1 .1 .1 .0
 
 returns-3 : tie.Need-returns-3
 returns-3 c =

@@ -18,16 +18,19 @@ copy-8-requires : tie.Need-copy-8-requires
 copy-8-requires c κs = search needs
 
 same-length : tie.Need-same-length
-same-length c = search needs
+same-length c = c .before .before .copy-8 .kept .0
+
+abbrev after-fill-second : tie.After-slice-known8 → tie.After-fill-second
+after-fill-second c = c .before .before .before .before .before .before .before .before .before .before .before
 
 same-length-2 : tie.Need-same-length-2
-same-length-2 c = search needs
+same-length-2 c = after-fill-second c .fill-second .kept .1 .1 .1 .0
 
 same-length-3 : tie.Need-same-length-3
-same-length-3 c = search needs
+same-length-3 c = after-fill-second c .fill-second .kept .1 .1 .1 .1 .0
 
 same-length-4 : tie.Need-same-length-4
-same-length-4 c = search needs
+same-length-4 c = after-fill-second c .fill-second .kept .1 .1 .1 .1 .1 .0
 
 returns : tie.Need-returns
 returns c =

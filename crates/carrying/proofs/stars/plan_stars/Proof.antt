@@ -1,4 +1,5 @@
 -- Keys, words in groups, pages.
+use mathlib.Core.Path.{_∙_}
 use borrow.Author.Needs.{needs}
 use Prim.Native.Nat.{_≤_, _*_}
 use lib.ListN.{length}
@@ -58,11 +59,23 @@ place-all-requires c κs =
     (omega (arith, k .key-stars .kept .1 .1 .1 .0, s .pre .1 .1 .1 .0)) (omega (arith, t .gather-stars .kept .1 .1 .0, k .key-stars .kept .1 .1 .1 .1 .0, s .pre .1 .1 .1 .1 .0, items s))
     (omega (arith, s .pre .1 .1 .1 .1 .1 .0)) (omega (arith, t .gather-stars .kept .1 .1 .1 .0))
 
+abbrev after-key-stars : tie.After-place-all → tie.After-key-stars
+after-key-stars c = c .before .before .before .before .before .before .before .before .before .before .before .before .before .before .before .before
+
 same-length : tie.Need-same-length
-same-length c = search needs
+same-length c = c .before .before .before .before .place-all .kept .1 .0 ∙ after-key-stars (c .before .before .before .before) .key-stars .kept .1 .1 .1 .0
+
+abbrev after-gather-stars : tie.After-place-all → tie.After-gather-stars
+after-gather-stars c = c .before .before .before .before .before .before .before .before
+
+abbrev after-key-stars-2 : tie.After-gather-stars → tie.After-key-stars
+after-key-stars-2 c = c .before .before .before .before .before .before .before .before
 
 same-length-2 : tie.Need-same-length-2
-same-length-2 c = search needs
+same-length-2 c =
+    let placed = c .before .before .before .before in
+    let gathered = after-gather-stars placed in
+    placed .place-all .kept .1 .1 .0 ∙ gathered .gather-stars .kept .1 .1 .0 ∙ after-key-stars-2 gathered .key-stars .kept .1 .1 .1 .1 .0
 
 returns : tie.Need-returns
 returns c =

@@ -64,7 +64,7 @@ survey-pages-requires c κs =
     (s .pre .0, (s .pre .1 .0 .0, (extent s .high, (omega (arith, high s), extent s .besides))))
 
 same-length : tie.Need-same-length
-same-length c = search needs
+same-length c = c .before .before .before .survey-pages .kept .1 .1 .1 .1 .1 .1 .0
 
 returns : tie.Need-returns
 returns c =
@@ -94,7 +94,7 @@ count-stars-requires c κs = (
 )
 
 same-length-2 : tie.Need-same-length-2
-same-length-2 c = search needs
+same-length-2 c = c .before .before .before .before .before .survey-pages .kept .1 .1 .1 .1 .1 .1 .0
 
 clear : (c : tie.Else1) → BlockSound (from c .args .geometry .parameters) (from c .args .geometry .growth) (file (from c)) (from c .args .block .first)
 clear c =
@@ -163,14 +163,20 @@ plan-requires c κs =
       ),
     )
 
+abbrev after-plan : tie.After-slice-known7 → tie.After-plan
+after-plan c = c .before .before .before .before .before .before
+
+abbrev after-survey-pages : tie.After-plan → tie.After-survey-pages
+after-survey-pages c = c .before .before .before .before .before .before .before .before .before
+
 same-length-3 : tie.Need-same-length-3
-same-length-3 c = search needs
+same-length-3 c = after-plan c .plan .kept .1 .1 .0 ∙ after-survey-pages (after-plan c) .survey-pages .kept .1 .1 .1 .1 .1 .1 .0
 
 same-length-4 : tie.Need-same-length-4
-same-length-4 c = search needs
+same-length-4 c = after-plan c .plan .kept .1 .1 .1 .0
 
 same-length-5 : tie.Need-same-length-5
-same-length-5 c = search needs
+same-length-5 c = after-plan c .plan .kept .1 .1 .1 .1 .0
 
 returns-3 : tie.Need-returns-3
 returns-3 c =

@@ -76,13 +76,13 @@ plan-onward-requires c κs =
     (s .pre .0, ((s .pre .1 .0 .0, simp length-set (s .pre .1 .0 .1)), (s .pre .1 .1 .0, ((simp length-set (omega (arith, items s)), rw (r .at) (r .spanned .words .near)), s .pre .1 .1 .1 .1 .1 .1))))
 
 same-length : tie.Need-same-length
-same-length c = search needs
+same-length c = c .before .before .before .before .before .before .plan-onward .kept .1 .1 .1 .1 .1 .1 .0
 
 same-length-2 : tie.Need-same-length-2
 same-length-2 c = let x = c .before .before .before .before .before .before in x .plan-onward .kept .1 .1 .1 .1 .1 .1 .1 .0 ∙ simp length-set
 
 same-length-3 : tie.Need-same-length-3
-same-length-3 c = search needs
+same-length-3 c = c .before .before .before .before .before .before .plan-onward .kept .1 .1 .1 .1 .1 .1 .1 .1 .0
 
 returns : tie.Need-returns
 returns c =

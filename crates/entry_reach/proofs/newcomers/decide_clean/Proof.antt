@@ -120,14 +120,17 @@ decide-stretch-requires c κs =
       ),
     )
 
+abbrev after-decide-stretch : tie.After-slice-known6 → tie.After-decide-stretch
+after-decide-stretch c = c .before .before .before .before .before .before
+
 same-length : tie.Need-same-length
-same-length c = search needs
+same-length c = after-decide-stretch c .decide-stretch .kept .1 .1 .1 .1 .1 .1 .0
 
 same-length-2 : tie.Need-same-length-2
-same-length-2 c = search needs
+same-length-2 c = after-decide-stretch c .decide-stretch .kept .1 .1 .1 .1 .1 .1 .1 .0
 
 same-length-3 : tie.Need-same-length-3
-same-length-3 c = search needs
+same-length-3 c = after-decide-stretch c .decide-stretch .kept .1 .1 .1 .1 .1 .1 .1 .1 .0
 
 returns-2 : tie.Need-returns-2
 returns-2 c = search needs
@@ -191,26 +194,38 @@ sub-count c =
     let v = c .before .before .before .before .before .before .end .given in
     omega (arith, told x (Ends (v .0 .0)) (v .1) .0)
 
+abbrev after-decide-onward : tie.After-slice-known12 → tie.After-decide-onward
+after-decide-onward c = c .before .before .before .before .before .before
+
+abbrev after-push-within : tie.After-decide-onward → tie.After-push-within
+after-push-within c = c .before .before .before .before .before .before .before .before .before .before .before .before .before
+
 same-length-4 : tie.Need-same-length-4
-same-length-4 c = search needs
+same-length-4 c = after-decide-onward c .decide-onward .kept .1 .1 .1 .1 .1 .1 .0 ∙ after-push-within (after-decide-onward c) .push-within .kept .1 .1 .1 .1 .1 .1 .0
 
 same-length-5 : tie.Need-same-length-5
-same-length-5 c = search needs
+same-length-5 c = after-decide-onward c .decide-onward .kept .1 .1 .1 .1 .1 .1 .1 .0 ∙ after-push-within (after-decide-onward c) .push-within .kept .1 .1 .1 .1 .1 .1 .1 .0
 
 same-length-6 : tie.Need-same-length-6
-same-length-6 c = search needs
+same-length-6 c = after-decide-onward c .decide-onward .kept .1 .1 .1 .1 .1 .1 .1 .1 .0 ∙ after-push-within (after-decide-onward c) .push-within .kept .1 .1 .1 .1 .1 .1 .1 .1 .0
 
 returns-3 : tie.Need-returns-3
 returns-3 c = search needs
 
+abbrev after-push-within-2 : tie.After-struct-known5 → tie.After-push-within
+after-push-within-2 c = c .before .before .before .before .before .before .before .before .before .before .before .before .before .before
+
 same-length-7 : tie.Need-same-length-7
-same-length-7 c = search needs
+same-length-7 c = after-push-within-2 c .push-within .kept .1 .1 .1 .1 .1 .1 .0
 
 same-length-8 : tie.Need-same-length-8
-same-length-8 c = search needs
+same-length-8 c = after-push-within-2 c .push-within .kept .1 .1 .1 .1 .1 .1 .1 .0
+
+abbrev after-push-within-3 : tie.After-name-page → tie.After-push-within
+after-push-within-3 c = c .before .before .before .before .before .before .before .before .before .before .before
 
 same-length-9 : tie.Need-same-length-9
-same-length-9 c = search needs
+same-length-9 c = c .before .before .before .name-page .kept .1 .1 .1 .0 ∙ after-push-within-3 (c .before .before .before) .push-within .kept .1 .1 .1 .1 .1 .1 .1 .1 .0
 
 returns-4 : tie.Need-returns-4
 returns-4 c =

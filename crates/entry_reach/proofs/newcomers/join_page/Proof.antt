@@ -19,7 +19,7 @@ gather-requires c κs =
     ((s .pre .0 .0, (omega arith, omega (arith, s .pre .0 .1))), (s .pre .1 .0, (s .pre .1 .1 .0, (s .pre .1 .1 .1 .0, ((omega arith, s .pre .1 .1 .1 .1 .1 .0), s .pre .1 .1 .1 .1 .1 .1)))))
 
 same-length : tie.Need-same-length
-same-length c = search needs
+same-length c = c .before .before .before .gather .kept .1 .1 .0
 
 returns : tie.Need-returns
 returns c =

@@ -53,7 +53,7 @@ named-from-requires : tie.Need-named-from-requires
 named-from-requires c κs = (start c .pre .0, (length-take-le (start c .args .geometry .parameters .pages) (copied c .copy-82 .last .0) (longer c), start c .pre .1 .1 .1))
 
 same-length : tie.Need-same-length
-same-length c = search needs
+same-length c = c .before .before .before .before .copy-82 .kept .0 ∙ c .before .before .before .before .before .before .before .before .copy-8 .kept .0
 
 returns : tie.Need-returns
 returns c =

@@ -117,14 +117,20 @@ lower-page-requires c κs =
       ),
     )
 
+abbrev after-lower-page : tie.After-slice-known7 → tie.After-lower-page
+after-lower-page c = c .before .before .before .before .before .before
+
 same-length : tie.Need-same-length
-same-length c = search needs
+same-length c = after-lower-page c .lower-page .kept .1 .1 .1 .0
+
+abbrev after-join-page : tie.After-lower-page → tie.After-join-page
+after-join-page c = c .before .before .before .before .before .before
 
 same-length-2 : tie.Need-same-length-2
-same-length-2 c = search needs
+same-length-2 c = after-lower-page c .lower-page .kept .1 .1 .1 .1 .0 ∙ after-join-page (after-lower-page c) .join-page .kept .1 .1 .0
 
 same-length-3 : tie.Need-same-length-3
-same-length-3 c = search needs
+same-length-3 c = after-lower-page c .lower-page .kept .1 .1 .1 .1 .1 .0
 
 returns : tie.Need-returns
 returns c =

@@ -146,14 +146,17 @@ sub-count c =
     let v = c .before .before .before .before .before .before .end .given in
     omega (arith, low x (v .0 .0) (v .1))
 
+abbrev after-plan-onward : tie.After-known-told → tie.After-plan-onward
+after-plan-onward c = c .before .before .before .before .before .before .before .before .before
+
 same-length : tie.Need-same-length
-same-length c = search needs
+same-length c = after-plan-onward c .plan-onward .kept .1 .1 .1 .1 .1 .1 .0
 
 same-length-2 : tie.Need-same-length-2
-same-length-2 c = search needs
+same-length-2 c = after-plan-onward c .plan-onward .kept .1 .1 .1 .1 .1 .1 .1 .0
 
 same-length-3 : tie.Need-same-length-3
-same-length-3 c = search needs
+same-length-3 c = after-plan-onward c .plan-onward .kept .1 .1 .1 .1 .1 .1 .1 .1 .0
 
 returns-2 : tie.Need-returns-2
 returns-2 c =
@@ -163,14 +166,17 @@ returns-2 c =
     let done = unsound-answer (s .args .geometry .parameters) (s .args .geometry .growth) (file s) (s .args .star .number) (s .args .star .word) (s .args .star .owner) (v .0 .0) (sym (v .1) ∙ told x .0 (s .args .star .word) (s .args .star .owner)) in
     record { answers = done .0; files = done .1; feasible = tt }
 
+abbrev after-plan-onward-2 : tie.After-enum-told → tie.After-plan-onward
+after-plan-onward-2 c = c .before .before .before .before .before .before .before .before
+
 same-length-4 : tie.Need-same-length-4
-same-length-4 c = search needs
+same-length-4 c = after-plan-onward-2 c .plan-onward .kept .1 .1 .1 .1 .1 .1 .0
 
 same-length-5 : tie.Need-same-length-5
-same-length-5 c = search needs
+same-length-5 c = after-plan-onward-2 c .plan-onward .kept .1 .1 .1 .1 .1 .1 .1 .0
 
 same-length-6 : tie.Need-same-length-6
-same-length-6 c = search needs
+same-length-6 c = after-plan-onward-2 c .plan-onward .kept .1 .1 .1 .1 .1 .1 .1 .1 .0
 
 returns-3 : tie.Need-returns-3
 returns-3 c =
@@ -179,14 +185,20 @@ returns-3 c =
     let done = overflows-answer (s .args .geometry .parameters) (s .args .geometry .growth) (file s) (s .args .star .number) (s .args .star .word) (s .args .star .owner) (sym (c .enum-told .given .1) ∙ told x .0 (s .args .star .word) (s .args .star .owner)) in
     record { answers = done .0; files = done .1; feasible = tt }
 
+abbrev after-plan-onward-3 : tie.After-struct-known2 → tie.After-plan-onward
+after-plan-onward-3 c = c .before .before .before .before .before .before .before .before .before .before .before .before .before .before
+
 same-length-7 : tie.Need-same-length-7
-same-length-7 c = search needs
+same-length-7 c = after-plan-onward-3 c .plan-onward .kept .1 .1 .1 .1 .1 .1 .0
 
 same-length-8 : tie.Need-same-length-8
-same-length-8 c = search needs
+same-length-8 c = after-plan-onward-3 c .plan-onward .kept .1 .1 .1 .1 .1 .1 .1 .0
+
+abbrev after-plan-onward-4 : tie.After-name-page → tie.After-plan-onward
+after-plan-onward-4 c = c .before .before .before .before .before .before .before .before .before .before .before
 
 same-length-9 : tie.Need-same-length-9
-same-length-9 c = search needs
+same-length-9 c = c .before .before .before .name-page .kept .1 .1 .1 .0 ∙ after-plan-onward-4 (c .before .before .before) .plan-onward .kept .1 .1 .1 .1 .1 .1 .1 .1 .0
 
 returns-4 : tie.Need-returns-4
 returns-4 c =

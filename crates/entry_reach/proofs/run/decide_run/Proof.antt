@@ -91,7 +91,7 @@ survey-pages-requires c κs =
     (s .pre .0 .ready, (s .pre .1 .0 .0, (omega (arith, low s), (omega (arith, high s), s .pre .1 .1 .1 .0))))
 
 same-length : tie.Need-same-length
-same-length c = search needs
+same-length c = c .before .before .before .survey-pages .kept .1 .1 .1 .1 .1 .1 .0
 
 returns : tie.Need-returns
 returns c =
@@ -140,14 +140,20 @@ decide-stretch-requires c κs =
       ),
     )
 
+abbrev after-decide-stretch : tie.After-slice-known7 → tie.After-decide-stretch
+after-decide-stretch c = c .before .before .before .before .before .before
+
+abbrev after-survey-pages : tie.After-decide-stretch → tie.After-survey-pages
+after-survey-pages c = c .before .before .before .before .before .before .before .before .before .before .before
+
 same-length-2 : tie.Need-same-length-2
-same-length-2 c = search needs
+same-length-2 c = after-decide-stretch c .decide-stretch .kept .1 .1 .1 .1 .1 .1 .0 ∙ after-survey-pages (after-decide-stretch c) .survey-pages .kept .1 .1 .1 .1 .1 .1 .0
 
 same-length-3 : tie.Need-same-length-3
-same-length-3 c = search needs
+same-length-3 c = after-decide-stretch c .decide-stretch .kept .1 .1 .1 .1 .1 .1 .1 .0
 
 same-length-4 : tie.Need-same-length-4
-same-length-4 c = search needs
+same-length-4 c = after-decide-stretch c .decide-stretch .kept .1 .1 .1 .1 .1 .1 .1 .1 .0
 
 returns-2 : tie.Need-returns-2
 returns-2 c = search needs
@@ -181,14 +187,20 @@ decide-clean-requires c κs =
       ),
     )
 
+abbrev after-decide-clean : tie.After-slice-known10 → tie.After-decide-clean
+after-decide-clean c = c .before .before .before .before .before .before
+
+abbrev after-survey-pages-2 : tie.After-decide-clean → tie.After-survey-pages
+after-survey-pages-2 c = c .before .before .before .before .before .before .before .before .before .before
+
 same-length-5 : tie.Need-same-length-5
-same-length-5 c = search needs
+same-length-5 c = after-decide-clean c .decide-clean .kept .1 .1 .1 .1 .1 .1 .0 ∙ after-survey-pages-2 (after-decide-clean c) .survey-pages .kept .1 .1 .1 .1 .1 .1 .0
 
 same-length-6 : tie.Need-same-length-6
-same-length-6 c = search needs
+same-length-6 c = after-decide-clean c .decide-clean .kept .1 .1 .1 .1 .1 .1 .1 .0
 
 same-length-7 : tie.Need-same-length-7
-same-length-7 c = search needs
+same-length-7 c = after-decide-clean c .decide-clean .kept .1 .1 .1 .1 .1 .1 .1 .1 .0
 
 returns-3 : tie.Need-returns-3
 returns-3 c = search needs

@@ -45,14 +45,17 @@ decide-run-requires c κs =
     let s = c .before .before .before .before .before .before .before .before .before .before .before .before .before in
     (s .pre .0, (s .pre .1 .0, (s .pre .1 .1 .0, (s .pre .1 .1 .1 .0, (s .pre .1 .1 .1 .1, ended (c .before .before .before .before))))))
 
+abbrev after-decide-run : tie.After-slice-known6 → tie.After-decide-run
+after-decide-run c = c .before .before .before .before .before .before
+
 same-length : tie.Need-same-length
-same-length c = search needs
+same-length c = after-decide-run c .decide-run .kept .1 .1 .1 .1 .1 .1 .0
 
 same-length-2 : tie.Need-same-length-2
-same-length-2 c = search needs
+same-length-2 c = after-decide-run c .decide-run .kept .1 .1 .1 .1 .1 .1 .1 .0
 
 same-length-3 : tie.Need-same-length-3
-same-length-3 c = search needs
+same-length-3 c = after-decide-run c .decide-run .kept .1 .1 .1 .1 .1 .1 .1 .1 .0
 
 returns : tie.Need-returns
 returns c = search needs
@@ -65,14 +68,17 @@ decide-stretch-requires c κs =
     let x = extent-from p (s .args .geometry .growth) (file s) (now (s .args .pool)) (s .pre .0 .ready .sized) (s .args .star .home) (s .args .star .page) (inside s) (s .pre .1 .1 .1 .0) (k .block-from .result) (k .block-from .ensures) in
     (s .pre .0, (s .pre .1 .0, (s .pre .1 .1 .0, (sym (ap (λ (e : Extent). e .first) (k .block-from .ensures)), x))))
 
+abbrev after-decide-stretch : tie.After-slice-known9 → tie.After-decide-stretch
+after-decide-stretch c = c .before .before .before .before .before .before
+
 same-length-4 : tie.Need-same-length-4
-same-length-4 c = search needs
+same-length-4 c = after-decide-stretch c .decide-stretch .kept .1 .1 .1 .1 .1 .1 .0
 
 same-length-5 : tie.Need-same-length-5
-same-length-5 c = search needs
+same-length-5 c = after-decide-stretch c .decide-stretch .kept .1 .1 .1 .1 .1 .1 .1 .0
 
 same-length-6 : tie.Need-same-length-6
-same-length-6 c = search needs
+same-length-6 c = after-decide-stretch c .decide-stretch .kept .1 .1 .1 .1 .1 .1 .1 .1 .0
 
 returns-2 : tie.Need-returns-2
 returns-2 c = search needs

@@ -72,26 +72,29 @@ carry-out-requires c κs =
     let e = s .pre .0 .ready in
     (e .homing .valid, (e .sized, (s .pre .1 .0, decided d (now (s .args .pool)) (now (s .args .separators)) .feasible)))
 
+abbrev after-carry-out : tie.After-slice-known14 → tie.After-carry-out
+after-carry-out c = c .before .before .before .before .before .before .before .before .before .before .before .before .before .before
+
 same-length : tie.Need-same-length
-same-length c = search needs
+same-length c = after-carry-out c .carry-out .kept .1 .0
 
 same-length-2 : tie.Need-same-length-2
-same-length-2 c = search needs
+same-length-2 c = after-carry-out c .carry-out .kept .1 .1 .0
 
 same-length-3 : tie.Need-same-length-3
-same-length-3 c = search needs
+same-length-3 c = after-carry-out c .carry-out .kept .1 .1 .1 .0
 
 same-length-4 : tie.Need-same-length-4
-same-length-4 c = search needs
+same-length-4 c = after-carry-out c .carry-out .kept .1 .1 .1 .1 .0
 
 same-length-5 : tie.Need-same-length-5
-same-length-5 c = search needs
+same-length-5 c = after-carry-out c .carry-out .kept .1 .1 .1 .1 .1 .0
 
 same-length-6 : tie.Need-same-length-6
-same-length-6 c = search needs
+same-length-6 c = after-carry-out c .carry-out .kept .1 .1 .1 .1 .1 .1 .0
 
 same-length-7 : tie.Need-same-length-7
-same-length-7 c = search needs
+same-length-7 c = after-carry-out c .carry-out .kept .1 .1 .1 .1 .1 .1 .1 .0
 
 returns : tie.Need-returns
 returns c =
@@ -128,26 +131,32 @@ carry-out-requires-2 c κs =
       ),
     )
 
+abbrev after-carry-out2 : tie.After-outcome-of → tie.After-carry-out2
+after-carry-out2 c = c .before .before .before .before .before .before .before .before .before .before .before .before .before .before .before
+
 same-length-8 : tie.Need-same-length-8
-same-length-8 c = search needs
+same-length-8 c = after-carry-out2 c .carry-out2 .kept .1 .0
 
 same-length-9 : tie.Need-same-length-9
-same-length-9 c = search needs
+same-length-9 c = after-carry-out2 c .carry-out2 .kept .1 .1 .0
 
 same-length-10 : tie.Need-same-length-10
-same-length-10 c = search needs
+same-length-10 c = after-carry-out2 c .carry-out2 .kept .1 .1 .1 .0
 
 same-length-11 : tie.Need-same-length-11
-same-length-11 c = search needs
+same-length-11 c = after-carry-out2 c .carry-out2 .kept .1 .1 .1 .1 .0
+
+abbrev after-decide : tie.After-carry-out2 → tie.After-decide
+after-decide c = c .before .before .before .before .before .before .before .before .before .before .before .before .before .before
 
 same-length-12 : tie.Need-same-length-12
-same-length-12 c = search needs
+same-length-12 c = after-carry-out2 c .carry-out2 .kept .1 .1 .1 .1 .1 .0 ∙ after-decide (after-carry-out2 c) .decide .kept .1 .1 .1 .1 .1 .1 .0
 
 same-length-13 : tie.Need-same-length-13
-same-length-13 c = search needs
+same-length-13 c = after-carry-out2 c .carry-out2 .kept .1 .1 .1 .1 .1 .1 .0 ∙ after-decide (after-carry-out2 c) .decide .kept .1 .1 .1 .1 .1 .1 .1 .0
 
 same-length-14 : tie.Need-same-length-14
-same-length-14 c = search needs
+same-length-14 c = after-carry-out2 c .carry-out2 .kept .1 .1 .1 .1 .1 .1 .1 .0
 
 outcome-of-requires : tie.Need-outcome-of-requires
 outcome-of-requires c κs = search needs

@@ -1,5 +1,5 @@
 -- `growth_plan::growth::grow` meets its contract.
-use mathlib.Core.Path.{_≡_, sym, ap, subst, _∙_}
+use mathlib.Core.Path.{_≡_, sym, ap, subst, _∙_, refl}
 use native.Mathlib.Nat.{le-refl}
 use native.Mathlib.Omega.{arith}
 use denote.Ref.{now}
@@ -29,19 +29,19 @@ survey-pages-requires c κs =
     (pre .0, (pre .1 .0 .ofNumbers, (omega arith, (omega arith, known-none _ _ _ _ _ (le-refl _)))))
 
 same-length : tie.Need-same-length
-same-length c = search needs
+same-length c = refl
 
 same-length-2 : tie.Need-same-length-2
-same-length-2 c = search needs
+same-length-2 c = refl
 
 same-length-3 : tie.Need-same-length-3
-same-length-3 c = search needs
+same-length-3 c = refl
 
 same-length-4 : tie.Need-same-length-4
-same-length-4 c = search needs
+same-length-4 c = refl
 
 same-length-5 : tie.Need-same-length-5
-same-length-5 c = search needs
+same-length-5 c = c .before .before .before .survey-pages .kept .1 .1 .1 .1 .1 .1 .0
 
 returns : tie.Need-returns
 returns c =
@@ -95,26 +95,32 @@ grow-in-place-requires c κs =
     let pre = start (surveyed x) .pre in
     (pre .0, (pooled x, (pre .1 .1, (sound x, homed x))))
 
+abbrev after-grow-in-place : tie.Then2 → tie.After-grow-in-place
+after-grow-in-place c = c .before .before .before .before .before .before .before .before .before .before .before .before .before .before .before
+
 same-length-6 : tie.Need-same-length-6
-same-length-6 c = search needs
+same-length-6 c = after-grow-in-place c .grow-in-place .kept .1 .1 .0
 
 same-length-7 : tie.Need-same-length-7
-same-length-7 c = search needs
+same-length-7 c = after-grow-in-place c .grow-in-place .kept .1 .1 .1 .0
 
 same-length-8 : tie.Need-same-length-8
-same-length-8 c = search needs
+same-length-8 c = after-grow-in-place c .grow-in-place .kept .1 .1 .1 .1 .0
 
 same-length-9 : tie.Need-same-length-9
-same-length-9 c = search needs
+same-length-9 c = after-grow-in-place c .grow-in-place .kept .1 .1 .1 .1 .1 .0
+
+abbrev after-survey-pages : tie.After-grow-in-place → tie.After-survey-pages
+after-survey-pages c = c .before .before .before .before .before .before .before .before .before .before .before
 
 same-length-10 : tie.Need-same-length-10
-same-length-10 c = search needs
+same-length-10 c = after-grow-in-place c .grow-in-place .kept .1 .1 .1 .1 .1 .1 .0 ∙ after-survey-pages (after-grow-in-place c) .survey-pages .kept .1 .1 .1 .1 .1 .1 .0
 
 same-length-11 : tie.Need-same-length-11
-same-length-11 c = search needs
+same-length-11 c = after-grow-in-place c .grow-in-place .kept .1 .1 .1 .1 .1 .1 .1 .0
 
 same-length-12 : tie.Need-same-length-12
-same-length-12 c = search needs
+same-length-12 c = after-grow-in-place c .grow-in-place .kept .1 .1 .1 .1 .1 .1 .1 .1 .0
 
 returns-2 : tie.Need-returns-2
 returns-2 c =
@@ -145,17 +151,23 @@ replace-all-requires c κs =
       ),
     )
 
+abbrev after-replace-all : tie.After-slice-known22 → tie.After-replace-all
+after-replace-all c = c .before .before .before .before .before .before .before .before .before .before .before .before .before .before
+
+abbrev after-grow-in-place-2 : tie.After-replace-all → tie.After-grow-in-place
+after-grow-in-place-2 c = c .before .before .before .before .before .before .before .before .before .before .before .before .before .before .before .before .before .before .before .before .before .before .before
+
 same-length-13 : tie.Need-same-length-13
-same-length-13 c = search needs
+same-length-13 c = after-replace-all c .replace-all .kept .1 .1 .1 .0 ∙ after-grow-in-place-2 (after-replace-all c) .grow-in-place .kept .1 .1 .0
 
 same-length-14 : tie.Need-same-length-14
-same-length-14 c = search needs
+same-length-14 c = after-replace-all c .replace-all .kept .1 .1 .1 .1 .0 ∙ after-grow-in-place-2 (after-replace-all c) .grow-in-place .kept .1 .1 .1 .0
 
 same-length-15 : tie.Need-same-length-15
-same-length-15 c = search needs
+same-length-15 c = after-replace-all c .replace-all .kept .1 .1 .1 .1 .1 .0 ∙ after-grow-in-place-2 (after-replace-all c) .grow-in-place .kept .1 .1 .1 .1 .0
 
 same-length-16 : tie.Need-same-length-16
-same-length-16 c = search needs
+same-length-16 c = after-replace-all c .replace-all .kept .1 .1 .1 .1 .1 .1 .0 ∙ after-grow-in-place-2 (after-replace-all c) .grow-in-place .kept .1 .1 .1 .1 .1 .0
 
 same-length-17 : tie.Need-same-length-17
 same-length-17 c =
@@ -164,10 +176,10 @@ same-length-17 c =
     d .replace-all .kept .1 .1 .1 .1 .1 .1 .1 .0 ∙ k .grow-in-place .kept .1 .1 .1 .1 .1 .1 .0 ∙ surveyed (passed k) .survey-pages .kept .1 .1 .1 .1 .1 .1 .0
 
 same-length-18 : tie.Need-same-length-18
-same-length-18 c = search needs
+same-length-18 c = after-replace-all c .replace-all .kept .1 .1 .1 .1 .1 .1 .1 .1 .0 ∙ after-grow-in-place-2 (after-replace-all c) .grow-in-place .kept .1 .1 .1 .1 .1 .1 .1 .0
 
 same-length-19 : tie.Need-same-length-19
-same-length-19 c = search needs
+same-length-19 c = after-replace-all c .replace-all .kept .1 .1 .1 .1 .1 .1 .1 .1 .1 .0 ∙ after-grow-in-place-2 (after-replace-all c) .grow-in-place .kept .1 .1 .1 .1 .1 .1 .1 .1 .0
 
 returns-3 : tie.Need-returns-3
 returns-3 c =

@@ -6,7 +6,6 @@ use borrow.Author.Tests.{not-true, not-false}
 use Rattle.placement.specs.Hash.{lent}
 use Rattle.growth_in_place.specs.Expansion.{Moved}
 use Rattle.growth_plan.proofs.InPlace.{grown-answer, grown-file}
-use borrow.Author.Needs.{needs}
 use Rattle.growth_plan.proofs.growth.grow_in_place.Statement.{statement}
 use Rattle.growth_plan.proofs.growth.grow_in_place.Tie as tie
 
@@ -33,19 +32,22 @@ move-stars-requires c κs =
     (pre .0, (pre .1 .1 .1 .1, (pre .1 .1 .1 .0, pre .1 .1 .0)))
 
 same-length : tie.Need-same-length
-same-length c = search needs
+same-length c = refl
+
+abbrev after-move-stars : tie.Then1 → tie.After-move-stars
+after-move-stars c = c .before .before .before .before .before .before .before .before .before
 
 same-length-2 : tie.Need-same-length-2
-same-length-2 c = search needs
+same-length-2 c = after-move-stars c .move-stars .kept .1 .1 .1 .0
 
 same-length-3 : tie.Need-same-length-3
-same-length-3 c = search needs
+same-length-3 c = after-move-stars c .move-stars .kept .1 .1 .1 .1 .0
 
 same-length-4 : tie.Need-same-length-4
-same-length-4 c = search needs
+same-length-4 c = after-move-stars c .move-stars .kept .1 .1 .1 .1 .1 .0
 
 same-length-5 : tie.Need-same-length-5
-same-length-5 c = search needs
+same-length-5 c = after-move-stars c .move-stars .kept .1 .1 .1 .1 .1 .1 .0
 
 returns : tie.Need-returns
 returns c =
@@ -74,26 +76,32 @@ replace-blocks-requires c κs =
       (m .allSound, m .homes),
     )
 
+abbrev after-replace-blocks : tie.After-slice-known18 → tie.After-replace-blocks
+after-replace-blocks c = c .before .before .before .before .before .before .before .before .before .before .before .before .before .before
+
 same-length-6 : tie.Need-same-length-6
-same-length-6 c = search needs
+same-length-6 c = after-replace-blocks c .replace-blocks .kept .1 .0
+
+abbrev after-move-stars-2 : tie.After-replace-blocks → tie.After-move-stars
+after-move-stars-2 c = c .before .before .before .before .before .before .before .before .before .before .before .before .before .before .before .before .before .before .before
 
 same-length-7 : tie.Need-same-length-7
-same-length-7 c = search needs
+same-length-7 c = after-replace-blocks c .replace-blocks .kept .1 .1 .0 ∙ after-move-stars-2 (after-replace-blocks c) .move-stars .kept .1 .1 .1 .0
 
 same-length-8 : tie.Need-same-length-8
-same-length-8 c = search needs
+same-length-8 c = after-replace-blocks c .replace-blocks .kept .1 .1 .1 .0 ∙ after-move-stars-2 (after-replace-blocks c) .move-stars .kept .1 .1 .1 .1 .0
 
 same-length-9 : tie.Need-same-length-9
-same-length-9 c = search needs
+same-length-9 c = after-replace-blocks c .replace-blocks .kept .1 .1 .1 .1 .0 ∙ after-move-stars-2 (after-replace-blocks c) .move-stars .kept .1 .1 .1 .1 .1 .0
 
 same-length-10 : tie.Need-same-length-10
-same-length-10 c = search needs
+same-length-10 c = after-replace-blocks c .replace-blocks .kept .1 .1 .1 .1 .1 .0 ∙ after-move-stars-2 (after-replace-blocks c) .move-stars .kept .1 .1 .1 .1 .1 .1 .0
 
 same-length-11 : tie.Need-same-length-11
-same-length-11 c = search needs
+same-length-11 c = after-replace-blocks c .replace-blocks .kept .1 .1 .1 .1 .1 .1 .0
 
 same-length-12 : tie.Need-same-length-12
-same-length-12 c = search needs
+same-length-12 c = after-replace-blocks c .replace-blocks .kept .1 .1 .1 .1 .1 .1 .1 .0
 
 returns-2 : tie.Need-returns-2
 returns-2 c =

@@ -182,26 +182,32 @@ enter-own-requires c κs =
       (pooled-taken k, record { stars = stars s; listed = listed (finding k); begun = omega arith; laid-out = others k }),
     )
 
+abbrev after-enter-own : tie.Then1 → tie.After-enter-own
+after-enter-own c = c .before .before .before .before .before .before .before .before .before .before .before .before .before .before .before
+
+abbrev after-take-own : tie.After-enter-own → tie.After-take-own
+after-take-own c = c .before .before .before .before .before .before .before .before .before .before .before .before .before .before .before .before .before .before .before .before .before .before .before
+
 same-length : tie.Need-same-length
-same-length c = search needs
+same-length c = after-enter-own c .enter-own .kept .1 .1 .0 ∙ after-take-own (after-enter-own c) .take-own .kept .1 .1 .0
 
 same-length-2 : tie.Need-same-length-2
-same-length-2 c = search needs
+same-length-2 c = after-enter-own c .enter-own .kept .1 .1 .1 .0 ∙ after-take-own (after-enter-own c) .take-own .kept .1 .1 .1 .0
 
 same-length-3 : tie.Need-same-length-3
-same-length-3 c = search needs
+same-length-3 c = after-enter-own c .enter-own .kept .1 .1 .1 .1 .0 ∙ after-take-own (after-enter-own c) .take-own .kept .1 .1 .1 .1 .0
 
 same-length-4 : tie.Need-same-length-4
-same-length-4 c = search needs
+same-length-4 c = after-enter-own c .enter-own .kept .1 .1 .1 .1 .1 .0 ∙ after-take-own (after-enter-own c) .take-own .kept .1 .1 .1 .1 .1 .0
 
 same-length-5 : tie.Need-same-length-5
-same-length-5 c = search needs
+same-length-5 c = after-enter-own c .enter-own .kept .1 .1 .1 .1 .1 .1 .0 ∙ after-take-own (after-enter-own c) .take-own .kept .1 .1 .1 .1 .1 .1 .0
 
 same-length-6 : tie.Need-same-length-6
-same-length-6 c = search needs
+same-length-6 c = after-enter-own c .enter-own .kept .1 .1 .1 .1 .1 .1 .1 .0 ∙ after-take-own (after-enter-own c) .take-own .kept .1 .1 .1 .1 .1 .1 .1 .0
 
 same-length-7 : tie.Need-same-length-7
-same-length-7 c = search needs
+same-length-7 c = after-enter-own c .enter-own .kept .1 .1 .1 .1 .1 .1 .1 .1 .0 ∙ after-take-own (after-enter-own c) .take-own .kept .1 .1 .1 .1 .1 .1 .1 .1 .0
 
 returns : tie.Need-returns
 returns c =

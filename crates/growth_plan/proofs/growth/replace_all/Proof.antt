@@ -1,5 +1,5 @@
 -- Where the plan of all pages places every star, it is applied.
-use mathlib.Core.Path.{_≡_, _∙_}
+use mathlib.Core.Path.{_≡_, _∙_, refl}
 use mathlib.Core.Bool.{true}
 use Prim.Native.Nat.{ℕ, _+_, _*_, _≤_}
 use native.Mathlib.Nat.{zero-add}
@@ -60,13 +60,13 @@ plan-all-requires c κs =
     )
 
 same-length : tie.Need-same-length
-same-length c = search needs
+same-length c = refl
 
 same-length-2 : tie.Need-same-length-2
-same-length-2 c = search needs
+same-length-2 c = c .before .before .before .before .before .before .plan-all .kept .1 .1 .1 .1 .0
 
 same-length-3 : tie.Need-same-length-3
-same-length-3 c = search needs
+same-length-3 c = c .before .before .before .before .before .before .plan-all .kept .1 .1 .1 .1 .1 .0
 
 returns : tie.Need-returns
 returns c =
@@ -102,26 +102,32 @@ apply-requires c κs =
       ),
     )
 
+abbrev after-apply : tie.After-slice-known16 → tie.After-apply
+after-apply c = c .before .before .before .before .before .before .before .before .before .before .before .before .before .before
+
 same-length-4 : tie.Need-same-length-4
-same-length-4 c = search needs
+same-length-4 c = after-apply c .apply .kept .0
 
 same-length-5 : tie.Need-same-length-5
-same-length-5 c = search needs
+same-length-5 c = after-apply c .apply .kept .1 .0
 
 same-length-6 : tie.Need-same-length-6
-same-length-6 c = search needs
+same-length-6 c = after-apply c .apply .kept .1 .1 .0
 
 same-length-7 : tie.Need-same-length-7
-same-length-7 c = search needs
+same-length-7 c = after-apply c .apply .kept .1 .1 .1 .0
 
 same-length-8 : tie.Need-same-length-8
 same-length-8 c = let a = c .before .before .before .before .before .before .before .before .before .before .before .before .before .before in a .apply .kept .1 .1 .1 .1 .0 ∙ planning (a .before .before .before .before .before .before .before .before .before .before .before) .plan-all .kept .1 .1 .1 .1 .0
 
+abbrev after-plan-all : tie.After-apply → tie.After-plan-all
+after-plan-all c = c .before .before .before .before .before .before .before .before .before .before .before .before .before .before .before .before .before
+
 same-length-9 : tie.Need-same-length-9
-same-length-9 c = search needs
+same-length-9 c = after-apply c .apply .kept .1 .1 .1 .1 .1 .0 ∙ after-plan-all (after-apply c) .plan-all .kept .1 .1 .1 .1 .1 .0
 
 same-length-10 : tie.Need-same-length-10
-same-length-10 c = search needs
+same-length-10 c = after-apply c .apply .kept .1 .1 .1 .1 .1 .1 .0
 
 returns-2 : tie.Need-returns-2
 returns-2 c =

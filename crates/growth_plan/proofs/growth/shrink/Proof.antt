@@ -1,5 +1,5 @@
 -- `growth_plan::growth::shrink` meets its contract.
-use mathlib.Core.Path.{_≡_, _∙_}
+use mathlib.Core.Path.{_≡_, _∙_, refl}
 use native.Mathlib.Nat.{le-refl}
 use native.Mathlib.Omega.{arith}
 use borrow.Author.Needs.{needs}
@@ -62,19 +62,19 @@ survey-pages-requires c κs =
     (pre .0, (pre .1 .0 .ofNumbers, (omega arith, (omega arith, known-none _ _ _ _ _ (le-refl _)))))
 
 same-length : tie.Need-same-length
-same-length c = search needs
+same-length c = refl
 
 same-length-2 : tie.Need-same-length-2
-same-length-2 c = search needs
+same-length-2 c = refl
 
 same-length-3 : tie.Need-same-length-3
-same-length-3 c = search needs
+same-length-3 c = refl
 
 same-length-4 : tie.Need-same-length-4
-same-length-4 c = search needs
+same-length-4 c = refl
 
 same-length-5 : tie.Need-same-length-5
-same-length-5 c = search needs
+same-length-5 c = c .before .before .before .survey-pages .kept .1 .1 .1 .1 .1 .1 .0
 
 returns : tie.Need-returns
 returns c =
@@ -94,26 +94,32 @@ replace-all-requires c κs =
     let pre = start (surveyed x) .pre in
     (pre .0, (pooled x, (pre .1 .1, (sound x, homed x))))
 
+abbrev after-replace-all : tie.After-slice-known15 → tie.After-replace-all
+after-replace-all c = c .before .before .before .before .before .before .before .before .before .before .before .before .before .before
+
 same-length-6 : tie.Need-same-length-6
-same-length-6 c = search needs
+same-length-6 c = after-replace-all c .replace-all .kept .1 .1 .1 .0
 
 same-length-7 : tie.Need-same-length-7
-same-length-7 c = search needs
+same-length-7 c = after-replace-all c .replace-all .kept .1 .1 .1 .1 .0
 
 same-length-8 : tie.Need-same-length-8
-same-length-8 c = search needs
+same-length-8 c = after-replace-all c .replace-all .kept .1 .1 .1 .1 .1 .0
 
 same-length-9 : tie.Need-same-length-9
-same-length-9 c = search needs
+same-length-9 c = after-replace-all c .replace-all .kept .1 .1 .1 .1 .1 .1 .0
+
+abbrev after-survey-pages : tie.After-replace-all → tie.After-survey-pages
+after-survey-pages c = c .before .before .before .before .before .before .before .before .before .before .before .before .before .before .before .before
 
 same-length-10 : tie.Need-same-length-10
-same-length-10 c = search needs
+same-length-10 c = after-replace-all c .replace-all .kept .1 .1 .1 .1 .1 .1 .1 .0 ∙ after-survey-pages (after-replace-all c) .survey-pages .kept .1 .1 .1 .1 .1 .1 .0
 
 same-length-11 : tie.Need-same-length-11
-same-length-11 c = search needs
+same-length-11 c = after-replace-all c .replace-all .kept .1 .1 .1 .1 .1 .1 .1 .1 .0
 
 same-length-12 : tie.Need-same-length-12
-same-length-12 c = search needs
+same-length-12 c = after-replace-all c .replace-all .kept .1 .1 .1 .1 .1 .1 .1 .1 .1 .0
 
 returns-2 : tie.Need-returns-2
 returns-2 c = search needs
@@ -124,50 +130,59 @@ move-own-requires c κs =
     let pre = start (surveyed x) .pre in
     (pre .0, (pooled x, (pre .1 .1, (sound x, (homed x, c .before .before .before .before .before .before .before .before .is-simple .ensures (not-false _ (c .before .before .before .before .before .before .before .if2 .left)))))))
 
+abbrev after-move-own : tie.Then3 → tie.After-move-own
+after-move-own c = c .before .before .before .before .before .before .before .before .before .before .before .before .before .before .before
+
 same-length-13 : tie.Need-same-length-13
-same-length-13 c = search needs
+same-length-13 c = after-move-own c .move-own .kept .1 .1 .0
 
 same-length-14 : tie.Need-same-length-14
-same-length-14 c = search needs
+same-length-14 c = after-move-own c .move-own .kept .1 .1 .1 .0
 
 same-length-15 : tie.Need-same-length-15
-same-length-15 c = search needs
+same-length-15 c = after-move-own c .move-own .kept .1 .1 .1 .1 .0
 
 same-length-16 : tie.Need-same-length-16
-same-length-16 c = search needs
+same-length-16 c = after-move-own c .move-own .kept .1 .1 .1 .1 .1 .0
+
+abbrev after-survey-pages-2 : tie.After-move-own → tie.After-survey-pages
+after-survey-pages-2 c = c .before .before .before .before .before .before .before .before .before .before .before .before .before .before .before .before
 
 same-length-17 : tie.Need-same-length-17
-same-length-17 c = search needs
+same-length-17 c = after-move-own c .move-own .kept .1 .1 .1 .1 .1 .1 .0 ∙ after-survey-pages-2 (after-move-own c) .survey-pages .kept .1 .1 .1 .1 .1 .1 .0
 
 same-length-18 : tie.Need-same-length-18
-same-length-18 c = search needs
+same-length-18 c = after-move-own c .move-own .kept .1 .1 .1 .1 .1 .1 .1 .0
 
 same-length-19 : tie.Need-same-length-19
-same-length-19 c = search needs
+same-length-19 c = after-move-own c .move-own .kept .1 .1 .1 .1 .1 .1 .1 .1 .0
 
 returns-3 : tie.Need-returns-3
 returns-3 c = moved-on _ _ _ _ _ (c .before .before .before .before .before .before .before .before .before .before .before .before .before .before .before .move-own .ensures) (c .if3 .taken) _
 
+abbrev after-move-own-2 : tie.Else3 → tie.After-move-own
+after-move-own-2 c = c .before .before .before .before .before .before .before .before .before .before .before .before .before .before .before
+
 same-length-20 : tie.Need-same-length-20
-same-length-20 c = search needs
+same-length-20 c = after-move-own-2 c .move-own .kept .1 .1 .0
 
 same-length-21 : tie.Need-same-length-21
-same-length-21 c = search needs
+same-length-21 c = after-move-own-2 c .move-own .kept .1 .1 .1 .0
 
 same-length-22 : tie.Need-same-length-22
-same-length-22 c = search needs
+same-length-22 c = after-move-own-2 c .move-own .kept .1 .1 .1 .1 .0
 
 same-length-23 : tie.Need-same-length-23
-same-length-23 c = search needs
+same-length-23 c = after-move-own-2 c .move-own .kept .1 .1 .1 .1 .1 .0
 
 same-length-24 : tie.Need-same-length-24
-same-length-24 c = search needs
+same-length-24 c = after-move-own-2 c .move-own .kept .1 .1 .1 .1 .1 .1 .0 ∙ after-survey-pages-2 (after-move-own-2 c) .survey-pages .kept .1 .1 .1 .1 .1 .1 .0
 
 same-length-25 : tie.Need-same-length-25
-same-length-25 c = search needs
+same-length-25 c = after-move-own-2 c .move-own .kept .1 .1 .1 .1 .1 .1 .1 .0
 
 same-length-26 : tie.Need-same-length-26
-same-length-26 c = search needs
+same-length-26 c = after-move-own-2 c .move-own .kept .1 .1 .1 .1 .1 .1 .1 .1 .0
 
 returns-4 : tie.Need-returns-4
 returns-4 c = moved-not _ _ _ _ _ (c .before .before .before .before .before .before .before .before .before .before .before .before .before .before .before .move-own .ensures) (c .if3 .left) _

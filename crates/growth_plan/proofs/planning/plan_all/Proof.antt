@@ -1,5 +1,5 @@
 -- The stars gathered by their new homes stand in groups; placing them all is the plan.
-use mathlib.Core.Path.{_≡_, subst}
+use mathlib.Core.Path.{_≡_, subst, _∙_}
 use mathlib.Core.Bool.{Bool}
 use mathlib.Core.List.{List}
 use Prim.Native.Nat.{ℕ, _+_, _≤_}
@@ -80,14 +80,23 @@ place-all-requires c κs =
     settleable _ _ _ _ _ (d .gather .ensures .1) (enough x) (d .gather .kept .1 .1 .0) _ (d .gather .ensures .0) _ _ (start x .pre .0 .valid)
     (omega (arith, start x .pre .1 .1 .1 .0)) (L .pool-long) (omega (arith, L .pages-most, d .gather .kept .1 .1 .1 .0)) (L .waiting-most)
 
+abbrev after-place-all : tie.After-slice-known8 → tie.After-place-all
+after-place-all c = c .before .before .before .before .before .before
+
+abbrev after-rehome : tie.After-place-all → tie.After-rehome
+after-rehome c = c .before .before .before .before .before .before .before .before .before .before .before .before .before .before
+
 same-length : tie.Need-same-length
-same-length c = search needs
+same-length c = after-place-all c .place-all .kept .1 .0 ∙ after-rehome (after-place-all c) .rehome .kept .1 .1 .1 .1 .0
+
+abbrev after-gather : tie.After-place-all → tie.After-gather
+after-gather c = c .before .before .before .before .before .before .before .before
 
 same-length-2 : tie.Need-same-length-2
-same-length-2 c = search needs
+same-length-2 c = after-place-all c .place-all .kept .1 .1 .0 ∙ after-gather (after-place-all c) .gather .kept .1 .1 .0
 
 same-length-3 : tie.Need-same-length-3
-same-length-3 c = search needs
+same-length-3 c = after-place-all c .place-all .kept .1 .1 .1 .0
 
 returns : tie.Need-returns
 returns c =

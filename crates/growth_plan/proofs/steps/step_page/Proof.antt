@@ -73,10 +73,10 @@ write-planned-requires c κs =
     )
 
 same-length : tie.Need-same-length
-same-length c = search needs
+same-length c = c .before .before .before .before .before .before .before .before .plan-step .kept .1 .1 .1 .1 .1 .1 .0
 
 same-length-2 : tie.Need-same-length-2
-same-length-2 c = search needs
+same-length-2 c = c .before .before .before .before .before .before .before .before .plan-step .kept .1 .1 .1 .1 .1 .1 .1 .0
 
 returns : tie.Need-returns
 returns c =
@@ -87,10 +87,10 @@ returns c =
     (answer, unsound-stepped _ _ _ (file s) (second s) (s .args .step) _ (v .0 .0) answer)
 
 same-length-3 : tie.Need-same-length-3
-same-length-3 c = search needs
+same-length-3 c = c .before .before .before .before .before .before .before .plan-step .kept .1 .1 .1 .1 .1 .1 .0
 
 same-length-4 : tie.Need-same-length-4
-same-length-4 c = search needs
+same-length-4 c = c .before .before .before .before .before .before .before .plan-step .kept .1 .1 .1 .1 .1 .1 .1 .0
 
 returns-2 : tie.Need-returns-2
 returns-2 c =
@@ -99,26 +99,32 @@ returns-2 c =
     let answer = sym (c .enum-told .given .1) ∙ x .plan-step .ensures .0 in
     (answer, overflows-stepped _ _ _ (file s) (second s) (s .args .step) _ answer)
 
+abbrev after-write-planned : tie.After-slice-known16 → tie.After-write-planned
+after-write-planned c = c .before .before .before .before .before .before .before .before .before .before .before .before .before .before
+
 same-length-5 : tie.Need-same-length-5
-same-length-5 c = search needs
+same-length-5 c = after-write-planned c .write-planned .kept .1 .1 .1 .0
 
 same-length-6 : tie.Need-same-length-6
-same-length-6 c = search needs
+same-length-6 c = after-write-planned c .write-planned .kept .1 .1 .1 .1 .0
 
 same-length-7 : tie.Need-same-length-7
-same-length-7 c = search needs
+same-length-7 c = after-write-planned c .write-planned .kept .1 .1 .1 .1 .1 .0
 
 same-length-8 : tie.Need-same-length-8
-same-length-8 c = search needs
+same-length-8 c = after-write-planned c .write-planned .kept .1 .1 .1 .1 .1 .1 .0
+
+abbrev after-plan-step : tie.After-write-planned → tie.After-plan-step
+after-plan-step c = c .before .before .before .before .before .before .before .before .before .before .before .before .before .before .before .before .before
 
 same-length-9 : tie.Need-same-length-9
-same-length-9 c = search needs
+same-length-9 c = after-write-planned c .write-planned .kept .1 .1 .1 .1 .1 .1 .1 .0 ∙ after-plan-step (after-write-planned c) .plan-step .kept .1 .1 .1 .1 .1 .1 .0
 
 same-length-10 : tie.Need-same-length-10
-same-length-10 c = search needs
+same-length-10 c = after-write-planned c .write-planned .kept .1 .1 .1 .1 .1 .1 .1 .1 .0 ∙ after-plan-step (after-write-planned c) .plan-step .kept .1 .1 .1 .1 .1 .1 .1 .0
 
 same-length-11 : tie.Need-same-length-11
-same-length-11 c = search needs
+same-length-11 c = after-write-planned c .write-planned .kept .1 .1 .1 .1 .1 .1 .1 .1 .1 .0
 
 returns-3 : tie.Need-returns-3
 returns-3 c =

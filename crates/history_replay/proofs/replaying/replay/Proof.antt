@@ -1,6 +1,6 @@
 -- `history_replay::replaying::replay` meets its contract. Each refusal is that of the definition, and a run starts from what make left.
 use denote.Ref.{now}
-use mathlib.Core.Path.{ap}
+use mathlib.Core.Path.{ap, _∙_}
 use Rattle.hashing.proofs.Bounds.{passed, failed}
 use Rattle.placement.specs.File.{File}
 use Rattle.calls.specs.declared.records.GrowthRecord.{GrowthRecord}
@@ -67,29 +67,35 @@ run-requires c κs =
 enum-known-answer : tie.Need-enum-known-answer
 enum-known-answer c = search needs
 
+abbrev after-run : tie.After-slice-known20 → tie.After-run
+after-run c = c .before .before .before .before .before .before .before .before .before .before .before .before .before .before .before .before
+
+abbrev after-make : tie.After-run → tie.After-make
+after-make c = c .before .before .before .before .before .before .before .before .before .before .before .before .before .before .before .before .before .before .before
+
 same-length : tie.Need-same-length
-same-length c = search needs
+same-length c = after-run c .run .kept .1 .1 .0 ∙ after-make (after-run c) .make .kept .1 .0
 
 same-length-2 : tie.Need-same-length-2
-same-length-2 c = search needs
+same-length-2 c = after-run c .run .kept .1 .1 .1 .0 ∙ after-make (after-run c) .make .kept .1 .1 .0
 
 same-length-3 : tie.Need-same-length-3
-same-length-3 c = search needs
+same-length-3 c = after-run c .run .kept .1 .1 .1 .1 .0 ∙ after-make (after-run c) .make .kept .1 .1 .1 .0
 
 same-length-4 : tie.Need-same-length-4
-same-length-4 c = search needs
+same-length-4 c = after-run c .run .kept .1 .1 .1 .1 .1 .0 ∙ after-make (after-run c) .make .kept .1 .1 .1 .1 .0
 
 same-length-5 : tie.Need-same-length-5
-same-length-5 c = search needs
+same-length-5 c = after-run c .run .kept .1 .1 .1 .1 .1 .1 .0
 
 same-length-6 : tie.Need-same-length-6
-same-length-6 c = search needs
+same-length-6 c = after-run c .run .kept .1 .1 .1 .1 .1 .1 .1 .0
 
 same-length-7 : tie.Need-same-length-7
-same-length-7 c = search needs
+same-length-7 c = after-run c .run .kept .1 .1 .1 .1 .1 .1 .1 .1 .0
 
 same-length-8 : tie.Need-same-length-8
-same-length-8 c = search needs
+same-length-8 c = after-run c .run .kept .1 .1 .1 .1 .1 .1 .1 .1 .1 .1 .1 .1 .1 .1 .0
 
 returns-4 : tie.Need-returns-4
 returns-4 c =
@@ -105,17 +111,20 @@ returns-4 c =
     _ _ (made .make .ensures .0) _ _ (told .enum-told .given .1) _ (ap (λ (r : GrowthRecord). r .state) (made .make .ensures .1)) _ _ _ _
     (c .before .before .before .before .before .before .before .before .before .before .before .before .before .before .before .before .run .ensures)
 
+abbrev after-make-2 : tie.After-known-told → tie.After-make
+after-make-2 c = c .before .before .before .before .before .before .before .before .before .before .before
+
 same-length-9 : tie.Need-same-length-9
-same-length-9 c = search needs
+same-length-9 c = after-make-2 c .make .kept .1 .0
 
 same-length-10 : tie.Need-same-length-10
-same-length-10 c = search needs
+same-length-10 c = after-make-2 c .make .kept .1 .1 .0
 
 same-length-11 : tie.Need-same-length-11
-same-length-11 c = search needs
+same-length-11 c = after-make-2 c .make .kept .1 .1 .1 .0
 
 same-length-12 : tie.Need-same-length-12
-same-length-12 c = search needs
+same-length-12 c = after-make-2 c .make .kept .1 .1 .1 .1 .0
 
 returns-5 : tie.Need-returns-5
 returns-5 c =

@@ -56,13 +56,13 @@ items-valid-requires : tie.Need-items-valid-requires
 items-valid-requires c κs = search needs
 
 same-length : tie.Need-same-length
-same-length c = search needs
+same-length c = refl
 
 same-length-2 : tie.Need-same-length-2
-same-length-2 c = search needs
+same-length-2 c = refl
 
 same-length-3 : tie.Need-same-length-3
-same-length-3 c = search needs
+same-length-3 c = refl
 
 returns : tie.Need-returns
 returns c = let s = c .before .before .before .before .before .before .before .before .before .before .before .before in mend-invalid _ _ (fileOf s) (cleared (poolOf s)) (s .pre .0) (failed _ _ (c .before .items-valid .ensures) (c .if1 .taken))
@@ -88,19 +88,22 @@ collect-requires c κs =
     (collectable (s .args .parameters) (s .args .growth) (fileOf s) (cleared (poolOf s)) (s .pre .0) (valid e) (now (s .args .poolwords)) (replicate {A = ℕ} 1024 0) (s .pre .1 .ofWords) refl)
 
 same-length-4 : tie.Need-same-length-4
-same-length-4 c = search needs
+same-length-4 c = refl
 
 same-length-5 : tie.Need-same-length-5
-same-length-5 c = search needs
+same-length-5 c = refl
 
 same-length-6 : tie.Need-same-length-6
-same-length-6 c = search needs
+same-length-6 c = refl
+
+abbrev after-find-homes : tie.Then2 → tie.After-find-homes
+after-find-homes c = c .before .before .before .before .before .before .before .before .before .before .before .before .before .before
 
 same-length-7 : tie.Need-same-length-7
-same-length-7 c = search needs
+same-length-7 c = after-find-homes c .find-homes .kept .1 .1 .1 .0
 
 same-length-8 : tie.Need-same-length-8
-same-length-8 c = search needs
+same-length-8 c = c .before .before .before .before .before .collect .kept .1 .1 .1 .1 .1 .0
 
 returns-2 : tie.Need-returns-2
 returns-2 c =
@@ -132,28 +135,34 @@ renew-requires c κs =
       ),
     )
 
+abbrev after-renew : tie.Then3 → tie.After-renew
+after-renew c = c .before .before .before .before .before .before .before .before .before .before .before .before .before .before .before
+
 same-length-9 : tie.Need-same-length-9
-same-length-9 c = search needs
+same-length-9 c = after-renew c .renew .kept .1 .0
 
 same-length-10 : tie.Need-same-length-10
-same-length-10 c = search needs
+same-length-10 c = after-renew c .renew .kept .1 .1 .0
 
 same-length-11 : tie.Need-same-length-11
-same-length-11 c = search needs
+same-length-11 c = after-renew c .renew .kept .1 .1 .1 .0
 
 same-length-12 : tie.Need-same-length-12
-same-length-12 c = search needs
+same-length-12 c = after-renew c .renew .kept .1 .1 .1 .1 .0
 
 same-length-13 : tie.Need-same-length-13
 same-length-13 c =
     let n = c .before .before .before .before .before .before .before .before .before .before .before .before .before .before .before in
     n .renew .kept .1 .1 .1 .1 .1 .0 ∙ housed (n .before .before .before .before .before .before .before .before .before .before .before .before .before .before) .find-homes .kept .1 .1 .1 .0
 
+abbrev after-collect : tie.After-renew → tie.After-collect
+after-collect c = c .before .before .before .before .before .before .before .before .before .before .before .before .before .before
+
 same-length-14 : tie.Need-same-length-14
-same-length-14 c = search needs
+same-length-14 c = after-renew c .renew .kept .1 .1 .1 .1 .1 .1 .0 ∙ after-collect (after-renew c) .collect .kept .1 .1 .1 .1 .1 .0
 
 same-length-15 : tie.Need-same-length-15
-same-length-15 c = search needs
+same-length-15 c = after-renew c .renew .kept .1 .1 .1 .1 .1 .1 .1 .0
 
 returns-3 : tie.Need-returns-3
 returns-3 c =
@@ -163,17 +172,20 @@ returns-3 c =
     let t = passed _ _ refl (n .before .before .before .before .before .before .before .before .before .if2 .left) in
     mend-over (s .args .parameters) (s .args .growth) (fileOf s) (cleared (poolOf s)) (s .pre .0) (valid (checked (housed k))) _ _ _ (collected k) t (sym (failed _ _ (n .renew .ensures .0) (c .if3 .taken))) _ (n .renew .ensures .1)
 
+abbrev after-renew-2 : tie.Else3 → tie.After-renew
+after-renew-2 c = c .before .before .before .before .before .before .before .before .before .before .before .before .before .before .before
+
 same-length-16 : tie.Need-same-length-16
-same-length-16 c = search needs
+same-length-16 c = after-renew-2 c .renew .kept .1 .0
 
 same-length-17 : tie.Need-same-length-17
-same-length-17 c = search needs
+same-length-17 c = after-renew-2 c .renew .kept .1 .1 .0
 
 same-length-18 : tie.Need-same-length-18
-same-length-18 c = search needs
+same-length-18 c = after-renew-2 c .renew .kept .1 .1 .1 .0
 
 same-length-19 : tie.Need-same-length-19
-same-length-19 c = search needs
+same-length-19 c = after-renew-2 c .renew .kept .1 .1 .1 .1 .0
 
 same-length-20 : tie.Need-same-length-20
 same-length-20 c =
@@ -181,10 +193,10 @@ same-length-20 c =
     n .renew .kept .1 .1 .1 .1 .1 .0 ∙ housed (n .before .before .before .before .before .before .before .before .before .before .before .before .before .before) .find-homes .kept .1 .1 .1 .0
 
 same-length-21 : tie.Need-same-length-21
-same-length-21 c = search needs
+same-length-21 c = after-renew-2 c .renew .kept .1 .1 .1 .1 .1 .1 .0 ∙ after-collect (after-renew-2 c) .collect .kept .1 .1 .1 .1 .1 .0
 
 same-length-22 : tie.Need-same-length-22
-same-length-22 c = search needs
+same-length-22 c = after-renew-2 c .renew .kept .1 .1 .1 .1 .1 .1 .1 .0
 
 returns-4 : tie.Need-returns-4
 returns-4 c =

@@ -59,11 +59,20 @@ sort-groups-requires c κs = groups (c .before .before .before .before .before .
 all-agree-requires : tie.Need-all-agree-requires
 all-agree-requires c κs = (end-inside (c .before .before .before), end-few (c .before .before .before))
 
+abbrev after-sort-groups : tie.Then1 → tie.After-sort-groups
+after-sort-groups c = c .before .before .before .before .before
+
+abbrev after-gather : tie.After-sort-groups → tie.After-gather
+after-gather c = c .before .before .before .before .before .before .before
+
 same-length : tie.Need-same-length
-same-length c = search needs
+same-length c = after-sort-groups c .sort-groups .kept .0 ∙ after-gather (after-sort-groups c) .gather .kept .1 .1 .0
+
+abbrev after-gather-2 : tie.Then1 → tie.After-gather
+after-gather-2 c = c .before .before .before .before .before .before .before .before .before .before .before .before
 
 same-length-2 : tie.Need-same-length-2
-same-length-2 c = search needs
+same-length-2 c = after-gather-2 c .gather .kept .1 .1 .1 .0
 
 returns : tie.Need-returns
 returns c =
@@ -88,11 +97,20 @@ mark-ends-requires c κs =
       ((omega (arith, e .0, end-few s), limits (start g .args .parameters) (start g .pre .valid) .pages-most), rw (e .1) (firsts-rise 0 0 _ (rw (s .sort-groups .ensures) (rises-ordered _)))),
     )
 
+abbrev after-drop-repeated : tie.After-slice-known7 → tie.After-drop-repeated
+after-drop-repeated c = c .before .before .before .before .before .before .before
+
+abbrev after-sort-groups-2 : tie.After-drop-repeated → tie.After-sort-groups
+after-sort-groups-2 c = c .before .before .before .before .before .before .before
+
 same-length-3 : tie.Need-same-length-3
-same-length-3 c = search needs
+same-length-3 c = after-drop-repeated c .drop-repeated .kept .0 ∙ after-sort-groups-2 (after-drop-repeated c) .sort-groups .kept .0 ∙ after-gather (after-sort-groups-2 (after-drop-repeated c)) .gather .kept .1 .1 .0
+
+abbrev after-gather-3 : tie.After-mark-ends → tie.After-gather
+after-gather-3 c = c .before .before .before .before .before .before .before .before .before .before .before .before .before .before .before .before .before .before .before
 
 same-length-4 : tie.Need-same-length-4
-same-length-4 c = search needs
+same-length-4 c = c .before .before .mark-ends .kept .1 .0 ∙ after-gather-3 (c .before .before) .gather .kept .1 .1 .1 .0
 
 returns-2 : tie.Need-returns-2
 returns-2 c =

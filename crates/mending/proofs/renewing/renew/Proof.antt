@@ -23,10 +23,10 @@ place-all-requires : tie.Need-place-all-requires
 place-all-requires c κs = let s = c .before .before .before .before .before .before .before .before .before .before .before in settleable _ (s .pre .0) _ _ _ _ _ (s .pre .1 .1 .1 .0) (s .pre .1 .1 .0 .ofNumbers) (omega arith)
 
 same-length : tie.Need-same-length
-same-length c = search needs
+same-length c = c .before .before .before .before .before .before .place-all .kept .1 .0
 
 same-length-2 : tie.Need-same-length-2
-same-length-2 c = search needs
+same-length-2 c = c .before .before .before .before .before .before .place-all .kept .1 .1 .0
 
 returns : tie.Need-returns
 returns c =
@@ -49,26 +49,32 @@ write-back-requires c κs =
       ),
     )
 
+abbrev after-write-back : tie.After-slice-known16 → tie.After-write-back
+after-write-back c = c .before .before .before .before .before .before .before .before .before .before .before .before .before .before
+
 same-length-3 : tie.Need-same-length-3
-same-length-3 c = search needs
+same-length-3 c = after-write-back c .write-back .kept .0
 
 same-length-4 : tie.Need-same-length-4
-same-length-4 c = search needs
+same-length-4 c = after-write-back c .write-back .kept .1 .0
 
 same-length-5 : tie.Need-same-length-5
-same-length-5 c = search needs
+same-length-5 c = after-write-back c .write-back .kept .1 .1 .0
 
 same-length-6 : tie.Need-same-length-6
-same-length-6 c = search needs
+same-length-6 c = after-write-back c .write-back .kept .1 .1 .1 .0
+
+abbrev after-place-all : tie.After-write-back → tie.After-place-all
+after-place-all c = c .before .before .before .before .before .before .before .before .before .before .before .before .before .before .before
 
 same-length-7 : tie.Need-same-length-7
-same-length-7 c = search needs
+same-length-7 c = after-write-back c .write-back .kept .1 .1 .1 .1 .0 ∙ after-place-all (after-write-back c) .place-all .kept .1 .0
 
 same-length-8 : tie.Need-same-length-8
-same-length-8 c = search needs
+same-length-8 c = after-write-back c .write-back .kept .1 .1 .1 .1 .1 .0 ∙ after-place-all (after-write-back c) .place-all .kept .1 .1 .0
 
 same-length-9 : tie.Need-same-length-9
-same-length-9 c = search needs
+same-length-9 c = after-write-back c .write-back .kept .1 .1 .1 .1 .1 .1 .0
 
 returns-2 : tie.Need-returns-2
 returns-2 c =

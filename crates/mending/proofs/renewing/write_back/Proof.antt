@@ -42,25 +42,34 @@ copy-8-requires-2 c κs =
     (omega arith, omega (arith, s .pre .0))
 
 same-length : tie.Need-same-length
-same-length c = search needs
+same-length c = c .before .before .copy-82 .kept .0
+
+abbrev after-copy-32 : tie.After-slice-known14 → tie.After-copy-32
+after-copy-32 c = c .before .before .before .before .before .before .before .before .before .before .before .before .before .before .before .before .before
 
 same-length-2 : tie.Need-same-length-2
-same-length-2 c = search needs
+same-length-2 c = after-copy-32 c .copy-32 .kept .0
+
+abbrev after-copy-64 : tie.After-slice-known14 → tie.After-copy-64
+after-copy-64 c = c .before .before .before .before .before .before .before .before .before .before .before .before
 
 same-length-3 : tie.Need-same-length-3
-same-length-3 c = search needs
+same-length-3 c = after-copy-64 c .copy-64 .kept .0
 
 same-length-4 : tie.Need-same-length-4
-same-length-4 c = search needs
+same-length-4 c = c .before .before .before .before .before .before .before .copy-8 .kept .0
+
+abbrev after-fetch : tie.After-slice-known14 → tie.After-fetch
+after-fetch c = c .before .before .before .before .before .before .before .before .before .before .before .before .before .before .before .before .before .before .before .before .before .before .before .before .before .before
 
 same-length-5 : tie.Need-same-length-5
-same-length-5 c = search needs
+same-length-5 c = after-fetch c .fetch .kept .1 .1 .1 .0
 
 same-length-6 : tie.Need-same-length-6
-same-length-6 c = search needs
+same-length-6 c = after-fetch c .fetch .kept .1 .1 .1 .1 .0
 
 same-length-7 : tie.Need-same-length-7
-same-length-7 c = search needs
+same-length-7 c = after-fetch c .fetch .kept .1 .1 .1 .1 .1 .0
 
 returns : tie.Need-returns
 returns c =

@@ -107,26 +107,29 @@ enum-told-2 c = search needs
 enum-told-3 : tie.Need-enum-told-3
 enum-told-3 c = search needs
 
+abbrev after-enter-star : tie.After-enum-told → tie.After-enter-star
+after-enter-star c = c .before .before .before .before .before .before .before .before .before .before .before .before .before .before .before .before
+
 same-length : tie.Need-same-length
-same-length c = search needs
+same-length c = after-enter-star c .enter-star .kept .1 .1 .0
 
 same-length-2 : tie.Need-same-length-2
-same-length-2 c = search needs
+same-length-2 c = after-enter-star c .enter-star .kept .1 .1 .1 .0
 
 same-length-3 : tie.Need-same-length-3
-same-length-3 c = search needs
+same-length-3 c = after-enter-star c .enter-star .kept .1 .1 .1 .1 .0
 
 same-length-4 : tie.Need-same-length-4
-same-length-4 c = search needs
+same-length-4 c = after-enter-star c .enter-star .kept .1 .1 .1 .1 .1 .0
 
 same-length-5 : tie.Need-same-length-5
 same-length-5 c = c .before .before .before .before .before .before .before .before .before .before .before .before .before .before .before .before .enter-star .kept .1 .1 .1 .1 .1 .1 .0 ∙ c .before .before .before .before .before .before .before .before .before .before .before .before .before .before .before .before .before .before .before .before .before .before .before .before .before .before .before .before .before .before .before .before .before .before .survey-pages .kept .1 .1 .1 .1 .1 .1 .0
 
 same-length-6 : tie.Need-same-length-6
-same-length-6 c = search needs
+same-length-6 c = after-enter-star c .enter-star .kept .1 .1 .1 .1 .1 .1 .1 .0
 
 same-length-7 : tie.Need-same-length-7
-same-length-7 c = search needs
+same-length-7 c = after-enter-star c .enter-star .kept .1 .1 .1 .1 .1 .1 .1 .1 .0
 
 returns : tie.Need-returns
 returns c t laid absent =
@@ -135,26 +138,29 @@ returns c t laid absent =
     let done = c .before .before .before .before .before .before .before .before .before .before .before .before .before .before .before .before .enter-star .ensures in
     entered-on _ _ (file s) t (s .pre .0 .homing .valid) (s .pre .0 .homing .growth) laid (starWith (s .args .number) (s .args .word) (s .args .owner)) (e .number) (e .valid) absent _ _ (done .0) (done .1) _ (c .enum-told .given .1)
 
+abbrev after-enter-star-2 : tie.After-enum-told2 → tie.After-enter-star
+after-enter-star-2 c = c .before .before .before .before .before .before .before .before .before .before .before .before .before .before .before .before
+
 same-length-8 : tie.Need-same-length-8
-same-length-8 c = search needs
+same-length-8 c = after-enter-star-2 c .enter-star .kept .1 .1 .0
 
 same-length-9 : tie.Need-same-length-9
-same-length-9 c = search needs
+same-length-9 c = after-enter-star-2 c .enter-star .kept .1 .1 .1 .0
 
 same-length-10 : tie.Need-same-length-10
-same-length-10 c = search needs
+same-length-10 c = after-enter-star-2 c .enter-star .kept .1 .1 .1 .1 .0
 
 same-length-11 : tie.Need-same-length-11
-same-length-11 c = search needs
+same-length-11 c = after-enter-star-2 c .enter-star .kept .1 .1 .1 .1 .1 .0
 
 same-length-12 : tie.Need-same-length-12
 same-length-12 c = c .before .before .before .before .before .before .before .before .before .before .before .before .before .before .before .before .enter-star .kept .1 .1 .1 .1 .1 .1 .0 ∙ c .before .before .before .before .before .before .before .before .before .before .before .before .before .before .before .before .before .before .before .before .before .before .before .before .before .before .before .before .before .before .before .before .before .before .survey-pages .kept .1 .1 .1 .1 .1 .1 .0
 
 same-length-13 : tie.Need-same-length-13
-same-length-13 c = search needs
+same-length-13 c = after-enter-star-2 c .enter-star .kept .1 .1 .1 .1 .1 .1 .1 .0
 
 same-length-14 : tie.Need-same-length-14
-same-length-14 c = search needs
+same-length-14 c = after-enter-star-2 c .enter-star .kept .1 .1 .1 .1 .1 .1 .1 .1 .0
 
 returns-2 : tie.Need-returns-2
 returns-2 c t laid absent =
@@ -163,26 +169,29 @@ returns-2 c t laid absent =
     let done = c .before .before .before .before .before .before .before .before .before .before .before .before .before .before .before .before .enter-star .ensures in
     entered-not _ _ (file s) t (s .pre .0 .homing .valid) (s .pre .0 .homing .growth) laid (starWith (s .args .number) (s .args .word) (s .args .owner)) (e .number) (e .valid) absent _ _ (done .0) (done .1) (λ page d. unsound-on _ page (sym (c .enum-told2 .given .1) ∙ d))
 
+abbrev after-enter-star-3 : tie.After-enum-told3 → tie.After-enter-star
+after-enter-star-3 c = c .before .before .before .before .before .before .before .before .before .before .before .before .before .before .before .before
+
 same-length-15 : tie.Need-same-length-15
-same-length-15 c = search needs
+same-length-15 c = after-enter-star-3 c .enter-star .kept .1 .1 .0
 
 same-length-16 : tie.Need-same-length-16
-same-length-16 c = search needs
+same-length-16 c = after-enter-star-3 c .enter-star .kept .1 .1 .1 .0
 
 same-length-17 : tie.Need-same-length-17
-same-length-17 c = search needs
+same-length-17 c = after-enter-star-3 c .enter-star .kept .1 .1 .1 .1 .0
 
 same-length-18 : tie.Need-same-length-18
-same-length-18 c = search needs
+same-length-18 c = after-enter-star-3 c .enter-star .kept .1 .1 .1 .1 .1 .0
 
 same-length-19 : tie.Need-same-length-19
 same-length-19 c = c .before .before .before .before .before .before .before .before .before .before .before .before .before .before .before .before .enter-star .kept .1 .1 .1 .1 .1 .1 .0 ∙ c .before .before .before .before .before .before .before .before .before .before .before .before .before .before .before .before .before .before .before .before .before .before .before .before .before .before .before .before .before .before .before .before .before .before .survey-pages .kept .1 .1 .1 .1 .1 .1 .0
 
 same-length-20 : tie.Need-same-length-20
-same-length-20 c = search needs
+same-length-20 c = after-enter-star-3 c .enter-star .kept .1 .1 .1 .1 .1 .1 .1 .0
 
 same-length-21 : tie.Need-same-length-21
-same-length-21 c = search needs
+same-length-21 c = after-enter-star-3 c .enter-star .kept .1 .1 .1 .1 .1 .1 .1 .1 .0
 
 returns-3 : tie.Need-returns-3
 returns-3 c t laid absent =

@@ -1,6 +1,5 @@
 -- `own_stars::entering::enter_place` meets its contract.
 use mathlib.Core.Path.{_≡_, refl}
-use native.Mathlib.Omega.{arith}
 use borrow.Author.Needs.{needs}
 use Rattle.own_stars.proofs.Placing.{none-entered, one-enterable, one-entered}
 use Rattle.own_stars.proofs.entering.enter_place.Statement.{statement}
@@ -37,26 +36,29 @@ enter-one-requires c κs =
     let s = c .before .before .before .before .before .before .before .before .before .before .before .before .before .before .before .before .before .before .before in
     (s .pre .0, (s .pre .1 .0, one-enterable _ _ _ (s .args .t10) (s .args .place) (s .pre .1 .1 .1) (c .before .before .before .before .before .before .before .before .before .before .if1 .left) (s .pre .1 .1 .0)))
 
+abbrev after-enter-one : tie.After-slice-known14 → tie.After-enter-one
+after-enter-one c = c .before .before .before .before .before .before .before .before .before .before .before .before .before .before
+
 same-length : tie.Need-same-length
-same-length c = search needs
+same-length c = after-enter-one c .enter-one .kept .1 .1 .0
 
 same-length-2 : tie.Need-same-length-2
-same-length-2 c = search needs
+same-length-2 c = after-enter-one c .enter-one .kept .1 .1 .1 .0
 
 same-length-3 : tie.Need-same-length-3
-same-length-3 c = search needs
+same-length-3 c = after-enter-one c .enter-one .kept .1 .1 .1 .1 .0
 
 same-length-4 : tie.Need-same-length-4
-same-length-4 c = search needs
+same-length-4 c = after-enter-one c .enter-one .kept .1 .1 .1 .1 .1 .0
 
 same-length-5 : tie.Need-same-length-5
-same-length-5 c = search needs
+same-length-5 c = after-enter-one c .enter-one .kept .1 .1 .1 .1 .1 .1 .0
 
 same-length-6 : tie.Need-same-length-6
-same-length-6 c = search needs
+same-length-6 c = after-enter-one c .enter-one .kept .1 .1 .1 .1 .1 .1 .1 .0
 
 same-length-7 : tie.Need-same-length-7
-same-length-7 c = search needs
+same-length-7 c = after-enter-one c .enter-one .kept .1 .1 .1 .1 .1 .1 .1 .1 .0
 
 returns-2 : tie.Need-returns-2
 returns-2 c =

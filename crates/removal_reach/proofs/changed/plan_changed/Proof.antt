@@ -95,14 +95,20 @@ settle-changed-requires c κs =
       p .ofNumbers,
     )
 
+abbrev after-settle-changed : tie.After-slice-known7 → tie.After-settle-changed
+after-settle-changed c = c .before .before .before .before .before .before
+
 same-length : tie.Need-same-length
-same-length c = search needs
+same-length c = after-settle-changed c .settle-changed .kept .1 .1 .0
+
+abbrev after-gather : tie.After-settle-changed → tie.After-gather
+after-gather c = c .before .before .before .before .before .before .before .before
 
 same-length-2 : tie.Need-same-length-2
-same-length-2 c = search needs
+same-length-2 c = after-settle-changed c .settle-changed .kept .1 .1 .1 .0 ∙ after-gather (after-settle-changed c) .gather .kept .1 .1 .0
 
 same-length-3 : tie.Need-same-length-3
-same-length-3 c = search needs
+same-length-3 c = after-settle-changed c .settle-changed .kept .1 .1 .1 .1 .0
 
 returns : tie.Need-returns
 returns c =

@@ -38,14 +38,17 @@ decide-whole-requires c κs =
     let pre = start d .pre in
     (pre .0, (pre .1 .0, (pre .1 .1 .0, (ended d, pre .1 .1 .1))))
 
+abbrev after-decide-whole : tie.After-slice-known6 → tie.After-decide-whole
+after-decide-whole c = c .before .before .before .before .before .before
+
 same-length : tie.Need-same-length
-same-length c = search needs
+same-length c = after-decide-whole c .decide-whole .kept .1 .1 .1 .1 .1 .1 .0
 
 same-length-2 : tie.Need-same-length-2
-same-length-2 c = search needs
+same-length-2 c = after-decide-whole c .decide-whole .kept .1 .1 .1 .1 .1 .1 .1 .0
 
 same-length-3 : tie.Need-same-length-3
-same-length-3 c = search needs
+same-length-3 c = after-decide-whole c .decide-whole .kept .1 .1 .1 .1 .1 .1 .1 .1 .0
 
 returns : tie.Need-returns
 returns c = c .before .before .before .before .before .before .decide-whole .ensures
@@ -56,14 +59,17 @@ decide-long-requires c κs =
     let pre = start d .pre in
     (pre .0, (pre .1 .0, (pre .1 .1 .0, (ended d, pre .1 .1 .1))))
 
+abbrev after-decide-long : tie.After-slice-known9 → tie.After-decide-long
+after-decide-long c = c .before .before .before .before .before .before
+
 same-length-4 : tie.Need-same-length-4
-same-length-4 c = search needs
+same-length-4 c = after-decide-long c .decide-long .kept .1 .1 .1 .1 .1 .1 .0
 
 same-length-5 : tie.Need-same-length-5
-same-length-5 c = search needs
+same-length-5 c = after-decide-long c .decide-long .kept .1 .1 .1 .1 .1 .1 .1 .0
 
 same-length-6 : tie.Need-same-length-6
-same-length-6 c = search needs
+same-length-6 c = after-decide-long c .decide-long .kept .1 .1 .1 .1 .1 .1 .1 .1 .0
 
 returns-2 : tie.Need-returns-2
 returns-2 c = c .before .before .before .before .before .before .decide-long .ensures

@@ -23,13 +23,13 @@ plan-requires c κs =
     )
 
 same-length : tie.Need-same-length
-same-length c = search needs
+same-length c = refl
 
 same-length-2 : tie.Need-same-length-2
-same-length-2 c = search needs
+same-length-2 c = c .before .before .before .before .before .before .plan .kept .1 .1 .0
 
 same-length-3 : tie.Need-same-length-3
-same-length-3 c = search needs
+same-length-3 c = c .before .before .before .before .before .before .plan .kept .1 .1 .1 .0
 
 returns : tie.Need-returns
 returns c =
@@ -47,26 +47,32 @@ cast-apply c = search needs
 apply-requires : tie.Need-apply-requires
 apply-requires c κs = search needs
 
+abbrev after-apply : tie.After-slice-known16 → tie.After-apply
+after-apply c = c .before .before .before .before .before .before .before .before .before .before .before .before .before .before
+
 same-length-4 : tie.Need-same-length-4
-same-length-4 c = search needs
+same-length-4 c = after-apply c .apply .kept .0
 
 same-length-5 : tie.Need-same-length-5
-same-length-5 c = search needs
+same-length-5 c = after-apply c .apply .kept .1 .0
 
 same-length-6 : tie.Need-same-length-6
-same-length-6 c = search needs
+same-length-6 c = after-apply c .apply .kept .1 .1 .0
 
 same-length-7 : tie.Need-same-length-7
-same-length-7 c = search needs
+same-length-7 c = after-apply c .apply .kept .1 .1 .1 .0
+
+abbrev after-plan : tie.After-apply → tie.After-plan
+after-plan c = c .before .before .before .before .before .before .before .before .before .before .before .before .before .before .before .before
 
 same-length-8 : tie.Need-same-length-8
-same-length-8 c = search needs
+same-length-8 c = after-apply c .apply .kept .1 .1 .1 .1 .0 ∙ after-plan (after-apply c) .plan .kept .1 .1 .0
 
 same-length-9 : tie.Need-same-length-9
-same-length-9 c = search needs
+same-length-9 c = after-apply c .apply .kept .1 .1 .1 .1 .1 .0 ∙ after-plan (after-apply c) .plan .kept .1 .1 .1 .0
 
 same-length-10 : tie.Need-same-length-10
-same-length-10 c = search needs
+same-length-10 c = after-apply c .apply .kept .1 .1 .1 .1 .1 .1 .0
 
 returns-2 : tie.Need-returns-2
 returns-2 c =

@@ -1,5 +1,5 @@
 -- `starfile::advancing::step_growth` meets its contract.
-use mathlib.Core.Path.{_≡_}
+use mathlib.Core.Path.{_≡_, _∙_}
 use denote.Ref.{now}
 use Rattle.placement.specs.File.{File}
 use Rattle.placement.specs.Hash.{lent}
@@ -60,26 +60,35 @@ step-second-requires c κs =
 clear-requires : tie.Need-clear-requires
 clear-requires c κs = search needs
 
+abbrev after-step-second : tie.After-slice-known17 → tie.After-step-second
+after-step-second c = c .before .before .before .before .before .before .before .before .before .before .before .before .before .before .before .before .before .before .before .before .before .before .before .before
+
 same-length : tie.Need-same-length
-same-length c = search needs
+same-length c = after-step-second c .step-second .kept .1 .1 .1 .1 .1 .1 .0
 
 same-length-2 : tie.Need-same-length-2
-same-length-2 c = search needs
+same-length-2 c = after-step-second c .step-second .kept .1 .1 .1 .1 .1 .1 .1 .0
 
 same-length-3 : tie.Need-same-length-3
-same-length-3 c = search needs
+same-length-3 c = after-step-second c .step-second .kept .1 .1 .1 .1 .1 .1 .1 .1 .0
 
 same-length-4 : tie.Need-same-length-4
-same-length-4 c = search needs
+same-length-4 c = after-step-second c .step-second .kept .1 .1 .1 .1 .1 .1 .1 .1 .1 .0
+
+abbrev after-clear : tie.After-slice-known17 → tie.After-clear
+after-clear c = c .before .before .before .before .before .before
+
+abbrev after-step-second-2 : tie.After-clear → tie.After-step-second
+after-step-second-2 c = c .before .before .before .before .before .before .before .before .before .before .before .before .before .before .before .before .before .before
 
 same-length-5 : tie.Need-same-length-5
-same-length-5 c = search needs
+same-length-5 c = after-clear c .clear .kept .0 ∙ after-step-second-2 (after-clear c) .step-second .kept .1 .1 .1 .1 .1 .1 .1 .1 .1 .1 .0
 
 same-length-6 : tie.Need-same-length-6
-same-length-6 c = search needs
+same-length-6 c = after-clear c .clear .kept .1 .0 ∙ after-step-second-2 (after-clear c) .step-second .kept .1 .1 .1 .1 .1 .1 .1 .1 .1 .1 .1 .0
 
 same-length-7 : tie.Need-same-length-7
-same-length-7 c = search needs
+same-length-7 c = after-clear c .clear .kept .1 .1 .0 ∙ after-step-second-2 (after-clear c) .step-second .kept .1 .1 .1 .1 .1 .1 .1 .1 .1 .1 .1 .1 .0
 
 returns-2 : tie.Need-returns-2
 unfolding stepUnder

@@ -18,14 +18,17 @@ returns c = leaves _ _ _ _ _ (misrecorded _ _ _ _ _ (failed _ _ (c .before .step
 check-requires : tie.Need-check-requires
 check-requires c κs = search needs
 
+abbrev after-check : tie.After-slice-known6 → tie.After-check
+after-check c = c .before .before .before .before .before .before
+
 same-length : tie.Need-same-length
-same-length c = search needs
+same-length c = after-check c .check .kept .1 .1 .1 .1 .1 .1 .0
 
 same-length-2 : tie.Need-same-length-2
-same-length-2 c = search needs
+same-length-2 c = after-check c .check .kept .1 .1 .1 .1 .1 .1 .1 .0
 
 same-length-3 : tie.Need-same-length-3
-same-length-3 c = search needs
+same-length-3 c = after-check c .check .kept .1 .1 .1 .1 .1 .1 .1 .1 .0
 
 returns-2 : tie.Need-returns-2
 unfolding checkUnder

@@ -25,7 +25,7 @@ change-stopped-requires : tie.Need-change-stopped-requires
 change-stopped-requires c κs = search needs
 
 same-length : tie.Need-same-length
-same-length c = search needs
+same-length c = c .before .before .change-stopped .kept .1 .1 .1 .1 .0
 
 returns-2 : tie.Need-returns-2
 unfolding changeStoppedUnder

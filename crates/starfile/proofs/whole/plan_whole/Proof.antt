@@ -49,10 +49,10 @@ returns : tie.Need-returns
 returns c = growth-refused _ _ (fileOf (c .before .before .before .before .before .before .before .before .before .before .before)) (sym (c .before .before .before .before .step-of .ensures) ∙ c .before .before .step .given .1) (c .unmoved .ensures)
 
 same-length : tie.Need-same-length
-same-length c = search needs
+same-length c = c .before .before .before .before .before .accept-growth .kept .1 .1 .1 .1 .1 .1 .0
 
 same-length-2 : tie.Need-same-length-2
-same-length-2 c = search needs
+same-length-2 c = c .before .before .before .before .before .accept-growth .kept .1 .1 .1 .1 .1 .1 .1 .0
 
 returns-2 : tie.Need-returns-2
 returns-2 c = growth-planned _ _ (fileOf (c .before .before .before .before .before .before .before .before .before .before .before .before .before .before .before .before .before .before .before .before)) (sym (c .before .before .before .before .before .before .before .before .before .before .before .before .before .step-of .ensures) ∙ c .before .before .before .before .before .before .before .before .before .before .before .step2 .given .1) (c .before .before .before .before .before .accept-growth .ensures) (c .grown-by .ensures)

@@ -25,7 +25,7 @@ change-requires : tie.Need-change-requires
 change-requires c κs = search needs
 
 same-length : tie.Need-same-length
-same-length c = search needs
+same-length c = c .before .before .change .kept .1 .1 .1 .1 .0
 
 returns-2 : tie.Need-returns-2
 unfolding changeUnder
