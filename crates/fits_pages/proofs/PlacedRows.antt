@@ -6,10 +6,10 @@ use mathlib.Core.Logic.{⊎-elim}
 use Prim.Native.Nat.{ℕ, zero, suc, _+_, _*_, _/_, _%_, _^_, _≤_, _<_}
 use native.Mathlib.Nat.{zero-add, zero-mul, mul-one}
 use native.Mathlib.Omega.{arith}
-use lib.Dec.{leb, ltb, eqb}
+use lib.Dec.{ltb, eqb}
 use lib.ListN.{length, getD, take, drop, replicate, length-map, length-replicate, drop-of-length-le}
 use lib.Seq.{take-all, paste, slice}
-use borrow.Author.Tests.{ltb-true, lt-ltb, ne-eqb, leb-true}
+use borrow.Author.Tests.{ltb-true, lt-ltb, ne-eqb}
 use Rattle.pages.proofs.Numbers.{number-range}
 use Rattle.buffers.proofs.Lists.{map-item}
 use Rattle.buffers.specs.Lists.{written}

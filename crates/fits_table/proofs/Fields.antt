@@ -1,7 +1,7 @@
 -- Headers: cards at their places, the field of NAXIS2 written and read, bytes compared.
 -- Assumes nothing.
 use mathlib.Core.Path.{_≡_, refl, sym, ap, _∙_}
-use mathlib.Core.Bool.{Bool, true, false, cond, _&&_, false≢true}
+use mathlib.Core.Bool.{Bool, true, false, cond, _&&_}
 use mathlib.Core.List.{List, [], _∷_, _++_, append-assoc, append-nil}
 use Prim.Native.Nat.{ℕ, zero, suc, _+_, _-_, _*_, _/_, _%_, _≤_, _<_}
 use native.Mathlib.Nat.{not-suc-le-zero, zero-add}
@@ -11,7 +11,7 @@ use native.Mathlib.Omega.{arith}
 use lib.Dec.{ltb, eqb}
 use lib.ListN.{length, getD, set, take, drop, length-append, length-drop}
 use lib.Seq.{paste, take-suc, take-all, drop-cons, drop-length, drop-set-add, take-set-le, set-at, length-take-le, take-add}
-use borrow.Author.Tests.{le-leb, lt-leb, eqb-true, lt-ltb, le-ltb, eq-eqb, ne-eqb}
+use borrow.Author.Tests.{le-leb, lt-leb, lt-ltb, le-ltb, eq-eqb, ne-eqb}
 use Rattle.buffers.proofs.Lists.{alike-same}
 use Rattle.buffers.specs.Lists.{written, alike}
 use Rattle.buffers.proofs.Written.{written-whole, written-add, written-middle, written-none, paste-written, length-written, written-to-front}

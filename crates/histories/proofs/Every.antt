@@ -19,7 +19,7 @@ use Rattle.placement.proofs.Sound.{clean-laid}
 use Rattle.calls.specs.declared.answers.Answer.{Answer}
 use Rattle.calls.specs.declared.records.GrowthRecord.{GrowthRecord}
 use Rattle.calls.specs.Answers.{Pool, After, unpooled, spotted, acceptedAt, accepted, refused, refusedAt, cleared}
-use Rattle.calls.specs.Calls.{fileFits, poolFits, unlent, unchanged, emptyFile, lookUpOf, enterOf, cascadeOf, changeOf, removeOf, growOn, growOf, shrinkOf, checkOf}
+use Rattle.calls.specs.Calls.{fileFits, poolFits, unlent, unchanged, emptyFile, lookUpOf, enterOf, cascadeOf, changeOf, removeOf, growOn, growOf, shrinkOf}
 use Rattle.calls.specs.Records.{
   validSteps,
   closedRecord,
@@ -89,7 +89,6 @@ use Rattle.histories.proofs.Cascade.{cascade-is, fed-alike}
 use Rattle.histories.proofs.Change.{change-refused, change-accepted}
 use Rattle.histories.proofs.Remove.{removal-refused, removal-accepted}
 use Rattle.histories.proofs.Grow.{shrink-first, shrink-full}
-use Rattle.histories.proofs.Check.{finds-nothing}
 use Rattle.histories.proofs.Conforms.{fedWith, fed-refused}
 use Rattle.histories.proofs.Histories.{Agrees, each-event, end-agrees, as-model}
 use Rattle.histories.proofs.Make.{initial-agrees}

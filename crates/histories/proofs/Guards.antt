@@ -1,13 +1,8 @@
 -- The refusals before anything is read, on a fitting model's own file: parameters, growth state and file buffers are never at fault.
-use mathlib.Core.Path.{_≡_, refl}
+use mathlib.Core.Path.{_≡_}
 use mathlib.Core.Bool.{Bool, _&&_}
-use Prim.Native.Nat.{ℕ, zero, suc}
-use native.Mathlib.Omega.{arith}
 use Rattle.hashing.specs.declared.Parameters.{Parameters}
-use Rattle.hashing.specs.declared.Growth.{Growth}
-use Rattle.placement.specs.File.{File}
-use Rattle.calls.specs.Answers.{Pool, After, spotted}
-use Rattle.calls.specs.Calls.{fileFits, unless, unlent, guarded}
+use Rattle.calls.specs.Calls.{fileFits, unless, unlent}
 use Rattle.histories.specs.Model.{Model, modelFile}
 use Rattle.histories.proofs.Fitting.{Fitting, lengths}
 

@@ -1,14 +1,14 @@
 -- All pages placed anew over the kept words, and what mending makes of it.
 use mathlib.Core.Path.{_≡_, refl, sym, ap, _∙_}
 use mathlib.Core.Bool.{Bool, true, false, cond}
-use mathlib.Core.List.{List, [], _∷_, map}
+use mathlib.Core.List.{List, [], map}
 use Prim.Native.Nat.{ℕ, suc, _+_, _-_, _*_, _^_, _≤_, _<_}
 use native.Mathlib.Nat.{zero-add, zero-mul, mul-le-mul}
 use native.Mathlib.Omega.{arith}
 use lib.Dec.{eqb, ltb}
 use lib.ListN.{length, getD, take, drop, length-map, List·getD-map}
 use lib.Seq.{length-take-le, getD-take, getD-drop, take-all, paste}
-use borrow.Author.Tests.{ne-eqb, lt-ltb, ltb-true}
+use borrow.Author.Tests.{lt-ltb, ltb-true}
 use Rattle.removal_reach.proofs.Ruled.{none-left}
 use Rattle.buffers.proofs.Lists.{map-take, map-drop}
 use Rattle.buffers.proofs.Written.{written-whole, paste-written, pasted-whole}

@@ -1,9 +1,9 @@
 -- The stores of a call: which pages, in which order, and what the columns are after some of them. Document 02 (xii).
 -- Assumes nothing.
-use mathlib.Core.Bool.{Bool, true, false, not, cond, _&&_}
+use mathlib.Core.Bool.{Bool, not, cond, _&&_}
 use mathlib.Core.List.{List, [], _∷_}
 use Prim.Native.Nat.{ℕ, zero, suc, _+_, _-_, _*_}
-use lib.Dec.{eqb, leb}
+use lib.Dec.{leb}
 use lib.ListN.{length}
 use Rattle.buffers.specs.Lists.{written, alike}
 use Rattle.pages.specs.Page.{part}

@@ -2,10 +2,10 @@
 use mathlib.Core.Path.{_≡_, refl, sym, ap, _∙_}
 use mathlib.Core.List.{List, [], _∷_, _++_, map, append-assoc}
 use Prim.Native.Nat.{ℕ, zero, suc, _+_, _-_, _*_, _≤_, _<_}
-use native.Mathlib.Nat.{add-comm, suc-mul, zero-mul, add-mul}
+use native.Mathlib.Nat.{add-comm, suc-mul, zero-mul}
 use native.Mathlib.Omega.{arith}
 use lib.ListN.{length, take, drop, getD, length-append, length-drop, length-map, take-append-drop, List·getD-map}
-use lib.Seq.{take-at, drop-at, take-append-le, drop-append-le, length-take-le, drop-drop}
+use lib.Seq.{take-at, drop-at, length-take-le, drop-drop}
 use Rattle.buffers.specs.Lists.{written, padded}
 use Rattle.buffers.proofs.Lists.{length-padded}
 use Rattle.buffers.proofs.Written.{around, written-middle}

@@ -9,7 +9,6 @@ use Rattle.call_guard.proofs.Recorded.{refusal-most}
 use Rattle.hashing.specs.declared.Parameters.{Parameters}
 use Rattle.hashing.specs.declared.Growth.{Growth}
 use Rattle.hashing.specs.Geometry.{grown}
-use Rattle.hashing.specs.Limits.{validParameters, validGrowth}
 use Rattle.hashing.proofs.Bounds.{both}
 use Rattle.placement.specs.Rule.{left}
 use Rattle.placement.specs.File.{File, pagesAt, replaced}
@@ -51,7 +50,7 @@ use Rattle.calls.specs.declared.records.GrowthRecord.{GrowthRecord}
 use Rattle.calls.specs.declared.records.Recorded.{Recorded}
 use Rattle.calls.specs.Answers.{Pool, refusalNumber, refusedBy, spotted, placed, cleared}
 use Rattle.calls.specs.Shape.{admissionNumber}
-use Rattle.calls.specs.Calls.{unless, orElse, unlent, fileFits, poolFits, emptyFile, growOn}
+use Rattle.calls.specs.Calls.{fileFits, poolFits, emptyFile, growOn}
 use Rattle.calls.specs.Shape.{Admitted}
 use Rattle.calls.specs.Records.{validSteps, closedRecord, openRecord, AfterStep, guardedStep, stepRefusal, growthAccepted, openOn, stepOn, withPage, LeavesStep}
 use Rattle.calls.proofs.Numbers.{numbered}
