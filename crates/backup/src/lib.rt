@@ -1,4 +1,7 @@
 // Which pages a growth may have altered: document 02 (xiv). Of a clean file, every page without a mark is as it was.
+
+#![tactic(auto)]
+
 ghost use Rattle.std.specs.Prelude.{◌≡◌, true, not, ◌&&◌, ◌||◌, ◌<◌, eqb, length};
 ghost use Rattle.generator.specs.Generator.{top_of_lem};
 ghost use Rattle.hashing.specs.Geometry.{page_count, expands};
@@ -53,7 +56,7 @@ fn refusal_of(parameters: Parameters, growth: Growth, old: usize, new: usize, ma
 }
 
 // Which stretches run at a page: one of the expanded group's pages, that of the new page.
-#[derive(Drop)]
+#[derive(Clone, Copy)]
 struct Running {
     group: bool,
     added: bool,

@@ -1,5 +1,8 @@
 // Loops over lent slices, named by the width of an item in bits. A copy puts the `items` items of `from` from item `start` on
 // into `to` from item `at` on; a fill makes every item `value`; a clearing makes every item 0, and reads before it writes.
+
+#![tactic(auto)]
+
 mod bits_32;
 mod bits_64;
 mod bits_8;

@@ -1,4 +1,7 @@
 // What every call begins with: refusals 1 and 2, 1 and 16 of the growth record; and the test of the caller, for refusal 13.
+
+#![tactic(auto)]
+
 mod lending;
 mod owning;
 mod turning;

@@ -1,5 +1,8 @@
 // The calls about one star that place none. Each contract gives the answer and every lent item at exit, refusals too, by the definitions of
 // crate calls.
+
+#![tactic(auto)]
+
 mod reading;
 mod rewriting;
 

@@ -122,7 +122,7 @@ fn regrow(
 }
 
 // The growth state to go to, and the page that comes or goes; or why there is none.
-#[derive(Drop)]
+#[derive(Clone, Copy)]
 pub enum Step {
     To(Growth, u32),
     Not(Refusal),

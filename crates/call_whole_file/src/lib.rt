@@ -1,5 +1,8 @@
 // The calls over the whole file. Each contract gives the answer, the growth state and every lent item at exit, refusals too, by the definitions
 // of crate calls.
+
+#![tactic(auto)]
+
 mod growth;
 mod verdicts;
 

@@ -5,7 +5,7 @@ ghost use Rattle.calls.specs.Answers.{refusal_number, refusal_page, spotted, cou
 use hashing::Growth;
 use pages::position::Position;
 
-#[derive(Drop)]
+#[derive(Clone, Copy)]
 pub enum Refusal {
     BadParameters,
     BadLength,
@@ -29,20 +29,20 @@ pub enum Refusal {
 }
 
 // What the test of refusals 1 and 2 says, with which every call begins.
-#[derive(Drop)]
+#[derive(Clone, Copy)]
 pub enum Admission {
     Passed,
     Refused(Refusal),
 }
 
 // A page, and "the place found on the page first named (0 if refused before that search)": document 02 (ii).
-#[derive(Drop)]
+#[derive(Clone, Copy)]
 pub enum Placed {
     On(u32, u32),
     Refused(Refusal, u32),
 }
 
-#[derive(Drop)]
+#[derive(Clone, Copy)]
 pub enum Found {
     At(u32, u32, Position),
     Absent(u32, u32),
@@ -50,7 +50,7 @@ pub enum Found {
 }
 
 // Whether growth is due, with the count of stars.
-#[derive(Drop)]
+#[derive(Clone, Copy)]
 pub enum Due {
     Yes(u32),
     No(u32),
@@ -58,21 +58,21 @@ pub enum Due {
 }
 
 // "Its refusal names the place too": with the page of Damaged, or 0.
-#[derive(Drop)]
+#[derive(Clone, Copy)]
 pub enum Checked {
     Clean,
     Refused(Refusal, u32),
 }
 
 // The answer of a call that makes or steps the growth state, with that state.
-#[derive(Drop)]
+#[derive(Clone, Copy)]
 pub struct Grown {
     pub answer: Placed,
     pub growth: Growth,
 }
 
 // Document 01's number (0 if accepted) and values; a value that a call does not name is 0, no or (0, 0).
-#[derive(Drop)]
+#[derive(Clone, Copy)]
 pub struct Answer {
     pub refusal: u32,
     pub page: u32,
@@ -130,7 +130,7 @@ pub fn checked_answer(answer: Checked) -> Answer
 }
 
 // A refusal's number, and its page.
-#[derive(Drop)]
+#[derive(Clone, Copy)]
 struct Numbered {
     number: u32,
     page: u32,

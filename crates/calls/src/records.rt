@@ -3,7 +3,7 @@ use crate::answers::Placed;
 use hashing::Growth;
 
 // "The growth record also holds whether one is open and the steps done": document 02 (xiii).
-#[derive(Drop)]
+#[derive(Clone, Copy)]
 pub struct GrowthRecord {
     pub state: Growth, // (e, x)
     pub growing: bool, // "open"
@@ -11,7 +11,7 @@ pub struct GrowthRecord {
 }
 
 // The answer of a call that may change the growth record, with the record after it.
-#[derive(Drop)]
+#[derive(Clone, Copy)]
 pub struct Recorded {
     pub answer: Placed,
     pub growth: GrowthRecord,

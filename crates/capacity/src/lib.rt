@@ -1,4 +1,7 @@
 // The growth state to begin a file with, for the stars that it is to hold. An empty file may begin with any valid state.
+
+#![tactic(auto)]
+
 ghost use Rattle.std.specs.Prelude.{◌≡◌, true, ◌≤◌};
 ghost use Rattle.hashing.specs.Limits.{valid_parameters, valid_growth};
 ghost use Rattle.calls.specs.Due.{exceeds as Due·exceeds};
@@ -8,7 +11,7 @@ use calls::answers::{Due, Refusal};
 use hashing::{Geometry, Growth, Parameters};
 
 // Whether growth is due there with the stars given, which it is only in the last state that M allows.
-#[derive(Drop)]
+#[derive(Clone, Copy)]
 pub struct Chosen {
     pub answer: Due,
     pub growth: Growth,

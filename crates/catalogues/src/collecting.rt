@@ -13,7 +13,7 @@ use fits_table::table::put_table;
 use lines::Line;
 
 // What is kept from one byte of the input to the next, beside the columns of the rows.
-#[derive(Drop)]
+#[derive(Clone, Copy)]
 pub struct Collection {
     pub line: Line,
     pub count: usize,
@@ -22,7 +22,7 @@ pub struct Collection {
 }
 
 // A collection, and the place in a lent buffer after the text so far.
-#[derive(Drop)]
+#[derive(Clone, Copy)]
 pub struct Collected {
     pub collection: Collection,
     pub at: usize,

@@ -7,7 +7,7 @@ use lines::{Command, Line};
 use pages::position::{Position, number_valid, pack, position_valid};
 
 // How a star stands to the rows collected.
-#[derive(Drop)]
+#[derive(Clone, Copy)]
 pub enum Standing {
     New,
     Same,
@@ -15,7 +15,7 @@ pub enum Standing {
 }
 
 // What becomes of a line.
-#[derive(Drop)]
+#[derive(Clone, Copy)]
 pub enum Effect {
     Added { number: u32, word: u64 },
     Repeated,

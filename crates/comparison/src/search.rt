@@ -4,7 +4,7 @@ ghost use Rattle.placement.specs.Lent.{before};
 ghost use Rattle.calls.specs.Spots.{spot_in};
 
 // A place of a page; the place past the last one is the page's separator.
-#[derive(Drop)]
+#[derive(Clone, Copy)]
 pub struct Spot {
     pub page: usize,
     pub place: usize,

@@ -6,7 +6,7 @@ use page_plan::Outcome;
 
 // The first unsound page; a star is carried past the last page; a page and the place on it where one star is put in or taken out; or
 // the planned stretch, its first page and how many it has, with the page that the call answers.
-#[derive(Drop)]
+#[derive(Clone, Copy)]
 pub enum Decision {
     Unsound(usize),
     Overflows,
@@ -16,7 +16,7 @@ pub enum Decision {
 }
 
 // A star to be entered: its home, the page that the separators name for it, and the place where it was sought there.
-#[derive(Drop)]
+#[derive(Clone, Copy)]
 pub struct Newcomer {
     pub number: u32,
     pub word: u64,

@@ -1,4 +1,7 @@
 // What an entry or a removal does to the file: decided first, from what is stored, then carried out by page stores.
+
+#![tactic(auto)]
+
 mod carried;
 mod chosen;
 mod edits;

@@ -1,4 +1,7 @@
 // The words of waiting stars in order, so that those of one star stand side by side: compared, and all but one dropped.
+
+#![tactic(auto)]
+
 mod agreement;
 mod groups;
 mod removal;

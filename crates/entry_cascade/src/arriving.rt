@@ -12,7 +12,7 @@ ghost use Rattle.entry_cascade.specs.Arriving.{TakesIn, KnownValue};
 use hashing::Geometry;
 
 // Where the words of a page's stars end; the page is unsound; or the list does not hold them.
-#[derive(Drop)]
+#[derive(Clone, Copy)]
 pub enum Taken {
     Joined(usize),
     Unsound,

@@ -14,7 +14,7 @@ ghost use Rattle.entry_reach.specs.Blocks.{PlansOnward};
 use hashing::{Geometry, Parameters};
 
 // The last page; the first unsound page; or a star is carried past the last page of all.
-#[derive(Drop)]
+#[derive(Clone, Copy)]
 pub enum Reach {
     Ends(usize),
     Unsound(usize),
@@ -22,7 +22,7 @@ pub enum Reach {
 }
 
 // How many words are carried past a block; its first unsound page; or its stars do not fit into the list of waiting stars.
-#[derive(Drop)]
+#[derive(Clone, Copy)]
 pub enum Block {
     Planned(usize),
     Unsound(usize),
@@ -30,7 +30,7 @@ pub enum Block {
 }
 
 // A block's first and last page. Those below `surveyed`, and page `known`, were found sound before, and the pool holds their homes.
-#[derive(Drop)]
+#[derive(Clone, Copy)]
 pub struct Extent {
     pub first: usize,
     pub last: usize,

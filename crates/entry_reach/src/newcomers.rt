@@ -24,14 +24,14 @@ use decision::{Decision, Newcomer};
 use hashing::{Geometry, Parameters};
 
 // Where the words that are carried on start, and where those that have come end.
-#[derive(Drop)]
+#[derive(Clone, Copy)]
 pub struct Onward {
     pub from: usize,
     pub reach: usize,
 }
 
 // The last page that newcomers come to; or how many words are carried past the run.
-#[derive(Drop)]
+#[derive(Clone, Copy)]
 pub enum Pushing {
     Ends(usize),
     Leaves(usize),

@@ -17,7 +17,7 @@ use pages::position::Position;
 use survey::lowest_unsound;
 
 // The length of the table.
-#[derive(Drop)]
+#[derive(Clone, Copy)]
 pub enum Written {
     Length(u32),
     Refused(Refusal),

@@ -29,7 +29,7 @@ const CARDS: [[u8; 80]; 18] = [
 ];
 
 // What a header and a length tell.
-#[derive(Drop)]
+#[derive(Clone, Copy)]
 pub enum Table {
     Rows(usize),
     Nothing,

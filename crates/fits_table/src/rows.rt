@@ -8,7 +8,7 @@ ghost use Rattle.fits_table.specs.Rows.{be32, from32, row_bytes, row_at, good_ro
 use pages::position::number_valid;
 
 // A row as a star's number and word.
-#[derive(Drop)]
+#[derive(Clone, Copy)]
 pub enum Row {
     Star { number: u32, word: u64 },
     Wrong,

@@ -1,4 +1,7 @@
 // The number generator: the tables of its two multipliers, scrambled star numbers and their signatures.
+
+#![tactic(auto)]
+
 mod copies;
 mod firsts;
 mod signatures;

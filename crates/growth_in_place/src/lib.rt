@@ -1,4 +1,7 @@
 // A growth or shrinking that moves only the stars that must: those of the new page one by one, or block by block.
+
+#![tactic(auto)]
+
 mod joining;
 mod moving;
 mod renewing;

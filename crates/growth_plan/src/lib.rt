@@ -1,4 +1,7 @@
 // Growth by one page and its undoing: in place, or all pages planned anew; and a growth done in steps, a page at a time.
+
+#![tactic(auto)]
+
 mod growth;
 mod planning;
 mod steps;

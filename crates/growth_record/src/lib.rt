@@ -1,4 +1,7 @@
 // Growth, at once and in steps, and shrinking for a caller who lends the growth record.
+
+#![tactic(auto)]
+
 ghost use Rattle.std.specs.Prelude.{◌≡◌};
 ghost use Rattle.placement.specs.Lent.{before, after};
 ghost use Rattle.calls.specs.Answers.{Leaves, placed};

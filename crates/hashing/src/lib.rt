@@ -1,4 +1,7 @@
 // Where a star's home page is: the geometry of a linear hashing file with partial expansions, the growth step and its undoing.
+
+#![tactic(auto)]
+
 mod address;
 mod groups;
 mod limits;
@@ -14,7 +17,7 @@ pub use ranks::rank;
 pub use undoing::{shrunk, ungrown};
 
 // A file's parameters, with document 01's letters.
-#[derive(Drop)]
+#[derive(Clone, Copy)]
 pub struct Parameters {
     pub places: u32, // b, places of a page
     pub groups: u32, // N, first groups
@@ -27,13 +30,13 @@ pub struct Parameters {
 }
 
 // The growth state.
-#[derive(Drop)]
+#[derive(Clone, Copy)]
 pub struct Growth {
     pub expansions: u32, // e, partial expansions finished
     pub expanded: u32, // x, groups expanded in the present one
 }
 
-#[derive(Drop)]
+#[derive(Clone, Copy)]
 pub struct Geometry {
     pub parameters: Parameters,
     pub growth: Growth,

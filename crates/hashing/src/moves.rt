@@ -11,14 +11,14 @@ use crate::ranks::swept;
 use generator::residue;
 
 // The steps that choose a number: how many there are, and the code of the step after all those tested.
-#[derive(Drop)]
+#[derive(Clone, Copy)]
 pub struct Choice {
     pub count: usize,
     pub last: u16,
 }
 
 // The page typeof.n.G + order of the step with that code.
-#[derive(Drop)]
+#[derive(Clone, Copy)]
 pub struct Landing {
     pub code: u16,
     pub order: u16,

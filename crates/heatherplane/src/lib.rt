@@ -1,5 +1,8 @@
 // Every call for C programs, on numbers and slices. include/heatherplane.h declares them.
 // Each refuses every bad length and value itself. A contract gives the reply and every lent item at exit by the definitions of crate calls.
+
+#![tactic(auto)]
+
 mod apart;
 mod carried;
 mod growing;

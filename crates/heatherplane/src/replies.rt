@@ -9,7 +9,7 @@ use history_replay::Resumed;
 
 // The growth record in numbers.
 #[repr(C)]
-#[derive(Drop)]
+#[derive(Clone, Copy)]
 pub struct Growth {
     pub expansions: u32,
     pub expanded: u32,
@@ -20,7 +20,7 @@ pub struct Growth {
 // The papers' refusal number, 0 if accepted, and their values, with the growth record after the call; a value that a call does not name is 0 or
 // false.
 #[repr(C)]
-#[derive(Drop)]
+#[derive(Clone, Copy)]
 pub struct Reply {
     pub refusal: u32,
     pub page: u32,

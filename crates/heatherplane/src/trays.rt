@@ -21,7 +21,7 @@ use tray_filter::Shown;
 
 // The papers' refusal number, 0 if accepted, and the count after the call.
 #[repr(C)]
-#[derive(Drop)]
+#[derive(Clone, Copy)]
 pub struct Added {
     pub refusal: u32,
     pub count: u32,
@@ -29,7 +29,7 @@ pub struct Added {
 
 // The refusal of the call or of the report at which it stopped, with its page and place, how many reports were filed, and the count after the call.
 #[repr(C)]
-#[derive(Drop)]
+#[derive(Clone, Copy)]
 pub struct Filed {
     pub refusal: u32,
     pub page: u32,
@@ -40,7 +40,7 @@ pub struct Filed {
 
 // The refusal number, 0 if accepted, and how many of a filter's bits are set.
 #[repr(C)]
-#[derive(Drop)]
+#[derive(Clone, Copy)]
 pub struct Bits {
     pub refusal: u32,
     pub bits: u32,
@@ -48,7 +48,7 @@ pub struct Bits {
 
 // A file's parameters, with document 01's letters b, N, n0, s, k, A, M, and the multiplier.
 #[repr(C)]
-#[derive(Drop)]
+#[derive(Clone, Copy)]
 pub struct Parameters {
     pub places: u32,
     pub groups: u32,
@@ -61,7 +61,7 @@ pub struct Parameters {
 }
 
 // What a call's parameters and growth record in numbers stand for.
-#[derive(Drop)]
+#[derive(Clone, Copy)]
 struct Asked {
     parameters: hashing::Parameters,
     growth: GrowthRecord,

@@ -11,7 +11,7 @@ use hashing::{Growth, Parameters};
 use pages::position::Position;
 
 // What a call answered, and the growth state after it.
-#[derive(Drop)]
+#[derive(Clone, Copy)]
 pub struct Stepped {
     pub answer: Answer,
     pub growth: Growth,

@@ -13,7 +13,7 @@ use calls::records::GrowthRecord;
 use hashing::{Growth, Parameters};
 use pages::position::Position;
 
-#[derive(Drop)]
+#[derive(Clone, Copy)]
 pub enum Replayed {
     // with the growth state after the last call
     Done(Growth),
@@ -24,7 +24,7 @@ pub enum Replayed {
 }
 
 // 0, 2, or 256 for a kind that is none of the nine; and the growth state after the last call, or the one before if it was refused.
-#[derive(Drop)]
+#[derive(Clone, Copy)]
 pub struct Resumed {
     pub refusal: u32,
     pub growth: Growth,

@@ -1,4 +1,7 @@
 // The homes under the next growth state and the one before, from the home under this one.
+
+#![tactic(auto)]
+
 mod growing;
 mod items;
 mod shrinking;

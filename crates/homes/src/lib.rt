@@ -1,4 +1,7 @@
 // The homes of a page's numbers at once: every step over blocks of eight numbers, in lanes of 16 bits.
+
+#![tactic(auto)]
+
 mod blocks;
 mod lanes;
 mod page;

@@ -8,7 +8,7 @@ ghost use Rattle.homes.specs.Stages.{stage_at, sweep_of, limit_at, test_at};
 
 use hashing::{Geometry, Parameters};
 
-#[derive(Drop)]
+#[derive(Clone, Copy)]
 pub struct Stage {
     pub size: u16, // n
     pub count: u16, // G
@@ -16,7 +16,7 @@ pub struct Stage {
     pub rest: u16, // G mod s
 }
 
-#[derive(Drop)]
+#[derive(Clone, Copy)]
 pub struct Sweep {
     pub step: u16, // s
     pub inverse: u16,
@@ -24,7 +24,7 @@ pub struct Sweep {
 }
 
 // What decides whether a step moves a number.
-#[derive(Drop)]
+#[derive(Clone, Copy)]
 pub struct Test {
     pub factor: u32, // of X(2i)
     pub most: u32, // the greatest X(2i) chosen

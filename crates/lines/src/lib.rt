@@ -1,10 +1,13 @@
 // A line of the program starline as a command, and its answers as text.
+
+#![tactic(auto)]
+
 ghost use Rattle.std.specs.Prelude.{ℕ, ◌+◌, ◌≤◌, ◌≡◌, List, [], ◌∷◌, ◌++◌, length};
 ghost use Rattle.lines.specs.Grammar.{fields, command_of, enter_from, natural_of, declination_of, no_bytes, kept, line_bytes};
 ghost use Rattle.lines.specs.Shape.{field_length};
 ghost use Rattle.lines.specs.Replies.{digits, signed_digits, field_bytes, reply_bytes, TextAt};
 
-#[derive(Drop)]
+#[derive(Clone, Copy)]
 pub enum Command {
     Enter { number: u32, ra: u32, dec: i32 },
     LookUp(u32),
@@ -14,14 +17,14 @@ pub enum Command {
 }
 
 // A field of 32 bits.
-#[derive(Drop)]
+#[derive(Clone, Copy)]
 pub enum Natural {
     Of(u32),
     Wrong,
 }
 
 // A field of signed 32 bits.
-#[derive(Drop)]
+#[derive(Clone, Copy)]
 pub enum Declination {
     At(i32),
     Nowhere,
@@ -31,13 +34,13 @@ pub enum Declination {
 const KEPT: usize = 65;
 
 // A line as it is read: its bytes so far, the first KEPT of them.
-#[derive(Drop)]
+#[derive(Clone, Copy)]
 pub struct Line {
     pub bytes: [u8; 72],
     pub length: usize,
 }
 
-#[derive(Drop)]
+#[derive(Clone, Copy)]
 pub enum Reply {
     Accepted(u32),
     Found { page: u32, ra: u32, dec: i32 },

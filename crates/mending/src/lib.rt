@@ -1,4 +1,7 @@
 // The call mend: what the pages hold after a power loss, placed anew. No separator is read.
+
+#![tactic(auto)]
+
 mod call;
 mod collection;
 mod contents;

@@ -9,7 +9,7 @@ ghost use Rattle.named_page.specs.Named.{NamedAs, HomedAs};
 
 use hashing::Geometry;
 
-#[derive(Drop)]
+#[derive(Clone, Copy)]
 pub struct Named {
     pub home: u32,
     pub page: usize,

@@ -1,4 +1,7 @@
 // A page altered in place: a star put in at its place, or taken out. The stars behind it move by one place, and no other page is touched.
+
+#![tactic(auto)]
+
 mod items;
 mod room;
 mod star;

@@ -55,7 +55,7 @@ fn close_up(waiting: &mut [u64], from: usize, end: usize) -> usize
 }
 
 // How many pages of a stretch are settled, and where the words carried past them start.
-#[derive(Drop)]
+#[derive(Clone, Copy)]
 pub struct Progress {
     pub pages: usize,
     pub from: usize,

@@ -1,4 +1,7 @@
 // The plan of a stretch of pages: its stars as words of a lent list, gathered by home and settled page by page.
+
+#![tactic(auto)]
+
 mod gathering;
 mod keys;
 mod layout;

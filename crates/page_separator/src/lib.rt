@@ -1,4 +1,7 @@
 // The signatures of the words that probe a page, their counts, and the page's separator by them.
+
+#![tactic(auto)]
+
 mod separating;
 mod signatures;
 mod words;

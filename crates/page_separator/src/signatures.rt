@@ -11,7 +11,7 @@ use crate::words::{home_of, number_of, pack};
 use hashing::Parameters;
 
 // The multiplier of the signatures on the probe-th page probed: entry 2·probe of the table, counted from 0.
-#[derive(Drop)]
+#[derive(Clone, Copy)]
 pub struct Factor {
     pub probe: usize,
     pub value: u32,

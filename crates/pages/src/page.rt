@@ -3,7 +3,7 @@ ghost use Rattle.std.specs.Prelude.{◌≡◌, ◌+◌, ◌*◌, ◌≤◌, leng
 ghost use Rattle.pages.specs.Shape.{page_at, place_in};
 
 // Unused places are empty: number 0, word 0, owner 0.
-#[derive(Drop)]
+#[derive(Clone, Copy)]
 pub struct Page {
     pub numbers: [u32; 32],
     pub words: [u64; 32],
@@ -11,7 +11,7 @@ pub struct Page {
 }
 
 // Where a number stands in a page or would stand, and whether it is held.
-#[derive(Drop)]
+#[derive(Clone, Copy)]
 pub struct Place {
     pub at: usize,
     pub held: bool,

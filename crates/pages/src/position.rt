@@ -3,7 +3,7 @@ ghost use Rattle.std.specs.Prelude.{true, ◌≡◌};
 ghost use Rattle.pages.specs.Position.{valid_number, valid_position, valid_word, packed, unpacked};
 
 // In milliarcseconds. `dec` is signed.
-#[derive(Drop)]
+#[derive(Clone, Copy)]
 pub struct Position {
     pub ra: u32,
     pub dec: i32,

@@ -1,4 +1,7 @@
 // The rule over a stretch stands in specs/ and its laws in proofs/; the code here is the greatest separator.
+
+#![tactic(auto)]
+
 ghost use Rattle.std.specs.Prelude.{◌≡◌, true};
 ghost use Rattle.generator.specs.Generator.{top_of_lem};
 ghost use Rattle.hashing.specs.Limits.{valid_parameters};

@@ -1,4 +1,7 @@
 // Which pages a call re-places: where a stretch of pages ends, and the survey of its pages.
+
+#![tactic(auto)]
+
 mod ends;
 mod surveying;
 

@@ -1,4 +1,7 @@
 // Pages placed anew by the rule: a stretch of them over its own stars, and by a removal over its reach.
+
+#![tactic(auto)]
+
 mod changed;
 mod held;
 mod removal;

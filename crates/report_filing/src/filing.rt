@@ -15,7 +15,7 @@ use hashing::Geometry;
 use reports::Report;
 
 // How many reports were filed, and the refusal that stopped the filing, or page 0.
-#[derive(Drop)]
+#[derive(Clone, Copy)]
 pub struct Filed {
     pub filed: u32,
     pub answer: Placed,

@@ -1,4 +1,7 @@
 // Filing the reports of a tray, past the filing's own refusals.
+
+#![tactic(auto)]
+
 mod filing;
 mod held_star;
 mod new_star;

@@ -13,7 +13,7 @@ use comparison::{Spot, compare};
 use hashing::Geometry;
 
 // A clean file; the first page and place that differ from the rule over all pages, place b being the separator; or the lowest unsound page.
-#[derive(Drop)]
+#[derive(Clone, Copy)]
 pub enum Verdict {
     Clean,
     Differs { page: usize, place: usize },

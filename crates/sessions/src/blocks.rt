@@ -8,14 +8,14 @@ use crate::commands::{StarFile, empty_file, follow};
 use lines::Line;
 
 // What is kept from one byte of the input to the next.
-#[derive(Drop)]
+#[derive(Clone, Copy)]
 pub struct Session {
     pub line: Line,
     pub file: StarFile,
 }
 
 // A session, and the place in a lent buffer after the answers so far.
-#[derive(Drop)]
+#[derive(Clone, Copy)]
 pub struct Answered {
     pub session: Session,
     pub at: usize,

@@ -14,7 +14,7 @@ use pages::position::Position;
 const INSTITUTE: u8 = 0;
 
 // M = 8 pages of b = 2 places. The pool of a call is made for that call.
-#[derive(Drop)]
+#[derive(Clone, Copy)]
 pub struct StarFile {
     pub growth: Growth,
     pub separators: [u8; 8],
@@ -23,7 +23,7 @@ pub struct StarFile {
     pub owners: [u8; 16],
 }
 
-#[derive(Drop)]
+#[derive(Clone, Copy)]
 pub struct Replied {
     pub reply: Reply,
     pub file: StarFile,

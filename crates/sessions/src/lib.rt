@@ -1,4 +1,7 @@
 // The program starline without its reading and writing: the star file that it keeps, and its answers to commands, lines and blocks of input.
+
+#![tactic(auto)]
+
 mod blocks;
 mod commands;
 

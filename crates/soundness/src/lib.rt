@@ -1,4 +1,7 @@
 // The page that the separators name for a number, the homes of items, and the soundness of a page and of a stretch of pages.
+
+#![tactic(auto)]
+
 mod probing;
 mod star_homes;
 mod stretches;

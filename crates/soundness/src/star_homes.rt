@@ -8,7 +8,7 @@ ghost use Rattle.soundness.specs.Stars.{one_if_star_lem, spread_from, Gathered};
 use hashing::Geometry;
 
 // How many stars were taken, and how many items were looked at.
-#[derive(Drop)]
+#[derive(Clone, Copy)]
 pub struct Taken {
     pub stars: usize,
     pub items: usize,

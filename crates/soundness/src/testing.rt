@@ -16,7 +16,7 @@ use placement::top_of;
 pub const LAST_NUMBER: u32 = 2147483646;
 
 // Whether an item is sound, and if so its star's home, 0 for an empty place, and the number that the next one must exceed.
-#[derive(Drop)]
+#[derive(Clone, Copy)]
 pub struct Item {
     pub sound: bool,
     pub home: u32,

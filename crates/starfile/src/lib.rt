@@ -1,5 +1,8 @@
 // The calls on a lent star file under the growth record that a caller keeps. Each contract gives the answer, the record and every lent item
 // at exit, refusals too, by the definitions of crate calls.
+
+#![tactic(auto)]
+
 mod advancing;
 mod growing;
 mod opening;

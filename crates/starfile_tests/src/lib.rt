@@ -1,4 +1,7 @@
 // For the Rust tests alone, which call the library of heatherplane for all else: two functions below the calls, and crate growth_record's.
+
+#![tactic(auto)]
+
 mod lent_record;
 mod record_calls;
 mod replies;

@@ -9,7 +9,7 @@ use hashing::{Growth, Parameters};
 
 // A file's parameters, with document 01's letters b, N, n0, s, k, A, M, and the multiplier.
 #[repr(C)]
-#[derive(Drop)]
+#[derive(Clone, Copy)]
 pub struct FileParameters {
     pub places: u32,
     pub groups: u32,
@@ -23,7 +23,7 @@ pub struct FileParameters {
 
 // The growth record.
 #[repr(C)]
-#[derive(Drop)]
+#[derive(Clone, Copy)]
 pub struct Record {
     pub expansions: u32,
     pub expanded: u32,
@@ -33,7 +33,7 @@ pub struct Record {
 
 // The papers' refusal number, 0 if accepted, page and place, and the growth record after the call.
 #[repr(C)]
-#[derive(Drop)]
+#[derive(Clone, Copy)]
 pub struct Reply {
     pub refusal: u32,
     pub page: u32,

@@ -1,4 +1,7 @@
 // Reads all of its standard input, whatever its length: lines, for which it writes a table, or a table, for which it writes lines.
+
+#![tactic(auto)]
+
 ghost use Rattle.std.specs.Prelude.{◌≡◌, ◌≤◌, length};
 ghost use Rattle.catalogues.specs.Runs.{Fit};
 
@@ -118,7 +121,7 @@ fn collect(
     collected.collection
 }
 
-#[derive(Drop)]
+#[derive(Clone, Copy)]
 struct Turn {
     collection: Collection,
     more: bool,

@@ -1,8 +1,11 @@
 // Reads all of its standard input, whatever its length, and answers each line.
+
+#![tactic(auto)]
+
 use libc::{STDIN_FILENO, STDOUT_FILENO};
 use sessions::Session;
 
-#[derive(Drop)]
+#[derive(Clone, Copy)]
 struct Turn {
     session: Session,
     more: bool,

@@ -1,4 +1,7 @@
 // The soundness of all pages, upward, for calls that take no pool: a stretch at a time.
+
+#![tactic(auto)]
+
 ghost use Rattle.std.specs.Prelude.{◌≡◌, ◌-◌, ◌*◌, ◌≤◌, ◌<◌};
 ghost use Rattle.placement.specs.Hash.{sound_at};
 ghost use Rattle.placement.specs.Lent.{held, before};

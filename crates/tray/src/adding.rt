@@ -16,14 +16,14 @@ use reports::Report;
 use tray_list::put;
 
 // The answer, with the count after the call.
-#[derive(Drop)]
+#[derive(Clone, Copy)]
 pub struct Added {
     pub answer: Placed,
     pub count: u32,
 }
 
 // The answer, and the report that is stored at `at`: behind the list, where the call is refused.
-#[derive(Drop)]
+#[derive(Clone, Copy)]
 struct Adding {
     added: Added,
     at: usize,

@@ -23,7 +23,7 @@ use reports::Report;
 use tray_list::{close_up, load};
 
 // "answers the number filed and that refusal, if any", with the count after the call.
-#[derive(Drop)]
+#[derive(Clone, Copy)]
 pub struct Filing {
     pub answer: Placed,
     pub filed: u32,
@@ -31,7 +31,7 @@ pub struct Filing {
 }
 
 // The answer, and what becomes of the list: the `stay` reports from place `from` on close up over `places` places; none if the call is refused.
-#[derive(Drop)]
+#[derive(Clone, Copy)]
 pub struct Closing {
     pub filing: Filing,
     pub from: usize,

@@ -19,7 +19,7 @@ use reports::Report;
 use tray_list::{Latest, latest_on};
 
 // The refusal, if any, and how many reports are to be read: none if the filter says "no".
-#[derive(Drop)]
+#[derive(Clone, Copy)]
 struct Screened {
     admission: Admission,
     reports: usize,

@@ -5,7 +5,7 @@ ghost use Rattle.tray_filter.specs.Shown.{shown};
 
 use calls::answers::Refusal;
 
-#[derive(Drop)]
+#[derive(Clone, Copy)]
 pub enum Shown {
     Bits(u32),
     Refused(Refusal),

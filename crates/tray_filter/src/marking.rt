@@ -9,7 +9,7 @@ use generator::residue;
 use reports::Report;
 
 // The places of a star's bits among the filter's 2,048.
-#[derive(Drop)]
+#[derive(Clone, Copy)]
 struct HashBits {
     first: usize,
     second: usize,

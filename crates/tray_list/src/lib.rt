@@ -1,4 +1,7 @@
 // The lent list of reports: the thin functions that read a report of it or store one.
+
+#![tactic(auto)]
+
 mod loading;
 mod reading;
 mod storing;

@@ -5,7 +5,7 @@ ghost use Rattle.tray_list.specs.Latest.{latest_in, if_on_lem, later as Latest·
 use reports::Report;
 
 // The latest report on a star, if there is one.
-#[derive(Drop)]
+#[derive(Clone, Copy)]
 pub struct Latest {
     pub found: bool,
     pub report: Report,
