@@ -1,14 +1,14 @@
 -- The two headers of a FITS file with an empty primary array and one binary table (FITS Standard 4.0, 4.1, 4.2, 4.4.1, 7.3.1), byte by byte.
 -- Assumes nothing.
 use Rattle.std.specs.Prelude.{Bool, true, false, cond, ◌&&◌, List, [], ◌∷◌, ◌++◌, ℕ, zero, suc, ◌+◌, ◌-◌, ◌*◌, ◌/◌, ◌%◌, leb, ltb, eqb, length, take, drop, replicate}
-use Prim.Native.String.{String, [] as noText, ◌∷◌ as ◌then◌}
+use Prim.Native.String.{String, [] as no_text, ◌∷◌ as ◌then◌}
 use Prim.Native.Char.{code}
 use Rattle.buffers.specs.Lists.{alike}
 use Rattle.fits_table.specs.declared.cards.Table.{Table}
 use Rattle.fits_table.specs.declared.cards.Table.TheVariants.{Rows, Nothing}
 
 unfoldable pub ascii : String → List ℕ
-ascii noText = []
+ascii no_text = []
 ascii (c then s) = code c ∷ ascii s
 
 abbrev pub blanks : ℕ → List ℕ

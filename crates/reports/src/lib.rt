@@ -3,7 +3,6 @@
 
 #![tactic(auto)]
 
-
 // A star report. `removed` is the mark for "removed": 0 for a position, any other number for a removal, which has no position.
 #[repr(C)]
 #[derive(Clone, Copy)]

@@ -1,0 +1,13 @@
+-- `answer_row::writing::encode` meets its contract. The declination goes to `unsigned` as bits, and fits.
+use mir.Syntax.{w32}
+use mir.Facts.{to_z-of_z}
+use Rattle.answer_row.specs.Rows.{encoded}
+use borrow.Author.Rules.{rules}
+use Rattle.answer_row.proofs.writing.encode.Goals as goal
+
+pub returns : goal.returns
+unfolding encoded
+returns c =
+    let told = c.before.before in
+    let back = to_z-of_z {w = w32} {z = told.args.answer.position.dec} (record { sfits = told.struct_told-1.given.1.0.1 }) in
+    rw (c.number-due.ensures, c.unsigned-dec.ensures, back, told.number-found.ensures)

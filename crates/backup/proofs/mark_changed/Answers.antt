@@ -1,0 +1,42 @@
+-- `backup::mark_changed` meets its contract.
+use mathlib.Core.Path.{◌≡◌, sym, ap, ◌∙◌}
+use lib.ListN.{length}
+use borrow.Author.Rules.{rules}
+use Rattle.backup.specs.Marks.{told, mark_refusal}
+use Rattle.backup.proofs.Refusing.{markable, refused-marks, accepted-marks}
+use Rattle.backup.proofs.mark_changed.Goals as goal
+use Rattle.backup.proofs.mark_changed.Goals.{Else-refusal-ne0}
+
+pub returns-then-refusal-ne0 : goal.returns-then-refusal-ne0
+returns-then-refusal-ne0 c =
+    let s = c.before.before.before.before.before.before in
+    refused-marks s.args.parameters s.args.growth s.args.old.now s.args.new.now s.args.marks.now
+    c.refusal_of-refusal.result
+    c.refusal_of-refusal.ensures
+    c.if-refusal-ne0.true
+
+none-met : (c : Else-refusal-ne0) →
+    mark_refusal c.args.parameters c.args.growth
+    (length c.args.old.now)
+    (length c.args.new.now)
+    (length c.args.marks.now)
+    ≡ 0
+none-met c = sym c.refusal_of-refusal.ensures ∙ c.if-refusal-ne0.false
+
+pub mark_pages-requires : goal.mark_pages-requires
+mark_pages-requires c =
+    let m = markable _ _ _ _ _ (none-met c.before.before) in
+    record {
+      parameters_value = m.parameters;
+      growth_value = m.growth;
+      growth_bound = m.more;
+      len = (m.of_old, m.of_new);
+      marks_len = m.of_marks;
+    }
+
+pub returns : goal.returns
+returns c =
+    let s = c.before.before.before.before.before.before.before.before.before.before in
+    ap (told 0) c.mark_pages.ensures
+    ∙ accepted-marks s.args.parameters s.args.growth s.args.old.now s.args.new.now s.args.marks.now
+    (none-met c.before.before.before.before.before)

@@ -1,0 +1,17 @@
+-- `call_make::emptying::empty` meets its contract.
+use mathlib.Core.Path.{◌∙◌, ap}
+use Prim.Native.Nat.{ℕ}
+use lib.ListN.{length, replicate}
+use Rattle.placement.specs.Hash.{lent}
+use Rattle.call_make.proofs.Making.{emptied}
+use borrow.Author.Rules.{rules}
+use Rattle.call_make.proofs.emptying.empty.Goals as goal
+
+pub returns : goal.returns
+returns c =
+    let s = c.before.before.before.before.before.before.before.before.before.before.before.before.before.before.before.before.before.before.before.before in
+    emptied s.args.parameters (lent s.args.separators.now s.args.numbers.now s.args.words.now s.args.owners.now) _ _ _ _ s.requires.sized
+    (c.fill_8.ensures ∙ ap (replicate {A = ℕ} (length s.args.separators.now)) c.top_of-top.ensures)
+    c.clear.ensures.pool_after
+    c.clear.ensures.waiting_after
+    c.clear.ensures.poolowners_after

@@ -1,0 +1,12 @@
+-- `calls::answers::checked_answer` meets its contract.
+use Rattle.calls.specs.Answers.{checked}
+use borrow.Author.Rules.{rules}
+use Rattle.calls.proofs.answers.checked_answer.Goals as goal
+
+pub returns-in-Clean : goal.returns-in-Clean
+unfolding checked
+returns-in-Clean c = rw c.enum_told-1.given.1 c.at_spot.ensures
+
+pub returns-in-Refused : goal.returns-in-Refused
+unfolding checked
+returns-in-Refused c = rw c.answer-1.given.1 c.refused_answer.ensures

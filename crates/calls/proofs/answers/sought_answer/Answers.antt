@@ -1,0 +1,16 @@
+-- `calls::answers::sought_answer` meets its contract.
+use Rattle.calls.specs.Answers.{sought, found_at}
+use borrow.Author.Rules.{rules}
+use Rattle.calls.proofs.answers.sought_answer.Goals as goal
+
+pub returns-in-At : goal.returns-in-At
+unfolding sought found_at
+returns-in-At c = rw c.answer-1.given.1
+
+pub returns-in-Absent : goal.returns-in-Absent
+unfolding sought
+returns-in-Absent c = rw c.answer-in-Absent-1.given.1 c.at_spot.ensures
+
+pub returns-in-Refused : goal.returns-in-Refused
+unfolding sought
+returns-in-Refused c = rw c.answer-in-Refused-1.given.1 c.refused_answer.ensures

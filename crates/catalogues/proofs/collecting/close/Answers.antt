@@ -1,0 +1,27 @@
+-- `catalogues::collecting::close` meets its contract.
+use native.Mathlib.Omega.{arith}
+use mathlib.Core.Path.{sym, ◌∙◌}
+use Rattle.lines.specs.Shape.{lacked_by}
+use Rattle.lines.proofs.Programs.{start-stands}
+use borrow.Author.Rules.{rules}
+use Rattle.catalogues.proofs.collecting.close.Goals as goal
+
+pub returns-then-is_blank : goal.returns-then-is_blank
+unfolding lacked_by
+returns-then-is_blank c =
+    record {
+      fit_2 = (rw (sym c.is_blank.ensures ∙ c.if-is_blank.true)
+          (c.requires.fit, (start-stands _ _ _ _, omega arith))).0;
+      stands = (rw (sym c.is_blank.ensures ∙ c.if-is_blank.true)
+          (c.requires.fit, (start-stands _ _ _ _, omega arith))).1;
+    }
+
+pub returns : goal.returns
+unfolding lacked_by
+returns c =
+    let e = c.before.before.before.before.before.before.before.before.before.before.before in
+    let done = c.end_line.ensures in
+    record {
+      fit_2 = (rw (sym e.is_blank.ensures ∙ e.if-is_blank.false) (done.0, (done.1.0, omega (arith, done.1.1)))).0;
+      stands = (rw (sym e.is_blank.ensures ∙ e.if-is_blank.false) (done.0, (done.1.0, omega (arith, done.1.1)))).1;
+    }

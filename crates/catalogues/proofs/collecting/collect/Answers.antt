@@ -1,0 +1,65 @@
+-- `catalogues::collecting::collect` meets its contract.
+use native.Mathlib.Omega.{arith}
+use Prim.Native.Nat.{◌*◌, ◌-◌, ◌≤◌}
+use native.Mathlib.Numerals.{add-one}
+use mathlib.Core.Path.{◌≡◌, sym, ap, ◌∙◌}
+use lib.ListN.{length, take}
+use lib.Seq.{take_all, length-sets}
+use Rattle.lines.specs.Programs.{Stands}
+use Rattle.lines.proofs.Programs.{start-stands, block_more}
+use Rattle.catalogues.specs.Runs.{cataloguing, run_held, Fit}
+use Rattle.catalogues.proofs.collecting.collect.Goals as goal
+use Rattle.catalogues.proofs.collecting.collect.Goals.{At-loop-i}
+
+same_size : (c : At-loop-i) → length c.loop-i.out ≡ length c.args.out.now
+same_size c = ap length c.loop-i.invariant.3.text.buffer ∙ simp length-sets
+
+pub loop-i-init : goal.loop-i-init
+loop-i-init c = (omega arith, omega arith, c.requires.fit, start-stands _ _ _ _)
+
+pub bounds-block-i : goal.bounds-block-i
+bounds-block-i c = omega arith
+
+pub take_byte-step-requires : goal.take_byte-step-requires
+take_byte-step-requires c =
+    let turn = c.before.before.before.before.before.before in
+    record {
+      fit = turn.loop-i.invariant.2;
+      at_in_bounds = omega (arith, same_size turn, c.loop-i-test.true, turn.loop-i.invariant.1, turn.requires.block_in_bounds);
+    }
+
+pub overflow_add-i : goal.overflow_add-i
+overflow_add-i c = omega (arith, c.loop-i-test.true, c.well-formed)
+
+pub loop-i-smaller : goal.loop-i-smaller
+loop-i-smaller c = omega (arith, c.loop-i-test.true)
+
+pub loop-i-preserved : goal.loop-i-preserved
+loop-i-preserved c =
+    let taken = c.before.before.before.before.before.before.before.before in
+    let turn = taken.before.before.before.before.before in
+    let at = turn.before in
+    rw (add-one at.loop-i.i) (
+      omega (arith, turn.loop-i-test.true),
+      omega (arith, taken.take_byte-step.ensures.stands.1, at.loop-i.invariant.1),
+      taken.take_byte-step.ensures.fit_2,
+      block_more _ _ _ _ _ _ _ _ _ _ _ turn.loop-i-test.true at.loop-i.invariant.3 taken.take_byte-step.ensures.stands.0,
+    )
+
+pub shape_of-numbers : goal.shape_of-numbers
+shape_of-numbers c = c.loop-i.invariant.2.numbers ∙ sym c.requires.fit.numbers
+
+pub shape_of-words : goal.shape_of-words
+shape_of-words c = c.loop-i.invariant.2.words ∙ sym c.requires.fit.words
+
+pub shape_of-out : goal.shape_of-out
+shape_of-out c = same_size c.before.before
+
+pub returns : goal.returns
+returns c =
+    let block = c.args.block.now in
+    let all : take c.loop-i.i block ≡ block = take_all _ _ c.loop-i-test.false in
+    record {
+      fit_2 = c.loop-i.invariant.2;
+      stands = (rw all at c.loop-i.invariant.3, omega (arith, c.loop-i.invariant.0, c.loop-i.invariant.1));
+    }

@@ -1,0 +1,31 @@
+-- `catalogues::entries::line_effect` meets its contract.
+use mir.Syntax.{w32}
+use mir.Val.{to_z, of_z}
+use mathlib.Core.Path.{◌≡◌}
+use Rattle.catalogues.specs.Entries.{effect_of}
+use borrow.Author.Rules.{rules}
+use Rattle.catalogues.proofs.entries.line_effect.Goals as goal
+
+pub returns-in-Enter : goal.returns-in-Enter
+unfolding effect_of
+returns-in-Enter c =
+    let e = c.before.before.before in
+    let dec = e.number-1.given.0.1.1.0 in
+    let back : to_z w32 (of_z w32 dec) ≡ dec = search rules in
+    rw (← e.parse_line.ensures, e.number-1.given.1) (rw back at c.entry.ensures)
+
+pub returns-in-LookUp : goal.returns-in-LookUp
+unfolding effect_of
+returns-in-LookUp c = rw (← c.parse_line.ensures, c.enum_told-1.given.1)
+
+pub returns-in-Remove : goal.returns-in-Remove
+unfolding effect_of
+returns-in-Remove c = rw (← c.parse_line.ensures, c.enum_told-in-Remove-1.given.1)
+
+pub returns-in-Grow : goal.returns-in-Grow
+unfolding effect_of
+returns-in-Grow c = rw (← c.parse_line.ensures, c.enum_told-in-Grow-1.given.1)
+
+pub returns-in-Bad : goal.returns-in-Bad
+unfolding effect_of
+returns-in-Bad c = rw (← c.parse_line.ensures, c.enum_told-in-Bad-1.given.1)

@@ -1,0 +1,54 @@
+-- `catalogues::entries::standing_among` meets its contract.
+use Prim.Native.Nat.{◌-◌, ◌≤◌}
+use native.Mathlib.Omega.{arith}
+use mathlib.Core.Path.{refl}
+use borrow.Author.Rules.{rules}
+use Rattle.catalogues.proofs.Held.{Sought, sought-next, sought-same, sought-other, sought-last}
+use Rattle.catalogues.proofs.entries.standing_among.Goals as goal
+
+pub loop-i-init : goal.loop-i-init
+loop-i-init c = (omega arith, refl)
+
+pub bounds-numbers-i : goal.bounds-numbers-i
+bounds-numbers-i c = omega (arith, c.loop-i-test.true, c.requires.0)
+
+pub bounds-words-i : goal.bounds-words-i
+bounds-words-i c = omega (arith, c.loop-i-test.true, c.requires.1)
+
+pub returns-then-words-i : goal.returns-then-words-i
+returns-then-words-i c =
+    let w = c.before.before.before in
+    let t = w.before.before.before in
+    let s = t.before in
+    sought-same s.args.count s.args.numbers.now s.args.words.now s.requires.0 s.requires.1 s.args.number s.args.word t.loop-i.i
+    w.loop-i-test.true w.if-numbers-i.true c.if-words-i.true t.loop-i.invariant.1
+
+pub returns-then-numbers-i : goal.returns-then-numbers-i
+returns-then-numbers-i c =
+    let w = c.before.before.before in
+    let t = w.before.before.before in
+    let s = t.before in
+    sought-other s.args.count s.args.numbers.now s.args.words.now s.requires.0 s.requires.1 s.args.number s.args.word t.loop-i.i
+    w.loop-i-test.true w.if-numbers-i.true c.if-words-i.false t.loop-i.invariant.1
+
+pub overflow_add-i : goal.overflow_add-i
+overflow_add-i c = omega (arith, c.loop-i-test.true, c.requires.0, c.well-formed)
+
+pub loop-i-smaller : goal.loop-i-smaller
+loop-i-smaller c = omega arith
+
+pub loop-i-preserved : goal.loop-i-preserved
+loop-i-preserved c =
+    let t = c.before.before.before.before in
+    let s = t.before in (
+      omega arith,
+      sought-next s.args.count s.args.numbers.now s.args.words.now s.requires.0 s.requires.1 s.args.number s.args.word t.loop-i.i
+          c.loop-i-test.true c.if-numbers-i.false t.loop-i.invariant.1,
+    )
+
+pub returns : goal.returns
+returns c =
+    let t = c.before in
+    let s = t.before in
+    sought-last s.args.count s.args.numbers.now s.args.words.now s.requires.0 s.requires.1 s.args.number s.args.word t.loop-i.i
+    t.loop-i.invariant.0 (omega (arith, c.loop-i-test.false)) t.loop-i.invariant.1

@@ -1,0 +1,107 @@
+-- `catalogues::listing::list` meets its contract.
+use native.Mathlib.Omega.{arith}
+use Prim.Native.Nat.{◌+◌, ◌-◌, ◌*◌, ◌≤◌}
+use mathlib.Core.Bool.{true}
+use mathlib.Core.Path.{◌≡◌, sym, ◌∙◌}
+use lib.ListN.{length}
+use borrow.Author.Tests.{not-true, not-false}
+use Rattle.fits_table.specs.Rows.{good_rows}
+use Rattle.catalogues.proofs.Listed.{none-listed, inside, row_wrong, pad_wrong, part-listed, least-is}
+use borrow.Author.Rules.{rules}
+use Rattle.catalogues.proofs.listing.list.Lts as lts
+use Rattle.catalogues.proofs.listing.list.Tie as tie
+use Rattle.catalogues.proofs.listing.list.Reads as reads
+use Rattle.catalogues.proofs.listing.list.Goals as goal
+use Rattle.catalogues.proofs.listing.list.Goals.{Start}
+
+abbrev In-Rows : Type 0
+In-Rows = lts.After-known_told tie.the-claims reads.Pre reads.Post
+
+abbrev Else-not-rows_good : Type 0
+Else-not-rows_good = lts.Else1 tie.the-claims reads.Pre reads.Post
+
+pub returns-in_default : goal.returns-in_default
+returns-in_default c =
+    let e = c.before.before.before.before.before in
+    let s = c.before.before.before.before.before.before.before.before.before.before in (
+      rw (← none-listed s.args.part s.args.given.now e.table_rows.ensures e.enum_told-1.given.1) c.refuse.ensures.0,
+      omega (arith, c.refuse.ensures.1),
+    )
+
+-- the table's rows are inside it
+abbrev start : In-Rows → Start
+start k = k.before.before.before.before.before.before
+
+rows_inside : (k : In-Rows) → (k.rows-1.given.0.0 ≤ 32768) × (5760 + 12 * k.rows-1.given.0.0 ≤ length (start k).args.given.now)
+rows_inside k = inside (start k).args.part (start k).args.given.now k.table_rows.ensures _ k.rows-1.given.1
+
+good : (c : Else-not-rows_good) → good_rows 0 (start c.before.before).args.given.now 5760 c.rows-1.given.0.0 ≡ true
+good c = sym c.rows_good.ensures ∙ not-false _ c.if-not-rows_good.false
+
+pub rows_good-requires : goal.rows_good-requires
+rows_good-requires c = record {
+  count_bound = (rows_inside c.before).0;
+  count_in_bounds = (rows_inside c.before).1;
+}
+
+pub returns-then-not-rows_good : goal.returns-then-not-rows_good
+returns-then-not-rows_good c =
+    let t = c.before.before.before.before.before in
+    let k = t.before.before in (
+      rw (← row_wrong (start k).args.part (start k).args.given.now k.table_rows.ensures _ k.rows-1.given.1
+          (sym t.rows_good.ensures ∙ not-true _ t.if-not-rows_good.true)) c.refuse-then-not-rows_good.ensures.0,
+      omega (arith, c.refuse-then-not-rows_good.ensures.1),
+    )
+
+pub overflow_mul-rows : goal.overflow_mul-rows
+overflow_mul-rows c = omega (arith, rows_inside c.before.before.before)
+
+pub overflow_add-rows : goal.overflow_add-rows
+overflow_add-rows c = omega (arith, rows_inside c.before.before.before)
+
+pub pad_zero-requires : goal.pad_zero-requires
+pad_zero-requires c = (rows_inside c.before.before.before).1
+
+pub returns-then-not-pad_zero : goal.returns-then-not-pad_zero
+returns-then-not-pad_zero c =
+    let t = c.before.before.before.before.before in
+    let e = t.before.before in
+    let k = e.before.before in (
+      rw (← pad_wrong (start k).args.part (start k).args.given.now k.table_rows.ensures _ k.rows-1.given.1 (good e)
+          (sym t.pad_zero.ensures ∙ not-true _ t.if-not-pad_zero.true)) c.refuse-then-not-pad_zero.ensures.0,
+      omega (arith, c.refuse-then-not-pad_zero.ensures.1),
+    )
+
+-- part and rows are small
+pub overflow_mul-part : goal.overflow_mul-part
+overflow_mul-part c = omega (arith, (start c.before.before.before.before.before).requires.0)
+
+pub overflow_sub-rows : goal.overflow_sub-rows
+overflow_sub-rows c = omega (arith, c.at_most-first.ensures)
+
+pub put_lines-requires : goal.put_lines-requires
+put_lines-requires c =
+    let m = c.before.before in
+    let e = m.before.before.before.before in
+    let k = e.before.before in
+    record {
+      rows_bound = rows_inside k;
+      rows_value = good e;
+      count_bound = (omega (arith, m.at_most-count.ensures, m.at_most-first.ensures), omega (arith, m.at_most-count.ensures, (start k).requires.1));
+    }
+
+pub returns : goal.returns
+returns c =
+    let m = c.before.before.before.before.before in
+    let t = m.before.before in
+    let e = t.before.before in
+    let k = e.before.before in
+    let s = start k in
+    let rows = k.rows-1.given.0.0 in (
+      rw (← part-listed s.args.part s.args.given.now k.table_rows.ensures rows k.rows-1.given.1 (good e)
+          (sym t.pad_zero.ensures ∙ not-false _ t.if-not-pad_zero.false) m.at_most-first.result m.at_most-count.result
+          (least-is m.at_most-first.result (8192 * s.args.part) rows m.at_most-first.ensures.1.1.0 m.at_most-first.ensures.1.1.1)
+          (least-is m.at_most-count.result (rows - m.at_most-first.result) 8192 m.at_most-count.ensures.1.1.0 m.at_most-count.ensures.1.1.1))
+          c.put_lines.ensures.0,
+      omega (arith, c.put_lines.ensures.1, m.at_most-count.ensures),
+    )

@@ -1,0 +1,19 @@
+use mathlib.Core.Path.{sym, ap}
+use Prim.Native.Nat.{ℕ}
+use native.Mathlib.Omega.{arith}
+use lib.Dec.{eqb}
+use Rattle.hashing.proofs.Bounds.{limits}
+use Rattle.pages.proofs.Parts.{part-item}
+use borrow.Author.Rules.{rules}
+use Rattle.entry_reach.proofs.newcomers.has_room.Goals as goal
+
+pub overflow_sub-end : goal.overflow_sub-end
+overflow_sub-end c = omega (arith, (limits _ c.requires.parameters_value).places-least)
+
+pub bounds-numbers-page : goal.bounds-numbers-page
+bounds-numbers-page c = let pre = c.requires in omega (arith, pre.1.1, (limits _ pre.0).places-least)
+
+pub returns : goal.returns
+returns c =
+    let s = c.before.before.before in
+    ap (λ (n : ℕ). eqb n 0) (sym (part-item _ _ _ _ (omega (arith, (limits _ s.requires.parameters_value).places-least))))

@@ -1,0 +1,48 @@
+use mathlib.Core.Path.{refl}
+use native.Mathlib.Omega.{arith}
+use lib.Seq.{slice}
+use borrow.Author.Rules.{rules}
+use Rattle.hashing.proofs.Bounds.{limits}
+use Rattle.page_separator.proofs.Cutting.{separator_most}
+use Rattle.entry_reach.proofs.Settled.{page-lowered}
+use Rattle.entry_reach.proofs.newcomers.lower_page.Goals as goal
+
+pub settle_under-settled-requires : goal.settle_under-settled-requires
+settle_under-settled-requires c =
+    let p = c.requires in
+    record {
+      signers = p.0;
+      probing = p.1.0;
+      most_bound = (p.1.1.0, refl);
+    }
+
+pub overflow_cast-planned : goal.overflow_cast-planned
+overflow_cast-planned c =
+    let s = c.before.before.before.before.before.before.before.before.before.before.before in
+    let a = s.args in
+    record {
+      fits =
+          omega (
+            arith,
+            c.settle_under-settled.ensures.settlement.separator,
+            separator_most a.parameters a.page (slice a.from a.reach a.waiting.now) a.most,
+            s.requires.most_bound.0,
+          );
+    }
+
+pub store_sources-requires : goal.store_sources-requires
+store_sources-requires c =
+    let s = c.before.before.before.before.before.before.before.before.before.before.before.before.before in
+    let most = (limits _ s.requires.signers.valid).places-most in
+    let done = c.settle_under-settled.ensures in
+    record {
+      places_in_bounds = (s.requires.most_bound.1.1, most);
+      kept_le_places = (done.1, omega (arith, done.0.size, done.1, most));
+    }
+
+pub returns : goal.returns
+returns c =
+    let s = c.before.before.before.before.before.before.before.before.before.before.before.before.before.before.before.before in
+    let a = s.args in
+    let d = c.settle_under-settled in
+    page-lowered a.parameters a.page a.most (slice a.from a.reach a.waiting.now) a.reach a.waiting.now d.new.1.1.1.0 d.new.1.1.1.1.1.1.1.0 a.pool.now c.store_sources.new.0 a.planned.now d.result d.ensures.0 c.store_sources.ensures s.requires.most_bound.1.0

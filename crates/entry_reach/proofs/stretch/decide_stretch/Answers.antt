@@ -1,0 +1,134 @@
+use mathlib.Core.Path.{◌≡◌, sym, ◌∙◌}
+use Prim.Native.Nat.{ℕ, ◌≤◌, ◌<◌}
+use native.Mathlib.Omega.{arith}
+use lib.ListN.{length}
+use lib.Seq.{length-take-le}
+use Rattle.hashing.proofs.Bounds.{Limits, limits}
+use Rattle.placement.specs.File.{File}
+use Rattle.placement.specs.Hash.{lent}
+use Rattle.entry_reach.specs.declared.blocks.Reach.TheVariants.{Ends}
+use Rattle.entry_reach.specs.Entry.{new_star_lem, entry_start, reach_answer}
+use Rattle.entry_reach.proofs.Reached.{home-starts}
+use Rattle.entry_reach.proofs.Holding.{unsound-answer, overflows_answer, last-least, ends_decided}
+use borrow.Author.Rules.{rules}
+use Rattle.entry_reach.proofs.stretch.decide_stretch.Lts as lts
+use Rattle.entry_reach.proofs.stretch.decide_stretch.Tie as tie
+use Rattle.entry_reach.proofs.stretch.decide_stretch.Reads as reads
+use Rattle.entry_reach.proofs.stretch.decide_stretch.Goals as goal
+use Rattle.entry_reach.proofs.stretch.decide_stretch.Goals.{After-plan_entry, Start}
+
+abbrev In-Unsound : Type 0
+In-Unsound = lts.After-known_told tie.the-claims reads.Pre reads.Post
+
+abbrev In-Overflows : Type 0
+In-Overflows = lts.After-enum_told tie.the-claims reads.Pre reads.Post
+
+abbrev After-named_from-page : Type 0
+After-named_from-page = lts.After-named_from tie.the-claims reads.Pre reads.Post
+
+abbrev file : Start → File
+file s = lent s.args.separators.now s.args.numbers.now s.args.words.now s.args.owners.now
+
+bounds : (s : Start) → Limits s.args.geometry.parameters
+bounds s = limits s.args.geometry.parameters s.requires.enters.ready.homing.valid
+
+home-is : (s : Start) → s.args.star.home ≡ entry_start s.args.geometry.parameters s.args.geometry.growth s.args.star.number
+home-is s = s.requires.enters.homed ∙ home-starts s.args.geometry.parameters s.args.geometry.growth s.args.star.number
+
+-- from the plan on
+abbrev start : After-plan_entry → Start
+start c = c.before.before.before.before.before.before.before.before.before.before.before.before.before
+
+longer : (c : After-plan_entry) → (start c).args.geometry.parameters.pages ≤ length c.plan_entry.new.1.1.1.1.1.1.1.1.0
+longer c = omega (arith, (start c).requires.pages_in_bounds, c.plan_entry.auto.planned)
+
+module _ (c : After-plan_entry) (last : ℕ) (v : c.plan-entry.result ≡ Ends last) where
+  answer : Ends last ≡ reach_answer (start c).args.geometry.parameters (start c).args.geometry.growth (file (start c)) (new_star_lem (start c).args.star.number (start c).args.star.word (start c).args.star.owner)
+  answer = sym v ∙ c.plan-entry.ensures.0 (start c).args.star.word (start c).args.star.owner
+
+  low : (start c).args.star.home ≤ last
+  low =
+      let s = start c in
+      rw (home-is s) (last-least s.args.geometry.parameters s.args.geometry.growth (file s) s.args.star.number s.args.star.word s.args.star.owner last answer)
+
+  high : last < (start c).args.geometry.parameters.pages
+  high = (c.plan-entry.ensures.1 (start c).args.star.word (start c).args.star.owner last v).0
+
+pub plan_entry-requires : goal.plan_entry-requires
+plan_entry-requires c =
+    let s = c.before.before.before.before.before.before.before.before.before.before.before.before.before in
+    let e = s.requires.enters in
+    record {
+      ready = e.ready;
+      pool_len = s.requires.pool_len;
+      pages_in_bounds = s.requires.pages_in_bounds;
+      number_value = e.number;
+      unheld = e.unheld;
+      home_value = (e.homed, s.requires.home_value.0);
+      extends = s.requires.home_value.1;
+    }
+
+pub slice_bounds-named_from-end : goal.slice_bounds-named_from-end
+slice_bounds-named_from-end c = longer c.before.before.before.before.before.before.before.before.before.before
+
+pub slice_bounds-named_from-end-in-Ends : goal.slice_bounds-named_from-end-in-Ends
+slice_bounds-named_from-end-in-Ends c =
+    let x = c.before.before.before.before.before.before.before.before.before.before in
+    sym (length-take-le (start x).args.geometry.parameters.pages x.plan_entry.new.1.1.1.1.1.1.1.1.0 (longer x))
+
+pub named_from-page-requires : goal.named_from-page-requires
+named_from-page-requires c =
+    let s = c.before.before.before.before.before.before.before.before.before.before.before.before.before.before.before.before.before.before.before.before.before.before.before in
+    let planned = c.plan_entry in
+    record {
+      homing = s.requires.enters.ready.homing;
+      separators_len = length-take-le s.args.geometry.parameters.pages planned.new.1.1.1.1.1.1.1.1.0 (longer c.before.before.before.before.before.before.before.before.before.before);
+      home_value = s.requires.enters.homed;
+    }
+
+pub overflow_add-result : goal.overflow_add-result
+overflow_add-result c =
+    let x = c.before.before.before.before.before.before.before.before.before.before.before in
+    let v = c.last-1.given in
+    omega (arith, high x v.0.0 v.1, (bounds (start x)).pages-most)
+
+pub overflow_sub-result : goal.overflow_sub-result
+overflow_sub-result c =
+    let x = c.before.before.before.before.before.before.before.before.before.before.before.before in
+    let v = c.last-1.given in
+    omega (arith, low x v.0.0 v.1)
+
+abbrev after-plan_entry : In-Unsound → After-plan_entry
+after-plan_entry c = c.before.before.before.before.before.before.before.before.before
+
+pub returns-in-Unsound : goal.returns-in-Unsound
+returns-in-Unsound c =
+    let x = c.before.before.before.before.before.before.before.before.before.before in
+    let s = start x in
+    let v = c.page-1.given in
+    let done = unsound-answer s.args.geometry.parameters s.args.geometry.growth (file s) s.args.star.number s.args.star.word s.args.star.owner v.0.0 (sym v.1 ∙ x.plan_entry.ensures.by_index s.args.star.word s.args.star.owner) in
+    record { answers = done.0; files = done.1; feasible = tt }
+
+abbrev after-plan_entry-2 : In-Overflows → After-plan_entry
+after-plan_entry-2 c = c.before.before.before.before.before.before.before.before
+
+pub returns-in-Overflows : goal.returns-in-Overflows
+returns-in-Overflows c =
+    let x = c.before.before.before.before.before.before.before.before.before in
+    let s = start x in
+    let done = overflows_answer s.args.geometry.parameters s.args.geometry.growth (file s) s.args.star.number s.args.star.word s.args.star.owner (sym c.enum_told-1.given.1 ∙ x.plan_entry.ensures.by_index s.args.star.word s.args.star.owner) in
+    record { answers = done.0; files = done.1; feasible = tt }
+
+abbrev after-plan_entry-3 : After-named_from-page → After-plan_entry
+after-plan_entry-3 c = c.before.before.before.before.before.before.before.before.before.before
+
+pub returns-in-Ends : goal.returns-in-Ends
+returns-in-Ends c =
+    let x = c.before.before.before.before.before.before.before.before.before.before.before in
+    let s = start x in
+    let v = c.last-1.given in
+    let last = v.0.0 in
+    ends_decided s.args.geometry.parameters s.args.geometry.growth (file s) s.args.star.number s.args.star.word s.args.star.owner last (answer x last v.1)
+    x.plan_entry.new.1.1.1.1.1.1.0 x.plan_entry.new.1.1.1.1.1.1.1.1.0 s.requires.enters.ready.sized (high x last v.1)
+    (longer x) (λ word owner l e. x.plan_entry.ensures.applies word owner l (v.1 ∙ e))
+    s.args.star.home c.named_from-page.result (home-is s) c.named_from-page.ensures

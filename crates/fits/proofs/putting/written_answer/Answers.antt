@@ -1,0 +1,14 @@
+-- `fits::putting::written_answer` meets its contract.
+use mathlib.Core.Path.{◌∙◌, sym, ap}
+use borrow.Author.Rules.{rules}
+use Rattle.calls.specs.Answers.{counted, due_said}
+use Rattle.fits.specs.Written.{length_said}
+use Rattle.fits.proofs.putting.written_answer.Goals as goal
+
+pub returns-in-Length : goal.returns-in-Length
+unfolding length_said counted
+returns-in-Length c = sym (ap length_said c.answer-1.given.1)
+
+pub returns-in-Refused : goal.returns-in-Refused
+unfolding length_said due_said
+returns-in-Refused c = c.due_answer.ensures ∙ sym (ap length_said c.answer-in-Refused-1.given.1)

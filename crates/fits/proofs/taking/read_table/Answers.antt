@@ -1,0 +1,20 @@
+-- `fits::taking::read_table` meets its contract.
+use Rattle.hashing.proofs.Bounds.{passed, failed}
+use Rattle.exchange.specs.Tables.{read_under}
+use Rattle.call_guard.proofs.Turned.{in_turn_lem}
+use borrow.Author.Rules.{rules}
+use Rattle.fits.proofs.taking.read_table.Goals as goal
+
+pub turn_away-requires : goal.turn_away-requires
+turn_away-requires c = failed _ _ c.at_rest.ensures c.if-not-at_rest.true
+
+pub returns-then-not-at_rest : goal.returns-then-not-at_rest
+unfolding read_under
+returns-then-not-at_rest c = c.turn_away.ensures _
+
+pub returns : goal.returns
+unfolding read_under
+returns c =
+    let d = c.before.before.before.before.before.before.before.before.before.before.before.before.before.before.before in
+    let r = d.before.before.before.before.before.before.before.before.before in
+    rw (in_turn_lem _ _ _ _ _ _ (passed _ _ r.at_rest.ensures r.if-not-at_rest.false)) d.read_closed.ensures

@@ -1,0 +1,65 @@
+-- `fits_pages::stored::place_rows` meets its contract.
+use mathlib.Core.Path.{refl, sym, ◌∙◌}
+use native.Mathlib.Omega.{arith}
+use lib.ListN.{length}
+use Rattle.hashing.proofs.Bounds.{limits}
+use Rattle.fits_pages.proofs.LaidRows.{no_room, overfull, all-stored, pasted_front, zeros-as_long}
+use borrow.Author.Rules.{rules}
+use borrow.Author.Tests.{not-true, not-false}
+use Rattle.fits_pages.proofs.stored.place_rows.Goals as goal
+
+pub returns-then-pool-rows : goal.returns-then-pool-rows
+returns-then-pool-rows c = let s = c.before.before.before.before.before.before.before.before.before in no_room _ s.args.given.now s.args.rows _ (omega (arith, c.if-pool-rows.true, s.requires.pool_len.0))
+
+pub plan_rows-requires : goal.plan_rows-requires
+plan_rows-requires c =
+    let s = c.before.before.before.before.before.before.before.before.before.before.before.before in
+    record {
+      homing = s.requires.ready.homing;
+      rows_bound = s.requires.rows_bound;
+      rows_value = s.requires.rows_value;
+      pool_len = s.requires.pool_len;
+      rows_in_bounds = omega arith;
+      planned_len = refl;
+    }
+
+pub returns-then-not-plan_rows : goal.returns-then-not-plan_rows
+returns-then-not-plan_rows c =
+    let d = c.before.before.before.before.before.before in
+    let s = d.before.before.before.before.before.before.before.before.before.before.before.before in
+    overfull _ s.args.given.now s.args.rows _ _ _ (rw (not-true d.plan_rows.result c.if-not-plan_rows.true) at d.plan_rows.ensures.plans_rows)
+
+pub slice_bounds-copy_8-end : goal.slice_bounds-copy_8-end
+slice_bounds-copy_8-end c = sym c.plan_rows.ensures.planned_len_2
+
+pub copy_8-requires : goal.copy_8-requires
+copy_8-requires c =
+    let d = c.before.before.before.before.before.before.before.before.before in
+    let s = d.before.before.before.before.before.before.before.before.before.before.before.before in
+    let most = (limits s.args.geometry.parameters s.requires.ready.homing.valid).pages-most in
+    record {
+      in_bounds = omega (arith, s.requires.ready.sized.of_separators);
+      in_bounds_2 = omega (arith, d.plan_rows.ensures.planned_len_2, most);
+    }
+
+pub store_rows-requires : goal.store_rows-requires
+store_rows-requires c =
+    let d = c.before.before.before.before.before.before.before.before.before.before.before.before.before.before.before in
+    let s = d.before.before.before.before.before.before.before.before.before.before.before.before in
+    let same = d.plan_rows.auto.pool in
+    let z = s.requires.ready.sized in record {
+      rows_bound = s.requires.rows_bound;
+      rows_value = s.requires.rows_value;
+      numbers_len = (omega (arith, same, s.requires.pool_len.0, z.of_numbers), (omega (arith, same, s.requires.pool_len.0, z.of_words_lem), omega (arith, same, s.requires.pool_len.0, z.of_owners)));
+    }
+
+pub returns : goal.returns
+returns c =
+    let d = c.before.before.before.before.before.before.before.before.before.before.before.before.before.before.before.before.before.before.before.before.before.before in
+    let s = d.before.before.before.before.before.before.before.before.before.before.before.before in
+    let e = c.store_rows.ensures in
+    let same = d.plan_rows.auto.pool in
+    let chosen = c.before.before.before.before.before.before.before.before.before.before.before.before.before.before.before.before.before in
+    all-stored _ s.args.given.now s.args.rows _ _ _ (rw (not-false d.plan_rows.result chosen.if-not-plan_rows.false) at d.plan_rows.ensures.plans_rows) _ _ _ _
+    (c.copy_8.ensures ∙ pasted_front _ _ _ s.requires.ready.sized.of_separators) e.0 e.1.0
+    (e.1.1 ∙ zeros-as_long (length s.args.owners.now) (length d.plan_rows.new.1.1.1.1.0) (omega (arith, same, s.requires.pool_len.0, s.requires.ready.sized.of_owners)))

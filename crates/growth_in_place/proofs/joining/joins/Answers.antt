@@ -1,0 +1,21 @@
+use borrow.Author.Tests.{eq-eqb, ne_eqb}
+use Rattle.growth_in_place.specs.Expansion.{joins, joins_at}
+use Rattle.growth_in_place.proofs.joining.joins.Goals as goal
+
+pub returns-then-number-eq0 : goal.returns-then-number-eq0
+unfolding joins_at
+returns-then-number-eq0 c = rw (eq-eqb _ _ c.if-number-eq0.true)
+
+pub home_grown-requires : goal.home_grown-requires
+home_grown-requires c =
+    let pre = c.requires in
+    record {
+      table_value = pre.0.table;
+      parameters_value = pre.0.valid;
+      growth_value = pre.0.growth;
+      value = rw (ne_eqb _ _ c.if-number-eq0.false) at pre.1.0;
+    }
+
+pub returns : goal.returns
+unfolding joins_at joins
+returns c = rw (ne_eqb _ _ c.if-number-eq0.false, c.home_grown.ensures, c.requires.added_value)

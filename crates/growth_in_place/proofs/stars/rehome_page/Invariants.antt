@@ -1,0 +1,19 @@
+use mathlib.Core.Path.{◌≡◌, refl, ◌∙◌, sym, ap}
+use lib.Seq.{get_or-drop}
+use Rattle.growth_in_place.proofs.Joiners.{home-item, length-homes}
+use Prim.Native.Nat.{ℕ, ◌+◌, ◌*◌, ◌-◌, ◌≤◌}
+use native.Mathlib.Omega.{arith}
+use lib.ListN.{length, drop, length-drop}
+use borrow.Author.Rules.{rules}
+use Rattle.hashing.specs.Geometry.{grown}
+use Rattle.placement.specs.Shape.{homes_of}
+use Rattle.buffers.proofs.Copies.{Copied, none, turn, done, unread}
+use Rattle.growth_in_place.proofs.stars.rehome_page.Given as goal
+
+abbrev pub invariant-loop-i : goal.invariant-loop-i
+invariant-loop-i l =
+    (l.i ≤ l.geometry.parameters.places)
+    × Copied l.initial.homes (l.page * l.geometry.parameters.places) (drop (l.page * l.geometry.parameters.places) (homes_of l.geometry.parameters (grown l.geometry.parameters l.geometry.growth) l.numbers)) l.homes l.i
+
+abbrev pub decreases-loop-i : goal.decreases-loop-i
+decreases-loop-i l = l.geometry.parameters.places - l.i

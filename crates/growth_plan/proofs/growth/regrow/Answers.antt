@@ -1,0 +1,65 @@
+-- `growth_plan::growth::regrow` meets its contract.
+use mathlib.Core.Path.{◌≡◌, sym, subst}
+use mathlib.Core.Bool.{Bool, true, false}
+use Prim.Native.Nat.{ℕ}
+use Rattle.hashing.specs.declared.Parameters.{Parameters}
+use Rattle.hashing.specs.declared.Growth.{Growth}
+use Rattle.placement.specs.File.{File}
+use Rattle.page_plan.specs.declared.outcome.Outcome.{Outcome}
+use Rattle.growth_plan.specs.Growth.{state_after, Movable, growth_answer, growth_file}
+use Rattle.growth_plan.proofs.growth.regrow.Lts as lts
+use Rattle.growth_plan.proofs.growth.regrow.Tie as tie
+use Rattle.growth_plan.proofs.growth.regrow.Reads as reads
+use Rattle.growth_plan.proofs.growth.regrow.Goals as goal
+use Rattle.growth_plan.proofs.growth.regrow.Goals.{After-grow, After-shrink}
+
+abbrev After-slice_known-then-back-7-1 : Type 0
+After-slice_known-then-back-7-1 = lts.After-slice_known14 tie.the-claims reads.Pre reads.Post
+
+abbrev After-slice_known-14-1 : Type 0
+After-slice_known-14-1 = lts.After-slice_known21 tie.the-claims reads.Pre reads.Post
+
+-- either way
+movable : (b back : Bool) (p : Parameters) (g : Growth) → back ≡ b → Movable back p g → Movable b p g
+movable b back p g e m = subst (λ (x : Bool). Movable x p g) e m
+
+regrown : (b back : Bool) (p : Parameters) (g : Growth) (f f' : File) (r : Outcome) (page : ℕ) → back ≡ b
+    → (r ≡ growth_answer p g f (state_after b p g) page) × (f' ≡ growth_file p g f (state_after b p g))
+    → (r ≡ growth_answer p g f (state_after back p g) page) × (f' ≡ growth_file p g f (state_after back p g))
+regrown b back p g f f' r page e d = subst (λ (x : Bool). (r ≡ growth_answer p g f (state_after x p g) page) × (f' ≡ growth_file p g f (state_after x p g))) (sym e) d
+
+pub shrink-requires : goal.shrink-requires
+shrink-requires c =
+    let pre = c.requires in
+    record {
+      ready = pre.0;
+      pooled = pre.1.0;
+      movable = movable true _ _ _ c.if-back.true pre.1.1;
+    }
+
+abbrev after-shrink : After-slice_known-then-back-7-1 → After-shrink
+after-shrink c = c.before.before.before.before.before.before.before.before.before.before.before.before.before.before
+
+pub returns-then-back : goal.returns-then-back
+returns-then-back c = record {
+  value = (regrown true _ _ _ _ _ _ _ c.if-back.true c.shrink.ensures).0;
+  owners_value = (regrown true _ _ _ _ _ _ _ c.if-back.true c.shrink.ensures).1;
+}
+
+pub grow-requires : goal.grow-requires
+grow-requires c =
+    let pre = c.requires in
+    record {
+      ready = pre.0;
+      pooled = pre.1.0;
+      movable = movable false _ _ _ c.if-back.false pre.1.1;
+    }
+
+abbrev after-grow : After-slice_known-14-1 → After-grow
+after-grow c = c.before.before.before.before.before.before.before.before.before.before.before.before.before.before
+
+pub returns : goal.returns
+returns c = record {
+  value = (regrown false _ _ _ _ _ _ _ c.if-back.false c.grow.ensures).0;
+  owners_value = (regrown false _ _ _ _ _ _ _ c.if-back.false c.grow.ensures).1;
+}

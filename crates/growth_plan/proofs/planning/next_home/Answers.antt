@@ -1,0 +1,22 @@
+use Rattle.growth_plan.proofs.planning.next_home.Goals as goal
+
+pub item_shrunk-requires : goal.item_shrunk-requires
+item_shrunk-requires c =
+    let pre = c.requires in
+    record {
+      homing = pre.0;
+      growth_value = rw c.if-back.true at pre.1.0;
+      value = pre.1.1;
+    }
+
+pub returns-then-back : goal.returns-then-back
+returns-then-back c = rw c.if-back.true c.item_shrunk.ensures
+
+pub item_grown-requires : goal.item_grown-requires
+item_grown-requires c = let pre = c.requires in record {
+  homing = pre.0;
+  value = pre.1.1;
+}
+
+pub returns : goal.returns
+returns c = rw c.if-back.false c.item_grown.ensures

@@ -1,0 +1,9 @@
+use borrow.Author.Rules.{rules}
+use Rattle.heatherplane.proofs.Telling.{told_same}
+use mathlib.Core.Path.{◌∙◌}
+use Rattle.heatherplane.proofs.reading.heatherplane_due.Goals as goal
+
+pub returns : goal.returns
+returns c =
+    let made = c.before.before.before.before in
+    told_same _ c.reply_of.ensures made.record_of-growth.ensures (c.due_answer.ensures ∙ rw made.record_of-growth.ensures at c.due-answer.ensures)

@@ -1,0 +1,5 @@
+use borrow.Author.Rules.{rules}
+use Rattle.heatherplane.proofs.trays.added_reply.Goals as goal
+
+pub returns : goal.returns
+returns c = rw c.placed_answer-answer.ensures

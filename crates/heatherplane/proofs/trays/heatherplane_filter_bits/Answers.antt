@@ -1,0 +1,6 @@
+use borrow.Author.Rules.{rules}
+use mathlib.Core.Path.{◌∙◌, ap}
+use Rattle.heatherplane.proofs.trays.heatherplane_filter_bits.Goals as goal
+
+pub returns : goal.returns
+returns c = rw c.bits.ensures at c.bits_reply.ensures

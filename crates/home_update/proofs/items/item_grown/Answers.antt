@@ -1,0 +1,18 @@
+use borrow.Author.Tests.{eq-eqb, ne_eqb}
+use Rattle.home_update.proofs.items.item_grown.Goals as goal
+
+pub returns-then-number-eq0 : goal.returns-then-number-eq0
+returns-then-number-eq0 c = rw (eq-eqb _ _ c.if-number-eq0.true)
+
+pub home_grown-requires : goal.home_grown-requires
+home_grown-requires c =
+    let pre = c.requires in
+    record {
+      table_value = pre.0.table;
+      parameters_value = pre.0.valid;
+      growth_value = pre.0.growth;
+      value = rw (ne_eqb _ _ c.if-number-eq0.false) at pre.1;
+    }
+
+pub returns : goal.returns
+returns c = rw (ne_eqb _ _ c.if-number-eq0.false) c.home_grown.ensures

@@ -1,0 +1,19 @@
+use borrow.Author.Tests.{eq-eqb, ne_eqb}
+use Rattle.home_update.proofs.items.item_shrunk.Goals as goal
+
+pub returns-then-number-eq0 : goal.returns-then-number-eq0
+returns-then-number-eq0 c = rw (eq-eqb _ _ c.if-number-eq0.true)
+
+pub home_shrunk-requires : goal.home_shrunk-requires
+home_shrunk-requires c =
+    let pre = c.requires in
+    record {
+      table_value = pre.0.table;
+      parameters_value = pre.0.valid;
+      growth_value = pre.0.growth;
+      growth_value_2 = pre.1.0;
+      value = rw (ne_eqb _ _ c.if-number-eq0.false) at pre.1.1;
+    }
+
+pub returns : goal.returns
+returns c = rw (ne_eqb _ _ c.if-number-eq0.false) c.home_shrunk.ensures

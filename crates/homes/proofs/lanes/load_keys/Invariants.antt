@@ -1,0 +1,16 @@
+-- `homes::lanes::load_keys` meets its contract. The invariant: the first i places are filled.
+use mathlib.Core.Path.{◌≡◌, refl}
+use mathlib.Core.List.{◌++◌}
+use Prim.Native.Nat.{ℕ, ◌+◌, ◌-◌, ◌≤◌, ◌<◌}
+use native.Mathlib.Omega.{arith}
+use lib.ListN.{length, get_or, drop}
+use Rattle.homes.specs.Lanes.{block_at}
+use Rattle.homes.specs.Indexed.{lanes}
+use Rattle.homes.proofs.Lists.{lane-none, lane-next, lane-end}
+use Rattle.homes.proofs.lanes.load_keys.Given as goal
+
+abbrev pub invariant-loop-i : goal.invariant-loop-i
+invariant-loop-i l = (l.i ≤ 8) × (l.block ≡ lanes l.i (λ j. get_or l.keys (l.at + j) 0) ++ drop l.i l.initial.block)
+
+abbrev pub decreases-loop-i : goal.decreases-loop-i
+decreases-loop-i l = 8 - l.i

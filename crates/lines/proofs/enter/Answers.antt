@@ -1,0 +1,49 @@
+-- `lines::enter` meets its contract.
+use Prim.Native.Nat.{suc, ◌<◌}
+use native.Mathlib.Numerals.{add-one}
+use native.Mathlib.Omega.{arith}
+use mathlib.Core.List.{◌∷◌}
+use mathlib.Core.Path.{◌≡◌, sym, ap, ◌∙◌}
+use lib.ListN.{length, take, drop}
+use lib.Seq.{length-take-le}
+use Rattle.lines.specs.Grammar.{fields, enter_from}
+use Rattle.lines.specs.Shape.{field_length}
+use Rattle.lines.proofs.Fields.{fields-more, rest-is}
+use Rattle.lines.proofs.Commands.{enter_short, enter_wrong}
+use borrow.Author.Rules.{rules}
+use Rattle.lines.proofs.enter.Lts as lts
+use Rattle.lines.proofs.enter.Tie as tie
+use Rattle.lines.proofs.enter.Reads as reads
+use Rattle.lines.proofs.enter.Goals as goal
+
+abbrev Else-a-operands : Type 0
+Else-a-operands = lts.Else1 tie.the-claims reads.Pre reads.Post
+
+pub returns-then-a-operands : goal.returns-then-a-operands
+returns-then-a-operands c = sym (enter_short _ (sym c.first_blank-a.ensures.0 ∙ c.if-a-operands.true))
+
+pub slice_bounds-read_natural-end : goal.slice_bounds-read_natural-end
+slice_bounds-read_natural-end c = sym (length-take-le _ _ c.first_blank-a.ensures.1)
+
+-- the number is the first field
+split :
+    (c : Else-a-operands) →
+    let l = c.before.before.before.args.operands.now in
+    let k = c.before.first-blank.result in
+    enter_from (fields l) ≡ enter_from (take k l ∷ fields (drop (suc k) l))
+split c =
+    let l = c.before.before.before.args.operands.now in
+    let within : field_length l < length l = omega (arith, c.before.first-blank.ensures, c.if1.false) in
+    rw c.before.first-blank.ensures.0 (ap enter_from (fields-more l within))
+
+pub returns-in_default : goal.returns-in_default
+returns-in_default c =
+    let at = c.before.before.before.before.before in
+    sym (split at ∙ enter_wrong _ _ (sym c.read_natural.ensures ∙ c.enum_told-1.given.1))
+
+pub returns : goal.returns
+returns c =
+    let k = c.first_blank-a.result in
+    rw (add-one k, rest-is) at
+    (c.enter_at.ensures _ (sym c.read_natural.ensures ∙ c.number-1.given.1))
+    ∙ sym (split c.before.before.before.before.before.before.before)

@@ -1,0 +1,13 @@
+-- `own_stars::finding::find_own` meets its contract.
+use Prim.Native.Nat.{◌-◌, ◌*◌, ◌≤◌}
+use native.Mathlib.Nat.{mul-le-mul}
+use native.Mathlib.Omega.{arith}
+use borrow.Author.Rules.{rules}
+use Rattle.own_stars.proofs.Placing.{Finding, finding-none, finding-own, finding-guest, finding-all}
+use Rattle.own_stars.proofs.finding.find_own.Given as goal
+
+abbrev pub invariant-loop-i : goal.invariant-loop-i
+invariant-loop-i l = Finding l.places l.page l.numbers l.words l.owners l.homes l.own l.i
+
+abbrev pub decreases-loop-i : goal.decreases-loop-i
+decreases-loop-i l = l.places - l.i

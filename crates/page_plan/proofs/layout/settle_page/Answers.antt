@@ -1,0 +1,47 @@
+use mathlib.Core.Path.{refl}
+use native.Mathlib.Omega.{arith}
+use lib.Seq.{slice}
+use Rattle.hashing.proofs.Bounds.{limits}
+use Rattle.page_plan.proofs.Stretch.{page-planned, separator_byte}
+use borrow.Author.Rules.{rules}
+use Rattle.page_plan.proofs.layout.settle_page.Goals as goal
+
+pub settle-settled-requires : goal.settle-settled-requires
+settle-settled-requires c =
+    let p = c.requires in
+    record {
+      signers = p.0;
+      probing = p.1.0;
+      slots_len = refl;
+      signable = p.1.1.0;
+    }
+
+pub overflow_cast-planned : goal.overflow_cast-planned
+overflow_cast-planned c =
+    let s = c.before.before.before.before.before.before.before.before.before.before.before.before in
+    let a = s.args in
+    record {
+      fits =
+          omega (
+            arith,
+            c.settle-settled.ensures.settles.separator,
+            separator_byte a.parameters a.page (slice a.from a.reach a.waiting.now) (limits _ s.requires.signers.valid).bits_most,
+          );
+    }
+
+pub store_sources-requires : goal.store_sources-requires
+store_sources-requires c =
+    let s = c.before.before.before.before.before.before.before.before.before.before.before.before.before.before in
+    let most = (limits _ s.requires.signers.valid).places-most in
+    let done = c.settle-settled.ensures in
+    record {
+      places_in_bounds = (s.requires.page_in_bounds.1, most);
+      kept_le_places = (done.1, omega (arith, done.0.size, done.1, most));
+    }
+
+pub returns : goal.returns
+returns c =
+    let s = c.before.before.before.before.before.before.before.before.before.before.before.before.before.before.before.before.before in
+    let a = s.args in
+    let d = c.settle-settled in
+    page-planned a.parameters a.page (slice a.from a.reach a.waiting.now) a.reach a.waiting.now d.new.1.1.0 d.new.1.1.1.1.1.1.0 a.pool.now c.store_sources.new.0 a.planned.now d.result d.ensures.0 c.store_sources.ensures (omega (arith, s.requires))

@@ -1,0 +1,36 @@
+use mathlib.Core.Path.{◌∙◌}
+use native.Mathlib.Omega.{arith}
+use lib.ListN.{take, drop, length-drop}
+use Rattle.buffers.specs.Lists.{written}
+use Rattle.buffers.proofs.Written.{paste_written}
+use Rattle.page_store.proofs.Loop.{separators-written, separators-kept}
+use borrow.Author.Rules.{rules}
+use Rattle.page_store.proofs.in_turn.store.Goals as goal
+
+pub returns-then-all : goal.returns-then-all
+returns-then-all c =
+    let s = c.before.before.before.before.before.before.before.before.before.before.before.before.before.before.before.before.before.before.before.before.before.before.before.before in
+    let a = s.args in
+    let p = c.store_pages-all.ensures in
+    let w = written a.lo (take a.count (drop a.lo a.planned.now)) a.separators.now in
+    let copied = c.copy_8.ensures ∙ paste_written a.separators.now a.lo (drop a.lo a.planned.now) a.count (rw (length-drop a.lo a.planned.now) (omega (arith, s.requires))) in
+    record {
+      value = p.0;
+      separators_after = separators-written w a.separators.now p.0 c.if-all.true copied;
+      numbers_after = p.1.0;
+      words_after = p.1.1.0;
+      owners_after = p.1.1.1;
+    }
+
+pub returns-else-all : goal.returns-else-all
+returns-else-all c =
+    let a = c.args in
+    let p = c.store_pages-all.ensures in
+    let w = written a.lo (take a.count (drop a.lo a.planned.now)) a.separators.now in
+    record {
+      value = p.0;
+      separators_after = separators-kept w a.separators.now p.0 c.if-all.false;
+      numbers_after = p.1.0;
+      words_after = p.1.1.0;
+      owners_after = p.1.1.1;
+    }

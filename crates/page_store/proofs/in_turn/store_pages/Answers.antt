@@ -1,0 +1,95 @@
+use mathlib.Core.Path.{◌∙◌}
+use mathlib.Core.Logic.{⊎_elim}
+use Prim.Native.Nat.{◌-◌}
+use native.Mathlib.Omega.{arith}
+use Rattle.page_store.specs.Columns.{columns}
+use Rattle.page_store.proofs.Loop.{Fits, Storing, Stored, storing_none, storing_fits, storing_told, storing_skip, storing_store, storing_stop, storing_end}
+use Rattle.page_store.proofs.in_turn.store_pages.Goals as goal
+
+pub loop-turn-init : goal.loop-turn-init
+loop-turn-init c =
+    storing_none
+    (record { numbers = omega (arith, c.requires); words = omega (arith, c.requires); owners = omega (arith, c.requires) })
+    (record { numbers = omega (arith, c.requires); words = omega (arith, c.requires); owners = omega (arith, c.requires) })
+
+pub page_in_turn-page-requires : goal.page_in_turn-page-requires
+page_in_turn-page-requires c = omega (arith, c.loop-turn-test.true, c.requires)
+
+pub page_differs-requires : goal.page_differs-requires
+page_differs-requires c = record {
+  places_in_bounds = (storing_fits c.loop-turn.invariant c.page_in_turn-page.result c.page_in_turn-page.ensures c.loop-turn-test.true).0;
+  places_in_bounds_2 = (storing_fits c.loop-turn.invariant c.page_in_turn-page.result c.page_in_turn-page.ensures c.loop-turn-test.true).1.0;
+  places_in_bounds_3 = (storing_fits c.loop-turn.invariant c.page_in_turn-page.result c.page_in_turn-page.ensures c.loop-turn-test.true).1.1;
+}
+
+pub shape_of-numbers-then-stored-limit : goal.shape_of-numbers-then-stored-limit
+shape_of-numbers-then-stored-limit c = c.loop-turn.invariant.numbers.reached.kept
+
+pub shape_of-words-then-stored-limit : goal.shape_of-words-then-stored-limit
+shape_of-words-then-stored-limit c = c.loop-turn.invariant.words.reached.kept
+
+pub shape_of-owners-then-stored-limit : goal.shape_of-owners-then-stored-limit
+shape_of-owners-then-stored-limit c = c.loop-turn.invariant.owners.reached.kept
+
+pub returns-then-stored-limit : goal.returns-then-stored-limit
+returns-then-stored-limit c =
+    let m = c.loop-turn.invariant in
+    let h = c.loop-turn-test.true in
+    let t = storing_told m c.page_in_turn-page.result c.page_differs.result c.page_in_turn-page.ensures h c.page_differs.ensures ∙ c.if-page_differs.true in
+    let s = storing_stop m h c.if-stored-limit.true t in
+    record {
+      value = s.all;
+      numbers_after = s.numbers;
+      words_after = s.words;
+      owners_after = s.owners;
+    }
+
+pub store_page-requires : goal.store_page-requires
+store_page-requires c = record {
+  places_in_bounds = (storing_fits c.loop-turn.invariant c.page_in_turn-page.result c.page_in_turn-page.ensures c.loop-turn-test.true).0;
+  places_in_bounds_2 = (storing_fits c.loop-turn.invariant c.page_in_turn-page.result c.page_in_turn-page.ensures c.loop-turn-test.true).1.0;
+  places_in_bounds_3 = (storing_fits c.loop-turn.invariant c.page_in_turn-page.result c.page_in_turn-page.ensures c.loop-turn-test.true).1.1;
+}
+
+pub overflow_add-stored : goal.overflow_add-stored
+overflow_add-stored c = omega (arith, c.ranges.limit)
+
+pub overflow_add-turn : goal.overflow_add-turn
+overflow_add-turn c = omega arith
+
+pub loop-turn-smaller : goal.loop-turn-smaller
+loop-turn-smaller c = omega arith
+
+pub loop-turn-preserved : goal.loop-turn-preserved
+loop-turn-preserved c =
+    let m = c.loop-turn.invariant in
+    let page = c.page_in_turn-page.result in
+    let e = c.page_in_turn-page.ensures in
+    let h = c.loop-turn-test.true in
+    let t = storing_told m page c.page_differs.result e h c.page_differs.ensures in
+    ⊎_elim
+    (λ w.
+    rw w.15
+    (storing_store m page c.if-page_differs.numbers c.if-page_differs.words c.if-page_differs.owners e h w.1.left (t ∙ w.0.taken)
+    (w.12 ∙ w.5.ensures.0) (w.13 ∙ w.5.ensures.1.0) (w.14 ∙ w.5.ensures.1.1)))
+    (λ w. rw (w.1, w.2, w.3, w.4) (storing_skip m h (t ∙ w.0.left)))
+    c.if-page_differs.branch
+
+pub shape_of-numbers : goal.shape_of-numbers
+shape_of-numbers c = c.loop-turn.invariant.numbers.reached.kept
+
+pub shape_of-words : goal.shape_of-words
+shape_of-words c = c.loop-turn.invariant.words.reached.kept
+
+pub shape_of-owners : goal.shape_of-owners
+shape_of-owners c = c.loop-turn.invariant.owners.reached.kept
+
+pub returns : goal.returns
+returns c =
+    let s = storing_end c.loop-turn.invariant c.loop-turn-test.false in
+    record {
+      value = s.all;
+      numbers_after = s.numbers;
+      words_after = s.words;
+      owners_after = s.owners;
+    }

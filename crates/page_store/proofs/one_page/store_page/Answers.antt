@@ -1,0 +1,14 @@
+use mathlib.Core.Path.{◌∙◌}
+use native.Mathlib.Omega.{arith}
+use Rattle.page_store.proofs.OnePage.{page-copied}
+use borrow.Author.Rules.{rules}
+use Rattle.page_store.proofs.one_page.store_page.Goals as goal
+
+pub returns : goal.returns
+returns c =
+    let s = c.before.before.before.before.before.before.before.before.before.before.before.before.before.before.before.before.before.before.before in
+    let a = s.args in record {
+      numbers_after = c.copy_32.ensures ∙ page-copied a.places a.page a.poolnumbers.now a.numbers.now (omega (arith, s.requires));
+      words_after = c.copy_64.ensures ∙ page-copied a.places a.page a.poolwords.now a.words.now (omega (arith, s.requires));
+      owners_after = c.copy_8.ensures ∙ page-copied a.places a.page a.poolowners.now a.owners.now (omega (arith, s.requires));
+    }

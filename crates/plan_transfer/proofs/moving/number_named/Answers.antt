@@ -1,0 +1,12 @@
+use borrow.Author.Rules.{rules}
+use Rattle.plan_transfer.proofs.Fetched.{named_none, named-item-of, named_new}
+use Rattle.plan_transfer.proofs.moving.number_named.Goals as goal
+
+pub returns-then-source-eq0 : goal.returns-then-source-eq0
+returns-then-source-eq0 c = named_none _ _ _ c.if-source-eq0.true
+
+pub returns-then-item-numbers : goal.returns-then-item-numbers
+returns-then-item-numbers c = named-item-of _ _ _ c.if-source-eq0.false c.if-item-numbers.true
+
+pub returns : goal.returns
+returns c = named_new _ _ _ c.if-source-eq0.false c.if-item-numbers.false

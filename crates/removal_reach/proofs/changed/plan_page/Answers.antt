@@ -1,0 +1,46 @@
+use mathlib.Core.Path.{refl}
+use native.Mathlib.Omega.{arith}
+use lib.Seq.{slice}
+use Rattle.hashing.proofs.Bounds.{limits}
+use Rattle.page_plan.proofs.Stretch.{page-planned, separator_byte}
+use borrow.Author.Rules.{rules}
+use Rattle.removal_reach.proofs.changed.plan_page.Goals as goal
+
+pub settle_alone-settled-requires : goal.settle_alone-settled-requires
+settle_alone-settled-requires c =
+    let p = c.requires in
+    record {
+      parameters_value = p.0;
+      probing = p.1.0;
+      slots_len = refl;
+    }
+
+pub overflow_cast-planned : goal.overflow_cast-planned
+overflow_cast-planned c =
+    let s = c.before.before.before.before.before.before.before.before.before.before.before in
+    let a = s.args in
+    record {
+      fits =
+          omega (
+            arith,
+            c.settle_alone-settled.ensures.settles.separator,
+            separator_byte a.parameters a.page (slice a.from a.reach a.waiting.now) (limits _ s.requires.parameters_value).bits_most,
+          );
+    }
+
+pub store_sources-requires : goal.store_sources-requires
+store_sources-requires c =
+    let s = c.before.before.before.before.before.before.before.before.before.before.before.before.before in
+    let most = (limits _ s.requires.parameters_value).places-most in
+    let done = c.settle_alone-settled.ensures in
+    record {
+      places_in_bounds = (s.requires.page_in_bounds.1, most);
+      kept_le_places = (done.1, omega (arith, done.0.size, done.1, most));
+    }
+
+pub returns : goal.returns
+returns c =
+    let s = c.before.before.before.before.before.before.before.before.before.before.before.before.before.before.before.before in
+    let a = s.args in
+    let d = c.settle_alone-settled in
+    page-planned a.parameters a.page (slice a.from a.reach a.waiting.now) a.reach a.waiting.now d.new.1.0 d.new.1.1.1.1.1.0 a.pool.now c.store_sources.new.0 a.planned.now d.result d.ensures.0 c.store_sources.ensures (omega (arith, s.requires))

@@ -1,0 +1,50 @@
+use Prim.Native.Nat.{◌*◌, ◌-◌, ◌≤◌}
+use native.Mathlib.Numerals.{add-one}
+use native.Mathlib.Omega.{arith}
+use mathlib.Core.Path.{◌≡◌, ap, ◌∙◌}
+use lib.ListN.{length, take}
+use lib.Seq.{take_all, length-sets}
+use Rattle.lines.specs.Programs.{Stands}
+use Rattle.lines.proofs.Programs.{start-stands, block_more}
+use Rattle.sessions.specs.Commands.{answering, run_in}
+use Rattle.sessions.proofs.blocks.answer_block.Goals as goal
+use Rattle.sessions.proofs.blocks.answer_block.Goals.{At-loop-i}
+
+same_size : (c : At-loop-i) → length c.loop-i.out ≡ length c.args.out.now
+same_size c = ap length c.loop-i.invariant.2.text.buffer ∙ simp length-sets
+
+pub loop-i-init : goal.loop-i-init
+loop-i-init c = (omega arith, omega arith, start-stands _ _ _ _)
+
+pub bounds-block-i : goal.bounds-block-i
+bounds-block-i c = omega arith
+
+pub take_byte-step-requires : goal.take_byte-step-requires
+take_byte-step-requires c =
+    let turn = c.before.before.before in
+    omega (arith, same_size turn.before, turn.loop-i-test.true, turn.requires)
+
+pub overflow_add-i : goal.overflow_add-i
+overflow_add-i c = omega arith
+
+pub loop-i-smaller : goal.loop-i-smaller
+loop-i-smaller c = omega arith
+
+pub loop-i-preserved : goal.loop-i-preserved
+loop-i-preserved c =
+    let taken = c.before.before.before.before in
+    let turn = taken.before.before.before in
+    rw (add-one turn.loop-i.i) (
+      omega arith,
+      omega (arith, taken.take_byte-step.ensures.1),
+      block_more _ _ _ _ _ _ _ _ _ _ _ turn.loop-i-test.true turn.loop-i.invariant.2 taken.take_byte-step.ensures.0,
+    )
+
+pub shape_of-out : goal.shape_of-out
+shape_of-out c = same_size c.before.before
+
+pub returns : goal.returns
+returns c =
+    let block = c.args.block.now in
+    let all : take c.loop-i.i block ≡ block = take_all _ _ c.loop-i-test.false in
+    (rw all at c.loop-i.invariant.2, omega arith)

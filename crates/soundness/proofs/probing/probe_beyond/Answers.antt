@@ -1,0 +1,15 @@
+-- `soundness::probing::probe_beyond` meets its contract.
+-- Assumes nothing.
+use borrow.Author.Rules.{rules}
+use Rattle.generator.proofs.Powers.{the_other}
+use Rattle.hashing.proofs.Bounds.{limits}
+use Rattle.soundness.proofs.probing.probe_beyond.Goals as goal
+
+pub probe_by_16807-requires : goal.probe_by_16807-requires
+probe_by_16807-requires c =
+    let p = c.requires in
+    record {
+      parameters_value = (((p.0, the_other _ (limits _ p.0).multiplier-valid c.if-parameters-eq48271.false), p.1)).0;
+      home_le_start = (((p.0, the_other _ (limits _ p.0).multiplier-valid c.if-parameters-eq48271.false), p.1)).1.0;
+      number_value = (((p.0, the_other _ (limits _ p.0).multiplier-valid c.if-parameters-eq48271.false), p.1)).1.1;
+    }

@@ -1,0 +1,25 @@
+-- `soundness::stretches::first_unsound_by_16807` meets its contract.
+-- Assumes nothing.
+use mathlib.Core.Path.{◌∙◌, ap, sym}
+use borrow.Author.Rules.{rules}
+use Rattle.generator.specs.Generator.{multipliers}
+use Rattle.hashing.specs.Geometry.{multiplier_of}
+use Rattle.hashing.proofs.Bounds.{limits}
+use Rattle.placement.proofs.Prepared.{whole_long, whole-signers}
+use Rattle.soundness.proofs.stretches.first_unsound_by_16807.Goals as goal
+
+pub multipliers-table-requires : goal.multipliers-table-requires
+multipliers-table-requires c =
+    let p = c.requires.parameters_value in
+    rw (← p.1) (limits _ p.0).multiplier-valid
+
+pub first_unsound-requires : goal.first_unsound-requires
+first_unsound-requires c =
+    let s = c.before.before.before.before.before.before.before.before in
+    let p = s.requires in
+    let table = c.multipliers-table.ensures ∙ ap multipliers (sym p.0.1) in
+    record {
+      signers = whole-signers table p.0.0;
+      table_len = whole_long (multiplier_of s.args.geometry.parameters) table;
+      homed_items = p.1;
+    }

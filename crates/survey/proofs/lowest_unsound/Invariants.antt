@@ -1,0 +1,19 @@
+-- `survey::lowest_unsound` meets its contract.
+use Prim.Native.Nat.{◌-◌}
+use native.Mathlib.Nat.{mul-le-mul_right, div-mul-le_self, le-div_iff_mul-le, zero-add}
+use native.Mathlib.Omega.{arith}
+use borrow.Author.Rules.{rules}
+use Rattle.hashing.proofs.Bounds.{limits}
+use Rattle.placement.specs.File.{File}
+use Rattle.placement.specs.Hash.{sound_at, lent}
+use Rattle.reach.proofs.Surveyed.{lowest_first_lem, lowest_wider, passed_on}
+use Rattle.soundness.proofs.Lent.{Passed, passed_none, passed_then, passed-all}
+use Rattle.survey.proofs.lowest_unsound.Given as goal
+
+-- the pages below this one are sound
+abbrev pub invariant-loop-page : goal.invariant-loop-page
+invariant-loop-page l =
+    Passed (sound_at l.geometry.parameters l.geometry.growth (lent l.separators l.numbers l.words l.owners)) 0 l.geometry.parameters.pages l.page
+
+abbrev pub decreases-loop-page : goal.decreases-loop-page
+decreases-loop-page l = l.pages - l.page
