@@ -100,4 +100,4 @@ pub more-pages : (p : Parameters) (g : Growth) → valid_parameters p ≡ true �
 unfolding highest
 more-pages p g v w e =
     let fits = growth_within p g w in
-    omega (arith, eqb-false (page_count p g - 1) (p.pages - 1) e, fits.pages-fit, (spread p g (limits p v) fits).pages-low)
+    omega (arith, eqb-false (page_count p g - 1) (p.pages - 1) e, fits.pages_fit, (spread p g (limits p v) fits).pages_low)

@@ -31,7 +31,7 @@ module _ (p : Parameters) (g : Growth) (f : File) (pool : Pool) (grows : Grows p
   unfolding mark_refusal highest
   none-met =
       let done = accepted-growth p g f pool grows.accepted in
-      let low = (spread p g (limits p done.parameters) (growth_within p g done.growth)).pages-low in
+      let low = (spread p g (limits p done.parameters) (growth_within p g done.growth)).pages_low in
       rw (
         done.parameters,
         done.growth,

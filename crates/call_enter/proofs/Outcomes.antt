@@ -33,7 +33,7 @@ module _ (p : Parameters) (g : Growth) (f : File) (v : valid_parameters p ≡ tr
     inside = stretch-most _ (entry.entry_start p g s.number) p.pages (home-pages (multiplier_of p) p g s.number v w)
 
     bad-small : entry.entry_unsound p g f s < 2 ^ 32
-    bad-small = omega (arith, unsound-most p g f (entry.entry_start p g s.number) (entry.entry_count p g f s), inside, (limits p v).pages-most)
+    bad-small = omega (arith, unsound-most p g f (entry.entry_start p g s.number) (entry.entry_count p g f s), inside, (limits p v).pages_most)
 
     page-small : holding s.number (entry.entry_start p g s.number) (entry.entry_contents p g f s) < 2 ^ 32
     page-small =
@@ -42,7 +42,7 @@ module _ (p : Parameters) (g : Growth) (f : File) (v : valid_parameters p ≡ tr
           holding-most s.number (entry.entry_start p g s.number) (entry.entry_contents p g f s),
           length-pages (hash_of p g) (entry.entry_start p g s.number) (entry.entry_count p g f s) (entering (hash_of p g) f s (entry.entry_last p g f s)),
           inside,
-          (limits p v).pages-most,
+          (limits p v).pages_most,
         )
 
     pub entry-small : OutcomeSmall (entry_answer p g f s)
@@ -65,8 +65,8 @@ module _ (p : Parameters) (g : Growth) (f : File) (v : valid_parameters p ≡ tr
       (is_empty (overflow p g f s page))
       (cascade_unsound p g f s page)
       (holding s.number page (visited p g f s page))
-      (omega (arith, unsound-most p g f page (length (visited p g f s page)), few, (limits p v).pages-most))
-      (omega (arith, holding-most s.number page (visited p g f s page), few, (limits p v).pages-most))
+      (omega (arith, unsound-most p g f page (length (visited p g f s page)), few, (limits p v).pages_most))
+      (omega (arith, holding-most s.number page (visited p g f s page), few, (limits p v).pages_most))
 
 module _ (p : Parameters) (g : Growth) (f : File) (pool : Pool) where
   module _ (s : Star) where

@@ -24,7 +24,7 @@ prepared table a = ready table a.homing.valid a.homing.growth a.sized
 
 -- the multiplier has a table
 pub tabled : {p : Parameters} {g : Growth} {f : File} → Admitted p g f → valid_multiplier p.multiplier ≡ true
-tabled {p} a = (limits p a.homing.valid).multiplier_valid_lem
+tabled {p} a = (limits p a.homing.valid).multiplier_valid
 
 pub readable-facts : (p : Parameters) (g : Growth) (f : File) (page : ℕ) → readable p g f page ≡ true → (page < p.pages) × (sound_at p g f page ≡ true)
 unfolding readable

@@ -36,7 +36,7 @@ module _ (p : Parameters) (g : Growth) (f : File) (v : valid_parameters p ≡ tr
       true
       (removal.removal_unsound p g f k)
       page
-      (omega (arith, unsound-most p g f (removal.removal_start p g k) (removal.removal_count p g f k), removal_most p g f (removal.removal_start p g k) (home-pages (multiplier_of p) p g k v w), (limits p v).pages-most))
+      (omega (arith, unsound-most p g f (removal.removal_start p g k) (removal.removal_count p g f k), removal_most p g f (removal.removal_start p g k) (home-pages (multiplier_of p) p g k v w), (limits p v).pages_most))
       h
 
 module _ (p : Parameters) (g : Growth) (f : File) (pool : Pool) where

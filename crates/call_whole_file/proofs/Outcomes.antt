@@ -32,7 +32,7 @@ module _ (p : Parameters) (g : Growth) (f : File) (v : valid_parameters p ≡ tr
       (is_empty (left (hash_of p next) 0 p.pages (all_stars p f)))
       (first_unsound_lem p g f 0 p.pages)
       page
-      (omega (arith, unsound-most p g f 0 p.pages, (limits p v).pages-most))
+      (omega (arith, unsound-most p g f 0 p.pages, (limits p v).pages_most))
       h
 
 -- the answers and files are those of the definitions
@@ -72,9 +72,9 @@ module _ (p : Parameters) (v : valid_parameters p ≡ true) (bad spot : ℕ) whe
           → (u : Bool)
           → ltb spot (p.pages * suc p.places) ≡ u
           → VerdictSmall (cond t (verdict·Unsound bad) (cond u (Differs (spot / suc p.places) (spot % suc p.places)) Clean))
-      go true e u d = omega (arith, ltb-true bad p.pages e, (limits p v).pages-most)
+      go true e u d = omega (arith, ltb-true bad p.pages e, (limits p v).pages_most)
       go false e true d = (
-        omega (arith, (div-lt_iff_lt-mul {k = suc p.places} {x = spot} {y = p.pages} (omega arith)).1 (ltb-true spot (p.pages * suc p.places) d), (limits p v).pages-most),
-        omega (arith, mod-lt spot {m = suc p.places} (omega arith), (limits p v).places-most),
+        omega (arith, (div-lt_iff_lt-mul {k = suc p.places} {x = spot} {y = p.pages} (omega arith)).1 (ltb-true spot (p.pages * suc p.places) d), (limits p v).pages_most),
+        omega (arith, mod-lt spot {m = suc p.places} (omega arith), (limits p v).places_most),
       )
       go false e false d = tt

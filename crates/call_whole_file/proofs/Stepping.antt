@@ -51,7 +51,7 @@ state_in (Not r) = ungrown
 
 pub further : (p : Parameters) (g : Growth) → valid_growth p g ≡ true → (highest p g ≡ p.pages - 1 → ⊥) → page_count p g < p.pages
 unfolding highest
-further p g w less = omega (arith, less, (growth_within p g w).pages-fit)
+further p g w less = omega (arith, less, (growth_within p g w).pages_fit)
 
 -- past its refusal 9 shrinking has a state to go back to, past its own 8 growth has a further page
 movable : (back : Bool) (p : Parameters) (g : Growth) → valid_growth p g ≡ true → goes (step_of back p g) ≡ true → Movable back p g
@@ -90,12 +90,12 @@ page-most true p g w = go (is_ungrown g)
   where
     go : (t : Bool) → page_in (cond t (Not Ungrown) (To (shrunk p g) (highest p g))) ≤ p.pages
     go true = omega arith
-    go false = omega (arith, (growth_within p g w).pages-fit)
+    go false = omega (arith, (growth_within p g w).pages_fit)
 page-most false p g w = go (eqb (highest p g) (p.pages - 1))
   where
     go : (t : Bool) → page_in (cond t (Not Full) (To (grown p g) (page_count p g))) ≤ p.pages
     go true = omega arith
-    go false = omega (arith, (growth_within p g w).pages-fit)
+    go false = omega (arith, (growth_within p g w).pages_fit)
 
 -- what the call does by its step
 stepped_on : Parameters → Growth → File → Pool → Step → After
@@ -145,7 +145,7 @@ module _ (back : Bool) (p : Parameters) (g : Growth) where
     unfolding page_in
     step_small v w =
         let is : page_in (step_of back p g) ≡ page = ap page_in e in
-        omega (arith, is, page-most back p g w, (limits p v).pages-most)
+        omega (arith, is, page-most back p g w, (limits p v).pages_most)
 
     pub regrow_stored : (f : File) (pool : Pool) {f' : File} {r : Outcome} {a : Grown}
         → r ≡ growth_answer p g f (state_after back p g) page → f' ≡ growth_file p g f (state_after back p g) → a ≡ outcome_grown r g next

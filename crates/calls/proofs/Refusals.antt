@@ -54,7 +54,7 @@ well-lent p g lengths e l = rw (e, l)
 
 -- the product of two numbers within the limits of pages and places
 pub items-most : (p : Parameters) → valid_parameters p ≡ true → p.pages * p.places ≤ 32768
-items-most p v = mul-le-mul (limits p v).pages-most (limits p v).places-most
+items-most p v = mul-le-mul (limits p v).pages_most (limits p v).places_most
 
 pub sized : (p : Parameters) (f : File) → file_fits_lem p f ≡ true → Sized p.places p.pages f
 unfolding file_fits_lem

@@ -84,5 +84,5 @@ pub state-suits : StateSuits
 unfolding state_for_lem
 state-suits p stars v =
     suits-from p stars v (p.pages - p.width * p.groups) ungrown (start-valid p v)
-    (rw (start-pages p) (omega (arith, (limits p v).pages-least)))
+    (rw (start-pages p) (omega (arith, (limits p v).pages_least)))
     (λ count low high. absurd (omega (arith, low, high)))

@@ -99,7 +99,7 @@ module _ (new : Geometry) (ns ws os pool planned : List ℕ) (r : Bool) (A : All
   placed-stars e second' is =
       record {
         overflows = λ t. absurd (false≢true (sym t ∙ sym A.fits ∙ e));
-        places = λ t. (refl, rw (← A.sources e, ← A.separators-are e) is);
+        places = λ t. (refl, rw (← A.sources e, ← A.separators_are e) is);
       }
 
 -- no star is left exactly if none is counted
@@ -120,7 +120,7 @@ module _ (old new : Geometry) (f second : File) (bad : ℕ) (survey : bad ≡ fi
     all-fine = omega arith
 
     items : old.parameters.pages * old.parameters.places ≤ 32768
-    items = mul-le-mul (limits old.parameters valid).pages-most (limits old.parameters valid).places-most
+    items = mul-le-mul (limits old.parameters valid).pages_most (limits old.parameters valid).places_most
 
     pub carried-few : length f.numbers ≤ 32768
     carried-few = omega (arith, items, size.of_numbers)
@@ -222,7 +222,7 @@ carry_small old new f valid =
     (is_empty (left (hash_of new.parameters new.growth) 0 new.parameters.pages (all_stars old.parameters f)))
   where
     go : (t u : Bool) → OutcomeSmall (cond t (Unsound (first_unsound_lem old.parameters old.growth f 0 old.parameters.pages)) (cond u (On 0) Overflows))
-    go true u = omega (arith, unsound-most old.parameters old.growth f 0 old.parameters.pages, (limits old.parameters valid).pages-most)
+    go true u = omega (arith, unsound-most old.parameters old.growth f 0 old.parameters.pages, (limits old.parameters valid).pages_most)
     go false true = omega arith
     go false false = tt
 

@@ -48,8 +48,8 @@ planned-whole q l pool pool' planned planned' W' r A lp ln =
       fits = A.fits ∙ ap (λ (x : List ℕ). eqb (length x) 0) (plans-grouped q 0 q.pages [] l).1;
       sources =
           λ e. (plan e).sources ∙ rw (zero-mul q.places) (written-whole sources pool (length-sources q 0 q.pages [] l ∙ sym lp));
-      separators-are =
-          λ e. ap (take q.pages) (plan e).separators-are
+      separators_are =
+          λ e. ap (take q.pages) (plan e).separators_are
           ∙ taken-written 0 q.pages (separators (plans q 0 0 q.pages [] l)) planned
           (length-separators (plans q 0 0 q.pages [] l) ∙ length-plans q 0 0 q.pages [] l) (omega arith);
     }
@@ -118,7 +118,7 @@ module _ (g : Geometry) (valid : valid_parameters g.parameters ≡ true) (growth
       stars-keyed =
           record {
             some = omega (arith, home_below 0);
-            most = (limits g.parameters valid).pages-most;
+            most = (limits g.parameters valid).pages_most;
             inside = inside;
             few = stars-few;
             within = rw listed (sorted-keyed ns few numbers shift g valid growth);
@@ -151,7 +151,7 @@ module _ (g : Geometry) (valid : valid_parameters g.parameters ≡ true) (growth
           record {
             fits = A.fits ∙ ap (λ (n : ℕ). eqb n 0) left_over;
             sources = λ e. A.sources e ∙ ap (column q.places (λ (s : Star). s.payload.word)) plan;
-            separators-are = λ e. A.separators-are e ∙ ap separators plan;
+            separators_are = λ e. A.separators_are e ∙ ap separators plan;
           }
 
       module _ (U W ends : List ℕ) (S : Scattered 0 g.parameters.pages 0 (map (star_word ns) (take stars keys)) U W ends) (wide : stars ≤ length U)
@@ -166,7 +166,7 @@ module _ (g : Geometry) (valid : valid_parameters g.parameters ≡ true) (growth
         pub stars-settleable : (pool planned : List ℕ) → length pool ≡ g.parameters.pages * g.parameters.places → length W ≤ 32768
             → 1024 ≤ length planned → 1024 ≤ length ends → Settleable g.parameters 0 g.parameters.pages 0 stars pool W planned ends
         stars-settleable pool planned lp lw ln le =
-            let most : g.parameters.pages ≤ 1024 = (limits g.parameters valid).pages-most in
+            let most : g.parameters.pages ≤ 1024 = (limits g.parameters valid).pages_most in
             record {
               valid = valid;
               pages = omega arith;
@@ -176,6 +176,6 @@ module _ (g : Geometry) (valid : valid_parameters g.parameters ≡ true) (growth
               few = lw;
               order = omega arith;
               inside = omega arith;
-              grouped-are = rw stars-grouped (started-again 0 g.parameters.pages 0 (words) W ends ready);
+              grouped_are = rw stars-grouped (started-again 0 g.parameters.pages 0 (words) W ends ready);
               near = unfold all in refl;
             }

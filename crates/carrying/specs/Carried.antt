@@ -30,7 +30,7 @@ fetched_file ns ws os separators sources = lent separators (map (named_item ns 0
 pub record AllPlanned (q : Parameters) (l pool planned : List ℕ) (r : Bool) : Type 0 where
   pub fits : r ≡ eqb (length (remains q 0 0 q.pages [] l)) 0
   pub sources : r ≡ true → pool ≡ column q.places (λ (s : Star). s.payload.word) (plans q 0 0 q.pages [] l)
-  pub separators-are : r ≡ true → take q.pages planned ≡ separators (plans q 0 0 q.pages [] l)
+  pub separators_are : r ≡ true → take q.pages planned ≡ separators (plans q 0 0 q.pages [] l)
 
 -- what placing the stars with these numbers, words and owners answers and leaves of the second set
 pub record PlacesSecond (new : Geometry) (ns ws os : List ℕ) (second second' : File) (r : Outcome) : Type 0 where

@@ -23,7 +23,7 @@ use Rattle.calls.specs.Stores.{stored_file, store_order}
 use Rattle.calls.proofs.Stored.{cols, stored_is}
 
 module _ (up : Bool) (b lo count M n k word owner : ℕ) (f : File) (pool waiting poolowners planned ps ws os : List ℕ) (inside : lo + count ≤ M) (sized : Sized b M f)
-    (pool-long : length pool ≡ M * b) (waiting-long : length waiting ≡ M * b) (owners_long : length poolowners ≡ M * b) (planned-long : lo + count ≤ length planned)
+    (pool_long : length pool ≡ M * b) (waiting_long : length waiting ≡ M * b) (owners_long : length poolowners ≡ M * b) (planned-long : lo + count ≤ length planned)
     (ps-long : length ps ≡ M * b) (ws-long : length ws ≡ M * b) (os-long : length os ≡ M * b)
     (ps-is : ps ≡ paste pool (lo * b) (map (named_item f.numbers k) (drop (lo * b) pool)) (count * b))
     (ws-is : ws ≡ paste waiting (lo * b) (map (named_item f.words word) (drop (lo * b) pool)) (count * b))
@@ -44,13 +44,13 @@ module _ (up : Bool) (b lo count M n k word owner : ℕ) (f : File) (pool waitin
   written-there l x e d = length-written (lo * b) (stretch b lo count x) l (omega (arith, stretch-long x d, e, items, add-mul lo count b)) ∙ e
 
   numbers-are : written (lo * b) (stretch b lo count ps) f.numbers ≡ written (lo * b) (map (named_item f.numbers k) (stretch b lo count pool)) f.numbers
-  numbers-are = fetched-stored f.numbers pool f.numbers pool ps k b lo count (omega (arith, items, pool-long)) (omega (arith, items, pool-long)) fits-pool.numbers ps-is
+  numbers-are = fetched-stored f.numbers pool f.numbers pool ps k b lo count (omega (arith, items, pool_long)) (omega (arith, items, pool_long)) fits-pool.numbers ps-is
 
   words_are : written (lo * b) (stretch b lo count ws) f.words ≡ written (lo * b) (map (named_item f.words word) (stretch b lo count pool)) f.words
-  words_are = fetched-stored f.words waiting f.words pool ws word b lo count (omega (arith, items, waiting-long)) (omega (arith, items, pool-long)) fits-pool.words ws-is
+  words_are = fetched-stored f.words waiting f.words pool ws word b lo count (omega (arith, items, waiting_long)) (omega (arith, items, pool_long)) fits-pool.words ws-is
 
   owners-are : written (lo * b) (stretch b lo count os) f.owners ≡ written (lo * b) (map (named_item f.owners owner) (stretch b lo count pool)) f.owners
-  owners-are = fetched-stored f.owners poolowners f.owners pool os owner b lo count (omega (arith, items, owners_long)) (omega (arith, items, pool-long)) fits-pool.owners os-is
+  owners-are = fetched-stored f.owners poolowners f.owners pool os owner b lo count (omega (arith, items, owners_long)) (omega (arith, items, pool_long)) fits-pool.owners os-is
 
   abbrev whole : File
   whole = applied b lo count k word owner pool planned f

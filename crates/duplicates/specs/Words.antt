@@ -18,7 +18,7 @@ pub record InGroups (count end : ℕ) (W ends : List ℕ) : Type 0 where
   pub few : length W ≤ 32768
   pub long : count ≤ length ends
   pub words : grouped 0 0 count (take end W) ≡ take end W
-  pub ends-are : Ends count (take end W) ends
+  pub ends_are : Ends count (take end W) ends
 
 -- r is the first place from `from` on whose word is homed above page p, or `end`
 pub record EndOf (p from end : ℕ) (W : List ℕ) (r : ℕ) : Type 0 where

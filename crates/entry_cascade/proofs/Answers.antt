@@ -141,7 +141,7 @@ module _ (p : Parameters) (g : Growth) (f : File) (k page : ℕ) (pool planned w
           within = ap (λ (n : ℕ). carried_past (hash_of p g) f page n (new word owner ∷ [])) count ∙ nothing;
           applies =
               ap (λ (n : ℕ). applied p.places page n k word owner pool planned f) count
-              ∙ applied-is p.places page d k word owner pool planned f P.contents P.sources P.separators-are P.all-sourced
+              ∙ applied-is p.places page d k word owner pool planned f P.contents P.sources P.separators_are P.all_sourced
               ∙ ap (replaced p.places f page) (P.are word owner ∙ sym all-visited);
         }
 
@@ -213,7 +213,7 @@ module _ (p : Parameters) (g : Growth) (f : File) (k page : ℕ) (valid : valid_
         where
           go : Dec (page + (d + 1) < p.pages) → page + (d + 1) ≡ p.pages
           go (yes l) =
-              absurd (omega (arith, suc-mul (suc d) p.places, suc-mul d p.places, mul-le-mul_right {m = suc (suc d)} {n = p.pages} p.places (omega arith), (limits p valid).places-least))
+              absurd (omega (arith, suc-mul (suc d) p.places, suc-mul d p.places, mul-le-mul_right {m = suc (suc d)} {n = p.pages} p.places (omega arith), (limits p valid).places_least))
           go (no l) = omega arith
 
       carries : 0 < length on

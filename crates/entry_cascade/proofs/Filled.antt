@@ -142,7 +142,7 @@ module _ (p : Parameters) (g : Growth) (f : File) (k page : ℕ) (valid : valid_
       numbers_long = numbers_count p g f valid sized page 1 (omega (arith, inside)) ∙ one-mul p.places
 
       zeros-long : length (take {A = ℕ} p.places (replicate 32 0)) ≡ p.places
-      zeros-long = length-take-le {A = ℕ} p.places (replicate 32 0) (omega (arith, (limits p valid).places-most))
+      zeros-long = length-take-le {A = ℕ} p.places (replicate 32 0) (omega (arith, (limits p valid).places_most))
 
       pub stars-loaded : stars_in 0 (take p.places v.numbers) ≡ length (page_words p g f page)
       stars-loaded = ap (stars_in 0) same_numbers ∙ sym (stars-count p g f valid sized page inside)
@@ -187,7 +187,7 @@ module _ (p : Parameters) (g : Growth) (f : File) (k page : ℕ) (valid : valid_
   -- the last place is empty
   pub last_empty : get_or f.numbers (page * p.places + p.places - 1) 0 ≡ 0 → length (page_words p g f page) < p.places
   last_empty e =
-      let some : 0 < p.places = (limits p valid).places-least in
+      let some : 0 < p.places = (limits p valid).places_least in
       let count : length (block_numbers p f page 1) ≡ p.places = numbers_count p g f valid sized page 1 (omega (arith, inside)) ∙ one-mul p.places in
       let there : page * p.places + (p.places - 1) ≡ page * p.places + p.places - 1 = omega arith in
       let last : get_or (block_numbers p f page 1) (p.places - 1) 0 ≡ 0 =

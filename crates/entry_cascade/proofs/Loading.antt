@@ -74,7 +74,7 @@ module _ (p : Parameters) (g : Growth) (f : File) (valid : valid_parameters p �
   pub page-few : q * p.places + p.places < 2 ^ 16
   page-few =
       let l = limits p valid in
-      omega (arith, page-fits p.places p.pages q inside sized.of_numbers, sized.of_numbers, mul-le-mul l.pages-most l.places-most)
+      omega (arith, page-fits p.places p.pages q inside sized.of_numbers, sized.of_numbers, mul-le-mul l.pages_most l.places_most)
 
   module _ (v : Page) (loaded : v ≡ page_at p.places q f.numbers f.words f.owners) where
     pub loaded-numbers : take p.places v.numbers ≡ block_numbers p f q 1
@@ -88,8 +88,8 @@ module _ (p : Parameters) (g : Growth) (f : File) (valid : valid_parameters p �
         omega (
           arith,
           ap (λ (x : Page). length x.numbers) loaded,
-          filled-length p.places q f.numbers (page-fits p.places p.pages q inside sized.of_numbers) (limits p valid).places-most,
-          (limits p valid).places-most,
+          filled-length p.places q f.numbers (page-fits p.places p.pages q inside sized.of_numbers) (limits p valid).places_most,
+          (limits p valid).places_most,
         )
 
     module _ (sound : sound_at p g f q ≡ true) where
@@ -115,7 +115,7 @@ module _ (p : Parameters) (g : Growth) (f : File) (valid : valid_parameters p �
         homes-small =
             rw (homes, loaded-numbers)
             (all-mono (λ x. ltb x (q + 1)) (λ x. ltb x 1024) (homes_of p g (block_numbers p f q 1))
-            (λ x e. lt-ltb x 1024 (omega (arith, ltb-true x (q + 1) e, (limits p valid).pages-most)))
+            (λ x e. lt-ltb x 1024 (omega (arith, ltb-true x (q + 1) e, (limits p valid).pages_most)))
             (homes-below p g f valid sized q 1 (omega arith) (λ r a b. let same : r ≡ q = omega arith in rw same sound)))
 
         pub loaded-words : words_from (q * p.places) 0 (take p.places v.numbers) (take p.places hs) ≡ page_words p g f q

@@ -108,8 +108,8 @@ module _ (p : Parameters) (g : Growth) (f : File) (k page : ℕ) (valid : valid_
           record {
             order = omega (arith, J.ends, R.some);
             inside = reach-within;
-            most = let l = limits p valid in omega (arith, reach-within, lw, mul-le-mul l.pages-most l.places-most);
-            page = omega (arith, (limits p valid).pages-most);
+            most = let l = limits p valid in omega (arith, reach-within, lw, mul-le-mul l.pages_most l.places_most);
+            page = omega (arith, (limits p valid).pages_most);
             homes =
                 rw joined
                 (all_append (λ w. leb (home_of w) at) (slice from end W) (page_words p g f at) (rw (← R.place) at R.carried.words.near) (page-near p g f valid sized at inside J.sound));

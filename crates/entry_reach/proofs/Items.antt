@@ -70,7 +70,7 @@ module _ (p : Parameters) (g : Growth) (f : File) (valid : valid_parameters p â‰
   pub items-few : lo * p.places + length (block_numbers p f lo n) < 2 ^ 16
   items-few =
       let l = limits p valid in
-      omega (arith, numbers_count, add-mul lo n p.places, numbers_long, sized.of_numbers, mul-le-mul l.pages-most l.places-most)
+      omega (arith, numbers_count, add-mul lo n p.places, numbers_long, sized.of_numbers, mul-le-mul l.pages_most l.places_most)
 
   -- the homes of the stretch's items
   pub stretch-homes : stretch p.places lo n (homes_of p g f.numbers) â‰¡ homes_of p g (block_numbers p f lo n)
@@ -100,7 +100,7 @@ module _ (p : Parameters) (g : Growth) (f : File) (valid : valid_parameters p â‰
       page_of = lo + i / p.places
 
       some : 0 < p.places
-      some = (limits p valid).places-least
+      some = (limits p valid).places_least
 
       low : i / p.places < n
       low = (div-lt_iff_lt-mul some).1 h

@@ -74,7 +74,7 @@ module _ (p : Parameters) (g : Growth) (f : File) (k : ℕ) (valid : valid_param
   small = omega (arith, number-range k number)
 
   few : length f.numbers + 1 < 2 ^ 16
-  few = let l = limits p valid in omega (arith, sized.of_numbers, mul-le-mul l.pages-most l.places-most)
+  few = let l = limits p valid in omega (arith, sized.of_numbers, mul-le-mul l.pages_most l.places_most)
 
   -- past the items a source names the new star
   past-items : (l : List ℕ) (new : ℕ) → length l ≡ p.pages * p.places → named_item l new (length f.numbers + 1) ≡ new

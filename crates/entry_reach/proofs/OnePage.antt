@@ -60,7 +60,7 @@ module _ (p : Parameters) (g : Growth) (f : File) (k : ℕ) (valid : valid_param
   vacant-home place e =
       record {
         ordered = ordered-page p g f sized (entry_start p g k) home-inside sound-there;
-        some = (limits p valid).places-least;
+        some = (limits p valid).places_least;
         there = e ∙ ap (λ (q : ℕ). place_of k (part p.places q f.numbers)) named-there;
         empty = eqb-true (number_at p.places (entry_start p g k) (p.places - 1) f.numbers) 0 tests.1;
       }

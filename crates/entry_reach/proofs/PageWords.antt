@@ -49,7 +49,7 @@ module _ (p : Parameters) (g : Growth) (f : File) (valid : valid_parameters p â‰
   fits = mul-le-mul_right p.places one_more
 
   few : (q + 1) * p.places < 2 ^ 16
-  few = let l = limits p valid in omega (arith, fits, mul-le-mul l.pages-most l.places-most)
+  few = let l = limits p valid in omega (arith, fits, mul-le-mul l.pages_most l.places_most)
 
   pub page-numbers : all_below (2 ^ 31) (block_numbers p f q 1) â‰¡ true
   page-numbers = numbers_below p g f valid sized q 1 one_more alone

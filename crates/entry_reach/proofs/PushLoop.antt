@@ -139,8 +139,8 @@ module _ (p : Parameters) (g : Growth) (f : File) (valid : valid_parameters p �
       record {
         order = omega (arith, ends, low);
         inside = reach-within;
-        most = let l = limits p valid in omega (arith, reach-within, lw, mul-le-mul l.pages-most l.places-most);
-        page = omega (arith, (limits p valid).pages-most);
+        most = let l = limits p valid in omega (arith, reach-within, lw, mul-le-mul l.pages_most l.places_most);
+        page = omega (arith, (limits p valid).pages_most);
         homes =
             rw (met-joined from end reach W W' (page_words p g f q) low within words)
             (all_append (λ w. leb (home_of w) q) (slice from end W) (page_words p g f q) near (page-near p g f valid sized q inside sound));
@@ -187,7 +187,7 @@ module _ (p : Parameters) (g : Growth) (f : File) (k page : ℕ) (valid : valid_
           arith,
           R.come,
           R.place,
-          (limits p valid).places-least,
+          (limits p valid).places_least,
           suc-mul (suc R.done) p.places,
           suc-mul R.done p.places,
           mul-le-mul_right {m = suc (suc R.done)} {n = p.pages} p.places (omega (arith, R.place)),
@@ -254,7 +254,7 @@ module _ (p : Parameters) (g : Growth) (f : File) (k page : ℕ) (valid : valid_
             within = ap (λ (n : ℕ). carried_past (hash_of p g) f page n (new_star_lem k word owner ∷ [])) count ∙ nothing (carried_past (hash_of p g) f page (R.done + 1) (new_star_lem k word owner ∷ [])) none;
             applies =
                 ap (λ (n : ℕ). applied p.places page n k word owner pool' planned' f) count
-                ∙ applied-is p.places page (R.done + 1) k word owner pool' planned' f next.contents next.sources next.separators-are next.all-sourced
+                ∙ applied-is p.places page (R.done + 1) k word owner pool' planned' f next.contents next.sources next.separators_are next.all_sourced
                 ∙ ap (replaced p.places f page) (next.are word owner)
                 ∙ ap (λ (n : ℕ). replaced p.places f page (cascaded (hash_of p g) f page n (new_star_lem k word owner ∷ []))) (sym count);
           }

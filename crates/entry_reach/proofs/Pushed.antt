@@ -51,7 +51,7 @@ module _ (p : Parameters) (g : Growth) (f : File) (k page : ℕ) (valid : valid_
   small = omega (arith, number-range k number)
 
   pub few : length f.numbers + 1 < 2 ^ 16
-  few = let l = limits p valid in omega (arith, sized.of_numbers, mul-le-mul l.pages-most l.places-most)
+  few = let l = limits p valid in omega (arith, sized.of_numbers, mul-le-mul l.pages_most l.places_most)
 
   pub page-inside : page < p.pages
   page-inside = omega (arith, here, unheld.named)
@@ -73,8 +73,8 @@ module _ (p : Parameters) (g : Growth) (f : File) (k page : ℕ) (valid : valid_
         contents = [];
         size = refl;
         sources = unfold column in ap (λ (n : ℕ). take n (drop (page * p.places) pool)) (zero-mul p.places);
-        separators-are = unfold separators in refl;
-        all-sourced = tt;
+        separators_are = unfold separators in refl;
+        all_sourced = tt;
         are = λ word owner. unfold cascaded in refl;
         carried = λ word owner. unfold carried_past in new-carried p g f k valid sized number unheld word owner;
         words = new-carriable p g f k valid sized number unheld (page + 0) (omega (arith, home_below));
@@ -139,13 +139,13 @@ module _ (p : Parameters) (g : Growth) (f : File) (k page : ℕ) (valid : valid_
               ∙ sources_on p.places page d new pool (lowered-roomy p (page + d) stored met) lp
               ∙ ap (λ (l : List ℕ). l ++ column p.places (λ (s : Star). s.payload.word) (new ∷ [])) P.sources
               ∙ sym (column-append p.places (λ (s : Star). s.payload.word) P.contents (new ∷ []));
-          separators-are =
+          separators_are =
               ap (λ (l : List ℕ). take (d + 1) (drop page l)) en
               ∙ separators-on page d new planned ln
-              ∙ ap (λ (l : List ℕ). l ++ separators (new ∷ [])) P.separators-are
+              ∙ ap (λ (l : List ℕ). l ++ separators (new ∷ [])) P.separators_are
               ∙ sym (separators-append P.contents (new ∷ []));
-          all-sourced =
-              sourced-on f.numbers k P.contents (new ∷ []) P.all-sourced (
+          all_sourced =
+              sourced-on f.numbers k P.contents (new ∷ []) P.all_sourced (
                 (unfold lowered_to staying_words in sourced-waits f.numbers k (staying_words p (page + d) (words_separator_from p (page + d) met stored) met)
                     (sourced-filter f.numbers k (under p (page + d) (words_separator_from p (page + d) met stored)) met met-sourced)),
                 tt,

@@ -55,7 +55,7 @@ home-starts p g k = refl
 
 -- a file has items
 pub some-items : (p : Parameters) (g : Growth) → valid_parameters p ≡ true → valid_growth p g ≡ true → (k : ℕ) → 0 < p.pages * p.places
-some-items p g v w k = let few : 0 < p.pages = omega (arith, homed-real p g v w k) in omega (arith, mul-le-mul few (limits p v).places-least)
+some-items p g v w k = let few : 0 < p.pages = omega (arith, homed-real p g v w k) in omega (arith, mul-le-mul few (limits p v).places_least)
 
 -- the answers differ
 pub unsound-ends : (page last : ℕ) → Unsound page ≡ Ends last → ⊥
@@ -144,8 +144,8 @@ module _ (p : Parameters) (g : Growth) (f : File) (k : ℕ) (valid : valid_param
               sound = λ q a b. absurd (omega arith);
               contents = [];
               sources = unfold column in ap (λ (n : ℕ). take n (drop (entry_start p g k * p.places) pool)) (zero-mul p.places);
-              separators-are = unfold separators in refl;
-              all-sourced = tt;
+              separators_are = unfold separators in refl;
+              all_sourced = tt;
               are = λ word owner. unfold pages pages_at in refl;
               carried = λ word owner. unfold left gathered insert in new-carried p g f k valid sized number unheld word owner;
               words = new-carriable p g f k valid sized number unheld (entry_start p g k + 0) (omega arith);
@@ -288,13 +288,13 @@ module _ (p : Parameters) (g : Growth) (f : File) (k : ℕ) (valid : valid_param
               ∙ stretch-on p.places start count m (column p.places (λ (s : Star). s.payload.word) new) pool (length-sources p lo m w l) (rw lp (mul-le-mul_right p.places (omega arith)))
               ∙ ap (λ (x : List ℕ). x ++ column p.places (λ (s : Star). s.payload.word) new) s.sources
               ∙ sym (column-append p.places (λ (s : Star). s.payload.word) s.contents new);
-          separators-are =
-              ap (λ (x : List ℕ). take (count + m) (drop start x)) plan.separators-are
+          separators_are =
+              ap (λ (x : List ℕ). take (count + m) (drop start x)) plan.separators_are
               ∙ taken-on start count m (separators new) planned (length-separators new ∙ length-plans p lo 0 m w l) (omega arith)
-              ∙ ap (λ (x : List ℕ). x ++ separators new) s.separators-are
+              ∙ ap (λ (x : List ℕ). x ++ separators new) s.separators_are
               ∙ sym (separators-append s.contents new);
-          all-sourced =
-              sourced-on f.numbers k s.contents new s.all-sourced
+          all_sourced =
+              sourced-on f.numbers k s.contents new s.all_sourced
               (plans-sourced f.numbers k p lo 0 m w l s.words.true_sources (block-sourced p g f valid sized lo m inside k (numbers_below p g f valid sized lo m inside block-pages)));
           are = next-are;
           carried = next-carried;
@@ -428,7 +428,7 @@ module _ (p : Parameters) (g : Growth) (f : File) (k : ℕ) (valid : valid_param
                 few-stars p g f k valid sized number unheld pages_here few-pages (pages-sound c.sound) word owner,
                 suc-mul pages_here p.places,
                 mul-le-mul_right {m = suc pages_here} {n = p.pages} p.places l,
-                (limits p valid).places-least,
+                (limits p valid).places_least,
               ))
           go (no l) = omega (arith, below_last, least)
 
@@ -491,7 +491,7 @@ module _ (p : Parameters) (g : Growth) (f : File) (k : ℕ) (valid : valid_param
             let count : pages_to start' l ≡ count' = omega (arith, e, low, sum) in (
               omega (arith, el, below_last),
               ap (λ (n : ℕ). applied p.places start' n k word owner pool' planned' f) count
-                  ∙ applied-is p.places start' count' k word owner pool' planned' f S.contents S.sources S.separators-are S.all-sourced
+                  ∙ applied-is p.places start' count' k word owner pool' planned' f S.contents S.sources S.separators_are S.all_sourced
                   ∙ sym (entered word owner)
                   ∙ sym (by-reach p g f k last least (all-sound-to clear) word owner true f f (replaced p.places f (entry_start p g k) (entry_contents p g f (new_star_lem k word owner))) (end-here word owner) (enters word owner)),
             )

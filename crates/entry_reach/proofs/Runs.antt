@@ -361,7 +361,7 @@ module _ (p : Parameters) (g : Growth) (f : File) (k page : ℕ) (valid : valid_
     vacant =
         record {
           ordered = ordered-page p g f sized page page-inside (sound page page-low page-high);
-          some = (limits p valid).places-least;
+          some = (limits p valid).places_least;
           there = there;
           empty = room;
         }
@@ -506,8 +506,8 @@ module _ (p : Parameters) (g : Growth) (f : File) (k page : ℕ) (valid : valid_
               sound = λ q a b. sound q a (omega (arith, b, high));
               contents = P.contents;
               sources = P.sources;
-              separators-are = P.separators-are;
-              all-sourced = P.all-sourced;
+              separators_are = P.separators_are;
+              all_sourced = P.all_sourced;
               are = λ word owner.
                   entered-pages p g f k page valid sized number unheld here last is sound ruled word owner (map (mapped (renamed f.words f.owners word owner)) P.contents) (P.are word owner)
                   (length-map P.contents (mapped (renamed f.words f.owners word owner)) ∙ P.size);

@@ -198,7 +198,7 @@ module _ (p : Parameters) (g : Growth) (f : File) (valid : valid_parameters p �
                           renewed.sources
                           ∙ ap (written (lo * p.places) items) kept
                           ∙ written-paste pool (lo * p.places) (homes_of p g (drop (lo * p.places) f.numbers)) ((last + 1 - lo) * p.places) items items-long (omega (arith, room, long)) homes-long;
-                      separators-are = renewed.separators-are;
+                      separators_are = renewed.separators_are;
                       passed = renewed.passed;
                       counted = renewed.counted;
                     });

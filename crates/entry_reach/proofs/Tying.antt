@@ -46,7 +46,7 @@ module _ (H : Hash) (q : Parameters) (real : Probes H q) (g : Star → Star) (ke
   unfolding rule·separator_from words_separator_from
   lower-tie zero = refl
   lower-tie (suc v) =
-      rw (lower-tie v, stay_tie (suc v), length-map (waits (staying_words q p (suc v) l)) g, length-waits (staying_words q p (suc v) l), real.room-is)
+      rw (lower-tie v, stay_tie (suc v), length-map (waits (staying_words q p (suc v) l)) g, length-waits (staying_words q p (suc v) l), real.room_is)
 
 -- words that join those that wait
 

@@ -45,8 +45,8 @@ pub record Spanned (p : Parameters) (g : Growth) (f : File) (k start kept count 
   pub sound : (q : ℕ) → entry_start p g k ≤ q → q < start + count → sound_at p g f q ≡ true
   pub contents : List Contents
   pub sources : stretch p.places start count pool ≡ column p.places (λ (s : Star). s.payload.word) contents
-  pub separators-are : take count (drop start planned) ≡ separators contents
-  pub all-sourced : Sourced f.numbers k contents
+  pub separators_are : take count (drop start planned) ≡ separators contents
+  pub all_sourced : Sourced f.numbers k contents
   pub are : (word owner : ℕ) → entered_pages p g f k (kept + count) word owner
       ≡ pages_at p.places f (entry_start p g k) kept ++ map (mapped (renamed f.words f.owners word owner)) contents
   pub carried : (word owner : ℕ) → map (renamed f.words f.owners word owner) (waits w) ≡ entered_left p g f k (kept + count) word owner

@@ -64,8 +64,8 @@ pub record Pushed (p : Parameters) (g : Growth) (f : File) (k page : ℕ) (pool 
   pub contents : List Contents
   pub size : length contents ≡ d
   pub sources : stretch p.places page d pool ≡ column p.places (λ (s : Star). s.payload.word) contents
-  pub separators-are : take d (drop page planned) ≡ separators contents
-  pub all-sourced : Sourced f.numbers k contents
+  pub separators_are : take d (drop page planned) ≡ separators contents
+  pub all_sourced : Sourced f.numbers k contents
   pub are : (word owner : ℕ) → map (mapped (renamed f.words f.owners word owner)) contents ≡ cascaded (hash_of p g) f page d (new_star_lem k word owner ∷ [])
   pub carried : (word owner : ℕ) → map (renamed f.words f.owners word owner) (waits w) ≡ carried_past (hash_of p g) f page d (new_star_lem k word owner ∷ [])
   pub words : Carriable p g f k (page + d) w

@@ -102,16 +102,16 @@ module _ (p : Parameters) (r : GrowthRecord) (f : File) (out : List ℕ) where
       (rw (← is) (early out x (write_on p r.state f out) (rw is (refusal-most p r (file_fits_lem p f))))) refl
 
   module _ {a : Admission} {fits : Bool} (e : admission_number a ≡ record_refusal p r fits) (l : fits ≡ file_fits_lem p f) (t : a ≡ Passed) where
-    none-refused : or_else (unless (valid_steps p r) 1) (unlent p r.state (file_fits_lem p f)) ≡ 0
+    none_refused : or_else (unless (valid_steps p r) 1) (unlent p r.state (file_fits_lem p f)) ≡ 0
     unfolding record_refusal
-    none-refused = sym (ap (record_refusal p r) l) ∙ (sym e ∙ ap admission_number t)
+    none_refused = sym (ap (record_refusal p r) l) ∙ (sym e ∙ ap admission_number t)
 
     pub well-admitted : Admitted p r.state f
-    well-admitted = admitted p r.state f (else_zero (valid_steps p r) (unlent p r.state (file_fits_lem p f)) none-refused).1
+    well-admitted = admitted p r.state f (else_zero (valid_steps p r) (unlent p r.state (file_fits_lem p f)) none_refused).1
 
     on : write_under p r f out ≡ write_on p r.state f out
     unfolding write_under
-    on = rw none-refused
+    on = rw none_refused
 
     pub unsound-first : (bad : ℕ) → bad ≡ first_unsound_lem p r.state f 0 p.pages → bad < p.pages → Writes (write_under p r f out) (length_said (Refused (Damaged bad))) out
     unfolding write_on length_said refused_by

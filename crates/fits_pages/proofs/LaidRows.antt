@@ -54,5 +54,5 @@ module _ (g : Geometry) (given : List ℕ) (n : ℕ) (f : File) where
     all-stored P s n' w o es en ew eo =
         record {
           fits = P.fits;
-          file = rw (es ∙ P.planned-are refl, en ∙ P.numbers refl, ew ∙ P.words refl, eo ∙ P.owners refl);
+          file = rw (es ∙ P.planned_are refl, en ∙ P.numbers refl, ew ∙ P.words refl, eo ∙ P.owners refl);
         }

@@ -298,7 +298,7 @@ module _ (g : Geometry) (given : List ℕ) (n : ℕ) (valid : valid_parameters g
           words = λ _. column-of (words_read given n) (λ (s : Star). s.payload.word) (words_long given n) (ap (λ (x : File). x.words) E);
           owners =
               λ _. sym (none_owned pool') ∙ column-of (replicate n 0) (λ (s : Star). s.payload.owner) (length-replicate {A = ℕ} n 0) (ap (λ (x : File). x.owners) E);
-          planned-are =
+          planned_are =
               λ _. sym (written_over (take g.parameters.pages planned') [] (omega arith))
               ∙ ap (λ (x : File). x.separators) E
               ∙ written_over (separators (pages H 0 g.parameters.pages (row_stars given n))) [] (omega arith);
@@ -357,5 +357,5 @@ module _ (g : Geometry) (given : List ℕ) (n : ℕ) (valid : valid_parameters g
                 numbers = λ e. absurd (false≢true e);
                 words = λ e. absurd (false≢true e);
                 owners = λ e. absurd (false≢true e);
-                planned-are = λ e. absurd (false≢true e);
+                planned_are = λ e. absurd (false≢true e);
               }

@@ -38,5 +38,5 @@ pub record PlansRows (g : Geometry) (given : List ℕ) (n : ℕ) (pool planned :
       ≡ column g.parameters.places (λ (s : Star). s.payload.word) (pages (hash_of g.parameters g.growth) 0 g.parameters.pages (row_stars given n))
   pub owners : r ≡ true → replicate (length pool) 0
       ≡ column g.parameters.places (λ (s : Star). s.payload.owner) (pages (hash_of g.parameters g.growth) 0 g.parameters.pages (row_stars given n))
-  pub planned-are : r ≡ true
+  pub planned_are : r ≡ true
       → take g.parameters.pages planned ≡ separators (pages (hash_of g.parameters g.growth) 0 g.parameters.pages (row_stars given n))

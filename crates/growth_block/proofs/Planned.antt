@@ -44,7 +44,7 @@ use Rattle.growth_block.proofs.Named.{page-named}
 
 pub probes-upto : (p : Parameters) (g : Growth) (stop : ℕ) → Probes (hash_up_to p g stop) p
 unfolding hash_up_to
-probes-upto p g stop = record { signatures = λ k page. refl; top = refl; room-is = refl }
+probes-upto p g stop = record { signatures = λ k page. refl; top = refl; room_is = refl }
 
 pub same-below : (p : Parameters) (g : Growth) (stop : ℕ) → SameBelow stop (hash_of p g) (hash_up_to p g stop)
 unfolding hash_of hash_up_to home_up_to below
@@ -182,7 +182,7 @@ module _ (p : Parameters) (g : Growth) (f : File) (valid : valid_parameters p �
   leaves =
       applied-stretch p from some f L.homes f.words f.owners
       (plannable-stretch p f valid sized from some inside (omega arith) L.homes size below-most within f.words f.owners sized.of_words_lem sized.of_owners) 0
-      pool' planned planned' L.waiting L.past-it (omega (arith, inside, wide)) L.plan
+      pool' planned planned' L.waiting L.past_it (omega (arith, inside, wide)) L.plan
       ∙ ap (replaced p.places f from) planned-pages
 
   -- page `step` of the growth

@@ -59,9 +59,9 @@ pub record PlansLocally (p : Parameters) (g : Growth) (step : ℕ) (stored ns po
       ≡ paste pool (lo * p.places) (drop (lo * p.places) (homes_taken p (grown p g) stop ns)) (suc (stop - lo) * p.places)
   pub homes-long : length homes ≡ length pool
   pub waiting : List ℕ
-  pub past-it : ℕ
+  pub past_it : ℕ
   pub plan :
-      Planned p lo (suc (stop - lo)) [] (stretch_words p.places lo (suc (stop - lo)) 0 ns homes) homes pool' planned planned' waiting past-it
+      Planned p lo (suc (stop - lo)) [] (stretch_words p.places lo (suc (stop - lo)) 0 ns homes) homes pool' planned planned' waiting past_it
 
 -- the sources in the pool and the planned separator of page `step` are those of the page c, for the file's items
 pub record NamesPage (p : Parameters) (f : File) (pool planned : List ℕ) (step : ℕ) (c : Contents) : Type 0 where

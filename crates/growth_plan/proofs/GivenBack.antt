@@ -110,7 +110,7 @@ module _ (p : Parameters) (g next : Growth) (f : File) (t : List Star) (valid : 
 
 pub highest-inside : (p : Parameters) (g : Growth) → valid_parameters p ≡ true → valid_growth p g ≡ true → highest p g < p.pages
 unfolding highest
-highest-inside p g valid grows = let w = growth_within p g grows in omega (arith, w.pages-fit, homed-real p g valid grows 0)
+highest-inside p g valid grows = let w = growth_within p g grows in omega (arith, w.pages_fit, homed-real p g valid grows 0)
 
 -- what the code has found, by the page given back
 pub own_of : (places q P : ℕ) (ns ws os hs hs' : List ℕ) (own : Page) → q ≡ P → hs ≡ hs' → OwnOf places q ns ws os hs own → OwnOf places P ns ws os hs' own
@@ -211,7 +211,7 @@ module _ (p : Parameters) (g : Growth) (f : File) (valid : valid_parameters p �
         (at.0, low, sym (part-item p.places P f.numbers at.0 low) ∙ at.2)
 
     own-long : length (numbers_of_lem p.places own) ≡ p.places
-    own-long = length-take-le p.places own.numbers (omega (arith, O.of_numbers, (limits p valid).places-most))
+    own-long = length-take-le p.places own.numbers (omega (arith, O.of_numbers, (limits p valid).places_most))
 
     own-item : (i : ℕ) → i < p.places → get_or (numbers_of_lem p.places own) i 0 ≡ get_or own.numbers i 0
     own-item i h = get_or-take p.places own.numbers i 0 h
@@ -221,10 +221,10 @@ module _ (p : Parameters) (g : Growth) (f : File) (valid : valid_parameters p �
         record {
           rising = clean_laid.rising;
           proper = clean_laid.proper;
-          few = (limits p valid).places-most;
+          few = (limits p valid).places_most;
           of_numbers = O.of_numbers;
-          of_words_lem = ap length O.words ∙ filled-length p.places P f.words (fits_in f.words sized.of_words_lem) (limits p valid).places-most;
-          of_owners = ap length O.owners ∙ filled-length p.places P f.owners (fits_in f.owners sized.of_owners) (limits p valid).places-most;
+          of_words_lem = ap length O.words ∙ filled-length p.places P f.words (fits_in f.words sized.of_words_lem) (limits p valid).places_most;
+          of_owners = ap length O.owners ∙ filled-length p.places P f.owners (fits_in f.owners sized.of_owners) (limits p valid).places_most;
           star = member;
           once = once;
         }

@@ -123,7 +123,7 @@ module _ (p : Parameters) (next : Growth) (ns pool : List ℕ) (valid : valid_pa
   pub some-pages : 0 < p.pages
   some-pages =
       let state = growth_within p next later in
-      omega (arith, state.pages-fit, (spread p next (limits p valid) state).pages-low)
+      omega (arith, state.pages_fit, (spread p next (limits p valid) state).pages_low)
 
   pub homes-size : length pool ≡ p.pages * p.places
   unfolding homes_of
@@ -192,7 +192,7 @@ module _ (p : Parameters) (g : Growth) (f : File) (valid : valid_parameters p �
     -- stars stand at their homes or above
     home-low : (n i : ℕ) → n ≤ p.pages → i < n * p.places → home_in p g (get_or f.numbers i 0) < n
     home-low n i inside h =
-        let some : 0 < p.places = (limits p valid).places-least in
+        let some : 0 < p.places = (limits p valid).places_least in
         let low : i / p.places < n = (div-lt_iff_lt-mul some).1 h in
         let at : i ≡ i / p.places * p.places + i % p.places = omega (arith, div-add-mod' i p.places) in
         let there = item_on p g f (i / p.places) sized (omega arith) (sound-at (i / p.places) (omega arith) (omega arith)) (i % p.places) (mod-lt i some) in
@@ -202,7 +202,7 @@ module _ (p : Parameters) (g : Growth) (f : File) (valid : valid_parameters p �
     unfolding highest
     homes-stay false grows m = record { inside = omega arith; same = λ i h. omega arith }
     homes-stay true grows m =
-        let low : highest p g ≤ p.pages = omega (arith, (growth_within p g grows).pages-fit) in
+        let low : highest p g ≤ p.pages = omega (arith, (growth_within p g grows).pages_fit) in
         record {
           inside = omega (arith, sized.of_numbers, mul-le-mul_right p.places low);
           same = λ i h. item-shrunk p g valid grows m (get_or f.numbers i 0) (home-low (highest p g) i low h);

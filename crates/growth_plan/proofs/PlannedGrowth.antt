@@ -59,7 +59,7 @@ pub words-fit : (q : Parameters) (lo n : ℕ) (f : File) (pool waiting poolowner
     → 0 + length (stretch_words q.places lo n 0 f.numbers pool) ≤ length waiting
 words-fit q lo n f pool waiting poolowners L =
     rw (words_count (lo * q.places) 0 (stretch q.places lo n f.numbers) (stretch q.places lo n pool)
-    (omega (arith, length-stretch q.places lo n f.numbers L.numbers_long, length-stretch q.places lo n pool L.pool-long)))
+    (omega (arith, length-stretch q.places lo n f.numbers L.numbers_long, length-stretch q.places lo n pool L.pool_long)))
     (stars-fit q lo n f pool waiting poolowners L 0)
 
 -- words gathered by home, and all pages placed over them
@@ -76,14 +76,14 @@ module _ (q : Parameters) (l U W ends : List ℕ) (S : Scattered 0 q.pages 0 l U
   settleable pool planned valid of_planned of_pool of_ends few =
       record {
         valid = valid;
-        pages = omega (arith, (limits q valid).pages-most);
+        pages = omega (arith, (limits q valid).pages_most);
         of_planned = of_planned;
         of_pool = of_pool;
         of_ends = of_ends;
         few = omega arith;
         order = omega arith;
         inside = omega arith;
-        grouped-are = rw in_groups_lem (started-again 0 q.pages 0 l W ends ready);
+        grouped_are = rw in_groups_lem (started-again 0 q.pages 0 l W ends ready);
         near = unfold all in refl;
       }
 

@@ -43,7 +43,7 @@ pub record GrowsInPlace (p : Parameters) (g next : Growth) (f f' : File) (pool p
   pub accepts : r ≡ true → (page : ℕ) → On page ≡ growth_answer p g f next page
   pub file : r ≡ true → f' ≡ growth_file p g f next
   pub kept : r ≡ false → f' ≡ f
-  pub pool-kept : r ≡ false → pool' ≡ pool
+  pub pool_kept : r ≡ false → pool' ≡ pool
 
 -- the first item whose home may be another one
 abbrev pub first_moved_lem : Bool → Parameters → Growth → ℕ

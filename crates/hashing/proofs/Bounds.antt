@@ -15,25 +15,25 @@ use Rattle.hashing.specs.Limits.{within, valid_parameters, valid_growth}
 use Rattle.generator.specs.Generator.{valid_multiplier}
 
 pub record Limits (p : Parameters) : Type 0 where
-  pub places-least : 1 ≤ p.places
-  pub places-most : p.places ≤ 32
-  pub groups-least : 1 ≤ p.groups
-  pub groups-most : p.groups ≤ 256
+  pub places_least : 1 ≤ p.places
+  pub places_most : p.places ≤ 32
+  pub groups_least : 1 ≤ p.groups
+  pub groups_most : p.groups ≤ 256
   pub width_least : 1 ≤ p.width
   pub width_most : p.width ≤ 4
-  pub step-least : 1 ≤ p.step
-  pub step-most : p.step ≤ p.groups
+  pub step_least : 1 ≤ p.step
+  pub step_most : p.step ≤ p.groups
   pub bits_least : 1 ≤ p.bits
   pub bits_most : p.bits ≤ 8
   pub load_least : 1 ≤ p.load
   pub load_most : p.load ≤ 99
-  pub pages-least : p.width * p.groups ≤ p.pages
-  pub pages-most : p.pages ≤ 1024
-  pub multiplier_valid_lem : valid_multiplier p.multiplier ≡ true
+  pub pages_least : p.width * p.groups ≤ p.pages
+  pub pages_most : p.pages ≤ 1024
+  pub multiplier_valid : valid_multiplier p.multiplier ≡ true
 
 pub record Within (p : Parameters) (g : Growth) : Type 0 where
-  pub expanded-below : g.expanded < group_count_lem p g
-  pub pages-fit : page_count p g ≤ p.pages
+  pub expanded_below : g.expanded < group_count_lem p g
+  pub pages_fit : page_count p g ≤ p.pages
 
 pub both : (a b : Bool) → a && b ≡ true → (a ≡ true) × (b ≡ true)
 both true b e = (refl, e)
@@ -71,46 +71,46 @@ limits p e =
     let load = both (within 1 p.load 99) _ bits.1 in
     let pages = both (within (p.width * p.groups) p.pages 1024) _ load.1 in
     record {
-      places-least = (within-bounds _ _ _ places.0).0;
-      places-most = (within-bounds _ _ _ places.0).1;
-      groups-least = (within-bounds _ _ _ groups.0).0;
-      groups-most = (within-bounds _ _ _ groups.0).1;
+      places_least = (within-bounds _ _ _ places.0).0;
+      places_most = (within-bounds _ _ _ places.0).1;
+      groups_least = (within-bounds _ _ _ groups.0).0;
+      groups_most = (within-bounds _ _ _ groups.0).1;
       width_least = (within-bounds _ _ _ width.0).0;
       width_most = (within-bounds _ _ _ width.0).1;
-      step-least = (within-bounds _ _ _ step.0).0;
-      step-most = (within-bounds _ _ _ step.0).1;
+      step_least = (within-bounds _ _ _ step.0).0;
+      step_most = (within-bounds _ _ _ step.0).1;
       bits_least = (within-bounds _ _ _ bits.0).0;
       bits_most = (within-bounds _ _ _ bits.0).1;
       load_least = (within-bounds _ _ _ load.0).0;
       load_most = (within-bounds _ _ _ load.0).1;
-      pages-least = (within-bounds _ _ _ pages.0).0;
-      pages-most = (within-bounds _ _ _ pages.0).1;
-      multiplier_valid_lem = pages.1;
+      pages_least = (within-bounds _ _ _ pages.0).0;
+      pages_most = (within-bounds _ _ _ pages.0).1;
+      multiplier_valid = pages.1;
     }
 
 pub limits-valid : (p : Parameters) → Limits p → valid_parameters p ≡ true
 unfolding valid_parameters
 limits-valid p l =
     rw (
-      bounds-within 1 p.places 32 l.places-least l.places-most,
-      bounds-within 1 p.groups 256 l.groups-least l.groups-most,
+      bounds-within 1 p.places 32 l.places_least l.places_most,
+      bounds-within 1 p.groups 256 l.groups_least l.groups_most,
       bounds-within 1 p.width 4 l.width_least l.width_most,
-      bounds-within 1 p.step p.groups l.step-least l.step-most,
+      bounds-within 1 p.step p.groups l.step_least l.step_most,
       bounds-within 1 p.bits 8 l.bits_least l.bits_most,
       bounds-within 1 p.load 99 l.load_least l.load_most,
-      bounds-within (p.width * p.groups) p.pages 1024 l.pages-least l.pages-most,
-      l.multiplier_valid_lem,
+      bounds-within (p.width * p.groups) p.pages 1024 l.pages_least l.pages_most,
+      l.multiplier_valid,
     )
 
 pub growth_within : (p : Parameters) (g : Growth) → valid_growth p g ≡ true → Within p g
 unfolding valid_growth
 growth_within p g e =
     let t = both (ltb g.expanded (group_count_lem p g)) (leb (page_count p g) p.pages) e in
-    record { expanded-below = ltb-true _ _ t.0; pages-fit = leb-true _ _ t.1 }
+    record { expanded_below = ltb-true _ _ t.0; pages_fit = leb-true _ _ t.1 }
 
 pub within-valid : (p : Parameters) (g : Growth) → Within p g → valid_growth p g ≡ true
 unfolding valid_growth
-within-valid p g w = rw (lt-ltb _ _ w.expanded-below, le-leb _ _ w.pages-fit)
+within-valid p g w = rw (lt-ltb _ _ w.expanded_below, le-leb _ _ w.pages_fit)
 
 -- group size and group count after e partial expansions
 pub size-least : (p : Parameters) (e : ℕ) → p.width ≤ size_at p e
@@ -130,17 +130,17 @@ doubled_most groups d h l = mul-le-mul {n₂ = 256} {m₂ = 2 ^ 10} h (pow_mono 
 
 pub count_most : (p : Parameters) (e : ℕ) → Limits p → e / p.width ≤ 10 → count_at_lem p e ≤ 262144
 unfolding count_at_lem
-count_most p e l h = doubled_most p.groups (e / p.width) l.groups-most h
+count_most p e l h = doubled_most p.groups (e / p.width) l.groups_most h
 
 -- what the code needs of a valid growth state
 pub record Spread (p : Parameters) (g : Growth) : Type 0 where
   pub doublings : g.expansions / p.width ≤ 10
   pub expansions_most : g.expansions ≤ 32
   pub size_low : 1 ≤ group_size_lem p g
-  pub size-high : group_size_lem p g ≤ 7
+  pub size_high : group_size_lem p g ≤ 7
   pub count_low : p.groups ≤ group_count_lem p g
-  pub count-high : group_count_lem p g ≤ 1024
-  pub pages-low : 1 ≤ page_count p g
+  pub count_high : group_count_lem p g ≤ 1024
+  pub pages_low : 1 ≤ page_count p g
 
 pages-count : (p : Parameters) (g : Growth) → Limits p → group_count_lem p g ≤ page_count p g
 unfolding page_count
@@ -179,9 +179,9 @@ unfolding size_at count_at_lem page_count
 few-expansions p g l w =
     let d = g.expansions / p.width in
     let r = g.expansions % p.width in
-    let once : 1 * 2 ^ d ≤ p.groups * 2 ^ d = mul-le-mul_right (2 ^ d) l.groups-least in
+    let once : 1 * 2 ^ d ≤ p.groups * 2 ^ d = mul-le-mul_right (2 ^ d) l.groups_least in
     let span : (p.width + r) * (1 * 2 ^ d) ≤ (p.width + r) * (p.groups * 2 ^ d) = mul-le-mul_left (p.width + r) once in
-    let fits : (p.width + r) * 2 ^ d ≤ 1024 = omega (arith, rw (one-mul (2 ^ d)) at span, l.pages-most, w.pages-fit) in
+    let fits : (p.width + r) * 2 ^ d ≤ 1024 = omega (arith, rw (one-mul (2 ^ d)) at span, l.pages_most, w.pages_fit) in
     omega (arith, div-add-mod g.expansions p.width, few-steps p.width d r l.width_most (mod-lt g.expansions {m = p.width} l.width_least) fits)
 
 pub spread : (p : Parameters) (g : Growth) → Limits p → Within p g → Spread p g
@@ -189,17 +189,17 @@ unfolding count_at_lem
 spread p g l w =
     let least : p.width ≤ size_at p g.expansions = size-least p g.expansions in
     let count : group_count_lem p g ≤ page_count p g = pages-count p g l in
-    let high : group_count_lem p g ≤ 1024 = omega (arith, l.pages-most, w.pages-fit) in
+    let high : group_count_lem p g ≤ 1024 = omega (arith, l.pages_most, w.pages_fit) in
     let low : p.groups ≤ group_count_lem p g = count-least p g.expansions in
-    let few : g.expansions / p.width ≤ 10 = few-doublings p.groups (g.expansions / p.width) l.groups-least high in
+    let few : g.expansions / p.width ≤ 10 = few-doublings p.groups (g.expansions / p.width) l.groups_least high in
     record {
       doublings = few;
       expansions_most = few-expansions p g l w;
       size_low = omega (arith, l.width_least);
-      size-high = size-most p g.expansions l;
+      size_high = size-most p g.expansions l;
       count_low = low;
-      count-high = high;
-      pages-low = omega (arith, l.groups-least);
+      count_high = high;
+      pages_low = omega (arith, l.groups_least);
     }
 
 pub many_doublings : (p : Parameters) (g : Growth) → Limits p → 10 < g.expansions / p.width → valid_growth p g ≡ false

@@ -76,7 +76,7 @@ code_most p i l h = omega (arith, size-most p i l, div-le_self i p.width)
 pub code_narrow : (p : Parameters) (g : Growth) (i : ℕ) → Limits p → Within p g → i ≤ g.expansions → Narrow p (code_at p i)
 code_narrow p g i l w h =
     rw (code_count_lem p i l, code_size p i l)
-    (omega (arith, count_fits p g i l w h, l.pages-most), omega (arith, span-most p g i l w h, l.pages-most))
+    (omega (arith, count_fits p g i l w h, l.pages_most), omega (arith, span-most p g i l w h, l.pages_most))
 
 moved-code : (p : Parameters) (i page : ℕ) → Limits p → moved_to p page (code_at p i) ≡ moved_if p i page true
 unfolding moved_to code_page rank_at
@@ -168,17 +168,17 @@ regroup p code order level h l =
 
 pub count-of_least : (p : Parameters) (code : ℕ) → Limits p → 1 ≤ code_count p code
 unfolding code_count
-count-of_least p code l = mul-le-mul {n₁ = 1} {m₁ = 1} l.groups-least (pow_pos (code / 8))
+count-of_least p code l = mul-le-mul {n₁ = 1} {m₁ = 1} l.groups_least (pow_pos (code / 8))
 
 pub count-of_step : (p : Parameters) (code : ℕ) → Limits p → p.step ≤ code_count p code
 unfolding code_count
-count-of_step p code l = omega (arith, mul-le-mul_left p.groups (pow_pos (code / 8)), mul-one p.groups, l.step-most)
+count-of_step p code l = omega (arith, mul-le-mul_left p.groups (pow_pos (code / 8)), mul-one p.groups, l.step_most)
 
 pub order_below : (p : Parameters) (code page : ℕ) → Limits p → rank p.step (code_count p code) (page % code_count p code) < code_count p code
 order_below p code page l =
     rank_below p.step (code_count p code) (page % code_count p code)
     (mod-lt page {m = code_count p code} (count-of_least p code l))
-    l.step-least
+    l.step_least
     (count-of_step p code l)
 
 -- landings
@@ -209,12 +209,12 @@ unfolding code_page code_count
 started p start l h =
     record {
       level = level;
-      landed = rw (level, size, mul-one p.groups) (mod-lt start {m = p.groups} l.groups-least, (omega (arith, l.groups-most), omega (arith, whole, l.pages-least, l.pages-most)));
+      landed = rw (level, size, mul-one p.groups) (mod-lt start {m = p.groups} l.groups_least, (omega (arith, l.groups_most), omega (arith, whole, l.pages_least, l.pages_most)));
       same = rw (level, size, mul-one p.groups, whole);
     }
   where
     small : start / p.groups < p.width
-    small = (div-lt_iff_lt-mul {k = p.groups} {x = start} {y = p.width} l.groups-least).1 h
+    small = (div-lt_iff_lt-mul {k = p.groups} {x = start} {y = p.width} l.groups_least).1 h
 
     level : start / p.groups / 8 ≡ 0
     level = omega (arith, small, l.width_most)

@@ -64,7 +64,7 @@ unfolding page_count
 span-most p g i l w h =
     let parts : g.expansions ≡ g.expansions - i + i = omega arith in
     let up : size_at p i * count_at_lem p i ≤ group_size_lem p g * group_count_lem p g = rw parts (span-up p l.width_least i (g.expansions - i)) in
-    omega (arith, w.pages-fit)
+    omega (arith, w.pages_fit)
 
 pub count_fits : (p : Parameters) (g : Growth) (i : ℕ) → Limits p → Within p g → i ≤ g.expansions → count_at_lem p i ≤ p.pages
 count_fits p g i l w h =
@@ -82,9 +82,9 @@ unfolding rank_at
 rank-at-below p l i page =
     let low : p.groups ≤ count_at_lem p i = count-least p i in
     rank_below p.step (count_at_lem p i) (page % count_at_lem p i)
-    (mod-lt page {m = count_at_lem p i} (omega (arith, l.groups-least)))
-    l.step-least
-    (omega (arith, l.step-most))
+    (mod-lt page {m = count_at_lem p i} (omega (arith, l.groups_least)))
+    l.step_least
+    (omega (arith, l.step_most))
 
 moved-below :
     (p : Parameters) → Limits p → (i page : ℕ) (t : Bool) → page < size_at p i * count_at_lem p i →
@@ -99,7 +99,7 @@ pub steps_below : (a : ℕ) (p : Parameters) → Limits p → (g : Growth) (k i 
 unfolding after_steps step_from size_at count_at_lem
 steps_below a p l g k zero =
     rw (zero-mod p.width, zero-div p.width, pow-zero 2, mul-one p.groups, add-zero p.width)
-    (mod-lt (scrambled a 1 k) {m = p.width * p.groups} (omega (arith, mul-le-mul l.width_least l.groups-least)))
+    (mod-lt (scrambled a 1 k) {m = p.width * p.groups} (omega (arith, mul-le-mul l.width_least l.groups_least)))
 steps_below a p l g k (suc i) =
     moved-below p l i (after_steps a p g k i) (chosen a p k i && expanded_at p g i (after_steps a p g k i)) (steps_below a p l g k i)
 
@@ -144,7 +144,7 @@ unfolding highest
 home-highest a p g k v = omega (arith, home_below a p g k v)
 
 pub home-pages : (a : ℕ) (p : Parameters) (g : Growth) (k : ℕ) → valid_parameters p ≡ true → valid_growth p g ≡ true → home a p g k < p.pages
-home-pages a p g k v w = omega (arith, home_below a p g k v, (growth_within p g w).pages-fit)
+home-pages a p g k v w = omega (arith, home_below a p g k v, (growth_within p g w).pages_fit)
 
 -- growth
 
@@ -162,8 +162,8 @@ start-valid p v =
     let l = limits p v in
     within-valid p ungrown
     (record {
-      expanded-below = rw (start-count p) l.groups-least;
-      pages-fit = rw (start-size p, start-count p, add-zero (p.width * p.groups)) l.pages-least;
+      expanded_below = rw (start-count p) l.groups_least;
+      pages_fit = rw (start-size p, start-count p, add-zero (p.width * p.groups)) l.pages_least;
     })
 
 pub grown-count : (p : Parameters) (g : Growth) → valid_parameters p ≡ true → page_count p (grown p g) ≡ page_count p g + 1
@@ -184,8 +184,8 @@ pub grown-valid :
 unfolding grown grown_by_lem
 grown-valid p g v w h =
     within-valid p (grown p g)
-    (record { expanded-below = go (eqb (g.expanded + 1) (group_count_lem p g)) refl; pages-fit = omega (arith, grown-count p g v) })
+    (record { expanded_below = go (eqb (g.expanded + 1) (group_count_lem p g)) refl; pages_fit = omega (arith, grown-count p g v) })
   where
     go : (t : Bool) → eqb (g.expanded + 1) (group_count_lem p g) ≡ t → (grown_by_lem t g).expanded < group_count_lem p (grown_by_lem t g)
-    go true e = omega (arith, count-least p (g.expansions + 1), (limits p v).groups-least)
-    go false e = omega (arith, eqb-false (g.expanded + 1) (group_count_lem p g) e, (growth_within p g w).expanded-below)
+    go true e = omega (arith, count-least p (g.expansions + 1), (limits p v).groups_least)
+    go false e = omega (arith, eqb-false (g.expanded + 1) (group_count_lem p g) e, (growth_within p g w).expanded_below)

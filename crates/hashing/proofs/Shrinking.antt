@@ -50,7 +50,7 @@ new_is g e =
 -- a growth state that a new file does not have
 module _ (p : Parameters) (g : Growth) (valid : valid_parameters p ≡ true) (old : is_ungrown g ≡ false) where
   pub some : 1 ≤ count_at_lem p (g.expansions - 1)
-  some = omega (arith, count-least p (g.expansions - 1), (limits p valid).groups-least)
+  some = omega (arith, count-least p (g.expansions - 1), (limits p valid).groups_least)
 
   pub after_first : eqb g.expanded 0 ≡ true → 1 ≤ g.expansions
   unfolding is_ungrown
@@ -70,7 +70,7 @@ module _ (p : Parameters) (g : Growth) (valid : valid_parameters p ≡ true) (ol
             (same g (e' + 1) 0 (omega (arith, after_first e)) (omega (arith, eqb-true g.expanded 0 e)))
         go false e =
             let x' = g.expanded - 1 in
-            rw (ne_eqb (x' + 1) (group_count_lem p g) (omega (arith, eqb-false g.expanded 0 e, (growth_within p g grows).expanded-below)))
+            rw (ne_eqb (x' + 1) (group_count_lem p g) (omega (arith, eqb-false g.expanded 0 e, (growth_within p g grows).expanded_below)))
             (same g g.expansions (x' + 1) refl (omega (arith, eqb-false g.expanded 0 e)))
 
     pub shrunk-count : page_count p g ≡ suc (page_count p (shrunk p g))
@@ -82,13 +82,13 @@ module _ (p : Parameters) (g : Growth) (valid : valid_parameters p ≡ true) (ol
     shrunk-page = omega (arith, shrunk-count)
 
     pub shrunk-below : page_count p (shrunk p g) < p.pages
-    shrunk-below = omega (arith, shrunk-count, (growth_within p g grows).pages-fit)
+    shrunk-below = omega (arith, shrunk-count, (growth_within p g grows).pages_fit)
 
     pub shrunk-valid : valid_growth p (shrunk p g) ≡ true
     unfolding shrunk shrunk_by
     shrunk-valid =
-        within-valid p (shrunk p g) (record { expanded-below = go (eqb g.expanded 0) refl; pages-fit = omega (arith, shrunk-below) })
+        within-valid p (shrunk p g) (record { expanded_below = go (eqb g.expanded 0) refl; pages_fit = omega (arith, shrunk-below) })
       where
         go : (t : Bool) → eqb g.expanded 0 ≡ t → (shrunk_by t p g).expanded < group_count_lem p (shrunk_by t p g)
         go true e = omega (arith, some)
-        go false e = omega (arith, eqb-false g.expanded 0 e, (growth_within p g grows).expanded-below)
+        go false e = omega (arith, eqb-false g.expanded 0 e, (growth_within p g grows).expanded_below)

@@ -93,7 +93,7 @@ module _ (p : Parameters) (m : Model) (t : Fitting p m) where
   -- Growth: there is a next state unless the highest address is M − 1.
   pub more-pages : eqb (highest p m.growth) (p.pages - 1) ≡ false → page_count p m.growth < p.pages
   unfolding highest
-  more-pages e = omega (arith, eqb-false (page_count p m.growth - 1) (p.pages - 1) e, (growth_within p m.growth t.growth).pages-fit)
+  more-pages e = omega (arith, eqb-false (page_count p m.growth - 1) (p.pages - 1) e, (growth_within p m.growth t.growth).pages_fit)
 
   pub next-valid : eqb (highest p m.growth) (p.pages - 1) ≡ false → valid_growth p (grown p m.growth) ≡ true
   next-valid e = grown-valid p m.growth t.parameters t.growth (more-pages e)

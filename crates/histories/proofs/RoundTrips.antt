@@ -78,7 +78,7 @@ module _ (p : Parameters) (m : Model) (t : Fitting p m) where
   unfolding highest
   further c =
       ne_eqb (page_count p (shrunk p g) - 1) (p.pages - 1)
-      (λ d. omega (arith, shrunk-below p g t.parameters c t.growth, (spread p (shrunk p g) (limits p t.parameters) (growth_within p (shrunk p g) (before-valid p m t c))).pages-low))
+      (λ d. omega (arith, shrunk-below p g t.parameters c t.growth, (spread p (shrunk p g) (limits p t.parameters) (growth_within p (shrunk p g) (before-valid p m t c))).pages_low))
 
   shrink-then-growth : Returns shrink_of grow_of p g (model_file p m)
   shrink-then-growth pool again l e =

@@ -191,7 +191,7 @@ module _ (p : Parameters) (r : GrowthRecord) (f : File) (pool : Pool) (t : Passe
         some : 1 ≤ p.pages
         some =
             let v = states in
-            omega (arith, (spread p g (limits p v.0) (growth_within p g v.1)).pages-low, (growth_within p g v.1).pages-fit)
+            omega (arith, (spread p g (limits p v.0) (growth_within p g v.1)).pages_low, (growth_within p g v.1).pages_fit)
 
         closes : record_after r (record { answer = accepted (page_count p g); growth = grown p g; file = new; pool = cleared pool }) ≡ closed_record (grown p g)
         closes =

@@ -150,11 +150,11 @@ count-rises p i e h = mul-le-mul_left p.groups (pow_mono (div_mono p.width h))
 
 pub record Steady (p : Parameters) (i : ℕ) : Type 0 where
   pub count_low : 1 ≤ count_at_lem p i
-  pub count-step : p.step ≤ count_at_lem p i
-  pub count-high : count_at_lem p i ≤ 1024
+  pub count_step : p.step ≤ count_at_lem p i
+  pub count_high : count_at_lem p i ≤ 1024
   pub size_low : 1 ≤ size_at p i
-  pub size-high : size_at p i ≤ 7
-  pub index-high : i ≤ 43
+  pub size_high : size_at p i ≤ 7
+  pub index_high : i ≤ 43
 
 pub steady : (p : Parameters) (g : Growth) (i : ℕ) → valid_parameters p ≡ true → valid_growth p g ≡ true → i ≤ g.expansions → Steady p i
 steady p g i v w h =
@@ -163,18 +163,18 @@ steady p g i v w h =
     let least : p.groups ≤ count_at_lem p i = count-least p i in
     let most : count_at_lem p i ≤ count_at_lem p g.expansions = count-rises p i g.expansions h in
     record {
-      count_low = omega (arith, l.groups-least);
-      count-step = omega (arith, l.step-most);
-      count-high = omega (arith, s.count-high);
+      count_low = omega (arith, l.groups_least);
+      count_step = omega (arith, l.step_most);
+      count_high = omega (arith, s.count_high);
       size_low = omega (arith, size-least p i, l.width_least);
-      size-high = size-most p i l;
-      index-high = omega (arith, s.expansions_most);
+      size_high = size-most p i l;
+      index_high = omega (arith, s.expansions_most);
     }
 
 pub expanded-most : (p : Parameters) (g : Growth) → valid_parameters p ≡ true → valid_growth p g ≡ true → g.expanded ≤ 1024
 expanded-most p g v w =
     let inside = growth_within p g w in
-    omega (arith, inside.expanded-below, (spread p g (limits p v) inside).count-high)
+    omega (arith, inside.expanded_below, (spread p g (limits p v) inside).count_high)
 
 pub most-below : (n : ℕ) → 1 ≤ n → modulus / (n + 1) < modulus
 most-below n h = div-lt_self {n = modulus} {k = n + 1} (omega arith) (omega arith)
@@ -187,12 +187,12 @@ ready p i sweep stage l s e f =
     let size : stage.size ≡ size_at p i = ap (λ (t : Stage). t.size) f in
     record {
       sweep_is = e ∙ ap sweep_of (sym step);
-      step-least = rw step l.step-least;
-      step-most = rw step (le_trans l.step-most l.groups-most);
-      step_count = rw (step, count) s.count-step;
-      count_most = rw count s.count-high;
+      step_least = rw step l.step_least;
+      step_most = rw step (le_trans l.step_most l.groups_most);
+      step_count = rw (step, count) s.count_step;
+      count_most = rw count s.count_high;
       size-least = rw size s.size_low;
-      size-most = rw size s.size-high;
+      size-most = rw size s.size_high;
       part-is = rw (step, count) (ap (λ (t : Stage). t.part) f);
       rest-is = rw (step, count) (ap (λ (t : Stage). t.rest) f);
     }

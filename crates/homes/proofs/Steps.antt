@@ -168,7 +168,7 @@ module _ (sweep : Sweep) (stage : Stage) (groups orders : List ℕ) (oe : orders
       rw (order-lane j b)
       (omega (
         arith,
-        rank_below sweep.step stage.count (get_or groups j 0) (u j b) r.step-least r.step_count,
+        rank_below sweep.step stage.count (get_or groups j 0) (u j b) r.step_least r.step_count,
         r.count_most,
       ))
 

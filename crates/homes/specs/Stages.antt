@@ -34,8 +34,8 @@ test_at p g i =
 -- what ranking needs
 pub record Rankable (sweep : Sweep) (stage : Stage) : Type 0 where
   pub sweep_is : sweep ≡ sweep_of sweep.step
-  pub step-least : 1 ≤ sweep.step
-  pub step-most : sweep.step ≤ 256
+  pub step_least : 1 ≤ sweep.step
+  pub step_most : sweep.step ≤ 256
   pub step_count : sweep.step ≤ stage.count
   pub count_most : stage.count ≤ 1024
   pub size-least : 1 ≤ stage.size

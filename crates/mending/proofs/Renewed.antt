@@ -82,7 +82,7 @@ module _ (p : Parameters) (ns hs W ends : List ℕ) (C : Collectable p ns hs W e
       )
 
   pub few_words : length W ≤ 32768
-  few_words = omega (arith, C.of_words_lem, mul-le-mul (limits p C.valid).pages-most (limits p C.valid).places-most)
+  few_words = omega (arith, C.of_words_lem, mul-le-mul (limits p C.valid).pages_most (limits p C.valid).places_most)
 
   module _ (X ends' : List ℕ) (end : ℕ) (e : end ≡ 0 + length words) (S : Scattered 0 p.pages 0 words W X ends') where
     pub gathered-words : take end X ≡ grouped 0 0 p.pages words
@@ -93,9 +93,9 @@ module _ (p : Parameters) (ns hs W ends : List ℕ) (C : Collectable p ns hs W e
         record {
           inside = omega (arith, e, words-fit, ex);
           few = omega (arith, few_words, ex);
-          long = omega (arith, (limits p C.valid).pages-most, C.of_ends, ee);
+          long = omega (arith, (limits p C.valid).pages_most, C.of_ends, ee);
           words = rw gathered-words (grouped-again 0 p.pages p.pages words (omega arith));
-          ends-are = record { ended = λ v h. S.ended v h ∙ omega (arith, ap length (ap (grouped 0 0 (suc v)) gathered-words ∙ grouped-again 0 (suc v) p.pages words h)) };
+          ends_are = record { ended = λ v h. S.ended v h ∙ omega (arith, ap length (ap (grouped 0 0 (suc v)) gathered-words ∙ grouped-again 0 (suc v) p.pages words h)) };
         }
 
     pub gathered-ordered : (Y : List ℕ) → take end Y ≡ ordered (take end X) → take end Y ≡ file_words p ns hs
@@ -111,18 +111,18 @@ settleable p valid end pool W planned ends G ep ed =
     let whole : (0 + p.pages) * p.places ≡ p.pages * p.places = rw (zero-add p.pages) in
     record {
       valid = valid;
-      pages = omega (arith, (limits p valid).pages-most);
-      of_planned = omega (arith, (limits p valid).pages-most);
+      pages = omega (arith, (limits p valid).pages_most);
+      of_planned = omega (arith, (limits p valid).pages_most);
       of_pool = omega (arith, whole);
       of_ends = G.long;
       few = G.few;
       order = omega arith;
       inside = G.inside;
-      grouped-are =
+      grouped_are =
           record {
             room = omega (arith, size, G.inside);
             words = ap (λ (n : ℕ). take n W) (zero-add (length (take end W)) ∙ size) ∙ sym G.words;
-            ended = λ v h. G.ends-are.ended v h ∙ sym (zero-add (length (grouped 0 0 (suc v) (take end W))));
+            ended = λ v h. G.ends_are.ended v h ∙ sym (zero-add (length (grouped 0 0 (suc v) (take end W))));
           };
       near = refl;
     }
@@ -143,7 +143,7 @@ module _ (p : Parameters) (valid : valid_parameters p ≡ true) (f : File) (x : 
         rw (sym A.fits) (
           refl,
           applied-layout p 0 p.pages 0 0 0 f [] x pool' planned' W' 0
-              (layout p 0 p.pages [] x pool pool' planned planned' W' 0 (A.plan refl) (omega (arith, whole)) (omega (arith, (limits p valid).pages-most)))
+              (layout p 0 p.pages [] x pool pool' planned planned' W' 0 (A.plan refl) (omega (arith, whole)) (omega (arith, (limits p valid).pages_most)))
               (unfold sourced all in refl) s,
         )
 
@@ -231,7 +231,7 @@ module _ (p : Parameters) (g : Growth) (f : File) (pool : Pool) (a : Admitted p 
     some-pages : 0 < p.pages
     some-pages =
         let state = growth_within p g a.homing.growth in
-        omega (arith, state.pages-fit, (spread p g (limits p a.homing.valid) state).pages-low)
+        omega (arith, state.pages_fit, (spread p g (limits p a.homing.valid) state).pages_low)
 
     homes-long : length hs ≡ p.pages * p.places
     unfolding homes_of
@@ -318,10 +318,10 @@ module _ (p : Parameters) (g : Growth) (f : File) (pool : Pool) (a : Admitted p 
             record {
               inside = C.inside;
               few = few;
-              long = omega (arith, (limits p a.homing.valid).pages-most);
+              long = omega (arith, (limits p a.homing.valid).pages_most);
               words = rw (C.words t) (ordered-groups p.pages F (firsts_rising H p (probes-real p g) f hs ready)
                   (all-mono (λ w. ltb (group_of 0 w) p.pages) (λ w. ltb (home_of w) p.pages) F (λ w h. home_below w h) (firsts_grouped H p (probes-real p g) f hs ready)));
-              ends-are = C.ends-are t;
+              ends_are = C.ends_are t;
             }
 
         placing : (map (mapped (renamed f.words f.owners 0 0)) (plans p 0 0 p.pages [] F) ≡ pages H 0 p.pages W)

@@ -28,4 +28,4 @@ pub record Collects (p : Parameters) (ns ws os hs W ends : List ℕ) (r : Collec
   pub alike_is : r.alike ≡ neighbours_agree ws os (file_words p ns hs)
   pub inside : r.end ≤ length W
   pub words : r.alike ≡ true → take r.end W ≡ firsts_after 0 (file_words p ns hs)
-  pub ends-are : r.alike ≡ true → Ends p.pages (take r.end W) ends
+  pub ends_are : r.alike ≡ true → Ends p.pages (take r.end W) ends

@@ -64,7 +64,7 @@ module _ (q : Parameters) (lo count carried end : ℕ) (l W pool planned ends : 
 
   waiting-count : length (remains q lo 0 v (take carried W) l) + from ≡ end_of carried lo l v
   waiting-count =
-      omega (arith, I.start, ap length I.waiting, length-slice from (end_of carried lo l v) W' (omega (arith, reached, inside, I.long-waiting)))
+      omega (arith, I.start, ap length I.waiting, length-slice from (end_of carried lo l v) W' (omega (arith, reached, inside, I.long_waiting)))
 
   -- the pages ahead keep at most b each
   too_many : (spare : ℕ) → spare + (count - v) * q.places < end - from → spare < length (remains q lo 0 count (take carried W) l)
@@ -91,7 +91,7 @@ module _ (q : Parameters) (lo count carried end : ℕ) (l W pool planned ends : 
   settled-all : v ≡ count → Planned q lo count (take carried W) l pool pool' planned planned' (slice from end W') (end - from)
   settled-all e =
       planned-all q lo count carried l W pool planned ends S pool' W' planned' from v I e (slice from end W') end (end - from) (sym size) refl
-      (take_all (end - from) (slice from end W') (omega (arith, length-slice from end W' (omega (arith, inside, I.long-waiting)))))
+      (take_all (end - from) (slice from end W') (omega (arith, length-slice from end W' (omega (arith, inside, I.long_waiting)))))
 
   settled-left : v ≡ count → length (remains q lo 0 count (take carried W) l) ≡ end - from
   settled-left e =
@@ -110,7 +110,7 @@ module _ (q : Parameters) (lo count carried end : ℕ) (W pool planned ends : Li
   size = omega (arith, P.order, length-slice carried end W P.inside)
 
   pub from-inside : from ≤ end
-  from-inside = within q lo count carried end _ W pool planned ends size P.inside P.grouped-are pool' W' planned' from v I
+  from-inside = within q lo count carried end _ W pool planned ends size P.inside P.grouped_are pool' W' planned' from v I
 
   pub stretch-settled : (spare : ℕ) → (v < count → spare + (count - v) * q.places < end - from)
       → StretchSettled q lo count end spare (take carried W) (slice carried end W) pool pool' planned planned' W' from
@@ -121,14 +121,14 @@ module _ (q : Parameters) (lo count carried end : ℕ) (W pool planned ends : Li
           record {
             inside = from-inside;
             plan = λ h. absurd (omega (arith, ended m, h));
-            past = λ h. too_many q lo count carried end _ W pool planned ends size P.inside P.grouped-are pool' W' planned' from v I spare (ended m);
+            past = λ h. too_many q lo count carried end _ W pool planned ends size P.inside P.grouped_are pool' W' planned' from v I spare (ended m);
           }
       go (no m) =
           let e : v ≡ count = omega (arith, I.upto) in
           record {
             inside = from-inside;
-            plan = λ h. settled-all q lo count carried end _ W pool planned ends size P.inside P.grouped-are pool' W' planned' from v I e;
-            past = λ h. omega (arith, h, settled-left q lo count carried end _ W pool planned ends size P.inside P.grouped-are pool' W' planned' from v I e);
+            plan = λ h. settled-all q lo count carried end _ W pool planned ends size P.inside P.grouped_are pool' W' planned' from v I e;
+            past = λ h. omega (arith, h, settled-left q lo count carried end _ W pool planned ends size P.inside P.grouped_are pool' W' planned' from v I e);
           }
 
 -- what is left moved to the front
@@ -138,7 +138,7 @@ pub planned-closed : (q : Parameters) (lo count from end : ℕ) (w l pool pool' 
 planned-closed q lo count from end w l pool pool' planned planned' W' W'' r h P er et =
     record {
       sources = P.sources;
-      separators-are = P.separators-are;
+      separators_are = P.separators_are;
       passed = et ∙ sym (take_all (end - from) (slice from end W') (omega (arith, length-slice from end W' h))) ∙ P.passed;
       counted = er ∙ P.counted;
     }
@@ -158,7 +158,7 @@ all_placed q end l pool pool' planned planned' W' r S = go (eqb r end) refl
           plan =
               λ _. record {
                 sources = P.sources;
-                separators-are = P.separators-are;
+                separators_are = P.separators_are;
                 passed = rw none at P.passed;
                 counted = rw none at P.counted;
               };

@@ -39,7 +39,7 @@ use Rattle.page_plan.proofs.Blocks.{from, plans-blocks}
 -- document 01's hash probes as the words do
 pub probes-real : (p : Parameters) (g : Growth) → Probes (hash_of p g) p
 unfolding hash_of
-probes-real p g = record { signatures = λ k page. refl; top = refl; room-is = refl }
+probes-real p g = record { signatures = λ k page. refl; top = refl; room_is = refl }
 
 pub homes-real : (p : Parameters) (g : Growth) (ns : List ℕ) → homes_of p g ns ≡ map (item_home (hash_of p g)) ns
 unfolding hash_of homes_of item_home
@@ -175,7 +175,7 @@ taken-on lo n m s d e h = simp mul-one at (stretch-on 1 lo n m s d (e ∙ sym (m
 -- what has been planned of n pages from lo: the sources in the pool, the separators, and the r words carried past
 pub record Layout (q : Parameters) (lo n : ℕ) (w l pool planned W : List ℕ) (r : ℕ) : Type 0 where
   pub sources : stretch q.places lo n pool ≡ column q.places (λ (s : Star). s.payload.word) (plans q lo 0 n w l)
-  pub separators-are : take n (drop lo planned) ≡ separators (plans q lo 0 n w l)
+  pub separators_are : take n (drop lo planned) ≡ separators (plans q lo 0 n w l)
   pub passed : take r W ≡ remains q lo 0 n w l
   pub counted : r ≡ length (remains q lo 0 n w l)
 
@@ -195,8 +195,8 @@ layout q lo n w l pool pool' planned planned' W' r P hp hd =
       sources =
           ap (stretch q.places lo n) P.sources
           ∙ taken-written (lo * q.places) (n * q.places) (column q.places (λ (s : Star). s.payload.word) (plans q lo 0 n w l)) pool (length-sources q lo n w l) (omega (arith, add-mul lo n q.places));
-      separators-are =
-          ap (λ (m : List ℕ). take n (drop lo m)) P.separators-are
+      separators_are =
+          ap (λ (m : List ℕ). take n (drop lo m)) P.separators_are
           ∙ taken-written lo n (separators (plans q lo 0 n w l)) planned (length-planned q lo n w l) (omega arith);
       passed = P.passed;
       counted = P.counted;
@@ -222,10 +222,10 @@ layout-next q lo n m w a b pool pool' planned planned' W W' r r' ga fb hp hd A P
           ∙ ap (λ (x : List ℕ). x ++ column q.places (λ (s : Star). s.payload.word) ds) A.sources
           ∙ sym (column-append q.places (λ (s : Star). s.payload.word) cs ds)
           ∙ ap (column q.places (λ (s : Star). s.payload.word)) (sym all-pages);
-      separators-are =
-          ap (λ (x : List ℕ). take (n + m) (drop lo x)) P.separators-are
+      separators_are =
+          ap (λ (x : List ℕ). take (n + m) (drop lo x)) P.separators_are
           ∙ taken-on lo n m (separators ds) planned (length-planned q (lo + n) m (take r W) b) hd
-          ∙ ap (λ (x : List ℕ). x ++ separators ds) A.separators-are
+          ∙ ap (λ (x : List ℕ). x ++ separators ds) A.separators_are
           ∙ sym (separators-append cs ds)
           ∙ ap separators (sym all-pages);
       passed = P.passed ∙ past;
@@ -237,7 +237,7 @@ pub applied-layout : (q : Parameters) (lo n newnumber newword newowner : ℕ) (f
     → sourced f.numbers newnumber w ≡ true → sourced f.numbers newnumber l ≡ true
     → applied q.places lo n newnumber newword newowner pool planned f ≡ replaced q.places f lo (map (mapped (renamed f.words f.owners newword newowner)) (plans q lo 0 n w l))
 applied-layout q lo n newnumber newword newowner f w l pool planned W r A sw sl =
-    applied-is q.places lo n newnumber newword newowner pool planned f (plans q lo 0 n w l) A.sources A.separators-are
+    applied-is q.places lo n newnumber newword newowner pool planned f (plans q lo 0 n w l) A.sources A.separators_are
     (plans-sourced f.numbers newnumber q lo 0 n w l sw sl)
 
 -- the homes that a survey leaves in the pool

@@ -25,7 +25,7 @@ use Rattle.page_plan.proofs.Pouring.{select_waits, length-waits}
 pub record Probes (H : Hash) (q : Parameters) : Type 0 where
   pub signatures : (k p : ℕ) → H.signature k p ≡ signature (multiplier_of q) q.bits k (p - H.home k + 1)
   pub top : H.top ≡ top_of_lem q.bits
-  pub room-is : H.room ≡ q.places
+  pub room_is : H.room ≡ q.places
 
 pub number-low : (w : ℕ) → (star_of (low_of w)).number ≡ number_in w
 unfolding star_of low_of number_in
@@ -142,7 +142,7 @@ module _ (H : Hash) (q : Parameters) (real : Probes H q) where
     unfolding rule·separator_from words_separator_from
     separator-from zero = refl
     separator-from (suc v) =
-        rw (separator-from v, staying-tie (suc v), length-waits (staying_words q p (suc v) l), real.room-is)
+        rw (separator-from v, staying-tie (suc v), length-waits (staying_words q p (suc v) l), real.room_is)
 
     pub separator_tie : rule·separator_of H p (waits (l ++ r)) ≡ words_separator q p l
     unfolding rule·separator_of words_separator

@@ -170,10 +170,10 @@ settling-none q lo count carried l W pool planned =
       waiting = ap (λ (k : ℕ). take k W) (add-zero carried);
       ahead = refl;
       sources = written_none (lo * q.places) pool;
-      planned-are = written_none lo planned;
-      long-pool = refl;
-      long-waiting = refl;
-      long-planned = refl;
+      planned_are = written_none lo planned;
+      long_pool = refl;
+      long_waiting = refl;
+      long_planned = refl;
     }
 
 module _ (q : Parameters) (lo count carried : ℕ) (l W pool planned ends : List ℕ) (S : Started lo count carried l W ends)
@@ -184,7 +184,7 @@ module _ (q : Parameters) (lo count carried : ℕ) (l W pool planned ends : List
       let e = end_of carried lo l v in
       let e' = end_of carried lo l (suc v) in
       slice-join from e e' W' I.start (ends-rise lo count carried l W ends S v)
-      (omega (arith, ends-within lo count carried l W ends S (suc v) more, S.room, I.long-waiting))
+      (omega (arith, ends-within lo count carried l W ends S (suc v) more, S.room, I.long_waiting))
       ∙ ap (λ (s : List ℕ). s ++ slice e e' W') I.waiting
       ∙ ap (λ (s : List ℕ). remains q lo 0 v (take carried W) l ++ s)
       (drop-take e e' W' ∙ ap (take (e' - e)) I.ahead ∙ sym (drop-take e e' W) ∙ group-there lo count carried l W ends S v more)
@@ -200,7 +200,7 @@ module _ (q : Parameters) (lo count carried : ℕ) (l W pool planned ends : List
   probed-inside = omega (arith, I.start, ends-rise lo count carried l W ends S v)
 
   pub probed-within : end_of carried lo l (suc v) ≤ length W'
-  probed-within = omega (arith, ends-within lo count carried l W ends S (suc v) more, S.room, I.long-waiting)
+  probed-within = omega (arith, ends-within lo count carried l W ends S (suc v) more, S.room, I.long_waiting)
 
 words-waits : (l : List ℕ) → map (λ (s : Star). s.payload.word) (waits l) ≡ map source_of (slots_of l)
 unfolding waits star_of source_of
@@ -276,7 +276,7 @@ module _ (q : Parameters) (lo count carried : ℕ) (l W pool planned ends : List
       let size : length done ≡ v = length-separators (plans q lo 0 v w l) ∙ length-plans q lo 0 v w l in
       P.separator
       ∙ ap (λ (m : List ℕ). written (lo + v) (separators (settled q (lo + v) m ∷ [])) planned') is-here
-      ∙ ap (λ (m : List ℕ). written (lo + v) (separators (here ∷ [])) m) I.planned-are
+      ∙ ap (λ (m : List ℕ). written (lo + v) (separators (here ∷ [])) m) I.planned_are
       ∙ ap (λ (k : ℕ). written (lo + k) (separators (here ∷ [])) (written lo done planned)) (sym size)
       ∙ written-add lo done (separators (here ∷ [])) planned (omega arith)
       ∙ ap (λ (m : List ℕ). written lo m planned) (sym (separators-append (plans q lo 0 v w l) (here ∷ [])) ∙ ap separators (sym one_more))
@@ -312,10 +312,10 @@ module _ (q : Parameters) (lo count carried : ℕ) (l W pool planned ends : List
         waiting = next-waiting;
         ahead = next-ahead;
         sources = next-sources;
-        planned-are = next-planned;
-        long-pool = lp ∙ I.long-pool;
-        long-waiting = lw ∙ I.long-waiting;
-        long-planned = ln ∙ I.long-planned;
+        planned_are = next-planned;
+        long_pool = lp ∙ I.long_pool;
+        long_waiting = lw ∙ I.long_waiting;
+        long_planned = ln ∙ I.long_planned;
       })
 
 -- all pages planned, and what is left moved to the front
@@ -329,9 +329,9 @@ planned-all q lo count carried l W pool planned ends S pool' W' planned' from v 
     = ap (λ (k : ℕ). slice from k W') (sym last) ∙ I.waiting ∙ ap (λ (n : ℕ). remains q lo 0 n (take carried W) l) ev in
     record {
       sources = I.sources ∙ ap (λ (n : ℕ). written (lo * q.places) (column q.places (λ (s : Star). s.payload.word) (plans q lo 0 n (take carried W) l)) pool) ev;
-      separators-are = I.planned-are ∙ ap (λ (n : ℕ). written lo (separators (plans q lo 0 n (take carried W) l)) planned) ev;
+      separators_are = I.planned_are ∙ ap (λ (n : ℕ). written lo (separators (plans q lo 0 n (take carried W) l)) planned) ev;
       passed = et ∙ left;
-      counted = er ∙ sym (length-slice from end W' (omega (arith, S.room, I.long-waiting))) ∙ ap length left;
+      counted = er ∙ sym (length-slice from end W' (omega (arith, S.room, I.long_waiting))) ∙ ap length left;
     }
 
 -- the plan of words in groups is the plan of the words
@@ -341,7 +341,7 @@ planned-again q lo count w l pool pool' planned planned' W' r P =
     let both = plans-grouped q lo count w l in
     record {
       sources = P.sources ∙ ap (λ (cs : List Contents). written (lo * q.places) (column q.places (λ (s : Star). s.payload.word) cs) pool) both.0;
-      separators-are = P.separators-are ∙ ap (λ (cs : List Contents). written lo (separators cs) planned) both.0;
+      separators_are = P.separators_are ∙ ap (λ (cs : List Contents). written lo (separators cs) planned) both.0;
       passed = P.passed ∙ both.1;
       counted = P.counted ∙ ap length both.1;
     }

@@ -100,7 +100,7 @@ pub record Settleable (q : Parameters) (lo count carried end : ℕ) (pool W plan
   pub few : length W ≤ 32768
   pub order : carried ≤ end
   pub inside : end ≤ length W
-  pub grouped-are : Started lo count carried (slice carried end W) W ends
+  pub grouped_are : Started lo count carried (slice carried end W) W ends
   pub near : homes_up_to lo (take carried W) ≡ true
 
 -- with v pages planned: what waits stands from `from` up to the end of group v - 1, and behind that the list is as it was
@@ -110,10 +110,10 @@ pub record Settling (q : Parameters) (lo count carried : ℕ) (l W pool planned 
   pub waiting : slice from (end_of carried lo l v) W' ≡ remains q lo 0 v (take carried W) l
   pub ahead : drop (end_of carried lo l v) W' ≡ drop (end_of carried lo l v) W
   pub sources : pool' ≡ written (lo * q.places) (column q.places (λ (s : Star). s.payload.word) (plans q lo 0 v (take carried W) l)) pool
-  pub planned-are : planned' ≡ written lo (separators (plans q lo 0 v (take carried W) l)) planned
-  pub long-pool : length pool' ≡ length pool
-  pub long-waiting : length W' ≡ length W
-  pub long-planned : length planned' ≡ length planned
+  pub planned_are : planned' ≡ written lo (separators (plans q lo 0 v (take carried W) l)) planned
+  pub long_pool : length pool' ≡ length pool
+  pub long_waiting : length W' ≡ length W
+  pub long_planned : length planned' ≡ length planned
 
 -- some of the pages are settled, of lists that were as settling needs them
 pub record PartSettled (q : Parameters) (lo count end : ℕ) (ends pool' W' planned' : List ℕ) (done : Progress) : Type 0 where
@@ -139,7 +139,7 @@ Ended q count end spare r = r.pages < count → spare + (count - r.pages) * q.pl
 -- the pool, the new separators, and at the front of W' the r words that are carried past the stretch.
 pub record Planned (q : Parameters) (lo count : ℕ) (w l pool pool' planned planned' W' : List ℕ) (r : ℕ) : Type 0 where
   pub sources : pool' ≡ written (lo * q.places) (column q.places (λ (s : Star). s.payload.word) (plans q lo 0 count w l)) pool
-  pub separators-are : planned' ≡ written lo (separators (plans q lo 0 count w l)) planned
+  pub separators_are : planned' ≡ written lo (separators (plans q lo 0 count w l)) planned
   pub passed : take r W' ≡ remains q lo 0 count w l
   pub counted : r ≡ length (remains q lo 0 count w l)
 

@@ -46,10 +46,10 @@ stars-few places lo v ns h pages few =
 module _ (q : Parameters) (lo count : ℕ) (l W pool planned ends : List ℕ) (S : Started lo count 0 l W ends) (pool' W' planned' : List ℕ) (from v : ℕ)
     (I : Settling q lo count 0 l W pool planned pool' W' planned' from v) where
   within : end_of 0 lo l v ≤ length W'
-  within = omega (arith, ends-within lo count 0 l W ends S v I.upto, S.room, I.long-waiting)
+  within = omega (arith, ends-within lo count 0 l W ends S v I.upto, S.room, I.long_waiting)
 
   pub from-most : from ≤ length W
-  from-most = omega (arith, I.start, within, I.long-waiting)
+  from-most = omega (arith, I.start, within, I.long_waiting)
 
   -- `from` is the number of words that stayed
   stayed : length (remains q lo 0 v [] l) + from ≡ length (grouped lo 0 v l)
@@ -58,7 +58,7 @@ module _ (q : Parameters) (lo count : ℕ) (l W pool planned ends : List ℕ) (S
   pub changed : (numbers : List ℕ) (stored : ℕ) → stored ≡ stars_in 0 (stretch q.places lo v numbers) → (v < count → from + 1 ≡ stored)
       → Changed q lo count l numbers pool pool' planned planned' v
   changed numbers stored e ends =
-      record { high = I.upto; sources = I.sources; separators-are = I.planned-are; fewer = λ h. omega (arith, stayed, e, ends h) }
+      record { high = I.upto; sources = I.sources; separators_are = I.planned_are; fewer = λ h. omega (arith, stayed, e, ends h) }
 
 -- planned over words in groups, the front is planned over the words
 pub changed-again : (q : Parameters) (lo n : ℕ) (l numbers pool pool' planned planned' : List ℕ) (r : ℕ) → Changed q lo n (grouped lo 0 n l) numbers pool pool' planned planned' r
@@ -68,7 +68,7 @@ changed-again q lo n l numbers pool pool' planned planned' r C =
     record {
       high = C.high;
       sources = C.sources ∙ ap (λ (cs : List Contents). written (lo * q.places) (column q.places (λ (s : Star). s.payload.word) cs) pool) both.0;
-      separators-are = C.separators-are ∙ ap (λ (cs : List Contents). written lo (separators cs) planned) both.0;
+      separators_are = C.separators_are ∙ ap (λ (cs : List Contents). written lo (separators cs) planned) both.0;
       fewer = λ h. omega (arith, C.fewer h, ap length both.1, ap length (grouped-again lo r n l C.high));
     }
 
@@ -76,4 +76,4 @@ changed-again q lo n l numbers pool pool' planned planned' r C =
 pub whole-changed : (q : Parameters) (lo n : ℕ) (l numbers pool pool' planned planned' W' : List ℕ) (r : ℕ) → Planned q lo n [] l pool pool' planned planned' W' r
     → Changed q lo n l numbers pool pool' planned planned' n
 whole-changed q lo n l numbers pool pool' planned planned' W' r P =
-    record { high = le_refl n; sources = P.sources; separators-are = P.separators-are; fewer = λ h. absurd (omega arith) }
+    record { high = le_refl n; sources = P.sources; separators_are = P.separators_are; fewer = λ h. absurd (omega arith) }

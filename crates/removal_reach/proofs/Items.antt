@@ -68,7 +68,7 @@ module _ (p : Parameters) (f : File) (valid : valid_parameters p ≡ true) (size
         → (get_or (stretch p.places lo n f.numbers) i 0 ≤ greatest) × (home_in p g (get_or (stretch p.places lo n f.numbers) i 0) < lo + n)
     item i h =
         let places = p.places in
-        let some : 0 < p.places = (limits p valid).places-least in
+        let some : 0 < p.places = (limits p valid).places_least in
         let low : i / p.places < n = (div-lt_iff_lt-mul some).1 h in
         let q : ℕ = lo + i / p.places in
         let at : lo * p.places + i ≡ q * p.places + i % p.places = omega (arith, add-mul lo (i / p.places) p.places, div-add-mod' i p.places) in
@@ -91,21 +91,21 @@ module _ (p : Parameters) (f : File) (valid : valid_parameters p ≡ true) (size
   module _ (some : 0 < n) (hs : List ℕ) (homes : length hs ≡ p.pages * p.places)
       (below : all_below (2 ^ 31) (stretch p.places lo n f.numbers) ≡ true) (within : all_below (lo + n) (stretch p.places lo n hs) ≡ true) where
     few : p.pages * p.places ≤ 32768
-    few = omega (arith, mul-le-mul (limits p valid).pages-most (limits p valid).places-most)
+    few = omega (arith, mul-le-mul (limits p valid).pages_most (limits p valid).places_most)
 
     pub plannable-stretch : (waiting poolowners : List ℕ) → length waiting ≡ p.pages * p.places → length poolowners ≡ p.pages * p.places → StretchReady p lo n f hs waiting poolowners
     plannable-stretch waiting poolowners ew eo =
         let l = limits p valid in
         record {
-          places-most = l.places-most;
+          places_most = l.places_most;
           some = some;
-          pages-most = omega (arith, l.pages-most);
-          separators-long = omega (arith, sized.of_separators);
+          pages_most = omega (arith, l.pages_most);
+          separators_long = omega (arith, sized.of_separators);
           numbers_long = omega (arith, long, sized.of_numbers);
           words_long = omega (arith, long, sized.of_words_lem);
           owners_long = omega (arith, long, sized.of_owners);
-          pool-long = omega (arith, long);
-          waiting-long = omega (arith, long);
+          pool_long = omega (arith, long);
+          waiting_long = omega (arith, long);
           poolowners_long = omega (arith, long);
           waiting-most = omega (arith, few);
           valid = below;

@@ -35,7 +35,7 @@ module _ (q : Parameters) (lo n : ℕ) (f : File) (pool waiting poolowners : Lis
         stars_in-most k (stretch q.places lo n f.numbers),
         length-stretch q.places lo n f.numbers L.numbers_long,
         add-mul lo n q.places,
-        L.waiting-long,
+        L.waiting_long,
       )
 
   stretch-sourced : sourced f.numbers 0 (stretch_words q.places lo n k f.numbers pool) ≡ true
@@ -45,7 +45,7 @@ module _ (q : Parameters) (lo n : ℕ) (f : File) (pool waiting poolowners : Lis
         arith,
         length-stretch q.places lo n f.numbers L.numbers_long,
         add-mul lo n q.places,
-        mul-le-mul L.pages-most L.places-most,
+        mul-le-mul L.pages_most L.places_most,
       ))
       f.numbers 0 (named-stretch q.places lo n 0 f.numbers L.numbers_long)
 
@@ -57,7 +57,7 @@ module _ (q : Parameters) (lo n : ℕ) (f : File) (pool waiting poolowners : Lis
   applied-stretch pool' planned planned' W' r long P =
       let l : List ℕ = stretch_words q.places lo n k f.numbers pool in
       applied-layout q lo n 0 0 0 f [] l pool' planned' W' r
-      (layout q lo n [] l pool pool' planned planned' W' r P L.pool-long long)
+      (layout q lo n [] l pool pool' planned planned' W' r P L.pool_long long)
       (unfold sourced Rattle.page_separator.specs.Lists.all in refl) stretch-sourced
 
   -- what the answer of the plan decides
@@ -75,7 +75,7 @@ module _ (q : Parameters) (lo n : ℕ) (f : File) (pool waiting poolowners : Lis
         let items : List ℕ = column q.places (λ (s : Star). s.payload.word) (plans q lo 0 n [] l) in
         let sum : lo * q.places + n * q.places ≡ (lo + n) * q.places = omega (arith, add-mul lo n q.places) in
         ap (drop ((lo + n) * q.places)) P.sources
-        ∙ written_behind (lo * q.places) ((lo + n) * q.places) items pool (omega (arith, sum, L.pool-long))
+        ∙ written_behind (lo * q.places) ((lo + n) * q.places) items pool (omega (arith, sum, L.pool_long))
         (ap (λ (m : ℕ). lo * q.places + m) (length-sources q lo n [] l) ∙ sum)
 
     pub stretch-placed : r ≡ 0 → lo + n ≤ length planned

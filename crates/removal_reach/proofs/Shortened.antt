@@ -81,7 +81,7 @@ module _ (p : Parameters) (g : Growth) (f : File) (k : ℕ) (valid : valid_param
   applied-front =
       applied-layout p lo r 0 0 0 f [] l pool planned' past (length past)
       (layout p lo r [] l hs pool planned planned' past (length past)
-      (record { sources = C.sources; separators-are = C.separators-are; passed = take_all (length past) past (le_refl (length past)); counted = refl })
+      (record { sources = C.sources; separators_are = C.separators_are; passed = take_all (length past) past (le_refl (length past)); counted = refl })
       (omega (arith, items, R.homes)) (omega (arith, long, C.high)))
       (unfold sourced all in refl) (stretch-sourced H p (probes-real p g) lo n f hs R k 0 0 0)
       ∙ ap (replaced p.places f lo) planned-front

@@ -11,5 +11,5 @@ use Rattle.page_plan.specs.Plans.{plans, remains}
 pub record Changed (q : Parameters) (lo n : ℕ) (l numbers pool pool' planned planned' : List ℕ) (r : ℕ) : Type 0 where
   pub high : r ≤ n
   pub sources : pool' ≡ written (lo * q.places) (column q.places (λ (s : Star). s.payload.word) (plans q lo 0 r [] l)) pool
-  pub separators-are : planned' ≡ written lo (separators (plans q lo 0 r [] l)) planned
+  pub separators_are : planned' ≡ written lo (separators (plans q lo 0 r [] l)) planned
   pub fewer : r < n → length (remains q lo 0 r [] l) + stars_in 0 (stretch q.places lo r numbers) ≡ length (grouped lo 0 r l) + 1

@@ -12,15 +12,15 @@ use Rattle.page_plan.specs.Plans.{plans, remains}
 
 -- the lists as long as the stretch needs, numbers of 31 bits, and homes below the page past it
 pub record StretchReady (q : Parameters) (lo n : ℕ) (f : File) (pool waiting poolowners : List ℕ) : Type 0 where
-  pub places-most : q.places ≤ 32
+  pub places_most : q.places ≤ 32
   pub some : 0 < n
-  pub pages-most : lo + n ≤ 1024
-  pub separators-long : lo + n ≤ length f.separators
+  pub pages_most : lo + n ≤ 1024
+  pub separators_long : lo + n ≤ length f.separators
   pub numbers_long : (lo + n) * q.places ≤ length f.numbers
   pub words_long : (lo + n) * q.places ≤ length f.words
   pub owners_long : (lo + n) * q.places ≤ length f.owners
-  pub pool-long : (lo + n) * q.places ≤ length pool
-  pub waiting-long : (lo + n) * q.places ≤ length waiting
+  pub pool_long : (lo + n) * q.places ≤ length pool
+  pub waiting_long : (lo + n) * q.places ≤ length waiting
   pub poolowners_long : (lo + n) * q.places ≤ length poolowners
   pub waiting-most : length waiting ≤ 32768
   pub valid : all_below (2 ^ 31) (stretch q.places lo n f.numbers) ≡ true

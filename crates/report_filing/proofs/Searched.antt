@@ -88,7 +88,7 @@ module _ {geometry : Geometry} {table : List ℕ} {f : File} (ready : Ready geom
   pub removal_fits : OutcomeSmall (removal_answer p g f x.number r.page)
   removal_fits =
       removal_small p g f ready.homing.valid ready.homing.growth x.number r.page
-      (omega (arith, t.named.page_most, (limits p ready.homing.valid).pages-most))
+      (omega (arith, t.named.page_most, (limits p ready.homing.valid).pages_most))
 
   module _ (pool : Pool) (fits : pool_fits_lem p pool ≡ true) where
     abbrev filed : After

@@ -67,7 +67,7 @@ module _ (p : Parameters) (g : Growth) (f : File) (valid : valid_parameters p �
     (sized : Sized p.places p.pages f) (sound : first_unsound_lem p g f 0 p.pages ≡ p.pages) (hs : List ℕ) (homes : hs ≡ homes_of p g f.numbers) where
   item-most : (i : ℕ) → i < p.pages * p.places → get_or f.numbers i 0 ≤ greatest
   item-most i h =
-      let some : 0 < p.places = (limits p valid).places-least in
+      let some : 0 < p.places = (limits p valid).places_least in
       let inside : i / p.places < p.pages = (div-lt_iff_lt-mul some).1 h in
       rw (div-add-mod' i p.places) at
       (item_on p g f (i / p.places) sized inside (all_sound p g f sound (i / p.places) inside) (i % p.places) (mod-lt i some)).most

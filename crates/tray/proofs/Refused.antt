@@ -89,7 +89,7 @@ tray_refusal-none p r lengths = go (valid_steps p r)
     go : (s : Bool) → or_else (unless s 1) (unlent p r.state lengths) ≡ 0 → (valid_multiplier p.multiplier ≡ true) × (lengths ≡ true)
     go true e =
         let t = unlent-facts p r.state lengths e in
-        ((limits p (and-true (valid_parameters p) (valid_growth p r.state) t.0).0).multiplier_valid_lem, t.1)
+        ((limits p (and-true (valid_parameters p) (valid_growth p r.state) t.0).0).multiplier_valid, t.1)
     go false e = absurd (omega arith)
 
 -- the first of two refusals

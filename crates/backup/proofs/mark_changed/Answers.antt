@@ -4,8 +4,13 @@ use lib.ListN.{length}
 use borrow.Author.Rules.{rules}
 use Rattle.backup.specs.Marks.{told, mark_refusal}
 use Rattle.backup.proofs.Refusing.{markable, refused-marks, accepted-marks}
+use Rattle.backup.proofs.mark_changed.Lts as lts
+use Rattle.backup.proofs.mark_changed.Tie as tie
+use Rattle.backup.proofs.mark_changed.Reads as reads
 use Rattle.backup.proofs.mark_changed.Goals as goal
-use Rattle.backup.proofs.mark_changed.Goals.{Else-refusal-ne0}
+
+abbrev Else-refusal-ne0 : Type 0
+Else-refusal-ne0 = lts.Else1 tie.the-claims reads.Pre reads.Post
 
 pub returns-then-refusal-ne0 : goal.returns-then-refusal-ne0
 returns-then-refusal-ne0 c =

@@ -10,7 +10,7 @@ use Rattle.backup.proofs.mark_pages.Goals as goal
 use Rattle.backup.proofs.mark_pages.Goals.{Start}
 
 sized : (c : Start) → (length c.args.marks.now ≡ c.args.geometry.parameters.pages) × (c.args.geometry.parameters.pages ≤ 1024)
-sized c = (c.requires.marks_len, (limits c.args.geometry.parameters c.requires.parameters_value).pages-most)
+sized c = (c.requires.marks_len, (limits c.args.geometry.parameters c.requires.parameters_value).pages_most)
 
 pub loop-page-init : goal.loop-page-init
 loop-page-init c = (

@@ -17,7 +17,7 @@ address c =
     let s = c.requires in
     let l = limits _ s.0 in
     let w = growth_within _ _ s.1 in
-    (omega (arith, c.highest_address.ensures, (spread _ _ l w).pages-low), omega (arith, l.pages-most, w.pages-fit))
+    (omega (arith, c.highest_address.ensures, (spread _ _ l w).pages_low), omega (arith, l.pages_most, w.pages_fit))
 
 pub overflow_add-highest_address : goal.overflow_add-highest_address
 overflow_add-highest_address c = omega (arith, address c)

@@ -56,7 +56,7 @@ pub overflow_sub-parameters : goal.overflow_sub-parameters
 overflow_sub-parameters c =
     let s = state c.before.before.before.before.before.before in
     let w = growth_within _ _ s.1 in
-    omega (arith, w.pages-fit, (spread _ _ (limits _ s.0) w).pages-low)
+    omega (arith, w.pages_fit, (spread _ _ (limits _ s.0) w).pages_low)
 
 pub returns-then-highest_address-parameters : goal.returns-then-highest_address-parameters
 unfolding mark_refusal

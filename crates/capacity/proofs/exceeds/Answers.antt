@@ -9,7 +9,7 @@ use Rattle.capacity.proofs.exceeds.Goals as goal
 use Rattle.capacity.proofs.exceeds.Goals.{Start}
 
 room : (c : Start) → c.args.parameters.load * c.args.parameters.places ≤ 99 * 32
-room c = mul-le-mul (limits _ c.requires.parameters_value).load-most (limits _ c.requires.parameters_value).places-most
+room c = mul-le-mul (limits _ c.requires.parameters_value).load_most (limits _ c.requires.parameters_value).places_most
 
 rooms : (c : Start) → c.args.parameters.load * c.args.parameters.places * c.args.pages ≤ 99 * 32 * 1024
 rooms c = mul-le-mul (room c) c.requires.pages_bound

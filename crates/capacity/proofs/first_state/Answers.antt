@@ -10,20 +10,20 @@ use Rattle.capacity.proofs.first_state.Goals as goal
 pub overflow_mul-pages : goal.overflow_mul-pages
 overflow_mul-pages c =
     let l = limits _ c.requires in
-    omega (arith, l.pages-least, l.pages-most)
+    omega (arith, l.pages_least, l.pages_most)
 
 pub loop-pages-init : goal.loop-pages-init
 unfolding state_for_lem
 loop-pages-init c =
     let p = c.args.parameters in
-    record { counted = sym (start-pages p); within = (limits p c.requires).pages-least; valid = start-valid p c.requires; leads = refl }
+    record { counted = sym (start-pages p); within = (limits p c.requires).pages_least; valid = start-valid p c.requires; leads = refl }
 
 pub exceeds-requires : goal.exceeds-requires
 exceeds-requires c =
     let start = c.before.before.before.before in
     record {
       parameters_value = start.requires;
-      pages_bound = omega (arith, c.loop-pages.invariant.within, (limits _ start.requires).pages-most);
+      pages_bound = omega (arith, c.loop-pages.invariant.within, (limits _ start.requires).pages_most);
     }
 
 pub returns-then-not-exceeds : goal.returns-then-not-exceeds
@@ -43,7 +43,7 @@ grown-growth-requires c =
     }
 
 pub overflow_add-pages : goal.overflow_add-pages
-overflow_add-pages c = omega (arith, c.loop-pages-test.true, (limits _ c.requires).pages-most)
+overflow_add-pages c = omega (arith, c.loop-pages-test.true, (limits _ c.requires).pages_most)
 
 pub loop-pages-smaller : goal.loop-pages-smaller
 loop-pages-smaller c = omega (arith, c.loop-pages-test.true)

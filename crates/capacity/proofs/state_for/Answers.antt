@@ -33,24 +33,24 @@ unfolding highest
 pages-are c =
     let l = limits _ (good c.before.before) in
     let s = spread _ _ l (growth_within _ _ c.first_state-growth.ensures.1) in
-    omega (arith, c.highest_address-pages.ensures, s.pages-low)
+    omega (arith, c.highest_address-pages.ensures, s.pages_low)
 
-pages-most : (c : After-highest_address-pages) → c.highest_address-pages.result + 1 ≤ 1024
-pages-most c =
+pages_most : (c : After-highest_address-pages) → c.highest_address-pages.result + 1 ≤ 1024
+pages_most c =
     omega (
       arith,
       pages-are c,
-      (growth_within _ _ c.first_state-growth.ensures.1).pages-fit,
-      (limits _ (good c.before.before)).pages-most,
+      (growth_within _ _ c.first_state-growth.ensures.1).pages_fit,
+      (limits _ (good c.before.before)).pages_most,
     )
 
 pub overflow_add-pages : goal.overflow_add-pages
-overflow_add-pages c = omega (arith, pages-most c)
+overflow_add-pages c = omega (arith, pages_most c)
 
 pub exceeds-requires : goal.exceeds-requires
 exceeds-requires c = record {
   parameters_value = good c.before.before;
-  pages_bound = pages-most c;
+  pages_bound = pages_most c;
 }
 
 pub returns-then-exceeds : goal.returns-then-exceeds

@@ -28,17 +28,17 @@ slice_bounds-read_natural-end c = sym (length-take-le _ _ c.first_blank-a.ensure
 -- the number is the first field
 split :
     (c : Else-a-operands) →
-    let l = c.before.before.before.args.operands.now in
-    let k = c.before.first-blank.result in
+    let l = c.args.operands.now in
+    let k = c.first_blank-a.result in
     enter_from (fields l) ≡ enter_from (take k l ∷ fields (drop (suc k) l))
 split c =
-    let l = c.before.before.before.args.operands.now in
-    let within : field_length l < length l = omega (arith, c.before.first-blank.ensures, c.if1.false) in
-    rw c.before.first-blank.ensures.0 (ap enter_from (fields-more l within))
+    let l = c.args.operands.now in
+    let within : field_length l < length l = omega (arith, c.first_blank-a.ensures, c.if-a-operands.false) in
+    rw c.first_blank-a.ensures.0 (ap enter_from (fields-more l within))
 
 pub returns-in_default : goal.returns-in_default
 returns-in_default c =
-    let at = c.before.before.before.before.before in
+    let at = c.before.before.before.before in
     sym (split at ∙ enter_wrong _ _ (sym c.read_natural.ensures ∙ c.enum_told-1.given.1))
 
 pub returns : goal.returns

@@ -18,10 +18,12 @@ use Rattle.lines.proofs.enter_at.Lts as lts
 use Rattle.lines.proofs.enter_at.Tie as tie
 use Rattle.lines.proofs.enter_at.Reads as reads
 use Rattle.lines.proofs.enter_at.Goals as goal
-use Rattle.lines.proofs.enter_at.Goals.{After-read_declination}
 
 abbrev Else-a-position : Type 0
 Else-a-position = lts.Else1 tie.the-claims reads.Pre reads.Post
+
+abbrev After-read_declination : Type 0
+After-read_declination = lts.After-read_declination tie.the-claims reads.Pre reads.Post
 
 pub returns-then-a-position : goal.returns-then-a-position
 returns-then-a-position c = λ f e. sym (enter_ra_short f _ (sym c.first_blank-a.ensures.0 ∙ c.if-a-position.true))
@@ -32,26 +34,26 @@ slice_bounds-read_natural-end c = sym (length-take-le _ _ c.first_blank-a.ensure
 -- the right ascension is the first field
 split :
     (c : Else-a-position) (f : List ℕ) →
-    let l = c.before.before.before.args.position.now in
-    let k = c.before.first-blank.result in
+    let l = c.args.position.now in
+    let k = c.first_blank-a.result in
     enter_from (f ∷ fields l) ≡ enter_from (f ∷ take k l ∷ fields (drop (suc k) l))
 split c f =
-    let l = c.before.before.before.args.position.now in
-    let within : field_length l < length l = omega (arith, c.before.first-blank.ensures, c.if1.false) in
-    rw c.before.first-blank.ensures.0 (ap (λ (fs : List (List ℕ)). enter_from (f ∷ fs)) (fields-more l within))
+    let l = c.args.position.now in
+    let within : field_length l < length l = omega (arith, c.first_blank-a.ensures, c.if-a-position.false) in
+    rw c.first_blank-a.ensures.0 (ap (λ (fs : List (List ℕ)). enter_from (f ∷ fs)) (fields-more l within))
 
 pub returns-in_default : goal.returns-in_default
 returns-in_default c =
-    let at = c.before.before.before.before.before in
+    let at = c.before.before.before.before in
     λ f e. sym (split at f ∙ enter_wrong_ra f _ _ (sym c.read_natural.ensures ∙ c.enum_told-1.given.1))
 
 -- the declination is the rest
 read :
     (c : After-read_declination) →
-    let l = c.before.before.before.before.before.before.before.before.before.before.args.position.now in
-    let k = c.before.before.before.before.before.before.before.before.first-blank.result in
-    declination_of (drop (suc k) l) ≡ c.read-declination.result
-read c = sym (rw (add-one c.before.before.before.before.before.before.before.before.first-blank.result, rest-is) at c.read-declination.ensures)
+    let l = c.args.position.now in
+    let k = c.first_blank-a.result in
+    declination_of (drop (suc k) l) ≡ c.read_declination.result
+read c = sym (rw (add-one c.first_blank-a.result, rest-is) at c.read_declination.ensures)
 
 pub returns-in_default-read_declination : goal.returns-in_default-read_declination
 returns-in_default-read_declination c =
@@ -59,7 +61,7 @@ returns-in_default-read_declination c =
     sym
     (split c.before.before.before.before.before.before.before.before.before f
     ∙ enter_alone f _ _
-    ∙ rw (read c.before.before ∙ c.enum_told-in_default-read_declination-1.given.1) (nowhere _ _))
+    ∙ rw (read c.before.before.before ∙ c.enum_told-in_default-read_declination-1.given.1) (nowhere _ _))
 
 pub returns : goal.returns
 unfolding enter_with
@@ -72,6 +74,6 @@ returns c =
     ∙ rw (
       e,
       sym c.read_natural.ensures ∙ c.ra-1.given.1,
-      read c.before.before.before ∙ c.dec-1.given.1,
+      read c.before.before.before.before ∙ c.dec-1.given.1,
       back,
     ))

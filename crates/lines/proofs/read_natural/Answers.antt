@@ -12,7 +12,9 @@ use Rattle.lines.proofs.read_natural.Lts as lts
 use Rattle.lines.proofs.read_natural.Tie as tie
 use Rattle.lines.proofs.read_natural.Reads as reads
 use Rattle.lines.proofs.read_natural.Goals as goal
-use Rattle.lines.proofs.read_natural.Goals.{In-loop-i}
+
+abbrev In-loop-i : Type 0
+In-loop-i = lts.In-loop tie.the-claims reads.Pre reads.Post goal.the-invariant-loop-i goal.the-decreases-loop-i
 
 abbrev Else-c-gt57 : Type 0
 Else-c-gt57 = lts.Else5 tie.the-claims reads.Pre reads.Post goal.the-invariant-loop-i goal.the-decreases-loop-i
@@ -37,23 +39,23 @@ bounds-field-i c = omega arith
 
 opened :
     (c : In-loop-i) →
-    let l = c.before.before.before.before.before.args.field.now in
-    let i = c.before.loop.i in
-    natural_of l ≡ natural_from c.before.loop.value (get_or l i 0 ∷ drop (suc i) l)
-opened c = rw (← drop-cons {A = ℕ} _ _ 0 c.loop-test.true) c.before.loop.invariant.2
+    let l = c.args.field.now in
+    let i = c.loop-i.i in
+    natural_of l ≡ natural_from c.loop-i.value (get_or l i 0 ∷ drop (suc i) l)
+opened c = rw (← drop-cons {A = ℕ} _ _ 0 c.loop-i-test.true) c.loop-i.invariant.2
 
 stepped :
     (c : Else-c-gt57) →
-    let l = c.before.before.before.before.before.before.before.before.args.field.now in
-    let i = c.before.before.before.before.loop.i in
-    natural_of l ≡ natural_from (10 * c.before.before.before.before.loop.value + (get_or l i 0 - 48)) (drop (suc i) l)
-stepped c = opened c.before.before.before ∙ digit_read _ _ _ c.before.if4.false c.if5.false
+    let l = c.args.field.now in
+    let i = c.loop-i.i in
+    natural_of l ≡ natural_from (10 * c.loop-i.value + (get_or l i 0 - 48)) (drop (suc i) l)
+stepped c = opened c.before.before.before ∙ digit_read _ _ _ c.if-c-lt48.false c.if-c-gt57.false
 
 pub returns-then-c-lt48 : goal.returns-then-c-lt48
-returns-then-c-lt48 c = sym (opened c.before.before ∙ below-digits _ _ _ c.if-c-lt48.true)
+returns-then-c-lt48 c = sym (opened c.before.before.before ∙ below-digits _ _ _ c.if-c-lt48.true)
 
 pub returns-then-c-gt57 : goal.returns-then-c-gt57
-returns-then-c-gt57 c = sym (opened c.before.before.before ∙ above-digits _ _ _ c.if-c-gt57.true)
+returns-then-c-gt57 c = sym (opened c.before.before.before.before ∙ above-digits _ _ _ c.if-c-gt57.true)
 
 pub overflow_mul-value : goal.overflow_mul-value
 overflow_mul-value c = omega arith
@@ -65,7 +67,7 @@ pub overflow_add-value : goal.overflow_add-value
 overflow_add-value c = omega arith
 
 pub returns-then-value-gt4294967295 : goal.returns-then-value-gt4294967295
-returns-then-value-gt4294967295 c = sym (stepped c.before ∙ too_large _ _ c.if-value-gt4294967295.true)
+returns-then-value-gt4294967295 c = sym (stepped c.before.before ∙ too_large _ _ c.if-value-gt4294967295.true)
 
 pub overflow_add-i : goal.overflow_add-i
 overflow_add-i c = omega arith
@@ -74,7 +76,7 @@ pub loop-i-smaller : goal.loop-i-smaller
 loop-i-smaller c = omega arith
 
 pub loop-i-preserved : goal.loop-i-preserved
-loop-i-preserved c = rw (add-one c.loop-i.i) (omega arith, omega arith, stepped c.before)
+loop-i-preserved c = rw (add-one c.loop-i.i) (omega arith, omega arith, stepped c.before.before)
 
 pub overflow_cast-result : goal.overflow_cast-result
 overflow_cast-result c = omega arith

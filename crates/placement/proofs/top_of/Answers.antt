@@ -13,7 +13,7 @@ pub overflow_shl-result : goal.overflow_shl-result
 overflow_shl-result c = omega (arith, bounds c)
 
 pub overflow_sub-result : goal.overflow_sub-result
-overflow_sub-result c = omega (arith, top_shifted c.args.parameters.bits (bounds c).bits_most, top_least c.args.parameters.bits (bounds c).bits-least)
+overflow_sub-result c = omega (arith, top_shifted c.args.parameters.bits (bounds c).bits_most, top_least c.args.parameters.bits (bounds c).bits_least)
 
 pub overflow_cast-result : goal.overflow_cast-result
 overflow_cast-result c = omega (arith, top_shifted c.args.parameters.bits (bounds c).bits_most, top_most c.args.parameters.bits (bounds c).bits_most)

@@ -18,7 +18,7 @@ abbrev In-loop-page : Type 0
 In-loop-page = lts.In-loop tie.the-claims reads.Pre reads.Post goal.the-invariant-loop-page goal.the-decreases-loop-page
 
 pub nonzero_div-most : goal.nonzero_div-most
-nonzero_div-most c = (limits _ c.requires.homing.valid).places-least
+nonzero_div-most c = (limits _ c.requires.homing.valid).places_least
 
 pub loop-page-init : goal.loop-page-init
 loop-page-init c = passed_none _ _ _ (omega arith)
@@ -32,7 +32,7 @@ file s = lent s.args.separators.now s.args.numbers.now s.args.words.now s.args.o
 pub stretch_end-stop-requires : goal.stretch_end-stop-requires
 stretch_end-stop-requires c =
     let l = limits (start c.before).args.geometry.parameters (start c.before).requires.homing.valid in
-    (c.loop-page-test.true, (le-div_iff_mul-le l.places-least).1 (omega (arith, l.places-most)))
+    (c.loop-page-test.true, (le-div_iff_mul-le l.places_least).1 (omega (arith, l.places_most)))
 
 pub first_unsound-unsound-requires : goal.first_unsound-unsound-requires
 first_unsound-unsound-requires c =

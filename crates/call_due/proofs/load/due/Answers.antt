@@ -23,7 +23,7 @@ use Rattle.call_due.proofs.load.due.Lts as lts
 use Rattle.call_due.proofs.load.due.Tie as tie
 use Rattle.call_due.proofs.load.due.Reads as reads
 use Rattle.call_due.proofs.load.due.Goals as goal
-use Rattle.call_due.proofs.load.due.Goals.{After-in_use-pages, Start}
+use Rattle.call_due.proofs.load.due.Goals.{Start}
 
 abbrev In_default : Type 0
 In_default = lts.After-enum_told tie.the-claims reads.Pre reads.Post
@@ -33,6 +33,9 @@ After-struct_known-1 = lts.After-struct_known tie.the-claims reads.Pre reads.Pos
 
 abbrev After-occupied-count : Type 0
 After-occupied-count = lts.After-occupied tie.the-claims reads.Pre reads.Post
+
+abbrev After-in_use-pages : Type 0
+After-in_use-pages = lts.After-in_use tie.the-claims reads.Pre reads.Post
 
 abbrev file_of : Start → File
 file_of s = lent s.args.separators.now s.args.numbers.now s.args.words.now s.args.owners.now
@@ -60,8 +63,8 @@ unfolding highest
 highest-most c =
     let v = (lent-well c).homing in
     let w = growth_within (start c).args.parameters (start c).args.growth v.growth in
-    let least : 1 ≤ page_count (start c).args.parameters (start c).args.growth = (spread _ _ (limits _ v.valid) w).pages-low in
-    omega (arith, w.pages-fit)
+    let least : 1 ≤ page_count (start c).args.parameters (start c).args.growth = (spread _ _ (limits _ v.valid) w).pages_low in
+    omega (arith, w.pages_fit)
 
 -- the addressed items are some of all
 split-most : (c : After-struct_known-1) → (c.highest_address-highest.result + 1) * (start c.before.before).args.parameters.places ≤ length (start c.before.before).args.numbers.now
@@ -102,17 +105,17 @@ pages-are c =
     ∙ (ap (λ (n : ℕ). max (n + 1) ((c.end_of_use-end.result + p.places - 1) / p.places)) c.highest_address-highest.ensures
     ∙ sym
     (in_use_reached p (begun c).args.growth (begun c).args.numbers.now _
-    (limits _ (lent-well (told c.before)).homing.valid).places-least
+    (limits _ (lent-well (told c.before)).homing.valid).places_least
     (lent-well (told c.before)).sized.of_numbers
     (reached c)))
 
-pages-most : (c : After-in_use-pages) → c.in_use-pages.result ≤ 1024
-pages-most c =
+pages_most : (c : After-in_use-pages) → c.in_use-pages.result ≤ 1024
+pages_most c =
     omega (
       arith,
       pages-are c,
       in_use_most _ _ (begun c).args.numbers.now (highest-most (told c.before)),
-      (limits _ (lent-well (told c.before)).homing.valid).pages-most,
+      (limits _ (lent-well (told c.before)).homing.valid).pages_most,
     )
 
 pub slice_bounds-occupied-end : goal.slice_bounds-occupied-end
@@ -124,22 +127,22 @@ occupied-count-requires c = rw (length-take-le _ _ c.end_of_use-end.ensures.blan
 pub in_use-pages-requires : goal.in_use-pages-requires
 in_use-pages-requires c =
     let l = limits _ (lent-well (told c.before)).homing.valid in (
-      l.places-least,
-      l.places-most,
-      omega (arith, c.highest_address-highest.ensures, highest-most (told c.before), l.pages-most),
+      l.places_least,
+      l.places_most,
+      omega (arith, c.highest_address-highest.ensures, highest-most (told c.before), l.pages_most),
       omega (arith, few (told c.before), c.end_of_use-end.ensures.blank.within),
     )
 
 pub overflow_mul-room : goal.overflow_mul-room
 overflow_mul-room c =
     let l = limits _ (lent-well (told c.before.before.before)).homing.valid in
-    let m : (begun c.before.before).args.parameters.load * (begun c.before.before).args.parameters.places ≤ 99 * 32 = mul-le-mul l.load-most l.places-most in
+    let m : (begun c.before.before).args.parameters.load * (begun c.before.before).args.parameters.places ≤ 99 * 32 = mul-le-mul l.load_most l.places_most in
     omega arith
 
 pub overflow_mul-room-2 : goal.overflow_mul-room-2
 overflow_mul-room-2 c =
     let l = limits _ (lent-well (told c.before.before.before)).homing.valid in
-    let m : (begun c.before.before).args.parameters.load * (begun c.before.before).args.parameters.places * c.in_use-pages.result ≤ 99 * 32 * 1024 = mul-le-mul (mul-le-mul l.load-most l.places-most) (pages-most c.before.before) in
+    let m : (begun c.before.before).args.parameters.load * (begun c.before.before).args.parameters.places * c.in_use-pages.result ≤ 99 * 32 * 1024 = mul-le-mul (mul-le-mul l.load_most l.places_most) (pages_most c.before.before) in
     omega arith
 
 pub overflow_mul-count : goal.overflow_mul-count

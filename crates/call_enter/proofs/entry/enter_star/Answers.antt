@@ -25,7 +25,13 @@ use Rattle.call_enter.proofs.entry.enter_star.Lts as lts
 use Rattle.call_enter.proofs.entry.enter_star.Tie as tie
 use Rattle.call_enter.proofs.entry.enter_star.Reads as reads
 use Rattle.call_enter.proofs.entry.enter_star.Goals as goal
-use Rattle.call_enter.proofs.entry.enter_star.Goals.{After-cascade, After-enter_star, After-find_kept-named, Else-named, Start}
+use Rattle.call_enter.proofs.entry.enter_star.Goals.{After-cascade, After-enter_star, Start}
+
+abbrev After-find_kept-named : Type 0
+After-find_kept-named = lts.After-find_kept tie.the-claims reads.Pre reads.Post
+
+abbrev Else-named : Type 0
+Else-named = lts.Else2 tie.the-claims reads.Pre reads.Post
 
 abbrev After-placed_from : Type 0
 After-placed_from = lts.After-placed_from tie.the-claims reads.Pre reads.Post
@@ -57,7 +63,7 @@ find_kept-named-requires c =
     }
 
 pub overflow_cast-page : goal.overflow_cast-page
-overflow_cast-page c = omega (arith, c.find_kept-named.ensures.named_as.page_most, (limits _ c.requires.admitted.homing.valid).pages-most)
+overflow_cast-page c = omega (arith, c.find_kept-named.ensures.named_as.page_most, (limits _ c.requires.admitted.homing.valid).pages_most)
 
 pub shape_of-separators-then-not-named : goal.shape_of-separators-then-not-named
 shape_of-separators-then-not-named c = refl
@@ -75,7 +81,7 @@ pub returns-then-not-named : goal.returns-then-not-named
 unfolding placed refused_by
 returns-then-not-named c =
     let found = c.find_kept-named.ensures.named_as in
-    let unread = sym found.readable_is ∙ not-true _ c.if-not-named.true in
+    let unread = sym found.readable_is ∙ c.if-not-named.true in
     let s = c.before.before.before.before.before.before.before.before.before.before.before.before.before.before.before.before.before in
     kept-stores s.args.cascading s.args.parameters s.args.stores {after = on s} {answer = placed (Refused (Damaged c.find_kept-named.result.page) 0)} {f = file_of s} (record { answers = rw (unread, found.page_is); files = rw unread })
 
@@ -98,7 +104,7 @@ pub returns-then-named : goal.returns-then-named
 unfolding entered_again_lem
 returns-then-named c =
     let found = c.find_kept-named.ensures.named_as in
-    let opened = not-false _ c.if-not-named.false in
+    let opened = c.if-not-named.false in
     let read = sym found.readable_is ∙ opened in
     let there = c.if-named.true in
     let held = sym (found.held_is opened) ∙ there in

@@ -10,7 +10,7 @@ pub returns-then-not-state_valid : goal.returns-then-not-state_valid
 returns-then-not-state_valid c = sym (bad_state _ _ _ (failed _ _ c.state_valid.ensures c.if-not-state_valid.true))
 
 pub returns-then-not-fits : goal.returns-then-not-fits
-returns-then-not-fits c = sym (bad_lengths _ _ _ (passed _ _ c.state_valid.ensures c.if-not-state_valid.false) (not-true _ c.if-not-fits.true))
+returns-then-not-fits c = sym (bad_lengths _ _ _ (passed _ _ c.state_valid.ensures c.if-not-state_valid.false) c.if-not-fits.true)
 
 pub returns : goal.returns
-returns c = sym (well-lent _ _ _ (passed _ _ c.state_valid.ensures c.if-not-state_valid.false) (not-false _ c.if-not-fits.false))
+returns c = sym (well-lent _ _ _ (passed _ _ c.state_valid.ensures c.if-not-state_valid.false) c.if-not-fits.false)

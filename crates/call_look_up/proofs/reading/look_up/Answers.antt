@@ -80,31 +80,31 @@ find-named-requires c =
     }
 
 pub overflow_cast-page : goal.overflow_cast-page
-overflow_cast-page c = omega (arith, c.find-named.ensures.named_as.page_most, (limits _ (lent-well (told c.before.before.before.before.before.before.before.before)).homing.valid).pages-most)
+overflow_cast-page c = omega (arith, c.find-named.ensures.named_as.page_most, (limits _ (lent-well (told c.before.before.before.before.before.before.before.before)).homing.valid).pages_most)
 
 pub returns-then-not-named : goal.returns-then-not-named
 unfolding look_up_of looked_up sought refused_by
 returns-then-not-named c =
     let found = c.find-named.ensures.named_as in
     let d = c.before.before.before.before.before.before.before.before.before.before in
-    rw (none (told d), numbered d, sym found.readable_is ∙ not-true _ c.if-not-named.true, found.page_is)
+    rw (none (told d), numbered d, sym found.readable_is ∙ c.if-not-named.true, found.page_is)
 
 pub returns-then-not-named-2 : goal.returns-then-not-named-2
 unfolding look_up_of looked_up sought
 returns-then-not-named-2 c =
     let found = c.find-named.ensures.named_as in
-    let read = not-false _ c.if-not-named.false in
+    let read = c.if-not-named.false in
     let d = c.before.before.before.before.before.before.before.before.before.before.before.before in
-    rw (none (told d), numbered d, sym found.readable_is ∙ read, sym (found.held_is read) ∙ not-true _ c.if-not-named-2.true, ← found.place_is_lem read, found.page_is)
+    rw (none (told d), numbered d, sym found.readable_is ∙ read, sym (found.held_is read) ∙ c.if-not-named-2.true, ← found.place_is_lem read, found.page_is)
 
 pub unpack-requires : goal.unpack-requires
-unpack-requires c = c.find-named.ensures.named_as.word_valid_lem (not-false _ c.if-not-named-2.false)
+unpack-requires c = c.find-named.ensures.named_as.word_valid_lem c.if-not-named-2.false
 
 pub returns : goal.returns
 unfolding look_up_of looked_up sought
 returns c =
     let found = c.find-named.ensures.named_as in
-    let read = not-false _ c.if-not-named.false in
-    let held = not-false _ c.if-not-named-2.false in
+    let read = c.if-not-named.false in
+    let held = c.if-not-named-2.false in
     let d = c.before.before.before.before.before.before.before.before.before.before.before.before.before in
     rw (none (told d), numbered d, sym found.readable_is ∙ read, sym (found.held_is read) ∙ held, c.unpack.ensures, found.word_is held, ← found.place_is_lem read, found.page_is)

@@ -23,13 +23,16 @@ use Rattle.call_look_up.proofs.rewriting.change_stopped.Lts as lts
 use Rattle.call_look_up.proofs.rewriting.change_stopped.Tie as tie
 use Rattle.call_look_up.proofs.rewriting.change_stopped.Reads as reads
 use Rattle.call_look_up.proofs.rewriting.change_stopped.Goals as goal
-use Rattle.call_look_up.proofs.rewriting.change_stopped.Goals.{Else-not-may_alter, Start}
+use Rattle.call_look_up.proofs.rewriting.change_stopped.Goals.{Start}
 
 abbrev In_default : Type 0
 In_default = lts.After-enum_told tie.the-claims reads.Pre reads.Post
 
 abbrev Else-not-position_valid : Type 0
 Else-not-position_valid = lts.Else2 tie.the-claims reads.Pre reads.Post
+
+abbrev Else-not-may_alter : Type 0
+Else-not-may_alter = lts.Else5 tie.the-claims reads.Pre reads.Post
 
 abbrev file_of : Start → File
 file_of s = lent s.args.separators.now s.args.numbers.now s.args.words.now s.args.owners.now
@@ -59,15 +62,15 @@ positioned c = passed _ _ c.position_valid.ensures c.if-not-position_valid.false
 
 -- the star may be changed
 below : (c : Else-not-may_alter) → c.find-named.result.item < c.args.parameters.pages * c.args.parameters.places
-below c = c.find-named.ensures.named_as.item_below (not-false _ c.if-not-named-2.false)
+below c = c.find-named.ensures.named_as.item_below c.if-not-named-2.false
 
 whole : (c : Else-not-may_alter) → Leaves (call c.before.before.before.before.before.before.before.before.before.before.before.before.before.before.before.before.before.before.before.before.before.before.before.before.before) (placed (On c.find-named.result.page c.find-named.result.place)) (lent c.args.separators.now c.args.numbers.now (set c.args.words.now c.find-named.result.item (packed c.args.position)) c.args.owners.now) unpooled
 unfolding change_of change_on allowed placed
 whole c =
     let found = c.find-named.ensures.named_as in
-    let read = not-false _ c.if-not-named.false in
-    let there = not-false _ c.if-not-named-2.false in
-    let may = altered _ _ _ _ _ (found.owner_is there) c.may_alter.ensures (not-false _ c.if-not-may_alter.false) in
+    let read = c.if-not-named.false in
+    let there = c.if-not-named-2.false in
+    let may = altered _ _ _ _ _ (found.owner_is there) c.may_alter.ensures c.if-not-may_alter.false in
     let d = c.before.before.before.before.before.before.before.before.before.before.before.before.before in
     leaves _ _ (begun (told d)).args.growth _ _
     (rw (none (told d), numbered d, positioned d, sym found.readable_is ∙ read, sym (found.held_is read) ∙ there, may, ← found.place_is_lem read, found.page_is, found.item_is there))
@@ -125,7 +128,7 @@ find-named-requires c =
     }
 
 pub overflow_cast-page : goal.overflow_cast-page
-overflow_cast-page c = omega (arith, c.find-named.ensures.named_as.page_most, (limits _ (lent-well (told c.before.before.before.before.before.before.before.before)).homing.valid).pages-most)
+overflow_cast-page c = omega (arith, c.find-named.ensures.named_as.page_most, (limits _ (lent-well (told c.before.before.before.before.before.before.before.before)).homing.valid).pages_most)
 
 pub returns-then-not-named : goal.returns-then-not-named
 unfolding change_stopped_of change_of placed refused_by change_on
@@ -135,27 +138,27 @@ returns-then-not-named c =
     let d = c.before.before.before.before.before.before.before.before.before.before in
     unmoved-leaves true s.args.parameters s.args.stores {after = call s} {answer = placed (Refused (Damaged c.find-named.result.page) 0)} {f = file_of s} {pool = unpooled}
     (leaves _ _ c.args.growth _ _
-    (rw (none (told d), numbered d, positioned d, sym found.readable_is ∙ not-true _ c.if-not-named.true, found.page_is)))
+    (rw (none (told d), numbered d, positioned d, sym found.readable_is ∙ c.if-not-named.true, found.page_is)))
 
 pub returns-then-not-named-2 : goal.returns-then-not-named-2
 unfolding change_stopped_of change_of placed refused_by change_on
 returns-then-not-named-2 c =
     let s = c.before.before.before.before.before.before.before.before.before.before.before.before.before.before.before.before.before.before.before.before.before.before.before.before in
     let found = c.find-named.ensures.named_as in
-    let read = not-false _ c.if-not-named.false in
+    let read = c.if-not-named.false in
     let d = c.before.before.before.before.before.before.before.before.before.before.before.before in
     unmoved-leaves true s.args.parameters s.args.stores {after = call s} {answer = placed (Refused NotHeld c.find-named.result.place)} {f = file_of s} {pool = unpooled}
     (leaves _ _ c.args.growth _ _
-    (rw (none (told d), numbered d, positioned d, sym found.readable_is ∙ read, sym (found.held_is read) ∙ not-true _ c.if-not-named-2.true, ← found.place_is_lem read)))
+    (rw (none (told d), numbered d, positioned d, sym found.readable_is ∙ read, sym (found.held_is read) ∙ c.if-not-named-2.true, ← found.place_is_lem read)))
 
 pub returns-then-not-may_alter : goal.returns-then-not-may_alter
 unfolding change_stopped_of change_of placed refused_by change_on allowed
 returns-then-not-may_alter c =
     let s = c.before.before.before.before.before.before.before.before.before.before.before.before.before.before.before.before.before.before.before.before.before.before.before.before.before.before in
     let found = c.find-named.ensures.named_as in
-    let read = not-false _ c.if-not-named.false in
-    let there = not-false _ c.if-not-named-2.false in
-    let may = altered _ _ _ _ _ (found.owner_is there) c.may_alter.ensures (not-true _ c.if-not-may_alter.true) in
+    let read = c.if-not-named.false in
+    let there = c.if-not-named-2.false in
+    let may = altered _ _ _ _ _ (found.owner_is there) c.may_alter.ensures c.if-not-may_alter.true in
     let d = c.before.before.before.before.before.before.before.before.before.before.before.before.before.before in
     unmoved-leaves true s.args.parameters s.args.stores {after = call s} {answer = placed (Refused NotOwner c.find-named.result.place)} {f = file_of s} {pool = unpooled}
     (leaves _ _ (begun (told d)).args.growth _ _
@@ -167,7 +170,7 @@ returns-then-stores-eq0 c =
     let e = c.before.before in
     let s = c.before.before.before.before.before.before.before.before.before.before.before.before.before.before.before.before.before.before.before.before.before.before.before.before.before.before.before in
     let r = lent-well (told c.before.before.before.before.before.before.before.before.before.before.before.before.before.before.before) in
-    rewritten-leaves s.args.parameters (file_of s) r.sized (limits _ r.homing.valid).places-least c.find-named.result.item (packed s.args.position) s.args.stores (call s) _ unpooled _ (whole e)
+    rewritten-leaves s.args.parameters (file_of s) r.sized (limits _ r.homing.valid).places_least c.find-named.result.item (packed s.args.position) s.args.stores (call s) _ unpooled _ (whole e)
     (rw (eq-eqb _ 0 c.if-stores-eq0.true))
 
 pub pack-requires : goal.pack-requires
@@ -185,5 +188,5 @@ returns c =
     let e = c.before.before.before in
     let s = c.before.before.before.before.before.before.before.before.before.before.before.before.before.before.before.before.before.before.before.before.before.before.before.before.before.before.before.before in
     let r = lent-well (told c.before.before.before.before.before.before.before.before.before.before.before.before.before.before.before.before) in
-    rewritten-leaves s.args.parameters (file_of s) r.sized (limits _ r.homing.valid).places-least c.find-named.result.item (packed s.args.position) s.args.stores (call s) _ unpooled _ (whole e)
+    rewritten-leaves s.args.parameters (file_of s) r.sized (limits _ r.homing.valid).places_least c.find-named.result.item (packed s.args.position) s.args.stores (call s) _ unpooled _ (whole e)
     (rw (ne_eqb _ 0 c.if-stores-eq0.false) (ap (λ (w : ℕ). lent s.args.separators.now s.args.numbers.now (set s.args.words.now c.find-named.result.item w) s.args.owners.now) c.pack.ensures))

@@ -9,8 +9,14 @@ use Rattle.calls.specs.Shape.{Admitted}
 use Rattle.calls.proofs.Refusals.{unlent-facts, refusal_is, none_is, admitted}
 use Rattle.call_make.proofs.Making.{make_refused, make_empty}
 use borrow.Author.Rules.{rules}
+use Rattle.call_make.proofs.emptying.make.Lts as lts
+use Rattle.call_make.proofs.emptying.make.Tie as tie
+use Rattle.call_make.proofs.emptying.make.Reads as reads
 use Rattle.call_make.proofs.emptying.make.Goals as goal
-use Rattle.call_make.proofs.emptying.make.Goals.{In_default, Start}
+use Rattle.call_make.proofs.emptying.make.Goals.{Start}
+
+abbrev In_default : Type 0
+In_default = lts.After-enum_told tie.the-claims reads.Pre reads.Post
 
 abbrev file_of : Start → File
 file_of s = lent s.args.separators.now s.args.numbers.now s.args.words.now s.args.owners.now

@@ -19,8 +19,17 @@ use Rattle.outcome_answer.proofs.Stopped.{unmoved-stores}
 use Rattle.call_guard.proofs.Admitting.{prepared, tabled, altered}
 use Rattle.call_remove.proofs.Pools.{held-star}
 use borrow.Author.Rules.{rules}
+use Rattle.call_remove.proofs.removal.remove_held.Lts as lts
+use Rattle.call_remove.proofs.removal.remove_held.Tie as tie
+use Rattle.call_remove.proofs.removal.remove_held.Reads as reads
 use Rattle.call_remove.proofs.removal.remove_held.Goals as goal
-use Rattle.call_remove.proofs.removal.remove_held.Goals.{After-find_kept-named, Else-not-may_alter, Start}
+use Rattle.call_remove.proofs.removal.remove_held.Goals.{Start}
+
+abbrev After-find_kept-named : Type 0
+After-find_kept-named = lts.After-find_kept tie.the-claims reads.Pre reads.Post
+
+abbrev Else-not-may_alter : Type 0
+Else-not-may_alter = lts.Else3 tie.the-claims reads.Pre reads.Post
 
 abbrev file_of : Start → File
 file_of s = lent s.args.separators.now s.args.numbers.now s.args.words.now s.args.owners.now
@@ -45,13 +54,13 @@ find_kept-named-requires c =
     }
 
 pub overflow_cast-page : goal.overflow_cast-page
-overflow_cast-page c = omega (arith, c.find_kept-named.ensures.named_as.page_most, (limits _ c.requires.admitted.homing.valid).pages-most)
+overflow_cast-page c = omega (arith, c.find_kept-named.ensures.named_as.page_most, (limits _ c.requires.admitted.homing.valid).pages_most)
 
 pub returns-then-not-named : goal.returns-then-not-named
 unfolding remove_on placed refused_by
 returns-then-not-named c =
     let found = c.find_kept-named.ensures.named_as in
-    let unread = sym found.readable_is ∙ not-true _ c.if-not-named.true in
+    let unread = sym found.readable_is ∙ c.if-not-named.true in
     let s = c.before.before.before.before.before.before.before.before.before.before.before.before.before.before.before.before.before in
     unmoved-stores true s.args.parameters s.args.stores {after = on s} {answer = placed (Refused (Damaged c.find_kept-named.result.page) 0)} {f = file_of s} (record { answers = rw (unread, found.page_is); files = rw unread })
 
@@ -59,9 +68,9 @@ pub returns-then-not-named-2 : goal.returns-then-not-named-2
 unfolding remove_on placed refused_by
 returns-then-not-named-2 c =
     let found = c.find_kept-named.ensures.named_as in
-    let opened = not-false _ c.if-not-named.false in
+    let opened = c.if-not-named.false in
     let read = sym found.readable_is ∙ opened in
-    let held = sym (found.held_is opened) ∙ not-true _ c.if-not-named-2.true in
+    let held = sym (found.held_is opened) ∙ c.if-not-named-2.true in
     let s = c.before.before.before.before.before.before.before.before.before.before.before.before.before.before.before.before.before.before.before in
     unmoved-stores true s.args.parameters s.args.stores {after = on s} {answer = placed (Refused NotHeld c.find_kept-named.result.place)} {f = file_of s} (record { answers = rw (read, held, ← found.place_is_lem opened); files = rw (read, held) })
 
@@ -69,11 +78,11 @@ pub returns-then-not-may_alter : goal.returns-then-not-may_alter
 unfolding remove_on allowed placed refused_by
 returns-then-not-may_alter c =
     let found = c.find_kept-named.ensures.named_as in
-    let opened = not-false _ c.if-not-named.false in
+    let opened = c.if-not-named.false in
     let read = sym found.readable_is ∙ opened in
-    let there = not-false _ c.if-not-named-2.false in
+    let there = c.if-not-named-2.false in
     let held = sym (found.held_is opened) ∙ there in
-    let may = altered _ _ _ _ _ (found.owner_is there) c.may_alter.ensures (not-true _ c.if-not-may_alter.true) in
+    let may = altered _ _ _ _ _ (found.owner_is there) c.may_alter.ensures c.if-not-may_alter.true in
     let s = c.before.before.before.before.before.before.before.before.before.before.before.before.before.before.before.before.before.before.before.before.before in
     unmoved-stores true s.args.parameters s.args.stores {after = on s} {answer = placed (Refused NotOwner c.find_kept-named.result.place)} {f = file_of s} (record { answers = rw (read, held, may, ← found.place_is_lem opened); files = rw (read, held, may) })
 
@@ -85,10 +94,10 @@ abbrev begun : Else-not-may_alter → Start
 begun c = c.before.before.before.before.before.before.before.before.before.before.before.before.before.before.before.before.before.before.before.before
 
 opened : (c : Else-not-may_alter) → (sought c).find_kept-named.result.readable ≡ true
-opened c = not-false _ c.if-not-named.false
+opened c = c.if-not-named.false
 
 there : (c : Else-not-may_alter) → (sought c).find_kept-named.result.held ≡ true
-there c = not-false _ c.if-not-named-2.false
+there c = c.if-not-named-2.false
 
 pub remove_held-requires : goal.remove_held-requires
 remove_held-requires c =
@@ -115,7 +124,7 @@ placed_from-requires c =
     let found = (sought e).find_kept-named in
     rw c.remove_held.ensures.value
     (removal_small s.args.parameters s.args.growth (file_of s) s.requires.admitted.homing.valid s.requires.admitted.homing.growth s.args.number found.result.page
-    (omega (arith, found.ensures.0.page_most, (limits _ s.requires.admitted.homing.valid).pages-most)))
+    (omega (arith, found.ensures.0.page_most, (limits _ s.requires.admitted.homing.valid).pages_most)))
 
 pub returns : goal.returns
 unfolding remove_on allowed
@@ -125,7 +134,7 @@ returns c =
     let found = (sought e).find_kept-named.ensures.named_as in
     let read = sym found.readable_is ∙ opened e in
     let held = sym (found.held_is (opened e)) ∙ there e in
-    let may = altered _ _ _ _ _ (found.owner_is (there e)) e.may_alter.ensures (not-false _ e.if-not-may_alter.false) in
+    let may = altered _ _ _ _ _ (found.owner_is (there e)) e.may_alter.ensures e.if-not-may_alter.false in
     let done = c.remove_held.ensures in
     let page = named s.args.parameters s.args.growth (file_of s) s.args.number in
     let is = removed-is s.args.parameters s.args.growth (file_of s) (cleared (pool_of s)) page s.args.number (place_for s.args.parameters (file_of s) page s.args.number) in

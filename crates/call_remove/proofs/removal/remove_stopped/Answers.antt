@@ -19,10 +19,13 @@ use Rattle.call_remove.proofs.removal.remove_stopped.Lts as lts
 use Rattle.call_remove.proofs.removal.remove_stopped.Tie as tie
 use Rattle.call_remove.proofs.removal.remove_stopped.Reads as reads
 use Rattle.call_remove.proofs.removal.remove_stopped.Goals as goal
-use Rattle.call_remove.proofs.removal.remove_stopped.Goals.{Else-not-number_valid, Start}
+use Rattle.call_remove.proofs.removal.remove_stopped.Goals.{Start}
 
 abbrev In_default : Type 0
 In_default = lts.After-enum_told tie.the-claims reads.Pre reads.Post
+
+abbrev Else-not-number_valid : Type 0
+Else-not-number_valid = lts.Else1 tie.the-claims reads.Pre reads.Post
 
 abbrev file_of : Start → File
 file_of s = lent s.args.separators.now s.args.numbers.now s.args.words.now s.args.owners.now

@@ -11,8 +11,14 @@ use Rattle.calls.proofs.Refusals.{turned-away, refusal_is, none_is, admitted-poo
 use Rattle.outcome_answer.proofs.Pools.{cleared-is, leaves-cleared}
 use Rattle.call_whole_file.proofs.Stepping.{regrow_guarded, regrown-pool}
 use borrow.Author.Rules.{rules}
+use Rattle.call_whole_file.proofs.growth.regrow.Lts as lts
+use Rattle.call_whole_file.proofs.growth.regrow.Tie as tie
+use Rattle.call_whole_file.proofs.growth.regrow.Reads as reads
 use Rattle.call_whole_file.proofs.growth.regrow.Goals as goal
-use Rattle.call_whole_file.proofs.growth.regrow.Goals.{In_default, Start}
+use Rattle.call_whole_file.proofs.growth.regrow.Goals.{Start}
+
+abbrev In_default : Type 0
+In_default = lts.After-enum_told tie.the-claims reads.Pre reads.Post
 
 abbrev file_of : Start → File
 file_of s = lent s.args.separators.now s.args.numbers.now s.args.words.now s.args.owners.now

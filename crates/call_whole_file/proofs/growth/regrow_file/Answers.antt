@@ -7,8 +7,14 @@ use Rattle.call_whole_file.proofs.Outcomes.{growth_small}
 use Rattle.call_guard.proofs.Admitting.{prepared, tabled}
 use Rattle.call_whole_file.proofs.Stepping.{step-movable, step_small, regrow_refused, regrow_stored}
 use borrow.Author.Rules.{rules}
+use Rattle.call_whole_file.proofs.growth.regrow_file.Lts as lts
+use Rattle.call_whole_file.proofs.growth.regrow_file.Tie as tie
+use Rattle.call_whole_file.proofs.growth.regrow_file.Reads as reads
 use Rattle.call_whole_file.proofs.growth.regrow_file.Goals as goal
-use Rattle.call_whole_file.proofs.growth.regrow_file.Goals.{In-To-2, Start}
+use Rattle.call_whole_file.proofs.growth.regrow_file.Goals.{Start}
+
+abbrev In-To-2 : Type 0
+In-To-2 = lts.After-step2 tie.the-claims reads.Pre reads.Post
 
 abbrev file_of : Start → File
 file_of s = lent s.args.separators.now s.args.numbers.now s.args.words.now s.args.owners.now

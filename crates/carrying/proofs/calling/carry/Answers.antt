@@ -14,7 +14,22 @@ use Rattle.carrying.proofs.calling.carry.Lts as lts
 use Rattle.carrying.proofs.calling.carry.Tie as tie
 use Rattle.carrying.proofs.calling.carry.Reads as reads
 use Rattle.carrying.proofs.calling.carry.Goals as goal
-use Rattle.carrying.proofs.calling.carry.Goals.{After-carry_second-answer, After-clear, After-file_fits, After-states_valid, Else-not-all_fit, Start}
+use Rattle.carrying.proofs.calling.carry.Goals.{Start}
+
+abbrev After-states_valid : Type 0
+After-states_valid = lts.After-states_valid tie.the-claims reads.Pre reads.Post
+
+abbrev After-file_fits : Type 0
+After-file_fits = lts.After-file_fits tie.the-claims reads.Pre reads.Post
+
+abbrev Else-not-all_fit : Type 0
+Else-not-all_fit = lts.Else3 tie.the-claims reads.Pre reads.Post
+
+abbrev After-carry_second-answer : Type 0
+After-carry_second-answer = lts.After-carry_second tie.the-claims reads.Pre reads.Post
+
+abbrev After-clear : Type 0
+After-clear = lts.After-clear tie.the-claims reads.Pre reads.Post
 
 abbrev After-slice_known-16-1 : Type 0
 After-slice_known-16-1 = lts.After-slice_known16 tie.the-claims reads.Pre reads.Post

@@ -9,7 +9,13 @@ use Rattle.carrying.proofs.calling.carry_second.Lts as lts
 use Rattle.carrying.proofs.calling.carry_second.Tie as tie
 use Rattle.carrying.proofs.calling.carry_second.Reads as reads
 use Rattle.carrying.proofs.calling.carry_second.Goals as goal
-use Rattle.carrying.proofs.calling.carry_second.Goals.{After-carry_pages-outcome, After-slice_known-6-1, Start}
+use Rattle.carrying.proofs.calling.carry_second.Goals.{Start}
+
+abbrev After-slice_known-6-1 : Type 0
+After-slice_known-6-1 = lts.After-slice_known6 tie.the-claims reads.Pre reads.Post
+
+abbrev After-carry_pages-outcome : Type 0
+After-carry_pages-outcome = lts.After-carry_pages tie.the-claims reads.Pre reads.Post
 
 abbrev After-placed_from : Type 0
 After-placed_from = lts.After-placed_from tie.the-claims reads.Pre reads.Post

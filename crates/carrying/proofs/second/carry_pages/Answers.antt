@@ -16,10 +16,25 @@ use Rattle.carrying.proofs.second.carry_pages.Lts as lts
 use Rattle.carrying.proofs.second.carry_pages.Tie as tie
 use Rattle.carrying.proofs.second.carry_pages.Reads as reads
 use Rattle.carrying.proofs.second.carry_pages.Goals as goal
-use Rattle.carrying.proofs.second.carry_pages.Goals.{After-first_multipliers-table, After-lowest_unsound-bad, After-place_second, After-place_second-2, After-survey-bad, Start}
+use Rattle.carrying.proofs.second.carry_pages.Goals.{Start}
+
+abbrev After-first_multipliers-table : Type 0
+After-first_multipliers-table = lts.After-first_multipliers tie.the-claims reads.Pre reads.Post
+
+abbrev After-lowest_unsound-bad : Type 0
+After-lowest_unsound-bad = lts.After-lowest_unsound tie.the-claims reads.Pre reads.Post
+
+abbrev After-place_second : Type 0
+After-place_second = lts.After-place_second tie.the-claims reads.Pre reads.Post
 
 abbrev After-slice_known-then-pool-numbers-6-1 : Type 0
 After-slice_known-then-pool-numbers-6-1 = lts.After-slice_known12 tie.the-claims reads.Pre reads.Post
+
+abbrev After-survey-bad : Type 0
+After-survey-bad = lts.After-survey tie.the-claims reads.Pre reads.Post
+
+abbrev After-place_second-2 : Type 0
+After-place_second-2 = lts.After-place_second2 tie.the-claims reads.Pre reads.Post
 
 abbrev After-slice_known-13-1 : Type 0
 After-slice_known-13-1 = lts.After-slice_known19 tie.the-claims reads.Pre reads.Post
@@ -47,7 +62,7 @@ found d = let s = begun-2 d in lowest_first_lem s.args.old.parameters s.args.old
 pub first_multipliers-table-requires : goal.first_multipliers-table-requires
 first_multipliers-table-requires c =
     let s = c.before.before.before.before.before.before.before.before.before.before.before.before in
-    (limits s.args.old.parameters s.requires.ready.homing.valid).multiplier-valid
+    (limits s.args.old.parameters s.requires.ready.homing.valid).multiplier_valid
 
 pub place_second-requires : goal.place_second-requires
 place_second-requires c =

@@ -9,7 +9,10 @@ use Rattle.carrying.proofs.second.fill_second.Lts as lts
 use Rattle.carrying.proofs.second.fill_second.Tie as tie
 use Rattle.carrying.proofs.second.fill_second.Reads as reads
 use Rattle.carrying.proofs.second.fill_second.Goals as goal
-use Rattle.carrying.proofs.second.fill_second.Goals.{At-loop-i, Start}
+use Rattle.carrying.proofs.second.fill_second.Goals.{Start}
+
+abbrev At-loop-i : Type 0
+At-loop-i = lts.At-loop tie.the-claims reads.Pre reads.Post goal.the-invariant-loop-i goal.the-decreases-loop-i
 
 abbrev After-shared_slice_known-in-loop-i-1 : Type 0
 After-shared_slice_known-in-loop-i-1 = lts.After-shared_slice_known5 tie.the-claims reads.Pre reads.Post goal.the-invariant-loop-i goal.the-decreases-loop-i

@@ -12,10 +12,16 @@ use Rattle.carrying.proofs.second.place_second.Lts as lts
 use Rattle.carrying.proofs.second.place_second.Tie as tie
 use Rattle.carrying.proofs.second.place_second.Reads as reads
 use Rattle.carrying.proofs.second.place_second.Goals as goal
-use Rattle.carrying.proofs.second.place_second.Goals.{After-plan_all, After-write_second, Start}
+use Rattle.carrying.proofs.second.place_second.Goals.{Start}
 
 abbrev After-planned-1 : Type 0
 After-planned-1 = lts.After-planned tie.the-claims reads.Pre reads.Post
+
+abbrev After-plan_all : Type 0
+After-plan_all = lts.After-plan_all tie.the-claims reads.Pre reads.Post
+
+abbrev After-write_second : Type 0
+After-write_second = lts.After-write_second tie.the-claims reads.Pre reads.Post
 
 abbrev After-slice_known-12-1 : Type 0
 After-slice_known-12-1 = lts.After-slice_known12 tie.the-claims reads.Pre reads.Post
@@ -49,7 +55,7 @@ returns-then-not-plan_all c =
     let s = start a.before in
     record {
       value = λ h. absurd (omega arith);
-      places_second = λ h. placed-none s.args.new s.args.numbers.now s.args.words.now s.args.owners.now _ _ _ a.plan_all.ensures (second s) (not-true _ c.if-not-plan_all.true);
+      places_second = λ h. placed-none s.args.new s.args.numbers.now s.args.words.now s.args.owners.now _ _ _ a.plan_all.ensures (second s) c.if-not-plan_all.true;
     }
 
 pub write_second-requires : goal.write_second-requires
@@ -59,8 +65,8 @@ write_second-requires c =
     let s = start a.before in
     let z = s.requires.ready.sized in
     let k = a.plan_all.auto.pool in
-    let yes : a.plan_all.result ≡ true = not-false _ e.if-not-plan_all.false in record {
-      secondseparators_in_bounds = omega (arith, z.of_separators, planned-long _ _ _ (a.plan_all.ensures.separators-are yes));
+    let yes : a.plan_all.result ≡ true = e.if-not-plan_all.false in record {
+      secondseparators_in_bounds = omega (arith, z.of_separators, planned-long _ _ _ (a.plan_all.ensures.separators_are yes));
       secondnumbers_len = omega (arith, z.of_numbers, s.requires.pool_len, k);
       secondwords_len = omega (arith, z.of_words_lem, s.requires.pool_len, k);
       secondowners_len = omega (arith, z.of_owners, s.requires.pool_len, k);
@@ -80,6 +86,6 @@ returns c =
     let s = start a.before in
     let count : length s.args.secondseparators.now ≡ s.args.new.parameters.pages = s.requires.ready.sized.of_separators in record {
       value = λ h. absurd (omega arith);
-      places_second = λ h. placed-stars s.args.new s.args.numbers.now s.args.words.now s.args.owners.now _ _ _ a.plan_all.ensures (second s) (not-false _ e.if-not-plan_all.false) _
+      places_second = λ h. placed-stars s.args.new s.args.numbers.now s.args.words.now s.args.owners.now _ _ _ a.plan_all.ensures (second s) e.if-not-plan_all.false _
           (rw count at w.write_second.ensures);
     }

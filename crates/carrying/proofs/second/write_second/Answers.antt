@@ -5,7 +5,13 @@ use Rattle.carrying.proofs.second.write_second.Lts as lts
 use Rattle.carrying.proofs.second.write_second.Tie as tie
 use Rattle.carrying.proofs.second.write_second.Reads as reads
 use Rattle.carrying.proofs.second.write_second.Goals as goal
-use Rattle.carrying.proofs.second.write_second.Goals.{After-copy_8, After-fill_second, Start}
+use Rattle.carrying.proofs.second.write_second.Goals.{Start}
+
+abbrev After-fill_second : Type 0
+After-fill_second = lts.After-fill_second tie.the-claims reads.Pre reads.Post
+
+abbrev After-copy_8 : Type 0
+After-copy_8 = lts.After-copy_8 tie.the-claims reads.Pre reads.Post
 
 abbrev After-slice_known-8-1 : Type 0
 After-slice_known-8-1 = lts.After-slice_known8 tie.the-claims reads.Pre reads.Post

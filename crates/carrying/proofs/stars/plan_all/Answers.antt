@@ -9,8 +9,14 @@ use Rattle.hashing.proofs.Bounds.{limits}
 use Rattle.placement.proofs.Prepared.{homing}
 use Rattle.page_plan.specs.Gather.{stars_in}
 use Rattle.carrying.proofs.Placing.{words-crowded}
+use Rattle.carrying.proofs.stars.plan_all.Lts as lts
+use Rattle.carrying.proofs.stars.plan_all.Tie as tie
+use Rattle.carrying.proofs.stars.plan_all.Reads as reads
 use Rattle.carrying.proofs.stars.plan_all.Goals as goal
-use Rattle.carrying.proofs.stars.plan_all.Goals.{After-count_stars, Start}
+use Rattle.carrying.proofs.stars.plan_all.Goals.{Start}
+
+abbrev After-count_stars : Type 0
+After-count_stars = lts.After-count_stars tie.the-claims reads.Pre reads.Post
 
 abbrev start : After-count_stars → Start
 start c = c.before.before.before.before
@@ -26,13 +32,13 @@ returns-then-pool-count_stars c =
       fits = sym (ne_eqb _ 0 (words-crowded s.args.geometry s.requires.parameters_value.0 s.requires.parameters_value.1 s.args.numbers.now s.requires.numbers_len_bound.0 s.requires.numbers_len_bound.1
           (omega (arith, c.if-pool-count_stars.true, counted k, s.requires.pool_len))));
       sources = λ e. absurd (false≢true e);
-      separators-are = λ e. absurd (false≢true e);
+      separators_are = λ e. absurd (false≢true e);
     }
 
 pub first_multipliers-table-requires : goal.first_multipliers-table-requires
 first_multipliers-table-requires c =
     let s = start c.before.before in
-    (limits s.args.geometry.parameters s.requires.parameters_value.0).multiplier-valid
+    (limits s.args.geometry.parameters s.requires.parameters_value.0).multiplier_valid
 
 pub shift_for-shift-requires : goal.shift_for-shift-requires
 shift_for-shift-requires c = tt

@@ -7,8 +7,20 @@ use native.Mathlib.Nat.{mul-le-mul}
 use native.Mathlib.Omega.{arith}
 use Rattle.hashing.proofs.Bounds.{limits}
 use Rattle.carrying.proofs.Placing.{planned-whole, planned-sorted, stars-keyed, stars-grouped, stars-settleable}
+use Rattle.carrying.proofs.stars.plan_stars.Lts as lts
+use Rattle.carrying.proofs.stars.plan_stars.Tie as tie
+use Rattle.carrying.proofs.stars.plan_stars.Reads as reads
 use Rattle.carrying.proofs.stars.plan_stars.Goals as goal
-use Rattle.carrying.proofs.stars.plan_stars.Goals.{After-gather_stars, After-key_stars-stars, After-place_all, Start}
+use Rattle.carrying.proofs.stars.plan_stars.Goals.{Start}
+
+abbrev After-key_stars-stars : Type 0
+After-key_stars-stars = lts.After-key_stars tie.the-claims reads.Pre reads.Post
+
+abbrev After-gather_stars : Type 0
+After-gather_stars = lts.After-gather_stars tie.the-claims reads.Pre reads.Post
+
+abbrev After-place_all : Type 0
+After-place_all = lts.After-place_all tie.the-claims reads.Pre reads.Post
 
 abbrev start : After-key_stars-stars → Start
 start c = c.before.before.before.before.before.before.before.before
@@ -20,7 +32,7 @@ inside c = omega (arith, c.key_stars-stars.ensures.value, c.key_stars-stars.auto
 items : (s : Start) → s.args.geometry.parameters.pages * s.args.geometry.parameters.places ≤ 32768
 items s =
     let l = limits s.args.geometry.parameters s.requires.homing.valid in
-    mul-le-mul l.pages-most l.places-most
+    mul-le-mul l.pages_most l.places_most
 
 -- .. and so do the words
 wide : (c : After-key_stars-stars) → c.key_stars-stars.result ≤ length c.key_stars-stars.new.1.1.1.1.0
@@ -41,7 +53,7 @@ gather_stars-requires c =
     let k = c.before.before.before.before.before.before.before in
     let s = start k in record {
       keyed = stars-keyed s.args.geometry s.requires.homing.valid s.requires.homing.growth s.args.numbers.now s.requires.numbers_len_bound.0 s.requires.numbers_len_bound.1 s.args.shift _ _ k.key_stars-stars.ensures.value k.key_stars-stars.ensures.keys_after (inside k);
-      pages_in_bounds = ((limits _ s.requires.homing.valid).pages-most, wide k);
+      pages_in_bounds = ((limits _ s.requires.homing.valid).pages_most, wide k);
       numbers_value = s.requires.numbers_len_bound.1;
     }
 
@@ -81,4 +93,4 @@ returns c =
     (planned-whole s.args.geometry.parameters _ _ _ _ _ _ _
     (rw (stars-grouped s.args.geometry s.requires.homing.valid s.requires.homing.growth s.args.numbers.now s.requires.numbers_len_bound.0 s.requires.numbers_len_bound.1 s.args.shift _ _ k.key_stars-stars.ensures.value k.key_stars-stars.ensures.keys_after (inside k)
     k.key_stars-stars.new.1.1.1.1.0 _ _ t.gather_stars.ensures (wide k) t.gather_stars.auto.waiting) at e.place_all.ensures)
-    (omega (arith, k.key_stars-stars.auto.keys, s.requires.pool_len)) (omega (arith, L.pages-most, s.requires.planned_len)))
+    (omega (arith, k.key_stars-stars.auto.keys, s.requires.pool_len)) (omega (arith, L.pages_most, s.requires.planned_len)))

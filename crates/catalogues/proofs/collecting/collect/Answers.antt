@@ -8,8 +8,13 @@ use lib.Seq.{take_all, length-sets}
 use Rattle.lines.specs.Programs.{Stands}
 use Rattle.lines.proofs.Programs.{start-stands, block_more}
 use Rattle.catalogues.specs.Runs.{cataloguing, run_held, Fit}
+use Rattle.catalogues.proofs.collecting.collect.Lts as lts
+use Rattle.catalogues.proofs.collecting.collect.Tie as tie
+use Rattle.catalogues.proofs.collecting.collect.Reads as reads
 use Rattle.catalogues.proofs.collecting.collect.Goals as goal
-use Rattle.catalogues.proofs.collecting.collect.Goals.{At-loop-i}
+
+abbrev At-loop-i : Type 0
+At-loop-i = lts.At-loop tie.the-claims reads.Pre reads.Post goal.the-invariant-loop-i goal.the-decreases-loop-i
 
 same_size : (c : At-loop-i) → length c.loop-i.out ≡ length c.args.out.now
 same_size c = ap length c.loop-i.invariant.3.text.buffer ∙ simp length-sets

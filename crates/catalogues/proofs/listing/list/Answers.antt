@@ -36,7 +36,7 @@ rows_inside : (k : In-Rows) → (k.rows-1.given.0.0 ≤ 32768) × (5760 + 12 * k
 rows_inside k = inside (start k).args.part (start k).args.given.now k.table_rows.ensures _ k.rows-1.given.1
 
 good : (c : Else-not-rows_good) → good_rows 0 (start c.before.before).args.given.now 5760 c.rows-1.given.0.0 ≡ true
-good c = sym c.rows_good.ensures ∙ not-false _ c.if-not-rows_good.false
+good c = sym c.rows_good.ensures ∙ c.if-not-rows_good.false
 
 pub rows_good-requires : goal.rows_good-requires
 rows_good-requires c = record {
@@ -49,7 +49,7 @@ returns-then-not-rows_good c =
     let t = c.before.before.before.before.before in
     let k = t.before.before in (
       rw (← row_wrong (start k).args.part (start k).args.given.now k.table_rows.ensures _ k.rows-1.given.1
-          (sym t.rows_good.ensures ∙ not-true _ t.if-not-rows_good.true)) c.refuse-then-not-rows_good.ensures.0,
+          (sym t.rows_good.ensures ∙ t.if-not-rows_good.true)) c.refuse-then-not-rows_good.ensures.0,
       omega (arith, c.refuse-then-not-rows_good.ensures.1),
     )
 
@@ -68,7 +68,7 @@ returns-then-not-pad_zero c =
     let e = t.before.before in
     let k = e.before.before in (
       rw (← pad_wrong (start k).args.part (start k).args.given.now k.table_rows.ensures _ k.rows-1.given.1 (good e)
-          (sym t.pad_zero.ensures ∙ not-true _ t.if-not-pad_zero.true)) c.refuse-then-not-pad_zero.ensures.0,
+          (sym t.pad_zero.ensures ∙ t.if-not-pad_zero.true)) c.refuse-then-not-pad_zero.ensures.0,
       omega (arith, c.refuse-then-not-pad_zero.ensures.1),
     )
 
@@ -99,7 +99,7 @@ returns c =
     let s = start k in
     let rows = k.rows-1.given.0.0 in (
       rw (← part-listed s.args.part s.args.given.now k.table_rows.ensures rows k.rows-1.given.1 (good e)
-          (sym t.pad_zero.ensures ∙ not-false _ t.if-not-pad_zero.false) m.at_most-first.result m.at_most-count.result
+          (sym t.pad_zero.ensures ∙ t.if-not-pad_zero.false) m.at_most-first.result m.at_most-count.result
           (least-is m.at_most-first.result (8192 * s.args.part) rows m.at_most-first.ensures.1.1.0 m.at_most-first.ensures.1.1.1)
           (least-is m.at_most-count.result (rows - m.at_most-first.result) 8192 m.at_most-count.ensures.1.1.0 m.at_most-count.ensures.1.1.1))
           c.put_lines.ensures.0,

@@ -8,8 +8,13 @@ use Rattle.lines.specs.Replies.{TextAt}
 use Rattle.fits_table.specs.Rows.{rows_read}
 use Rattle.catalogues.specs.Listing.{row_lines}
 use Rattle.catalogues.proofs.Listed.{line_more}
+use Rattle.catalogues.proofs.listing.put_lines.Lts as lts
+use Rattle.catalogues.proofs.listing.put_lines.Tie as tie
+use Rattle.catalogues.proofs.listing.put_lines.Reads as reads
 use Rattle.catalogues.proofs.listing.put_lines.Goals as goal
-use Rattle.catalogues.proofs.listing.put_lines.Goals.{At-loop-i}
+
+abbrev At-loop-i : Type 0
+At-loop-i = lts.At-loop tie.the-claims reads.Pre reads.Post goal.the-invariant-loop-i goal.the-decreases-loop-i
 
 same_size : (c : At-loop-i) → length c.loop-i.out ≡ length c.args.out.now
 same_size c = ap length c.loop-i.invariant.2.buffer ∙ simp length-sets

@@ -15,10 +15,16 @@ use Rattle.clean_test.proofs.counts.count_off_home.Lts as lts
 use Rattle.clean_test.proofs.counts.count_off_home.Tie as tie
 use Rattle.clean_test.proofs.counts.count_off_home.Reads as reads
 use Rattle.clean_test.proofs.counts.count_off_home.Goals as goal
-use Rattle.clean_test.proofs.counts.count_off_home.Goals.{At-loop-i, Start, Then-number-ne0}
+use Rattle.clean_test.proofs.counts.count_off_home.Goals.{Start}
+
+abbrev At-loop-i : Type 0
+At-loop-i = lts.At-loop tie.the-claims reads.Pre reads.Post goal.the-invariant-loop-i goal.the-decreases-loop-i
 
 abbrev In-loop-i : Type 0
 In-loop-i = lts.In-loop tie.the-claims reads.Pre reads.Post goal.the-invariant-loop-i goal.the-decreases-loop-i
+
+abbrev Then-number-ne0 : Type 0
+Then-number-ne0 = lts.Then1 tie.the-claims reads.Pre reads.Post goal.the-invariant-loop-i goal.the-decreases-loop-i
 
 abbrev start : At-loop-i → Start
 start k = k.before.before.before.before.before.before
@@ -42,10 +48,10 @@ few : (c : In-loop-i) →
 few c = omega (arith, within c, items-most (start c.before).args.geometry.parameters (start c.before).requires.signers.valid)
 
 low-page : (s : Start) → s.args.page < 1024
-low-page s = omega (arith, s.requires.homed.high, (limits s.args.geometry.parameters s.requires.signers.valid).pages-most)
+low-page s = omega (arith, s.requires.homed.high, (limits s.args.geometry.parameters s.requires.signers.valid).pages_most)
 
 pub overflow_cast-places : goal.overflow_cast-places
-overflow_cast-places c = omega (arith, (limits _ c.requires.signers.valid).places-most)
+overflow_cast-places c = omega (arith, (limits _ c.requires.signers.valid).places_most)
 
 pub overflow_mul-first : goal.overflow_mul-first
 overflow_mul-first c =
@@ -99,7 +105,7 @@ pub count_passed-requires : goal.count_passed-requires
 count_passed-requires c =
     let k = c.before.before.before.before.before.before.before in
     let s = start k in
-    let few-places = (limits s.args.geometry.parameters s.requires.signers.valid).places-most in record {
+    let few-places = (limits s.args.geometry.parameters s.requires.signers.valid).places_most in record {
       signers = s.requires.signers;
       page_in_bounds = (omega (arith, s.requires.homed.separators, s.requires.homed.high), omega (arith, low-page s));
       counts = places-counts _ _ _ _ _ _ 32800 65535 _ _ k.loop-i.invariant.1 s.requires.counts (omega (arith, few-places, k.loop-i.invariant.0));

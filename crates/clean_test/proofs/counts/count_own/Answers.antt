@@ -24,7 +24,7 @@ abbrev After-count_stars-stars : Type 0
 After-count_stars-stars = lts.After-count_stars tie.the-claims reads.Pre reads.Post
 
 low-page : (s : Start) → s.args.page < 1024
-low-page s = omega (arith, s.requires.page_lt_pages.0, (limits s.args.geometry.parameters s.requires.parameters_value).pages-most)
+low-page s = omega (arith, s.requires.page_lt_pages.0, (limits s.args.geometry.parameters s.requires.parameters_value).pages_most)
 
 -- where the page ends
 last : (s : Start) →
@@ -51,7 +51,7 @@ overflow_mul-page c =
 pub count_stars-stars-requires : goal.count_stars-stars-requires
 count_stars-stars-requires c =
     let s = start c.before in
-    (omega (arith, last s, s.requires.numbers_len), (limits s.args.geometry.parameters s.requires.parameters_value).places-most)
+    (omega (arith, last s, s.requires.numbers_len), (limits s.args.geometry.parameters s.requires.parameters_value).places_most)
 
 pub bounds-counts-page : goal.bounds-counts-page
 bounds-counts-page c = low-page (start c.before.before.before)
@@ -66,7 +66,7 @@ overflow_add-counts c =
       s.requires.counts_len.1,
       k.count_stars-stars.ensures,
       taken-most star_number (drop (a.page * a.geometry.parameters.places) a.numbers.now) a.geometry.parameters.places,
-      (limits a.geometry.parameters s.requires.parameters_value).places-most,
+      (limits a.geometry.parameters s.requires.parameters_value).places_most,
     )
 
 pub bounds-counts-page-2 : goal.bounds-counts-page-2

@@ -11,8 +11,14 @@ use Rattle.hashing.proofs.Bounds.{limits}
 use Rattle.calls.proofs.Refusals.{items-most}
 use Rattle.clean_test.specs.Raising.{hash_under, Counts, PassersCounted}
 use Rattle.clean_test.proofs.Counters.{counted_next, counted-most, passed-most, homed-page}
+use Rattle.clean_test.proofs.counts.count_pages.Lts as lts
+use Rattle.clean_test.proofs.counts.count_pages.Tie as tie
+use Rattle.clean_test.proofs.counts.count_pages.Reads as reads
 use Rattle.clean_test.proofs.counts.count_pages.Goals as goal
-use Rattle.clean_test.proofs.counts.count_pages.Goals.{In-loop-page, Start}
+use Rattle.clean_test.proofs.counts.count_pages.Goals.{Start}
+
+abbrev In-loop-page : Type 0
+In-loop-page = lts.In-loop tie.the-claims reads.Pre reads.Post goal.the-invariant-loop-page goal.the-decreases-loop-page
 
 pub loop-page-init : goal.loop-page-init
 loop-page-init c =
@@ -49,7 +55,7 @@ returns-then-not-count_passers c =
     let m = c.before.before in
     let k = m.before.before.before in
     let s = k.before.before.before.before.before in
-    let refused = not-true _ c.if-not-count_passers.true in
+    let refused = c.if-not-count_passers.true in
     let beyond : 2 * s.args.stop < length s.args.table.now → 2 * k.loop-page.page < length s.args.table.now = λ h. omega (arith, m.loop-page-test.true) in record {
       lower_bound = (k.loop-page.invariant.0, k.loop-page.invariant.1.0);
       value = λ h. absurd (false≢true (sym refused ∙ m.count_passers.ensures.value (beyond h)));
@@ -66,14 +72,14 @@ count_own-requires c =
     let page = l.loop-page.page in
     let most = limits a.geometry.parameters s.requires.signers.valid in
     let inside : page < a.geometry.parameters.pages = omega (arith, l.loop-page-test.true, s.requires.homed.high) in
-    let near : page < 1024 = omega (arith, inside, most.pages-most) in
-    let added = m.count_passers.ensures.adds_counts (not-false _ c.if-not-count_passers.false) in
+    let near : page < 1024 = omega (arith, inside, most.pages_most) in
+    let added = m.count_passers.ensures.adds_counts c.if-not-count_passers.false in
     let some = passed-most (hash_under a.geometry) a.separators.now a.numbers.now page page in
     record {
       parameters_value = s.requires.signers.valid;
       page_lt_pages = (inside, s.requires.homed.separators);
       numbers_len = s.requires.homed.numbers;
-      counts_len = (added.size, omega (arith, added.each page (low l) near, (few l).1 page (low l) near, some, most.places-most));
+      counts_len = (added.size, omega (arith, added.each page (low l) near, (few l).1 page (low l) near, some, most.places_most));
     }
 
 pub overflow_add-page : goal.overflow_add-page
@@ -90,7 +96,7 @@ loop-page-preserved c =
       omega (arith, k.loop-page.invariant.0),
       (
         omega (arith, l.loop-page-test.true),
-        counted_next _ _ _ _ _ _ k.loop-page.invariant.1.1 (low l) _ _ (m.count_passers.ensures.adds_counts (not-false _ c.if-not-count_passers.false)) c.count_own.ensures,
+        counted_next _ _ _ _ _ _ k.loop-page.invariant.1.1 (low l) _ _ (m.count_passers.ensures.adds_counts c.if-not-count_passers.false) c.count_own.ensures,
       ),
     )
 

@@ -14,10 +14,16 @@ use Rattle.clean_test.proofs.counts.count_passed.Lts as lts
 use Rattle.clean_test.proofs.counts.count_passed.Tie as tie
 use Rattle.clean_test.proofs.counts.count_passed.Reads as reads
 use Rattle.clean_test.proofs.counts.count_passed.Goals as goal
-use Rattle.clean_test.proofs.counts.count_passed.Goals.{After-signature_by-signature, At-loop-next, Start}
+use Rattle.clean_test.proofs.counts.count_passed.Goals.{Start}
+
+abbrev At-loop-next : Type 0
+At-loop-next = lts.At-loop tie.the-claims reads.Pre reads.Post goal.the-invariant-loop-next goal.the-decreases-loop-next
 
 abbrev In-loop-next : Type 0
 In-loop-next = lts.In-loop tie.the-claims reads.Pre reads.Post goal.the-invariant-loop-next goal.the-decreases-loop-next
+
+abbrev After-signature_by-signature : Type 0
+After-signature_by-signature = lts.After-signature_by tie.the-claims reads.Pre reads.Post goal.the-invariant-loop-next goal.the-decreases-loop-next
 
 abbrev start : At-loop-next → Start
 start k = k.before.before.before.before
@@ -59,7 +65,7 @@ pub signature_by-signature-requires : goal.signature_by-signature-requires
 signature_by-signature-requires c =
     let s = start c.before.before.before in
     let l = limits s.args.geometry.parameters s.requires.signers.valid in
-    (lent_below s.args.geometry.parameters.multiplier _ s.requires.signers.table _ (entry c.before.before), (l.bits-least, l.bits_most))
+    (lent_below s.args.geometry.parameters.multiplier _ s.requires.signers.table _ (entry c.before.before), (l.bits_least, l.bits_most))
 
 -- the code's signature is that of the rule
 signed : (c : After-signature_by-signature) →

@@ -25,7 +25,7 @@ abbrev Then-count_below-eq0 : Type 0
 Then-count_below-eq0 = lts.Then1 tie.the-claims reads.Pre reads.Post
 
 low-page : (s : Start) → s.args.page < 1024
-low-page s = omega (arith, s.requires.homed.high, (limits s.args.geometry.parameters s.requires.signers.valid).pages-most)
+low-page s = omega (arith, s.requires.homed.high, (limits s.args.geometry.parameters s.requires.signers.valid).pages_most)
 
 -- where the page ends
 last : (s : Start) →
@@ -89,7 +89,7 @@ pub signs_page-requires : goal.signs_page-requires
 signs_page-requires c =
     let s = start c.before.before.before in
     record {
-      entries_nonzero = (omega (arith, s.requires.signers.long), (low-page s, (limits s.args.geometry.parameters s.requires.signers.valid).places-most));
+      entries_nonzero = (omega (arith, s.requires.signers.long), (low-page s, (limits s.args.geometry.parameters s.requires.signers.valid).places_most));
       places_in_bounds = inside s;
     }
 
@@ -97,7 +97,7 @@ pub returns-then-not-signs_page : goal.returns-then-not-signs_page
 returns-then-not-signs_page c = record {
   adds_counts = λ e. absurd (false≢true e);
   counts_unchanged = λ _. refl;
-  value = λ h. sym (not-true _ c.if-not-signs_page.true) ∙ c.signs_page.ensures.value h;
+  value = λ h. sym c.if-not-signs_page.true ∙ c.signs_page.ensures.value h;
 }
 
 pub count_off_home-requires : goal.count_off_home-requires
@@ -106,7 +106,7 @@ count_off_home-requires c =
       signers = s.requires.signers;
       homed = s.requires.homed;
       counts = (s.requires.counts.0, λ p o k. omega (arith, s.requires.counts.1 p o k));
-      signable_passed = c.signs_page.ensures.signable_passed (not-false _ c.if-not-signs_page.false);
+      signable_passed = c.signs_page.ensures.signable_passed c.if-not-signs_page.false;
     }
 
 pub returns : goal.returns

@@ -7,8 +7,14 @@ use lib.ListN.{get_or, take, drop}
 use Rattle.placement.specs.Rule.{filter}
 use Rattle.clean_test.specs.Raising.{star_number, stars_among}
 use Rattle.clean_test.proofs.Counters.{one-most, taken-most, stars-next}
+use Rattle.clean_test.proofs.counts.count_stars.Lts as lts
+use Rattle.clean_test.proofs.counts.count_stars.Tie as tie
+use Rattle.clean_test.proofs.counts.count_stars.Reads as reads
 use Rattle.clean_test.proofs.counts.count_stars.Goals as goal
-use Rattle.clean_test.proofs.counts.count_stars.Goals.{At-loop-i, Start}
+use Rattle.clean_test.proofs.counts.count_stars.Goals.{Start}
+
+abbrev At-loop-i : Type 0
+At-loop-i = lts.At-loop tie.the-claims reads.Pre reads.Post goal.the-invariant-loop-i goal.the-decreases-loop-i
 
 abbrev start : At-loop-i → Start
 start k = k.before.before

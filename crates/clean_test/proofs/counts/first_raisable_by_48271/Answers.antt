@@ -7,13 +7,22 @@ use Rattle.hashing.specs.Geometry.{multiplier_of}
 use Rattle.hashing.proofs.Bounds.{limits}
 use Rattle.placement.proofs.Prepared.{whole_long, whole-signers}
 use Rattle.clean_test.proofs.Counters.{rising-raisable}
+use Rattle.clean_test.proofs.counts.first_raisable_by_48271.Lts as lts
+use Rattle.clean_test.proofs.counts.first_raisable_by_48271.Tie as tie
+use Rattle.clean_test.proofs.counts.first_raisable_by_48271.Reads as reads
 use Rattle.clean_test.proofs.counts.first_raisable_by_48271.Goals as goal
-use Rattle.clean_test.proofs.counts.first_raisable_by_48271.Goals.{After-count_pages-end, After-multipliers-table, Start}
+use Rattle.clean_test.proofs.counts.first_raisable_by_48271.Goals.{Start}
+
+abbrev After-multipliers-table : Type 0
+After-multipliers-table = lts.After-multipliers tie.the-claims reads.Pre reads.Post
+
+abbrev After-count_pages-end : Type 0
+After-count_pages-end = lts.After-count_pages tie.the-claims reads.Pre reads.Post
 
 pub multipliers-table-requires : goal.multipliers-table-requires
 multipliers-table-requires c =
     let p = c.requires.parameters_value in
-    rw (← p.1) (limits _ p.0).multiplier-valid
+    rw (← p.1) (limits _ p.0).multiplier_valid
 
 abbrev start : After-multipliers-table → Start
 start c = c.before.before.before.before
@@ -38,7 +47,7 @@ done c =
     let k = c.before.before.before in
     let s = start k in
     c.count_pages-end.ensures.value
-    (omega (arith, whole_long (multiplier_of s.args.geometry.parameters) (tabled k), s.requires.homed.high, (limits _ s.requires.parameters_value.0).pages-most))
+    (omega (arith, whole_long (multiplier_of s.args.geometry.parameters) (tabled k), s.requires.homed.high, (limits _ s.requires.parameters_value.0).pages_most))
 
 pub first_rising-requires : goal.first_rising-requires
 first_rising-requires c =
@@ -58,4 +67,4 @@ returns c =
     let homed = s.requires.homed in
     c.first_rising.ensures
     ∙ rw (done k)
-    (rising-raisable s.args.geometry _ _ _ _ _ homed.low (omega (arith, homed.high, (limits _ s.requires.parameters_value.0).pages-most)) (rw (done k) at k.count_pages-end.ensures.passers_counted_2))
+    (rising-raisable s.args.geometry _ _ _ _ _ homed.low (omega (arith, homed.high, (limits _ s.requires.parameters_value.0).pages_most)) (rw (done k) at k.count_pages-end.ensures.passers_counted_2))

@@ -8,8 +8,16 @@ use Rattle.generator.specs.Generator.{top_of_lem}
 use Rattle.hashing.proofs.Bounds.{limits}
 use Rattle.reach.proofs.Search.{Sought, sought-none, sought-next, sought-found, sought-all}
 use Rattle.clean_test.specs.Raising.{may_rise}
+use Rattle.clean_test.proofs.counts.first_rising.Lts as lts
+use Rattle.clean_test.proofs.counts.first_rising.Tie as tie
+use Rattle.clean_test.proofs.counts.first_rising.Reads as reads
 use Rattle.clean_test.proofs.counts.first_rising.Goals as goal
-use Rattle.clean_test.proofs.counts.first_rising.Goals.{After-could_rise, In-loop-page}
+
+abbrev In-loop-page : Type 0
+In-loop-page = lts.In-loop tie.the-claims reads.Pre reads.Post goal.the-invariant-loop-page goal.the-decreases-loop-page
+
+abbrev After-could_rise : Type 0
+After-could_rise = lts.After-could_rise tie.the-claims reads.Pre reads.Post goal.the-invariant-loop-page goal.the-decreases-loop-page
 
 pub top_of-top-requires : goal.top_of-top-requires
 top_of-top-requires c = c.requires.parameters_value
@@ -21,7 +29,7 @@ pub bounds-separators-page : goal.bounds-separators-page
 bounds-separators-page c = omega arith
 
 few : (c : In-loop-page) → c.loop-page.page < 1024
-few c = omega (arith, c.requires.from_le_stop.1, (limits _ c.requires.parameters_value).pages-most)
+few c = omega (arith, c.requires.from_le_stop.1, (limits _ c.requires.parameters_value).pages_most)
 
 pub offset_bounds-counts-page : goal.offset_bounds-counts-page
 offset_bounds-counts-page c = omega (arith, few c.before.before)

@@ -13,7 +13,7 @@ items : (s : Start) → (s.args.lo + s.args.count) * s.args.parameters.places �
 items s = mul-le-mul_right s.args.parameters.places s.requires.count_bound.0
 
 small : (s : Start) → s.args.parameters.pages * s.args.parameters.places ≤ 1024 * 32
-small s = let l = limits s.args.parameters s.requires.parameters_value in mul-le-mul l.pages-most l.places-most
+small s = let l = limits s.args.parameters s.requires.parameters_value in mul-le-mul l.pages_most l.places_most
 
 pub overflow_mul-lo : goal.overflow_mul-lo
 overflow_mul-lo c =

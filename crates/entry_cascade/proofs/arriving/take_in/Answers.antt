@@ -20,7 +20,10 @@ use Rattle.entry_cascade.proofs.arriving.take_in.Lts as lts
 use Rattle.entry_cascade.proofs.arriving.take_in.Tie as tie
 use Rattle.entry_cascade.proofs.arriving.take_in.Reads as reads
 use Rattle.entry_cascade.proofs.arriving.take_in.Goals as goal
-use Rattle.entry_cascade.proofs.arriving.take_in.Goals.{After-test_page, Start}
+use Rattle.entry_cascade.proofs.arriving.take_in.Goals.{Start}
+
+abbrev After-test_page : Type 0
+After-test_page = lts.After-test_page tie.the-claims reads.Pre reads.Post
 
 abbrev Else-not-test_page : Type 0
 Else-not-test_page = lts.Else1 tie.the-claims reads.Pre reads.Post
@@ -42,7 +45,7 @@ pub load-value-requires : goal.load-value-requires
 load-value-requires c =
     let s = c.before.before.before.before.before.before.before.before in
     record {
-      places_bound = (limits _ s.requires.ready.homing.valid).places-most;
+      places_bound = (limits _ s.requires.ready.homing.valid).places_most;
       places_in_bounds = inside s s.requires.ready.sized.of_numbers;
       places_in_bounds_2 = inside s s.requires.ready.sized.of_words_lem;
       places_in_bounds_3 = inside s s.requires.ready.sized.of_owners;
@@ -73,14 +76,14 @@ told c =
     ∙ sound-loaded _ _ (file s) _ _ (inside s s.requires.ready.sized.of_numbers) (inside s s.requires.ready.sized.of_words_lem) (inside s s.requires.ready.sized.of_owners) c.load-value.ensures
 
 pub returns-then-not-test_page : goal.returns-then-not-test_page
-returns-then-not-test_page c = sym (told c.before.before) ∙ not-true _ c.if-not-test_page.true
+returns-then-not-test_page c = sym (told c.before.before) ∙ c.if-not-test_page.true
 
 -- where the page is sound
 abbrev tested : Else-not-test_page → After-test_page
 tested c = c.before
 
 sound : (c : Else-not-test_page) → sound_at (start (tested c)).args.geometry.parameters (start (tested c)).args.geometry.growth (file (start (tested c))) (start (tested c)).args.page ≡ true
-sound c = sym (told (tested c)) ∙ not-false _ c.if-not-test_page.false
+sound c = sym (told (tested c)) ∙ c.if-not-test_page.false
 
 -- the page's stars, as they are counted
 abbrev counted : Start → ℕ
@@ -111,10 +114,10 @@ append-reach-requires c =
     let g = s.args.geometry.growth in
     let l = c.load-value in
     let h = c.test_page in
-    let yes = not-false _ c.if-not-test_page.false in
+    let yes = c.if-not-test_page.false in
     let fits = ltb-false (length s.args.waiting.now - s.args.end) (counted s) (sym c.exceeds.ensures ∙ c.if-exceeds.false) in
     let same = loaded-numbers p g (file s) s.requires.ready.homing.valid s.requires.ready.sized s.args.page s.requires.page_lt_pages.0 l.result l.ensures in record {
-      places_bound = ((limits p s.requires.ready.homing.valid).places-most, page-few p g (file s) s.requires.ready.homing.valid s.requires.ready.sized s.args.page s.requires.page_lt_pages.0);
+      places_bound = ((limits p s.requires.ready.homing.valid).places_most, page-few p g (file s) s.requires.ready.homing.valid s.requires.ready.sized s.args.page s.requires.page_lt_pages.0);
       places_in_bounds = (
         loaded-long p g (file s) s.requires.ready.homing.valid s.requires.ready.sized s.args.page s.requires.page_lt_pages.0 l.result l.ensures,
         homes-long p g (file s) s.requires.ready.homing.valid s.requires.ready.sized s.args.page s.requires.page_lt_pages.0 l.result l.ensures (sound c.before.before.before.before.before.before) _ (h.ensures.homed yes),
@@ -133,7 +136,7 @@ returns c =
     let g = s.args.geometry.growth in
     let l = c.load-value in
     let h = c.test_page in
-    let yes = not-false _ c.if-not-test_page.false in
+    let yes = c.if-not-test_page.false in
     let same = loaded-words p g (file s) s.requires.ready.homing.valid s.requires.ready.sized s.args.page s.requires.page_lt_pages.0 l.result l.ensures (sound c.before.before.before.before.before.before.before.before.before) _ (h.ensures.homed yes) in
     record {
       sound = sound c.before.before.before.before.before.before.before.before.before;

@@ -17,13 +17,13 @@ pub overflow_mul-page : goal.overflow_mul-page
 overflow_mul-page c =
     let s = c.before.before.before.before.before.before in
     let l = limits _ s.requires.homing.valid in
-    record { fits = omega (arith, inside s, s.requires.separators_len.1, mul-le-mul l.pages-most l.places-most) }
+    record { fits = omega (arith, inside s, s.requires.separators_len.1, mul-le-mul l.pages_most l.places_most) }
 
 pub copy_32-requires : goal.copy_32-requires
 copy_32-requires c =
     let s = c.before.before.before.before.before.before in
     record {
-      in_bounds = omega (arith, (limits _ s.requires.homing.valid).places-most, s.requires.homes_len);
+      in_bounds = omega (arith, (limits _ s.requires.homing.valid).places_most, s.requires.homes_len);
       in_bounds_2 = inside s;
     }
 
@@ -32,7 +32,7 @@ returns-then-page-tested c =
     let s = c.before.before.before.before.before.before.before in
     rw c.copy_32.ensures
     (known-tested s.args.geometry s.args.separators.now s.args.page s.args.numbers.now s.args.words.now s.args.owners.now s.args.pool.now s.args.homes.now
-    (s.requires.known_value c.if-page-tested.true) s.requires.homes_len (limits _ s.requires.homing.valid).places-most (inside s))
+    (s.requires.known_value c.if-page-tested.true) s.requires.homes_len (limits _ s.requires.homing.valid).places_most (inside s))
 
 pub page_sound-requires : goal.page_sound-requires
 page_sound-requires c =

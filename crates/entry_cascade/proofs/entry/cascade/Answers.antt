@@ -15,8 +15,14 @@ use Rattle.entry_reach.specs.Entry.{new_star_lem}
 use Rattle.entry_reach.proofs.Holding.{lists-applied}
 use Rattle.entry_cascade.specs.Cascade.{visited, Plans, CascadeKept}
 use Rattle.entry_cascade.proofs.Entered.{stopped-answer, spilled_answer, kept-answer, kept-file, named-holds}
+use Rattle.entry_cascade.proofs.entry.cascade.Lts as lts
+use Rattle.entry_cascade.proofs.entry.cascade.Tie as tie
+use Rattle.entry_cascade.proofs.entry.cascade.Reads as reads
 use Rattle.entry_cascade.proofs.entry.cascade.Goals as goal
-use Rattle.entry_cascade.proofs.entry.cascade.Goals.{After-push, Start}
+use Rattle.entry_cascade.proofs.entry.cascade.Goals.{Start}
+
+abbrev After-push : Type 0
+After-push = lts.After-push tie.the-claims reads.Pre reads.Post
 
 abbrev file : Start → File
 file s = lent s.args.separators.now s.args.numbers.now s.args.words.now s.args.owners.now
@@ -51,14 +57,14 @@ module _ (x : Place) (last : ℕ) (v : x.push.result ≡ Ends last) where
 pub overflow_add-page : goal.overflow_add-page
 overflow_add-page c =
     let s = c.before.before.before.before.before.before.before.before.before.before.before.before in
-    omega (arith, s.requires.enters.here, s.requires.enters.unheld.named, (bounds s).pages-most)
+    omega (arith, s.requires.enters.here, s.requires.enters.unheld.named, (bounds s).pages_most)
 
 pub push-requires : goal.push-requires
 push-requires c =
     let s = c.before.before.before.before.before.before.before.before.before.before.before.before in record {
       enters = s.requires.enters;
       pool_len = (s.requires.pooled.of_numbers, s.requires.pooled.of_words_lem);
-      pages_in_bounds = (bounds s).pages-most;
+      pages_in_bounds = (bounds s).pages_most;
       known_to = λ q a h. let same : q ≡ s.args.page = omega arith in rw same s.requires.known;
     }
 
@@ -66,7 +72,7 @@ pub overflow_add-last : goal.overflow_add-last
 overflow_add-last c =
     let x = c.before.before.before.before.before.before.before.before.before.before.before.before.before.before.before.before in
     let v = c.last-1.given in
-    omega (arith, (ends x v.0.0 v.1).1.0, (bounds (start x)).pages-most)
+    omega (arith, (ends x v.0.0 v.1).1.0, (bounds (start x)).pages_most)
 
 pub overflow_sub-last : goal.overflow_sub-last
 overflow_sub-last c =
@@ -82,8 +88,8 @@ apply-requires c =
     let l = v.0.0 in
     let high = (ends x l v.1).1.0 in
     let sized = s.requires.enters.ready.sized in record {
-      places_bound = ((bounds s).places-most, omega (arith, stop x l v.1, high, (bounds s).pages-most));
-      count_in_bounds = (omega (arith, stop x l v.1, high, sized.of_separators), omega (arith, stop x l v.1, high, (bounds s).pages-most, x.push.auto.planned));
+      places_bound = ((bounds s).places_most, omega (arith, stop x l v.1, high, (bounds s).pages_most));
+      count_in_bounds = (omega (arith, stop x l v.1, high, sized.of_separators), omega (arith, stop x l v.1, high, (bounds s).pages_most, x.push.auto.planned));
       places_in_bounds = (omega (arith, items x l v.1, sized.of_numbers), omega (arith, items x l v.1, sized.of_words_lem));
       places_in_bounds_2 = (omega (arith, items x l v.1, s.requires.pooled.of_numbers, x.push.auto.pool), omega (arith, items x l v.1, s.requires.pooled.of_words_lem, x.push.auto.waiting));
       places_in_bounds_3 = (omega (arith, items x l v.1, sized.of_owners), omega (arith, items x l v.1, s.requires.pooled.of_owners));

@@ -15,8 +15,14 @@ use Rattle.entry_reach.specs.Pushing.{page_words}
 use Rattle.entry_cascade.proofs.Loading.{zeros-below, page-few, loaded-long, loaded-below}
 use Rattle.entry_reach.proofs.Pushed.{small, few, page-inside, new-packed}
 use Rattle.entry_cascade.proofs.Filled.{sound, last_empty, stars-loaded, fill_reach, plans-fill}
+use Rattle.entry_cascade.proofs.filling.fill_page.Lts as lts
+use Rattle.entry_cascade.proofs.filling.fill_page.Tie as tie
+use Rattle.entry_cascade.proofs.filling.fill_page.Reads as reads
 use Rattle.entry_cascade.proofs.filling.fill_page.Goals as goal
-use Rattle.entry_cascade.proofs.filling.fill_page.Goals.{After-append-reach, Start}
+use Rattle.entry_cascade.proofs.filling.fill_page.Goals.{Start}
+
+abbrev After-append-reach : Type 0
+After-append-reach = lts.After-append tie.the-claims reads.Pre reads.Post
 
 abbrev file : Start → File
 file s = lent s.args.separators.now s.args.numbers.now s.args.words.now s.args.owners.now
@@ -48,7 +54,7 @@ load-value-requires c =
     let s = c.before.before.before.before.before.before.before.before.before in
     let sized = s.requires.enters.ready.sized in
     record {
-      places_bound = (bounds s).places-most;
+      places_bound = (bounds s).places_most;
       places_in_bounds = fits s sized.of_numbers;
       places_in_bounds_2 = fits s sized.of_words_lem;
       places_in_bounds_3 = fits s sized.of_owners;
@@ -57,7 +63,7 @@ load-value-requires c =
 pub pack-requires : goal.pack-requires
 pack-requires c =
     let s = c.before.before.before.before.before.before.before.before.before.before in record {
-      home_bound = omega (arith, s.requires.enters.homed, home-pages (multiplier_of s.args.geometry.parameters) s.args.geometry.parameters s.args.geometry.growth s.args.number s.requires.enters.ready.homing.valid s.requires.enters.ready.homing.growth, (bounds s).pages-most);
+      home_bound = omega (arith, s.requires.enters.homed, home-pages (multiplier_of s.args.geometry.parameters) s.args.geometry.parameters s.args.geometry.growth s.args.number s.requires.enters.ready.homing.valid s.requires.enters.ready.homing.growth, (bounds s).pages_most);
       number_bound = small s.args.geometry.parameters s.args.geometry.growth (file s) s.args.number s.args.page s.requires.enters.ready.homing.valid s.requires.enters.ready.sized s.requires.enters.number s.requires.enters.unheld s.requires.enters.here;
       source_bound = few s.args.geometry.parameters s.args.geometry.growth (file s) s.args.number s.args.page s.requires.enters.ready.homing.valid s.requires.enters.ready.sized s.requires.enters.number s.requires.enters.unheld s.requires.enters.here;
     }
@@ -72,12 +78,12 @@ append-reach-requires c =
     let g = s.args.geometry.growth in
     let l = c.load-value in
     let e = s.requires.enters in record {
-      places_bound = ((bounds s).places-most, page-few p g (file s) e.ready.homing.valid e.ready.sized s.args.page (inside s));
-      places_in_bounds = (loaded-long p g (file s) e.ready.homing.valid e.ready.sized s.args.page (inside s) l.result l.ensures, (bounds s).places-most);
+      places_bound = ((bounds s).places_most, page-few p g (file s) e.ready.homing.valid e.ready.sized s.args.page (inside s));
+      places_in_bounds = (loaded-long p g (file s) e.ready.homing.valid e.ready.sized s.args.page (inside s) l.result l.ensures, (bounds s).places_most);
       numbers_value = (
         loaded-below p g (file s) e.ready.homing.valid e.ready.sized s.args.page (inside s) l.result l.ensures
             (sound p g (file s) s.args.number s.args.page e.ready.homing.valid e.ready.sized e.number e.unheld e.here),
-        zeros-below p.places (bounds s).places-most,
+        zeros-below p.places (bounds s).places_most,
       );
       numbers_in_bounds = rw (length-set s.args.waiting.now 0 c.pack.result)
           (omega (arith, room s, stars-loaded p g (file s) s.args.number s.args.page e.ready.homing.valid e.ready.sized e.number e.unheld e.here (room s) l.result l.ensures, fits s s.requires.pool_len.1));
@@ -102,7 +108,7 @@ keep_all-requires c =
     let x = c.before.before.before.before in
     let s = start x in record {
       from_le_reach = (omega arith, omega (arith, waiting_kept x, reach-most x, fits s s.requires.pool_len.1));
-      slots_len = (refl, omega (arith, reach-most x, (bounds s).places-most));
+      slots_len = (refl, omega (arith, reach-most x, (bounds s).places_most));
     }
 
 pub bounds-separators-page : goal.bounds-separators-page
@@ -115,8 +121,8 @@ pub store_sources-requires : goal.store_sources-requires
 store_sources-requires c =
     let x = c.before.before.before.before.before.before.before.before in
     let s = start x in record {
-      places_in_bounds = (fits s s.requires.pool_len.0, (bounds s).places-most);
-      kept_le_places = (reach-most x, omega (arith, reach-most x, (bounds s).places-most, c.keep_all.ensures.slots_len_2));
+      places_in_bounds = (fits s s.requires.pool_len.0, (bounds s).places_most);
+      kept_le_places = (reach-most x, omega (arith, reach-most x, (bounds s).places_most, c.keep_all.ensures.slots_len_2));
     }
 
 pub shape_of-waiting : goal.shape_of-waiting

@@ -34,13 +34,13 @@ pub overflow_add-page : goal.overflow_add-page
 overflow_add-page c = omega (arith, few c.before.before.before.before.before.before.before.before.before)
 
 pub overflow_sub-page : goal.overflow_sub-page
-overflow_sub-page c = omega (arith, (bounds c.before.before.before.before.before.before.before.before.before).places-least)
+overflow_sub-page c = omega (arith, (bounds c.before.before.before.before.before.before.before.before.before).places_least)
 
 pub offset_bounds-numbers-page : goal.offset_bounds-numbers-page
 offset_bounds-numbers-page c = omega (arith, few c.before.before.before.before.before.before.before.before.before)
 
 pub bounds-numbers-page : goal.bounds-numbers-page
-bounds-numbers-page c = let s = c.before.before.before.before.before.before.before.before.before.before in omega (arith, fits s, (bounds s).places-least)
+bounds-numbers-page c = let s = c.before.before.before.before.before.before.before.before.before.before in omega (arith, fits s, (bounds s).places_least)
 
 pub fill_page-requires : goal.fill_page-requires
 fill_page-requires c =

@@ -16,10 +16,16 @@ use Rattle.entry_reach.proofs.blocks.plan_block.Lts as lts
 use Rattle.entry_reach.proofs.blocks.plan_block.Tie as tie
 use Rattle.entry_reach.proofs.blocks.plan_block.Reads as reads
 use Rattle.entry_reach.proofs.blocks.plan_block.Goals as goal
-use Rattle.entry_reach.proofs.blocks.plan_block.Goals.{After-plan-left, After-survey_pages-unsound, Start}
+use Rattle.entry_reach.proofs.blocks.plan_block.Goals.{Start}
+
+abbrev After-survey_pages-unsound : Type 0
+After-survey_pages-unsound = lts.After-survey_pages tie.the-claims reads.Pre reads.Post
 
 abbrev Else-unsound-stop : Type 0
 Else-unsound-stop = lts.Else1 tie.the-claims reads.Pre reads.Post
+
+abbrev After-plan-left : Type 0
+After-plan-left = lts.After-plan tie.the-claims reads.Pre reads.Post
 
 abbrev After-slice_known-7-1 : Type 0
 After-slice_known-7-1 = lts.After-slice_known7 tie.the-claims reads.Pre reads.Post
@@ -45,7 +51,7 @@ items : (s : Start) → (s.args.block.last + 1) * s.args.geometry.parameters.pla
 items s = mul-le-mul_right s.args.geometry.parameters.places (omega (arith, high s))
 
 few : (s : Start) → s.args.geometry.parameters.pages * s.args.geometry.parameters.places ≤ 32768
-few s = mul-le-mul (bounds s).pages-most (bounds s).places-most
+few s = mul-le-mul (bounds s).pages_most (bounds s).places_most
 
 -- where all its pages are sound
 abbrev from : Else-unsound-stop → Start
@@ -61,7 +67,7 @@ told c =
 pub overflow_add-stop : goal.overflow_add-stop
 overflow_add-stop c =
     let s = c.before.before.before.before.before.before.before.before.before.before.before in
-    record { fits = omega (arith, high s, (bounds s).pages-most) }
+    record { fits = omega (arith, high s, (bounds s).pages_most) }
 
 pub survey_pages-unsound-requires : goal.survey_pages-unsound-requires
 survey_pages-unsound-requires c =
@@ -147,7 +153,7 @@ plan-left-requires c =
     let sum : s.args.block.first + (s.args.block.last + 1 - s.args.block.first) ≡ s.args.block.last + 1 = omega (arith, low s) in
     let fits : (s.args.block.first + (s.args.block.last + 1 - s.args.block.first)) * s.args.geometry.parameters.places ≤ s.args.geometry.parameters.pages * s.args.geometry.parameters.places = rw sum (items s) in record {
       parameters_value = s.requires.ready.homing.valid;
-      count_nonzero = (omega (arith, low s), (omega (arith, sum, high s, (bounds s).pages-most), omega (arith, sum, high s, s.requires.pages_in_bounds)));
+      count_nonzero = (omega (arith, low s), (omega (arith, sum, high s, (bounds s).pages_most), omega (arith, sum, high s, s.requires.pages_in_bounds)));
       places_in_bounds = (omega (arith, fits, s.requires.ready.sized.of_numbers), omega (arith, fits, y.auto.1.1.1.1.1.1.0, s.requires.pool_len.0));
       numbers_value = found-numbers s.args.geometry.parameters s.args.geometry.growth (file s) s.requires.ready.homing.valid s.requires.ready.sized s.args.block.first (extent s).inside s.args.block.last (extent s).ends (clear d);
       pool_value = found_below s.args.geometry.parameters s.args.geometry.growth (file s) s.requires.ready.homing.valid s.requires.ready.sized s.args.block.first (extent s).inside s.args.block.last (extent s).ends (clear d) s.args.pool.now y.new.1.1.1.1.1.1.0 s.requires.pool_len.0 (homes d);

@@ -33,7 +33,7 @@ bounds : (s : Start) → Limits s.args.geometry.parameters
 bounds s = limits s.args.geometry.parameters s.requires.ready.homing.valid
 
 few : (s : Start) → s.args.geometry.parameters.pages * s.args.geometry.parameters.places ≤ 32768
-few s = mul-le-mul (bounds s).pages-most (bounds s).places-most
+few s = mul-le-mul (bounds s).pages_most (bounds s).places_most
 
 items : (s : Start) → 0 < length s.args.waiting.now
 items s = omega (arith, s.requires.pool_len.1, some-items s.args.geometry.parameters s.args.geometry.growth s.requires.ready.homing.valid s.requires.ready.homing.growth s.args.number)
@@ -66,7 +66,7 @@ pub pack-requires : goal.pack-requires
 pack-requires c =
     let s = c.before.before.before.before.before.before.before.before in
     record {
-      home_bound = omega (arith, inside s, (bounds s).pages-most);
+      home_bound = omega (arith, inside s, (bounds s).pages_most);
       number_bound = omega (arith, number-range s.args.number s.requires.number_value);
       source_bound = omega (arith, few s, s.requires.ready.sized.of_numbers);
     }

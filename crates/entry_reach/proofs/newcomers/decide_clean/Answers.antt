@@ -22,13 +22,25 @@ use Rattle.entry_reach.proofs.newcomers.decide_clean.Lts as lts
 use Rattle.entry_reach.proofs.newcomers.decide_clean.Tie as tie
 use Rattle.entry_reach.proofs.newcomers.decide_clean.Reads as reads
 use Rattle.entry_reach.proofs.newcomers.decide_clean.Goals as goal
-use Rattle.entry_reach.proofs.newcomers.decide_clean.Goals.{After-decide_onward, After-decide_stretch, After-name_page-page, After-push_within, Start}
+use Rattle.entry_reach.proofs.newcomers.decide_clean.Goals.{Start}
+
+abbrev After-decide_stretch : Type 0
+After-decide_stretch = lts.After-decide_stretch tie.the-claims reads.Pre reads.Post
 
 abbrev After-slice_known-then-stop-star-3-1 : Type 0
 After-slice_known-then-stop-star-3-1 = lts.After-slice_known6 tie.the-claims reads.Pre reads.Post
 
+abbrev After-push_within : Type 0
+After-push_within = lts.After-push_within tie.the-claims reads.Pre reads.Post
+
+abbrev After-decide_onward : Type 0
+After-decide_onward = lts.After-decide_onward tie.the-claims reads.Pre reads.Post
+
 abbrev After-slice_known-in-Leaves-3-1 : Type 0
 After-slice_known-in-Leaves-3-1 = lts.After-slice_known12 tie.the-claims reads.Pre reads.Post
+
+abbrev After-name_page-page : Type 0
+After-name_page-page = lts.After-name_page tie.the-claims reads.Pre reads.Post
 
 abbrev After-struct_known-in-Ends-1 : Type 0
 After-struct_known-in-Ends-1 = lts.After-struct_known5 tie.the-claims reads.Pre reads.Post
@@ -87,7 +99,7 @@ has_room-requires c =
     let s = c.before.before.before.before.before.before.before.before.before in
     record {
       parameters_value = s.requires.enters.ready.homing.valid;
-      page_bound = omega (arith, inside s, (bounds s).pages-most);
+      page_bound = omega (arith, inside s, (bounds s).pages_most);
       places_in_bounds = page-fits _ _ _ (inside s) s.requires.enters.ready.sized.of_numbers;
     }
 
@@ -99,7 +111,7 @@ returns-then-has_room c =
     s.args.star.word s.args.star.owner s.args.star.place s.requires.place_value (eqb-true _ _ (sym c.has_room.ensures ∙ c.if-has_room.true)) s.args.pool.now s.args.planned.now
 
 pub overflow_add-stop : goal.overflow_add-stop
-overflow_add-stop c = let s = c.before.before.before.before.before.before.before.before.before.before.before in omega (arith, high s, (bounds s).pages-most)
+overflow_add-stop c = let s = c.before.before.before.before.before.before.before.before.before.before.before in omega (arith, high s, (bounds s).pages_most)
 
 pub overflow_sub-stop : goal.overflow_sub-stop
 overflow_sub-stop c = let s = c.before.before.before.before.before.before.before.before.before.before.before.before in omega (arith, page-high s)
@@ -166,7 +178,7 @@ pub overflow_add-count : goal.overflow_add-count
 overflow_add-count c =
     let x = c.before.before.before.before.before.before.before.before.before.before.before.before.before.before in
     let v = c.end-1.given in
-    omega (arith, (told x (Ends v.0.0) v.1).1.0, high (start x), (bounds (start x)).pages-most)
+    omega (arith, (told x (Ends v.0.0) v.1).1.0, high (start x), (bounds (start x)).pages_most)
 
 pub overflow_sub-count : goal.overflow_sub-count
 overflow_sub-count c =

@@ -8,12 +8,12 @@ use borrow.Author.Rules.{rules}
 use Rattle.entry_reach.proofs.newcomers.has_room.Goals as goal
 
 pub overflow_sub-end : goal.overflow_sub-end
-overflow_sub-end c = omega (arith, (limits _ c.requires.parameters_value).places-least)
+overflow_sub-end c = omega (arith, (limits _ c.requires.parameters_value).places_least)
 
 pub bounds-numbers-page : goal.bounds-numbers-page
-bounds-numbers-page c = let pre = c.requires in omega (arith, pre.1.1, (limits _ pre.0).places-least)
+bounds-numbers-page c = let pre = c.requires in omega (arith, pre.1.1, (limits _ pre.0).places_least)
 
 pub returns : goal.returns
 returns c =
     let s = c.before.before.before in
-    ap (λ (n : ℕ). eqb n 0) (sym (part-item _ _ _ _ (omega (arith, (limits _ s.requires.parameters_value).places-least))))
+    ap (λ (n : ℕ). eqb n 0) (sym (part-item _ _ _ _ (omega (arith, (limits _ s.requires.parameters_value).places_least))))

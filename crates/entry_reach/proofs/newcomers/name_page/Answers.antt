@@ -7,8 +7,14 @@ use lib.Seq.{paste, length-take-le}
 use borrow.Author.Rules.{rules}
 use Rattle.placement.specs.Hash.{named_page_lem}
 use Rattle.entry_reach.proofs.Runs.{completed-kept, completed-is}
+use Rattle.entry_reach.proofs.newcomers.name_page.Lts as lts
+use Rattle.entry_reach.proofs.newcomers.name_page.Tie as tie
+use Rattle.entry_reach.proofs.newcomers.name_page.Reads as reads
 use Rattle.entry_reach.proofs.newcomers.name_page.Goals as goal
-use Rattle.entry_reach.proofs.newcomers.name_page.Goals.{After-copy_8-2, Start}
+use Rattle.entry_reach.proofs.newcomers.name_page.Goals.{Start}
+
+abbrev After-copy_8-2 : Type 0
+After-copy_8-2 = lts.After-copy_82 tie.the-claims reads.Pre reads.Post
 
 -- from the copies on
 abbrev start : tie.After-named-from-arg → Start

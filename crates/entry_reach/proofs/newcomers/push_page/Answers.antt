@@ -17,7 +17,13 @@ use Rattle.entry_reach.proofs.newcomers.push_page.Lts as lts
 use Rattle.entry_reach.proofs.newcomers.push_page.Tie as tie
 use Rattle.entry_reach.proofs.newcomers.push_page.Reads as reads
 use Rattle.entry_reach.proofs.newcomers.push_page.Goals as goal
-use Rattle.entry_reach.proofs.newcomers.push_page.Goals.{After-join_page-reach, After-lower_page-on, Start}
+use Rattle.entry_reach.proofs.newcomers.push_page.Goals.{Start}
+
+abbrev After-join_page-reach : Type 0
+After-join_page-reach = lts.After-join_page tie.the-claims reads.Pre reads.Post
+
+abbrev After-lower_page-on : Type 0
+After-lower_page-on = lts.After-lower_page tie.the-claims reads.Pre reads.Post
 
 abbrev After-slice_known-7-1 : Type 0
 After-slice_known-7-1 = lts.After-slice_known7 tie.the-claims reads.Pre reads.Post
@@ -29,7 +35,7 @@ bounds : (s : Start) → Limits s.args.geometry.parameters
 bounds s = limits s.args.geometry.parameters s.requires.ready.homing.valid
 
 few : (s : Start) → s.args.geometry.parameters.pages * s.args.geometry.parameters.places ≤ 32768
-few s = mul-le-mul (bounds s).pages-most (bounds s).places-most
+few s = mul-le-mul (bounds s).pages_most (bounds s).places_most
 
 inside : (s : Start) → s.args.page < s.args.geometry.parameters.pages
 inside s = s.requires.pages_in_bounds.1
@@ -47,7 +53,7 @@ join_page-reach-requires c =
     let g = s.args.geometry.growth in
     let v = s.requires.ready.homing.valid in
     let k = s.requires.known in record {
-      places_bound = ((bounds s).places-most, omega (arith, inside s, (bounds s).pages-most));
+      places_bound = ((bounds s).places_most, omega (arith, inside s, (bounds s).pages_most));
       places_in_bounds = (omega (arith, fits s, s.requires.ready.sized.of_numbers), omega (arith, fits s, s.requires.pool_len.0));
       numbers_value = known-numbers p g (file s) v s.requires.ready.sized s.args.page (inside s) (k.sound (inside s)) s.args.pool.now (k.kept (inside s));
       pool_value = known-below p g (file s) v s.requires.ready.sized s.args.page (inside s) (k.sound (inside s)) s.args.pool.now (k.kept (inside s));

@@ -22,13 +22,22 @@ use Rattle.entry_reach.proofs.onward.decide_onward.Lts as lts
 use Rattle.entry_reach.proofs.onward.decide_onward.Tie as tie
 use Rattle.entry_reach.proofs.onward.decide_onward.Reads as reads
 use Rattle.entry_reach.proofs.onward.decide_onward.Goals as goal
-use Rattle.entry_reach.proofs.onward.decide_onward.Goals.{After-block_from-block, After-name_page-page, After-plan_onward, Start}
+use Rattle.entry_reach.proofs.onward.decide_onward.Goals.{Start}
+
+abbrev After-block_from-block : Type 0
+After-block_from-block = lts.After-block_from tie.the-claims reads.Pre reads.Post
+
+abbrev After-plan_onward : Type 0
+After-plan_onward = lts.After-plan_onward tie.the-claims reads.Pre reads.Post
 
 abbrev In-Unsound : Type 0
 In-Unsound = lts.After-known_told tie.the-claims reads.Pre reads.Post
 
 abbrev In-Overflows : Type 0
 In-Overflows = lts.After-enum_told tie.the-claims reads.Pre reads.Post
+
+abbrev After-name_page-page : Type 0
+After-name_page-page = lts.After-name_page tie.the-claims reads.Pre reads.Post
 
 abbrev After-struct_known-in-Ends-1 : Type 0
 After-struct_known-in-Ends-1 = lts.After-struct_known2 tie.the-claims reads.Pre reads.Post
@@ -93,7 +102,7 @@ module _ (x : Place) (end : ℕ) (v : x.plan-onward.result ≡ Ends end) where
   high = ((told x).1 (start x).args.star.word (start x).args.star.owner end v).0
 
 pub overflow_add-next : goal.overflow_add-next
-overflow_add-next c = let s = c.before.before.before.before.before.before.before.before.before in omega (arith, inside s, (bounds s).pages-most)
+overflow_add-next c = let s = c.before.before.before.before.before.before.before.before.before in omega (arith, inside s, (bounds s).pages_most)
 
 pub returns-then-next-pages : goal.returns-then-next-pages
 returns-then-next-pages c =
@@ -139,7 +148,7 @@ pub overflow_add-count : goal.overflow_add-count
 overflow_add-count c =
     let x = c.before.before.before.before.before.before.before.before.before.before.before.before.before.before in
     let v = c.end-1.given in
-    omega (arith, high x v.0.0 v.1, (bounds (start x)).pages-most)
+    omega (arith, high x v.0.0 v.1, (bounds (start x)).pages_most)
 
 pub overflow_sub-count : goal.overflow_sub-count
 overflow_sub-count c =

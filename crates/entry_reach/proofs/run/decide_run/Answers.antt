@@ -22,13 +22,22 @@ use Rattle.entry_reach.proofs.run.decide_run.Lts as lts
 use Rattle.entry_reach.proofs.run.decide_run.Tie as tie
 use Rattle.entry_reach.proofs.run.decide_run.Reads as reads
 use Rattle.entry_reach.proofs.run.decide_run.Goals as goal
-use Rattle.entry_reach.proofs.run.decide_run.Goals.{After-decide_clean, After-decide_stretch, After-survey_pages-unsound, Start}
+use Rattle.entry_reach.proofs.run.decide_run.Goals.{Start}
+
+abbrev After-survey_pages-unsound : Type 0
+After-survey_pages-unsound = lts.After-survey_pages tie.the-claims reads.Pre reads.Post
 
 abbrev Else-unsound-stop : Type 0
 Else-unsound-stop = lts.Else1 tie.the-claims reads.Pre reads.Post
 
+abbrev After-decide_stretch : Type 0
+After-decide_stretch = lts.After-decide_stretch tie.the-claims reads.Pre reads.Post
+
 abbrev After-slice_known-then-first_raisable-stop-3-1 : Type 0
 After-slice_known-then-first_raisable-stop-3-1 = lts.After-slice_known7 tie.the-claims reads.Pre reads.Post
+
+abbrev After-decide_clean : Type 0
+After-decide_clean = lts.After-decide_clean tie.the-claims reads.Pre reads.Post
 
 abbrev After-slice_known-7-1 : Type 0
 After-slice_known-7-1 = lts.After-slice_known10 tie.the-claims reads.Pre reads.Post
@@ -91,7 +100,7 @@ long : (c : Else-unsound-stop) → length (surveyed c) ≡ (begun c).args.geomet
 long c = c.survey_pages-unsound.auto.homes ∙ (begun c).requires.pool_len.0
 
 pub overflow_add-stop : goal.overflow_add-stop
-overflow_add-stop c = let s = c.before.before.before.before.before.before.before.before.before in omega (arith, high s, (bounds s).pages-most)
+overflow_add-stop c = let s = c.before.before.before.before.before.before.before.before.before in omega (arith, high s, (bounds s).pages_most)
 
 pub survey_pages-unsound-requires : goal.survey_pages-unsound-requires
 survey_pages-unsound-requires c =

@@ -12,13 +12,19 @@ use Rattle.entry_reach.proofs.star.decide.Lts as lts
 use Rattle.entry_reach.proofs.star.decide.Tie as tie
 use Rattle.entry_reach.proofs.star.decide.Reads as reads
 use Rattle.entry_reach.proofs.star.decide.Goals as goal
-use Rattle.entry_reach.proofs.star.decide.Goals.{After-decide_run, After-decide_stretch, Start}
+use Rattle.entry_reach.proofs.star.decide.Goals.{Start}
 
 abbrev After-block_from-first : Type 0
 After-block_from-first = lts.After-block_from tie.the-claims reads.Pre reads.Post
 
+abbrev After-decide_run : Type 0
+After-decide_run = lts.After-decide_run tie.the-claims reads.Pre reads.Post
+
 abbrev After-slice_known-then-last-from-ge8-3-1 : Type 0
 After-slice_known-then-last-from-ge8-3-1 = lts.After-slice_known6 tie.the-claims reads.Pre reads.Post
+
+abbrev After-decide_stretch : Type 0
+After-decide_stretch = lts.After-decide_stretch tie.the-claims reads.Pre reads.Post
 
 abbrev After-slice_known-6-1 : Type 0
 After-slice_known-6-1 = lts.After-slice_known9 tie.the-claims reads.Pre reads.Post

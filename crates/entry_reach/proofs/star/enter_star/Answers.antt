@@ -20,10 +20,16 @@ use Rattle.entry_reach.proofs.star.enter_star.Lts as lts
 use Rattle.entry_reach.proofs.star.enter_star.Tie as tie
 use Rattle.entry_reach.proofs.star.enter_star.Reads as reads
 use Rattle.entry_reach.proofs.star.enter_star.Goals as goal
-use Rattle.entry_reach.proofs.star.enter_star.Goals.{After-carry_out, After-carry_out-2, After-decide-decision, Start, Then-takes_alone}
+use Rattle.entry_reach.proofs.star.enter_star.Goals.{After-carry_out, After-carry_out-2, Start}
+
+abbrev Then-takes_alone : Type 0
+Then-takes_alone = lts.Then1 tie.the-claims reads.Pre reads.Post
 
 abbrev After-slice_known-then-takes_alone-7-1 : Type 0
 After-slice_known-then-takes_alone-7-1 = lts.After-slice_known14 tie.the-claims reads.Pre reads.Post
+
+abbrev After-decide-decision : Type 0
+After-decide-decision = lts.After-decide tie.the-claims reads.Pre reads.Post
 
 abbrev After-outcome_of : Type 0
 After-outcome_of = lts.After-outcome_of tie.the-claims reads.Pre reads.Post
@@ -100,7 +106,7 @@ decide-decision-requires c =
     record {
       enters = s.requires.enters;
       pool_len = (s.requires.pooled.of_numbers, s.requires.pooled.of_words_lem);
-      pages_in_bounds = (limits _ s.requires.enters.ready.homing.valid).pages-most;
+      pages_in_bounds = (limits _ s.requires.enters.ready.homing.valid).pages_most;
       known = s.requires.known;
       place_value = s.requires.place_value;
     }

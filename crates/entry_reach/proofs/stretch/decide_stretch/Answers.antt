@@ -15,7 +15,10 @@ use Rattle.entry_reach.proofs.stretch.decide_stretch.Lts as lts
 use Rattle.entry_reach.proofs.stretch.decide_stretch.Tie as tie
 use Rattle.entry_reach.proofs.stretch.decide_stretch.Reads as reads
 use Rattle.entry_reach.proofs.stretch.decide_stretch.Goals as goal
-use Rattle.entry_reach.proofs.stretch.decide_stretch.Goals.{After-plan_entry, Start}
+use Rattle.entry_reach.proofs.stretch.decide_stretch.Goals.{Start}
+
+abbrev After-plan_entry : Type 0
+After-plan_entry = lts.After-plan_entry tie.the-claims reads.Pre reads.Post
 
 abbrev In-Unsound : Type 0
 In-Unsound = lts.After-known_told tie.the-claims reads.Pre reads.Post
@@ -90,7 +93,7 @@ pub overflow_add-result : goal.overflow_add-result
 overflow_add-result c =
     let x = c.before.before.before.before.before.before.before.before.before.before.before in
     let v = c.last-1.given in
-    omega (arith, high x v.0.0 v.1, (bounds (start x)).pages-most)
+    omega (arith, high x v.0.0 v.1, (bounds (start x)).pages_most)
 
 pub overflow_sub-result : goal.overflow_sub-result
 overflow_sub-result c =

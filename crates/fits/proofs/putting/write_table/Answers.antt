@@ -10,8 +10,17 @@ use Rattle.calls.specs.Shape.{Admitted}
 use Rattle.calls.proofs.Refusals.{items-most}
 use Rattle.call_guard.proofs.Admitting.{prepared, tabled}
 use Rattle.fits.proofs.Output.{refused-first, well-admitted, unsound-first, rows-rise, sound-written}
+use Rattle.fits.proofs.putting.write_table.Lts as lts
+use Rattle.fits.proofs.putting.write_table.Tie as tie
+use Rattle.fits.proofs.putting.write_table.Reads as reads
 use Rattle.fits.proofs.putting.write_table.Goals as goal
-use Rattle.fits.proofs.putting.write_table.Goals.{After-lowest_unsound-bad, In_default, Start}
+use Rattle.fits.proofs.putting.write_table.Goals.{Start}
+
+abbrev In_default : Type 0
+In_default = lts.After-enum_told tie.the-claims reads.Pre reads.Post
+
+abbrev After-lowest_unsound-bad : Type 0
+After-lowest_unsound-bad = lts.After-lowest_unsound tie.the-claims reads.Pre reads.Post
 
 abbrev file_of : Start → File
 file_of s = lent s.args.separators.now s.args.numbers.now s.args.words.now s.args.owners.now

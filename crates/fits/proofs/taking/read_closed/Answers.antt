@@ -12,8 +12,14 @@ use Rattle.outcome_answer.proofs.Pools.{cleared-is, leaves-cleared}
 use Rattle.exchange.specs.Tables.{read_of}
 use Rattle.fits.proofs.Input.{read-pool}
 use borrow.Author.Rules.{rules}
+use Rattle.fits.proofs.taking.read_closed.Lts as lts
+use Rattle.fits.proofs.taking.read_closed.Tie as tie
+use Rattle.fits.proofs.taking.read_closed.Reads as reads
 use Rattle.fits.proofs.taking.read_closed.Goals as goal
-use Rattle.fits.proofs.taking.read_closed.Goals.{In_default, Start}
+use Rattle.fits.proofs.taking.read_closed.Goals.{Start}
+
+abbrev In_default : Type 0
+In_default = lts.After-enum_told tie.the-claims reads.Pre reads.Post
 
 abbrev file_of : Start → File
 file_of s = lent s.args.separators.now s.args.numbers.now s.args.words.now s.args.owners.now

@@ -79,7 +79,7 @@ returns-then-not-place_rows c =
     let k = e.before.before in
     let s = start k in
     too_many s.args.parameters s.args.growth (file_of s) (pool_of s) s.args.given.now _ k.table_rows-told.ensures k.told-1.given.1 (good e)
-    c.place_rows.ensures (not-true _ c.if-not-place_rows.true)
+    c.place_rows.ensures c.if-not-place_rows.true
 
 pub returns : goal.returns
 returns c =
@@ -87,4 +87,4 @@ returns c =
     let k = e.before.before in
     let s = start k in
     all_placed s.args.parameters s.args.growth (file_of s) (pool_of s) s.args.given.now _ k.table_rows-told.ensures k.told-1.given.1 (good e)
-    c.place_rows.ensures (not-false _ c.if-not-place_rows.false)
+    c.place_rows.ensures c.if-not-place_rows.false

@@ -17,7 +17,10 @@ use Rattle.fits_pages.proofs.gathered.number_rows.Lts as lts
 use Rattle.fits_pages.proofs.gathered.number_rows.Tie as tie
 use Rattle.fits_pages.proofs.gathered.number_rows.Reads as reads
 use Rattle.fits_pages.proofs.gathered.number_rows.Goals as goal
-use Rattle.fits_pages.proofs.gathered.number_rows.Goals.{At-loop-i, Start}
+use Rattle.fits_pages.proofs.gathered.number_rows.Goals.{Start}
+
+abbrev At-loop-i : Type 0
+At-loop-i = lts.At-loop tie.the-claims reads.Pre reads.Post goal.the-invariant-loop-i goal.the-decreases-loop-i
 
 abbrev In-loop-i : Type 0
 In-loop-i = lts.In-loop tie.the-claims reads.Pre reads.Post goal.the-invariant-loop-i goal.the-decreases-loop-i

@@ -36,7 +36,7 @@ pub copy_8-requires : goal.copy_8-requires
 copy_8-requires c =
     let d = c.before.before.before.before.before.before.before.before.before in
     let s = d.before.before.before.before.before.before.before.before.before.before.before.before in
-    let most = (limits s.args.geometry.parameters s.requires.ready.homing.valid).pages-most in
+    let most = (limits s.args.geometry.parameters s.requires.ready.homing.valid).pages_most in
     record {
       in_bounds = omega (arith, s.requires.ready.sized.of_separators);
       in_bounds_2 = omega (arith, d.plan_rows.ensures.planned_len_2, most);

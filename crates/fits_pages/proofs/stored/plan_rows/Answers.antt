@@ -11,21 +11,30 @@ use Rattle.fits_pages.specs.Columns.{row_keys}
 use Rattle.fits_pages.proofs.RowKeys.{keys_front, rows-keyed}
 use Rattle.fits_pages.proofs.PlacedRows.{words_small, in_groups_lem, rows_settled}
 use borrow.Author.Rules.{rules}
+use Rattle.fits_pages.proofs.stored.plan_rows.Lts as lts
+use Rattle.fits_pages.proofs.stored.plan_rows.Tie as tie
+use Rattle.fits_pages.proofs.stored.plan_rows.Reads as reads
 use Rattle.fits_pages.proofs.stored.plan_rows.Goals as goal
-use Rattle.fits_pages.proofs.stored.plan_rows.Goals.{After-gather_keys, After-key_rows, Start}
+use Rattle.fits_pages.proofs.stored.plan_rows.Goals.{Start}
+
+abbrev After-key_rows : Type 0
+After-key_rows = lts.After-key_rows tie.the-claims reads.Pre reads.Post
+
+abbrev After-gather_keys : Type 0
+After-gather_keys = lts.After-gather_keys tie.the-claims reads.Pre reads.Post
 
 -- what the parameters say
 some : (s : Start) → 0 < s.args.geometry.parameters.pages
 some s =
     let p = s.args.geometry.parameters in
     let state = growth_within p s.args.geometry.growth s.requires.homing.growth in
-    omega (arith, state.pages-fit, (spread p s.args.geometry.growth (limits p s.requires.homing.valid) state).pages-low)
+    omega (arith, state.pages_fit, (spread p s.args.geometry.growth (limits p s.requires.homing.valid) state).pages_low)
 
 most : (s : Start) → s.args.geometry.parameters.pages ≤ 1024
-most s = (limits s.args.geometry.parameters s.requires.homing.valid).pages-most
+most s = (limits s.args.geometry.parameters s.requires.homing.valid).pages_most
 
 few-items : (s : Start) → s.args.geometry.parameters.pages * s.args.geometry.parameters.places ≤ 32768
-few-items s = let l = limits s.args.geometry.parameters s.requires.homing.valid in mul-le-mul l.pages-most l.places-most
+few-items s = let l = limits s.args.geometry.parameters s.requires.homing.valid in mul-le-mul l.pages_most l.places_most
 
 -- the keys of the rows
 abbrev begun : After-key_rows → Start
@@ -81,7 +90,7 @@ place_all-requires c =
       few = omega (arith, few-items s, s.requires.pool_len, d.gather_keys.auto.waiting, m.number_rows.auto.waiting);
       order = omega arith;
       inside = omega (arith, room s, d.gather_keys.auto.waiting, m.number_rows.auto.waiting);
-      grouped-are =
+      grouped_are =
           in_groups_lem s.args.geometry s.args.given.now s.args.rows s.requires.homing.valid s.requires.homing.growth (some s) s.requires.rows_bound.0 s.requires.rows_value (keys_of k)
           s.args.waiting.now _ _ (inside k) (front k) (most s) (room s) d.gather_keys.auto.waiting d.gather_keys.ensures _ m.number_rows.auto.waiting m.number_rows.ensures;
       near = unfold all in refl;

@@ -7,8 +7,13 @@ use Rattle.fits_table.proofs.Fields.{headers-whole, told-short, told-many, told-
 use mathlib.Core.Path.{◌≡◌, refl, sym, ap, ◌∙◌}
 use native.Mathlib.Omega.{arith}
 use borrow.Author.Rules.{rules}
+use Rattle.fits_table.proofs.cards.table_rows.Lts as lts
+use Rattle.fits_table.proofs.cards.table_rows.Tie as tie
+use Rattle.fits_table.proofs.cards.table_rows.Reads as reads
 use Rattle.fits_table.proofs.cards.table_rows.Goals as goal
-use Rattle.fits_table.proofs.cards.table_rows.Goals.{After-same_bytes}
+
+abbrev After-same_bytes : Type 0
+After-same_bytes = lts.After-same_bytes tie.the-claims reads.Pre reads.Post
 
 few : (c : After-same_bytes) → candidate c.args.given.now ≤ 32768
 few c = rw (← c.candidate_rows-rows.ensures) c.if-rows-gt32768.false
@@ -26,14 +31,14 @@ pub returns-then-rows-gt32768 : goal.returns-then-rows-gt32768
 returns-then-rows-gt32768 c = told-many _ (omega arith) (rw (← c.candidate_rows-rows.ensures) c.if-rows-gt32768.true)
 
 pub returns-then-not-same_bytes : goal.returns-then-not-same_bytes
-returns-then-not-same_bytes c = told-unlike _ c.if-given-lt5760.false (few c.before.before) (sym (compared c.before.before) ∙ not-true _ c.if-not-same_bytes.true)
+returns-then-not-same_bytes c = told-unlike _ c.if-given-lt5760.false (few c.before.before) (sym (compared c.before.before) ∙ c.if-not-same_bytes.true)
 
 pub returns-then-given-count : goal.returns-then-given-count
 returns-then-given-count c =
     let r = c.candidate_rows-rows.ensures in
-    told-long _ c.if-given-lt5760.false (few c.before.before.before) (sym (compared c.before.before.before) ∙ not-false _ c.if-not-same_bytes.false) (λ e. c.if-given-count.true (rw r e))
+    told-long _ c.if-given-lt5760.false (few c.before.before.before) (sym (compared c.before.before.before) ∙ c.if-not-same_bytes.false) (λ e. c.if-given-count.true (rw r e))
 
 pub returns : goal.returns
 returns c =
     let r = c.candidate_rows-rows.ensures in
-    rw r (told-rows _ c.if-given-lt5760.false (few c.before.before.before) (sym (compared c.before.before.before) ∙ not-false _ c.if-not-same_bytes.false) (rw (← r) c.if-given-count.false))
+    rw r (told-rows _ c.if-given-lt5760.false (few c.before.before.before) (sym (compared c.before.before.before) ∙ c.if-not-same_bytes.false) (rw (← r) c.if-given-count.false))

@@ -11,7 +11,7 @@ returns-then-number-last c = row_low _ _ _ (rw (← c.get_32-number.ensures) c.i
 pub returns-then-not-number_valid : goal.returns-then-not-number_valid
 returns-then-not-number_valid c =
     let g = c.get_32-number.ensures in
-    row_number _ _ _ (rw (← g) c.if-number-last.false) (rw (← g) (sym c.number_valid.ensures ∙ not-true _ c.if-not-number_valid.true))
+    row_number _ _ _ (rw (← g) c.if-number-last.false) (rw (← g) (sym c.number_valid.ensures ∙ c.if-not-number_valid.true))
 
 pub returns-then-ra-gt1295999999 : goal.returns-then-ra-gt1295999999
 returns-then-ra-gt1295999999 c =
@@ -19,7 +19,7 @@ returns-then-ra-gt1295999999 c =
     let r = c.get_32-ra.ensures in
     let d = c.get_32-dec.ensures in
     let low = rw g at c.if-number-last.false in
-    let valid = rw g at (sym c.number_valid.ensures ∙ not-false _ c.if-not-number_valid.false) in
+    let valid = rw g at (sym c.number_valid.ensures ∙ c.if-not-number_valid.false) in
     row_ra _ _ _ low valid (rw r at c.if-ra-gt1295999999.true)
 
 pub returns-then-raised-gt648000000 : goal.returns-then-raised-gt648000000
@@ -28,7 +28,7 @@ returns-then-raised-gt648000000 c =
     let r = c.get_32-ra.ensures in
     let d = c.get_32-dec.ensures in
     let low = rw g at c.if-number-last.false in
-    let valid = rw g at (sym c.number_valid.ensures ∙ not-false _ c.if-not-number_valid.false) in
+    let valid = rw g at (sym c.number_valid.ensures ∙ c.if-not-number_valid.false) in
     row_dec _ _ _ low valid (rw r at c.if-ra-gt1295999999.false) (omega (arith, d, c.get_32-dec.type-inv)) (rw d at c.if-raised-gt648000000.true)
 
 pub returns : goal.returns
@@ -37,5 +37,5 @@ returns c =
     let r = c.get_32-ra.ensures in
     let d = c.get_32-dec.ensures in
     let low = rw g at c.if-number-last.false in
-    let valid = rw g at (sym c.number_valid.ensures ∙ not-false _ c.if-not-number_valid.false) in
+    let valid = rw g at (sym c.number_valid.ensures ∙ c.if-not-number_valid.false) in
     rw (g, r, d) (row_good _ _ _ low valid (rw r at c.if-ra-gt1295999999.false) (omega (arith, d, c.get_32-dec.type-inv)) (rw d at c.if-raised-gt648000000.false))

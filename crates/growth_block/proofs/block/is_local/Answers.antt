@@ -24,6 +24,6 @@ returns c =
       other =
           λ d.
           c.if-step-highest_address.false
-          (omega (arith, d, c.highest_address.ensures, (spread p g (limits p s.requires.homing.valid) (growth_within p g s.requires.homing.growth)).pages-low));
+          (omega (arith, d, c.highest_address.ensures, (spread p g (limits p s.requires.homing.valid) (growth_within p g s.requires.homing.growth)).pages_low));
       inner = omega (arith, c.if-step-geometry.false, s.requires.step_lt_pages);
     }

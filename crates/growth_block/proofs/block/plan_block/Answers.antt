@@ -21,10 +21,13 @@ use Rattle.growth_block.proofs.block.plan_block.Lts as lts
 use Rattle.growth_block.proofs.block.plan_block.Tie as tie
 use Rattle.growth_block.proofs.block.plan_block.Reads as reads
 use Rattle.growth_block.proofs.block.plan_block.Goals as goal
-use Rattle.growth_block.proofs.block.plan_block.Goals.{After-rehome_items, Start}
+use Rattle.growth_block.proofs.block.plan_block.Goals.{Start}
 
 abbrev After-page_behind-stop : Type 0
 After-page_behind-stop = lts.After-page_behind tie.the-claims reads.Pre reads.Post
+
+abbrev After-rehome_items : Type 0
+After-rehome_items = lts.After-rehome_items tie.the-claims reads.Pre reads.Post
 
 abbrev start : After-page_behind-stop → Start
 start c = c.before.before.before.before.before.before.before.before.before.before.before.before
@@ -54,7 +57,7 @@ size : (s : Start) → length s.args.pool.now ≡ s.args.geometry.parameters.pag
 size s = length-homes _ _ _ _ s.requires.pool_value ∙ s.requires.numbers_len.0
 
 most : (s : Start) → s.args.geometry.parameters.pages * s.args.geometry.parameters.places ≤ 32768
-most s = omega (arith, mul-le-mul (limits _ s.requires.homing.valid).pages-most (limits _ s.requires.homing.valid).places-most)
+most s = omega (arith, mul-le-mul (limits _ s.requires.homing.valid).pages_most (limits _ s.requires.homing.valid).places_most)
 
 -- the numbers alone, as a file
 abbrev file : Start → File
@@ -91,7 +94,7 @@ pub overflow_sub-count : goal.overflow_sub-count
 overflow_sub-count c = low c.before
 
 pub overflow_add-count : goal.overflow_add-count
-overflow_add-count c = omega (arith, (found c.before).inside, (limits _ (start c.before).requires.homing.valid).pages-most)
+overflow_add-count c = omega (arith, (found c.before).inside, (limits _ (start c.before).requires.homing.valid).pages_most)
 
 pub overflow_mul-lo : goal.overflow_mul-lo
 overflow_mul-lo c =
@@ -104,7 +107,7 @@ overflow_mul-count c =
     record { fits = rw (add-one (x.page_behind-stop.result - x.block_start-lo.result)) (omega (arith, fits x, most (start x))) }
 
 pub overflow_cast-stop : goal.overflow_cast-stop
-overflow_cast-stop c = omega (arith, (found c.before.before).inside, (limits _ (start c.before.before).requires.homing.valid).pages-most)
+overflow_cast-stop c = omega (arith, (found c.before.before).inside, (limits _ (start c.before.before).requires.homing.valid).pages_most)
 
 pub rehome_items-requires : goal.rehome_items-requires
 rehome_items-requires c =
@@ -123,8 +126,8 @@ plan-requires c =
     let s = start x.before.before in
     let L = ready x in record {
       parameters_value = s.requires.homing.valid;
-      count_nonzero = (L.some, (L.pages-most, omega (arith, L.separators-long, s.requires.step_bound.1, s.requires.pages_in_bounds)));
-      places_in_bounds = (L.numbers-long, L.pool-long);
+      count_nonzero = (L.some, (L.pages_most, omega (arith, L.separators_long, s.requires.step_bound.1, s.requires.pages_in_bounds)));
+      places_in_bounds = (L.numbers_long, L.pool_long);
       numbers_value = L.valid;
       pool_value = L.within;
       numbers_in_bounds = (stars-fit _ _ _ _ _ _ _ L _, L.waiting-most);
@@ -147,6 +150,6 @@ returns c =
       homes-are = rw (add-one (stop - lo)) at z.rehome_items.ensures;
       homes-long = z.rehome_items.auto.homes;
       waiting = _;
-      past-it = _;
+      past_it = _;
       plan = rw (add-one (stop - lo)) at y.ensures;
     }

@@ -18,7 +18,7 @@ small : (s : Start) → s.args.page * s.args.geometry.parameters.places + s.args
 small s =
     let p = s.args.geometry.parameters in
     let l = limits p s.requires.parameters_value in
-    let wide : p.pages * p.places ≤ 1024 * 32 = mul-le-mul l.pages-most l.places-most in
+    let wide : p.pages * p.places ≤ 1024 * 32 = mul-le-mul l.pages_most l.places_most in
     omega (arith, fits s, wide)
 
 room : (s : Start) → page_count s.args.geometry.parameters s.args.geometry.growth < s.args.geometry.parameters.pages
@@ -59,7 +59,7 @@ put_homed-requires c =
     let s = c.before.before.before.before.before.before.before.before.before.before.before.before in record {
       vacancy = vacancy-at _ _ _ _ _ _ s.requires.moving (room s) _ _ (low s) s.requires.numbers_nonzero s.requires.numbers_value _ s.requires.added_value.0;
       places_in_bounds = page-fits _ _ _ s.requires.added_value.1 s.requires.moving.of_homes;
-      page_bound = omega (arith, s.requires.added_value.1, (limits _ s.requires.parameters_value).pages-most);
+      page_bound = omega (arith, s.requires.added_value.1, (limits _ s.requires.parameters_value).pages_most);
     }
 
 pub take_homed-requires : goal.take_homed-requires

@@ -4,8 +4,13 @@ use native.Mathlib.Omega.{arith}
 use Rattle.page_edit.specs.Shift.{opened_at, Vacant}
 use Rattle.page_edit.proofs.Shifted.{vacant-place}
 use borrow.Author.Rules.{rules}
+use Rattle.growth_in_place.proofs.moving.put_homed.Lts as lts
+use Rattle.growth_in_place.proofs.moving.put_homed.Tie as tie
+use Rattle.growth_in_place.proofs.moving.put_homed.Reads as reads
 use Rattle.growth_in_place.proofs.moving.put_homed.Goals as goal
-use Rattle.growth_in_place.proofs.moving.put_homed.Goals.{After-place_on-place}
+
+abbrev After-place_on-place : Type 0
+After-place_on-place = lts.After-place_on tie.the-claims reads.Pre reads.Post
 
 inside : (c : After-place_on-place) → c.place_on-place.result < c.args.places
 inside c =

@@ -34,7 +34,7 @@ high c =
     ends-most _ _ _ _ _ pre.0 pre.1.0 pre.1.1 _ _ _ _ _ c.loop-lo.invariant _ _ c.top_of-top.ensures (omega arith) c.stretch_end-stop.ensures
 
 pub overflow_add-stop : goal.overflow_add-stop
-overflow_add-stop c = omega (arith, high c, (limits _ (start c).requires.placeable.valid).pages-most)
+overflow_add-stop c = omega (arith, high c, (limits _ (start c).requires.placeable.valid).pages_most)
 
 pub overflow_sub-stop : goal.overflow_sub-stop
 overflow_sub-stop c = omega (arith, low c.before.before.before.before.before.before.before)

@@ -29,7 +29,7 @@ added_is c =
     let s = start c in
     let p = s.args.geometry.parameters in
     let g = s.args.geometry.growth in
-    omega (arith, c.highest_address-added.ensures, (spread p g (limits p s.requires.homing.valid) (growth_within p g s.requires.homing.growth)).pages-low)
+    omega (arith, c.highest_address-added.ensures, (spread p g (limits p s.requires.homing.valid) (growth_within p g s.requires.homing.growth)).pages_low)
 
 inside : (c : After-highest_address-added) → c.highest_address-added.result + 1 < (start c).args.geometry.parameters.pages
 inside c = omega (arith, added_is c, (start c).requires.growth_bound)
@@ -43,7 +43,7 @@ topped c =
     rw (← added_is x) (c.if-separators-page.false ∙ c.top_of.ensures)
 
 pub overflow_add-added : goal.overflow_add-added
-overflow_add-added c = omega (arith, inside c.before, (limits _ (start c.before).requires.homing.valid).pages-most)
+overflow_add-added c = omega (arith, inside c.before, (limits _ (start c.before).requires.homing.valid).pages_most)
 
 pub bounds-separators-page : goal.bounds-separators-page
 bounds-separators-page c = omega (arith, inside c.before.before, (start c.before.before).requires.separators_len)

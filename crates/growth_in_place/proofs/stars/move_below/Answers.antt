@@ -29,7 +29,7 @@ near-here-requires c =
     record {
       parameters_value = s.requires.homing.valid;
       growth_value = s.requires.homing.growth;
-      page_bound = omega (arith, c.loop-page-test.true, s.requires.added_value.1, (limits _ s.requires.homing.valid).pages-most);
+      page_bound = omega (arith, c.loop-page-test.true, s.requires.added_value.1, (limits _ s.requires.homing.valid).pages_most);
     }
 
 pub bounds-separators-at : goal.bounds-separators-at
@@ -55,7 +55,7 @@ below : (c : After-runs_on-runs) → c.loop-page.page < c.args.geometry.paramete
 below c = omega (arith, c.loop-page-test.true, c.requires.added_value.1)
 
 pub overflow_add-page : goal.overflow_add-page
-overflow_add-page c = omega (arith, below c.before, (limits _ c.requires.homing.valid).pages-most)
+overflow_add-page c = omega (arith, below c.before, (limits _ c.requires.homing.valid).pages_most)
 
 pub move_from-requires : goal.move_from-requires
 move_from-requires c =

@@ -11,8 +11,14 @@ use Rattle.pages.proofs.Parts.{page-fits, part-item}
 use Rattle.page_edit.specs.Shift.{number_at}
 use Rattle.growth_in_place.specs.Expansion.{joins, joins_at, NoneJoins, page_stars, Moving, KeptStars}
 use Rattle.growth_in_place.proofs.OnPage.{held-joins, kept-none, kept_more, home-there, none-behind, taken-there, left_there}
+use Rattle.growth_in_place.proofs.stars.move_from.Lts as lts
+use Rattle.growth_in_place.proofs.stars.move_from.Tie as tie
+use Rattle.growth_in_place.proofs.stars.move_from.Reads as reads
 use Rattle.growth_in_place.proofs.stars.move_from.Goals as goal
-use Rattle.growth_in_place.proofs.stars.move_from.Goals.{After-joins, Start}
+use Rattle.growth_in_place.proofs.stars.move_from.Goals.{Start}
+
+abbrev After-joins : Type 0
+After-joins = lts.After-joins tie.the-claims reads.Pre reads.Post goal.the-invariant-loop-i goal.the-decreases-loop-i
 
 inside : (s : Start) → s.args.page < s.args.geometry.parameters.pages
 inside s = omega (arith, s.requires.added_value.1, s.requires.page_lt_added)
@@ -33,7 +39,7 @@ small : (s : Start) → s.args.page * s.args.geometry.parameters.places + s.args
 small s =
     let p = s.args.geometry.parameters in
     let l = limits p s.requires.homing.valid in
-    let wide : p.pages * p.places ≤ 1024 * 32 = mul-le-mul l.pages-most l.places-most in
+    let wide : p.pages * p.places ≤ 1024 * 32 = mul-le-mul l.pages_most l.places_most in
     omega (arith, fits s, wide)
 
 pub overflow_mul-first : goal.overflow_mul-first

@@ -31,7 +31,7 @@ abbrev start : Else-not-is_spacious → Start
 start c = c.before.before.before.before.before.before.before
 
 spacious : (c : Else-not-is_spacious) → Spacious (start c).args.geometry.parameters (start c).args.geometry.growth (start c).args.separators.now (start c).args.numbers.now
-spacious c = c.is_spacious.ensures (not-false _ c.if-not-is_spacious.false)
+spacious c = c.is_spacious.ensures c.if-not-is_spacious.false
 
 added_is : (c : After-highest_address-added) → c.highest_address-added.result + 1 ≡ page_count (start c.before).args.geometry.parameters (start c.before).args.geometry.growth
 unfolding highest
@@ -39,7 +39,7 @@ added_is c =
     let s = start c.before in
     let p = s.args.geometry.parameters in
     let g = s.args.geometry.growth in
-    omega (arith, c.highest_address-added.ensures, (spread p g (limits p s.requires.ready.homing.valid) (growth_within p g s.requires.ready.homing.growth)).pages-low)
+    omega (arith, c.highest_address-added.ensures, (spread p g (limits p s.requires.ready.homing.valid) (growth_within p g s.requires.ready.homing.growth)).pages_low)
 
 inside : (c : After-highest_address-added) → c.highest_address-added.result + 1 < (start c.before).args.geometry.parameters.pages
 inside c = omega (arith, added_is c, (start c.before).requires.growth_bound)
@@ -60,7 +60,7 @@ pub returns-then-not-is_spacious : goal.returns-then-not-is_spacious
 returns-then-not-is_spacious c = record { moved = λ e. absurd (false≢true e); untouched = λ e. record { of_numbers = refl; of_words_lem = refl; of_owners = refl; of_homes = refl } }
 
 pub overflow_add-added : goal.overflow_add-added
-overflow_add-added c = omega (arith, inside c.before, (limits _ (start c.before.before).requires.ready.homing.valid).pages-most)
+overflow_add-added c = omega (arith, inside c.before, (limits _ (start c.before.before).requires.ready.homing.valid).pages_most)
 
 pub rehome_page-requires : goal.rehome_page-requires
 rehome_page-requires c =

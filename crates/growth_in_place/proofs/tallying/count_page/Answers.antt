@@ -9,8 +9,13 @@ use Rattle.pages.specs.Page.{part}
 use Rattle.pages.proofs.Parts.{part_length, part-item}
 use Rattle.growth_in_place.specs.Expansion.{joins_at, joiners_in}
 use Rattle.growth_in_place.proofs.Joiners.{one_if, home-item, length-homes, joiners_none, joiners_next}
+use Rattle.growth_in_place.proofs.tallying.count_page.Lts as lts
+use Rattle.growth_in_place.proofs.tallying.count_page.Tie as tie
+use Rattle.growth_in_place.proofs.tallying.count_page.Reads as reads
 use Rattle.growth_in_place.proofs.tallying.count_page.Goals as goal
-use Rattle.growth_in_place.proofs.tallying.count_page.Goals.{After-joins}
+
+abbrev After-joins : Type 0
+After-joins = lts.After-joins tie.the-claims reads.Pre reads.Post goal.the-invariant-loop-i goal.the-decreases-loop-i
 
 pub loop-i-init : goal.loop-i-init
 loop-i-init c = (omega arith, omega arith, sym (joiners_none _ _))

@@ -27,7 +27,7 @@ near-here-requires c =
     record {
       parameters_value = s.requires.homing.valid;
       growth_value = s.requires.homing.growth;
-      page_bound = omega (arith, c.loop-page-test.true, s.requires.added_lt_pages, (limits _ s.requires.homing.valid).pages-most);
+      page_bound = omega (arith, c.loop-page-test.true, s.requires.added_lt_pages, (limits _ s.requires.homing.valid).pages_most);
     }
 
 pub bounds-separators-at : goal.bounds-separators-at
@@ -53,7 +53,7 @@ below : (c : After-runs_on-runs) → c.loop-page.page < c.args.geometry.paramete
 below c = omega (arith, c.loop-page-test.true, c.requires.added_lt_pages)
 
 pub overflow_add-page : goal.overflow_add-page
-overflow_add-page c = omega (arith, below c.before, (limits _ c.requires.homing.valid).pages-most)
+overflow_add-page c = omega (arith, below c.before, (limits _ c.requires.homing.valid).pages_most)
 
 pub count_page-total-requires : goal.count_page-total-requires
 count_page-total-requires c =
@@ -73,8 +73,8 @@ most c =
     let g = s.args.geometry.growth in
     let page = c.loop-page.page in
     let l = limits p s.requires.homing.valid in
-    let low : page + 1 ≤ 1024 = omega (arith, below c.before.before, l.pages-most) in
-    let wide : (page + 1) * p.places ≤ 1024 * 32 = mul-le-mul low l.places-most in
+    let low : page + 1 ≤ 1024 = omega (arith, below c.before.before, l.pages_most) in
+    let wide : (page + 1) * p.places ≤ 1024 * 32 = mul-le-mul low l.places_most in
     omega (arith, below_next p g s.args.numbers.now page, below-most p g s.args.numbers.now (page + 1), c.loop-page.invariant.1, c.count_page-total.ensures, wide)
 
 pub overflow_add-total : goal.overflow_add-total

@@ -14,10 +14,19 @@ use Rattle.growth_plan.proofs.growth.grow.Lts as lts
 use Rattle.growth_plan.proofs.growth.grow.Tie as tie
 use Rattle.growth_plan.proofs.growth.grow.Reads as reads
 use Rattle.growth_plan.proofs.growth.grow.Goals as goal
-use Rattle.growth_plan.proofs.growth.grow.Goals.{After-grow_in_place, After-replace_all, After-survey_pages-bad, Else-bad-pages, Else-grow_in_place, Start}
+use Rattle.growth_plan.proofs.growth.grow.Goals.{After-grow_in_place, After-replace_all, Start}
+
+abbrev After-survey_pages-bad : Type 0
+After-survey_pages-bad = lts.After-survey_pages tie.the-claims reads.Pre reads.Post
+
+abbrev Else-bad-pages : Type 0
+Else-bad-pages = lts.Else1 tie.the-claims reads.Pre reads.Post
 
 abbrev Then-grow_in_place : Type 0
 Then-grow_in_place = lts.Then2 tie.the-claims reads.Pre reads.Post
+
+abbrev Else-grow_in_place : Type 0
+Else-grow_in_place = lts.Else2 tie.the-claims reads.Pre reads.Post
 
 abbrev After-slice_known-22-1 : Type 0
 After-slice_known-22-1 = lts.After-slice_known22 tie.the-claims reads.Pre reads.Post
@@ -141,7 +150,7 @@ replace_all-requires c =
       pooled = record { of_numbers = lengths.0 ∙ (pooled x).of_numbers; of_words_lem = lengths.1.0 ∙ (pooled x).of_words_lem; of_owners = lengths.1.1.0 ∙ (pooled x).of_owners };
       movable = s.pre.1.1;
       pages_value = subst (λ (f : File). first_unsound_lem p g f 0 p.pages ≡ p.pages) (sym still) (sound x);
-      pool_value = k.grow_in_place.ensures.pool-kept no.if-grow_in_place.false ∙ homed x ∙ ap (λ (f : File). homes_of p g f.numbers) (sym still);
+      pool_value = k.grow_in_place.ensures.pool_kept no.if-grow_in_place.false ∙ homed x ∙ ap (λ (f : File). homes_of p g f.numbers) (sym still);
     }
 
 abbrev after-replace_all : After-slice_known-22-1 → After-replace_all

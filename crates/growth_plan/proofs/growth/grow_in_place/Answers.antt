@@ -10,10 +10,16 @@ use Rattle.growth_plan.proofs.growth.grow_in_place.Lts as lts
 use Rattle.growth_plan.proofs.growth.grow_in_place.Tie as tie
 use Rattle.growth_plan.proofs.growth.grow_in_place.Reads as reads
 use Rattle.growth_plan.proofs.growth.grow_in_place.Goals as goal
-use Rattle.growth_plan.proofs.growth.grow_in_place.Goals.{After-move_stars, After-replace_blocks, Else-not-move_stars, Start}
+use Rattle.growth_plan.proofs.growth.grow_in_place.Goals.{After-replace_blocks, Start}
+
+abbrev After-move_stars : Type 0
+After-move_stars = lts.After-move_stars tie.the-claims reads.Pre reads.Post
 
 abbrev Then-not-move_stars : Type 0
 Then-not-move_stars = lts.Then1 tie.the-claims reads.Pre reads.Post
+
+abbrev Else-not-move_stars : Type 0
+Else-not-move_stars = lts.Else1 tie.the-claims reads.Pre reads.Post
 
 abbrev After-slice_known-18-1 : Type 0
 After-slice_known-18-1 = lts.After-slice_known18 tie.the-claims reads.Pre reads.Post
@@ -33,7 +39,7 @@ moved : (c : Else-not-move_stars)
     let exit = (moving c).move_stars.new.1.1.1 in
     Moved a.geometry.parameters a.geometry.growth (lent a.separators.now a.numbers.now a.words.now a.owners.now)
     (lent a.separators.now exit.0 exit.1.0 exit.1.1.0) exit.1.1.1.0
-moved c = (moving c).move_stars.ensures.moved (not-false _ c.if-not-move_stars.false)
+moved c = (moving c).move_stars.ensures.moved c.if-not-move_stars.false
 
 pub move_stars-requires : goal.move_stars-requires
 move_stars-requires c =
@@ -53,12 +59,12 @@ after-move_stars c = c.before.before.before.before.before.before.before.before.b
 
 pub returns-then-not-move_stars : goal.returns-then-not-move_stars
 returns-then-not-move_stars c =
-    let still = c.move_stars.ensures.untouched (not-true _ c.if-not-move_stars.true) in
+    let still = c.move_stars.ensures.untouched c.if-not-move_stars.true in
     record {
       accepts = λ e. absurd (false≢true e);
       file = λ e. absurd (false≢true e);
       kept = λ _. same-file _ _ _ _ _ _ _ still.of_numbers still.of_words_lem still.of_owners;
-      pool-kept = λ _. still.of_homes;
+      pool_kept = λ _. still.of_homes;
     }
 
 pub grown-growth-requires : goal.grown-growth-requires
@@ -116,5 +122,5 @@ returns c =
       accepts = λ _. grown-answer _ _ _ _ _ _ pre.0.sized pre.1.1.1.0 (moved e) renewed;
       file = λ _. grown-file _ _ _ _ _ _ pre.0.sized pre.1.1.1.0 (moved e) renewed;
       kept = λ e. absurd (false≢true (sym e));
-      pool-kept = λ e. absurd (false≢true (sym e));
+      pool_kept = λ e. absurd (false≢true (sym e));
     }

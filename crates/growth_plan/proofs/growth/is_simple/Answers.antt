@@ -29,11 +29,11 @@ abbrev started : After-struct_known-2-1 → Start
 started c = c.before.before.before.before.before.before.before.before.before.before
 
 pub nonzero_div-pages : goal.nonzero_div-pages
-nonzero_div-pages c = (limits _ (started c.before).requires.parameters_value).places-least
+nonzero_div-pages c = (limits _ (started c.before).requires.parameters_value).places_least
 
 pub longest_run-requires : goal.longest_run-requires
 longest_run-requires c =
-    omega (arith, (started c.before).requires.homed.separators, (limits _ (started c.before).requires.parameters_value).pages-most)
+    omega (arith, (started c.before).requires.homed.separators, (limits _ (started c.before).requires.parameters_value).pages_most)
 
 pub returns-then-pages-geometry : goal.returns-then-pages-geometry
 returns-then-pages-geometry c e = absurd (false≢true e)

@@ -28,7 +28,10 @@ use Rattle.growth_plan.proofs.growth.move_own.Lts as lts
 use Rattle.growth_plan.proofs.growth.move_own.Tie as tie
 use Rattle.growth_plan.proofs.growth.move_own.Reads as reads
 use Rattle.growth_plan.proofs.growth.move_own.Goals as goal
-use Rattle.growth_plan.proofs.growth.move_own.Goals.{After-enter_own-entered, After-find_own-own, After-grow, After-take_own, Start}
+use Rattle.growth_plan.proofs.growth.move_own.Goals.{After-enter_own-entered, After-grow, After-take_own, Start}
+
+abbrev After-find_own-own : Type 0
+After-find_own-own = lts.After-find_own tie.the-claims reads.Pre reads.Post
 
 abbrev Then-entered-places : Type 0
 Then-entered-places = lts.Then1 tie.the-claims reads.Pre reads.Post
@@ -150,7 +153,7 @@ find_own-own-requires c =
     let z = s.requires.ready.sized in
     let l = limits _ s.requires.ready.homing.valid in
     record {
-      places_bound = (l.places-most, omega (arith, inside, l.pages-most));
+      places_bound = (l.places_most, omega (arith, inside, l.pages_most));
       places_in_bounds = page-fits _ _ _ inside z.of_numbers;
       places_in_bounds_2 = page-fits _ _ _ inside z.of_words_lem;
       places_in_bounds_3 = page-fits _ _ _ inside z.of_owners;

@@ -18,7 +18,13 @@ use Rattle.growth_plan.proofs.growth.replace_all.Lts as lts
 use Rattle.growth_plan.proofs.growth.replace_all.Tie as tie
 use Rattle.growth_plan.proofs.growth.replace_all.Reads as reads
 use Rattle.growth_plan.proofs.growth.replace_all.Goals as goal
-use Rattle.growth_plan.proofs.growth.replace_all.Goals.{After-apply, After-plan_all, Else-not-plan_all, Start}
+use Rattle.growth_plan.proofs.growth.replace_all.Goals.{After-apply, Start}
+
+abbrev After-plan_all : Type 0
+After-plan_all = lts.After-plan_all tie.the-claims reads.Pre reads.Post
+
+abbrev Else-not-plan_all : Type 0
+Else-not-plan_all = lts.Else1 tie.the-claims reads.Pre reads.Post
 
 abbrev After-slice_known-16-1 : Type 0
 After-slice_known-16-1 = lts.After-slice_known16 tie.the-claims reads.Pre reads.Post
@@ -30,7 +36,7 @@ later : (s : Start) → let p = s.args.geometry.parameters in valid_growth p (st
 later s = next-valid s.args.back _ _ s.requires.ready.homing.valid s.requires.ready.homing.growth s.requires.movable
 
 most : (s : Start) → s.args.geometry.parameters.pages ≤ 1024
-most s = (limits _ s.requires.ready.homing.valid).pages-most
+most s = (limits _ s.requires.ready.homing.valid).pages_most
 
 span : (M b n : ℕ) → n ≡ M * b → (0 + M) * b ≤ n
 span M b n e = rw (zero-add M) (omega arith)
@@ -62,8 +68,8 @@ returns-then-not-plan_all c =
     let k = c.before.before.before.before.before.before.before in
     let s = start k in
     record {
-      value = (plan_overflows _ _ _ (file s) s.requires.ready.homing.valid s.requires.ready.sized (later s) s.requires.pages_value _ _ _ _ _ _ k.plan_all.ensures (not-true _ c.if-not-plan_all.true)).0;
-      owners_value = (plan_overflows _ _ _ (file s) s.requires.ready.homing.valid s.requires.ready.sized (later s) s.requires.pages_value _ _ _ _ _ _ k.plan_all.ensures (not-true _ c.if-not-plan_all.true)).1;
+      value = (plan_overflows _ _ _ (file s) s.requires.ready.homing.valid s.requires.ready.sized (later s) s.requires.pages_value _ _ _ _ _ _ k.plan_all.ensures c.if-not-plan_all.true).0;
+      owners_value = (plan_overflows _ _ _ (file s) s.requires.ready.homing.valid s.requires.ready.sized (later s) s.requires.pages_value _ _ _ _ _ _ k.plan_all.ensures c.if-not-plan_all.true).1;
     }
 
 pub apply-requires : goal.apply-requires
@@ -72,7 +78,7 @@ apply-requires c =
     let s = start k in
     let z = s.requires.ready.sized in
     let kept = k.plan_all.kept.1.1.1.1 in record {
-      places_bound = ((limits _ s.requires.ready.homing.valid).places-most, omega (arith, most s));
+      places_bound = ((limits _ s.requires.ready.homing.valid).places_most, omega (arith, most s));
       count_in_bounds = (omega (arith, z.of_separators), omega (arith, most s, kept.1.1.0));
       places_in_bounds = (span _ _ _ z.of_numbers, span _ _ _ z.of_words_lem);
       places_in_bounds_2 = (span _ _ _ (kept.0 ∙ s.requires.pooled.of_numbers), span _ _ _ (kept.1.0 ∙ s.requires.pooled.of_words_lem));
@@ -94,7 +100,7 @@ returns c =
     let e = a.before.before.before.before.before.before.before.before.before.before.before in
     let s = start (planning e) in
     let done = plan_fits _ _ _ (file s) s.pre.0.homing.valid s.pre.0.sized (later s) s.pre.1.1.1.0 _ _ _ _ _ _ (planning e).plan_all.ensures
-    (not-false _ e.if-not-plan_all.false) (omega (arith, most s)) in
+    e.if-not-plan_all.false (omega (arith, most s)) in
     let left = a.apply.ensures in
     record {
       value = done.0;

@@ -16,7 +16,10 @@ use Rattle.growth_plan.proofs.growth.shrink.Lts as lts
 use Rattle.growth_plan.proofs.growth.shrink.Tie as tie
 use Rattle.growth_plan.proofs.growth.shrink.Reads as reads
 use Rattle.growth_plan.proofs.growth.shrink.Goals as goal
-use Rattle.growth_plan.proofs.growth.shrink.Goals.{After-move_own, After-replace_all, After-survey_pages-bad, Start}
+use Rattle.growth_plan.proofs.growth.shrink.Goals.{After-move_own, After-replace_all, Start}
+
+abbrev After-survey_pages-bad : Type 0
+After-survey_pages-bad = lts.After-survey_pages tie.the-claims reads.Pre reads.Post
 
 abbrev Else-bad-pages : Type 0
 Else-bad-pages = lts.Else1 tie.the-claims reads.Pre reads.Post
@@ -137,7 +140,7 @@ move_own-requires c =
       movable = pre.1.1;
       pages_value = sound x;
       pool_value = homed x;
-      simple = c.is_simple.ensures (not-false _ c.if-not-is_simple.false);
+      simple = c.is_simple.ensures c.if-not-is_simple.false;
     }
 
 abbrev after-move_own : Then-move_own → After-move_own

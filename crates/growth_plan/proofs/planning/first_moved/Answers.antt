@@ -11,8 +11,8 @@ unfolding highest
 overflow_mul-result c =
     let s = c.before.before.before in
     let l = limits _ s.requires.parameters_value in
-    let high : c.highest_address.result ≤ 1024 = omega (arith, c.highest_address.ensures, (growth_within _ _ s.requires.growth_value).pages-fit, l.pages-most) in
-    let product : c.highest_address.result * s.args.geometry.parameters.places ≤ 1024 * 32 = mul-le-mul high l.places-most in
+    let high : c.highest_address.result ≤ 1024 = omega (arith, c.highest_address.ensures, (growth_within _ _ s.requires.growth_value).pages_fit, l.pages_most) in
+    let product : c.highest_address.result * s.args.geometry.parameters.places ≤ 1024 * 32 = mul-le-mul high l.places_most in
     record { fits = omega (arith, product) }
 
 pub returns-then-back : goal.returns-then-back

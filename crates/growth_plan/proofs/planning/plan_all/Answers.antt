@@ -18,7 +18,16 @@ use Rattle.growth_plan.proofs.planning.plan_all.Lts as lts
 use Rattle.growth_plan.proofs.planning.plan_all.Tie as tie
 use Rattle.growth_plan.proofs.planning.plan_all.Reads as reads
 use Rattle.growth_plan.proofs.planning.plan_all.Goals as goal
-use Rattle.growth_plan.proofs.planning.plan_all.Goals.{After-gather-end, After-place_all, After-rehome, Start}
+use Rattle.growth_plan.proofs.planning.plan_all.Goals.{Start}
+
+abbrev After-rehome : Type 0
+After-rehome = lts.After-rehome tie.the-claims reads.Pre reads.Post
+
+abbrev After-gather-end : Type 0
+After-gather-end = lts.After-gather tie.the-claims reads.Pre reads.Post
+
+abbrev After-place_all : Type 0
+After-place_all = lts.After-place_all tie.the-claims reads.Pre reads.Post
 
 abbrev After-slice_known-8-1 : Type 0
 After-slice_known-8-1 = lts.After-slice_known8 tie.the-claims reads.Pre reads.Post
@@ -58,11 +67,11 @@ pub gather-end-requires : goal.gather-end-requires
 gather-end-requires c =
     let x = c.before.before.before.before.before in
     let L = ready x in record {
-      places_bound = (L.places-most, (L.some, L.pages-most));
-      places_in_bounds = (L.numbers-long, L.pool-long);
+      places_bound = (L.places_most, (L.some, L.pages_most));
+      places_in_bounds = (L.numbers_long, L.pool_long);
       numbers_value = L.valid;
       homes_value = L.within;
-      count_in_bounds = (omega (arith, L.pages-most), omega arith);
+      count_in_bounds = (omega (arith, L.pages_most), omega arith);
       numbers_in_bounds = stars-fit _ _ _ _ _ _ _ L _;
     }
 
@@ -72,7 +81,7 @@ place_all-requires c =
     let x = rehomed d in
     let L = ready x in
     settleable _ _ _ _ _ d.gather-end.ensures.scatters (enough x) d.gather-end.auto.waiting _ d.gather-end.ensures.value _ _ (start x).requires.homing.valid
-    (omega (arith, (start x).requires.pages_in_bounds)) L.pool-long (omega (arith, L.pages-most, d.gather-end.auto.ends)) L.waiting-most
+    (omega (arith, (start x).requires.pages_in_bounds)) L.pool_long (omega (arith, L.pages_most, d.gather-end.auto.ends)) L.waiting-most
 
 abbrev after-place-all : After-slice_known-8-1 → After-place_all
 after-place-all c = c.before.before.before.before.before.before

@@ -19,10 +19,16 @@ use Rattle.growth_plan.proofs.steps.accept_growth.Lts as lts
 use Rattle.growth_plan.proofs.steps.accept_growth.Tie as tie
 use Rattle.growth_plan.proofs.steps.accept_growth.Reads as reads
 use Rattle.growth_plan.proofs.steps.accept_growth.Goals as goal
-use Rattle.growth_plan.proofs.steps.accept_growth.Goals.{After-plan_all, After-survey_pages-bad, Start}
+use Rattle.growth_plan.proofs.steps.accept_growth.Goals.{Start}
+
+abbrev After-survey_pages-bad : Type 0
+After-survey_pages-bad = lts.After-survey_pages tie.the-claims reads.Pre reads.Post
 
 abbrev Else-bad-pages : Type 0
 Else-bad-pages = lts.Else1 tie.the-claims reads.Pre reads.Post
+
+abbrev After-plan_all : Type 0
+After-plan_all = lts.After-plan_all tie.the-claims reads.Pre reads.Post
 
 abbrev Then-not-plan_all : Type 0
 Then-not-plan_all = lts.Then3 tie.the-claims reads.Pre reads.Post
@@ -101,7 +107,7 @@ plan_all-requires c =
       homing = s.requires.ready.homing;
       movable = s.requires.movable;
       numbers_len = (s.requires.ready.sized.of_numbers, s.requires.waiting_len);
-      pages_in_bounds = omega (arith, (limits _ s.requires.ready.homing.valid).pages-most);
+      pages_in_bounds = omega (arith, (limits _ s.requires.ready.homing.valid).pages_most);
       numbers_value = sound-numbers _ _ (file s) s.requires.ready.homing.valid s.requires.ready.sized (sound x) 0 _ (omega arith);
       pool_value = homed x;
       homes_stay = homes-stay _ _ (file s) s.requires.ready.homing.valid s.requires.ready.sized (sound x) false s.requires.ready.homing.growth s.requires.movable;
@@ -118,7 +124,7 @@ returns-then-not-plan_all c =
     let x = c.before.before.before.before.before.before.before.before.before.before.before.before.before in
     let s = start x.before.before.before in
     let P = c.plan_all.ensures in
-    (plan_overflows _ _ _ (file s) s.requires.ready.homing.valid s.requires.ready.sized (later s) (sound x) _ _ _ _ _ _ P (not-true _ c.if-not-plan_all.true)).0
+    (plan_overflows _ _ _ (file s) s.requires.ready.homing.valid s.requires.ready.sized (later s) (sound x) _ _ _ _ _ _ P c.if-not-plan_all.true).0
 
 abbrev after-plan_all-2 : Else-not-plan_all → After-plan_all
 after-plan_all-2 c = c.before.before.before.before.before.before
@@ -128,4 +134,4 @@ returns c =
     let x = c.before.before.before.before.before.before.before.before.before.before.before.before.before in
     let s = start x.before.before.before in
     let P = c.plan_all.ensures in
-    (plan_fits _ _ _ (file s) s.requires.ready.homing.valid s.requires.ready.sized (later s) (sound x) _ _ _ _ _ _ P (not-false _ c.if-not-plan_all.false) (omega (arith, (limits _ s.requires.ready.homing.valid).pages-most))).0
+    (plan_fits _ _ _ (file s) s.requires.ready.homing.valid s.requires.ready.sized (later s) (sound x) _ _ _ _ _ _ P c.if-not-plan_all.false (omega (arith, (limits _ s.requires.ready.homing.valid).pages_most))).0

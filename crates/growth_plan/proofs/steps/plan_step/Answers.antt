@@ -21,13 +21,25 @@ use Rattle.growth_plan.proofs.steps.plan_step.Lts as lts
 use Rattle.growth_plan.proofs.steps.plan_step.Tie as tie
 use Rattle.growth_plan.proofs.steps.plan_step.Reads as reads
 use Rattle.growth_plan.proofs.steps.plan_step.Goals as goal
-use Rattle.growth_plan.proofs.steps.plan_step.Goals.{After-plan_all, After-plan_block, After-survey_pages-bad, Start, Then-is_local}
+use Rattle.growth_plan.proofs.steps.plan_step.Goals.{Start}
+
+abbrev After-survey_pages-bad : Type 0
+After-survey_pages-bad = lts.After-survey_pages tie.the-claims reads.Pre reads.Post
 
 abbrev Else-bad-pages : Type 0
 Else-bad-pages = lts.Else1 tie.the-claims reads.Pre reads.Post
 
+abbrev Then-is_local : Type 0
+Then-is_local = lts.Then2 tie.the-claims reads.Pre reads.Post
+
+abbrev After-plan_block : Type 0
+After-plan_block = lts.After-plan_block tie.the-claims reads.Pre reads.Post
+
 abbrev After-slice_known-then-is_local-3-1 : Type 0
 After-slice_known-then-is_local-3-1 = lts.After-slice_known7 tie.the-claims reads.Pre reads.Post
+
+abbrev After-plan_all : Type 0
+After-plan_all = lts.After-plan_all tie.the-claims reads.Pre reads.Post
 
 abbrev Then-not-plan_all : Type 0
 Then-not-plan_all = lts.Then3 tie.the-claims reads.Pre reads.Post
@@ -159,7 +171,7 @@ returns-then-not-plan_all c =
     let s = start x.before.before.before in
     let P = c.plan_all.ensures in
     record {
-      value = (plan_overflows _ _ _ (file s) s.requires.ready.homing.valid s.requires.ready.sized (later s) (sound x) _ _ _ _ _ _ P (not-true _ c.if-not-plan_all.true)).0;
+      value = (plan_overflows _ _ _ (file s) s.requires.ready.homing.valid s.requires.ready.sized (later s) (sound x) _ _ _ _ _ _ P c.if-not-plan_all.true).0;
       plans_step = λ page e. absurd (overflows_on page e);
     }
 
@@ -173,7 +185,7 @@ returns c =
     let P = c.plan_all.ensures in
     let kept = c.plan_all.auto in
     let size = kept.1.1.1.1.0 ∙ x.survey_pages-bad.auto.homes ∙ s.requires.pool_len in
-    let done = plan_fits _ _ _ (file s) s.requires.ready.homing.valid s.requires.ready.sized (later s) (sound x) _ _ _ _ _ _ P (not-false _ c.if-not-plan_all.false) s.requires.pages_in_bounds.0 in
+    let done = plan_fits _ _ _ (file s) s.requires.ready.homing.valid s.requires.ready.sized (later s) (sound x) _ _ _ _ _ _ P c.if-not-plan_all.false s.requires.pages_in_bounds.0 in
     record {
       value = done.0;
       plans_step = λ page e. all_named _ _ _ (file s) _ _ done.0 s.args.step _ _ s.requires.ready.sized size (omega (arith, s.requires.pages_in_bounds.0, kept.1.1.1.1.1.1.0)) s.requires.pages_in_bounds.1 done.1;

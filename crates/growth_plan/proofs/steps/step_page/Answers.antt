@@ -11,7 +11,13 @@ use Rattle.growth_plan.proofs.steps.step_page.Lts as lts
 use Rattle.growth_plan.proofs.steps.step_page.Tie as tie
 use Rattle.growth_plan.proofs.steps.step_page.Reads as reads
 use Rattle.growth_plan.proofs.steps.step_page.Goals as goal
-use Rattle.growth_plan.proofs.steps.step_page.Goals.{After-plan_step, After-write_planned, Start}
+use Rattle.growth_plan.proofs.steps.step_page.Goals.{Start}
+
+abbrev After-plan_step : Type 0
+After-plan_step = lts.After-plan_step tie.the-claims reads.Pre reads.Post
+
+abbrev After-write_planned : Type 0
+After-write_planned = lts.After-write_planned tie.the-claims reads.Pre reads.Post
 
 abbrev After-slice_known-in-On-7-1 : Type 0
 After-slice_known-in-On-7-1 = lts.After-slice_known16 tie.the-claims reads.Pre reads.Post
@@ -41,7 +47,7 @@ plan_step-requires c =
       pool_len = s.requires.pooled.of_numbers;
       waiting_len = s.requires.pooled.of_words_lem;
       movable = s.requires.movable;
-      pages_in_bounds = (omega (arith, (bounds s).pages-most), s.requires.step_lt_pages);
+      pages_in_bounds = (omega (arith, (bounds s).pages_most), s.requires.step_lt_pages);
     }
 
 pub write_planned-requires : goal.write_planned-requires
@@ -52,8 +58,8 @@ write_planned-requires c =
     let size = s.requires.sized in
     let pool = s.requires.pooled in
     let kept = x.plan_step.auto.pool in record {
-      places_bound = (l.places-most, omega (arith, l.pages-most, s.requires.step_lt_pages));
-      step_in_bounds = (omega (arith, size.of_separators, s.requires.step_lt_pages), omega (arith, l.pages-most, s.requires.step_lt_pages, kept.1.1.0));
+      places_bound = (l.places_most, omega (arith, l.pages_most, s.requires.step_lt_pages));
+      step_in_bounds = (omega (arith, size.of_separators, s.requires.step_lt_pages), omega (arith, l.pages_most, s.requires.step_lt_pages, kept.1.1.0));
       places_in_bounds = (omega (arith, inside s, size.of_numbers), omega (arith, inside s, pool.of_numbers, kept.0));
       places_in_bounds_2 = (omega (arith, inside s, size.of_words_lem), omega (arith, inside s, pool.of_words_lem, kept.1.0));
       places_in_bounds_3 = (omega (arith, inside s, size.of_owners), omega (arith, inside s, pool.of_owners));

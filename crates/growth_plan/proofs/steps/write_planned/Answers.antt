@@ -12,7 +12,16 @@ use Rattle.growth_plan.proofs.steps.write_planned.Lts as lts
 use Rattle.growth_plan.proofs.steps.write_planned.Tie as tie
 use Rattle.growth_plan.proofs.steps.write_planned.Reads as reads
 use Rattle.growth_plan.proofs.steps.write_planned.Goals as goal
-use Rattle.growth_plan.proofs.steps.write_planned.Goals.{After-copy_32, After-copy_8, After-fetch, Start}
+use Rattle.growth_plan.proofs.steps.write_planned.Goals.{Start}
+
+abbrev After-fetch : Type 0
+After-fetch = lts.After-fetch tie.the-claims reads.Pre reads.Post
+
+abbrev After-copy_8 : Type 0
+After-copy_8 = lts.After-copy_8 tie.the-claims reads.Pre reads.Post
+
+abbrev After-copy_32 : Type 0
+After-copy_32 = lts.After-copy_32 tie.the-claims reads.Pre reads.Post
 
 abbrev After-slice_known-14-1 : Type 0
 After-slice_known-14-1 = lts.After-slice_known14 tie.the-claims reads.Pre reads.Post

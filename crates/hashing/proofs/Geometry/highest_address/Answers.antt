@@ -11,9 +11,9 @@ fits :
     (c : Start) →
     (1 ≤ page_count c.args.self.parameters c.args.self.growth) × (page_count c.args.self.parameters c.args.self.growth ≤ 1024)
 fits c =
-    let l = limits _ c.requires.0 in
-    let w = growth_within _ _ c.requires.1 in
-    ((spread _ _ l w).pages-low, omega (arith, l.pages-most, w.pages-fit))
+    let l = limits _ c.requires.parameters_value in
+    let w = growth_within _ _ c.requires.growth_value in
+    ((spread _ _ l w).pages_low, omega (arith, l.pages_most, w.pages_fit))
 
 pub overflow_mul-result : goal.overflow_mul-result
 unfolding page_count

@@ -11,7 +11,7 @@ use Rattle.hashing.proofs.address.chosen_last.Goals as goal
 use Rattle.hashing.proofs.address.chosen_last.Goals.{Start}
 
 state : (c : Start) → c.args.geometry.growth.expansions ≤ 32
-state c = (spread _ _ (limits _ c.requires.parameters_value) (growth_within _ _ c.requires.growth_value)).expansions-most
+state c = (spread _ _ (limits _ c.requires.parameters_value) (growth_within _ _ c.requires.growth_value)).expansions_most
 
 pub overflow_mul-i : goal.overflow_mul-i
 overflow_mul-i c = omega (arith, state c.before)

@@ -13,7 +13,7 @@ bounds : (c : Start) → Limits c.args.parameters
 bounds c = limits _ c.requires.parameters_value
 
 some : (c : Start) → 1 ≤ c.args.parameters.width * c.args.parameters.groups
-some c = mul-le-mul {n₁ = 1} {m₁ = 1} (bounds c).width-least (bounds c).groups-least
+some c = mul-le-mul {n₁ = 1} {m₁ = 1} (bounds c).width_least (bounds c).groups_least
 
 pub residue-requires : goal.residue-requires
 residue-requires c =
@@ -21,7 +21,7 @@ residue-requires c =
     (rw s.requires.table_value (first_below (multiplier_of s.args.parameters) 0 (omega arith)), s.requires.key_lt_modulus)
 
 pub overflow_mul-result : goal.overflow_mul-result
-overflow_mul-result c = let l = bounds c.before.before.before.before.before in omega (arith, mul-le-mul l.width-most l.groups-most)
+overflow_mul-result c = let l = bounds c.before.before.before.before.before in omega (arith, mul-le-mul l.width_most l.groups_most)
 
 pub nonzero_rem-result : goal.nonzero_rem-result
 nonzero_rem-result c = some c.before.before.before.before.before
@@ -30,7 +30,7 @@ pub overflow_cast-result : goal.overflow_cast-result
 overflow_cast-result c =
     let start = c.before.before.before.before.before in
     let l = bounds start in
-    omega (arith, mod-lt c.residue.result {m = start.args.parameters.width * start.args.parameters.groups} (some start), l.pages-least, l.pages-most)
+    omega (arith, mod-lt c.residue.result {m = start.args.parameters.width * start.args.parameters.groups} (some start), l.pages_least, l.pages_most)
 
 pub returns : goal.returns
 returns c =

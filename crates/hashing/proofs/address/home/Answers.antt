@@ -9,8 +9,14 @@ use Rattle.hashing.specs.Geometry.{multiplier_of}
 use Rattle.hashing.specs.Home.{after_steps}
 use Rattle.hashing.proofs.Bounds.{Limits, Within, Spread, limits, growth_within, spread}
 use Rattle.hashing.proofs.Codes.{Passed, passed, chosen-rising, home-key}
+use Rattle.hashing.proofs.address.home.Lts as lts
+use Rattle.hashing.proofs.address.home.Tie as tie
+use Rattle.hashing.proofs.address.home.Reads as reads
 use Rattle.hashing.proofs.address.home.Goals as goal
-use Rattle.hashing.proofs.address.home.Goals.{After-first_page-start, After-follow-landing, Start}
+use Rattle.hashing.proofs.address.home.Goals.{After-follow-landing, Start}
+
+abbrev After-first_page-start : Type 0
+After-first_page-start = lts.After-first_page tie.the-claims reads.Pre reads.Post
 
 bounds : (c : Start) → Limits c.args.geometry.parameters
 bounds c = limits _ c.requires.parameters_value
@@ -29,16 +35,16 @@ low c =
     let l = bounds (first c) in
     let p = (first c).args.geometry.parameters in
     let x = scrambled (multiplier_of p) 1 ((first c).args.number % modulus) in
-    let below : x % (p.width * p.groups) < p.width * p.groups = mod-lt x (mul-le-mul {n₁ = 1} {m₁ = 1} l.width-least l.groups-least) in
+    let below : x % (p.width * p.groups) < p.width * p.groups = mod-lt x (mul-le-mul {n₁ = 1} {m₁ = 1} l.width_least l.groups_least) in
     omega (arith, c.first_page-start.ensures)
 
 ends :
     (c : After-follow-landing) →
-    Passed (multiplier_of (first c.before.before).args.geometry.parameters) (first c.before.before).args.geometry.parameters (first c.before.before).args.geometry.growth ((first c.before.before).args.number % modulus) c.follow.result
+    Passed (multiplier_of (first c.before.before).args.geometry.parameters) (first c.before.before).args.geometry.parameters (first c.before.before).args.geometry.growth ((first c.before.before).args.number % modulus) c.follow-landing.result
 unfolding after_steps
 ends c =
     let start = first c.before.before in
-    passed (multiplier_of start.args.geometry.parameters) _ _ (start.args.number % modulus) _ _ _ (bounds start) (within start) (low c.before.before) c.before.before.first-page.ensures c.before.before.before.before.choose.ensures.1.1.0 c.follow.ensures
+    passed (multiplier_of start.args.geometry.parameters) _ _ (start.args.number % modulus) _ _ _ (bounds start) (within start) (low c.before.before) c.first_page-start.ensures c.choose-choice.ensures.steps_after c.follow-landing.ensures
 
 pub choose-choice-requires : goal.choose-choice-requires
 choose-choice-requires c =
@@ -46,7 +52,7 @@ choose-choice-requires c =
     record {
       table_value = start.requires.table_value;
       parameters_value = start.requires.parameters_value;
-      expansions_bound = (state start).expansions-most;
+      expansions_bound = (state start).expansions_most;
       key_lt_modulus = omega arith;
       steps_len = refl;
     }
@@ -67,7 +73,7 @@ follow-landing-requires c =
       parameters_value = start.requires.parameters_value;
       inverse_value = c.inverse_of-inverse.ensures;
       steps_len = chose.1.0;
-      count_bound = omega (arith, chose.0, (state start).expansions-most);
+      count_bound = omega (arith, chose.0, (state start).expansions_most);
       narrow_rising = chosen-rising (multiplier_of start.args.geometry.parameters) _ _ (start.args.number % modulus) 10 _ (bounds start) (within start) (state start).doublings chose.1.1.0;
       start_bound = low c.before;
     }

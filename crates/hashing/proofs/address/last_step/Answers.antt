@@ -21,12 +21,12 @@ narrow c = rw c.requires.last_value (code_narrow _ _ _ (bounds c) (growth_within
 -- the rank that the code tests is that of the page in the last step
 order :
     (c : After-moved-order) →
-    c.moved.result ≡ rank_at c.before.before.before.before.before.args.geometry.parameters c.before.before.before.before.before.args.geometry.growth.expansions (code_page c.before.before.before.before.before.args.geometry.parameters c.before.before.before.before.before.args.landing.code c.before.before.before.before.before.args.landing.order)
+    c.moved-order.result ≡ rank_at c.args.geometry.parameters c.args.geometry.growth.expansions (code_page c.args.geometry.parameters c.args.landing.code c.args.landing.order)
 unfolding rank_at
 order c =
     let start = c.before.before.before.before.before in
-    c.moved.ensures
-    ∙ rw (start.requires.1.1.1.1.1.0, code_count_lem start.args.geometry.parameters start.args.geometry.growth.expansions (bounds start))
+    c.moved-order.ensures
+    ∙ rw (start.requires.last_value, code_count_lem start.args.geometry.parameters start.args.geometry.growth.expansions (bounds start))
 
 pub returns-then-not-chosen_last : goal.returns-then-not-chosen_last
 unfolding step_from

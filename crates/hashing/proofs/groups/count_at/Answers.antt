@@ -7,7 +7,7 @@ use Rattle.hashing.proofs.Bounds.{limits, count_most}
 use Rattle.hashing.proofs.groups.count_at.Goals as goal
 
 pub nonzero_div-result : goal.nonzero_div-result
-nonzero_div-result c = (limits _ c.requires.parameters_value).width-least
+nonzero_div-result c = (limits _ c.requires.parameters_value).width_least
 
 pub returns : goal.returns
 unfolding count_at_lem

@@ -15,7 +15,7 @@ wide : (c : Start) → Spread c.args.geometry.parameters c.args.geometry.growth
 wide c = spread c.args.geometry.parameters c.args.geometry.growth (bounds c) (growth_within c.args.geometry.parameters c.args.geometry.growth c.requires.growth_value)
 
 few : (c : Start) → group_size_lem c.args.geometry.parameters c.args.geometry.growth * group_count_lem c.args.geometry.parameters c.args.geometry.growth ≤ 7 * 1024
-few c = mul-le-mul (wide c).size-high (wide c).count-high
+few c = mul-le-mul (wide c).size_high (wide c).count_high
 
 group-below : (c : After-struct_known-1)
     → (c.args.page % c.group_count-count.result < c.group_count-count.result)
@@ -23,7 +23,7 @@ group-below : (c : After-struct_known-1)
 group-below c =
     let w = wide c.before.before.before.before in
     let l = bounds c.before.before.before.before in
-    rw c.group_count-count.ensures (mod-lt _ (omega (arith, w.count_low, l.groups-least)), w.count-high)
+    rw c.group_count-count.ensures (mod-lt _ (omega (arith, w.count_low, l.groups_least)), w.count_high)
 
 pub overflow_mul-group_size : goal.overflow_mul-group_size
 overflow_mul-group_size c = rw (c.group_size.ensures, c.group_count-count.ensures) (omega (arith, few c.before.before))
@@ -48,7 +48,7 @@ pub rank-requires : goal.rank-requires
 rank-requires c =
     let l = bounds c.before.before.before.before in
     record {
-      le_step = (l.step-least, omega (arith, l));
+      le_step = (l.step_least, omega (arith, l));
       group_lt_count = group-below c;
     }
 

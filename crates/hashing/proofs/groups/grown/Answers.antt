@@ -12,7 +12,7 @@ state : (c : Start) → Spread c.args.geometry.parameters c.args.geometry.growth
 state c = spread _ _ (limits _ c.requires.parameters_value) (growth_within _ _ c.requires.growth_value)
 
 pub overflow_add-next : goal.overflow_add-next
-overflow_add-next c = let start = c.before.before in omega (arith, state start, (growth_within _ _ start.requires.growth_value).expanded-below)
+overflow_add-next c = let start = c.before.before in omega (arith, state start, (growth_within _ _ start.requires.growth_value).expanded_below)
 
 pub overflow_add-result : goal.overflow_add-result
 overflow_add-result c = let start = c.before.before.before.before in omega (arith, state start)

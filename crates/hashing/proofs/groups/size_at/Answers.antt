@@ -6,7 +6,7 @@ use Rattle.hashing.proofs.Bounds.{limits, size-most}
 use Rattle.hashing.proofs.groups.size_at.Goals as goal
 
 pub nonzero_rem-result : goal.nonzero_rem-result
-nonzero_rem-result c = (limits _ c.requires).width-least
+nonzero_rem-result c = (limits _ c.requires).width_least
 
 pub overflow_add-result : goal.overflow_add-result
 unfolding size_at

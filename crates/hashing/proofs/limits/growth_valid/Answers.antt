@@ -22,7 +22,7 @@ product c =
     mul-le-mul few (counted c.before.before.before)
 
 pub nonzero_div-expansions : goal.nonzero_div-expansions
-nonzero_div-expansions c = (limits _ c.requires).width-least
+nonzero_div-expansions c = (limits _ c.requires).width_least
 
 pub returns-then-expansions-parameters-gt10 : goal.returns-then-expansions-parameters-gt10
 returns-then-expansions-parameters-gt10 c =

@@ -21,16 +21,16 @@ ok3 c = passed _ _ c.within-3.ensures c.if-not-within-3.false
 
 ok4 :
     (c : Else-not-within-4) →
-    within 1 c.before.before.before.before.before.before.before.before.args.parameters.step c.before.before.before.before.before.before.before.before.args.parameters.groups ≡ true
-ok4 c = passed _ _ c.before.within4.ensures c.if4.false
+    within 1 c.args.parameters.step c.args.parameters.groups ≡ true
+ok4 c = passed _ _ c.within-4.ensures c.if-not-within-4.false
 
 ok5 : (c : Else-not-within-5) → within 1 c.args.parameters.bits 8 ≡ true
 ok5 c = passed _ _ c.within-5.ensures c.if-not-within-5.false
 
 ok6 :
     (c : Else-not-within-6) →
-    within 1 c.before.before.before.before.before.before.before.before.before.before.before.before.args.parameters.load 99 ≡ true
-ok6 c = passed _ _ c.before.within6.ensures c.if6.false
+    within 1 c.args.parameters.load 99 ≡ true
+ok6 c = passed _ _ c.within-6.ensures c.if-not-within-6.false
 
 ok7 : (c : Else-not-within-7) → let p = c.args.parameters in within (p.width * p.groups) p.pages 1024 ≡ true
 ok7 c = passed _ _ c.within-7.ensures c.if-not-within-7.false

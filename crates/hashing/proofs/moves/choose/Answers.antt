@@ -30,24 +30,24 @@ few c = omega (arith, c.requires.expansions_bound)
 -- the code's test is that of the step
 test :
     (c : After-chosen-taken) →
-    chosen (multiplier_of c.before.before.before.before.before.args.parameters) c.before.before.before.before.before.args.parameters c.before.before.before.before.before.args.key c.before.before.before.loop.i ≡ c.chosen.result
+    chosen (multiplier_of c.args.parameters) c.args.parameters c.args.key c.loop-i.i ≡ c.chosen-taken.result
 unfolding chosen
 test c =
-    let start = c.before.before.before.before.before in
-    let i = c.before.before.before.loop.i in
-    rw (c.chosen.ensures, start.requires.0, times_step (multiplier_of start.args.parameters) i start.args.key (few c.before), c.before.before.before.loop.invariant.1.1.1.0, code_size start.args.parameters i (limits _ start.requires.1.0))
+    let start = c.before.before.before.before.before.before.before in
+    let i = c.loop-i.i in
+    rw (c.chosen-taken.ensures, start.requires.table_value, times_step (multiplier_of start.args.parameters) i start.args.key (few c.before), c.loop-i.invariant.1.1.1.0, code_size start.args.parameters i (limits _ start.requires.parameters_value))
 
 -- what the next turn starts with, whatever its count
 again :
-    (c : After-next_code-code) (n : ℕ) → n ≤ c.before.before.before.before.loop.i + 1 →
-    take n (set c.before.before.before.before.loop.steps c.before.before.before.before.loop.count (code_at c.before.before.before.before.before.before.args.parameters c.before.before.before.before.loop.i)) ≡ moves (multiplier_of c.before.before.before.before.before.before.args.parameters) c.before.before.before.before.before.before.args.parameters c.before.before.before.before.before.before.args.key (c.before.before.before.before.loop.i + 1) →
-    invariant-loop c.before.before.before.before.before.before.args.table.now c.before.before.before.before.before.before.args.parameters c.before.before.before.before.before.before.args.expansions c.before.before.before.before.before.before.args.key c.before.before.before.before.before.before.args.steps.now 0 c.before.before.before.before.before.before.args.parameters.width 0 (set c.before.before.before.before.loop.steps c.before.before.before.before.loop.count c.before.before.before.before.loop.code) n c.next-code.result (c.before.before.before.before.loop.i + 1)
+    (c : After-next_code-code) (n : ℕ) → n ≤ c.loop-i.i + 1 →
+    take n (set c.loop-i.steps c.loop-i.count (code_at c.args.parameters c.loop-i.i)) ≡ moves (multiplier_of c.args.parameters) c.args.parameters c.args.key (c.loop-i.i + 1) →
+    invariant-loop c.args.table.now c.args.parameters c.args.expansions c.args.key c.args.steps.now 0 c.args.parameters.width 0 (set c.loop-i.steps c.loop-i.count c.loop-i.code) n c.next_code-code.result (c.loop-i.i + 1)
 again c n h e =
-    let inv = c.before.before.before.before.loop.invariant in
-    (omega arith, (h, (simp length-set inv.1.1.0, (c.next-code.ensures, rw inv.1.1.1.0 e))))
+    let inv = c.loop-i.invariant in
+    (omega arith, (h, (simp length-set inv.1.1.0, (c.next_code-code.ensures, rw inv.1.1.1.0 e))))
 
 pub overflow_cast-code : goal.overflow_cast-code
-overflow_cast-code c = omega (arith, (limits _ c.requires.parameters_value).width-most)
+overflow_cast-code c = omega (arith, (limits _ c.requires.parameters_value).width_most)
 
 pub loop-i-init : goal.loop-i-init
 unfolding moves
@@ -99,8 +99,8 @@ pub loop-i-preserved-then-taken : goal.loop-i-preserved-then-taken
 loop-i-preserved-then-taken c =
     let start = c.before.before.before.before.before.before.before.before.before.before in
     let turn = c.loop-i in
-    again c.before (turn.count + 1) (omega arith)
-    (moves-taken (multiplier_of start.args.parameters) start.args.parameters start.args.key turn.i turn.count turn.steps (test c.before.before ∙ c.if-taken.true) (omega (arith, turn.invariant.1.1.0, start.requires.expansions_bound)) turn.invariant.1.1.1.1)
+    again c.before.before (turn.count + 1) (omega arith)
+    (moves-taken (multiplier_of start.args.parameters) start.args.parameters start.args.key turn.i turn.count turn.steps (test c.before.before.before ∙ c.if-taken.true) (omega (arith, turn.invariant.1.1.0, start.requires.expansions_bound)) turn.invariant.1.1.1.1)
 
 pub loop-i-smaller : goal.loop-i-smaller
 loop-i-smaller c = omega arith
@@ -109,8 +109,8 @@ pub loop-i-preserved : goal.loop-i-preserved
 loop-i-preserved c =
     let start = c.before.before.before.before.before.before.before.before.before.before in
     let turn = c.loop-i in
-    again c.before turn.count (omega arith)
-    (moves-passed (multiplier_of start.args.parameters) start.args.parameters start.args.key turn.i turn.count turn.steps (test c.before.before ∙ c.if-taken.false) turn.invariant.1.1.1.1)
+    again c.before.before turn.count (omega arith)
+    (moves-passed (multiplier_of start.args.parameters) start.args.parameters start.args.key turn.i turn.count turn.steps (test c.before.before.before ∙ c.if-taken.false) turn.invariant.1.1.1.1)
 
 pub returns : goal.returns
 returns c =

@@ -8,13 +8,13 @@ use Rattle.hashing.proofs.Bounds.{limits, few-doublings}
 use Rattle.hashing.proofs.moves.count_of.Goals as goal
 
 pub overflow_cast-result : goal.overflow_cast-result
-overflow_cast-result c = omega (arith, (limits _ c.requires.parameters_value).groups-most)
+overflow_cast-result c = omega (arith, (limits _ c.requires.parameters_value).groups_most)
 
 pub overflow_shl-result : goal.overflow_shl-result
 unfolding code_count
 overflow_shl-result c =
     let start = c.before in
-    let few : start.args.code / 8 ≤ 10 = few-doublings start.args.parameters.groups (start.args.code / 8) (limits _ start.requires.parameters_value).groups-least start.requires.code_bound in
+    let few : start.args.code / 8 ≤ 10 = few-doublings start.args.parameters.groups (start.args.code / 8) (limits _ start.requires.parameters_value).groups_least start.requires.code_bound in
     search rules
 
 pub returns : goal.returns

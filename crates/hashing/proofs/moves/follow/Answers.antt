@@ -18,13 +18,13 @@ counted : (c : Start) → length (take c.args.count c.args.steps.now) ≡ c.args
 counted c = length-take-le c.args.count c.args.steps.now (omega (arith, c.requires.steps_len, c.requires.count_bound))
 
 pub overflow_cast-groups : goal.overflow_cast-groups
-overflow_cast-groups c = omega (arith, (bounds c.before).groups-most)
+overflow_cast-groups c = omega (arith, (bounds c.before).groups_most)
 
 pub nonzero_div-code : goal.nonzero_div-code
-nonzero_div-code c = (bounds c.before).groups-least
+nonzero_div-code c = (bounds c.before).groups_least
 
 pub nonzero_rem-order : goal.nonzero_rem-order
-nonzero_rem-order c = (bounds c.before).groups-least
+nonzero_rem-order c = (bounds c.before).groups_least
 
 pub loop-j-init : goal.loop-j-init
 loop-j-init c =

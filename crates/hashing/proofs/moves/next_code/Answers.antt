@@ -13,16 +13,16 @@ low : (c : Start) → c.args.code ≤ 271
 low c = rw c.requires.code_value (code_most c.args.parameters c.args.i (limits _ c.requires.parameters_value) (omega (arith, c.requires.i_bound)))
 
 pub overflow_cast-width : goal.overflow_cast-width
-overflow_cast-width c = omega (arith, (limits _ c.requires.parameters_value).width-most)
+overflow_cast-width c = omega (arith, (limits _ c.requires.parameters_value).width_most)
 
 pub overflow_mul-width : goal.overflow_mul-width
-overflow_mul-width c = omega (arith, (limits _ c.requires.parameters_value).width-most)
+overflow_mul-width c = omega (arith, (limits _ c.requires.parameters_value).width_most)
 
 pub overflow_add-result : goal.overflow_add-result
 overflow_add-result c = omega (arith, low c.before.before)
 
 pub overflow_sub-result : goal.overflow_sub-result
-overflow_sub-result c = omega (arith, (limits _ c.requires.parameters_value).width-most)
+overflow_sub-result c = omega (arith, (limits _ c.requires.parameters_value).width_most)
 
 pub returns-then-size-width : goal.returns-then-size-width
 returns-then-size-width c =

@@ -14,17 +14,17 @@ use Rattle.hashing.proofs.moves.regrouped.Goals.{After-count_of, Start}
 
 few : (c : Start) → c.args.next / 8 ≤ 10
 unfolding code_count
-few c = few-doublings c.args.parameters.groups (c.args.next / 8) (limits _ c.requires.parameters_value).groups-least c.requires.code_bound.1
+few c = few-doublings c.args.parameters.groups (c.args.next / 8) (limits _ c.requires.parameters_value).groups_least c.requires.code_bound.1
 
 power : (c : Start) → 1 * 2 ^ (c.args.next / 8 - c.args.code / 8) % 65536 ≡ 2 ^ (c.args.next / 8 - c.args.code / 8)
 power c = shifted (c.args.next / 8 - c.args.code / 8) 16 (omega (arith, few c))
 
 product :
     (c : After-count_of) →
-    c.before.args.code % 8 % (1 * 2 ^ (c.before.args.next / 8 - c.before.args.code / 8) % 65536) * c.count_of.result ≤ 1024
+    c.args.code % 8 % (1 * 2 ^ (c.args.next / 8 - c.args.code / 8) % 65536) * c.count_of.result ≤ 1024
 product c =
     let start = c.before in
-    rw c.count_of.ensures (le_trans (mul-le-mul_right (code_count start.args.parameters start.args.code) (mod-le (start.args.code % 8) _)) start.requires.1.0.1.1)
+    rw c.count_of.ensures (le_trans (mul-le-mul_right (code_count start.args.parameters start.args.code) (mod-le (start.args.code % 8) _)) start.requires.landed.1.1)
 
 pub overflow_shl-rest : goal.overflow_shl-rest
 overflow_shl-rest c = let low = few c in search rules

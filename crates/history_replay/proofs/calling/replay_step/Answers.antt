@@ -6,7 +6,9 @@ use Rattle.history_replay.proofs.calling.replay_step.Lts as lts
 use Rattle.history_replay.proofs.calling.replay_step.Tie as tie
 use Rattle.history_replay.proofs.calling.replay_step.Reads as reads
 use Rattle.history_replay.proofs.calling.replay_step.Goals as goal
-use Rattle.history_replay.proofs.calling.replay_step.Goals.{After-run_call-stepped}
+
+abbrev After-run_call-stepped : Type 0
+After-run_call-stepped = lts.After-run_call tie.the-claims reads.Pre reads.Post
 
 abbrev After-result-1 : Type 0
 After-result-1 = lts.After-result tie.the-claims reads.Pre reads.Post

@@ -12,7 +12,13 @@ use Rattle.history_replay.proofs.replaying.replay.Lts as lts
 use Rattle.history_replay.proofs.replaying.replay.Tie as tie
 use Rattle.history_replay.proofs.replaying.replay.Reads as reads
 use Rattle.history_replay.proofs.replaying.replay.Goals as goal
-use Rattle.history_replay.proofs.replaying.replay.Goals.{After-make-made, After-run, Start}
+use Rattle.history_replay.proofs.replaying.replay.Goals.{Start}
+
+abbrev After-make-made : Type 0
+After-make-made = lts.After-make tie.the-claims reads.Pre reads.Post
+
+abbrev After-run : Type 0
+After-run = lts.After-run tie.the-claims reads.Pre reads.Post
 
 abbrev After-slice_known-in-On-8-1 : Type 0
 After-slice_known-in-On-8-1 = lts.After-slice_known20 tie.the-claims reads.Pre reads.Post

@@ -10,7 +10,10 @@ use Rattle.history_replay.proofs.replaying.resume.Lts as lts
 use Rattle.history_replay.proofs.replaying.resume.Tie as tie
 use Rattle.history_replay.proofs.replaying.resume.Reads as reads
 use Rattle.history_replay.proofs.replaying.resume.Goals as goal
-use Rattle.history_replay.proofs.replaying.resume.Goals.{After-run-last, Start}
+use Rattle.history_replay.proofs.replaying.resume.Goals.{Start}
+
+abbrev After-run-last : Type 0
+After-run-last = lts.After-run tie.the-claims reads.Pre reads.Post
 
 abbrev After-slice_known-16-1 : Type 0
 After-slice_known-16-1 = lts.After-slice_known16 tie.the-claims reads.Pre reads.Post

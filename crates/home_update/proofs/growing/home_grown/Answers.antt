@@ -35,7 +35,7 @@ state c = growth_within _ _ c.requires.growth_value
 regrown :
     (c : Start) →
     home (multiplier_of c.args.geometry.parameters) c.args.geometry.parameters (grown c.args.geometry.parameters c.args.geometry.growth) c.args.number ≡ cond (leb (span c) c.args.old) c.args.old (cond (chosen (multiplier_of c.args.geometry.parameters) c.args.geometry.parameters c.args.number c.args.geometry.growth.expansions && eqb (order c) (expanded c)) (span c + expanded c) c.args.old)
-regrown c = home-regrown (multiplier_of c.args.geometry.parameters) _ _ _ _ c.requires.1.0 c.requires.1.1.0 c.requires.1.1.1
+regrown c = home-regrown (multiplier_of c.args.geometry.parameters) _ _ _ _ c.requires.parameters_value c.requires.growth_value c.requires.value
 
 first : (c : After-page_of-first) → c.page_of-first.result ≡ span c.before.before.before.before
 unfolding code_page
@@ -53,20 +53,20 @@ lower c = lt-leb (span c.before.before.before.before.before) c.args.old (omega (
 -- the code's test is that of the last step
 test :
     (c : After-chosen_last) →
-    chosen (multiplier_of c.before.before.before.before.before.args.geometry.parameters) c.before.before.before.before.before.args.geometry.parameters c.before.before.before.before.before.args.number c.before.before.before.before.before.args.geometry.growth.expansions ≡ c.Chosen-last.result
+    chosen (multiplier_of c.args.geometry.parameters) c.args.geometry.parameters c.args.number c.args.geometry.growth.expansions ≡ c.chosen_last.result
 test c =
-    let start = c.before.before.before.before.before in
-    sym (c.Chosen-last.ensures ∙ chosen-key (multiplier_of start.args.geometry.parameters) start.args.geometry.parameters start.args.number start.args.geometry.growth.expansions)
+    let start = c.before.before.before.before.before.before in
+    sym (c.chosen_last.ensures ∙ chosen-key (multiplier_of start.args.geometry.parameters) start.args.geometry.parameters start.args.number start.args.geometry.growth.expansions)
 
 pub overflow_cast-page : goal.overflow_cast-page
 overflow_cast-page c =
     let start = c.before in
-    omega (arith, start.requires.value, home-pages (multiplier_of start.args.geometry.parameters) _ _ start.args.number start.requires.parameters_value start.requires.growth_value, (bounds start).pages-most)
+    omega (arith, start.requires.value, home-pages (multiplier_of start.args.geometry.parameters) _ _ start.args.number start.requires.parameters_value start.requires.growth_value, (bounds start).pages_most)
 
 pub overflow_cast-expanded : goal.overflow_cast-expanded
 overflow_cast-expanded c =
     let start = c.before.before in
-    omega (arith, (state start).expanded-below, (spread _ _ (bounds start) (state start)).count-high)
+    omega (arith, (state start).expanded_below, (spread _ _ (bounds start) (state start)).count_high)
 
 pub page_of-first-requires : goal.page_of-first-requires
 page_of-first-requires c =
@@ -96,14 +96,14 @@ chosen_last-requires c =
 
 pub returns-then-not-chosen_last : goal.returns-then-not-chosen_last
 returns-then-not-chosen_last c =
-    let start = c.before.before.before.before.before.before in
+    let start = c.before.before.before.before.before.before.before in
     rw (regrown start, lower c.before.before, test c.before, not-true c.chosen_last.result c.if-not-chosen_last.true)
 
 pub overflow_add-result : goal.overflow_add-result
 unfolding page_count
 overflow_add-result c =
     let start = c.before.before.before.before.before.before.before.before.before in
-    omega (arith, first c.before.before.before.before.before, (bounds start).pages-most, (state start).pages-fit)
+    omega (arith, first c.before.before.before.before.before, (bounds start).pages_most, (state start).pages_fit)
 
 pub returns-then-last_rank-expanded : goal.returns-then-last_rank-expanded
 returns-then-last_rank-expanded c =

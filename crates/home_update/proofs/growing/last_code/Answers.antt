@@ -17,16 +17,16 @@ most c =
     let e = c.args.geometry.growth.expansions in
     let w = c.args.geometry.parameters.width in
     let s = spread _ _ (bounds c) (growth_within _ _ c.requires.growth_value) in
-    (omega (arith, div-le_self e w, s.expansions-most), omega (arith, mod-lt e {m = w} (bounds c).width-least, (bounds c).width-most))
+    (omega (arith, div-le_self e w, s.expansions_most), omega (arith, mod-lt e {m = w} (bounds c).width_least, (bounds c).width_most))
 
 pub nonzero_div-result : goal.nonzero_div-result
-nonzero_div-result c = (bounds (c)).width-least
+nonzero_div-result c = (bounds (c)).width_least
 
 pub overflow_mul-result : goal.overflow_mul-result
 overflow_mul-result c = omega (arith, most (c))
 
 pub nonzero_rem-result : goal.nonzero_rem-result
-nonzero_rem-result c = (bounds (c)).width-least
+nonzero_rem-result c = (bounds (c)).width_least
 
 pub overflow_add-result : goal.overflow_add-result
 overflow_add-result c = omega (arith, most (c))

@@ -7,8 +7,14 @@ use borrow.Author.Rules.{rules}
 use Rattle.homes.specs.Lanes.{Under}
 use Rattle.homes.proofs.Prepared.{most-below}
 use Rattle.homes.proofs.Steps.{stepped-lanes, orders_under}
+use Rattle.homes.proofs.blocks.step.Lts as lts
+use Rattle.homes.proofs.blocks.step.Tie as tie
+use Rattle.homes.proofs.blocks.step.Reads as reads
 use Rattle.homes.proofs.blocks.step.Goals as goal
-use Rattle.homes.proofs.blocks.step.Goals.{After-ranks, Start}
+use Rattle.homes.proofs.blocks.step.Goals.{Start}
+
+abbrev After-ranks : Type 0
+After-ranks = lts.After-ranks tie.the-claims reads.Pre reads.Post
 
 first-most : (c : Start) → c.args.stage.size * c.args.stage.count ≤ 7 * 1024
 first-most c = mul-le-mul c.requires.rankable.size-most c.requires.rankable.count_most

@@ -24,7 +24,7 @@ factor_eq c = test-factor c.args.geometry.parameters c.args.geometry.growth c.ar
 pages-are :
     (c : Start) →
     c.args.pages.now ≡ pages_after_lem (multiplier_of c.args.geometry.parameters) c.args.geometry.parameters c.args.geometry.growth c.args.keys.now c.args.i
-pages-are c = c.requires.1.1.1.1.1.1.1
+pages-are c = c.requires.pages_value
 
 pub regroup-requires : goal.regroup-requires
 regroup-requires c =
@@ -33,7 +33,7 @@ regroup-requires c =
     let g = s.args.geometry.growth in
     let e = s.requires.sweep_value.1 in
     let count = stage_count p s.args.i s.args.stage e in record {
-      width_bound = ((bounds s).width-most, (rw count (state s).count_low, rw count (state s).count-high));
+      width_bound = ((bounds s).width_most, (rw count (state s).count_low, rw count (state s).count_high));
       under = pages-under (multiplier_of p) p g s.args.keys.now s.args.i s.args.stage s.args.pages.now e (pages-are s) (bounds s);
       groups_len = s.requires.keys.1;
       groups_value = groups-known (multiplier_of p) p g s.args.keys.now s.args.i s.args.stage s.args.pages.now e (pages-are s)

@@ -25,7 +25,7 @@ factor_eq : (c : Start) → get_or c.args.powers.now 0 0 ≡ power (multiplier_o
 factor_eq c = rw c.requires.powers_value (first-factor (multiplier_of c.args.geometry.parameters))
 
 span-most : (c : Start) → c.args.geometry.parameters.width * c.args.geometry.parameters.groups ≤ 1024
-span-most c = let l = bounds c in omega (arith, l.pages-least, l.pages-most)
+span-most c = let l = bounds c in omega (arith, l.pages_least, l.pages_most)
 
 pub overflow_mul-span : goal.overflow_mul-span
 overflow_mul-span c = omega (arith, span-most c.before)
@@ -38,7 +38,7 @@ prepare-requires c =
     let s = c.before.before.before.before.before.before in
     let l = bounds s in record {
       factor_lt_modulus = rw (factor_eq s) (power_below (multiplier_of s.args.geometry.parameters) 1);
-      le_span = (omega (arith, mul-le-mul l.width-least l.groups-least), span-most s);
+      le_span = (omega (arith, mul-le-mul l.width_least l.groups_least), span-most s);
       places_bound = s.requires.places_bound;
       keys_len = (refl, s.requires.numbers_len.1);
     }

@@ -10,8 +10,14 @@ use Rattle.generator.specs.Generator.{modulus}
 use Rattle.homes.specs.Lanes.{block_at, Blocks, keys_at, KeysOf}
 use Rattle.homes.specs.Indexed.{lanes}
 use Rattle.homes.proofs.Lists.{lanes-length, blocks_more}
+use Rattle.homes.proofs.page.prepare.Lts as lts
+use Rattle.homes.proofs.page.prepare.Tie as tie
+use Rattle.homes.proofs.page.prepare.Reads as reads
 use Rattle.homes.proofs.page.prepare.Goals as goal
-use Rattle.homes.proofs.page.prepare.Goals.{After-starts, In-loop-at, Start}
+use Rattle.homes.proofs.page.prepare.Goals.{In-loop-at, Start}
+
+abbrev After-starts : Type 0
+After-starts = lts.After-starts tie.the-claims reads.Pre reads.Post goal.the-invariant-loop-at goal.the-decreases-loop-at
 
 -- the pages of a block before the first step
 abbrev started : ℕ → ℕ → List ℕ → ℕ → List ℕ

@@ -23,10 +23,10 @@ state c =
     steady s.args.geometry.parameters s.args.geometry.growth c.loop-i.i s.requires.parameters_value s.requires.growth_value c.loop-i-test.true
 
 pub overflow_cast-geometry : goal.overflow_cast-geometry
-overflow_cast-geometry c = let l = bounds c.before in omega (arith, l.step-most, l.groups-most)
+overflow_cast-geometry c = let l = bounds c.before in omega (arith, l.step_most, l.groups_most)
 
 pub sweep_by-sweep-requires : goal.sweep_by-sweep-requires
-sweep_by-sweep-requires c = (bounds c.before).step-least
+sweep_by-sweep-requires c = (bounds c.before).step_least
 
 pub first_stage-stage-requires : goal.first_stage-stage-requires
 first_stage-stage-requires c = c.requires.parameters_value
@@ -228,11 +228,11 @@ next_stage-stage-requires c =
     record {
       parameters_value = (start turn).requires.parameters_value;
       stage_value = turn.loop-i.invariant.1.0;
-      i_bound = (state turn).count-high;
+      i_bound = (state turn).count_high;
     }
 
 pub overflow_add-i : goal.overflow_add-i
-overflow_add-i c = omega (arith, (state c.before.before.before.before.before.before.before).index-high)
+overflow_add-i c = omega (arith, (state c.before.before.before.before.before.before.before).index_high)
 
 pub loop-i-smaller : goal.loop-i-smaller
 loop-i-smaller c = omega (arith, c.loop-i-test.true)

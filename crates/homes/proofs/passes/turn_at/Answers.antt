@@ -11,8 +11,14 @@ use Rattle.hashing.specs.Geometry.{multiplier_of, count_at_lem}
 use Rattle.homes.specs.Lanes.{block_at, pages_after_lem, groups_after_lem, Grouped}
 use Rattle.homes.proofs.Lists.{part_length}
 use Rattle.homes.proofs.Steps.{pages-length, groups-length}
+use Rattle.homes.proofs.passes.turn_at.Lts as lts
+use Rattle.homes.proofs.passes.turn_at.Tie as tie
+use Rattle.homes.proofs.passes.turn_at.Reads as reads
 use Rattle.homes.proofs.passes.turn_at.Goals as goal
-use Rattle.homes.proofs.passes.turn_at.Goals.{After-block_pages-2-1, After-turn, Start}
+use Rattle.homes.proofs.passes.turn_at.Goals.{After-block_pages-2-1, Start}
+
+abbrev After-turn : Type 0
+After-turn = lts.After-turn tie.the-claims reads.Pre reads.Post
 
 abbrev start : After-block_pages-2-1 → Start
 start c = c.before.before.before.before.before.before.before.before.before

@@ -17,13 +17,13 @@ below :
     t c % c.args.sweep.step * c.args.stage.part + min (t c % c.args.sweep.step) c.args.stage.rest + t c / c.args.sweep.step < c.args.stage.count
 unfolding swept
 below c =
-    rw (c.requires.0.part-is, c.requires.0.rest-is)
-    (swept-below c.args.sweep.step c.args.stage.count (t c) c.requires.0.step-least (omega (arith, c.requires.1)))
+    rw (c.requires.rankable.part-is, c.requires.rankable.rest-is)
+    (swept-below c.args.sweep.step c.args.stage.count (t c) c.requires.rankable.step_least (omega (arith, c.requires.group_lt_count)))
 
 pub divided-turns-requires : goal.divided-turns-requires
 divided-turns-requires c = let r = c.requires.rankable in record {
-  sweep_value = r.sweep-is;
-  le_step = (r.step-least, r.step-most);
+  sweep_value = r.sweep_is;
+  le_step = (r.step_least, r.step_most);
   t_bound = omega (arith, r.count_most, c.requires.group_lt_count);
 }
 

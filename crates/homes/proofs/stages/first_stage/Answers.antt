@@ -12,22 +12,22 @@ bounds : (c : Start) → Limits c.args.parameters
 bounds c = limits _ c.requires
 
 pub overflow_cast-result : goal.overflow_cast-result
-overflow_cast-result c = omega (arith, (bounds c.before).width-most)
+overflow_cast-result c = omega (arith, (bounds c.before).width_most)
 
 pub overflow_cast-result-2 : goal.overflow_cast-result-2
-overflow_cast-result-2 c = omega (arith, (bounds c.before.before).groups-most)
+overflow_cast-result-2 c = omega (arith, (bounds c.before.before).groups_most)
 
 pub nonzero_div-result : goal.nonzero_div-result
-nonzero_div-result c = omega (arith, (bounds c.before.before.before).step-least)
+nonzero_div-result c = omega (arith, (bounds c.before.before.before).step_least)
 
 pub overflow_cast-result-3 : goal.overflow_cast-result-3
-overflow_cast-result-3 c = let s = c.before.before.before in omega (arith, (bounds s).groups-most, div-le_self s.args.parameters.groups s.args.parameters.step)
+overflow_cast-result-3 c = let s = c.before.before.before in omega (arith, (bounds s).groups_most, div-le_self s.args.parameters.groups s.args.parameters.step)
 
 pub nonzero_rem-result : goal.nonzero_rem-result
-nonzero_rem-result c = omega (arith, (bounds c.before.before.before.before).step-least)
+nonzero_rem-result c = omega (arith, (bounds c.before.before.before.before).step_least)
 
 pub overflow_cast-result-4 : goal.overflow_cast-result-4
-overflow_cast-result-4 c = let s = c.before.before.before.before in omega (arith, (bounds s).groups-most, mod-le s.args.parameters.groups s.args.parameters.step)
+overflow_cast-result-4 c = let s = c.before.before.before.before in omega (arith, (bounds s).groups_most, mod-le s.args.parameters.groups s.args.parameters.step)
 
 pub returns : goal.returns
 unfolding stage_at

@@ -13,19 +13,19 @@ bounds : (c : Start) → Limits c.args.parameters
 bounds c = limits _ c.requires.parameters_value
 
 pub overflow_cast-width : goal.overflow_cast-width
-overflow_cast-width c = omega (arith, (bounds c.before).width-most)
+overflow_cast-width c = omega (arith, (bounds c.before).width_most)
 
 pub overflow_add-size : goal.overflow_add-size
 overflow_add-size c = let s = c.before.before in omega (arith, stage_size _ _ _ s.requires.stage_value, size-most s.args.parameters s.args.i (bounds s))
 
 pub overflow_mul-width : goal.overflow_mul-width
-overflow_mul-width c = omega (arith, (bounds c.before.before).width-most)
+overflow_mul-width c = omega (arith, (bounds c.before.before).width_most)
 
 pub returns-then-size-width : goal.returns-then-size-width
 returns-then-size-width c = let s = c.before.before.before in stage_grown s.args.parameters s.args.i s.args.stage (bounds s) s.requires.stage_value c.if-size-width.true
 
 pub overflow_cast-parameters : goal.overflow_cast-parameters
-overflow_cast-parameters c = let l = bounds c.before.before.before.before in omega (arith, l.step-most, l.groups-most)
+overflow_cast-parameters c = let l = bounds c.before.before.before.before in omega (arith, l.step_most, l.groups_most)
 
 pub doubled-requires : goal.doubled-requires
 unfolding stage_at
@@ -34,7 +34,7 @@ doubled-requires c =
     let l = bounds s in
     let e = s.requires.stage_value in
     let count = stage_count s.args.parameters s.args.i s.args.stage e in record {
-      le_step = (l.step-least, le_trans l.step-most l.groups-most);
+      le_step = (l.step_least, le_trans l.step_most l.groups_most);
       count_bound = (rw count s.requires.i_bound, (rw count (ap (λ (x : Stage). x.part) e), rw count (ap (λ (x : Stage). x.rest) e)));
     }
 

@@ -15,15 +15,15 @@ state : (c : Start) → Steady c.args.geometry.parameters c.args.i
 state c = steady _ _ _ c.requires.parameters_value c.requires.growth_value c.requires.i_le_expansions
 
 factor_eq : (c : Start) → get_or c.args.powers.now (2 * c.args.i + 1) 0 ≡ power (multiplier_of c.args.geometry.parameters) (2 * suc c.args.i)
-factor_eq c = rw c.requires.powers_value (factor_is (multiplier_of c.args.geometry.parameters) c.args.i (state c).index-high)
+factor_eq c = rw c.requires.powers_value (factor_is (multiplier_of c.args.geometry.parameters) c.args.i (state c).index_high)
 
 pub bounds-powers-i : goal.bounds-powers-i
-bounds-powers-i c = omega (arith, (state c.before.before).index-high)
+bounds-powers-i c = omega (arith, (state c.before.before).index_high)
 
 pub most_chosen-requires : goal.most_chosen-requires
 most_chosen-requires c =
     let s = c.before.before.before in
-    rw (stage_size s.args.geometry.parameters s.args.i s.args.stage s.requires.stage_value) ((state s).size_low, (state s).size-high)
+    rw (stage_size s.args.geometry.parameters s.args.i s.args.stage s.requires.stage_value) ((state s).size_low, (state s).size_high)
 
 pub limit-requires : goal.limit-requires
 limit-requires c =

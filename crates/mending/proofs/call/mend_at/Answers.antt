@@ -15,7 +15,13 @@ use Rattle.mending.proofs.call.mend_at.Lts as lts
 use Rattle.mending.proofs.call.mend_at.Tie as tie
 use Rattle.mending.proofs.call.mend_at.Reads as reads
 use Rattle.mending.proofs.call.mend_at.Goals as goal
-use Rattle.mending.proofs.call.mend_at.Goals.{After-clear, After-mend_file-answer, In_default, Start}
+use Rattle.mending.proofs.call.mend_at.Goals.{After-mend_file-answer, Start}
+
+abbrev In_default : Type 0
+In_default = lts.After-enum_told tie.the-claims reads.Pre reads.Post
+
+abbrev After-clear : Type 0
+After-clear = lts.After-clear tie.the-claims reads.Pre reads.Post
 
 abbrev After-slice_known-17-1 : Type 0
 After-slice_known-17-1 = lts.After-slice_known17 tie.the-claims reads.Pre reads.Post

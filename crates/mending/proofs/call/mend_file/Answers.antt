@@ -19,10 +19,16 @@ use Rattle.mending.proofs.call.mend_file.Lts as lts
 use Rattle.mending.proofs.call.mend_file.Tie as tie
 use Rattle.mending.proofs.call.mend_file.Reads as reads
 use Rattle.mending.proofs.call.mend_file.Goals as goal
-use Rattle.mending.proofs.call.mend_file.Goals.{After-collect-collected, After-find_homes, After-renew, Start}
+use Rattle.mending.proofs.call.mend_file.Goals.{After-renew, Start}
 
 abbrev Else-not-items_valid : Type 0
 Else-not-items_valid = lts.Else1 tie.the-claims reads.Pre reads.Post
+
+abbrev After-find_homes : Type 0
+After-find_homes = lts.After-find_homes tie.the-claims reads.Pre reads.Post
+
+abbrev After-collect-collected : Type 0
+After-collect-collected = lts.After-collect tie.the-claims reads.Pre reads.Post
 
 abbrev Then-not-collected : Type 0
 Then-not-collected = lts.Then2 tie.the-claims reads.Pre reads.Post
@@ -40,7 +46,7 @@ abbrev pool_of : Start → Pool
 pool_of s = pooled s.args.poolnumbers.now s.args.poolwords.now s.args.poolowners.now
 
 few : (s : Start) → s.args.parameters.pages * s.args.parameters.places ≤ 32768
-few s = let l = limits s.args.parameters s.requires.admitted.homing.valid in omega (arith, mul-le-mul l.pages-most l.places-most)
+few s = let l = limits s.args.parameters s.requires.admitted.homing.valid in omega (arith, mul-le-mul l.pages_most l.places_most)
 
 -- past 15 for an item
 abbrev start : Else-not-items_valid → Start

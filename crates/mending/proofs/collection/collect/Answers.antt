@@ -15,10 +15,22 @@ use Rattle.mending.proofs.collection.collect.Lts as lts
 use Rattle.mending.proofs.collection.collect.Tie as tie
 use Rattle.mending.proofs.collection.collect.Reads as reads
 use Rattle.mending.proofs.collection.collect.Goals as goal
-use Rattle.mending.proofs.collection.collect.Goals.{After-drop_repeated-kept, After-gather-end, After-mark_ends, After-sort_groups, Start}
+use Rattle.mending.proofs.collection.collect.Goals.{Start}
+
+abbrev After-gather-end : Type 0
+After-gather-end = lts.After-gather tie.the-claims reads.Pre reads.Post
+
+abbrev After-sort_groups : Type 0
+After-sort_groups = lts.After-sort_groups tie.the-claims reads.Pre reads.Post
 
 abbrev Then-not-all_agree : Type 0
 Then-not-all_agree = lts.Then1 tie.the-claims reads.Pre reads.Post
+
+abbrev After-drop_repeated-kept : Type 0
+After-drop_repeated-kept = lts.After-drop_repeated tie.the-claims reads.Pre reads.Post
+
+abbrev After-mark_ends : Type 0
+After-mark_ends = lts.After-mark_ends tie.the-claims reads.Pre reads.Post
 
 abbrev After-slice_known-7-1 : Type 0
 After-slice_known-7-1 = lts.After-slice_known7 tie.the-claims reads.Pre reads.Post
@@ -51,11 +63,11 @@ gather-end-requires c =
     let C = s.requires in
     let l = limits s.args.parameters C.valid in
     let whole : (0 + s.args.parameters.pages) * s.args.parameters.places ≡ s.args.parameters.pages * s.args.parameters.places = rw (zero-add s.args.parameters.pages) in record {
-      places_bound = (l.places-most, (C.some, omega (arith, l.pages-most)));
+      places_bound = (l.places_most, (C.some, omega (arith, l.pages_most)));
       places_in_bounds = (omega (arith, whole, C.of_numbers), omega (arith, whole, C.of_homes));
       numbers_value = C.numbered;
       homes_value = C.within;
-      count_in_bounds = (omega (arith, l.pages-most, C.of_ends), omega arith);
+      count_in_bounds = (omega (arith, l.pages_most, C.of_ends), omega arith);
       numbers_in_bounds = stars-fit _ _ _ _ _ C;
     }
 
@@ -84,7 +96,7 @@ returns-then-not-all_agree c =
       alike_is = sym (failed _ _ c.all_agree.ensures c.if-not-all_agree.true) ∙ ap (neighbours_agree _ _) (sorted s);
       inside = omega arith;
       words = λ e. absurd (false≢true e);
-      ends-are = λ e. absurd (false≢true e);
+      ends_are = λ e. absurd (false≢true e);
     }
 
 pub drop_repeated-kept-requires : goal.drop_repeated-kept-requires
@@ -97,7 +109,7 @@ mark_ends-requires c =
     let g = grouping s in
     let e = d.drop_repeated-kept.ensures in record {
       end_in_bounds = (omega (arith, e.0, end-inside s, d.drop_repeated-kept.auto.waiting), (groups g).long);
-      end_bound = (omega (arith, e.0, end-few s), (limits (start g).args.parameters (start g).requires.valid).pages-most);
+      end_bound = (omega (arith, e.0, end-few s), (limits (start g).args.parameters (start g).requires.valid).pages_most);
       waiting_value = rw e.1 (firsts_rise 0 0 _ (rw s.sort_groups.ensures (rises-ordered _)));
     }
 
@@ -119,5 +131,5 @@ returns c =
       alike_is = sym (passed _ _ a.all_agree.ensures a.if-not-all_agree.false) ∙ ap (neighbours_agree _ _) (sorted s);
       inside = omega (arith, d.drop_repeated-kept.ensures.upper_bound, end-inside s, d.drop_repeated-kept.auto.waiting);
       words = λ e. d.drop_repeated-kept.ensures.waiting_after ∙ ap (firsts_after 0) (sorted s);
-      ends-are = λ e. c.mark_ends.ensures;
+      ends_are = λ e. c.mark_ends.ensures;
     }

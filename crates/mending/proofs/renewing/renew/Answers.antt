@@ -10,7 +10,13 @@ use Rattle.mending.proofs.renewing.renew.Lts as lts
 use Rattle.mending.proofs.renewing.renew.Tie as tie
 use Rattle.mending.proofs.renewing.renew.Reads as reads
 use Rattle.mending.proofs.renewing.renew.Goals as goal
-use Rattle.mending.proofs.renewing.renew.Goals.{After-place_all, After-write_back, Start}
+use Rattle.mending.proofs.renewing.renew.Goals.{Start}
+
+abbrev After-place_all : Type 0
+After-place_all = lts.After-place_all tie.the-claims reads.Pre reads.Post
+
+abbrev After-write_back : Type 0
+After-write_back = lts.After-write_back tie.the-claims reads.Pre reads.Post
 
 abbrev After-slice_known-16-1 : Type 0
 After-slice_known-16-1 = lts.After-slice_known16 tie.the-claims reads.Pre reads.Post
@@ -41,7 +47,7 @@ write_back-requires c =
     let z = s.requires.sized in
     let o = s.requires.pooled in
     let e = k.place_all.auto.pool in record {
-      separators_in_bounds = omega (arith, z.of_separators, l.pages-most, k.place_all.auto.planned);
+      separators_in_bounds = omega (arith, z.of_separators, l.pages_most, k.place_all.auto.planned);
       numbers_len = (omega (arith, z.of_numbers, o.of_numbers, e), (omega (arith, z.of_words_lem, o.of_numbers, e), omega (arith, z.of_owners, o.of_numbers, e)));
       waiting_len = (omega (arith, o.of_words_lem, o.of_numbers, e, k.place_all.auto.waiting), omega (arith, o.of_owners, o.of_numbers, e));
     }
@@ -63,6 +69,6 @@ returns c =
       value = done.0;
       owners_value = back.write_back.ensures
           ∙ applied-whole s.args.parameters.places s.args.parameters.pages _ _ _ _ _ _ (omega (arith, s.requires.pooled.of_numbers, k.place_all.auto.pool))
-          (omega (arith, l.pages-most, k.place_all.auto.planned)) s.requires.sized
+          (omega (arith, l.pages_most, k.place_all.auto.planned)) s.requires.sized
           ∙ done.1;
     }

@@ -19,10 +19,13 @@ use Rattle.named_page.proofs.finding.find.Lts as lts
 use Rattle.named_page.proofs.finding.find.Tie as tie
 use Rattle.named_page.proofs.finding.find.Reads as reads
 use Rattle.named_page.proofs.finding.find.Goals as goal
-use Rattle.named_page.proofs.finding.find.Goals.{After-page_sound, Start}
+use Rattle.named_page.proofs.finding.find.Goals.{Start}
 
 abbrev Else-page-geometry : Type 0
 Else-page-geometry = lts.Else1 tie.the-claims reads.Pre reads.Post
+
+abbrev After-page_sound : Type 0
+After-page_sound = lts.After-page_sound tie.the-claims reads.Pre reads.Post
 
 abbrev After-search-found : Type 0
 After-search-found = lts.After-search tie.the-claims reads.Pre reads.Post
@@ -78,7 +81,7 @@ fits-owners c = page-fits _ _ _ (inside c) (begun c).requires.ready.sized.of_own
 
 pub load-value-requires : goal.load-value-requires
 load-value-requires c = record {
-  places_bound = (limits _ (begun c.before).requires.ready.homing.valid).places-most;
+  places_bound = (limits _ (begun c.before).requires.ready.homing.valid).places_most;
   places_in_bounds = fits c.before;
   places_in_bounds_2 = fits-words c.before;
   places_in_bounds_3 = fits-owners c.before;
@@ -113,25 +116,25 @@ returns-then-not-page_sound c =
     record {
       named_as = (rw c.unread-then-not-page_sound.ensures (
         unread-as s.args.geometry.parameters s.args.geometry.growth (file_of s) s.args.number _ _ s.requires.ready.sized s.requires.home_value e.named_from-page.ensures
-            (in_file _ _ _ _ _ (inside e) (sym (told t) ∙ not-true _ c.if-not-page_sound.true)),
+            (in_file _ _ _ _ _ (inside e) (sym (told t) ∙ c.if-not-page_sound.true)),
         record { long = t.page_sound.ensures.long; homed = λ e. absurd (false≢true e) },
       )).0;
       homed_as = (rw c.unread-then-not-page_sound.ensures (
         unread-as s.args.geometry.parameters s.args.geometry.growth (file_of s) s.args.number _ _ s.requires.ready.sized s.requires.home_value e.named_from-page.ensures
-            (in_file _ _ _ _ _ (inside e) (sym (told t) ∙ not-true _ c.if-not-page_sound.true)),
+            (in_file _ _ _ _ _ (inside e) (sym (told t) ∙ c.if-not-page_sound.true)),
         record { long = t.page_sound.ensures.long; homed = λ e. absurd (false≢true e) },
       )).1;
     }
 
 pub search-found-requires : goal.search-found-requires
-search-found-requires c = ((limits _ (begun (entered c.before.before.before)).requires.0.homing.valid).places-most, search (rules, c.load-value.type-inv))
+search-found-requires c = ((limits _ (begun (entered c.before.before.before)).requires.0.homing.valid).places_most, search (rules, c.load-value.type-inv))
 
 -- what the search of the page tells of the lent lists
 abbrev tested : After-search-found → After-page_sound
 tested c = c.before.before.before
 
 abbrev passed : (c : After-search-found) → (tested c).page_sound.result ≡ true
-passed c = not-false _ c.if-not-page_sound.false
+passed c = c.if-not-page_sound.false
 
 sound : (c : After-search-found) → sound_at (begun (entered (tested c))).args.geometry.parameters (begun (entered (tested c))).args.geometry.growth (file_of (begun (entered (tested c)))) (entered (tested c)).before.before.named-from.result ≡ true
 sound c = sym (told (tested c)) ∙ passed c
@@ -147,7 +150,7 @@ place-below c =
     place-most (begun e).args.geometry.parameters (file_of (begun e)) (begun e).args.number _ _ _ (fits e) (tested c).load-value.ensures c.search-found.ensures
 
 pub overflow_cast-place : goal.overflow_cast-place
-overflow_cast-place c = omega (arith, place-below c.before, (limits _ (begun (entered (tested c.before))).requires.0.homing.valid).places-most)
+overflow_cast-place c = omega (arith, place-below c.before, (limits _ (begun (entered (tested c.before))).requires.0.homing.valid).places_most)
 
 pub returns-then-not-found : goal.returns-then-not-found
 returns-then-not-found c =
@@ -157,7 +160,7 @@ returns-then-not-found c =
     let loaded = (tested d).load-value.ensures in record {
       named_as = absent_as s.args.geometry.parameters s.args.geometry.growth (file_of s) s.args.number _ _ s.requires.ready.sized s.requires.home_value e.before.before.named-from.ensures _
           (in_file _ _ _ _ _ (inside e) (sound d))
-          (sym (held-is s.args.geometry.parameters (file_of s) _ _ _ _ (fits e) loaded d.search-found.ensures) ∙ not-true _ c.if-not-found.true)
+          (sym (held-is s.args.geometry.parameters (file_of s) _ _ _ _ (fits e) loaded d.search-found.ensures) ∙ c.if-not-found.true)
           (place_is s.args.geometry.parameters (file_of s) _ _ _ _ (fits e) loaded d.search-found.ensures);
       homed_as = record { long = (tested d).page_sound.ensures.long; homed = λ t. homes d };
     }
@@ -167,7 +170,7 @@ abbrev sought : Else-not-found → After-search-found
 sought c = c.before.before
 
 held : (c : Else-not-found) → (sought c).search-found.result.held ≡ true
-held c = not-false _ c.if-not-found.false
+held c = c.if-not-found.false
 
 within : (c : Else-not-found) → (sought c).search-found.result.at < (begun (entered (tested (sought c)))).args.geometry.parameters.places
 within c =
@@ -175,7 +178,7 @@ within c =
     at-below (begun e).args.geometry.parameters (file_of (begun e)) (begun e).args.number _ _ _ (fits e) (tested (sought c)).before.before.before.before.before.before.load.ensures (sought c).search-found.ensures (held c)
 
 few : (c : Else-not-found) → (begun (entered (tested (sought c)))).args.geometry.parameters.places ≤ 32
-few c = (limits _ (begun (entered (tested (sought c)))).requires.0.homing.valid).places-most
+few c = (limits _ (begun (entered (tested (sought c)))).requires.0.homing.valid).places_most
 
 pub overflow_mul-result : goal.overflow_mul-result
 overflow_mul-result c = let e = entered (tested (sought c.before)) in omega (arith, fits e, items-most _ (begun e).requires.ready.homing.valid, (begun e).requires.ready.sized.of_numbers)

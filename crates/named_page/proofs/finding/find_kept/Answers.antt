@@ -9,8 +9,14 @@ use Rattle.hashing.proofs.Bounds.{limits}
 use Rattle.pages.proofs.Parts.{page-fits}
 use Rattle.calls.proofs.Refusals.{items-most}
 use Rattle.named_page.proofs.Found.{named-inside, named-known}
+use Rattle.named_page.proofs.finding.find_kept.Lts as lts
+use Rattle.named_page.proofs.finding.find_kept.Tie as tie
+use Rattle.named_page.proofs.finding.find_kept.Reads as reads
 use Rattle.named_page.proofs.finding.find_kept.Goals as goal
-use Rattle.named_page.proofs.finding.find_kept.Goals.{Else-not-named, Start}
+use Rattle.named_page.proofs.finding.find_kept.Goals.{Start}
+
+abbrev Else-not-named : Type 0
+Else-not-named = lts.Else1 tie.the-claims reads.Pre reads.Post
 
 pub home-home-requires : goal.home-home-requires
 home-home-requires c = let ready = c.requires.ready.homing in record {
@@ -32,7 +38,7 @@ find-named-requires c =
 pub returns-then-not-named : goal.returns-then-not-named
 returns-then-not-named c = record {
   named_as = c.find-named.ensures.named_as;
-  known = λ e. absurd (false≢true (sym (not-true _ c.if-not-named.true) ∙ e));
+  known = λ e. absurd (false≢true (sym c.if-not-named.true ∙ e));
 }
 
 -- past the test, the page is readable
@@ -40,7 +46,7 @@ abbrev start : Else-not-named → Start
 start c = c.before.before.before.before.before.before.before.before.before.before
 
 opened : (c : Else-not-named) → c.find-named.result.readable ≡ true
-opened c = not-false _ c.if-not-named.false
+opened c = c.if-not-named.false
 
 -- its items lie within the pool
 inside : (c : Else-not-named) {n : ℕ} → n ≡ (start c).args.geometry.parameters.pages * (start c).args.geometry.parameters.places
@@ -60,7 +66,7 @@ copy_32-requires c =
     let e = c.before.before.before.before in
     record {
       in_bounds = inside e (start e).requires.pool_len;
-      in_bounds_2 = omega (arith, (limits _ (start e).requires.ready.homing.valid).places-most, e.find-named.ensures.homed_as.long);
+      in_bounds_2 = omega (arith, (limits _ (start e).requires.ready.homing.valid).places_most, e.find-named.ensures.homed_as.long);
     }
 
 pub returns : goal.returns

@@ -21,10 +21,13 @@ use Rattle.own_stars.proofs.entering.enter_one.Lts as lts
 use Rattle.own_stars.proofs.entering.enter_one.Tie as tie
 use Rattle.own_stars.proofs.entering.enter_one.Reads as reads
 use Rattle.own_stars.proofs.entering.enter_one.Goals as goal
-use Rattle.own_stars.proofs.entering.enter_one.Goals.{After-enter_star, After-search-found, Start}
+use Rattle.own_stars.proofs.entering.enter_one.Goals.{After-enter_star, Start}
 
 abbrev After-named_from-page : Type 0
 After-named_from-page = lts.After-named_from tie.the-claims reads.Pre reads.Post
+
+abbrev After-search-found : Type 0
+After-search-found = lts.After-search tie.the-claims reads.Pre reads.Post
 
 abbrev In-On : Type 0
 In-On = lts.After-enum_told tie.the-claims reads.Pre reads.Post
@@ -57,7 +60,7 @@ abbrev naming : After-search-found → After-named_from-page
 naming c = c.before.before.before.before.before.before.before
 
 pub overflow_add-next : goal.overflow_add-next
-overflow_add-next c = omega (arith, inside c.before, (limits _ (start c.before).requires.ready.homing.valid).pages-most)
+overflow_add-next c = omega (arith, inside c.before, (limits _ (start c.before).requires.ready.homing.valid).pages_most)
 
 pub survey_pages-requires : goal.survey_pages-requires
 survey_pages-requires c =
@@ -76,7 +79,7 @@ load-value-requires c =
     let k = c.before.before.before.before.before in
     let pre = (start k).requires in
     record {
-      places_bound = (limits _ pre.0.homing.valid).places-most;
+      places_bound = (limits _ pre.0.homing.valid).places_most;
       places_in_bounds = fits k pre.0.sized.of_numbers;
       places_in_bounds_2 = fits k pre.0.sized.of_words_lem;
       places_in_bounds_3 = fits k pre.0.sized.of_owners;
@@ -85,14 +88,14 @@ load-value-requires c =
 pub search-found-requires : goal.search-found-requires
 search-found-requires c =
     let k = c.before.before.before.before.before.before.before in
-    ((limits _ (start k).requires.ready.homing.valid).places-most, search (rules, c.load-value.type-inv))
+    ((limits _ (start k).requires.ready.homing.valid).places_most, search (rules, c.load-value.type-inv))
 
 pub overflow_cast-star : goal.overflow_cast-star
 overflow_cast-star c =
     let f = c.before.before in
     let k = naming f in
     let pre = (start k).requires in
-    omega (arith, found-low _ _ _ _ _ _ _ _ f.load-value.ensures f.search-found.ensures (fits k pre.0.sized.of_numbers) (limits _ pre.0.homing.valid).places-most)
+    omega (arith, found-low _ _ _ _ _ _ _ _ f.load-value.ensures f.search-found.ensures (fits k pre.0.sized.of_numbers) (limits _ pre.0.homing.valid).places_most)
 
 pub enter_star-requires : goal.enter_star-requires
 enter_star-requires c =

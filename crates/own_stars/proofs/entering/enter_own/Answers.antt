@@ -54,10 +54,10 @@ pub returns-then-not-enter_place : goal.returns-then-not-enter_place
 returns-then-not-enter_place c =
     let l = c.before.before.before.before.before.before.before.before.before.before.before.before.before.before.before.before.before.before.before.before.before.before.before.before.before in
     let s = start l in
-    rolling_stops _ _ _ _ _ _ _ _ _ _ s.requires.ready.homing.valid s.requires.ready.homing.growth s.requires.entered_below l.loop-i.invariant c.loop-i-test.true _ _ c.enter_place.ensures (not-true _ c.if-not-enter_place.true)
+    rolling_stops _ _ _ _ _ _ _ _ _ _ s.requires.ready.homing.valid s.requires.ready.homing.growth s.requires.entered_below l.loop-i.invariant c.loop-i-test.true _ _ c.enter_place.ensures c.if-not-enter_place.true
 
 pub overflow_add-i : goal.overflow_add-i
-overflow_add-i c = let l = c.before.before.before.before.before.before.before.before.before.before.before.before.before.before.before.before.before.before.before.before.before.before.before.before.before in omega (arith, c.loop-i-test.true, (limits _ (start l).requires.ready.homing.valid).places-most)
+overflow_add-i c = let l = c.before.before.before.before.before.before.before.before.before.before.before.before.before.before.before.before.before.before.before.before.before.before.before.before.before in omega (arith, c.loop-i-test.true, (limits _ (start l).requires.ready.homing.valid).places_most)
 
 pub loop-i-smaller : goal.loop-i-smaller
 loop-i-smaller c = omega (arith, c.loop-i-test.true)
@@ -68,7 +68,7 @@ loop-i-preserved c =
     let s = start l in
     let done = c.enter_place in
     let kept = done.auto.1.1.1.1.1.1 in
-    rolling_next _ _ _ _ _ _ _ _ _ _ s.requires.ready.homing.valid s.requires.ready.homing.growth s.requires.entered_below l.loop-i.invariant c.loop-i-test.true _ _ done.ensures (not-false _ c.if-not-enter_place.false) _ _ _
+    rolling_next _ _ _ _ _ _ _ _ _ _ s.requires.ready.homing.valid s.requires.ready.homing.growth s.requires.entered_below l.loop-i.invariant c.loop-i-test.true _ _ done.ensures c.if-not-enter_place.false _ _ _
     (record { of_numbers = kept.0 ∙ l.loop-i.invariant.pooled.of_numbers; of_words_lem = kept.1.0 ∙ l.loop-i.invariant.pooled.of_words_lem; of_owners = kept.1.1.0 ∙ l.loop-i.invariant.pooled.of_owners })
 
 pub shape_of-separators : goal.shape_of-separators

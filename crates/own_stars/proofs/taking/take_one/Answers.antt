@@ -13,7 +13,10 @@ use Rattle.own_stars.proofs.taking.take_one.Lts as lts
 use Rattle.own_stars.proofs.taking.take_one.Tie as tie
 use Rattle.own_stars.proofs.taking.take_one.Reads as reads
 use Rattle.own_stars.proofs.taking.take_one.Goals as goal
-use Rattle.own_stars.proofs.taking.take_one.Goals.{After-carry_out, After-search-found, Start}
+use Rattle.own_stars.proofs.taking.take_one.Goals.{After-carry_out, Start}
+
+abbrev After-search-found : Type 0
+After-search-found = lts.After-search tie.the-claims reads.Pre reads.Post
 
 abbrev After-slice_known-14-1 : Type 0
 After-slice_known-14-1 = lts.After-slice_known14 tie.the-claims reads.Pre reads.Post
@@ -36,14 +39,14 @@ load-value-requires c =
     let s = c.before.before.before.before.before.before.before.before.before in
     let z = s.requires.ready.sized in
     record {
-      places_bound = (limits _ s.requires.ready.homing.valid).places-most;
+      places_bound = (limits _ s.requires.ready.homing.valid).places_most;
       places_in_bounds = fits s z.of_numbers;
       places_in_bounds_2 = fits s z.of_words_lem;
       places_in_bounds_3 = fits s z.of_owners;
     }
 
 pub search-found-requires : goal.search-found-requires
-search-found-requires c = ((limits _ c.requires.ready.homing.valid).places-most, search (rules, c.load-value.type-inv))
+search-found-requires c = ((limits _ c.requires.ready.homing.valid).places_most, search (rules, c.load-value.type-inv))
 
 pub carry_out-requires : goal.carry_out-requires
 carry_out-requires c =

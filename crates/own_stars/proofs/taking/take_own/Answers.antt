@@ -13,7 +13,7 @@ abbrev start : At-loop-i → Start
 start c = c.before.before.before.before.before.before.before.before.before
 
 few : (c : At-loop-i) → c.loop-i.i ≤ 32
-few c = omega (arith, c.loop-i.invariant.most, (limits _ (start c).requires.ready.homing.valid).places-most)
+few c = omega (arith, c.loop-i.invariant.most, (limits _ (start c).requires.ready.homing.valid).places_most)
 
 ends : (c : After-loop-i) → c.loop-i.i ≡ 0
 ends c = omega arith

@@ -17,10 +17,10 @@ returns-then-separators-page c =
     rw (ne_eqb (get_or s.args.separators.now s.args.page 0) (top_of_lem s.args.parameters.bits) (λ e. c.if-separators-page.true (e ∙ sym c.top_of.ensures)))
 
 pub overflow_sub-last : goal.overflow_sub-last
-overflow_sub-last c = omega (arith, (limits _ c.requires.parameters_value).places-least)
+overflow_sub-last c = omega (arith, (limits _ c.requires.parameters_value).places_least)
 
 pub bounds-numbers-page : goal.bounds-numbers-page
-bounds-numbers-page c = omega (arith, c.requires.places_in_bounds, (limits _ c.requires.parameters_value).places-least)
+bounds-numbers-page c = omega (arith, c.requires.places_in_bounds, (limits _ c.requires.parameters_value).places_least)
 
 pub returns : goal.returns
 unfolding takes_alone_lem
@@ -29,5 +29,5 @@ returns c =
     let places = s.args.parameters.places in
     rw (
       eq-eqb (get_or s.args.separators.now s.args.page 0) (top_of_lem s.args.parameters.bits) (c.if-separators-page.false ∙ c.top_of.ensures),
-      part-item places s.args.page s.args.numbers.now (places - 1) (omega (arith, (limits _ s.requires.parameters_value).places-least)),
+      part-item places s.args.page s.args.numbers.now (places - 1) (omega (arith, (limits _ s.requires.parameters_value).places_least)),
     )

@@ -14,8 +14,17 @@ use Rattle.page_plan.specs.Plans.{Started}
 use Rattle.page_plan.proofs.Sourcing.{length-stretch}
 use Rattle.page_plan.proofs.Stretch.{started, carried_same, stands, started-again, planned-again}
 use Rattle.page_plan.proofs.AllPages.{planned-closed}
+use Rattle.page_plan.proofs.layout.plan_pages.Lts as lts
+use Rattle.page_plan.proofs.layout.plan_pages.Tie as tie
+use Rattle.page_plan.proofs.layout.plan_pages.Reads as reads
 use Rattle.page_plan.proofs.layout.plan_pages.Goals as goal
-use Rattle.page_plan.proofs.layout.plan_pages.Goals.{After-gather-end, After-settle_pages-from, Start}
+use Rattle.page_plan.proofs.layout.plan_pages.Goals.{Start}
+
+abbrev After-gather-end : Type 0
+After-gather-end = lts.After-gather tie.the-claims reads.Pre reads.Post
+
+abbrev After-settle_pages-from : Type 0
+After-settle_pages-from = lts.After-settle_pages tie.the-claims reads.Pre reads.Post
 
 -- the stretch's words
 abbrev L : Start → List ℕ
@@ -59,7 +68,7 @@ pub gather-end-requires : goal.gather-end-requires
 gather-end-requires c =
     let s = c.before.before.before.before.before.before.before.before.before in
     let p = s.requires.plannable in record {
-      places_bound = ((limits _ p.valid).places-most, (p.some, p.pages));
+      places_bound = ((limits _ p.valid).places_most, (p.some, p.pages));
       places_in_bounds = (p.of_numbers, p.of_pool);
       numbers_value = p.numbered;
       homes_value = p.within;
@@ -81,7 +90,7 @@ settle_pages-from-requires c =
         few = omega (arith, p.few, d.gather-end.auto.waiting);
         order = omega (arith, d.gather-end.ensures.value);
         inside = omega (arith, d.gather-end.ensures.value, enough s, d.gather-end.auto.waiting);
-        grouped-are = rw (in_groups_lem d) (started-again _ _ _ _ _ _ (ready d));
+        grouped_are = rw (in_groups_lem d) (started-again _ _ _ _ _ _ (ready d));
         near = rw (carried_here d) p.near;
       };
       spare_bound = omega (arith, d.gather-end.ensures.value, enough s, p.few);

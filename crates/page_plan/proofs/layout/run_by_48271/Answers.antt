@@ -6,13 +6,18 @@ use Rattle.generator.specs.Generator.{multipliers}
 use Rattle.hashing.specs.Geometry.{multiplier_of}
 use Rattle.hashing.proofs.Bounds.{limits}
 use Rattle.placement.proofs.Prepared.{whole_long, whole-signers}
+use Rattle.page_plan.proofs.layout.run_by_48271.Lts as lts
+use Rattle.page_plan.proofs.layout.run_by_48271.Tie as tie
+use Rattle.page_plan.proofs.layout.run_by_48271.Reads as reads
 use Rattle.page_plan.proofs.layout.run_by_48271.Goals as goal
-use Rattle.page_plan.proofs.layout.run_by_48271.Goals.{After-multipliers-table}
+
+abbrev After-multipliers-table : Type 0
+After-multipliers-table = lts.After-multipliers tie.the-claims reads.Pre reads.Post
 
 pub multipliers-table-requires : goal.multipliers-table-requires
 multipliers-table-requires c =
     let p = c.requires.parameters_value in
-    rw (← p.1) (limits _ p.0).multiplier-valid
+    rw (← p.1) (limits _ p.0).multiplier_valid
 
 -- the table of the parameters' own multiplier
 copied : (k : After-multipliers-table) → k.multipliers-table.result ≡ multipliers (multiplier_of k.args.parameters)

@@ -32,7 +32,7 @@ overflow_cast-planned c =
 pub store_sources-requires : goal.store_sources-requires
 store_sources-requires c =
     let s = c.before.before.before.before.before.before.before.before.before.before.before.before.before.before in
-    let most = (limits _ s.requires.signers.valid).places-most in
+    let most = (limits _ s.requires.signers.valid).places_most in
     let done = c.settle-settled.ensures in
     record {
       places_in_bounds = (s.requires.page_in_bounds.1, most);

@@ -7,11 +7,17 @@ use Rattle.page_plan.proofs.Stretch.{settling-none}
 use Rattle.page_plan.proofs.AllPages.{stretch-settled}
 use lib.Seq.{slice}
 use borrow.Author.Rules.{rules}
+use Rattle.page_plan.proofs.layout.settle_pages.Lts as lts
+use Rattle.page_plan.proofs.layout.settle_pages.Tie as tie
+use Rattle.page_plan.proofs.layout.settle_pages.Reads as reads
 use Rattle.page_plan.proofs.layout.settle_pages.Goals as goal
-use Rattle.page_plan.proofs.layout.settle_pages.Goals.{After-settle_run-near, Start}
+use Rattle.page_plan.proofs.layout.settle_pages.Goals.{Start}
+
+abbrev After-settle_run-near : Type 0
+After-settle_run-near = lts.After-settle_run tie.the-claims reads.Pre reads.Post
 
 pub first_multipliers-table-requires : goal.first_multipliers-table-requires
-first_multipliers-table-requires c = (limits _ c.requires.settleable.valid).multiplier-valid
+first_multipliers-table-requires c = (limits _ c.requires.settleable.valid).multiplier_valid
 
 pub settle_run-near-requires : goal.settle_run-near-requires
 settle_run-near-requires c =

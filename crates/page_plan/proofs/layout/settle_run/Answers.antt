@@ -18,13 +18,19 @@ use Rattle.page_plan.proofs.layout.settle_run.Lts as lts
 use Rattle.page_plan.proofs.layout.settle_run.Tie as tie
 use Rattle.page_plan.proofs.layout.settle_run.Reads as reads
 use Rattle.page_plan.proofs.layout.settle_run.Goals as goal
-use Rattle.page_plan.proofs.layout.settle_run.Goals.{After-settle_page-from, At-loop-v, Start}
+use Rattle.page_plan.proofs.layout.settle_run.Goals.{Start}
+
+abbrev At-loop-v : Type 0
+At-loop-v = lts.At-loop tie.the-claims reads.Pre reads.Post goal.the-invariant-loop-v goal.the-decreases-loop-v
 
 abbrev In-loop-v : Type 0
 In-loop-v = lts.In-loop tie.the-claims reads.Pre reads.Post goal.the-invariant-loop-v goal.the-decreases-loop-v
 
 abbrev After-settle_page-arg-in-loop-v-2-1 : Type 0
 After-settle_page-arg-in-loop-v-2-1 = lts.After-settle_page-arg3 tie.the-claims reads.Pre reads.Post goal.the-invariant-loop-v goal.the-decreases-loop-v
+
+abbrev After-settle_page-from : Type 0
+After-settle_page-from = lts.After-settle_page tie.the-claims reads.Pre reads.Post goal.the-invariant-loop-v goal.the-decreases-loop-v
 
 abbrev After-slice_known-in-loop-v-3-1 : Type 0
 After-slice_known-in-loop-v-3-1 = lts.After-slice_known6 tie.the-claims reads.Pre reads.Post goal.the-invariant-loop-v goal.the-decreases-loop-v
@@ -47,13 +53,13 @@ settling c =
     c.loop-v.invariant u.carried u.pool u.waiting u.planned u.settleable u.settling
 
 same-pool : (c : At-loop-v) → length c.loop-v.pool ≡ length (start c).args.pool.now
-same-pool c = (settling c).long-pool ∙ sym (start c).requires.spare_bound.1.settling.long-pool
+same-pool c = (settling c).long_pool ∙ sym (start c).requires.spare_bound.1.settling.long_pool
 
 same-waiting : (c : At-loop-v) → length c.loop-v.waiting ≡ length (start c).args.waiting.now
-same-waiting c = (settling c).long-waiting ∙ sym (start c).requires.spare_bound.1.settling.long-waiting
+same-waiting c = (settling c).long_waiting ∙ sym (start c).requires.spare_bound.1.settling.long_waiting
 
 same-planned : (c : At-loop-v) → length c.loop-v.planned ≡ length (start c).args.planned.now
-same-planned c = (settling c).long-planned ∙ sym (start c).requires.spare_bound.1.settling.long-planned
+same-planned c = (settling c).long_planned ∙ sym (start c).requires.spare_bound.1.settling.long_planned
 
 -- within a turn: where page lo + v's words end
 abbrev reach : In-loop-v → ℕ
@@ -63,13 +69,13 @@ reach-is : (c : In-loop-v) →
     let a = (start c.before).args in
     let u = (start c.before).requires.spare_bound.1 in
     reach c ≡ end_of u.carried a.lo (slice u.carried a.end u.waiting) (suc c.loop-v.v)
-reach-is c = (ready c.before).grouped-are.ended c.loop-v.v c.loop-v-test.true
+reach-is c = (ready c.before).grouped_are.ended c.loop-v.v c.loop-v-test.true
 
 few : (c : At-loop-v) → length c.loop-v.waiting ≤ 32768
-few c = omega (arith, (settling c).long-waiting, (ready c).few)
+few c = omega (arith, (settling c).long_waiting, (ready c).few)
 
 reached : (c : In-loop-v) → reach c ≤ length c.loop-v.waiting
-reached c = rw (reach-is c) (probed-within _ _ _ _ _ _ _ _ _ (ready c.before).grouped-are _ _ _ _ _ (settling c.before) c.loop-v-test.true)
+reached c = rw (reach-is c) (probed-within _ _ _ _ _ _ _ _ _ (ready c.before).grouped_are _ _ _ _ _ (settling c.before) c.loop-v-test.true)
 
 -- the words up to there probe the page
 probing : (c : In-loop-v) → Probing ((start c.before).args.lo + c.loop-v.v) c.loop-v.from (reach c) c.loop-v.waiting
@@ -77,11 +83,11 @@ probing c =
     let k = c.before in
     let p = ready k in
     record {
-      order = rw (reach-is c) (probed-inside _ _ _ _ _ _ _ _ _ p.grouped-are _ _ _ _ _ (settling k) c.loop-v-test.true);
+      order = rw (reach-is c) (probed-inside _ _ _ _ _ _ _ _ _ p.grouped_are _ _ _ _ _ (settling k) c.loop-v-test.true);
       inside = reached c;
       most = omega (arith, reached c, few k);
       page = omega (arith, p.pages, c.loop-v-test.true);
-      homes = rw (reach-is c) (probed-near _ _ _ _ _ _ _ _ _ p.grouped-are _ _ _ _ _ (settling k) c.loop-v-test.true p.near);
+      homes = rw (reach-is c) (probed-near _ _ _ _ _ _ _ _ _ p.grouped_are _ _ _ _ _ (settling k) c.loop-v-test.true p.near);
     }
 
 pub loop-v-init : goal.loop-v-init
@@ -95,7 +101,7 @@ ahead : (c : In-loop-v) → ((start c.before).args.count - c.loop-v.v) * (start 
 ahead c =
     let k = c.before in
     let few : (start k).args.count - k.loop-v.v ≤ 1024 = omega (arith, (ready k).pages) in
-    mul-le-mul few (limits (start k).args.parameters (ready k).valid).places-most
+    mul-le-mul few (limits (start k).args.parameters (ready k).valid).places_most
 
 pub overflow_mul-count : goal.overflow_mul-count
 overflow_mul-count c = record { fits = omega (arith, ahead c.before) }
@@ -156,7 +162,7 @@ returns-then-not-signs_words c =
     let told = c.signs_words in
     record {
       continues = c.loop-v.invariant;
-      ended = λ long less. absurd (false≢true (sym (not-true _ c.if-not-signs_words.true) ∙ told.ensures.1 long));
+      ended = λ long less. absurd (false≢true (sym c.if-not-signs_words.true ∙ told.ensures.1 long));
     }
 
 abbrev turn : After-settle_page-arg-in-loop-v-2-1 → In-loop-v
@@ -174,10 +180,10 @@ settle_page-from-requires c =
     let told = c.before.before.before.before in record {
       signers = (start k).requires.signers;
       probing = probing i;
-      signable = told.signs_words.ensures.signable (not-false _ told.if-not-signs_words.false);
+      signable = told.signs_words.ensures.signable told.if-not-signs_words.false;
       page_in_bounds = (
-        omega (arith, p.of_planned, (settling k).long-planned, i.loop-v-test.taken),
-        rw (settling k).long-pool (page-inside a.lo k.loop-v.v a.count a.parameters.places _ i.loop-v-test.taken p.of_pool),
+        omega (arith, p.of_planned, (settling k).long_planned, i.loop-v-test.taken),
+        rw (settling k).long_pool (page-inside a.lo k.loop-v.v a.count a.parameters.places _ i.loop-v-test.taken p.of_pool),
       );
     }
 
@@ -196,7 +202,7 @@ loop-v-preserved c =
     let i = turn (settled c.before).before in
     let d = (settled c.before).settle_page-from in
     let here = i.before.loop.inv carried P W S p begun in
-    settling-next _ _ _ _ _ _ _ _ _ p.grouped-are _ _ _ _ _ here i.loop-test.taken _ (p.grouped-are.ended _ i.loop-test.taken) _ _ _ _ d.ensures p.of_pool p.of_planned d.kept.1.1.0 d.kept.1.1.1.0 d.kept.1.1.1.1.0
+    settling-next _ _ _ _ _ _ _ _ _ p.grouped_are _ _ _ _ _ here i.loop-test.taken _ (p.grouped_are.ended _ i.loop-test.taken) _ _ _ _ d.ensures p.of_pool p.of_planned d.kept.1.1.0 d.kept.1.1.1.0 d.kept.1.1.1.1.0
 
 pub shape_of-pool : goal.shape_of-pool
 shape_of-pool c = same-pool c.before.before

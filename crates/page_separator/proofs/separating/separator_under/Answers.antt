@@ -12,8 +12,14 @@ use Rattle.generator.proofs.Scrambling.{top_most}
 use Rattle.page_separator.specs.Lists.{sum_to}
 use Rattle.page_separator.specs.Probes.{staying_words}
 use Rattle.page_separator.proofs.Cutting.{staying-sum, staying-length, staying-full, separator_found}
+use Rattle.page_separator.proofs.separating.separator_under.Lts as lts
+use Rattle.page_separator.proofs.separating.separator_under.Tie as tie
+use Rattle.page_separator.proofs.separating.separator_under.Reads as reads
 use Rattle.page_separator.proofs.separating.separator_under.Goals as goal
-use Rattle.page_separator.proofs.separating.separator_under.Goals.{After-tally_signatures, Start}
+use Rattle.page_separator.proofs.separating.separator_under.Goals.{Start}
+
+abbrev After-tally_signatures : Type 0
+After-tally_signatures = lts.After-tally_signatures tie.the-claims reads.Pre reads.Post
 
 abbrev start : After-tally_signatures → Start
 start k = k.before.before.before.before.before
@@ -33,7 +39,7 @@ full : (k : After-tally_signatures) (v : ℕ) → top_of_lem (start k).args.para
     → sum_to v k.tally_signatures.new.1.1.1.1.1.1.0 ≡ (start k).args.reach - (start k).args.from
 full k v h u =
     let s = start k in
-    sums k v u ∙ staying-full s.args.parameters s.args.page (bounds s).bits-least (probing s) v h
+    sums k v u ∙ staying-full s.args.parameters s.args.page (bounds s).bits_least (probing s) v h
     ∙ length-slice s.args.from s.args.reach s.args.waiting.now s.requires.probing.inside
 
 pub tally_signatures-requires : goal.tally_signatures-requires

@@ -12,7 +12,7 @@ pub overflow_cast-result : goal.overflow_cast-result
 overflow_cast-result c =
     let s = c.before.before.before in
     let l = limits s.args.parameters s.requires.parameters_value in
-    omega (arith, s.requires.i_value, signature-small s.args.parameters s.args.page l.bits-least s.args.word, top_most s.args.parameters.bits l.bits_most)
+    omega (arith, s.requires.i_value, signature-small s.args.parameters s.args.page l.bits_least s.args.word, top_most s.args.parameters.bits l.bits_most)
 
 pub returns : goal.returns
 returns c = c.requires.i_value

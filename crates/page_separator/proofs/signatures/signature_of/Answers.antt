@@ -12,7 +12,7 @@ signature_by-requires c =
     let s = c.before in
     let a = s.args in
     let l = limits a.parameters s.requires.parameters_value in
-    (factor_below a.parameters a.factor (a.page - home_of a.word + 1) s.requires.factor_value, (l.bits-least, l.bits_most))
+    (factor_below a.parameters a.factor (a.page - home_of a.word + 1) s.requires.factor_value, (l.bits_least, l.bits_most))
 
 pub returns : goal.returns
 returns c =

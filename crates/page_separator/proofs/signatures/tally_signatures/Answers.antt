@@ -17,7 +17,10 @@ use Rattle.page_separator.proofs.signatures.tally_signatures.Lts as lts
 use Rattle.page_separator.proofs.signatures.tally_signatures.Tie as tie
 use Rattle.page_separator.proofs.signatures.tally_signatures.Reads as reads
 use Rattle.page_separator.proofs.signatures.tally_signatures.Goals as goal
-use Rattle.page_separator.proofs.signatures.tally_signatures.Goals.{At-loop-i, Start}
+use Rattle.page_separator.proofs.signatures.tally_signatures.Goals.{Start}
+
+abbrev At-loop-i : Type 0
+At-loop-i = lts.At-loop tie.the-claims reads.Pre reads.Post goal.the-invariant-loop-i goal.the-decreases-loop-i
 
 abbrev After-signature_of-signature : Type 0
 After-signature_of-signature = lts.After-signature_of tie.the-claims reads.Pre reads.Post goal.the-invariant-loop-i goal.the-decreases-loop-i
@@ -31,7 +34,7 @@ below c =
     let k = c.before.before.before.before in
     let a = start k in
     let l = limits a.args.parameters a.requires.signers.valid in
-    omega (arith, c.signature_of-signature.ensures, signature-small a.args.parameters a.args.page l.bits-least (get_or a.args.waiting.now k.loop-i.i 0), top_most a.args.parameters.bits l.bits_most)
+    omega (arith, c.signature_of-signature.ensures, signature-small a.args.parameters a.args.page l.bits_least (get_or a.args.waiting.now k.loop-i.i 0), top_most a.args.parameters.bits l.bits_most)
 
 pub first_factor-factor-requires : goal.first_factor-factor-requires
 first_factor-factor-requires c = c.requires.signers

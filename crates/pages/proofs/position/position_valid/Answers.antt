@@ -8,8 +8,14 @@ use mir.Syntax.{w32}
 use mir.Val.{to_z, of_z}
 use mir.Facts.{to_z-of_z}
 use Rattle.pages.specs.Position.{valid_position}
+use Rattle.pages.proofs.position.position_valid.Lts as lts
+use Rattle.pages.proofs.position.position_valid.Tie as tie
+use Rattle.pages.proofs.position.position_valid.Reads as reads
 use Rattle.pages.proofs.position.position_valid.Goals as goal
-use Rattle.pages.proofs.position.position_valid.Goals.{After-struct_told-1, Start}
+use Rattle.pages.proofs.position.position_valid.Goals.{Start}
+
+abbrev After-struct_told-1 : Type 0
+After-struct_told-1 = lts.After-struct_told tie.the-claims reads.Pre reads.Post
 
 abbrev start : After-struct_told-1 → Start
 start c = c.before.before.before.before

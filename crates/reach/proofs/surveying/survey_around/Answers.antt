@@ -6,8 +6,14 @@ use borrow.Author.Rules.{rules}
 use Rattle.placement.specs.File.{File}
 use Rattle.placement.specs.Hash.{lent}
 use Rattle.reach.proofs.Surveyed.{stretch-fits, lowest_first_lem, lowest_wider, lowest_around, homes-around}
+use Rattle.reach.proofs.surveying.survey_around.Lts as lts
+use Rattle.reach.proofs.surveying.survey_around.Tie as tie
+use Rattle.reach.proofs.surveying.survey_around.Reads as reads
 use Rattle.reach.proofs.surveying.survey_around.Goals as goal
-use Rattle.reach.proofs.surveying.survey_around.Goals.{After-survey-unsound, Start}
+use Rattle.reach.proofs.surveying.survey_around.Goals.{Start}
+
+abbrev After-survey-unsound : Type 0
+After-survey-unsound = lts.After-survey tie.the-claims reads.Pre reads.Post
 
 abbrev file : Start → File
 file s = lent s.args.separators.now s.args.numbers.now s.args.words.now s.args.owners.now

@@ -19,7 +19,13 @@ use Rattle.removal_reach.proofs.changed.plan_changed.Lts as lts
 use Rattle.removal_reach.proofs.changed.plan_changed.Tie as tie
 use Rattle.removal_reach.proofs.changed.plan_changed.Reads as reads
 use Rattle.removal_reach.proofs.changed.plan_changed.Goals as goal
-use Rattle.removal_reach.proofs.changed.plan_changed.Goals.{After-gather, After-settle_changed, Start}
+use Rattle.removal_reach.proofs.changed.plan_changed.Goals.{Start}
+
+abbrev After-gather : Type 0
+After-gather = lts.After-gather tie.the-claims reads.Pre reads.Post
+
+abbrev After-settle_changed : Type 0
+After-settle_changed = lts.After-settle_changed tie.the-claims reads.Pre reads.Post
 
 abbrev After-slice_known-7-1 : Type 0
 After-slice_known-7-1 = lts.After-slice_known7 tie.the-claims reads.Pre reads.Post
@@ -66,7 +72,7 @@ in_groups_lem c = ap (λ (n : ℕ). slice 0 n (W c)) (end_is c) ∙ stands _ _ _
 pub gather-requires : goal.gather-requires
 gather-requires c =
     let p = c.requires in record {
-      places_bound = ((limits _ p.valid).places-most, (p.some, p.pages));
+      places_bound = ((limits _ p.valid).places_most, (p.some, p.pages));
       places_in_bounds = (p.of_numbers, p.of_pool);
       numbers_value = p.numbered;
       homes_value = p.within;
@@ -89,7 +95,7 @@ settle_changed-requires c =
         few = omega (arith, p.few, d.gather.auto.waiting);
         order = omega arith;
         inside = omega (arith, end_is d, enough s, d.gather.auto.waiting);
-        grouped-are = rw (in_groups_lem d) (started-again _ _ _ _ _ _ (ready d));
+        grouped_are = rw (in_groups_lem d) (started-again _ _ _ _ _ _ (ready d));
         near = refl;
       };
       places_in_bounds = p.of_numbers;

@@ -31,7 +31,7 @@ overflow_cast-planned c =
 pub store_sources-requires : goal.store_sources-requires
 store_sources-requires c =
     let s = c.before.before.before.before.before.before.before.before.before.before.before.before.before in
-    let most = (limits _ s.requires.parameters_value).places-most in
+    let most = (limits _ s.requires.parameters_value).places_most in
     let done = c.settle_alone-settled.ensures in
     record {
       places_in_bounds = (s.requires.page_in_bounds.1, most);

@@ -19,10 +19,16 @@ use Rattle.removal_reach.proofs.changed.settle_changed.Lts as lts
 use Rattle.removal_reach.proofs.changed.settle_changed.Tie as tie
 use Rattle.removal_reach.proofs.changed.settle_changed.Reads as reads
 use Rattle.removal_reach.proofs.changed.settle_changed.Goals as goal
-use Rattle.removal_reach.proofs.changed.settle_changed.Goals.{After-plan_page-from, At-loop-v, Start}
+use Rattle.removal_reach.proofs.changed.settle_changed.Goals.{Start}
+
+abbrev At-loop-v : Type 0
+At-loop-v = lts.At-loop tie.the-claims reads.Pre reads.Post goal.the-invariant-loop-v goal.the-decreases-loop-v
 
 abbrev In-loop-v : Type 0
 In-loop-v = lts.In-loop tie.the-claims reads.Pre reads.Post goal.the-invariant-loop-v goal.the-decreases-loop-v
+
+abbrev After-plan_page-from : Type 0
+After-plan_page-from = lts.After-plan_page tie.the-claims reads.Pre reads.Post goal.the-invariant-loop-v goal.the-decreases-loop-v
 
 abbrev After-slice_known-in-loop-v-3-1 : Type 0
 After-slice_known-in-loop-v-3-1 = lts.After-slice_known6 tie.the-claims reads.Pre reads.Post goal.the-invariant-loop-v goal.the-decreases-loop-v
@@ -42,20 +48,20 @@ abbrev reach : In-loop-v → ℕ
 reach c = get_or (start c.before).args.ends.now c.loop-v.v 0
 
 reach-is : (c : In-loop-v) → reach c ≡ end_of 0 (start c.before).args.lo (L (start c.before)) (suc c.loop-v.v)
-reach-is c = (start c.before).requires.settleable.grouped-are.ended c.loop-v.v c.loop-v-test.true
+reach-is c = (start c.before).requires.settleable.grouped_are.ended c.loop-v.v c.loop-v-test.true
 
 few : (c : At-loop-v) → length c.loop-v.waiting ≤ 32768
-few c = omega (arith, c.loop-v.invariant.0.long-waiting, (start c).requires.settleable.few)
+few c = omega (arith, c.loop-v.invariant.0.long_waiting, (start c).requires.settleable.few)
 
 reached : (c : In-loop-v) → reach c ≤ length c.loop-v.waiting
-reached c = rw (reach-is c) (probed-within _ _ _ _ _ _ _ _ _ (start c.before).requires.settleable.grouped-are _ _ _ _ _ c.loop-v.invariant.0 c.loop-v-test.true)
+reached c = rw (reach-is c) (probed-within _ _ _ _ _ _ _ _ _ (start c.before).requires.settleable.grouped_are _ _ _ _ _ c.loop-v.invariant.0 c.loop-v-test.true)
 
 near-here : (c : In-loop-v)
     → homes_up_to ((start c.before).args.lo + c.loop-v.v) (slice c.loop-v.from (reach c) c.loop-v.waiting) ≡ true
 near-here c =
     let p = (start c.before).requires.settleable in
     rw (reach-is c)
-    (probed-near _ _ _ _ _ _ _ _ _ p.grouped-are _ _ _ _ _ c.loop-v.invariant.0 c.loop-v-test.true p.near)
+    (probed-near _ _ _ _ _ _ _ _ _ p.grouped_are _ _ _ _ _ c.loop-v.invariant.0 c.loop-v-test.true p.near)
 
 pub loop-v-init : goal.loop-v-init
 loop-v-init c =
@@ -83,15 +89,15 @@ plan_page-from-requires c =
     let inv = i.loop-v.invariant.0 in record {
       parameters_value = p.valid;
       probing = record {
-        order = rw (reach-is i) (probed-inside _ _ _ _ _ _ _ _ _ p.grouped-are _ _ _ _ _ inv i.loop-v-test.true);
+        order = rw (reach-is i) (probed-inside _ _ _ _ _ _ _ _ _ p.grouped_are _ _ _ _ _ inv i.loop-v-test.true);
         inside = reached i;
         most = omega (arith, reached i, few i.before);
         page = omega (arith, i.loop-v-test.true, p.pages);
         homes = near-here i;
       };
       page_in_bounds = (
-        omega (arith, i.loop-v-test.true, p.of_planned, inv.long-planned),
-        rw inv.long-pool
+        omega (arith, i.loop-v-test.true, p.of_planned, inv.long_planned),
+        rw inv.long_pool
             (page-inside a.lo i.loop-v.v a.count a.parameters.places (length a.pool.now) i.loop-v-test.true p.of_pool),
       );
     }
@@ -110,7 +116,7 @@ next c =
     let i = turn c in
     let p = (begun c).requires.settleable in
     let d = c.plan_page-from in
-    settling-next _ _ _ _ _ _ _ _ _ p.grouped-are _ _ _ _ _ i.loop-v.inv.0 i.loop-v-test.taken _ (reach-is i) _ _ _ _
+    settling-next _ _ _ _ _ _ _ _ _ p.grouped_are _ _ _ _ _ i.loop-v.inv.0 i.loop-v-test.taken _ (reach-is i) _ _ _ _
     d.ensures p.of_pool p.of_planned d.auto.1.0 d.auto.1.1.0 d.auto.1.1.1.0
 
 items : (c : After-plan_page-from)
@@ -118,7 +124,7 @@ items : (c : After-plan_page-from)
 items c = mul-le-mul_right (begun c).args.parameters.places (omega (arith, (turn c).loop-v-test.true))
 
 most : (c : After-plan_page-from) → ((begun c).args.lo + (begun c).args.count) * (begun c).args.parameters.places ≤ 1024 * 32
-most c = let s = begun c in mul-le-mul s.requires.settleable.pages (limits s.args.parameters s.requires.settleable.valid).places-most
+most c = let s = begun c in mul-le-mul s.requires.settleable.pages (limits s.args.parameters s.requires.settleable.valid).places_most
 
 page-first : (c : After-plan_page-from)
     → ((begun c).args.lo + (turn c).loop-v.v) * (begun c).args.parameters.places ≤ ((begun c).args.lo + (turn c).loop-v.v + 1) * (begun c).args.parameters.places
@@ -164,7 +170,7 @@ overflow_add-stored c =
           omega (
             arith,
             stored_next c.before,
-            stars-few a.parameters.places a.lo (v + 1) a.numbers.now (omega (arith, above, s.requires.places_in_bounds)) (omega (arith, (turn d).loop-v-test.taken, p.pages)) (limits a.parameters p.valid).places-most,
+            stars-few a.parameters.places a.lo (v + 1) a.numbers.now (omega (arith, above, s.requires.places_in_bounds)) (omega (arith, (turn d).loop-v-test.taken, p.pages)) (limits a.parameters p.valid).places_most,
           );
     }
 
@@ -175,22 +181,22 @@ pub overflow_add-from : goal.overflow_add-from
 overflow_add-from c =
     let d = planned c.before.before in
     let p = (begun d).requires.settleable in
-    record { fits = omega (arith, from-most _ _ _ _ _ _ _ _ p.grouped-are _ _ _ _ _ (next d), p.few) }
+    record { fits = omega (arith, from-most _ _ _ _ _ _ _ _ p.grouped_are _ _ _ _ _ (next d), p.few) }
 
 pub shape_of-pool-then-from-stored : goal.shape_of-pool-then-from-stored
-shape_of-pool-then-from-stored c = (next (planned c.before.before.before)).long-pool
+shape_of-pool-then-from-stored c = (next (planned c.before.before.before)).long_pool
 
 pub shape_of-waiting-then-from-stored : goal.shape_of-waiting-then-from-stored
-shape_of-waiting-then-from-stored c = (next (planned c.before.before.before)).long-waiting
+shape_of-waiting-then-from-stored c = (next (planned c.before.before.before)).long_waiting
 
 pub shape_of-planned-then-from-stored : goal.shape_of-planned-then-from-stored
-shape_of-planned-then-from-stored c = (next (planned c.before.before.before)).long-planned
+shape_of-planned-then-from-stored c = (next (planned c.before.before.before)).long_planned
 
 pub returns-then-from-stored : goal.returns-then-from-stored
 returns-then-from-stored c =
     let d = planned c.before.before.before in
     let s = begun d in
-    changed _ _ _ _ _ _ _ _ s.requires.settleable.grouped-are _ _ _ _ _ (next d) s.args.numbers.now _ (stored_next c.before.before) (λ h. c.if-from-stored.true)
+    changed _ _ _ _ _ _ _ _ s.requires.settleable.grouped_are _ _ _ _ _ (next d) s.args.numbers.now _ (stored_next c.before.before) (λ h. c.if-from-stored.true)
 
 pub loop-v-smaller : goal.loop-v-smaller
 loop-v-smaller c = omega (arith, (turn (planned c.before.before.before)).loop-test.taken)
@@ -199,15 +205,15 @@ pub loop-v-preserved : goal.loop-v-preserved
 loop-v-preserved c = (next (planned c.before.before.before), stored_next c.before.before)
 
 pub shape_of-pool : goal.shape_of-pool
-shape_of-pool c = c.loop-v.invariant.0.long-pool
+shape_of-pool c = c.loop-v.invariant.0.long_pool
 
 pub shape_of-waiting : goal.shape_of-waiting
-shape_of-waiting c = c.loop-v.invariant.0.long-waiting
+shape_of-waiting c = c.loop-v.invariant.0.long_waiting
 
 pub shape_of-planned : goal.shape_of-planned
-shape_of-planned c = c.loop-v.invariant.0.long-planned
+shape_of-planned c = c.loop-v.invariant.0.long_planned
 
 pub returns : goal.returns
 returns c =
     let s = start c.before.before in
-    changed _ _ _ _ _ _ _ _ s.requires.settleable.grouped-are _ _ _ _ _ c.loop-v.invariant.0 s.args.numbers.now c.loop-v.stored c.loop-v.invariant.1 (λ h. absurd (omega (arith, c.loop-v-test.false)))
+    changed _ _ _ _ _ _ _ _ s.requires.settleable.grouped_are _ _ _ _ _ c.loop-v.invariant.0 s.args.numbers.now c.loop-v.stored c.loop-v.invariant.1 (λ h. absurd (omega (arith, c.loop-v-test.false)))

@@ -18,10 +18,16 @@ use Rattle.removal_reach.proofs.held.remove_held.Lts as lts
 use Rattle.removal_reach.proofs.held.remove_held.Tie as tie
 use Rattle.removal_reach.proofs.held.remove_held.Reads as reads
 use Rattle.removal_reach.proofs.held.remove_held.Goals as goal
-use Rattle.removal_reach.proofs.held.remove_held.Goals.{After-carry_out, After-carry_out-2, After-decide_removal-decision, Start, Then-separators-first}
+use Rattle.removal_reach.proofs.held.remove_held.Goals.{After-carry_out, After-carry_out-2, Start}
+
+abbrev Then-separators-first : Type 0
+Then-separators-first = lts.Then1 tie.the-claims reads.Pre reads.Post
 
 abbrev After-slice_known-then-separators-first-7-1 : Type 0
 After-slice_known-then-separators-first-7-1 = lts.After-slice_known15 tie.the-claims reads.Pre reads.Post
+
+abbrev After-decide_removal-decision : Type 0
+After-decide_removal-decision = lts.After-decide_removal tie.the-claims reads.Pre reads.Post
 
 abbrev After-outcome_of : Type 0
 After-outcome_of = lts.After-outcome_of tie.the-claims reads.Pre reads.Post
@@ -83,7 +89,7 @@ decide_removal-decision-requires c =
     record {
       removes = s.requires.removes;
       pool_len = (pools.of_numbers, pools.of_words_lem);
-      pages_in_bounds = (limits _ s.requires.removes.ready.homing.valid).pages-most;
+      pages_in_bounds = (limits _ s.requires.removes.ready.homing.valid).pages_most;
       known = s.requires.known;
     }
 

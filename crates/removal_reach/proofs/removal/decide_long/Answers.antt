@@ -15,10 +15,16 @@ use Rattle.removal_reach.proofs.removal.decide_long.Lts as lts
 use Rattle.removal_reach.proofs.removal.decide_long.Tie as tie
 use Rattle.removal_reach.proofs.removal.decide_long.Reads as reads
 use Rattle.removal_reach.proofs.removal.decide_long.Goals as goal
-use Rattle.removal_reach.proofs.removal.decide_long.Goals.{After-plan_changed-changed, After-survey_pages-bad, Start}
+use Rattle.removal_reach.proofs.removal.decide_long.Goals.{Start}
+
+abbrev After-survey_pages-bad : Type 0
+After-survey_pages-bad = lts.After-survey_pages tie.the-claims reads.Pre reads.Post
 
 abbrev Else-bad-stop : Type 0
 Else-bad-stop = lts.Else1 tie.the-claims reads.Pre reads.Post
+
+abbrev After-plan_changed-changed : Type 0
+After-plan_changed-changed = lts.After-plan_changed tie.the-claims reads.Pre reads.Post
 
 abbrev Then-first_raisable-stop : Type 0
 Then-first_raisable-stop = lts.Then2 tie.the-claims reads.Pre reads.Post
@@ -50,7 +56,7 @@ ready c =
     (homes-long c) surveyed.ensures.1 _ _ pre.1.0.1 pre.1.0.1
 
 pub overflow_add-stop : goal.overflow_add-stop
-overflow_add-stop c = let s = c.before.before.before.before.before.before.before.before.before.before in omega (arith, (reach s).inside, (limits _ s.requires.removes.ready.homing.valid).pages-most)
+overflow_add-stop c = let s = c.before.before.before.before.before.before.before.before.before.before in omega (arith, (reach s).inside, (limits _ s.requires.removes.ready.homing.valid).pages_most)
 
 pub survey_pages-bad-requires : goal.survey_pages-bad-requires
 survey_pages-bad-requires c =
@@ -81,10 +87,10 @@ plan_changed-changed-requires c =
     record {
       valid = s.requires.removes.ready.homing.valid;
       some = L.some;
-      pages = L.pages-most;
+      pages = L.pages_most;
       of_planned = omega (arith, (reach s).order, (reach s).inside, s.requires.pages_in_bounds);
-      of_numbers = L.numbers-long;
-      of_pool = L.pool-long;
+      of_numbers = L.numbers_long;
+      of_pool = L.pool_long;
       numbered = L.valid;
       within = L.within;
       room = stars-fit _ _ _ _ _ _ _ L _;
@@ -103,7 +109,7 @@ pub overflow_add-from : goal.overflow_add-from
 overflow_add-from c =
     let d = c.before.before.before.before.before.before.before in
     let s = start d in
-    record { fits = omega (arith, d.plan_changed-changed.ensures.high, (reach s).order, (reach s).inside, (limits _ s.requires.removes.ready.homing.valid).pages-most) }
+    record { fits = omega (arith, d.plan_changed-changed.ensures.high, (reach s).order, (reach s).inside, (limits _ s.requires.removes.ready.homing.valid).pages_most) }
 
 pub first_raisable-requires : goal.first_raisable-requires
 first_raisable-requires c =

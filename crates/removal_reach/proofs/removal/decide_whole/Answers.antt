@@ -14,10 +14,16 @@ use Rattle.removal_reach.proofs.removal.decide_whole.Lts as lts
 use Rattle.removal_reach.proofs.removal.decide_whole.Tie as tie
 use Rattle.removal_reach.proofs.removal.decide_whole.Reads as reads
 use Rattle.removal_reach.proofs.removal.decide_whole.Goals as goal
-use Rattle.removal_reach.proofs.removal.decide_whole.Goals.{After-plan, After-survey_pages-bad, Start}
+use Rattle.removal_reach.proofs.removal.decide_whole.Goals.{Start}
+
+abbrev After-survey_pages-bad : Type 0
+After-survey_pages-bad = lts.After-survey_pages tie.the-claims reads.Pre reads.Post
 
 abbrev Else-bad-stop : Type 0
 Else-bad-stop = lts.Else1 tie.the-claims reads.Pre reads.Post
+
+abbrev After-plan : Type 0
+After-plan = lts.After-plan tie.the-claims reads.Pre reads.Post
 
 abbrev After-slice_known-7-1 : Type 0
 After-slice_known-7-1 = lts.After-slice_known7 tie.the-claims reads.Pre reads.Post
@@ -43,7 +49,7 @@ ready c =
     (surveyed.auto.1.1.1.1.1.1.0 ∙ pre.1.0.0) surveyed.ensures.1 _ _ pre.1.0.1 pre.1.0.1
 
 pub overflow_add-stop : goal.overflow_add-stop
-overflow_add-stop c = let s = c.before.before.before.before.before.before.before.before.before in omega (arith, (reach s).inside, (limits _ s.requires.removes.ready.homing.valid).pages-most)
+overflow_add-stop c = let s = c.before.before.before.before.before.before.before.before.before in omega (arith, (reach s).inside, (limits _ s.requires.removes.ready.homing.valid).pages_most)
 
 pub survey_pages-bad-requires : goal.survey_pages-bad-requires
 survey_pages-bad-requires c =
@@ -72,8 +78,8 @@ plan-requires c =
     let s = begun d in
     let L = ready d in record {
       parameters_value = s.requires.removes.ready.homing.valid;
-      count_nonzero = (L.some, (L.pages-most, omega (arith, (reach s).order, (reach s).inside, s.requires.pages_in_bounds)));
-      places_in_bounds = (L.numbers-long, L.pool-long);
+      count_nonzero = (L.some, (L.pages_most, omega (arith, (reach s).order, (reach s).inside, s.requires.pages_in_bounds)));
+      places_in_bounds = (L.numbers_long, L.pool_long);
       numbers_value = L.valid;
       pool_value = L.within;
       numbers_in_bounds = (stars-fit _ _ _ _ _ _ _ L _, L.waiting-most);

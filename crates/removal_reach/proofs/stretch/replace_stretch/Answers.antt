@@ -6,10 +6,13 @@ use Rattle.removal_reach.proofs.stretch.replace_stretch.Lts as lts
 use Rattle.removal_reach.proofs.stretch.replace_stretch.Tie as tie
 use Rattle.removal_reach.proofs.stretch.replace_stretch.Reads as reads
 use Rattle.removal_reach.proofs.stretch.replace_stretch.Goals as goal
-use Rattle.removal_reach.proofs.stretch.replace_stretch.Goals.{After-apply, After-plan-left, Start}
+use Rattle.removal_reach.proofs.stretch.replace_stretch.Goals.{After-apply, Start}
 
 abbrev After-planned-1 : Type 0
 After-planned-1 = lts.After-planned tie.the-claims reads.Pre reads.Post
+
+abbrev After-plan-left : Type 0
+After-plan-left = lts.After-plan tie.the-claims reads.Pre reads.Post
 
 abbrev After-slice_known-16-1 : Type 0
 After-slice_known-16-1 = lts.After-slice_known16 tie.the-claims reads.Pre reads.Post
@@ -22,8 +25,8 @@ unfolding all
 plan-left-requires c =
     let L = (start c.before).requires.stretch_ready in record {
       parameters_value = (start c.before).requires.parameters_value;
-      count_nonzero = (L.some, (L.pages-most, L.pages-most));
-      places_in_bounds = (L.numbers-long, L.pool-long);
+      count_nonzero = (L.some, (L.pages_most, L.pages_most));
+      places_in_bounds = (L.numbers_long, L.pool_long);
       numbers_value = L.valid;
       pool_value = L.within;
       numbers_in_bounds = (stars-fit _ _ _ _ _ _ _ L _, L.waiting-most);
@@ -56,7 +59,7 @@ returns c =
     let chosen = applying.before.before.before.before.before.before.before.before.before.before in
     let planned = chosen.before.before.before.before.before.before in
     let L = (start planned.before).requires.stretch_ready in
-    let placed = stretch-placed _ _ _ _ _ _ _ L _ _ _ _ _ _ planned.plan-left.ensures chosen.if-left-ne0.false L.pages-most in
+    let placed = stretch-placed _ _ _ _ _ _ _ L _ _ _ _ _ _ planned.plan-left.ensures chosen.if-left-ne0.false L.pages_most in
     let left = applying.apply.ensures in
     let behind = stretch-behind _ _ _ _ _ _ _ L _ _ _ _ _ _ planned.plan-left.ensures in
     record {

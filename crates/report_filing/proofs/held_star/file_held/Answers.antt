@@ -24,7 +24,7 @@ pub returns-then-not-may_alter : goal.returns-then-not-may_alter
 unfolding placed refused_by
 returns-then-not-may_alter c pool fits =
     let s = c.before.before.before.before.before.before.before.before.before.before in
-    refused-stranger s.requires.ready s.requires.sought pool fits s.requires.held_value (sym c.may_alter.ensures ∙ not-true _ c.if-not-may_alter.true)
+    refused-stranger s.requires.ready s.requires.sought pool fits s.requires.held_value (sym c.may_alter.ensures ∙ c.if-not-may_alter.true)
 
 pub remove_held-requires : goal.remove_held-requires
 remove_held-requires c =
@@ -53,7 +53,7 @@ returns-then-report-ne0 c pool fits =
     let removing = c.before.before.before.before.before.before.before.before.before.before.before.before.before.before.before.before.before.before.before.before.before.before.before.before.before in
     let done = c.remove_held.ensures in
     filed-removal s.requires.ready s.requires.sought pool fits s.requires.held_value (ap not (ne_eqb _ 0 removing.if-report-ne0.true))
-    (sym removing.may_alter.ensures ∙ not-false _ removing.if-not-may_alter.false) _ _ _ c.placed_from.ensures done.0 done.1
+    (sym removing.may_alter.ensures ∙ removing.if-not-may_alter.false) _ _ _ c.placed_from.ensures done.0 done.1
 
 -- a change
 abbrev begun : Else-report-ne0 → Start
@@ -83,11 +83,11 @@ bounds-words-item c =
 pub overflow_cast-page : goal.overflow_cast-page
 overflow_cast-page c =
     let s = begun c.before.before.before.before in
-    omega (arith, s.requires.sought.named.page_most, (limits _ s.requires.ready.homing.valid).pages-most)
+    omega (arith, s.requires.sought.named.page_most, (limits _ s.requires.ready.homing.valid).pages_most)
 
 pub returns : goal.returns
 unfolding placed
 returns c pool fits =
     let s = begun c.before.before.before.before in
-    filed-change s.requires.ready s.requires.sought pool fits s.requires.held_value (changing c.before.before.before.before) (sym c.may_alter.ensures ∙ not-false _ c.if-not-may_alter.false)
+    filed-change s.requires.ready s.requires.sought pool fits s.requires.held_value (changing c.before.before.before.before) (sym c.may_alter.ensures ∙ c.if-not-may_alter.false)
     c.pack.result (c.pack.ensures ∙ ap packed c.position_of.ensures)

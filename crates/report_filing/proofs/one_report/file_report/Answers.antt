@@ -18,10 +18,16 @@ use Rattle.report_filing.proofs.one_report.file_report.Lts as lts
 use Rattle.report_filing.proofs.one_report.file_report.Tie as tie
 use Rattle.report_filing.proofs.one_report.file_report.Reads as reads
 use Rattle.report_filing.proofs.one_report.file_report.Goals as goal
-use Rattle.report_filing.proofs.one_report.file_report.Goals.{After-find_kept-named, Else-not-position_fits, Start}
+use Rattle.report_filing.proofs.one_report.file_report.Goals.{Start}
 
 abbrev Else-not-number_valid : Type 0
 Else-not-number_valid = lts.Else1 tie.the-claims reads.Pre reads.Post
+
+abbrev Else-not-position_fits : Type 0
+Else-not-position_fits = lts.Else2 tie.the-claims reads.Pre reads.Post
+
+abbrev After-find_kept-named : Type 0
+After-find_kept-named = lts.After-find_kept tie.the-claims reads.Pre reads.Post
 
 pub returns-then-not-number_valid : goal.returns-then-not-number_valid
 unfolding placed refused_by
@@ -81,7 +87,7 @@ sought c e =
     }
 
 pub overflow_cast-page : goal.overflow_cast-page
-overflow_cast-page c = omega (arith, c.find_kept-named.ensures.named_as.page_most, (limits _ (begun c.before.before.before.before).requires.ready.homing.valid).pages-most)
+overflow_cast-page c = omega (arith, c.find_kept-named.ensures.named_as.page_most, (limits _ (begun c.before.before.before.before).requires.ready.homing.valid).pages_most)
 
 pub returns-then-not-named : goal.returns-then-not-named
 unfolding placed refused_by
@@ -89,7 +95,7 @@ returns-then-not-named c pool fits =
     let f = c.before.before.before.before.before.before in
     let s = begun f in
     let found = f.find_kept-named.ensures.named_as in
-    let d = damaged s.requires.ready pool s.args.report fits (numbered (valid f).before.before) (positioned (valid f)) (sym found.readable_is ∙ not-true _ c.if-not-named.true) in
+    let d = damaged s.requires.ready pool s.args.report fits (numbered (valid f).before.before) (positioned (valid f)) (sym found.readable_is ∙ c.if-not-named.true) in
     record { answers = ap (λ (q : ℕ). refused 5 q) found.page_is ∙ d.answers; files = d.files }
 
 pub file_held-requires : goal.file_held-requires
@@ -99,7 +105,7 @@ file_held-requires c =
     record {
       ready = (begun f).requires.ready;
       pooled = pooled-still f;
-      sought = sought f (not-false _ taken.if-not-named.false);
+      sought = sought f taken.if-not-named.false;
       held_value = taken.if-named.true;
     }
 
@@ -107,7 +113,7 @@ pub returns-then-report-ne0 : goal.returns-then-report-ne0
 unfolding placed
 returns-then-report-ne0 c pool fits =
     let f = c.before.before.before.before.before.before.before.before.before in
-    filed-nothing (begun f).requires.ready (sought f (not-false _ c.if-not-named.false)) pool fits c.if-named.false (ap not (ne_eqb _ 0 c.if-report-ne0.true))
+    filed-nothing (begun f).requires.ready (sought f c.if-not-named.false) pool fits c.if-named.false (ap not (ne_eqb _ 0 c.if-report-ne0.true))
 
 pub file_new-requires : goal.file_new-requires
 file_new-requires c =
@@ -116,6 +122,6 @@ file_new-requires c =
     record {
       ready = (begun f).requires.ready;
       pooled = pooled-still f;
-      sought = sought f (not-false _ left.if-not-named.false);
+      sought = sought f left.if-not-named.false;
       held_value = (left.if-named.false, left.if-report-ne0.false);
     }

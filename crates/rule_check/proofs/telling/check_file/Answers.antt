@@ -20,10 +20,13 @@ use Rattle.rule_check.proofs.telling.check_file.Lts as lts
 use Rattle.rule_check.proofs.telling.check_file.Tie as tie
 use Rattle.rule_check.proofs.telling.check_file.Reads as reads
 use Rattle.rule_check.proofs.telling.check_file.Goals as goal
-use Rattle.rule_check.proofs.telling.check_file.Goals.{After-compare_planned-spot, Start}
+use Rattle.rule_check.proofs.telling.check_file.Goals.{Start}
 
 abbrev Else-unsound-pages : Type 0
 Else-unsound-pages = lts.Else1 tie.the-claims reads.Pre reads.Post
+
+abbrev After-compare_planned-spot : Type 0
+After-compare_planned-spot = lts.After-compare_planned tie.the-claims reads.Pre reads.Post
 
 abbrev file : Start → File
 file s = lent s.args.separators.now s.args.numbers.now s.args.words.now s.args.owners.now

@@ -7,8 +7,13 @@ use lib.Seq.{take_all, length-sets}
 use Rattle.lines.specs.Programs.{Stands}
 use Rattle.lines.proofs.Programs.{start-stands, block_more}
 use Rattle.sessions.specs.Commands.{answering, run_in}
+use Rattle.sessions.proofs.blocks.answer_block.Lts as lts
+use Rattle.sessions.proofs.blocks.answer_block.Tie as tie
+use Rattle.sessions.proofs.blocks.answer_block.Reads as reads
 use Rattle.sessions.proofs.blocks.answer_block.Goals as goal
-use Rattle.sessions.proofs.blocks.answer_block.Goals.{At-loop-i}
+
+abbrev At-loop-i : Type 0
+At-loop-i = lts.At-loop tie.the-claims reads.Pre reads.Post goal.the-invariant-loop-i goal.the-decreases-loop-i
 
 same_size : (c : At-loop-i) → length c.loop-i.out ≡ length c.args.out.now
 same_size c = ap length c.loop-i.invariant.2.text.buffer ∙ simp length-sets

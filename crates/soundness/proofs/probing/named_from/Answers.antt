@@ -20,7 +20,7 @@ within s =
     let g = s.args.geometry in
     let ready = s.requires.homing in
     let low = home-pages (multiplier_of g.parameters) g.parameters g.growth s.args.number ready.valid ready.growth in
-    let most = (limits g.parameters ready.valid).pages-most in
+    let most = (limits g.parameters ready.valid).pages_most in
     (omega (arith, s.requires.separators_len, s.requires.home_value, low), omega (arith, s.requires.separators_len, most))
 
 pub near_end-end-requires : goal.near_end-end-requires

@@ -46,7 +46,7 @@ pub signature_by-signature-requires : goal.signature_by-signature-requires
 signature_by-signature-requires c =
     let s = c.before.before.before.before.before.before in
     let l = limits _ s.requires.signers.valid in
-    (lent_below (multiplier_of s.args.parameters) _ s.requires.signers.table _ (omega (arith, entry c.before.before, s.requires.home_le_start.0)), (l.bits-least, l.bits_most))
+    (lent_below (multiplier_of s.args.parameters) _ s.requires.signers.table _ (omega (arith, entry c.before.before, s.requires.home_le_start.0)), (l.bits_least, l.bits_most))
 
 pub overflow_cast-separators : goal.overflow_cast-separators
 overflow_cast-separators c = omega (arith, c.shared_slice_known-in-loop-page-2-1.given c.loop-page.page)

@@ -12,7 +12,7 @@ use Rattle.soundness.proofs.probing.probe_by_48271.Goals as goal
 pub multipliers-table-requires : goal.multipliers-table-requires
 multipliers-table-requires c =
     let p = c.requires.parameters_value in
-    rw (← p.1) (limits _ p.0).multiplier-valid
+    rw (← p.1) (limits _ p.0).multiplier_valid
 
 pub probe-requires : goal.probe-requires
 probe-requires c =

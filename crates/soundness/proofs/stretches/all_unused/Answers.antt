@@ -25,7 +25,7 @@ pub loop-i-preserved : goal.loop-i-preserved
 loop-i-preserved c =
     let l = c.before.before.before.before.before in
     let s = l.args in
-    unused_next s.numbers.now s.words.now s.owners.now _ _ l.loop-i.invariant l.if-numbers-i-ne0.false (sym c.unused.ensures ∙ not-false _ c.if-not-unused.false)
+    unused_next s.numbers.now s.words.now s.owners.now _ _ l.loop-i.invariant l.if-numbers-i-ne0.false (sym c.unused.ensures ∙ c.if-not-unused.false)
 
 pub returns : goal.returns
 returns c = λ e j a b. c.loop-i.invariant j a (omega (arith, c.loop-i-test.false))

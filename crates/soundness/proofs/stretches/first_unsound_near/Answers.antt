@@ -82,8 +82,8 @@ count_far-requires c =
     let l = c.before.before.before in
     let most = limits _ (start l).requires.ready.homing.valid in
     record {
-      places_in_bounds = ((items l).numbers, ((items l).homes, most.places-most));
-      page_bound = omega (arith, below l, most.pages-most);
+      places_in_bounds = ((items l).numbers, ((items l).homes, most.places_most));
+      page_bound = omega (arith, below l, most.pages_most);
     }
 
 pub first_unsound_beyond-requires : goal.first_unsound_beyond-requires

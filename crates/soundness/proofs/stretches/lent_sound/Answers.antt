@@ -111,7 +111,7 @@ pub loop-i-preserved : goal.loop-i-preserved
 loop-i-preserved c =
     let l = c.before.before.before.before.before.before.before.before in
     let item = c.admitted-item.ensures in
-    let taken = not-false _ c.if-not-item.false in
+    let taken = c.if-not-item.false in
     let s = (start l).args in
     (omega (arith, l.loop-i-test.true), lent-more _ _ _ _ s.numbers.now s.words.now s.owners.now s.at l.loop-i.invariant.1 l.loop-i-test.true (sym item.sound ∙ taken) (item.last taken))
 

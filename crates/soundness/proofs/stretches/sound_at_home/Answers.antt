@@ -26,7 +26,7 @@ returns-then-separators-page c = λ e. absurd (false≢true e)
 pub overflow_cast-own : goal.overflow_cast-own
 overflow_cast-own c =
     let s = c.before.before.before.before.before.before.before.before.before.before.before in
-    omega (arith, s.requires.page_lt_pages, (limits _ s.requires.parameters_value).pages-most)
+    omega (arith, s.requires.page_lt_pages, (limits _ s.requires.parameters_value).pages_most)
 
 -- the page's separator is the greatest
 topped : (c : After-struct_known-1) →
@@ -125,7 +125,7 @@ loop-i-preserved c =
     let s = (start l).args in (
       omega (arith, l.loop-i-test.true),
       home-next s.numbers.now s.words.now s.owners.now s.homes.now _ _ _ _ _ _ l.loop-i.invariant.1 l.loop-i-test.true _ refl
-          (omega (arith, c.if-number-last.false)) c.if-homes-to.false (sym c.word_valid.ensures ∙ not-false _ c.if-not-word_valid.false),
+          (omega (arith, c.if-number-last.false)) c.if-homes-to.false (sym c.word_valid.ensures ∙ c.if-not-word_valid.false),
     )
 
 pub returns : goal.returns

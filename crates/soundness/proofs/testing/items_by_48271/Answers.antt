@@ -12,7 +12,7 @@ use Rattle.soundness.proofs.testing.items_by_48271.Goals as goal
 pub multipliers-table-requires : goal.multipliers-table-requires
 multipliers-table-requires c =
     let p = c.requires.parameters_value in
-    rw (← p.1) (limits _ p.0).multiplier-valid
+    rw (← p.1) (limits _ p.0).multiplier_valid
 
 pub items_sound-requires : goal.items_sound-requires
 items_sound-requires c =
@@ -22,5 +22,5 @@ items_sound-requires c =
     record {
       signers = whole-signers table p.0.0;
       testable = p.1;
-      signable_on = λ i h star. omega (arith, whole_long (multiplier_of s.args.geometry.parameters) table, p.1.inside, (limits _ p.0.0).pages-most);
+      signable_on = λ i h star. omega (arith, whole_long (multiplier_of s.args.geometry.parameters) table, p.1.inside, (limits _ p.0.0).pages_most);
     }

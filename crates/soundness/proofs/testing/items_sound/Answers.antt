@@ -26,8 +26,8 @@ loop-i-init c =
     let l = limits s.args.geometry.parameters s.requires.signers.valid in
     let whole = s.requires.testable in (
       search rules,
-      l.places-most,
-      surveyed-none _ _ _ _ _ _ _ _ _ (omega (arith, l.places-most, whole.numbers)) (omega (arith, l.places-most, whole.words)) (omega (arith, l.places-most, whole.owners)) whole.homes,
+      l.places_most,
+      surveyed-none _ _ _ _ _ _ _ _ _ (omega (arith, l.places_most, whole.numbers)) (omega (arith, l.places_most, whole.words)) (omega (arith, l.places_most, whole.owners)) whole.homes,
       λ j h. omega arith,
     )
 
@@ -64,7 +64,7 @@ start_of c = c.before.before.before.before.before.before.before.before.before.be
 pub loop-i-preserved : goal.loop-i-preserved
 loop-i-preserved c =
     let item = c.admitted-item in
-    let taken = not-false _ c.if-not-item.false in (
+    let taken = c.if-not-item.false in (
       search rules,
       search rules,
       surveyed-more _ _ _ _ c.loop-i.invariant.2 (search rules) (search rules) (sym item.ensures.sound ∙ taken) (item.ensures.home taken) (item.ensures.last taken),

@@ -11,8 +11,14 @@ use Rattle.hashing.proofs.Bounds.{limits}
 use Rattle.placement.proofs.Prepared.{first-long, first-signers}
 use Rattle.soundness.specs.Survey.{sound_in, Found, Testable}
 use Rattle.soundness.proofs.Items.{found-led}
+use Rattle.soundness.proofs.testing.page_sound.Lts as lts
+use Rattle.soundness.proofs.testing.page_sound.Tie as tie
+use Rattle.soundness.proofs.testing.page_sound.Reads as reads
 use Rattle.soundness.proofs.testing.page_sound.Goals as goal
-use Rattle.soundness.proofs.testing.page_sound.Goals.{After-of_page, Start}
+use Rattle.soundness.proofs.testing.page_sound.Goals.{Start}
+
+abbrev After-of_page : Type 0
+After-of_page = lts.After-of_page tie.the-claims reads.Pre reads.Post
 
 pub returns-then-top_of-separators : goal.returns-then-top_of-separators
 unfolding sound_in
@@ -24,7 +30,7 @@ returns-then-top_of-separators c =
     }
 
 pub occupied_places-occupied-requires : goal.occupied_places-occupied-requires
-occupied_places-occupied-requires c = (limits _ c.requires.homing.valid).places-most
+occupied_places-occupied-requires c = (limits _ c.requires.homing.valid).places_most
 
 pub of_page-requires : goal.of_page-requires
 of_page-requires c =
@@ -34,7 +40,7 @@ of_page-requires c =
       powers_value = ready.table;
       parameters_value = ready.valid;
       growth_value = ready.growth;
-      places_bound = omega (arith, c.occupied_places-occupied.ensures.0, (limits s.args.geometry.parameters ready.valid).places-most);
+      places_bound = omega (arith, c.occupied_places-occupied.ensures.0, (limits s.args.geometry.parameters ready.valid).places_most);
       numbers_len = (s.requires.numbers_len.0, refl);
     }
 
@@ -42,14 +48,14 @@ abbrev start : After-of_page → Start
 start c = c.before.before.before.before.before.before.before.before.before
 
 low-page : (c : After-of_page) → (start c).args.page < 1024
-low-page c = omega (arith, (start c).requires.page_lt_pages, (limits _ (start c).requires.homing.valid).pages-most)
+low-page c = omega (arith, (start c).requires.page_lt_pages, (limits _ (start c).requires.homing.valid).pages_most)
 
 -- the homes before the first empty place are found
 homed : (c : After-of_page) → Found (start c).args.geometry (start c).args.numbers.now c.of_page.new.1.1.1.1.0
 homed c =
     let s = start c in
     let led = c.occupied_places-occupied.ensures in
-    let most = (limits s.args.geometry.parameters s.requires.homing.valid).places-most in
+    let most = (limits s.args.geometry.parameters s.requires.homing.valid).places_most in
     found-led _ _ _ _ _ (omega (arith, led.0, most, s.requires.numbers_len.0)) led.1 c.of_page.ensures
 
 pub count_far-requires : goal.count_far-requires

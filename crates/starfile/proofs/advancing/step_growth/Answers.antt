@@ -13,7 +13,16 @@ use Rattle.starfile.proofs.advancing.step_growth.Lts as lts
 use Rattle.starfile.proofs.advancing.step_growth.Tie as tie
 use Rattle.starfile.proofs.advancing.step_growth.Reads as reads
 use Rattle.starfile.proofs.advancing.step_growth.Goals as goal
-use Rattle.starfile.proofs.advancing.step_growth.Goals.{After-clear, After-step_second-stepped, In_default, Start}
+use Rattle.starfile.proofs.advancing.step_growth.Goals.{Start}
+
+abbrev In_default : Type 0
+In_default = lts.After-enum_told tie.the-claims reads.Pre reads.Post
+
+abbrev After-step_second-stepped : Type 0
+After-step_second-stepped = lts.After-step_second tie.the-claims reads.Pre reads.Post
+
+abbrev After-clear : Type 0
+After-clear = lts.After-clear tie.the-claims reads.Pre reads.Post
 
 abbrev After-slice_known-17-1 : Type 0
 After-slice_known-17-1 = lts.After-slice_known17 tie.the-claims reads.Pre reads.Post

@@ -8,7 +8,10 @@ use Rattle.starfile.proofs.advancing.step_second.Lts as lts
 use Rattle.starfile.proofs.advancing.step_second.Tie as tie
 use Rattle.starfile.proofs.advancing.step_second.Reads as reads
 use Rattle.starfile.proofs.advancing.step_second.Goals as goal
-use Rattle.starfile.proofs.advancing.step_second.Goals.{After-write_page-grown, Start}
+use Rattle.starfile.proofs.advancing.step_second.Goals.{Start}
+
+abbrev After-write_page-grown : Type 0
+After-write_page-grown = lts.After-write_page tie.the-claims reads.Pre reads.Post
 
 abbrev After-advanced : Type 0
 After-advanced = lts.After-advanced tie.the-claims reads.Pre reads.Post
@@ -22,7 +25,7 @@ second_of s = lent s.args.secondseparators.now s.args.secondnumbers.now s.args.s
 pub returns-then-not-growth : goal.returns-then-not-growth
 returns-then-not-growth c =
     let s = c.before.before.before.before.before.before.before.before.before.before.before.before.before.before in
-    step-late s.args.parameters s.args.growth (file_of s) (second_of s) (not-true _ c.if-not-growth.true)
+    step-late s.args.parameters s.args.growth (file_of s) (second_of s) c.if-not-growth.true
 
 pub write_page-grown-requires : goal.write_page-grown-requires
 write_page-grown-requires c =
@@ -31,11 +34,11 @@ write_page-grown-requires c =
       admitted = s.requires.admitted;
       sized = s.requires.sized;
       pooled = s.requires.pooled;
-      step_lt_pages = steps_below _ _ s.requires.growth_value (not-false _ c.if-not-growth.false);
+      step_lt_pages = steps_below _ _ s.requires.growth_value c.if-not-growth.false;
     }
 
 pub advanced-requires : goal.advanced-requires
-advanced-requires c = steps_below _ _ c.requires.growth_value (not-false _ c.if-not-growth.false)
+advanced-requires c = steps_below _ _ c.requires.growth_value c.if-not-growth.false
 
 abbrev after-write_page : After-advanced → After-write_page-grown
 after-write_page c = c.before.before.before.before.before.before.before.before.before.before.before.before.before.before.before
@@ -43,4 +46,4 @@ after-write_page c = c.before.before.before.before.before.before.before.before.b
 pub returns : goal.returns
 returns c =
     let s = c.before.before.before.before.before.before.before.before.before.before.before.before.before.before.before.before.before.before.before.before.before.before.before.before.before.before.before.before.before.before.before.before.before.before.before.before.before.before.before in
-    step-advanced s.args.parameters s.args.growth (file_of s) (second_of s) c.write_page-grown.result (not-false _ c.if-not-growth.false) c.write_page-grown.ensures.grows_as c.write_page-grown.ensures.steps_as c.advanced.ensures
+    step-advanced s.args.parameters s.args.growth (file_of s) (second_of s) c.write_page-grown.result c.if-not-growth.false c.write_page-grown.ensures.grows_as c.write_page-grown.ensures.steps_as c.advanced.ensures

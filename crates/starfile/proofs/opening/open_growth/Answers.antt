@@ -13,7 +13,16 @@ use Rattle.starfile.proofs.opening.open_growth.Lts as lts
 use Rattle.starfile.proofs.opening.open_growth.Tie as tie
 use Rattle.starfile.proofs.opening.open_growth.Reads as reads
 use Rattle.starfile.proofs.opening.open_growth.Goals as goal
-use Rattle.starfile.proofs.opening.open_growth.Goals.{After-clear, After-open_second-opened, In_default, Start}
+use Rattle.starfile.proofs.opening.open_growth.Goals.{Start}
+
+abbrev In_default : Type 0
+In_default = lts.After-enum_told tie.the-claims reads.Pre reads.Post
+
+abbrev After-open_second-opened : Type 0
+After-open_second-opened = lts.After-open_second tie.the-claims reads.Pre reads.Post
+
+abbrev After-clear : Type 0
+After-clear = lts.After-clear tie.the-claims reads.Pre reads.Post
 
 abbrev After-slice_known-16-1 : Type 0
 After-slice_known-16-1 = lts.After-slice_known16 tie.the-claims reads.Pre reads.Post

@@ -8,7 +8,13 @@ use Rattle.starfile.proofs.opening.open_second.Lts as lts
 use Rattle.starfile.proofs.opening.open_second.Tie as tie
 use Rattle.starfile.proofs.opening.open_second.Reads as reads
 use Rattle.starfile.proofs.opening.open_second.Goals as goal
-use Rattle.starfile.proofs.opening.open_second.Goals.{After-empty, After-plan_whole-grown, Start}
+use Rattle.starfile.proofs.opening.open_second.Goals.{Start}
+
+abbrev After-plan_whole-grown : Type 0
+After-plan_whole-grown = lts.After-plan_whole tie.the-claims reads.Pre reads.Post
+
+abbrev After-empty : Type 0
+After-empty = lts.After-empty tie.the-claims reads.Pre reads.Post
 
 abbrev After-state-1 : Type 0
 After-state-1 = lts.After-state tie.the-claims reads.Pre reads.Post

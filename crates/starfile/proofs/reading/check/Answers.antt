@@ -9,7 +9,9 @@ use Rattle.starfile.proofs.reading.check.Lts as lts
 use Rattle.starfile.proofs.reading.check.Tie as tie
 use Rattle.starfile.proofs.reading.check.Reads as reads
 use Rattle.starfile.proofs.reading.check.Goals as goal
-use Rattle.starfile.proofs.reading.check.Goals.{After-check}
+
+abbrev After-check : Type 0
+After-check = lts.After-check tie.the-claims reads.Pre reads.Post
 
 abbrev After-slice_known-6-1 : Type 0
 After-slice_known-6-1 = lts.After-slice_known6 tie.the-claims reads.Pre reads.Post

@@ -11,7 +11,10 @@ use Rattle.starfile.proofs.whole.write_page.Lts as lts
 use Rattle.starfile.proofs.whole.write_page.Tie as tie
 use Rattle.starfile.proofs.whole.write_page.Reads as reads
 use Rattle.starfile.proofs.whole.write_page.Goals as goal
-use Rattle.starfile.proofs.whole.write_page.Goals.{After-step_page-outcome, Start}
+use Rattle.starfile.proofs.whole.write_page.Goals.{Start}
+
+abbrev After-step_page-outcome : Type 0
+After-step_page-outcome = lts.After-step_page tie.the-claims reads.Pre reads.Post
 
 abbrev After-grown_by : Type 0
 After-grown_by = lts.After-grown_by tie.the-claims reads.Pre reads.Post

@@ -9,8 +9,14 @@ use Rattle.generator.specs.Generator.{valid_multiplier}
 use Rattle.calls.specs.Shape.{admission_number}
 use Rattle.tray.specs.Refusals.{tray_lengths, report_refusal}
 use Rattle.tray.proofs.Refused.{refused-adds, accepted-adds, report-admitted}
+use Rattle.tray.proofs.adding.decide.Lts as lts
+use Rattle.tray.proofs.adding.decide.Tie as tie
+use Rattle.tray.proofs.adding.decide.Reads as reads
 use Rattle.tray.proofs.adding.decide.Goals as goal
-use Rattle.tray.proofs.adding.decide.Goals.{In_default, Start}
+use Rattle.tray.proofs.adding.decide.Goals.{Start}
+
+abbrev In_default : Type 0
+In_default = lts.After-enum_told tie.the-claims reads.Pre reads.Post
 
 pub returns-in-Refused : goal.returns-in-Refused
 returns-in-Refused c =

@@ -6,8 +6,17 @@ use lib.ListN.{length}
 use Rattle.outcome_answer.proofs.Pools.{cleared-is}
 use Rattle.tray.proofs.Filed.{filed-few}
 use borrow.Author.Rules.{rules}
+use Rattle.tray.proofs.filing.file_admitted.Lts as lts
+use Rattle.tray.proofs.filing.file_admitted.Tie as tie
+use Rattle.tray.proofs.filing.file_admitted.Reads as reads
 use Rattle.tray.proofs.filing.file_admitted.Goals as goal
-use Rattle.tray.proofs.filing.file_admitted.Goals.{After-clear, After-file_reports-filed, Start}
+use Rattle.tray.proofs.filing.file_admitted.Goals.{Start}
+
+abbrev After-file_reports-filed : Type 0
+After-file_reports-filed = lts.After-file_reports tie.the-claims reads.Pre reads.Post
+
+abbrev After-clear : Type 0
+After-clear = lts.After-clear tie.the-claims reads.Pre reads.Post
 
 abbrev from-filed : After-file_reports-filed → Start
 from-filed d = d.before.before.before.before.before.before.before.before.before.before.before.before.before.before.before.before
