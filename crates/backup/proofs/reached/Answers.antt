@@ -15,8 +15,8 @@ address : (c : After-highest_address)
 unfolding highest
 address c =
     let s = c.requires in
-    let l = limits _ s.0 in
-    let w = growth_within _ _ s.1 in
+    let l = limits _ s.parameters_value in
+    let w = growth_within _ _ s.growth_value in
     (omega (arith, c.highest_address.ensures, (spread _ _ l w).pages_low), omega (arith, l.pages_most, w.pages_fit))
 
 pub overflow_add-highest_address : goal.overflow_add-highest_address

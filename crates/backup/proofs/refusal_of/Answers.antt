@@ -1,6 +1,6 @@
 -- `backup::refusal_of` meets its contract.
-use mathlib.Core.Path.{◌≡◌, sym, ◌∙◌}
-use mathlib.Core.Bool.{true}
+use mathlib.Core.Path.{◌≡◌, sym, ◌∙◌, ap}
+use mathlib.Core.Bool.{true, not}
 use native.Mathlib.Omega.{arith}
 use borrow.Author.Rules.{rules}
 use borrow.Author.Tests.{eq-eqb, ne_eqb}
@@ -13,21 +13,21 @@ use Rattle.backup.proofs.refusal_of.Goals.{Else-not-growth_valid}
 state : (c : Else-not-growth_valid)
     → (valid_parameters c.args.parameters ≡ true)
     × (valid_growth c.args.parameters c.args.growth ≡ true)
-state c = (passed _ _ c.parameters_valid.ensures c.if-not-parameters_valid.false, passed _ _ c.growth_valid.ensures c.if-not-growth_valid.false)
+state c = (passed _ _ c.parameters_valid.ensures (ap not c.if-not-parameters_valid.false), passed _ _ c.growth_valid.ensures (ap not c.if-not-growth_valid.false))
 
 pub returns-then-not-parameters_valid : goal.returns-then-not-parameters_valid
 unfolding mark_refusal
-returns-then-not-parameters_valid c = rw (failed _ _ c.parameters_valid.ensures c.if-not-parameters_valid.true)
+returns-then-not-parameters_valid c = rw (failed _ _ c.parameters_valid.ensures (ap not c.if-not-parameters_valid.true))
 
 pub growth_valid-requires : goal.growth_valid-requires
-growth_valid-requires c = passed _ _ c.parameters_valid.ensures c.if-not-parameters_valid.false
+growth_valid-requires c = passed _ _ c.parameters_valid.ensures (ap not c.if-not-parameters_valid.false)
 
 pub returns-then-not-growth_valid : goal.returns-then-not-growth_valid
 unfolding mark_refusal
 returns-then-not-growth_valid c =
     rw (
-      passed _ _ c.parameters_valid.ensures c.if-not-parameters_valid.false,
-      failed _ _ c.growth_valid.ensures c.if-not-growth_valid.true,
+      passed _ _ c.parameters_valid.ensures (ap not c.if-not-parameters_valid.false),
+      failed _ _ c.growth_valid.ensures (ap not c.if-not-growth_valid.true),
     )
 
 pub returns-then-old-pages : goal.returns-then-old-pages

@@ -1,10 +1,11 @@
-use mathlib.Core.Path.{refl, sym, ◌∙◌}
+use mathlib.Core.Path.{refl, sym, ◌∙◌, ap}
 use Prim.Native.Nat.{◌-◌}
 use native.Mathlib.Omega.{arith}
 use Rattle.hashing.proofs.Bounds.{limits, failed, passed}
 use Rattle.hashing.proofs.Homes.{start-valid, grown-count, grown-valid}
 use Rattle.capacity.specs.State.{state_for_lem}
 use Rattle.capacity.proofs.States.{Reached, start-pages, state-here, state-next, reached-all}
+use mathlib.Core.Bool.{not}
 use Rattle.capacity.proofs.first_state.Goals as goal
 
 pub overflow_mul-pages : goal.overflow_mul-pages
@@ -30,7 +31,7 @@ pub returns-then-not-exceeds : goal.returns-then-not-exceeds
 returns-then-not-exceeds c =
     let turn = c.before.before.before.before in
     let r = turn.loop-pages.invariant in (
-      sym (r.leads ∙ state-here _ _ _ _ r.counted c.loop-pages-test.true (failed _ _ c.exceeds.ensures c.if-not-exceeds.true)),
+      sym (r.leads ∙ state-here _ _ _ _ r.counted c.loop-pages-test.true (failed _ _ c.exceeds.ensures (ap not c.if-not-exceeds.true))),
       r.valid,
     )
 
@@ -55,7 +56,7 @@ loop-pages-preserved c =
     let v = turn.requires in
     let r = turn.loop-pages.invariant in
     let below = c.loop-pages-test.true in
-    let stepped = state-next p _ _ turn.loop-pages.growth r.counted below (passed _ _ c.exceeds.ensures c.if-not-exceeds.false) in
+    let stepped = state-next p _ _ turn.loop-pages.growth r.counted below (passed _ _ c.exceeds.ensures (ap not c.if-not-exceeds.false)) in
     rw c.grown-growth.ensures
     (record {
       counted = omega (arith, r.counted, grown-count p turn.loop-pages.growth v);

@@ -1,5 +1,5 @@
-use mathlib.Core.Path.{◌≡◌, sym, ◌∙◌}
-use mathlib.Core.Bool.{true}
+use mathlib.Core.Path.{◌≡◌, sym, ◌∙◌, ap}
+use mathlib.Core.Bool.{true, not}
 use Prim.Native.Nat.{◌+◌, ◌≤◌}
 use native.Mathlib.Omega.{arith}
 use borrow.Author.Rules.{rules}
@@ -14,10 +14,10 @@ use Rattle.capacity.proofs.state_for.Goals.{After-highest_address-pages, Else-no
 
 pub returns-then-not-parameters_valid : goal.returns-then-not-parameters_valid
 unfolding choice_of due_said refused_by
-returns-then-not-parameters_valid c = rw (failed _ _ c.parameters_valid.ensures c.if-not-parameters_valid.true)
+returns-then-not-parameters_valid c = rw (failed _ _ c.parameters_valid.ensures (ap not c.if-not-parameters_valid.true))
 
 good : (c : Else-not-parameters_valid) → valid_parameters c.args.parameters ≡ true
-good c = passed _ _ c.parameters_valid.ensures c.if-not-parameters_valid.false
+good c = passed _ _ c.parameters_valid.ensures (ap not c.if-not-parameters_valid.false)
 
 pub first_state-growth-requires : goal.first_state-growth-requires
 first_state-growth-requires c = good c
@@ -35,8 +35,8 @@ pages-are c =
     let s = spread _ _ l (growth_within _ _ c.first_state-growth.ensures.1) in
     omega (arith, c.highest_address-pages.ensures, s.pages_low)
 
-pages_most : (c : After-highest_address-pages) → c.highest_address-pages.result + 1 ≤ 1024
-pages_most c =
+pages-most : (c : After-highest_address-pages) → c.highest_address-pages.result + 1 ≤ 1024
+pages-most c =
     omega (
       arith,
       pages-are c,
@@ -45,12 +45,12 @@ pages_most c =
     )
 
 pub overflow_add-pages : goal.overflow_add-pages
-overflow_add-pages c = omega (arith, pages_most c)
+overflow_add-pages c = omega (arith, pages-most c)
 
 pub exceeds-requires : goal.exceeds-requires
 exceeds-requires c = record {
   parameters_value = good c.before.before;
-  pages_bound = pages_most c;
+  pages_bound = pages-most c;
 }
 
 pub returns-then-exceeds : goal.returns-then-exceeds

@@ -14,10 +14,10 @@ use Rattle.lines.proofs.read_natural.Reads as reads
 use Rattle.lines.proofs.read_natural.Goals as goal
 
 abbrev In-loop-i : Type 0
-In-loop-i = lts.In-loop tie.the-claims reads.Pre reads.Post goal.the-invariant-loop-i goal.the-decreases-loop-i
+In-loop-i = lts.In-loop reads.Pre reads.Post goal.the-invariant-loop-i goal.the-decreases-loop-i
 
 abbrev Else-c-gt57 : Type 0
-Else-c-gt57 = lts.Else5 tie.the-claims reads.Pre reads.Post goal.the-invariant-loop-i goal.the-decreases-loop-i
+Else-c-gt57 = lts.Else5 reads.Pre reads.Post goal.the-invariant-loop-i goal.the-decreases-loop-i
 
 pub returns-then-field-eq0 : goal.returns-then-field-eq0
 returns-then-field-eq0 c = sym (empty-wrong _ c.if-field-eq0.true)

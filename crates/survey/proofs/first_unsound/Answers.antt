@@ -7,7 +7,7 @@ pub survey-requires : goal.survey-requires
 survey-requires c =
     let p = c.requires in
     record {
-      ready = p.0;
-      from_le_stop = p.1.0;
-      places_in_bounds = omega (arith, p.1.1);
+      ready = p.ready;
+      from_le_stop = p.from_le_stop;
+      places_in_bounds = omega (arith, p.places_bound);
     }

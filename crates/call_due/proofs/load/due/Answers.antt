@@ -109,8 +109,8 @@ pages-are c =
     (lent-well (told c.before)).sized.of_numbers
     (reached c)))
 
-pages_most : (c : After-in_use-pages) → c.in_use-pages.result ≤ 1024
-pages_most c =
+pages-most : (c : After-in_use-pages) → c.in_use-pages.result ≤ 1024
+pages-most c =
     omega (
       arith,
       pages-are c,
@@ -142,7 +142,7 @@ overflow_mul-room c =
 pub overflow_mul-room-2 : goal.overflow_mul-room-2
 overflow_mul-room-2 c =
     let l = limits _ (lent-well (told c.before.before.before)).homing.valid in
-    let m : (begun c.before.before).args.parameters.load * (begun c.before.before).args.parameters.places * c.in_use-pages.result ≤ 99 * 32 * 1024 = mul-le-mul (mul-le-mul l.load_most l.places_most) (pages_most c.before.before) in
+    let m : (begun c.before.before).args.parameters.load * (begun c.before.before).args.parameters.places * c.in_use-pages.result ≤ 99 * 32 * 1024 = mul-le-mul (mul-le-mul l.load_most l.places_most) (pages-most c.before.before) in
     omega arith
 
 pub overflow_mul-count : goal.overflow_mul-count

@@ -1,6 +1,6 @@
 -- `call_enter::entry::enter_by` meets its contract.
-use mathlib.Core.Path.{◌≡◌, ◌∙◌}
-use mathlib.Core.Bool.{true, ◌&&◌}
+use mathlib.Core.Path.{◌≡◌, ◌∙◌, ap}
+use mathlib.Core.Bool.{true, ◌&&◌, not}
 use Rattle.hashing.proofs.Bounds.{passed, failed}
 use Rattle.pages.specs.Position.{valid_number, valid_position}
 use Rattle.placement.specs.File.{File}
@@ -21,10 +21,10 @@ use Rattle.call_enter.proofs.entry.enter_by.Goals as goal
 use Rattle.call_enter.proofs.entry.enter_by.Goals.{Start}
 
 abbrev In_default : Type 0
-In_default = lts.After-enum_told tie.the-claims reads.Pre reads.Post
+In_default = lts.After-enum_told tie.the-claims reads.Pre reads.Post tie.handed_clauses
 
 abbrev Else-not-position_valid : Type 0
-Else-not-position_valid = lts.Else2 tie.the-claims reads.Pre reads.Post
+Else-not-position_valid = lts.Else2 tie.the-claims reads.Pre reads.Post tie.handed_clauses
 
 abbrev file_of : Start → File
 file_of s = lent s.args.separators.now s.args.numbers.now s.args.words.now s.args.owners.now
@@ -67,7 +67,7 @@ returns-then-not-number_valid c =
     (rw (
       way c.before.before.before.before.before.before.before.before.before.before.before.before.before.before,
       none c.before.before.before,
-      failed _ _ c.number_valid.ensures c.if-not-number_valid.true,
+      failed _ _ c.number_valid.ensures (ap not c.if-not-number_valid.true),
     )))
 
 pub returns-then-not-position_valid : goal.returns-then-not-position_valid
@@ -79,18 +79,18 @@ returns-then-not-position_valid c =
     (rw (
       way c.before.before.before.before.before.before.before.before.before.before.before.before.before.before.before.before,
       none c.before.before.before.before.before,
-      passed _ _ c.number_valid.ensures c.if-not-number_valid.false,
-      failed _ _ c.position_valid.ensures c.if-not-position_valid.true,
+      passed _ _ c.number_valid.ensures (ap not c.if-not-number_valid.false),
+      failed _ _ c.position_valid.ensures (ap not c.if-not-position_valid.true),
     )))
 
 abbrev told : Else-not-position_valid → In_default
 told c = c.before.before.before.before
 
 numbered : (c : Else-not-position_valid) → valid_number (begun (told c)).args.number ≡ true
-numbered c = passed _ _ c.number_valid.ensures c.if-not-number_valid.false
+numbered c = passed _ _ c.number_valid.ensures (ap not c.if-not-number_valid.false)
 
 positioned : (c : Else-not-position_valid) → valid_position (begun (told c)).args.position ≡ true
-positioned c = passed _ _ c.position_valid.ensures c.if-not-position_valid.false
+positioned c = passed _ _ c.position_valid.ensures (ap not c.if-not-position_valid.false)
 
 pub pack-word-requires : goal.pack-word-requires
 pack-word-requires c = positioned c.before

@@ -28,16 +28,16 @@ use Rattle.call_enter.proofs.entry.enter_star.Goals as goal
 use Rattle.call_enter.proofs.entry.enter_star.Goals.{After-cascade, After-enter_star, Start}
 
 abbrev After-find_kept-named : Type 0
-After-find_kept-named = lts.After-find_kept tie.the-claims reads.Pre reads.Post
+After-find_kept-named = lts.After-find_kept tie.the-claims reads.Pre reads.Post tie.handed_clauses
 
 abbrev Else-named : Type 0
-Else-named = lts.Else2 tie.the-claims reads.Pre reads.Post
+Else-named = lts.Else2 tie.the-claims reads.Pre reads.Post tie.handed_clauses
 
 abbrev After-placed_from : Type 0
-After-placed_from = lts.After-placed_from tie.the-claims reads.Pre reads.Post
+After-placed_from = lts.After-placed_from tie.the-claims reads.Pre reads.Post tie.handed_clauses
 
 abbrev After-placed_from-2 : Type 0
-After-placed_from-2 = lts.After-placed_from2 tie.the-claims reads.Pre reads.Post
+After-placed_from-2 = lts.After-placed_from2 tie.the-claims reads.Pre reads.Post tie.handed_clauses
 
 abbrev file_of : Start → File
 file_of s = lent s.args.separators.now s.args.numbers.now s.args.words.now s.args.owners.now
@@ -57,9 +57,9 @@ pub find_kept-named-requires : goal.find_kept-named-requires
 find_kept-named-requires c =
     let pre = c.requires in
     record {
-      ready = prepared c.first_multipliers-table.ensures pre.0;
-      pool_len = pre.1.0.of_numbers;
-      number_value = pre.1.1;
+      ready = prepared c.first_multipliers-table.ensures pre.admitted;
+      pool_len = pre.pooled.of_numbers;
+      number_value = pre.number_value;
     }
 
 pub overflow_cast-page : goal.overflow_cast-page
@@ -187,7 +187,7 @@ enter_star-requires c =
     let e = c.before.before.before.before.before.before.before.before.before in
     let s = begun e in
     let kept = c.find_kept-named.ensures in
-    let found = kept.0 in record {
+    let found = kept.named_as in record {
       enters = record {
         ready = prepared c.first_multipliers-table.ensures s.pre.0;
         number = s.pre.1.1;
@@ -196,7 +196,7 @@ enter_star-requires c =
         here = found.page_is;
       };
       pooled = pooled-still e;
-      known = kept.1 (opened e);
+      known = kept.known (opened e);
       place_value = found.place_is_lem (opened e) ∙ ap (λ (q : ℕ). place_of s.args.number (part s.args.parameters.places q s.args.numbers.now)) (sym found.page_is);
     }
 
@@ -222,6 +222,6 @@ returns c =
     let done = c.enter_star.ensures in
     let is = entered-is s.args.parameters s.args.growth (file_of s) (cleared (pool_of s)) (star e) (place_for s.args.parameters (file_of s) (named s.args.parameters s.args.growth (file_of s) s.args.number) s.args.number) in
     record {
-      answers = rw (read e, held e, reached) (ap placed (rw (done.0, found.place_is_lem (opened e)) at c.placed_from-2.ensures) ∙ is.0);
-      files = rw (read e, held e, reached) (done.1 ∙ ap (λ (l : File). stopped_file false s.args.parameters (file_of s) l s.args.stores) is.1);
+      answers = rw (read e, held e, reached) (ap placed (rw (done.value, found.place_is_lem (opened e)) at c.placed_from-2.ensures) ∙ is.0);
+      files = rw (read e, held e, reached) (done.owners_value ∙ ap (λ (l : File). stopped_file false s.args.parameters (file_of s) l s.args.stores) is.1);
     }

@@ -1,10 +1,12 @@
 -- `call_guard::lending::all_fit` meets its contract.
 use Rattle.hashing.proofs.Bounds.{passed, failed}
 use borrow.Author.Rules.{rules}
+use mathlib.Core.Path.{ap}
+use mathlib.Core.Bool.{not}
 use Rattle.call_guard.proofs.lending.all_fit.Goals as goal
 
 pub returns-then-not-file_fits : goal.returns-then-not-file_fits
-returns-then-not-file_fits c = rw (failed _ _ c.file_fits.ensures c.if-not-file_fits.true)
+returns-then-not-file_fits c = rw (failed _ _ c.file_fits.ensures (ap not c.if-not-file_fits.true))
 
 pub returns : goal.returns
-returns c = rw (passed _ _ c.file_fits.ensures c.if-not-file_fits.false, c.pool_fits.ensures)
+returns c = rw (passed _ _ c.file_fits.ensures (ap not c.if-not-file_fits.false), c.pool_fits.ensures)

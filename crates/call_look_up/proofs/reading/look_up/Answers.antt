@@ -1,6 +1,6 @@
 -- `call_look_up::reading::look_up` meets its contract.
 use mathlib.Core.Path.{◌≡◌, refl, sym, ap, ◌∙◌}
-use mathlib.Core.Bool.{true}
+use mathlib.Core.Bool.{true, not}
 use native.Mathlib.Omega.{arith}
 use borrow.Author.Tests.{not-true, not-false}
 use Rattle.hashing.proofs.Bounds.{limits, passed, failed}
@@ -20,10 +20,10 @@ use Rattle.call_look_up.proofs.reading.look_up.Goals as goal
 use Rattle.call_look_up.proofs.reading.look_up.Goals.{Start}
 
 abbrev In_default : Type 0
-In_default = lts.After-enum_told tie.the-claims reads.Pre reads.Post
+In_default = lts.After-enum_told tie.the-claims reads.Pre reads.Post tie.handed_clauses
 
 abbrev Else-not-number_valid : Type 0
-Else-not-number_valid = lts.Else1 tie.the-claims reads.Pre reads.Post
+Else-not-number_valid = lts.Else1 tie.the-claims reads.Pre reads.Post tie.handed_clauses
 
 abbrev file_of : Start → File
 file_of s = lent s.args.separators.now s.args.numbers.now s.args.words.now s.args.owners.now
@@ -48,14 +48,14 @@ unfolding look_up_of sought refused_by
 returns-then-not-number_valid c =
     rw (
       none c.before.before.before,
-      failed _ _ c.number_valid.ensures c.if-not-number_valid.true,
+      failed _ _ c.number_valid.ensures (ap not c.if-not-number_valid.true),
     )
 
 abbrev told : Else-not-number_valid → In_default
 told c = c.before.before
 
 numbered : (c : Else-not-number_valid) → valid_number (begun (told c)).args.number ≡ true
-numbered c = passed _ _ c.number_valid.ensures c.if-not-number_valid.false
+numbered c = passed _ _ c.number_valid.ensures (ap not c.if-not-number_valid.false)
 
 pub first_multipliers-table-requires : goal.first_multipliers-table-requires
 first_multipliers-table-requires c = tabled (lent-well (told c.before))

@@ -1,5 +1,5 @@
 use mathlib.Core.Path.{◌≡◌, refl, sym, ap, ◌∙◌}
-use mathlib.Core.Bool.{true}
+use mathlib.Core.Bool.{true, not}
 use Prim.Native.Nat.{ℕ, ◌*◌, ◌<◌}
 use native.Mathlib.Omega.{arith}
 use borrow.Author.Tests.{not-true, not-false, eq-eqb, ne_eqb}
@@ -26,13 +26,13 @@ use Rattle.call_look_up.proofs.rewriting.change_stopped.Goals as goal
 use Rattle.call_look_up.proofs.rewriting.change_stopped.Goals.{Start}
 
 abbrev In_default : Type 0
-In_default = lts.After-enum_told tie.the-claims reads.Pre reads.Post
+In_default = lts.After-enum_told tie.the-claims reads.Pre reads.Post tie.handed_clauses
 
 abbrev Else-not-position_valid : Type 0
-Else-not-position_valid = lts.Else2 tie.the-claims reads.Pre reads.Post
+Else-not-position_valid = lts.Else2 tie.the-claims reads.Pre reads.Post tie.handed_clauses
 
 abbrev Else-not-may_alter : Type 0
-Else-not-may_alter = lts.Else5 tie.the-claims reads.Pre reads.Post
+Else-not-may_alter = lts.Else5 tie.the-claims reads.Pre reads.Post tie.handed_clauses
 
 abbrev file_of : Start → File
 file_of s = lent s.args.separators.now s.args.numbers.now s.args.words.now s.args.owners.now
@@ -55,10 +55,10 @@ abbrev told : Else-not-position_valid → In_default
 told c = c.before.before.before.before
 
 numbered : (c : Else-not-position_valid) → valid_number (begun (told c)).args.number ≡ true
-numbered c = passed _ _ c.number_valid.ensures c.if-not-number_valid.false
+numbered c = passed _ _ c.number_valid.ensures (ap not c.if-not-number_valid.false)
 
 positioned : (c : Else-not-position_valid) → valid_position (begun (told c)).args.position ≡ true
-positioned c = passed _ _ c.position_valid.ensures c.if-not-position_valid.false
+positioned c = passed _ _ c.position_valid.ensures (ap not c.if-not-position_valid.false)
 
 -- the star may be changed
 below : (c : Else-not-may_alter) → c.find-named.result.item < c.args.parameters.pages * c.args.parameters.places
@@ -90,7 +90,7 @@ returns-then-not-number_valid c =
     (leaves _ _ c.args.growth _ _
     (rw (
       none c.before.before.before,
-      failed _ _ c.number_valid.ensures c.if-not-number_valid.true,
+      failed _ _ c.number_valid.ensures (ap not c.if-not-number_valid.true),
     )))
 
 pub returns-then-not-position_valid : goal.returns-then-not-position_valid
@@ -101,8 +101,8 @@ returns-then-not-position_valid c =
     (leaves _ _ c.args.growth _ _
     (rw (
       none c.before.before.before.before.before,
-      passed _ _ c.number_valid.ensures c.if-not-number_valid.false,
-      failed _ _ c.position_valid.ensures c.if-not-position_valid.true,
+      passed _ _ c.number_valid.ensures (ap not c.if-not-number_valid.false),
+      failed _ _ c.position_valid.ensures (ap not c.if-not-position_valid.true),
     )))
 
 pub first_multipliers-table-requires : goal.first_multipliers-table-requires

@@ -26,10 +26,10 @@ use Rattle.call_remove.proofs.removal.remove_held.Goals as goal
 use Rattle.call_remove.proofs.removal.remove_held.Goals.{Start}
 
 abbrev After-find_kept-named : Type 0
-After-find_kept-named = lts.After-find_kept tie.the-claims reads.Pre reads.Post
+After-find_kept-named = lts.After-find_kept tie.the-claims reads.Pre reads.Post tie.handed_clauses
 
 abbrev Else-not-may_alter : Type 0
-Else-not-may_alter = lts.Else3 tie.the-claims reads.Pre reads.Post
+Else-not-may_alter = lts.Else3 tie.the-claims reads.Pre reads.Post tie.handed_clauses
 
 abbrev file_of : Start → File
 file_of s = lent s.args.separators.now s.args.numbers.now s.args.words.now s.args.owners.now
@@ -48,9 +48,9 @@ pub find_kept-named-requires : goal.find_kept-named-requires
 find_kept-named-requires c =
     let pre = c.requires in
     record {
-      ready = prepared c.first_multipliers-table.ensures pre.0;
-      pool_len = pre.1.0.of_numbers;
-      number_value = pre.1.1;
+      ready = prepared c.first_multipliers-table.ensures pre.admitted;
+      pool_len = pre.pooled.of_numbers;
+      number_value = pre.number_value;
     }
 
 pub overflow_cast-page : goal.overflow_cast-page
@@ -139,6 +139,6 @@ returns c =
     let page = named s.args.parameters s.args.growth (file_of s) s.args.number in
     let is = removed-is s.args.parameters s.args.growth (file_of s) (cleared (pool_of s)) page s.args.number (place_for s.args.parameters (file_of s) page s.args.number) in
     record {
-      answers = rw (read, held, may) (outcome-told c.placed_from.ensures (done.0 ∙ ap (removal_answer s.args.parameters s.args.growth (file_of s) s.args.number) found.page_is) (found.place_is_lem (opened e)) ∙ is.0);
-      files = rw (read, held, may) (done.1 ∙ ap (λ (l : File). stopped_file true s.args.parameters (file_of s) l s.args.stores) is.1);
+      answers = rw (read, held, may) (outcome-told c.placed_from.ensures (done.value ∙ ap (removal_answer s.args.parameters s.args.growth (file_of s) s.args.number) found.page_is) (found.place_is_lem (opened e)) ∙ is.0);
+      files = rw (read, held, may) (done.owners_value ∙ ap (λ (l : File). stopped_file true s.args.parameters (file_of s) l s.args.stores) is.1);
     }

@@ -1,6 +1,6 @@
 -- `call_remove::remove_stopped` meets its contract.
-use mathlib.Core.Path.{◌≡◌}
-use mathlib.Core.Bool.{true, ◌&&◌}
+use mathlib.Core.Path.{◌≡◌, ap}
+use mathlib.Core.Bool.{true, ◌&&◌, not}
 use Rattle.hashing.proofs.Bounds.{passed, failed}
 use Rattle.pages.specs.Position.{valid_number}
 use Rattle.placement.specs.File.{File}
@@ -22,10 +22,10 @@ use Rattle.call_remove.proofs.removal.remove_stopped.Goals as goal
 use Rattle.call_remove.proofs.removal.remove_stopped.Goals.{Start}
 
 abbrev In_default : Type 0
-In_default = lts.After-enum_told tie.the-claims reads.Pre reads.Post
+In_default = lts.After-enum_told tie.the-claims reads.Pre reads.Post tie.handed_clauses
 
 abbrev Else-not-number_valid : Type 0
-Else-not-number_valid = lts.Else1 tie.the-claims reads.Pre reads.Post
+Else-not-number_valid = lts.Else1 tie.the-claims reads.Pre reads.Post tie.handed_clauses
 
 abbrev file_of : Start → File
 file_of s = lent s.args.separators.now s.args.numbers.now s.args.words.now s.args.owners.now
@@ -61,14 +61,14 @@ returns-then-not-number_valid c =
     (leaves _ _ c.args.growth _ _
     (rw (
       none c.before.before.before,
-      failed _ _ c.number_valid.ensures c.if-not-number_valid.true,
+      failed _ _ c.number_valid.ensures (ap not c.if-not-number_valid.true),
     )))
 
 abbrev told : Else-not-number_valid → In_default
 told c = c.before.before
 
 numbered : (c : Else-not-number_valid) → valid_number (begun (told c)).args.number ≡ true
-numbered c = passed _ _ c.number_valid.ensures c.if-not-number_valid.false
+numbered c = passed _ _ c.number_valid.ensures (ap not c.if-not-number_valid.false)
 
 pub remove_held-answer-requires : goal.remove_held-answer-requires
 remove_held-answer-requires c =

@@ -14,7 +14,7 @@ use Rattle.call_whole_file.proofs.growth.regrow_file.Goals as goal
 use Rattle.call_whole_file.proofs.growth.regrow_file.Goals.{Start}
 
 abbrev In-To-2 : Type 0
-In-To-2 = lts.After-step2 tie.the-claims reads.Pre reads.Post
+In-To-2 = lts.After-step2 tie.the-claims reads.Pre reads.Post tie.handed_clauses
 
 abbrev file_of : Start → File
 file_of s = lent s.args.separators.now s.args.numbers.now s.args.words.now s.args.owners.now
@@ -62,6 +62,6 @@ returns-in-To c =
     let done = c.regrow-outcome.ensures in
     let e = sym stepped.step_of-step.ensures ∙ stepped.step-in-To-1.given.1 in
     record {
-      stores = (regrow_stored _ _ _ e (file_of s) (cleared (pool_of s)) done.0 done.1 c.grown_by.ensures).0;
-      growth_value = (regrow_stored _ _ _ e (file_of s) (cleared (pool_of s)) done.0 done.1 c.grown_by.ensures).1;
+      stores = (regrow_stored _ _ _ e (file_of s) (cleared (pool_of s)) done.value done.owners_value c.grown_by.ensures).0;
+      growth_value = (regrow_stored _ _ _ e (file_of s) (cleared (pool_of s)) done.value done.owners_value c.grown_by.ensures).1;
     }

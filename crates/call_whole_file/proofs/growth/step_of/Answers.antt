@@ -18,8 +18,8 @@ page-is c =
     let s = c.before in
     omega (arith, c.highest_address-highest.ensures, (spread _ _ (limits _ s.requires.parameters_value) (growth_within _ _ s.requires.growth_value)).pages_low)
 
-pages_most : (c : After-highest_address-highest) → page_count c.args.geometry.parameters c.args.geometry.growth ≤ 1024
-pages_most c =
+pages-most : (c : After-highest_address-highest) → page_count c.args.geometry.parameters c.args.geometry.growth ≤ 1024
+pages-most c =
     let s = c.before in
     omega (arith, (growth_within s.args.geometry.parameters s.args.geometry.growth s.requires.growth_value).pages_fit, (limits _ s.requires.parameters_value).pages_most)
 
@@ -41,7 +41,7 @@ unfolding step_of
 returns-then-back c = rw (c.if-back.true, sym c.ungrown.ensures ∙ c.if-ungrown.false, c.shrunk.ensures, c.highest_address-highest.ensures)
 
 pub overflow_add-page : goal.overflow_add-page
-overflow_add-page c = omega (arith, page-is c.before, pages_most c.before)
+overflow_add-page c = omega (arith, page-is c.before, pages-most c.before)
 
 pub returns-then-page-geometry : goal.returns-then-page-geometry
 unfolding step_of highest

@@ -1,7 +1,7 @@
 -- 1, 2, then the second set and the cleared pool.
 use borrow.Author.Rules.{rules}
-use mathlib.Core.Path.{◌≡◌, refl, ◌∙◌}
-use mathlib.Core.Bool.{true}
+use mathlib.Core.Path.{◌≡◌, refl, ◌∙◌, ap}
+use mathlib.Core.Bool.{true, not}
 use Rattle.hashing.proofs.Bounds.{passed, failed}
 use Rattle.placement.specs.File.{File}
 use Rattle.placement.specs.Hash.{lent}
@@ -17,22 +17,22 @@ use Rattle.carrying.proofs.calling.carry.Goals as goal
 use Rattle.carrying.proofs.calling.carry.Goals.{Start}
 
 abbrev After-states_valid : Type 0
-After-states_valid = lts.After-states_valid tie.the-claims reads.Pre reads.Post
+After-states_valid = lts.After-states_valid tie.the-claims reads.Pre reads.Post tie.handed_clauses
 
 abbrev After-file_fits : Type 0
-After-file_fits = lts.After-file_fits tie.the-claims reads.Pre reads.Post
+After-file_fits = lts.After-file_fits tie.the-claims reads.Pre reads.Post tie.handed_clauses
 
 abbrev Else-not-all_fit : Type 0
-Else-not-all_fit = lts.Else3 tie.the-claims reads.Pre reads.Post
+Else-not-all_fit = lts.Else3 tie.the-claims reads.Pre reads.Post tie.handed_clauses
 
 abbrev After-carry_second-answer : Type 0
-After-carry_second-answer = lts.After-carry_second tie.the-claims reads.Pre reads.Post
+After-carry_second-answer = lts.After-carry_second tie.the-claims reads.Pre reads.Post tie.handed_clauses
 
 abbrev After-clear : Type 0
-After-clear = lts.After-clear tie.the-claims reads.Pre reads.Post
+After-clear = lts.After-clear tie.the-claims reads.Pre reads.Post tie.handed_clauses
 
 abbrev After-slice_known-16-1 : Type 0
-After-slice_known-16-1 = lts.After-slice_known16 tie.the-claims reads.Pre reads.Post
+After-slice_known-16-1 = lts.After-slice_known16 tie.the-claims reads.Pre reads.Post tie.handed_clauses
 
 abbrev start : After-states_valid → Start
 start c = c.before.before.before.before.before.before.before.before.before.before.before.before
@@ -50,19 +50,19 @@ abbrev begun : After-file_fits → Start
 begun c = start c.before.before
 
 states : (c : After-file_fits) → carry_states (begun c).args.parameters (begun c).args.growth (begun c).args.newparameters (begun c).args.newgrowth ≡ true
-states c = passed _ _ c.states_valid.ensures c.if-not-states_valid.false
+states c = passed _ _ c.states_valid.ensures (ap not c.if-not-states_valid.false)
 
 abbrev asked : Else-not-all_fit → After-file_fits
 asked c = c.before.before.before
 
 lengths : (c : Else-not-all_fit) → carry_lengths (begun (asked c)).args.parameters (file (begun (asked c))) (begun (asked c)).args.newparameters (second (begun (asked c))) (pool (begun (asked c))) ≡ true
 unfolding carry_lengths file_fits_lem pool_fits_lem
-lengths c = rw (passed _ _ (asked c).file_fits.ensures c.if-not-file_fits.false, passed _ _ c.all_fit.ensures c.if-not-all_fit.false)
+lengths c = rw (passed _ _ (asked c).file_fits.ensures (ap not c.if-not-file_fits.false), passed _ _ c.all_fit.ensures (ap not c.if-not-all_fit.false))
 
 pub returns-then-not-states_valid : goal.returns-then-not-states_valid
 returns-then-not-states_valid c =
     let s = start c.before.before in
-    carry_first s.args.parameters s.args.growth (file s) s.args.newparameters s.args.newgrowth (second s) (pool s) (failed _ _ c.states_valid.ensures c.if-not-states_valid.true)
+    carry_first s.args.parameters s.args.growth (file s) s.args.newparameters s.args.newgrowth (second s) (pool s) (failed _ _ c.states_valid.ensures (ap not c.if-not-states_valid.true))
 
 pub returns-then-not-file_fits : goal.returns-then-not-file_fits
 unfolding carry_lengths file_fits_lem pool_fits_lem
@@ -70,7 +70,7 @@ returns-then-not-file_fits c =
     let d = c.before.before in
     let s = begun d in
     carry_length s.args.parameters s.args.growth (file s) s.args.newparameters s.args.newgrowth (second s) (pool s) (states d)
-    (rw (failed _ _ d.file_fits.ensures c.if-not-file_fits.true))
+    (rw (failed _ _ d.file_fits.ensures (ap not c.if-not-file_fits.true)))
 
 pub returns-then-not-all_fit : goal.returns-then-not-all_fit
 unfolding carry_lengths file_fits_lem pool_fits_lem
@@ -78,7 +78,7 @@ returns-then-not-all_fit c =
     let d = c.before.before.before.before in
     let s = begun d in
     carry_length s.args.parameters s.args.growth (file s) s.args.newparameters s.args.newgrowth (second s) (pool s) (states d)
-    (rw (passed _ _ d.file_fits.ensures c.if-not-file_fits.false, failed _ _ c.all_fit.ensures c.if-not-all_fit.true))
+    (rw (passed _ _ d.file_fits.ensures (ap not c.if-not-file_fits.false), failed _ _ c.all_fit.ensures (ap not c.if-not-all_fit.true)))
 
 pub carry_second-answer-requires : goal.carry_second-answer-requires
 carry_second-answer-requires c =

@@ -12,13 +12,13 @@ use Rattle.carrying.proofs.calling.carry_second.Goals as goal
 use Rattle.carrying.proofs.calling.carry_second.Goals.{Start}
 
 abbrev After-slice_known-6-1 : Type 0
-After-slice_known-6-1 = lts.After-slice_known6 tie.the-claims reads.Pre reads.Post
+After-slice_known-6-1 = lts.After-slice_known6 tie.the-claims reads.Pre reads.Post tie.handed_clauses
 
 abbrev After-carry_pages-outcome : Type 0
-After-carry_pages-outcome = lts.After-carry_pages tie.the-claims reads.Pre reads.Post
+After-carry_pages-outcome = lts.After-carry_pages tie.the-claims reads.Pre reads.Post tie.handed_clauses
 
 abbrev After-placed_from : Type 0
-After-placed_from = lts.After-placed_from tie.the-claims reads.Pre reads.Post
+After-placed_from = lts.After-placed_from tie.the-claims reads.Pre reads.Post tie.handed_clauses
 
 abbrev begun : After-slice_known-6-1 → Start
 begun c = c.before.before.before.before.before.before.before.before.before.before

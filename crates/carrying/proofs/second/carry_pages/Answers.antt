@@ -19,25 +19,25 @@ use Rattle.carrying.proofs.second.carry_pages.Goals as goal
 use Rattle.carrying.proofs.second.carry_pages.Goals.{Start}
 
 abbrev After-first_multipliers-table : Type 0
-After-first_multipliers-table = lts.After-first_multipliers tie.the-claims reads.Pre reads.Post
+After-first_multipliers-table = lts.After-first_multipliers tie.the-claims reads.Pre reads.Post tie.handed_clauses
 
 abbrev After-lowest_unsound-bad : Type 0
-After-lowest_unsound-bad = lts.After-lowest_unsound tie.the-claims reads.Pre reads.Post
+After-lowest_unsound-bad = lts.After-lowest_unsound tie.the-claims reads.Pre reads.Post tie.handed_clauses
 
 abbrev After-place_second : Type 0
-After-place_second = lts.After-place_second tie.the-claims reads.Pre reads.Post
+After-place_second = lts.After-place_second tie.the-claims reads.Pre reads.Post tie.handed_clauses
 
 abbrev After-slice_known-then-pool-numbers-6-1 : Type 0
-After-slice_known-then-pool-numbers-6-1 = lts.After-slice_known12 tie.the-claims reads.Pre reads.Post
+After-slice_known-then-pool-numbers-6-1 = lts.After-slice_known12 tie.the-claims reads.Pre reads.Post tie.handed_clauses
 
 abbrev After-survey-bad : Type 0
-After-survey-bad = lts.After-survey tie.the-claims reads.Pre reads.Post
+After-survey-bad = lts.After-survey tie.the-claims reads.Pre reads.Post tie.handed_clauses
 
 abbrev After-place_second-2 : Type 0
-After-place_second-2 = lts.After-place_second2 tie.the-claims reads.Pre reads.Post
+After-place_second-2 = lts.After-place_second2 tie.the-claims reads.Pre reads.Post tie.handed_clauses
 
 abbrev After-slice_known-13-1 : Type 0
-After-slice_known-13-1 = lts.After-slice_known19 tie.the-claims reads.Pre reads.Post
+After-slice_known-13-1 = lts.After-slice_known19 tie.the-claims reads.Pre reads.Post tie.handed_clauses
 
 abbrev start : After-first_multipliers-table → Start
 start m = m.before.before.before.before.before.before.before.before.before.before.before.before

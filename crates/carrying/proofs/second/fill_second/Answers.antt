@@ -12,10 +12,10 @@ use Rattle.carrying.proofs.second.fill_second.Goals as goal
 use Rattle.carrying.proofs.second.fill_second.Goals.{Start}
 
 abbrev At-loop-i : Type 0
-At-loop-i = lts.At-loop tie.the-claims reads.Pre reads.Post goal.the-invariant-loop-i goal.the-decreases-loop-i
+At-loop-i = lts.At-loop tie.the-claims reads.Pre reads.Post goal.the-invariant-loop-i goal.the-decreases-loop-i tie.handed_clauses
 
 abbrev After-shared_slice_known-in-loop-i-1 : Type 0
-After-shared_slice_known-in-loop-i-1 = lts.After-shared_slice_known5 tie.the-claims reads.Pre reads.Post goal.the-invariant-loop-i goal.the-decreases-loop-i
+After-shared_slice_known-in-loop-i-1 = lts.After-shared_slice_known5 tie.the-claims reads.Pre reads.Post goal.the-invariant-loop-i goal.the-decreases-loop-i tie.handed_clauses
 
 abbrev at-loop : After-shared_slice_known-in-loop-i-1 → At-loop-i
 at-loop c = c.before.before

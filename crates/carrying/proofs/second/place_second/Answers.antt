@@ -15,16 +15,16 @@ use Rattle.carrying.proofs.second.place_second.Goals as goal
 use Rattle.carrying.proofs.second.place_second.Goals.{Start}
 
 abbrev After-planned-1 : Type 0
-After-planned-1 = lts.After-planned tie.the-claims reads.Pre reads.Post
+After-planned-1 = lts.After-planned tie.the-claims reads.Pre reads.Post tie.handed_clauses
 
 abbrev After-plan_all : Type 0
-After-plan_all = lts.After-plan_all tie.the-claims reads.Pre reads.Post
+After-plan_all = lts.After-plan_all tie.the-claims reads.Pre reads.Post tie.handed_clauses
 
 abbrev After-write_second : Type 0
-After-write_second = lts.After-write_second tie.the-claims reads.Pre reads.Post
+After-write_second = lts.After-write_second tie.the-claims reads.Pre reads.Post tie.handed_clauses
 
 abbrev After-slice_known-12-1 : Type 0
-After-slice_known-12-1 = lts.After-slice_known12 tie.the-claims reads.Pre reads.Post
+After-slice_known-12-1 = lts.After-slice_known12 tie.the-claims reads.Pre reads.Post tie.handed_clauses
 
 abbrev start : After-planned-1 → Start
 start c = c.before.before.before.before.before.before.before.before.before.before.before.before.before.before

@@ -8,13 +8,13 @@ use Rattle.carrying.proofs.second.write_second.Goals as goal
 use Rattle.carrying.proofs.second.write_second.Goals.{Start}
 
 abbrev After-fill_second : Type 0
-After-fill_second = lts.After-fill_second tie.the-claims reads.Pre reads.Post
+After-fill_second = lts.After-fill_second tie.the-claims reads.Pre reads.Post tie.handed_clauses
 
 abbrev After-copy_8 : Type 0
-After-copy_8 = lts.After-copy_8 tie.the-claims reads.Pre reads.Post
+After-copy_8 = lts.After-copy_8 tie.the-claims reads.Pre reads.Post tie.handed_clauses
 
 abbrev After-slice_known-8-1 : Type 0
-After-slice_known-8-1 = lts.After-slice_known8 tie.the-claims reads.Pre reads.Post
+After-slice_known-8-1 = lts.After-slice_known8 tie.the-claims reads.Pre reads.Post tie.handed_clauses
 
 abbrev filling : After-copy_8 → After-fill_second
 filling e = e.before.before.before.before.before.before.before.before.before
@@ -31,4 +31,4 @@ returns c =
     let f = filling e in
     let s = start f in
     let filled = f.fill_second.ensures in
-    second-written s.args.secondseparators.now s.args.planned.now _ _ _ _ _ _ _ s.requires.secondseparators_in_bounds e.copy_8.ensures filled.0 filled.1.0 filled.1.1
+    second-written s.args.secondseparators.now s.args.planned.now _ _ _ _ _ _ _ s.requires.secondseparators_in_bounds e.copy_8.ensures filled.secondnumbers_after filled.secondwords_after filled.secondowners_after

@@ -16,7 +16,7 @@ use Rattle.carrying.proofs.stars.plan_all.Goals as goal
 use Rattle.carrying.proofs.stars.plan_all.Goals.{Start}
 
 abbrev After-count_stars : Type 0
-After-count_stars = lts.After-count_stars tie.the-claims reads.Pre reads.Post
+After-count_stars = lts.After-count_stars tie.the-claims reads.Pre reads.Post tie.handed_clauses
 
 abbrev start : After-count_stars → Start
 start c = c.before.before.before.before
@@ -32,7 +32,7 @@ returns-then-pool-count_stars c =
       fits = sym (ne_eqb _ 0 (words-crowded s.args.geometry s.requires.parameters_value.0 s.requires.parameters_value.1 s.args.numbers.now s.requires.numbers_len_bound.0 s.requires.numbers_len_bound.1
           (omega (arith, c.if-pool-count_stars.true, counted k, s.requires.pool_len))));
       sources = λ e. absurd (false≢true e);
-      separators_are = λ e. absurd (false≢true e);
+      separators-are = λ e. absurd (false≢true e);
     }
 
 pub first_multipliers-table-requires : goal.first_multipliers-table-requires

@@ -14,13 +14,13 @@ use Rattle.carrying.proofs.stars.plan_stars.Goals as goal
 use Rattle.carrying.proofs.stars.plan_stars.Goals.{Start}
 
 abbrev After-key_stars-stars : Type 0
-After-key_stars-stars = lts.After-key_stars tie.the-claims reads.Pre reads.Post
+After-key_stars-stars = lts.After-key_stars tie.the-claims reads.Pre reads.Post tie.handed_clauses
 
 abbrev After-gather_stars : Type 0
-After-gather_stars = lts.After-gather_stars tie.the-claims reads.Pre reads.Post
+After-gather_stars = lts.After-gather_stars tie.the-claims reads.Pre reads.Post tie.handed_clauses
 
 abbrev After-place_all : Type 0
-After-place_all = lts.After-place_all tie.the-claims reads.Pre reads.Post
+After-place_all = lts.After-place_all tie.the-claims reads.Pre reads.Post tie.handed_clauses
 
 abbrev start : After-key_stars-stars → Start
 start c = c.before.before.before.before.before.before.before.before

@@ -14,7 +14,7 @@ use Rattle.catalogues.proofs.listing.put_lines.Reads as reads
 use Rattle.catalogues.proofs.listing.put_lines.Goals as goal
 
 abbrev At-loop-i : Type 0
-At-loop-i = lts.At-loop tie.the-claims reads.Pre reads.Post goal.the-invariant-loop-i goal.the-decreases-loop-i
+At-loop-i = lts.At-loop tie.the-claims reads.Pre reads.Post goal.the-invariant-loop-i goal.the-decreases-loop-i tie.handed_clauses
 
 same_size : (c : At-loop-i) → length c.loop-i.out ≡ length c.args.out.now
 same_size c = ap length c.loop-i.invariant.2.buffer ∙ simp length-sets

@@ -18,10 +18,10 @@ use Rattle.clean_test.proofs.counts.count_own.Goals as goal
 use Rattle.clean_test.proofs.counts.count_own.Goals.{Start}
 
 abbrev After-struct_known-1 : Type 0
-After-struct_known-1 = lts.After-struct_known tie.the-claims reads.Pre reads.Post
+After-struct_known-1 = lts.After-struct_known tie.the-claims reads.Pre reads.Post tie.handed_clauses
 
 abbrev After-count_stars-stars : Type 0
-After-count_stars-stars = lts.After-count_stars tie.the-claims reads.Pre reads.Post
+After-count_stars-stars = lts.After-count_stars tie.the-claims reads.Pre reads.Post tie.handed_clauses
 
 low-page : (s : Start) → s.args.page < 1024
 low-page s = omega (arith, s.requires.page_lt_pages.0, (limits s.args.geometry.parameters s.requires.parameters_value).pages_most)

@@ -18,12 +18,12 @@ use Rattle.clean_test.proofs.counts.count_pages.Goals as goal
 use Rattle.clean_test.proofs.counts.count_pages.Goals.{Start}
 
 abbrev In-loop-page : Type 0
-In-loop-page = lts.In-loop tie.the-claims reads.Pre reads.Post goal.the-invariant-loop-page goal.the-decreases-loop-page
+In-loop-page = lts.In-loop tie.the-claims reads.Pre reads.Post goal.the-invariant-loop-page goal.the-decreases-loop-page tie.handed_clauses
 
 pub loop-page-init : goal.loop-page-init
 loop-page-init c =
     let pre = c.requires in
-    (omega arith, (pre.1.1.0.1, pre.1.1.1))
+    (omega arith, (pre.from_le_start.1, pre.passers_counted))
 
 abbrev start_of : In-loop-page → Start
 start_of l = l.before.before.before.before.before.before

@@ -17,13 +17,13 @@ use Rattle.clean_test.proofs.counts.count_passed.Goals as goal
 use Rattle.clean_test.proofs.counts.count_passed.Goals.{Start}
 
 abbrev At-loop-next : Type 0
-At-loop-next = lts.At-loop tie.the-claims reads.Pre reads.Post goal.the-invariant-loop-next goal.the-decreases-loop-next
+At-loop-next = lts.At-loop tie.the-claims reads.Pre reads.Post goal.the-invariant-loop-next goal.the-decreases-loop-next tie.handed_clauses
 
 abbrev In-loop-next : Type 0
-In-loop-next = lts.In-loop tie.the-claims reads.Pre reads.Post goal.the-invariant-loop-next goal.the-decreases-loop-next
+In-loop-next = lts.In-loop tie.the-claims reads.Pre reads.Post goal.the-invariant-loop-next goal.the-decreases-loop-next tie.handed_clauses
 
 abbrev After-signature_by-signature : Type 0
-After-signature_by-signature = lts.After-signature_by tie.the-claims reads.Pre reads.Post goal.the-invariant-loop-next goal.the-decreases-loop-next
+After-signature_by-signature = lts.After-signature_by tie.the-claims reads.Pre reads.Post goal.the-invariant-loop-next goal.the-decreases-loop-next tie.handed_clauses
 
 abbrev start : At-loop-next → Start
 start k = k.before.before.before.before
@@ -36,8 +36,8 @@ unfolding hash_of
 loop-next-init c =
     let p = c.requires in
     let begin = c.later-next.ensures in (
-      begin.0.0,
-      (begin.0.1, probes-none _ _ _ _ _ _ _ _ p.1.1.1.0 begin.0.1 begin.1 p.1.1.0.0),
+      begin.lower_bound.0,
+      (begin.lower_bound.1, probes-none _ _ _ _ _ _ _ _ p.home_value begin.lower_bound.1 begin.value p.counts.0),
     )
 
 pub overflow_add-next : goal.overflow_add-next

@@ -19,10 +19,10 @@ use Rattle.clean_test.proofs.counts.count_passers.Goals as goal
 use Rattle.clean_test.proofs.counts.count_passers.Goals.{Start}
 
 abbrev After-struct_known-1 : Type 0
-After-struct_known-1 = lts.After-struct_known tie.the-claims reads.Pre reads.Post
+After-struct_known-1 = lts.After-struct_known tie.the-claims reads.Pre reads.Post tie.handed_clauses
 
 abbrev Then-count_below-eq0 : Type 0
-Then-count_below-eq0 = lts.Then1 tie.the-claims reads.Pre reads.Post
+Then-count_below-eq0 = lts.Then1 tie.the-claims reads.Pre reads.Post tie.handed_clauses
 
 low-page : (s : Start) → s.args.page < 1024
 low-page s = omega (arith, s.requires.homed.high, (limits s.args.geometry.parameters s.requires.signers.valid).pages_most)

@@ -11,7 +11,7 @@ use Rattle.clean_test.proofs.counts.first_raisable.Goals as goal
 use Rattle.clean_test.proofs.counts.first_raisable.Goals.{Start}
 
 abbrev After-first_multipliers-table : Type 0
-After-first_multipliers-table = lts.After-first_multipliers tie.the-claims reads.Pre reads.Post
+After-first_multipliers-table = lts.After-first_multipliers tie.the-claims reads.Pre reads.Post tie.handed_clauses
 
 abbrev start : After-first_multipliers-table → Start
 start c = c.before.before.before.before

@@ -9,8 +9,8 @@ first_raisable_by_16807-requires c =
     let k = c.before.before in
     let p = k.requires in
     record {
-      parameters_value = (((p.0, the_other _ (limits _ p.0).multiplier_valid k.if-geometry-eq48271.false), p.1)).0;
-      homed = (((p.0, the_other _ (limits _ p.0).multiplier_valid k.if-geometry-eq48271.false), p.1)).1.0;
-      from_le_start = (((p.0, the_other _ (limits _ p.0).multiplier_valid k.if-geometry-eq48271.false), p.1)).1.1.0;
-      passers_counted = (((p.0, the_other _ (limits _ p.0).multiplier_valid k.if-geometry-eq48271.false), p.1)).1.1.1;
+      parameters_value = (((p.parameters_value, the_other _ (limits _ p.parameters_value).multiplier_valid k.if-geometry-eq48271.false), p.1)).0;
+      homed = (((p.parameters_value, the_other _ (limits _ p.parameters_value).multiplier_valid k.if-geometry-eq48271.false), p.1)).1.0;
+      from_le_start = (((p.parameters_value, the_other _ (limits _ p.parameters_value).multiplier_valid k.if-geometry-eq48271.false), p.1)).1.1.0;
+      passers_counted = (((p.parameters_value, the_other _ (limits _ p.parameters_value).multiplier_valid k.if-geometry-eq48271.false), p.1)).1.1.1;
     }

@@ -14,10 +14,10 @@ use Rattle.clean_test.proofs.counts.first_raisable_by_48271.Goals as goal
 use Rattle.clean_test.proofs.counts.first_raisable_by_48271.Goals.{Start}
 
 abbrev After-multipliers-table : Type 0
-After-multipliers-table = lts.After-multipliers tie.the-claims reads.Pre reads.Post
+After-multipliers-table = lts.After-multipliers tie.the-claims reads.Pre reads.Post tie.handed_clauses
 
 abbrev After-count_pages-end : Type 0
-After-count_pages-end = lts.After-count_pages tie.the-claims reads.Pre reads.Post
+After-count_pages-end = lts.After-count_pages tie.the-claims reads.Pre reads.Post tie.handed_clauses
 
 pub multipliers-table-requires : goal.multipliers-table-requires
 multipliers-table-requires c =

@@ -14,10 +14,10 @@ use Rattle.clean_test.proofs.counts.first_rising.Reads as reads
 use Rattle.clean_test.proofs.counts.first_rising.Goals as goal
 
 abbrev In-loop-page : Type 0
-In-loop-page = lts.In-loop tie.the-claims reads.Pre reads.Post goal.the-invariant-loop-page goal.the-decreases-loop-page
+In-loop-page = lts.In-loop tie.the-claims reads.Pre reads.Post goal.the-invariant-loop-page goal.the-decreases-loop-page tie.handed_clauses
 
 abbrev After-could_rise : Type 0
-After-could_rise = lts.After-could_rise tie.the-claims reads.Pre reads.Post goal.the-invariant-loop-page goal.the-decreases-loop-page
+After-could_rise = lts.After-could_rise tie.the-claims reads.Pre reads.Post goal.the-invariant-loop-page goal.the-decreases-loop-page tie.handed_clauses
 
 pub top_of-top-requires : goal.top_of-top-requires
 top_of-top-requires c = c.requires.parameters_value

@@ -1,10 +1,11 @@
-use mathlib.Core.Path.{refl}
+use mathlib.Core.Path.{refl, ap}
 use Prim.Native.Nat.{◌-◌, ◌≤◌}
 use native.Mathlib.Omega.{arith}
 use borrow.Author.Rules.{rules}
 use lib.ListN.{length}
 use Rattle.hashing.proofs.Bounds.{passed, failed}
 use Rattle.duplicates.proofs.Firsts.{Agreeing, agreeing-fails, agreeing-next, agreeing-all}
+use mathlib.Core.Bool.{not}
 use Rattle.duplicates.proofs.agreement.all_agree.Goals as goal
 
 pub loop-i-init : goal.loop-i-init
@@ -25,7 +26,7 @@ bounds-waiting-i-in-loop-i c = omega (arith, c.loop-i-test.true, c.loop-i.invari
 pub returns-then-not-pair_agrees : goal.returns-then-not-pair_agrees
 returns-then-not-pair_agrees c =
     let b = c.before.before.before.before.before.before in
-    agreeing-fails _ _ _ _ _ b.loop-i.invariant.3 b.loop-i.invariant.0 c.loop-i-test.true (failed _ _ c.pair_agrees.ensures c.if-not-pair_agrees.true)
+    agreeing-fails _ _ _ _ _ b.loop-i.invariant.3 b.loop-i.invariant.0 c.loop-i-test.true (failed _ _ c.pair_agrees.ensures (ap not c.if-not-pair_agrees.true))
 
 pub overflow_add-i-in-loop-i-2 : goal.overflow_add-i-in-loop-i-2
 overflow_add-i-in-loop-i-2 c = let b = c.before.before.before.before.before.before in record { fits = omega (arith, b.loop-i.invariant.1, b.loop-i.invariant.2) }
@@ -39,7 +40,7 @@ loop-i-preserved c =
       b.loop-i.invariant.0,
       b.loop-i.invariant.1,
       omega (arith, c.loop-i-test.true),
-      agreeing-next _ _ _ _ _ b.loop-i.invariant.3 b.loop-i.invariant.0 c.loop-i-test.true (passed _ _ c.pair_agrees.ensures c.if-not-pair_agrees.false),
+      agreeing-next _ _ _ _ _ b.loop-i.invariant.3 b.loop-i.invariant.0 c.loop-i-test.true (passed _ _ c.pair_agrees.ensures (ap not c.if-not-pair_agrees.false)),
     )
 
 pub returns : goal.returns

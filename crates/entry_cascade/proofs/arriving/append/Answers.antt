@@ -11,7 +11,7 @@ use Rattle.entry_cascade.proofs.arriving.append.Goals as goal
 use Rattle.entry_cascade.proofs.arriving.append.Goals.{At-loop-i, Start}
 
 abbrev Then-number-ne0 : Type 0
-Then-number-ne0 = lts.Then1 tie.the-claims reads.Pre reads.Post goal.the-invariant-loop-i goal.the-decreases-loop-i
+Then-number-ne0 = lts.Then1 tie.the-claims reads.Pre reads.Post goal.the-invariant-loop-i goal.the-decreases-loop-i tie.handed_clauses
 
 abbrev Head : Type 0
 Head = At-loop-i

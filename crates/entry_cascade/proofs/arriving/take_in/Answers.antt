@@ -23,10 +23,10 @@ use Rattle.entry_cascade.proofs.arriving.take_in.Goals as goal
 use Rattle.entry_cascade.proofs.arriving.take_in.Goals.{Start}
 
 abbrev After-test_page : Type 0
-After-test_page = lts.After-test_page tie.the-claims reads.Pre reads.Post
+After-test_page = lts.After-test_page tie.the-claims reads.Pre reads.Post tie.handed_clauses
 
 abbrev Else-not-test_page : Type 0
-Else-not-test_page = lts.Else1 tie.the-claims reads.Pre reads.Post
+Else-not-test_page = lts.Else1 tie.the-claims reads.Pre reads.Post tie.handed_clauses
 
 abbrev file : Start → File
 file s = lent s.args.separators.now s.args.numbers.now s.args.words.now s.args.owners.now
@@ -56,13 +56,13 @@ test_page-requires c =
     let s = c.before.before.before.before.before.before.before.before.before.before.before.before.before in
     let page = c.load-value.type-inv in
     let pre = s.requires in record {
-      homing = pre.0.homing;
-      separators_len = (pre.0.sized.of_separators, pre.1.0.1);
-      page_lt_pages = pre.1.1.0.0;
+      homing = pre.ready.homing;
+      separators_len = (pre.ready.sized.of_separators, pre.waiting_len.1);
+      page_lt_pages = pre.page_lt_pages.0;
       numbers_len = (search (rules, page), (search (rules, page), search (rules, page)));
       homes_len = refl;
       known_value = λ h.
-          known-value s.args.geometry (file s) pre.0.sized s.args.page pre.1.1.0.0 _ c.load-value.ensures s.args.pool.now (pre.1.1.1 h);
+          known-value s.args.geometry (file s) pre.ready.sized s.args.page pre.page_lt_pages.0 _ c.load-value.ensures s.args.pool.now (pre.known h);
     }
 
 -- from the test of the page on

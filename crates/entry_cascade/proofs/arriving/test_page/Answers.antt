@@ -38,9 +38,9 @@ pub page_sound-requires : goal.page_sound-requires
 page_sound-requires c =
     let pre = c.requires in
     record {
-      homing = pre.0;
-      separators_len = pre.1.0.0;
-      page_lt_pages = pre.1.1.0;
-      numbers_len = pre.1.1.1.0;
-      homes_len = pre.1.1.1.1.0;
+      homing = pre.homing;
+      separators_len = pre.separators_len.0;
+      page_lt_pages = pre.page_lt_pages;
+      numbers_len = pre.numbers_len;
+      homes_len = pre.homes_len;
     }

@@ -22,7 +22,7 @@ use Rattle.entry_cascade.proofs.entry.cascade.Goals as goal
 use Rattle.entry_cascade.proofs.entry.cascade.Goals.{Start}
 
 abbrev After-push : Type 0
-After-push = lts.After-push tie.the-claims reads.Pre reads.Post
+After-push = lts.After-push tie.the-claims reads.Pre reads.Post tie.handed_clauses
 
 abbrev file : Start → File
 file s = lent s.args.separators.now s.args.numbers.now s.args.words.now s.args.owners.now

@@ -22,7 +22,7 @@ use Rattle.entry_cascade.proofs.filling.fill_page.Goals as goal
 use Rattle.entry_cascade.proofs.filling.fill_page.Goals.{Start}
 
 abbrev After-append-reach : Type 0
-After-append-reach = lts.After-append tie.the-claims reads.Pre reads.Post
+After-append-reach = lts.After-append tie.the-claims reads.Pre reads.Post tie.handed_clauses
 
 abbrev file : Start → File
 file s = lent s.args.separators.now s.args.numbers.now s.args.words.now s.args.owners.now

@@ -26,13 +26,13 @@ use Rattle.entry_cascade.proofs.pushing.push_along.Goals as goal
 use Rattle.entry_cascade.proofs.pushing.push_along.Goals.{Start}
 
 abbrev At-loop-at : Type 0
-At-loop-at = lts.At-loop tie.the-claims reads.Pre reads.Post goal.the-invariant-loop-at goal.the-decreases-loop-at
+At-loop-at = lts.At-loop tie.the-claims reads.Pre reads.Post goal.the-invariant-loop-at goal.the-decreases-loop-at tie.handed_clauses
 
 abbrev After-take_in : Type 0
-After-take_in = lts.After-take_in tie.the-claims reads.Pre reads.Post goal.the-invariant-loop-at goal.the-decreases-loop-at
+After-take_in = lts.After-take_in tie.the-claims reads.Pre reads.Post goal.the-invariant-loop-at goal.the-decreases-loop-at tie.handed_clauses
 
 abbrev After-lower_page-from : Type 0
-After-lower_page-from = lts.After-lower_page tie.the-claims reads.Pre reads.Post goal.the-invariant-loop-at goal.the-decreases-loop-at
+After-lower_page-from = lts.After-lower_page tie.the-claims reads.Pre reads.Post goal.the-invariant-loop-at goal.the-decreases-loop-at tie.handed_clauses
 
 abbrev Start : Type 0
 Start = Start
@@ -56,14 +56,14 @@ begun h = h.before.before.before.before.before.before.before.before.before.befor
 rolls : (h : Head) → Rolling (begun h).args.geometry.parameters (begun h).args.geometry.growth (file (begun h)) (begun h).args.number (begun h).args.page h.loop-at.pool h.loop-at.planned h.loop-at.waiting h.loop-at.at h.loop-at.from h.loop-at.end
 rolls h = h.loop-at.inv.1.1.1.1
 
-pool_long : (h : Head) → length h.loop-at.pool ≡ (begun h).args.geometry.parameters.pages * (begun h).args.geometry.parameters.places
-pool_long h = h.loop-at.inv.0 ∙ (begun h).requires.pool_len.0
+pool-long : (h : Head) → length h.loop-at.pool ≡ (begun h).args.geometry.parameters.pages * (begun h).args.geometry.parameters.places
+pool-long h = h.loop-at.inv.0 ∙ (begun h).requires.pool_len.0
 
 waiting-same : (h : Head) → length h.loop-at.waiting ≡ length (begun h).args.waiting.now
 waiting-same h = h.loop-at.inv.1.0 ∙ simp length-set
 
-waiting_long : (h : Head) → length h.loop-at.waiting ≡ (begun h).args.geometry.parameters.pages * (begun h).args.geometry.parameters.places
-waiting_long h = waiting-same h ∙ (begun h).requires.pool_len.1
+waiting-long : (h : Head) → length h.loop-at.waiting ≡ (begun h).args.geometry.parameters.pages * (begun h).args.geometry.parameters.places
+waiting-long h = waiting-same h ∙ (begun h).requires.pool_len.1
 
 planned-long : (h : Head) → (begun h).args.geometry.parameters.pages ≤ length h.loop-at.planned
 planned-long h = omega (arith, h.loop-at.inv.1.1.0, (begun h).requires.pages_in_bounds)
@@ -130,7 +130,7 @@ take_in-requires c =
     let h = c.before.before.before in
     record {
       ready = (begun h).requires.enters.ready;
-      waiting_len = (waiting_long h, pool_long h);
+      waiting_len = (waiting-long h, pool-long h);
       page_lt_pages = (c.loop-at-test.true, (rolls h).within);
       known = λ t. h.loop-at.invariant.1.1.1.0 h.loop-at.at (le_refl _) t;
     }
@@ -157,7 +157,7 @@ returns-in-Crowded c =
     let s = start x in
     let e = s.requires.enters in
     rolling_crowded s.args.geometry.parameters s.args.geometry.growth (file s) s.args.number s.args.page e.ready.homing.valid e.ready.sized e.number e.unheld e.here
-    h.loop-at.pool h.loop-at.planned h.loop-at.waiting h.loop-at.at h.loop-at.from h.loop-at.end (rolls h) (inside x) (pool_long h) (planned-long h) (known x Crowded c.enum_told-in-Crowded-1.given.1)
+    h.loop-at.pool h.loop-at.planned h.loop-at.waiting h.loop-at.at h.loop-at.from h.loop-at.end (rolls h) (inside x) (pool-long h) (planned-long h) (known x Crowded c.enum_told-in-Crowded-1.given.1)
 
 pub bounds-separators-at : goal.bounds-separators-at
 bounds-separators-at c = let x = c.before.before.before.before.before.before.before in omega (arith, inside x, (start x).requires.enters.ready.sized.of_separators)
@@ -177,7 +177,7 @@ lower_page-from-requires c =
           h.loop-at.pool h.loop-at.planned h.loop-at.waiting h.loop-at.at h.loop-at.from h.loop-at.end (rolls h) (inside x) x.take_in.new.1.1.1.1.1.1.1.0 v.0.0 (joins x v.0.0 v.1) (waiting_kept x ∙ s.requires.pool_len.1);
       most_bound = (
         omega (arith, c.shared_slice_known-in-Joined-1.given h.loop-at.at),
-        (omega (arith, inside x, planned-long h), page-fits _ _ _ (inside x) (pool_long h)),
+        (omega (arith, inside x, planned-long h), page-fits _ _ _ (inside x) (pool-long h)),
       );
     }
 
@@ -199,7 +199,7 @@ returns-then-from-reach c =
     let s = start x in
     let e = s.requires.enters in
     rolling_ends s.args.geometry.parameters s.args.geometry.growth (file s) s.args.number s.args.page e.ready.homing.valid e.ready.sized e.number e.unheld e.here
-    h.loop-at.pool h.loop-at.planned h.loop-at.waiting h.loop-at.at h.loop-at.from h.loop-at.end (rolls h) (inside x) x.take_in.last.1.1.1.1.1.1.1.0 (value y) (joins x (value y) y.reach-1.given.1) (pool_long h) (planned-long h)
+    h.loop-at.pool h.loop-at.planned h.loop-at.waiting h.loop-at.at h.loop-at.from h.loop-at.end (rolls h) (inside x) x.take_in.last.1.1.1.1.1.1.1.0 (value y) (joins x (value y) y.reach-1.given.1) (pool-long h) (planned-long h)
     y.lower_page-from.new.1.1.1.0 y.lower_page-from.new.1.1.1.1.1.0 y.lower_page-from.new.1.1.1.1.0 y.lower_page-from.result y.lower_page-from.ensures y.lower_page-from.auto.waiting c.if-from-reach.true
 
 pub overflow_add-at : goal.overflow_add-at
@@ -222,10 +222,10 @@ loop-at-preserved c =
           y.lower_page-from.auto.planned ∙ h.loop-at.inv.1.1.0,
           (
             rolling_known s.args.geometry.parameters s.args.geometry.growth (file s) s.args.number s.args.page e.ready.homing.valid e.ready.sized e.number e.unheld e.here
-                h.loop-at.pool h.loop-at.planned h.loop-at.waiting h.loop-at.at h.loop-at.from h.loop-at.end (rolls h) (inside x) x.take_in.last.1.1.1.1.1.1.1.0 (value y) (joins x (value y) y.reach-1.given.1) (pool_long h) (planned-long h)
+                h.loop-at.pool h.loop-at.planned h.loop-at.waiting h.loop-at.at h.loop-at.from h.loop-at.end (rolls h) (inside x) x.take_in.last.1.1.1.1.1.1.1.0 (value y) (joins x (value y) y.reach-1.given.1) (pool-long h) (planned-long h)
                 y.lower_page-from.new.1.1.1.0 y.lower_page-from.new.1.1.1.1.1.0 y.lower_page-from.new.1.1.1.1.0 y.lower_page-from.result y.lower_page-from.ensures s.args.tested h.loop-at.inv.1.1.1.0,
             rolling_next s.args.geometry.parameters s.args.geometry.growth (file s) s.args.number s.args.page e.ready.homing.valid e.ready.sized e.number e.unheld e.here
-                h.loop-at.pool h.loop-at.planned h.loop-at.waiting h.loop-at.at h.loop-at.from h.loop-at.end (rolls h) (inside x) x.take_in.last.1.1.1.1.1.1.1.0 (value y) (joins x (value y) y.reach-1.given.1) (pool_long h) (planned-long h)
+                h.loop-at.pool h.loop-at.planned h.loop-at.waiting h.loop-at.at h.loop-at.from h.loop-at.end (rolls h) (inside x) x.take_in.last.1.1.1.1.1.1.1.0 (value y) (joins x (value y) y.reach-1.given.1) (pool-long h) (planned-long h)
                 y.lower_page-from.new.1.1.1.0 y.lower_page-from.new.1.1.1.1.1.0 y.lower_page-from.new.1.1.1.1.0 y.lower_page-from.result y.lower_page-from.ensures y.lower_page-from.auto.waiting c.if-from-reach.false,
           ),
         ),

@@ -19,16 +19,16 @@ use Rattle.entry_reach.proofs.blocks.plan_block.Goals as goal
 use Rattle.entry_reach.proofs.blocks.plan_block.Goals.{Start}
 
 abbrev After-survey_pages-unsound : Type 0
-After-survey_pages-unsound = lts.After-survey_pages tie.the-claims reads.Pre reads.Post
+After-survey_pages-unsound = lts.After-survey_pages tie.the-claims reads.Pre reads.Post tie.handed_clauses
 
 abbrev Else-unsound-stop : Type 0
-Else-unsound-stop = lts.Else1 tie.the-claims reads.Pre reads.Post
+Else-unsound-stop = lts.Else1 tie.the-claims reads.Pre reads.Post tie.handed_clauses
 
 abbrev After-plan-left : Type 0
-After-plan-left = lts.After-plan tie.the-claims reads.Pre reads.Post
+After-plan-left = lts.After-plan tie.the-claims reads.Pre reads.Post tie.handed_clauses
 
 abbrev After-slice_known-7-1 : Type 0
-After-slice_known-7-1 = lts.After-slice_known7 tie.the-claims reads.Pre reads.Post
+After-slice_known-7-1 = lts.After-slice_known7 tie.the-claims reads.Pre reads.Post tie.handed_clauses
 
 -- the parameters' limits, at entry
 bounds : (s : Start) → Limits s.args.geometry.parameters

@@ -24,7 +24,7 @@ use Rattle.entry_reach.proofs.blocks.plan_entry.Goals as goal
 use Rattle.entry_reach.proofs.blocks.plan_entry.Goals.{Start}
 
 abbrev After-pack : Type 0
-After-pack = lts.After-pack tie.the-claims reads.Pre reads.Post
+After-pack = lts.After-pack tie.the-claims reads.Pre reads.Post tie.handed_clauses
 
 abbrev file : Start → File
 file s = lent s.args.separators.now s.args.numbers.now s.args.words.now s.args.owners.now

@@ -28,10 +28,10 @@ use Rattle.entry_reach.proofs.blocks.plan_onward.Goals as goal
 use Rattle.entry_reach.proofs.blocks.plan_onward.Goals.{Start}
 
 abbrev At-loop-page : Type 0
-At-loop-page = lts.At-loop tie.the-claims reads.Pre reads.Post goal.the-invariant-loop-page goal.the-decreases-loop-page
+At-loop-page = lts.At-loop tie.the-claims reads.Pre reads.Post goal.the-invariant-loop-page goal.the-decreases-loop-page tie.handed_clauses
 
 abbrev After-plan_block : Type 0
-After-plan_block = lts.After-plan_block tie.the-claims reads.Pre reads.Post goal.the-invariant-loop-page goal.the-decreases-loop-page
+After-plan_block = lts.After-plan_block tie.the-claims reads.Pre reads.Post goal.the-invariant-loop-page goal.the-decreases-loop-page tie.handed_clauses
 
 abbrev Start : Type 0
 Start = Start
@@ -68,8 +68,8 @@ told x b e =
     subst (λ (b : Block). BlockPlanned (start x).args.geometry.parameters (start x).args.geometry.growth (file (start x)) (head x).loop-page.block.first (take (head x).loop-page.carried (head x).loop-page.waiting)
     (head x).loop-page.pool (pool' x) (head x).loop-page.planned (planned' x) (waiting' x) b) e x.plan_block.ensures
 
-pool_long : (x : Place) → length (head x).loop-page.pool ≡ (start x).args.geometry.parameters.pages * (start x).args.geometry.parameters.places
-pool_long x = (head x).loop-page.inv.0 ∙ (start x).requires.pool_len.0
+pool-long : (x : Place) → length (head x).loop-page.pool ≡ (start x).args.geometry.parameters.pages * (start x).args.geometry.parameters.places
+pool-long x = (head x).loop-page.inv.0 ∙ (start x).requires.pool_len.0
 
 planned-long : (x : Place) → (start x).args.geometry.parameters.pages ≤ length (head x).loop-page.planned
 planned-long x = omega (arith, (head x).loop-page.inv.1.1.0, (start x).requires.pages_in_bounds)
@@ -113,22 +113,22 @@ module _ (x : Place) (k page : ℕ) (number : valid_number k ≡ true) (unheld :
     ends-here : left ≡ 0 → (word owner : ℕ) → Ends (head x).loop-page.block.last ≡ reach_answer s.args.geometry.parameters s.args.geometry.growth (file s) (new_star_lem k word owner)
     ends-here =
         block-ends s.args.geometry.parameters s.args.geometry.growth (file s) k s.pre.0.homing.valid s.pre.0.sized number unheld page (head x).loop-page.block.first (head x).loop-page.pool (head x).loop-page.planned
-        (take (head x).loop-page.carried (head x).loop-page.waiting) reached (pool' x) (planned' x) (waiting' x) left (pool_long x) (planned-long x) (told x (block·Planned left) e) (head x).loop-page.block.last (extent x).ends
+        (take (head x).loop-page.carried (head x).loop-page.waiting) reached (pool' x) (planned' x) (waiting' x) left (pool-long x) (planned-long x) (told x (block·Planned left) e) (head x).loop-page.block.last (extent x).ends
 
     applies-here : left ≡ 0 → AppliesFrom s.args.geometry.parameters s.args.geometry.growth (file s) k page (pool' x) (planned' x) (Ends (head x).loop-page.block.last)
     applies-here =
         block-applies s.args.geometry.parameters s.args.geometry.growth (file s) k s.pre.0.homing.valid s.pre.0.sized number unheld page (head x).loop-page.block.first (head x).loop-page.pool (head x).loop-page.planned
-        (take (head x).loop-page.carried (head x).loop-page.waiting) reached (pool' x) (planned' x) (waiting' x) left (pool_long x) (planned-long x) (told x (block·Planned left) e) (head x).loop-page.block.last (extent x).ends
+        (take (head x).loop-page.carried (head x).loop-page.waiting) reached (pool' x) (planned' x) (waiting' x) left (pool-long x) (planned-long x) (told x (block·Planned left) e) (head x).loop-page.block.last (extent x).ends
 
     overflows-here : (left ≡ 0 → ⊥) → suc (head x).loop-page.block.last ≡ s.args.geometry.parameters.pages → (word owner : ℕ) → Overflows ≡ reach_answer s.args.geometry.parameters s.args.geometry.growth (file s) (new_star_lem k word owner)
     overflows-here =
         block-overflows s.args.geometry.parameters s.args.geometry.growth (file s) k s.pre.0.homing.valid s.pre.0.sized number unheld page (head x).loop-page.block.first (head x).loop-page.pool (head x).loop-page.planned
-        (take (head x).loop-page.carried (head x).loop-page.waiting) reached (pool' x) (planned' x) (waiting' x) left (pool_long x) (planned-long x) (told x (block·Planned left) e) (head x).loop-page.block.last (extent x).ends
+        (take (head x).loop-page.carried (head x).loop-page.waiting) reached (pool' x) (planned' x) (waiting' x) left (pool-long x) (planned-long x) (told x (block·Planned left) e) (head x).loop-page.block.last (extent x).ends
 
     goes_on : (left ≡ 0 → ⊥) → suc (head x).loop-page.block.last < s.args.geometry.parameters.pages → Reached s.args.geometry.parameters s.args.geometry.growth (file s) k page (suc (head x).loop-page.block.last) (pool' x) (planned' x) (take left (waiting' x))
     goes_on =
         block-next s.args.geometry.parameters s.args.geometry.growth (file s) k s.pre.0.homing.valid s.pre.0.sized number unheld page (head x).loop-page.block.first (head x).loop-page.pool (head x).loop-page.planned
-        (take (head x).loop-page.carried (head x).loop-page.waiting) reached (pool' x) (planned' x) (waiting' x) left (pool_long x) (planned-long x) (told x (block·Planned left) e) (head x).loop-page.block.last (extent x).ends
+        (take (head x).loop-page.carried (head x).loop-page.waiting) reached (pool' x) (planned' x) (waiting' x) left (pool-long x) (planned-long x) (told x (block·Planned left) e) (head x).loop-page.block.last (extent x).ends
 
 pub loop-page-init : goal.loop-page-init
 loop-page-init c =

@@ -25,25 +25,25 @@ use Rattle.entry_reach.proofs.newcomers.decide_clean.Goals as goal
 use Rattle.entry_reach.proofs.newcomers.decide_clean.Goals.{Start}
 
 abbrev After-decide_stretch : Type 0
-After-decide_stretch = lts.After-decide_stretch tie.the-claims reads.Pre reads.Post
+After-decide_stretch = lts.After-decide_stretch tie.the-claims reads.Pre reads.Post tie.handed_clauses
 
 abbrev After-slice_known-then-stop-star-3-1 : Type 0
-After-slice_known-then-stop-star-3-1 = lts.After-slice_known6 tie.the-claims reads.Pre reads.Post
+After-slice_known-then-stop-star-3-1 = lts.After-slice_known6 tie.the-claims reads.Pre reads.Post tie.handed_clauses
 
 abbrev After-push_within : Type 0
-After-push_within = lts.After-push_within tie.the-claims reads.Pre reads.Post
+After-push_within = lts.After-push_within tie.the-claims reads.Pre reads.Post tie.handed_clauses
 
 abbrev After-decide_onward : Type 0
-After-decide_onward = lts.After-decide_onward tie.the-claims reads.Pre reads.Post
+After-decide_onward = lts.After-decide_onward tie.the-claims reads.Pre reads.Post tie.handed_clauses
 
 abbrev After-slice_known-in-Leaves-3-1 : Type 0
-After-slice_known-in-Leaves-3-1 = lts.After-slice_known12 tie.the-claims reads.Pre reads.Post
+After-slice_known-in-Leaves-3-1 = lts.After-slice_known12 tie.the-claims reads.Pre reads.Post tie.handed_clauses
 
 abbrev After-name_page-page : Type 0
-After-name_page-page = lts.After-name_page tie.the-claims reads.Pre reads.Post
+After-name_page-page = lts.After-name_page tie.the-claims reads.Pre reads.Post tie.handed_clauses
 
 abbrev After-struct_known-in-Ends-1 : Type 0
-After-struct_known-in-Ends-1 = lts.After-struct_known5 tie.the-claims reads.Pre reads.Post
+After-struct_known-in-Ends-1 = lts.After-struct_known5 tie.the-claims reads.Pre reads.Post tie.handed_clauses
 
 abbrev file : Start → File
 file s = lent s.args.separators.now s.args.numbers.now s.args.words.now s.args.owners.now

@@ -11,7 +11,7 @@ pub overflow_sub-end : goal.overflow_sub-end
 overflow_sub-end c = omega (arith, (limits _ c.requires.parameters_value).places_least)
 
 pub bounds-numbers-page : goal.bounds-numbers-page
-bounds-numbers-page c = let pre = c.requires in omega (arith, pre.1.1, (limits _ pre.0).places_least)
+bounds-numbers-page c = let pre = c.requires in omega (arith, pre.places_in_bounds, (limits _ pre.parameters_value).places_least)
 
 pub returns : goal.returns
 returns c =

@@ -11,9 +11,9 @@ pub settle_under-settled-requires : goal.settle_under-settled-requires
 settle_under-settled-requires c =
     let p = c.requires in
     record {
-      signers = p.0;
-      probing = p.1.0;
-      most_bound = (p.1.1.0, refl);
+      signers = p.signers;
+      probing = p.probing;
+      most_bound = (p.most_bound.0, refl);
     }
 
 pub overflow_cast-planned : goal.overflow_cast-planned
@@ -37,7 +37,7 @@ store_sources-requires c =
     let done = c.settle_under-settled.ensures in
     record {
       places_in_bounds = (s.requires.most_bound.1.1, most);
-      kept_le_places = (done.1, omega (arith, done.0.size, done.1, most));
+      kept_le_places = (done.kept_le_places, omega (arith, done.settlement.size, done.kept_le_places, most));
     }
 
 pub returns : goal.returns

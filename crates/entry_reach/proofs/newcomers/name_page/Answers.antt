@@ -14,7 +14,7 @@ use Rattle.entry_reach.proofs.newcomers.name_page.Goals as goal
 use Rattle.entry_reach.proofs.newcomers.name_page.Goals.{Start}
 
 abbrev After-copy_8-2 : Type 0
-After-copy_8-2 = lts.After-copy_82 tie.the-claims reads.Pre reads.Post
+After-copy_8-2 = lts.After-copy_82 tie.the-claims reads.Pre reads.Post tie.handed_clauses
 
 -- from the copies on
 abbrev start : tie.After-named-from-arg → Start

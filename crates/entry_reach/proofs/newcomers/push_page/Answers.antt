@@ -20,13 +20,13 @@ use Rattle.entry_reach.proofs.newcomers.push_page.Goals as goal
 use Rattle.entry_reach.proofs.newcomers.push_page.Goals.{Start}
 
 abbrev After-join_page-reach : Type 0
-After-join_page-reach = lts.After-join_page tie.the-claims reads.Pre reads.Post
+After-join_page-reach = lts.After-join_page tie.the-claims reads.Pre reads.Post tie.handed_clauses
 
 abbrev After-lower_page-on : Type 0
-After-lower_page-on = lts.After-lower_page tie.the-claims reads.Pre reads.Post
+After-lower_page-on = lts.After-lower_page tie.the-claims reads.Pre reads.Post tie.handed_clauses
 
 abbrev After-slice_known-7-1 : Type 0
-After-slice_known-7-1 = lts.After-slice_known7 tie.the-claims reads.Pre reads.Post
+After-slice_known-7-1 = lts.After-slice_known7 tie.the-claims reads.Pre reads.Post tie.handed_clauses
 
 abbrev file : Start → File
 file s = lent s.args.separators.now s.args.numbers.now s.args.words.now s.args.owners.now

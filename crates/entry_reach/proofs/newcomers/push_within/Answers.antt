@@ -26,13 +26,13 @@ use Rattle.entry_reach.proofs.newcomers.push_within.Goals as goal
 use Rattle.entry_reach.proofs.newcomers.push_within.Goals.{Start}
 
 abbrev After-pack : Type 0
-After-pack = lts.After-pack tie.the-claims reads.Pre reads.Post goal.the-invariant-loop-at goal.the-decreases-loop-at
+After-pack = lts.After-pack tie.the-claims reads.Pre reads.Post goal.the-invariant-loop-at goal.the-decreases-loop-at tie.handed_clauses
 
 abbrev At-loop-at : Type 0
-At-loop-at = lts.At-loop tie.the-claims reads.Pre reads.Post goal.the-invariant-loop-at goal.the-decreases-loop-at
+At-loop-at = lts.At-loop tie.the-claims reads.Pre reads.Post goal.the-invariant-loop-at goal.the-decreases-loop-at tie.handed_clauses
 
 abbrev After-push_page-next : Type 0
-After-push_page-next = lts.After-push_page tie.the-claims reads.Pre reads.Post goal.the-invariant-loop-at goal.the-decreases-loop-at
+After-push_page-next = lts.After-push_page tie.the-claims reads.Pre reads.Post goal.the-invariant-loop-at goal.the-decreases-loop-at tie.handed_clauses
 
 abbrev Start : Type 0
 Start = Start
@@ -68,14 +68,14 @@ begun h = h.before.before.before.before.before.before.before.before.before
 rolls : (h : Head) → Rolling (begun h).args.geometry.parameters (begun h).args.geometry.growth (file (begun h)) (begun h).args.star.number (begun h).args.star.page h.loop-at.pool h.loop-at.planned h.loop-at.waiting h.loop-at.at h.loop-at.from h.loop-at.end
 rolls h = h.loop-at.inv.1.1.1.1.1 (begun h).args.star.number (named (begun h) (packed h).pack.result (packed h).pack.ensures)
 
-pool_long : (h : Head) → length h.loop-at.pool ≡ (begun h).args.geometry.parameters.pages * (begun h).args.geometry.parameters.places
-pool_long h = h.loop-at.inv.0 ∙ (begun h).requires.pool_len.0
+pool-long : (h : Head) → length h.loop-at.pool ≡ (begun h).args.geometry.parameters.pages * (begun h).args.geometry.parameters.places
+pool-long h = h.loop-at.inv.0 ∙ (begun h).requires.pool_len.0
 
 waiting-same : (h : Head) → length h.loop-at.waiting ≡ length (begun h).args.waiting.now
 waiting-same h = h.loop-at.inv.1.0 ∙ simp length-set
 
-waiting_long : (h : Head) → length h.loop-at.waiting ≡ (begun h).args.geometry.parameters.pages * (begun h).args.geometry.parameters.places
-waiting_long h = waiting-same h ∙ (begun h).requires.pool_len.1
+waiting-long : (h : Head) → length h.loop-at.waiting ≡ (begun h).args.geometry.parameters.pages * (begun h).args.geometry.parameters.places
+waiting-long h = waiting-same h ∙ (begun h).requires.pool_len.1
 
 planned-long : (h : Head) → (begun h).args.geometry.parameters.pages ≤ length h.loop-at.planned
 planned-long h = omega (arith, h.loop-at.inv.1.1.0, (begun h).requires.pages_in_bounds)
@@ -161,13 +161,13 @@ push_page-next-requires c =
     let s = begun h in
     let t : h.loop-at.at < s.args.last + 1 = omega (arith, c.loop-at-test.true) in record {
       ready = s.requires.enters.ready;
-      pool_len = (pool_long h, waiting_long h);
+      pool_len = (pool-long h, waiting-long h);
       pages_in_bounds = (planned-long h, omega (arith, t, s.requires.page_le_last.1.0));
       known = h.loop-at.invariant.1.1.1.1.0 h.loop-at.at (le_refl _) t;
       from_le_end = (
         omega (arith, (rolls h).some),
         (
-          omega (arith, roomy h t, waiting_long h),
+          omega (arith, roomy h t, waiting-long h),
           rolling_near s.args.geometry.parameters s.args.geometry.growth (file s) s.args.star.number s.args.star.page s.requires.enters.ready.homing.valid s.requires.enters.ready.sized s.requires.enters.number s.requires.enters.unheld s.requires.enters.here h.loop-at.pool h.loop-at.planned h.loop-at.waiting h.loop-at.at h.loop-at.from h.loop-at.end (rolls h),
         ),
       );
@@ -185,7 +185,7 @@ returns-then-from-end c =
       (
         omega (arith, within x),
         λ word owner.
-            rolling_ends s.args.geometry.parameters s.args.geometry.growth (file s) s.args.star.number s.args.star.page s.pre.0.ready.homing.valid s.pre.0.ready.sized s.pre.0.number s.pre.0.unheld s.pre.0.here l.pool l.planned l.waiting l.at l.from l.end (rolls (head x)) (inside x) (sound x) (few_words x) (pool_long (head x)) (planned-long (head x))
+            rolling_ends s.args.geometry.parameters s.args.geometry.growth (file s) s.args.star.number s.args.star.page s.pre.0.ready.homing.valid s.pre.0.ready.sized s.pre.0.number s.pre.0.unheld s.pre.0.here l.pool l.planned l.waiting l.at l.from l.end (rolls (head x)) (inside x) (sound x) (few_words x) (pool-long (head x)) (planned-long (head x))
             x.push_page-next.new.1.1.1.1.1.1.0 x.push_page-next.new.1.1.1.1.1.1.1.1.0 x.push_page-next.new.1.1.1.1.1.1.1.0 x.push_page-next.result x.push_page-next.ensures (come x) c.if-from-end.true word owner,
       ),
     )
@@ -214,12 +214,12 @@ loop-at-preserved c =
           (
             omega (arith, within x),
             (
-              rolling_known p g (file s) s.args.star.number s.args.star.page s.pre.0.ready.homing.valid s.pre.0.ready.sized s.pre.0.number s.pre.0.unheld s.pre.0.here l.pool l.planned l.waiting l.at l.from l.end (rolls (head x)) (inside x) (sound x) (few_words x) (pool_long (head x)) (planned-long (head x)) pool planned W x.push_page-next.result x.push_page-next.ensures (come x)
+              rolling_known p g (file s) s.args.star.number s.args.star.page s.pre.0.ready.homing.valid s.pre.0.ready.sized s.pre.0.number s.pre.0.unheld s.pre.0.here l.pool l.planned l.waiting l.at l.from l.end (rolls (head x)) (inside x) (sound x) (few_words x) (pool-long (head x)) (planned-long (head x)) pool planned W x.push_page-next.result x.push_page-next.ensures (come x)
                   (s.args.last + 1) l.inv.1.1.1.1.0,
               λ k same.
                   subst (λ (k : ℕ). Rolling p g (file s) k s.args.star.page pool planned W (l.at + 1) x.push_page-next.result.from x.push_page-next.result.reach)
                   (named s (packed (head x)).pack.result (packed (head x)).pack.ensures ∙ sym same)
-                  (rolling_next p g (file s) s.args.star.number s.args.star.page s.pre.0.ready.homing.valid s.pre.0.ready.sized s.pre.0.number s.pre.0.unheld s.pre.0.here l.pool l.planned l.waiting l.at l.from l.end (rolls (head x)) (inside x) (sound x) (few_words x) (pool_long (head x)) (planned-long (head x)) pool planned W x.push_page-next.result x.push_page-next.ensures (come x) c.if-from-end.false),
+                  (rolling_next p g (file s) s.args.star.number s.args.star.page s.pre.0.ready.homing.valid s.pre.0.ready.sized s.pre.0.number s.pre.0.unheld s.pre.0.here l.pool l.planned l.waiting l.at l.from l.end (rolls (head x)) (inside x) (sound x) (few_words x) (pool-long (head x)) (planned-long (head x)) pool planned W x.push_page-next.result x.push_page-next.ensures (come x) c.if-from-end.false),
             ),
           ),
         ),

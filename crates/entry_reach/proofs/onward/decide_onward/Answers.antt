@@ -25,22 +25,22 @@ use Rattle.entry_reach.proofs.onward.decide_onward.Goals as goal
 use Rattle.entry_reach.proofs.onward.decide_onward.Goals.{Start}
 
 abbrev After-block_from-block : Type 0
-After-block_from-block = lts.After-block_from tie.the-claims reads.Pre reads.Post
+After-block_from-block = lts.After-block_from tie.the-claims reads.Pre reads.Post tie.handed_clauses
 
 abbrev After-plan_onward : Type 0
-After-plan_onward = lts.After-plan_onward tie.the-claims reads.Pre reads.Post
+After-plan_onward = lts.After-plan_onward tie.the-claims reads.Pre reads.Post tie.handed_clauses
 
 abbrev In-Unsound : Type 0
-In-Unsound = lts.After-known_told tie.the-claims reads.Pre reads.Post
+In-Unsound = lts.After-known_told tie.the-claims reads.Pre reads.Post tie.handed_clauses
 
 abbrev In-Overflows : Type 0
-In-Overflows = lts.After-enum_told tie.the-claims reads.Pre reads.Post
+In-Overflows = lts.After-enum_told tie.the-claims reads.Pre reads.Post tie.handed_clauses
 
 abbrev After-name_page-page : Type 0
-After-name_page-page = lts.After-name_page tie.the-claims reads.Pre reads.Post
+After-name_page-page = lts.After-name_page tie.the-claims reads.Pre reads.Post tie.handed_clauses
 
 abbrev After-struct_known-in-Ends-1 : Type 0
-After-struct_known-in-Ends-1 = lts.After-struct_known2 tie.the-claims reads.Pre reads.Post
+After-struct_known-in-Ends-1 = lts.After-struct_known2 tie.the-claims reads.Pre reads.Post tie.handed_clauses
 
 abbrev file : Start → File
 file s = lent s.args.separators.now s.args.numbers.now s.args.words.now s.args.owners.now

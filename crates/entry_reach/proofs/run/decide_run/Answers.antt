@@ -25,22 +25,22 @@ use Rattle.entry_reach.proofs.run.decide_run.Goals as goal
 use Rattle.entry_reach.proofs.run.decide_run.Goals.{Start}
 
 abbrev After-survey_pages-unsound : Type 0
-After-survey_pages-unsound = lts.After-survey_pages tie.the-claims reads.Pre reads.Post
+After-survey_pages-unsound = lts.After-survey_pages tie.the-claims reads.Pre reads.Post tie.handed_clauses
 
 abbrev Else-unsound-stop : Type 0
-Else-unsound-stop = lts.Else1 tie.the-claims reads.Pre reads.Post
+Else-unsound-stop = lts.Else1 tie.the-claims reads.Pre reads.Post tie.handed_clauses
 
 abbrev After-decide_stretch : Type 0
-After-decide_stretch = lts.After-decide_stretch tie.the-claims reads.Pre reads.Post
+After-decide_stretch = lts.After-decide_stretch tie.the-claims reads.Pre reads.Post tie.handed_clauses
 
 abbrev After-slice_known-then-first_raisable-stop-3-1 : Type 0
-After-slice_known-then-first_raisable-stop-3-1 = lts.After-slice_known7 tie.the-claims reads.Pre reads.Post
+After-slice_known-then-first_raisable-stop-3-1 = lts.After-slice_known7 tie.the-claims reads.Pre reads.Post tie.handed_clauses
 
 abbrev After-decide_clean : Type 0
-After-decide_clean = lts.After-decide_clean tie.the-claims reads.Pre reads.Post
+After-decide_clean = lts.After-decide_clean tie.the-claims reads.Pre reads.Post tie.handed_clauses
 
 abbrev After-slice_known-7-1 : Type 0
-After-slice_known-7-1 = lts.After-slice_known10 tie.the-claims reads.Pre reads.Post
+After-slice_known-7-1 = lts.After-slice_known10 tie.the-claims reads.Pre reads.Post tie.handed_clauses
 
 abbrev file : Start → File
 file s = lent s.args.separators.now s.args.numbers.now s.args.words.now s.args.owners.now

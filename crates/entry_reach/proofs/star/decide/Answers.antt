@@ -15,19 +15,19 @@ use Rattle.entry_reach.proofs.star.decide.Goals as goal
 use Rattle.entry_reach.proofs.star.decide.Goals.{Start}
 
 abbrev After-block_from-first : Type 0
-After-block_from-first = lts.After-block_from tie.the-claims reads.Pre reads.Post
+After-block_from-first = lts.After-block_from tie.the-claims reads.Pre reads.Post tie.handed_clauses
 
 abbrev After-decide_run : Type 0
-After-decide_run = lts.After-decide_run tie.the-claims reads.Pre reads.Post
+After-decide_run = lts.After-decide_run tie.the-claims reads.Pre reads.Post tie.handed_clauses
 
 abbrev After-slice_known-then-last-from-ge8-3-1 : Type 0
-After-slice_known-then-last-from-ge8-3-1 = lts.After-slice_known6 tie.the-claims reads.Pre reads.Post
+After-slice_known-then-last-from-ge8-3-1 = lts.After-slice_known6 tie.the-claims reads.Pre reads.Post tie.handed_clauses
 
 abbrev After-decide_stretch : Type 0
-After-decide_stretch = lts.After-decide_stretch tie.the-claims reads.Pre reads.Post
+After-decide_stretch = lts.After-decide_stretch tie.the-claims reads.Pre reads.Post tie.handed_clauses
 
 abbrev After-slice_known-6-1 : Type 0
-After-slice_known-6-1 = lts.After-slice_known9 tie.the-claims reads.Pre reads.Post
+After-slice_known-6-1 = lts.After-slice_known9 tie.the-claims reads.Pre reads.Post tie.handed_clauses
 
 abbrev file : Start → File
 file s = lent s.args.separators.now s.args.numbers.now s.args.words.now s.args.owners.now

@@ -23,16 +23,16 @@ use Rattle.entry_reach.proofs.star.enter_star.Goals as goal
 use Rattle.entry_reach.proofs.star.enter_star.Goals.{After-carry_out, After-carry_out-2, Start}
 
 abbrev Then-takes_alone : Type 0
-Then-takes_alone = lts.Then1 tie.the-claims reads.Pre reads.Post
+Then-takes_alone = lts.Then1 tie.the-claims reads.Pre reads.Post tie.handed_clauses
 
 abbrev After-slice_known-then-takes_alone-7-1 : Type 0
-After-slice_known-then-takes_alone-7-1 = lts.After-slice_known14 tie.the-claims reads.Pre reads.Post
+After-slice_known-then-takes_alone-7-1 = lts.After-slice_known14 tie.the-claims reads.Pre reads.Post tie.handed_clauses
 
 abbrev After-decide-decision : Type 0
-After-decide-decision = lts.After-decide tie.the-claims reads.Pre reads.Post
+After-decide-decision = lts.After-decide tie.the-claims reads.Pre reads.Post tie.handed_clauses
 
 abbrev After-outcome_of : Type 0
-After-outcome_of = lts.After-outcome_of tie.the-claims reads.Pre reads.Post
+After-outcome_of = lts.After-outcome_of tie.the-claims reads.Pre reads.Post tie.handed_clauses
 
 abbrev file : Start → File
 file s = lent s.args.separators.now s.args.numbers.now s.args.words.now s.args.owners.now

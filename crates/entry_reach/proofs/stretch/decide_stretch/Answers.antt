@@ -18,16 +18,16 @@ use Rattle.entry_reach.proofs.stretch.decide_stretch.Goals as goal
 use Rattle.entry_reach.proofs.stretch.decide_stretch.Goals.{Start}
 
 abbrev After-plan_entry : Type 0
-After-plan_entry = lts.After-plan_entry tie.the-claims reads.Pre reads.Post
+After-plan_entry = lts.After-plan_entry tie.the-claims reads.Pre reads.Post tie.handed_clauses
 
 abbrev In-Unsound : Type 0
-In-Unsound = lts.After-known_told tie.the-claims reads.Pre reads.Post
+In-Unsound = lts.After-known_told tie.the-claims reads.Pre reads.Post tie.handed_clauses
 
 abbrev In-Overflows : Type 0
-In-Overflows = lts.After-enum_told tie.the-claims reads.Pre reads.Post
+In-Overflows = lts.After-enum_told tie.the-claims reads.Pre reads.Post tie.handed_clauses
 
 abbrev After-named_from-page : Type 0
-After-named_from-page = lts.After-named_from tie.the-claims reads.Pre reads.Post
+After-named_from-page = lts.After-named_from tie.the-claims reads.Pre reads.Post tie.handed_clauses
 
 abbrev file : Start → File
 file s = lent s.args.separators.now s.args.numbers.now s.args.words.now s.args.owners.now

@@ -12,7 +12,7 @@ use Rattle.fits.proofs.putting.write_sound.Goals as goal
 use Rattle.fits.proofs.putting.write_sound.Goals.{Start}
 
 abbrev After-count_held-rows : Type 0
-After-count_held-rows = lts.After-count_held tie.the-claims reads.Pre reads.Post
+After-count_held-rows = lts.After-count_held tie.the-claims reads.Pre reads.Post tie.handed_clauses
 
 abbrev start : After-count_held-rows → Start
 start c = c.before.before.before.before

@@ -19,7 +19,7 @@ use Rattle.fits.proofs.taking.read_closed.Goals as goal
 use Rattle.fits.proofs.taking.read_closed.Goals.{Start}
 
 abbrev In_default : Type 0
-In_default = lts.After-enum_told tie.the-claims reads.Pre reads.Post
+In_default = lts.After-enum_told tie.the-claims reads.Pre reads.Post tie.handed_clauses
 
 abbrev file_of : Start → File
 file_of s = lent s.args.separators.now s.args.numbers.now s.args.words.now s.args.owners.now
@@ -58,5 +58,5 @@ returns c =
     rw (none d)
     (leaves-cleared _ _ _ (pool_of s) _ done.read_lent-answer.ensures
     (read-pool s.args.parameters s.args.growth (file_of s) (cleared (pool_of s)) s.args.given.now _)
-    (cleared-is _ _ _ _ _ _ _ _ _ e.0 e.1.0 e.1.1
+    (cleared-is _ _ _ _ _ _ _ _ _ e.pool_after e.waiting_after e.poolowners_after
     done.read_lent-answer.auto.poolnumbers done.read_lent-answer.auto.poolwords done.read_lent-answer.auto.poolowners))

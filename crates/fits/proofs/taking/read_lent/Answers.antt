@@ -1,6 +1,6 @@
 -- `fits::taking::read_lent` meets its contract.
-use mathlib.Core.Path.{◌≡◌, sym, ◌∙◌}
-use mathlib.Core.Bool.{true}
+use mathlib.Core.Path.{◌≡◌, sym, ◌∙◌, ap}
+use mathlib.Core.Bool.{true, not}
 use Prim.Native.Nat.{◌+◌, ◌*◌, ◌≤◌}
 use lib.ListN.{length}
 use borrow.Author.Tests.{not-true, not-false}
@@ -19,10 +19,10 @@ use Rattle.fits.proofs.taking.read_lent.Goals as goal
 use Rattle.fits.proofs.taking.read_lent.Goals.{Start}
 
 abbrev In-Rows : Type 0
-In-Rows = lts.After-known_told tie.the-claims reads.Pre reads.Post
+In-Rows = lts.After-known_told tie.the-claims reads.Pre reads.Post tie.handed_clauses
 
 abbrev Else-not-data_good : Type 0
-Else-not-data_good = lts.Else1 tie.the-claims reads.Pre reads.Post
+Else-not-data_good = lts.Else1 tie.the-claims reads.Pre reads.Post tie.handed_clauses
 
 abbrev file_of : Start → File
 file_of s = lent s.args.separators.now s.args.numbers.now s.args.words.now s.args.owners.now
@@ -53,11 +53,11 @@ returns-then-not-data_good c =
     let k = c.before.before.before in
     let s = start k in
     bad_rows s.args.parameters s.args.growth (file_of s) (pool_of s) s.args.given.now _ k.table_rows-told.ensures k.told-1.given.1
-    (failed _ _ c.data_good.ensures c.if-not-data_good.true)
+    (failed _ _ c.data_good.ensures (ap not c.if-not-data_good.true))
 
 -- .. and its rows and pad are good
 good : (c : Else-not-data_good) → good_data (start c.before.before).args.given.now c.told-1.given.0.0 ≡ true
-good c = passed _ _ c.data_good.ensures c.if-not-data_good.false
+good c = passed _ _ c.data_good.ensures (ap not c.if-not-data_good.false)
 
 pub first_multipliers-table-requires : goal.first_multipliers-table-requires
 first_multipliers-table-requires c = tabled (start c.before.before.before).requires.admitted

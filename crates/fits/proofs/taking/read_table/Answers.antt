@@ -3,10 +3,12 @@ use Rattle.hashing.proofs.Bounds.{passed, failed}
 use Rattle.exchange.specs.Tables.{read_under}
 use Rattle.call_guard.proofs.Turned.{in_turn_lem}
 use borrow.Author.Rules.{rules}
+use mathlib.Core.Path.{ap}
+use mathlib.Core.Bool.{not}
 use Rattle.fits.proofs.taking.read_table.Goals as goal
 
 pub turn_away-requires : goal.turn_away-requires
-turn_away-requires c = failed _ _ c.at_rest.ensures c.if-not-at_rest.true
+turn_away-requires c = failed _ _ c.at_rest.ensures (ap not c.if-not-at_rest.true)
 
 pub returns-then-not-at_rest : goal.returns-then-not-at_rest
 unfolding read_under
@@ -17,4 +19,4 @@ unfolding read_under
 returns c =
     let d = c.before.before.before.before.before.before.before.before.before.before.before.before.before.before.before in
     let r = d.before.before.before.before.before.before.before.before.before in
-    rw (in_turn_lem _ _ _ _ _ _ (passed _ _ r.at_rest.ensures r.if-not-at_rest.false)) d.read_closed.ensures
+    rw (in_turn_lem _ _ _ _ _ _ (passed _ _ r.at_rest.ensures (ap not r.if-not-at_rest.false))) d.read_closed.ensures

@@ -1,11 +1,12 @@
 -- `fits_pages::stored::place_rows` meets its contract.
-use mathlib.Core.Path.{refl, sym, ◌∙◌}
+use mathlib.Core.Path.{refl, sym, ◌∙◌, ap}
 use native.Mathlib.Omega.{arith}
 use lib.ListN.{length}
 use Rattle.hashing.proofs.Bounds.{limits}
 use Rattle.fits_pages.proofs.LaidRows.{no_room, overfull, all-stored, pasted_front, zeros-as_long}
 use borrow.Author.Rules.{rules}
 use borrow.Author.Tests.{not-true, not-false}
+use mathlib.Core.Bool.{not}
 use Rattle.fits_pages.proofs.stored.place_rows.Goals as goal
 
 pub returns-then-pool-rows : goal.returns-then-pool-rows
@@ -27,7 +28,7 @@ pub returns-then-not-plan_rows : goal.returns-then-not-plan_rows
 returns-then-not-plan_rows c =
     let d = c.before.before.before.before.before.before in
     let s = d.before.before.before.before.before.before.before.before.before.before.before.before in
-    overfull _ s.args.given.now s.args.rows _ _ _ (rw (not-true d.plan_rows.result c.if-not-plan_rows.true) at d.plan_rows.ensures.plans_rows)
+    overfull _ s.args.given.now s.args.rows _ _ _ (rw (not-true d.plan_rows.result (ap not c.if-not-plan_rows.true)) at d.plan_rows.ensures.plans_rows)
 
 pub slice_bounds-copy_8-end : goal.slice_bounds-copy_8-end
 slice_bounds-copy_8-end c = sym c.plan_rows.ensures.planned_len_2
@@ -60,6 +61,6 @@ returns c =
     let e = c.store_rows.ensures in
     let same = d.plan_rows.auto.pool in
     let chosen = c.before.before.before.before.before.before.before.before.before.before.before.before.before.before.before.before.before in
-    all-stored _ s.args.given.now s.args.rows _ _ _ (rw (not-false d.plan_rows.result chosen.if-not-plan_rows.false) at d.plan_rows.ensures.plans_rows) _ _ _ _
-    (c.copy_8.ensures ∙ pasted_front _ _ _ s.requires.ready.sized.of_separators) e.0 e.1.0
-    (e.1.1 ∙ zeros-as_long (length s.args.owners.now) (length d.plan_rows.new.1.1.1.1.0) (omega (arith, same, s.requires.pool_len.0, s.requires.ready.sized.of_owners)))
+    all-stored _ s.args.given.now s.args.rows _ _ _ (rw (not-false d.plan_rows.result (ap not chosen.if-not-plan_rows.false)) at d.plan_rows.ensures.plans_rows) _ _ _ _
+    (c.copy_8.ensures ∙ pasted_front _ _ _ s.requires.ready.sized.of_separators) e.numbers_after e.words_after
+    (e.owners_after ∙ zeros-as_long (length s.args.owners.now) (length d.plan_rows.new.1.1.1.1.0) (omega (arith, same, s.requires.pool_len.0, s.requires.ready.sized.of_owners)))

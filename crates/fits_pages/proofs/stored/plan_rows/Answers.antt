@@ -18,10 +18,10 @@ use Rattle.fits_pages.proofs.stored.plan_rows.Goals as goal
 use Rattle.fits_pages.proofs.stored.plan_rows.Goals.{Start}
 
 abbrev After-key_rows : Type 0
-After-key_rows = lts.After-key_rows tie.the-claims reads.Pre reads.Post
+After-key_rows = lts.After-key_rows tie.the-claims reads.Pre reads.Post tie.handed_clauses
 
 abbrev After-gather_keys : Type 0
-After-gather_keys = lts.After-gather_keys tie.the-claims reads.Pre reads.Post
+After-gather_keys = lts.After-gather_keys tie.the-claims reads.Pre reads.Post tie.handed_clauses
 
 -- what the parameters say
 some : (s : Start) → 0 < s.args.geometry.parameters.pages
@@ -90,7 +90,7 @@ place_all-requires c =
       few = omega (arith, few-items s, s.requires.pool_len, d.gather_keys.auto.waiting, m.number_rows.auto.waiting);
       order = omega arith;
       inside = omega (arith, room s, d.gather_keys.auto.waiting, m.number_rows.auto.waiting);
-      grouped_are =
+      grouped-are =
           in_groups_lem s.args.geometry s.args.given.now s.args.rows s.requires.homing.valid s.requires.homing.growth (some s) s.requires.rows_bound.0 s.requires.rows_value (keys_of k)
           s.args.waiting.now _ _ (inside k) (front k) (most s) (room s) d.gather_keys.auto.waiting d.gather_keys.ensures _ m.number_rows.auto.waiting m.number_rows.ensures;
       near = unfold all in refl;

@@ -24,10 +24,10 @@ use Rattle.growth_block.proofs.block.plan_block.Goals as goal
 use Rattle.growth_block.proofs.block.plan_block.Goals.{Start}
 
 abbrev After-page_behind-stop : Type 0
-After-page_behind-stop = lts.After-page_behind tie.the-claims reads.Pre reads.Post
+After-page_behind-stop = lts.After-page_behind tie.the-claims reads.Pre reads.Post tie.handed_clauses
 
 abbrev After-rehome_items : Type 0
-After-rehome_items = lts.After-rehome_items tie.the-claims reads.Pre reads.Post
+After-rehome_items = lts.After-rehome_items tie.the-claims reads.Pre reads.Post tie.handed_clauses
 
 abbrev start : After-page_behind-stop → Start
 start c = c.before.before.before.before.before.before.before.before.before.before.before.before
@@ -150,6 +150,6 @@ returns c =
       homes-are = rw (add-one (stop - lo)) at z.rehome_items.ensures;
       homes-long = z.rehome_items.auto.homes;
       waiting = _;
-      past_it = _;
+      past-it = _;
       plan = rw (add-one (stop - lo)) at y.ensures;
     }

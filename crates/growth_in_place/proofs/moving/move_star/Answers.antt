@@ -69,9 +69,9 @@ take_homed-requires c =
     let put = d.put_homed.ensures in
     record {
       occupied = (still-occupied _ _ _ _ _ _ s.requires.moving (room s) _ _ (low s) s.requires.numbers_nonzero s.requires.numbers_value _ s.requires.added_value.0
-          _ _ _ _ put.0.of_numbers put.0.of_words_lem put.0.of_owners put.1).0;
+          _ _ _ _ put.stands_on.of_numbers put.stands_on.of_words_lem put.stands_on.of_owners put.homes_after).0;
       places_in_bounds = (still-occupied _ _ _ _ _ _ s.requires.moving (room s) _ _ (low s) s.requires.numbers_nonzero s.requires.numbers_value _ s.requires.added_value.0
-          _ _ _ _ put.0.of_numbers put.0.of_words_lem put.0.of_owners put.1).1;
+          _ _ _ _ put.stands_on.of_numbers put.stands_on.of_words_lem put.stands_on.of_owners put.homes_after).1;
     }
 
 pub returns : goal.returns
@@ -82,8 +82,8 @@ returns c =
     let taken = c.take_homed.ensures in
     let all =
     stepped _ _ _ _ _ _ s.requires.moving (room s) _ _ (low s) s.requires.numbers_nonzero s.requires.numbers_value _ s.requires.added_value.0
-    _ _ _ _ put.0.of_numbers put.0.of_words_lem put.0.of_owners put.1
-    _ _ _ _ taken.0.of_numbers taken.0.of_words_lem taken.0.of_owners taken.1 in
+    _ _ _ _ put.stands_on.of_numbers put.stands_on.of_words_lem put.stands_on.of_owners put.homes_after
+    _ _ _ _ taken.stands_on.of_numbers taken.stands_on.of_words_lem taken.stands_on.of_owners taken.homes_after in
     record {
       stepped = record { underway = all.0; kept = all.1 };
       closed_up = all.2;

@@ -10,7 +10,7 @@ use Rattle.growth_in_place.proofs.moving.put_homed.Reads as reads
 use Rattle.growth_in_place.proofs.moving.put_homed.Goals as goal
 
 abbrev After-place_on-place : Type 0
-After-place_on-place = lts.After-place_on tie.the-claims reads.Pre reads.Post
+After-place_on-place = lts.After-place_on tie.the-claims reads.Pre reads.Post tie.handed_clauses
 
 inside : (c : After-place_on-place) → c.place_on-place.result < c.args.places
 inside c =

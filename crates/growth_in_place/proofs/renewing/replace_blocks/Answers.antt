@@ -12,12 +12,12 @@ use Rattle.growth_in_place.proofs.renewing.replace_blocks.Goals.{After-loop-lo, 
 pub loop-lo-init : goal.loop-lo-init
 loop-lo-init c =
     let pre = c.requires in
-    renewed_none _ _ _ _ _ pre.0 pre.1.0 pre.1.1
+    renewed_none _ _ _ _ _ pre.placeable pre.pages_value pre.pool_value
 
 pub stretch_end-stop-requires : goal.stretch_end-stop-requires
 stretch_end-stop-requires c =
     let pre = c.requires in
-    omega (arith, (renewed_sized _ _ _ _ _ pre.0 pre.1.0 pre.1.1 _ _ _ _ _ c.loop-lo.invariant).of_separators)
+    omega (arith, (renewed_sized _ _ _ _ _ pre.placeable pre.pages_value pre.pool_value _ _ _ _ _ c.loop-lo.invariant).of_separators)
 
 -- the block that starts at page lo
 abbrev start : After-stretch_end-stop → Start

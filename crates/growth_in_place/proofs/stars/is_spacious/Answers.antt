@@ -15,10 +15,10 @@ use Rattle.growth_in_place.proofs.stars.is_spacious.Goals as goal
 use Rattle.growth_in_place.proofs.stars.is_spacious.Goals.{Start}
 
 abbrev After-highest_address-added : Type 0
-After-highest_address-added = lts.After-highest_address tie.the-claims reads.Pre reads.Post
+After-highest_address-added = lts.After-highest_address tie.the-claims reads.Pre reads.Post tie.handed_clauses
 
 abbrev Else-separators-page : Type 0
-Else-separators-page = lts.Else1 tie.the-claims reads.Pre reads.Post
+Else-separators-page = lts.Else1 tie.the-claims reads.Pre reads.Post tie.handed_clauses
 
 abbrev start : After-highest_address-added → Start
 start c = c.before.before.before.before.before

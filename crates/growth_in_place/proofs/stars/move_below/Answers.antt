@@ -13,7 +13,7 @@ use Rattle.growth_in_place.proofs.stars.move_below.Goals as goal
 use Rattle.growth_in_place.proofs.stars.move_below.Goals.{Start}
 
 abbrev After-runs_on-runs : Type 0
-After-runs_on-runs = lts.After-runs_on tie.the-claims reads.Pre reads.Post goal.the-invariant-loop-page goal.the-decreases-loop-page
+After-runs_on-runs = lts.After-runs_on tie.the-claims reads.Pre reads.Post goal.the-invariant-loop-page goal.the-decreases-loop-page tie.handed_clauses
 
 room : (s : Start) → page_count s.args.geometry.parameters s.args.geometry.growth < s.args.geometry.parameters.pages
 room s = omega (arith, s.requires.added_value.0, s.requires.added_value.1)
@@ -77,9 +77,9 @@ loop-page-preserved-then-here c =
     let less = c.loop-page-test.true in
     let moved = c.move_from.ensures in (
       omega (arith, less),
-      moved.0.underway,
-      kept_more _ _ _ _ _ _ _ _ _ _ _ (room s) loop.invariant.2 moved.0.kept,
-      settled-next _ _ _ _ _ _ _ _ loop.page moved.0.kept (omega (arith, less, s.requires.added_value.0)) (room s) loop.invariant.3 moved.1,
+      moved.stepped.underway,
+      kept_more _ _ _ _ _ _ _ _ _ _ _ (room s) loop.invariant.2 moved.stepped.kept,
+      settled-next _ _ _ _ _ _ _ _ loop.page moved.stepped.kept (omega (arith, less, s.requires.added_value.0)) (room s) loop.invariant.3 moved.none_joins,
       walked c.before.before.before.before.before.before.before.before.before.before.before.before.before.before.before,
     )
 

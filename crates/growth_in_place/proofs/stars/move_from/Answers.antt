@@ -18,7 +18,7 @@ use Rattle.growth_in_place.proofs.stars.move_from.Goals as goal
 use Rattle.growth_in_place.proofs.stars.move_from.Goals.{Start}
 
 abbrev After-joins : Type 0
-After-joins = lts.After-joins tie.the-claims reads.Pre reads.Post goal.the-invariant-loop-i goal.the-decreases-loop-i
+After-joins = lts.After-joins tie.the-claims reads.Pre reads.Post goal.the-invariant-loop-i goal.the-decreases-loop-i tie.handed_clauses
 
 inside : (s : Start) → s.args.page < s.args.geometry.parameters.pages
 inside s = omega (arith, s.requires.added_value.1, s.requires.page_lt_added)
@@ -123,9 +123,9 @@ loop-i-preserved-then-joins c =
     let inv = c.loop-i.invariant in
     let moved = c.move_star.ensures in (
       omega arith,
-      moved.0.underway,
-      kept_more _ _ _ _ _ _ _ _ _ _ _ (room s) inv.2 moved.0.kept,
-      taken-there _ _ c.loop-i.i _ _ (omega (arith, c.loop-i-test.true)) moved.1 inv.3,
+      moved.stepped.underway,
+      kept_more _ _ _ _ _ _ _ _ _ _ _ (room s) inv.2 moved.stepped.kept,
+      taken-there _ _ c.loop-i.i _ _ (omega (arith, c.loop-i-test.true)) moved.closed_up inv.3,
     )
 
 pub loop-i-smaller : goal.loop-i-smaller

@@ -18,10 +18,10 @@ use Rattle.growth_in_place.proofs.stars.move_stars.Goals as goal
 use Rattle.growth_in_place.proofs.stars.move_stars.Goals.{Start}
 
 abbrev Else-not-is_spacious : Type 0
-Else-not-is_spacious = lts.Else1 tie.the-claims reads.Pre reads.Post
+Else-not-is_spacious = lts.Else1 tie.the-claims reads.Pre reads.Post tie.handed_clauses
 
 abbrev After-highest_address-added : Type 0
-After-highest_address-added = lts.After-highest_address tie.the-claims reads.Pre reads.Post
+After-highest_address-added = lts.After-highest_address tie.the-claims reads.Pre reads.Post tie.handed_clauses
 
 abbrev file : Start → File
 file s = lent s.args.separators.now s.args.numbers.now s.args.words.now s.args.owners.now
@@ -95,6 +95,6 @@ returns c =
     let s = start x.before in
     let done = c.move_below.ensures in
     record {
-      moved = λ e. moved_at _ _ (file s) s.requires.ready.homing.valid s.requires.ready.homing.growth s.requires.ready.sized s.requires.pages_value s.requires.growth_bound (spacious x.before) _ (added_is x) _ _ _ _ done.0.underway done.0.kept done.1;
+      moved = λ e. moved_at _ _ (file s) s.requires.ready.homing.valid s.requires.ready.homing.growth s.requires.ready.sized s.requires.pages_value s.requires.growth_bound (spacious x.before) _ (added_is x) _ _ _ _ done.stepped.underway done.stepped.kept done.settled_below;
       untouched = λ e. absurd (true≢false e);
     }

@@ -15,7 +15,7 @@ use Rattle.growth_in_place.proofs.tallying.count_page.Reads as reads
 use Rattle.growth_in_place.proofs.tallying.count_page.Goals as goal
 
 abbrev After-joins : Type 0
-After-joins = lts.After-joins tie.the-claims reads.Pre reads.Post goal.the-invariant-loop-i goal.the-decreases-loop-i
+After-joins = lts.After-joins tie.the-claims reads.Pre reads.Post goal.the-invariant-loop-i goal.the-decreases-loop-i tie.handed_clauses
 
 pub loop-i-init : goal.loop-i-init
 loop-i-init c = (omega arith, omega arith, sym (joiners_none _ _))

@@ -13,10 +13,10 @@ use Rattle.growth_in_place.proofs.tallying.count_stars.Reads as reads
 use Rattle.growth_in_place.proofs.tallying.count_stars.Goals as goal
 
 abbrev After-runs_on-runs : Type 0
-After-runs_on-runs = lts.After-runs_on tie.the-claims reads.Pre reads.Post goal.the-invariant-loop-page goal.the-decreases-loop-page
+After-runs_on-runs = lts.After-runs_on tie.the-claims reads.Pre reads.Post goal.the-invariant-loop-page goal.the-decreases-loop-page tie.handed_clauses
 
 abbrev After-count_page-total : Type 0
-After-count_page-total = lts.After-count_page tie.the-claims reads.Pre reads.Post goal.the-invariant-loop-page goal.the-decreases-loop-page
+After-count_page-total = lts.After-count_page tie.the-claims reads.Pre reads.Post goal.the-invariant-loop-page goal.the-decreases-loop-page tie.handed_clauses
 
 pub loop-page-init : goal.loop-page-init
 loop-page-init c = (omega arith, sym (below_none _ _ _), sym (runs_none _ _ _))

@@ -17,19 +17,19 @@ use Rattle.growth_plan.proofs.growth.grow.Goals as goal
 use Rattle.growth_plan.proofs.growth.grow.Goals.{After-grow_in_place, After-replace_all, Start}
 
 abbrev After-survey_pages-bad : Type 0
-After-survey_pages-bad = lts.After-survey_pages tie.the-claims reads.Pre reads.Post
+After-survey_pages-bad = lts.After-survey_pages tie.the-claims reads.Pre reads.Post tie.handed_clauses
 
 abbrev Else-bad-pages : Type 0
-Else-bad-pages = lts.Else1 tie.the-claims reads.Pre reads.Post
+Else-bad-pages = lts.Else1 tie.the-claims reads.Pre reads.Post tie.handed_clauses
 
 abbrev Then-grow_in_place : Type 0
-Then-grow_in_place = lts.Then2 tie.the-claims reads.Pre reads.Post
+Then-grow_in_place = lts.Then2 tie.the-claims reads.Pre reads.Post tie.handed_clauses
 
 abbrev Else-grow_in_place : Type 0
-Else-grow_in_place = lts.Else2 tie.the-claims reads.Pre reads.Post
+Else-grow_in_place = lts.Else2 tie.the-claims reads.Pre reads.Post tie.handed_clauses
 
 abbrev After-slice_known-22-1 : Type 0
-After-slice_known-22-1 = lts.After-slice_known22 tie.the-claims reads.Pre reads.Post
+After-slice_known-22-1 = lts.After-slice_known22 tie.the-claims reads.Pre reads.Post tie.handed_clauses
 
 abbrev start : After-survey_pages-bad → Start
 start c = c.before.before.before.before.before.before.before.before.before.before
@@ -41,8 +41,8 @@ pub survey_pages-bad-requires : goal.survey_pages-bad-requires
 survey_pages-bad-requires c =
     let pre = c.requires in
     record {
-      ready = pre.0;
-      homes_len = pre.1.0.of_numbers;
+      ready = pre.ready;
+      homes_len = pre.pooled.of_numbers;
       from_le_stop = omega arith;
       stop_le_pages = omega arith;
       known = known-none _ _ _ _ _ (le_refl _);

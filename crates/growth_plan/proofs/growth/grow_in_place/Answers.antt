@@ -13,16 +13,16 @@ use Rattle.growth_plan.proofs.growth.grow_in_place.Goals as goal
 use Rattle.growth_plan.proofs.growth.grow_in_place.Goals.{After-replace_blocks, Start}
 
 abbrev After-move_stars : Type 0
-After-move_stars = lts.After-move_stars tie.the-claims reads.Pre reads.Post
+After-move_stars = lts.After-move_stars tie.the-claims reads.Pre reads.Post tie.handed_clauses
 
 abbrev Then-not-move_stars : Type 0
-Then-not-move_stars = lts.Then1 tie.the-claims reads.Pre reads.Post
+Then-not-move_stars = lts.Then1 tie.the-claims reads.Pre reads.Post tie.handed_clauses
 
 abbrev Else-not-move_stars : Type 0
-Else-not-move_stars = lts.Else1 tie.the-claims reads.Pre reads.Post
+Else-not-move_stars = lts.Else1 tie.the-claims reads.Pre reads.Post tie.handed_clauses
 
 abbrev After-slice_known-18-1 : Type 0
-After-slice_known-18-1 = lts.After-slice_known18 tie.the-claims reads.Pre reads.Post
+After-slice_known-18-1 = lts.After-slice_known18 tie.the-claims reads.Pre reads.Post tie.handed_clauses
 
 abbrev start : After-move_stars → Start
 start c = c.before.before.before.before.before.before.before.before.before.before.before.before
@@ -45,10 +45,10 @@ pub move_stars-requires : goal.move_stars-requires
 move_stars-requires c =
     let pre = c.requires in
     record {
-      ready = pre.0;
-      homes_value = pre.1.1.1.1;
-      pages_value = pre.1.1.1.0;
-      growth_bound = pre.1.1.0;
+      ready = pre.ready;
+      homes_value = pre.pool_value;
+      pages_value = pre.pages_value;
+      growth_bound = pre.movable;
     }
 
 pub shape_of-separators-then-not-move_stars : goal.shape_of-separators-then-not-move_stars
@@ -64,7 +64,7 @@ returns-then-not-move_stars c =
       accepts = λ e. absurd (false≢true e);
       file = λ e. absurd (false≢true e);
       kept = λ _. same-file _ _ _ _ _ _ _ still.of_numbers still.of_words_lem still.of_owners;
-      pool_kept = λ _. still.of_homes;
+      pool-kept = λ _. still.of_homes;
     }
 
 pub grown-growth-requires : goal.grown-growth-requires
@@ -122,5 +122,5 @@ returns c =
       accepts = λ _. grown-answer _ _ _ _ _ _ pre.0.sized pre.1.1.1.0 (moved e) renewed;
       file = λ _. grown-file _ _ _ _ _ _ pre.0.sized pre.1.1.1.0 (moved e) renewed;
       kept = λ e. absurd (false≢true (sym e));
-      pool_kept = λ e. absurd (false≢true (sym e));
+      pool-kept = λ e. absurd (false≢true (sym e));
     }

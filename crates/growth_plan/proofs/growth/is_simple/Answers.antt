@@ -15,7 +15,7 @@ use Rattle.growth_plan.proofs.growth.is_simple.Goals as goal
 use Rattle.growth_plan.proofs.growth.is_simple.Goals.{Start}
 
 abbrev After-struct_known-2-1 : Type 0
-After-struct_known-2-1 = lts.After-struct_known2 tie.the-claims reads.Pre reads.Post
+After-struct_known-2-1 = lts.After-struct_known2 tie.the-claims reads.Pre reads.Post tie.handed_clauses
 
 pub bounds-separators-page : goal.bounds-separators-page
 bounds-separators-page c =

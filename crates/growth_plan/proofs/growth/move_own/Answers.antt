@@ -31,10 +31,10 @@ use Rattle.growth_plan.proofs.growth.move_own.Goals as goal
 use Rattle.growth_plan.proofs.growth.move_own.Goals.{After-enter_own-entered, After-grow, After-take_own, Start}
 
 abbrev After-find_own-own : Type 0
-After-find_own-own = lts.After-find_own tie.the-claims reads.Pre reads.Post
+After-find_own-own = lts.After-find_own tie.the-claims reads.Pre reads.Post tie.handed_clauses
 
 abbrev Then-entered-places : Type 0
-Then-entered-places = lts.Then1 tie.the-claims reads.Pre reads.Post
+Then-entered-places = lts.Then1 tie.the-claims reads.Pre reads.Post tie.handed_clauses
 
 abbrev file : Start → File
 file s = lent s.args.separators.now s.args.numbers.now s.args.words.now s.args.owners.now

@@ -14,10 +14,10 @@ use Rattle.growth_plan.proofs.growth.regrow.Goals as goal
 use Rattle.growth_plan.proofs.growth.regrow.Goals.{After-grow, After-shrink}
 
 abbrev After-slice_known-then-back-7-1 : Type 0
-After-slice_known-then-back-7-1 = lts.After-slice_known14 tie.the-claims reads.Pre reads.Post
+After-slice_known-then-back-7-1 = lts.After-slice_known14 tie.the-claims reads.Pre reads.Post tie.handed_clauses
 
 abbrev After-slice_known-14-1 : Type 0
-After-slice_known-14-1 = lts.After-slice_known21 tie.the-claims reads.Pre reads.Post
+After-slice_known-14-1 = lts.After-slice_known21 tie.the-claims reads.Pre reads.Post tie.handed_clauses
 
 -- either way
 movable : (b back : Bool) (p : Parameters) (g : Growth) → back ≡ b → Movable back p g → Movable b p g
@@ -32,9 +32,9 @@ pub shrink-requires : goal.shrink-requires
 shrink-requires c =
     let pre = c.requires in
     record {
-      ready = pre.0;
-      pooled = pre.1.0;
-      movable = movable true _ _ _ c.if-back.true pre.1.1;
+      ready = pre.ready;
+      pooled = pre.pooled;
+      movable = movable true _ _ _ c.if-back.true pre.movable;
     }
 
 abbrev after-shrink : After-slice_known-then-back-7-1 → After-shrink
@@ -50,9 +50,9 @@ pub grow-requires : goal.grow-requires
 grow-requires c =
     let pre = c.requires in
     record {
-      ready = pre.0;
-      pooled = pre.1.0;
-      movable = movable false _ _ _ c.if-back.false pre.1.1;
+      ready = pre.ready;
+      pooled = pre.pooled;
+      movable = movable false _ _ _ c.if-back.false pre.movable;
     }
 
 abbrev after-grow : After-slice_known-14-1 → After-grow

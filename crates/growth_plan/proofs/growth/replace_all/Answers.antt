@@ -21,13 +21,13 @@ use Rattle.growth_plan.proofs.growth.replace_all.Goals as goal
 use Rattle.growth_plan.proofs.growth.replace_all.Goals.{After-apply, Start}
 
 abbrev After-plan_all : Type 0
-After-plan_all = lts.After-plan_all tie.the-claims reads.Pre reads.Post
+After-plan_all = lts.After-plan_all tie.the-claims reads.Pre reads.Post tie.handed_clauses
 
 abbrev Else-not-plan_all : Type 0
-Else-not-plan_all = lts.Else1 tie.the-claims reads.Pre reads.Post
+Else-not-plan_all = lts.Else1 tie.the-claims reads.Pre reads.Post tie.handed_clauses
 
 abbrev After-slice_known-16-1 : Type 0
-After-slice_known-16-1 = lts.After-slice_known16 tie.the-claims reads.Pre reads.Post
+After-slice_known-16-1 = lts.After-slice_known16 tie.the-claims reads.Pre reads.Post tie.handed_clauses
 
 abbrev file : Start → File
 file s = lent s.args.separators.now s.args.numbers.now s.args.words.now s.args.owners.now
@@ -51,13 +51,13 @@ pub plan_all-requires : goal.plan_all-requires
 plan_all-requires c =
     let s = c.before.before.before.before.before.before.before.before.before.before.before in
     let pre = s.requires in record {
-      homing = pre.0.homing;
-      movable = pre.1.1.0;
-      numbers_len = (pre.0.sized.of_numbers, pre.1.0.of_words_lem);
+      homing = pre.ready.homing;
+      movable = pre.movable;
+      numbers_len = (pre.ready.sized.of_numbers, pre.pooled.of_words_lem);
       pages_in_bounds = omega (arith, most s);
-      numbers_value = sound-numbers _ _ (file s) pre.0.homing.valid pre.0.sized s.requires.pages_value 0 _ (omega arith);
-      pool_value = pre.1.1.1.1;
-      homes_stay = homes-stay _ _ (file s) pre.0.homing.valid pre.0.sized s.requires.pages_value s.args.back pre.0.homing.growth pre.1.1.0;
+      numbers_value = sound-numbers _ _ (file s) pre.ready.homing.valid pre.ready.sized s.requires.pages_value 0 _ (omega arith);
+      pool_value = pre.pool_value;
+      homes_stay = homes-stay _ _ (file s) pre.ready.homing.valid pre.ready.sized s.requires.pages_value s.args.back pre.ready.homing.growth pre.movable;
     }
 
 pub shape_of-numbers-then-not-plan_all : goal.shape_of-numbers-then-not-plan_all
@@ -104,5 +104,5 @@ returns c =
     let left = a.apply.ensures in
     record {
       value = done.0;
-      owners_value = applied-lists _ _ _ _ _ _ _ _ _ _ _ _ _ left.0 left.1.0 left.1.1.0 left.1.1.1.0 ∙ done.1;
+      owners_value = applied-lists _ _ _ _ _ _ _ _ _ _ _ _ _ left.separators_after left.numbers_after left.words_after left.owners_after ∙ done.1;
     }

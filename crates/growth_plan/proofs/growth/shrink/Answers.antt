@@ -19,19 +19,19 @@ use Rattle.growth_plan.proofs.growth.shrink.Goals as goal
 use Rattle.growth_plan.proofs.growth.shrink.Goals.{After-move_own, After-replace_all, Start}
 
 abbrev After-survey_pages-bad : Type 0
-After-survey_pages-bad = lts.After-survey_pages tie.the-claims reads.Pre reads.Post
+After-survey_pages-bad = lts.After-survey_pages tie.the-claims reads.Pre reads.Post tie.handed_clauses
 
 abbrev Else-bad-pages : Type 0
-Else-bad-pages = lts.Else1 tie.the-claims reads.Pre reads.Post
+Else-bad-pages = lts.Else1 tie.the-claims reads.Pre reads.Post tie.handed_clauses
 
 abbrev After-slice_known-then-not-is_simple-7-1 : Type 0
-After-slice_known-then-not-is_simple-7-1 = lts.After-slice_known15 tie.the-claims reads.Pre reads.Post
+After-slice_known-then-not-is_simple-7-1 = lts.After-slice_known15 tie.the-claims reads.Pre reads.Post tie.handed_clauses
 
 abbrev Then-move_own : Type 0
-Then-move_own = lts.Then3 tie.the-claims reads.Pre reads.Post
+Then-move_own = lts.Then3 tie.the-claims reads.Pre reads.Post tie.handed_clauses
 
 abbrev Else-move_own : Type 0
-Else-move_own = lts.Else3 tie.the-claims reads.Pre reads.Post
+Else-move_own = lts.Else3 tie.the-claims reads.Pre reads.Post tie.handed_clauses
 
 abbrev start : After-survey_pages-bad → Start
 start c = c.before.before.before.before.before.before.before.before.before.before
@@ -74,8 +74,8 @@ pub survey_pages-bad-requires : goal.survey_pages-bad-requires
 survey_pages-bad-requires c =
     let pre = c.requires in
     record {
-      ready = pre.0;
-      homes_len = pre.1.0.of_numbers;
+      ready = pre.ready;
+      homes_len = pre.pooled.of_numbers;
       from_le_stop = omega arith;
       stop_le_pages = omega arith;
       known = known-none _ _ _ _ _ (le_refl _);

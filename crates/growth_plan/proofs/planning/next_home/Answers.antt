@@ -4,9 +4,9 @@ pub item_shrunk-requires : goal.item_shrunk-requires
 item_shrunk-requires c =
     let pre = c.requires in
     record {
-      homing = pre.0;
-      growth_value = rw c.if-back.true at pre.1.0;
-      value = pre.1.1;
+      homing = pre.homing;
+      growth_value = rw c.if-back.true at pre.movable;
+      value = pre.value;
     }
 
 pub returns-then-back : goal.returns-then-back
@@ -14,8 +14,8 @@ returns-then-back c = rw c.if-back.true c.item_shrunk.ensures
 
 pub item_grown-requires : goal.item_grown-requires
 item_grown-requires c = let pre = c.requires in record {
-  homing = pre.0;
-  value = pre.1.1;
+  homing = pre.homing;
+  value = pre.value;
 }
 
 pub returns : goal.returns

@@ -21,16 +21,16 @@ use Rattle.growth_plan.proofs.planning.plan_all.Goals as goal
 use Rattle.growth_plan.proofs.planning.plan_all.Goals.{Start}
 
 abbrev After-rehome : Type 0
-After-rehome = lts.After-rehome tie.the-claims reads.Pre reads.Post
+After-rehome = lts.After-rehome tie.the-claims reads.Pre reads.Post tie.handed_clauses
 
 abbrev After-gather-end : Type 0
-After-gather-end = lts.After-gather tie.the-claims reads.Pre reads.Post
+After-gather-end = lts.After-gather tie.the-claims reads.Pre reads.Post tie.handed_clauses
 
 abbrev After-place_all : Type 0
-After-place_all = lts.After-place_all tie.the-claims reads.Pre reads.Post
+After-place_all = lts.After-place_all tie.the-claims reads.Pre reads.Post tie.handed_clauses
 
 abbrev After-slice_known-8-1 : Type 0
-After-slice_known-8-1 = lts.After-slice_known8 tie.the-claims reads.Pre reads.Post
+After-slice_known-8-1 = lts.After-slice_known8 tie.the-claims reads.Pre reads.Post tie.handed_clauses
 
 abbrev start : After-rehome → Start
 start c = c.before.before.before.before.before.before.before.before.before

@@ -11,7 +11,7 @@ use Rattle.growth_plan.proofs.planning.rehome.Goals as goal
 pub loop-i-init : goal.loop-i-init
 loop-i-init c =
     let pre = c.requires in
-    (omega (arith, c.first_moved-i.ensures, pre.1.1.1.inside), rehomed-front _ _ _ _ _ _ pre.1.1.0 pre.1.1.1 c.first_moved-i.ensures)
+    (omega (arith, c.first_moved-i.ensures, pre.homes_stay.inside), rehomed-front _ _ _ _ _ _ pre.homes_value pre.homes_stay c.first_moved-i.ensures)
 
 pub offset_bounds-homes-i : goal.offset_bounds-homes-i
 offset_bounds-homes-i c = omega arith
@@ -29,8 +29,8 @@ pub next_home-next-requires : goal.next_home-next-requires
 next_home-next-requires c =
     let pre = c.requires in
     record {
-      homing = pre.0;
-      movable = pre.1.0;
+      homing = pre.homing;
+      movable = pre.movable;
       value = home-there _ _ _ _ _ _ c.loop-i.invariant.1 c.loop-i-test.true;
     }
 

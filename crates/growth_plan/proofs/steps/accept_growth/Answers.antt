@@ -22,19 +22,19 @@ use Rattle.growth_plan.proofs.steps.accept_growth.Goals as goal
 use Rattle.growth_plan.proofs.steps.accept_growth.Goals.{Start}
 
 abbrev After-survey_pages-bad : Type 0
-After-survey_pages-bad = lts.After-survey_pages tie.the-claims reads.Pre reads.Post
+After-survey_pages-bad = lts.After-survey_pages tie.the-claims reads.Pre reads.Post tie.handed_clauses
 
 abbrev Else-bad-pages : Type 0
-Else-bad-pages = lts.Else1 tie.the-claims reads.Pre reads.Post
+Else-bad-pages = lts.Else1 tie.the-claims reads.Pre reads.Post tie.handed_clauses
 
 abbrev After-plan_all : Type 0
-After-plan_all = lts.After-plan_all tie.the-claims reads.Pre reads.Post
+After-plan_all = lts.After-plan_all tie.the-claims reads.Pre reads.Post tie.handed_clauses
 
 abbrev Then-not-plan_all : Type 0
-Then-not-plan_all = lts.Then3 tie.the-claims reads.Pre reads.Post
+Then-not-plan_all = lts.Then3 tie.the-claims reads.Pre reads.Post tie.handed_clauses
 
 abbrev Else-not-plan_all : Type 0
-Else-not-plan_all = lts.Else3 tie.the-claims reads.Pre reads.Post
+Else-not-plan_all = lts.Else3 tie.the-claims reads.Pre reads.Post tie.handed_clauses
 
 abbrev start : After-survey_pages-bad → Start
 start c = c.before.before.before.before.before.before.before.before.before
@@ -66,8 +66,8 @@ pub survey_pages-bad-requires : goal.survey_pages-bad-requires
 survey_pages-bad-requires c =
     let pre = c.requires in
     record {
-      ready = pre.0;
-      homes_len = pre.1.0;
+      ready = pre.ready;
+      homes_len = pre.pool_len;
       from_le_stop = omega arith;
       stop_le_pages = omega arith;
       known = known-none _ _ _ _ _ (le_refl _);

@@ -24,28 +24,28 @@ use Rattle.growth_plan.proofs.steps.plan_step.Goals as goal
 use Rattle.growth_plan.proofs.steps.plan_step.Goals.{Start}
 
 abbrev After-survey_pages-bad : Type 0
-After-survey_pages-bad = lts.After-survey_pages tie.the-claims reads.Pre reads.Post
+After-survey_pages-bad = lts.After-survey_pages tie.the-claims reads.Pre reads.Post tie.handed_clauses
 
 abbrev Else-bad-pages : Type 0
-Else-bad-pages = lts.Else1 tie.the-claims reads.Pre reads.Post
+Else-bad-pages = lts.Else1 tie.the-claims reads.Pre reads.Post tie.handed_clauses
 
 abbrev Then-is_local : Type 0
-Then-is_local = lts.Then2 tie.the-claims reads.Pre reads.Post
+Then-is_local = lts.Then2 tie.the-claims reads.Pre reads.Post tie.handed_clauses
 
 abbrev After-plan_block : Type 0
-After-plan_block = lts.After-plan_block tie.the-claims reads.Pre reads.Post
+After-plan_block = lts.After-plan_block tie.the-claims reads.Pre reads.Post tie.handed_clauses
 
 abbrev After-slice_known-then-is_local-3-1 : Type 0
-After-slice_known-then-is_local-3-1 = lts.After-slice_known7 tie.the-claims reads.Pre reads.Post
+After-slice_known-then-is_local-3-1 = lts.After-slice_known7 tie.the-claims reads.Pre reads.Post tie.handed_clauses
 
 abbrev After-plan_all : Type 0
-After-plan_all = lts.After-plan_all tie.the-claims reads.Pre reads.Post
+After-plan_all = lts.After-plan_all tie.the-claims reads.Pre reads.Post tie.handed_clauses
 
 abbrev Then-not-plan_all : Type 0
-Then-not-plan_all = lts.Then3 tie.the-claims reads.Pre reads.Post
+Then-not-plan_all = lts.Then3 tie.the-claims reads.Pre reads.Post tie.handed_clauses
 
 abbrev Else-not-plan_all : Type 0
-Else-not-plan_all = lts.Else3 tie.the-claims reads.Pre reads.Post
+Else-not-plan_all = lts.Else3 tie.the-claims reads.Pre reads.Post tie.handed_clauses
 
 abbrev start : After-survey_pages-bad → Start
 start c = c.before.before.before.before.before.before.before.before.before.before
@@ -77,8 +77,8 @@ pub survey_pages-bad-requires : goal.survey_pages-bad-requires
 survey_pages-bad-requires c =
     let pre = c.requires in
     record {
-      ready = pre.0;
-      homes_len = pre.1.0;
+      ready = pre.ready;
+      homes_len = pre.pool_len;
       from_le_stop = omega arith;
       stop_le_pages = omega arith;
       known = known-none _ _ _ _ _ (le_refl _);

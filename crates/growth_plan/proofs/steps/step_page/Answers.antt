@@ -14,13 +14,13 @@ use Rattle.growth_plan.proofs.steps.step_page.Goals as goal
 use Rattle.growth_plan.proofs.steps.step_page.Goals.{Start}
 
 abbrev After-plan_step : Type 0
-After-plan_step = lts.After-plan_step tie.the-claims reads.Pre reads.Post
+After-plan_step = lts.After-plan_step tie.the-claims reads.Pre reads.Post tie.handed_clauses
 
 abbrev After-write_planned : Type 0
-After-write_planned = lts.After-write_planned tie.the-claims reads.Pre reads.Post
+After-write_planned = lts.After-write_planned tie.the-claims reads.Pre reads.Post tie.handed_clauses
 
 abbrev After-slice_known-in-On-7-1 : Type 0
-After-slice_known-in-On-7-1 = lts.After-slice_known16 tie.the-claims reads.Pre reads.Post
+After-slice_known-in-On-7-1 = lts.After-slice_known16 tie.the-claims reads.Pre reads.Post tie.handed_clauses
 
 abbrev file : Start → File
 file s = lent s.args.separators.now s.args.numbers.now s.args.words.now s.args.owners.now
@@ -101,5 +101,5 @@ returns-in-On c =
     let answer = sym v.1 ∙ x.plan_step.ensures.value in record {
       value = answer;
       secondowners_value = on-stepped _ _ _ (file s) (second s) s.args.step _ v.0.0 s.requires.ready.sized s.requires.step_lt_pages answer
-          _ _ (x.plan_step.ensures.plans_step v.0.0 v.1) _ _ _ _ y.0 y.1.0 y.1.1.0 y.1.1.1;
+          _ _ (x.plan_step.ensures.plans_step v.0.0 v.1) _ _ _ _ y.secondseparators_after y.secondnumbers_after y.secondwords_after y.secondowners_after;
     }

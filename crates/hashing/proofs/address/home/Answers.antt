@@ -16,7 +16,7 @@ use Rattle.hashing.proofs.address.home.Goals as goal
 use Rattle.hashing.proofs.address.home.Goals.{After-follow-landing, Start}
 
 abbrev After-first_page-start : Type 0
-After-first_page-start = lts.After-first_page tie.the-claims reads.Pre reads.Post
+After-first_page-start = lts.After-first_page tie.the-claims reads.Pre reads.Post tie.handed_clauses
 
 bounds : (c : Start) → Limits c.args.geometry.parameters
 bounds c = limits _ c.requires.parameters_value
@@ -72,9 +72,9 @@ follow-landing-requires c =
     let chose = c.choose-choice.ensures in record {
       parameters_value = start.requires.parameters_value;
       inverse_value = c.inverse_of-inverse.ensures;
-      steps_len = chose.1.0;
-      count_bound = omega (arith, chose.0, (state start).expansions_most);
-      narrow_rising = chosen-rising (multiplier_of start.args.geometry.parameters) _ _ (start.args.number % modulus) 10 _ (bounds start) (within start) (state start).doublings chose.1.1.0;
+      steps_len = chose.steps_len_2;
+      count_bound = omega (arith, chose.count_le_expansions, (state start).expansions_most);
+      narrow_rising = chosen-rising (multiplier_of start.args.geometry.parameters) _ _ (start.args.number % modulus) 10 _ (bounds start) (within start) (state start).doublings chose.steps_after;
       start_bound = low c.before;
     }
 
@@ -88,9 +88,9 @@ last_step-requires c =
       growth_value = start.requires.growth_value;
       inverse_value = c.inverse_of-inverse.ensures;
       key_lt_modulus = omega arith;
-      last_value = chose.1.1.1;
+      last_value = chose.last_value;
       landed = (ends c).landed;
-      code_bound = rw chose.1.1.1 (ends c).level;
+      code_bound = rw chose.last_value (ends c).level;
     }
 
 pub returns : goal.returns

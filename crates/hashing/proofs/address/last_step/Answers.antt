@@ -1,5 +1,5 @@
 -- `hashing::last_step` meets its contract.
-use mathlib.Core.Path.{◌≡◌, ◌∙◌}
+use mathlib.Core.Path.{◌≡◌, ◌∙◌, ap}
 use Prim.Native.Nat.{suc}
 use native.Mathlib.Nat.{le_refl}
 use native.Mathlib.Omega.{arith}
@@ -9,6 +9,7 @@ use Rattle.hashing.specs.Home.{step_from, expanded_at, rank_at}
 use Rattle.hashing.specs.Moves.{Narrow, code_page}
 use Rattle.hashing.proofs.Bounds.{Limits, limits, growth_within, failed, passed}
 use Rattle.hashing.proofs.Codes.{code_size, code_count_lem, code_narrow, order_below}
+use mathlib.Core.Bool.{not}
 use Rattle.hashing.proofs.address.last_step.Goals as goal
 use Rattle.hashing.proofs.address.last_step.Goals.{After-moved-order, Start}
 
@@ -30,7 +31,7 @@ order c =
 
 pub returns-then-not-chosen_last : goal.returns-then-not-chosen_last
 unfolding step_from
-returns-then-not-chosen_last c = rw (failed _ _ c.chosen_last.ensures c.if-not-chosen_last.true) c.page_of-page.ensures
+returns-then-not-chosen_last c = rw (failed _ _ c.chosen_last.ensures (ap not c.if-not-chosen_last.true)) c.page_of-page.ensures
 
 pub moved-order-requires : goal.moved-order-requires
 moved-order-requires c =
@@ -49,7 +50,7 @@ returns-then-geometry-order c =
     let e = start.args.geometry.growth.expansions in
     let p = start.args.geometry.parameters in
     rw (
-      passed _ _ c.chosen_last.ensures c.if-not-chosen_last.false,
+      passed _ _ c.chosen_last.ensures (ap not c.if-not-chosen_last.false),
       lt-leb (suc e) e (omega arith),
       le-ltb (rank_at p e (code_page p start.args.landing.code start.args.landing.order)) start.args.geometry.growth.expanded (omega (arith, c.if-geometry-order.true, order c.before.before)),
     )
@@ -72,7 +73,7 @@ returns c =
     let p = start.args.geometry.parameters in
     let l = bounds start in
     rw (
-      passed _ _ c.chosen_last.ensures c.if-not-chosen_last.false,
+      passed _ _ c.chosen_last.ensures (ap not c.if-not-chosen_last.false),
       lt-leb (suc e) e (omega arith),
       lt-ltb (rank_at p e (code_page p start.args.landing.code start.args.landing.order)) start.args.geometry.growth.expanded (omega (arith, c.if-geometry-order.false, order c.before.before.before)),
       c.page_of.ensures,

@@ -16,13 +16,13 @@ use Rattle.hashing.proofs.moves.choose.Reads as reads
 use Rattle.hashing.proofs.moves.choose.Goals as goal
 
 abbrev After-chosen-arg-1 : Type 0
-After-chosen-arg-1 = lts.After-chosen-arg tie.the-claims reads.Pre reads.Post goal.the-invariant-loop-i goal.the-decreases-loop-i
+After-chosen-arg-1 = lts.After-chosen-arg tie.the-claims reads.Pre reads.Post goal.the-invariant-loop-i goal.the-decreases-loop-i tie.handed_clauses
 
 abbrev After-chosen-taken : Type 0
-After-chosen-taken = lts.After-chosen tie.the-claims reads.Pre reads.Post goal.the-invariant-loop-i goal.the-decreases-loop-i
+After-chosen-taken = lts.After-chosen tie.the-claims reads.Pre reads.Post goal.the-invariant-loop-i goal.the-decreases-loop-i tie.handed_clauses
 
 abbrev After-next_code-code : Type 0
-After-next_code-code = lts.After-next_code tie.the-claims reads.Pre reads.Post goal.the-invariant-loop-i goal.the-decreases-loop-i
+After-next_code-code = lts.After-next_code tie.the-claims reads.Pre reads.Post goal.the-invariant-loop-i goal.the-decreases-loop-i tie.handed_clauses
 
 few : (c : After-chosen-arg-1) → c.loop-i.i ≤ 32
 few c = omega (arith, c.requires.expansions_bound)
@@ -41,7 +41,7 @@ test c =
 again :
     (c : After-next_code-code) (n : ℕ) → n ≤ c.loop-i.i + 1 →
     take n (set c.loop-i.steps c.loop-i.count (code_at c.args.parameters c.loop-i.i)) ≡ moves (multiplier_of c.args.parameters) c.args.parameters c.args.key (c.loop-i.i + 1) →
-    invariant-loop c.args.table.now c.args.parameters c.args.expansions c.args.key c.args.steps.now 0 c.args.parameters.width 0 (set c.loop-i.steps c.loop-i.count c.loop-i.code) n c.next_code-code.result (c.loop-i.i + 1)
+    goal.the-invariant-loop-i c.args.table.now c.args.parameters c.args.expansions c.args.key c.args.steps.now 0 c.args.parameters.width 0 (set c.loop-i.steps c.loop-i.count c.loop-i.code) n c.next_code-code.result (c.loop-i.i + 1)
 again c n h e =
     let inv = c.loop-i.invariant in
     (omega arith, (h, (simp length-set inv.1.1.0, (c.next_code-code.ensures, rw inv.1.1.1.0 e))))

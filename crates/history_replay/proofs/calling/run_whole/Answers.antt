@@ -9,13 +9,13 @@ use Rattle.history_replay.proofs.calling.run_whole.Goals as goal
 use Rattle.history_replay.proofs.calling.run_whole.Goals.{After-check-checked, After-grow-grown, After-shrink-shrunk}
 
 abbrev After-unmoved : Type 0
-After-unmoved = lts.After-unmoved tie.the-claims reads.Pre reads.Post
+After-unmoved = lts.After-unmoved tie.the-claims reads.Pre reads.Post tie.handed_clauses
 
 abbrev After-unmoved-then-kind-eq7 : Type 0
-After-unmoved-then-kind-eq7 = lts.After-unmoved2 tie.the-claims reads.Pre reads.Post
+After-unmoved-then-kind-eq7 = lts.After-unmoved2 tie.the-claims reads.Pre reads.Post tie.handed_clauses
 
 abbrev After-unmoved-2 : Type 0
-After-unmoved-2 = lts.After-unmoved3 tie.the-claims reads.Pre reads.Post
+After-unmoved-2 = lts.After-unmoved3 tie.the-claims reads.Pre reads.Post tie.handed_clauses
 
 abbrev after-grow : After-unmoved → After-grow-grown
 after-grow c = c.before.before.before.before.before.before.before.before.before.before.before.before.before.before.before.before.before.before

@@ -8,6 +8,7 @@ use Rattle.history_replay.specs.Replay.{LentHistory, lent_history}
 use Rattle.history_replay.proofs.Known.{even}
 use Rattle.history_replay.proofs.Replays.{uneven_history, uneven_pool, unknown_kind_lem, make_done, make_refused}
 use borrow.Author.Rules.{rules}
+use mathlib.Core.Bool.{not}
 use Rattle.history_replay.proofs.replaying.replay.Lts as lts
 use Rattle.history_replay.proofs.replaying.replay.Tie as tie
 use Rattle.history_replay.proofs.replaying.replay.Reads as reads
@@ -15,16 +16,16 @@ use Rattle.history_replay.proofs.replaying.replay.Goals as goal
 use Rattle.history_replay.proofs.replaying.replay.Goals.{Start}
 
 abbrev After-make-made : Type 0
-After-make-made = lts.After-make tie.the-claims reads.Pre reads.Post
+After-make-made = lts.After-make tie.the-claims reads.Pre reads.Post tie.handed_clauses
 
 abbrev After-run : Type 0
-After-run = lts.After-run tie.the-claims reads.Pre reads.Post
+After-run = lts.After-run tie.the-claims reads.Pre reads.Post tie.handed_clauses
 
 abbrev After-slice_known-in-On-8-1 : Type 0
-After-slice_known-in-On-8-1 = lts.After-slice_known20 tie.the-claims reads.Pre reads.Post
+After-slice_known-in-On-8-1 = lts.After-slice_known20 tie.the-claims reads.Pre reads.Post tie.handed_clauses
 
 abbrev In-Refused : Type 0
-In-Refused = lts.After-known_told tie.the-claims reads.Pre reads.Post
+In-Refused = lts.After-known_told tie.the-claims reads.Pre reads.Post tie.handed_clauses
 
 -- the lent file, pool and history at entry
 abbrev lent_file : Start → File
@@ -42,7 +43,7 @@ lengths_agree-requires c = tt
 pub returns-then-not-lengths_agree : goal.returns-then-not-lengths_agree
 returns-then-not-lengths_agree c =
     let s = c.before.before.before.before.before.before.before.before.before.before.before.before.before.before.before in
-    uneven_history _ (lent_file s) (pool_of s) (lent_of s) s.args.answers.now (failed _ _ c.lengths_agree.ensures c.if-not-lengths_agree.true)
+    uneven_history _ (lent_file s) (pool_of s) (lent_of s) s.args.answers.now (failed _ _ c.lengths_agree.ensures (ap not c.if-not-lengths_agree.true))
 
 pub pool_agrees-requires : goal.pool_agrees-requires
 pool_agrees-requires c = tt
@@ -52,8 +53,8 @@ returns-then-not-pool_agrees c =
     let one = c.before.before.before in
     let s = one.before.before.before.before.before.before.before.before.before.before.before.before.before.before in
     uneven_pool _ (lent_file s) (pool_of s) (lent_of s) s.args.answers.now
-    (passed _ _ one.lengths_agree.ensures one.if-not-lengths_agree.false)
-    (failed _ _ c.pool_agrees.ensures c.if-not-pool_agrees.true)
+    (passed _ _ one.lengths_agree.ensures (ap not one.if-not-lengths_agree.false))
+    (failed _ _ c.pool_agrees.ensures (ap not c.if-not-pool_agrees.true))
 
 pub kinds_known-requires : goal.kinds_known-requires
 kinds_known-requires c = tt
@@ -63,9 +64,9 @@ returns-then-not-kinds_known c =
     let one = c.before.before.before.before.before in
     let s = one.before.before.before.before.before.before.before.before.before.before.before.before.before.before in
     unknown_kind_lem _ (lent_file s) (pool_of s) (lent_of s) s.args.answers.now
-    (passed _ _ one.lengths_agree.ensures one.if-not-lengths_agree.false)
-    (passed _ _ c.pool_agrees.ensures c.if-not-pool_agrees.false)
-    (failed _ _ c.kinds_known.ensures c.if-not-kinds_known.true)
+    (passed _ _ one.lengths_agree.ensures (ap not one.if-not-lengths_agree.false))
+    (passed _ _ c.pool_agrees.ensures (ap not c.if-not-pool_agrees.false))
+    (failed _ _ c.kinds_known.ensures (ap not c.if-not-kinds_known.true))
 
 pub make-made-requires : goal.make-made-requires
 make-made-requires c = tt
@@ -73,7 +74,7 @@ make-made-requires c = tt
 pub run-requires : goal.run-requires
 run-requires c =
     let one = c.before.before.before.before.before.before.before.before.before.before.before.before.before.before.before.before.before.before.before.before.before.before.before.before.before.before.before.before.before in
-    even _ _ (passed _ _ one.lengths_agree.ensures one.if-not-lengths_agree.false)
+    even _ _ (passed _ _ one.lengths_agree.ensures (ap not one.if-not-lengths_agree.false))
 
 abbrev after_run : After-slice_known-in-On-8-1 → After-run
 after_run c = c.before.before.before.before.before.before.before.before.before.before.before.before.before.before.before.before
@@ -89,9 +90,9 @@ returns-in-On c =
     let one = three.before.before.before.before in
     let s = one.before.before.before.before.before.before.before.before.before.before.before.before.before.before in
     make_done _ (lent_file s) (pool_of s) (lent_of s) s.args.answers.now
-    (passed _ _ one.lengths_agree.ensures one.if-not-lengths_agree.false)
-    (passed _ _ three.pool_agrees.ensures three.if-not-pool_agrees.false)
-    (passed _ _ three.kinds_known.ensures three.if-not-kinds_known.false)
+    (passed _ _ one.lengths_agree.ensures (ap not one.if-not-lengths_agree.false))
+    (passed _ _ three.pool_agrees.ensures (ap not three.if-not-pool_agrees.false))
+    (passed _ _ three.kinds_known.ensures (ap not three.if-not-kinds_known.false))
     _ _ made.make-made.ensures.leaves _ _ told.enum_told-1.given.1 _ (ap (λ (r : GrowthRecord). r.state) made.make-made.ensures.growth_after) _ _ _ _
     c.run.ensures
 
@@ -105,7 +106,7 @@ returns-in-Refused c =
     let one = three.before.before.before.before in
     let s = one.before.before.before.before.before.before.before.before.before.before.before.before.before.before in
     make_refused _ (lent_file s) (pool_of s) (lent_of s) s.args.answers.now
-    (passed _ _ one.lengths_agree.ensures one.if-not-lengths_agree.false)
-    (passed _ _ three.pool_agrees.ensures three.if-not-pool_agrees.false)
-    (passed _ _ three.kinds_known.ensures three.if-not-kinds_known.false)
+    (passed _ _ one.lengths_agree.ensures (ap not one.if-not-lengths_agree.false))
+    (passed _ _ three.pool_agrees.ensures (ap not three.if-not-pool_agrees.false))
+    (passed _ _ three.kinds_known.ensures (ap not three.if-not-kinds_known.false))
     _ _ made.make-made.ensures.leaves _ _ c.answer-1.given.1

@@ -6,6 +6,8 @@ use Rattle.history_replay.specs.Replay.{LentHistory, lent_history}
 use Rattle.history_replay.proofs.Known.{even}
 use Rattle.history_replay.proofs.Replays.{uneven_resumption, unknown_resumption, resumed}
 use borrow.Author.Rules.{rules}
+use mathlib.Core.Path.{ap}
+use mathlib.Core.Bool.{not}
 use Rattle.history_replay.proofs.replaying.resume.Lts as lts
 use Rattle.history_replay.proofs.replaying.resume.Tie as tie
 use Rattle.history_replay.proofs.replaying.resume.Reads as reads
@@ -31,20 +33,20 @@ lent_of s = lent_history s.args.kinds.now s.args.callers.now s.args.stars.now s.
 pub returns-then-not-lengths_agree : goal.returns-then-not-lengths_agree
 returns-then-not-lengths_agree c =
     let s = c.before.before.before.before.before.before.before.before.before.before.before.before.before.before.before in
-    uneven_resumption _ _ (lent_file s) (pool_of s) (lent_of s) s.args.answers.now (failed _ _ c.lengths_agree.ensures c.if-not-lengths_agree.true)
+    uneven_resumption _ _ (lent_file s) (pool_of s) (lent_of s) s.args.answers.now (failed _ _ c.lengths_agree.ensures (ap not c.if-not-lengths_agree.true))
 
 pub returns-then-not-kinds_known : goal.returns-then-not-kinds_known
 returns-then-not-kinds_known c =
     let one = c.before.before.before in
     let s = one.before.before.before.before.before.before.before.before.before.before.before.before.before.before in
     unknown_resumption _ _ (lent_file s) (pool_of s) (lent_of s) s.args.answers.now
-    (passed _ _ one.lengths_agree.ensures one.if-not-lengths_agree.false)
-    (failed _ _ c.kinds_known.ensures c.if-not-kinds_known.true)
+    (passed _ _ one.lengths_agree.ensures (ap not one.if-not-lengths_agree.false))
+    (failed _ _ c.kinds_known.ensures (ap not c.if-not-kinds_known.true))
 
 pub run-last-requires : goal.run-last-requires
 run-last-requires c =
     let one = c.before.before.before.before.before.before.before.before.before.before.before in
-    even _ _ (passed _ _ one.lengths_agree.ensures one.if-not-lengths_agree.false)
+    even _ _ (passed _ _ one.lengths_agree.ensures (ap not one.if-not-lengths_agree.false))
 
 abbrev after_run : After-slice_known-16-1 → After-run-last
 after_run c = c.before.before.before.before.before.before.before.before.before.before.before.before.before.before.before.before
@@ -55,7 +57,7 @@ returns c =
     let one = two.before.before in
     let s = one.before.before.before.before.before.before.before.before.before.before.before.before.before.before in
     resumed _ _ (lent_file s) (pool_of s) (lent_of s) s.args.answers.now
-    (passed _ _ one.lengths_agree.ensures one.if-not-lengths_agree.false)
-    (passed _ _ two.kinds_known.ensures two.if-not-kinds_known.false)
+    (passed _ _ one.lengths_agree.ensures (ap not one.if-not-lengths_agree.false))
+    (passed _ _ two.kinds_known.ensures (ap not two.if-not-kinds_known.false))
     _ _ _ _
     c.run-last.ensures

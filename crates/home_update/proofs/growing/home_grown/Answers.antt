@@ -1,6 +1,6 @@
 -- `home_update::home_grown` meets its contract, by the law of a home after one growth.
-use mathlib.Core.Path.{◌≡◌, ◌∙◌, sym}
-use mathlib.Core.Bool.{false, cond, ◌&&◌}
+use mathlib.Core.Path.{◌≡◌, ◌∙◌, sym, ap}
+use mathlib.Core.Bool.{false, cond, ◌&&◌, not}
 use Prim.Native.Nat.{ℕ, ◌+◌, ◌*◌}
 use native.Mathlib.Nat.{le_refl}
 use native.Mathlib.Omega.{arith}
@@ -97,7 +97,7 @@ chosen_last-requires c =
 pub returns-then-not-chosen_last : goal.returns-then-not-chosen_last
 returns-then-not-chosen_last c =
     let start = c.before.before.before.before.before.before.before in
-    rw (regrown start, lower c.before.before, test c.before, not-true c.chosen_last.result c.if-not-chosen_last.true)
+    rw (regrown start, lower c.before.before, test c.before, not-true c.chosen_last.result (ap not c.if-not-chosen_last.true))
 
 pub overflow_add-result : goal.overflow_add-result
 unfolding page_count
@@ -114,7 +114,7 @@ returns-then-last_rank-expanded c =
       regrown start,
       lower c.before.before.before.before,
       test c.before.before.before,
-      not-false c.chosen_last.result c.if-not-chosen_last.false,
+      not-false c.chosen_last.result (ap not c.if-not-chosen_last.false),
       eq-eqb (order start) (expanded start) same,
     )
 
@@ -125,6 +125,6 @@ returns c =
       regrown start,
       lower c.before.before.before.before,
       test c.before.before.before,
-      not-false c.chosen_last.result c.if-not-chosen_last.false,
+      not-false c.chosen_last.result (ap not c.if-not-chosen_last.false),
       ne_eqb (order start) (expanded start) (λ e. c.if-last_rank-expanded.false (c.last_rank.ensures ∙ e)),
     )

@@ -8,10 +8,10 @@ pub home_grown-requires : goal.home_grown-requires
 home_grown-requires c =
     let pre = c.requires in
     record {
-      table_value = pre.0.table;
-      parameters_value = pre.0.valid;
-      growth_value = pre.0.growth;
-      value = rw (ne_eqb _ _ c.if-number-eq0.false) at pre.1;
+      table_value = pre.homing.table;
+      parameters_value = pre.homing.valid;
+      growth_value = pre.homing.growth;
+      value = rw (ne_eqb _ _ c.if-number-eq0.false) at pre.value;
     }
 
 pub returns : goal.returns

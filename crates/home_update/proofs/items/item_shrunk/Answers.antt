@@ -8,11 +8,11 @@ pub home_shrunk-requires : goal.home_shrunk-requires
 home_shrunk-requires c =
     let pre = c.requires in
     record {
-      table_value = pre.0.table;
-      parameters_value = pre.0.valid;
-      growth_value = pre.0.growth;
-      growth_value_2 = pre.1.0;
-      value = rw (ne_eqb _ _ c.if-number-eq0.false) at pre.1.1;
+      table_value = pre.homing.table;
+      parameters_value = pre.homing.valid;
+      growth_value = pre.homing.growth;
+      growth_value_2 = pre.growth_value;
+      value = rw (ne_eqb _ _ c.if-number-eq0.false) at pre.value;
     }
 
 pub returns : goal.returns

@@ -14,7 +14,7 @@ use Rattle.homes.proofs.blocks.step.Goals as goal
 use Rattle.homes.proofs.blocks.step.Goals.{Start}
 
 abbrev After-ranks : Type 0
-After-ranks = lts.After-ranks tie.the-claims reads.Pre reads.Post
+After-ranks = lts.After-ranks tie.the-claims reads.Pre reads.Post tie.handed_clauses
 
 first-most : (c : Start) → c.args.stage.size * c.args.stage.count ≤ 7 * 1024
 first-most c = mul-le-mul c.requires.rankable.size-most c.requires.rankable.count_most

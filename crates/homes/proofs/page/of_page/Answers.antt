@@ -54,12 +54,12 @@ steps-requires c =
       parameters_value = s.requires.parameters_value;
       growth_value = s.requires.growth_value;
       places_bound = s.requires.places_bound;
-      pages_len = made.0;
-      blocks = (λ b m h. (made.1.0 b m h).1);
+      pages_len = made.pages_len;
+      blocks = (λ b m h. (made.blocks b m h).1);
       blocks_2 = (λ b m h.
-          made.1.1 b m h
+          made.blocks_2 b m h
           ∙ starts-are a (get_or s.args.powers.now 0 0) p g (keys_at s.args.numbers.now b) (factor_eq s)
-          ∙ ap (λ (k : List ℕ). pages_after_lem a p g k 0) (sym (made.1.0 b m h).0));
+          ∙ ap (λ (k : List ℕ). pages_after_lem a p g k 0) (sym (made.blocks b m h).0));
     }
 
 pub returns : goal.returns
@@ -71,7 +71,7 @@ returns c =
     let made = c.prepare.ensures in
     let found = c.steps.ensures in
     let q = s.requires.1.1.1 in
-    blocks-map (home a p g) s.args.numbers.now _ s.args.places (omega (arith, q.0, q.1.0)) (omega (arith, q.0, found.0))
+    blocks-map (home a p g) s.args.numbers.now _ s.args.places (omega (arith, q.0, q.1.0)) (omega (arith, q.0, found.pages_len_2))
     (λ b m h i l.
-    ap (λ (x : List ℕ). get_or x i 0) (found.1 b m h)
-    ∙ homes-are a p g s.args.numbers.now _ b (made.1.0 b m h).0 i l)
+    ap (λ (x : List ℕ). get_or x i 0) (found.blocks_3 b m h)
+    ∙ homes-are a p g s.args.numbers.now _ b (made.blocks b m h).0 i l)

@@ -17,7 +17,7 @@ use Rattle.homes.proofs.page.prepare.Goals as goal
 use Rattle.homes.proofs.page.prepare.Goals.{In-loop-at, Start}
 
 abbrev After-starts : Type 0
-After-starts = lts.After-starts tie.the-claims reads.Pre reads.Post goal.the-invariant-loop-at goal.the-decreases-loop-at
+After-starts = lts.After-starts tie.the-claims reads.Pre reads.Post goal.the-invariant-loop-at goal.the-decreases-loop-at tie.handed_clauses
 
 -- the pages of a block before the first step
 abbrev started : ℕ → ℕ → List ℕ → ℕ → List ℕ

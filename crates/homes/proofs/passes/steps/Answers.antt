@@ -249,12 +249,12 @@ loop-i-preserved c =
       (
         c.next_stage-stage.ensures,
         (
-          turned.0,
+          turned.groups_len_2,
           (
             (λ b m h f.
-                turned.1.0 b m h
+                turned.blocks_4 b m h
                 ∙ ap (groups_after_lem (multiplier_of p) p g (block_at s.args.keys.now b) (i + 1)) (sym (count_kept p i (bounds s) f))),
-            turned.1.1,
+            turned.blocks_5,
           ),
         ),
       ),

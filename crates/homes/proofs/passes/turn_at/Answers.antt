@@ -18,7 +18,7 @@ use Rattle.homes.proofs.passes.turn_at.Goals as goal
 use Rattle.homes.proofs.passes.turn_at.Goals.{After-block_pages-2-1, Start}
 
 abbrev After-turn : Type 0
-After-turn = lts.After-turn tie.the-claims reads.Pre reads.Post
+After-turn = lts.After-turn tie.the-claims reads.Pre reads.Post tie.handed_clauses
 
 abbrev start : After-block_pages-2-1 → Start
 start c = c.before.before.before.before.before.before.before.before.before

@@ -1,8 +1,9 @@
 use Rattle.hashing.proofs.Bounds.{passed, failed}
-use mathlib.Core.Path.{refl}
+use mathlib.Core.Path.{refl, ap}
 use Rattle.calls.specs.Mend.{mend_under}
 use Rattle.call_guard.proofs.Turned.{in_turn_lem}
 use borrow.Author.Rules.{rules}
+use mathlib.Core.Bool.{not}
 use Rattle.mending.proofs.call.mend.Lts as lts
 use Rattle.mending.proofs.call.mend.Tie as tie
 use Rattle.mending.proofs.call.mend.Reads as reads
@@ -16,7 +17,7 @@ abbrev After-slice_known-14-1 : Type 0
 After-slice_known-14-1 = lts.After-slice_known17 tie.the-claims reads.Pre reads.Post
 
 pub turn_away-requires : goal.turn_away-requires
-turn_away-requires c = failed _ _ c.at_rest.ensures c.if-not-at_rest.true
+turn_away-requires c = failed _ _ c.at_rest.ensures (ap not c.if-not-at_rest.true)
 
 pub shape_of-separators-then-not-at_rest : goal.shape_of-separators-then-not-at_rest
 shape_of-separators-then-not-at_rest c = refl
@@ -42,4 +43,4 @@ after-mend_at c = c.before.before.before.before.before.before.before.before.befo
 
 pub returns : goal.returns
 unfolding mend_under
-returns c = rw (in_turn_lem _ _ _ _ _ _ (passed _ _ c.at_rest.ensures c.if-not-at_rest.false)) c.mend_at.ensures
+returns c = rw (in_turn_lem _ _ _ _ _ _ (passed _ _ c.at_rest.ensures (ap not c.if-not-at_rest.false))) c.mend_at.ensures

@@ -18,13 +18,13 @@ use Rattle.mending.proofs.call.mend_at.Goals as goal
 use Rattle.mending.proofs.call.mend_at.Goals.{After-mend_file-answer, Start}
 
 abbrev In_default : Type 0
-In_default = lts.After-enum_told tie.the-claims reads.Pre reads.Post
+In_default = lts.After-enum_told tie.the-claims reads.Pre reads.Post tie.handed_clauses
 
 abbrev After-clear : Type 0
-After-clear = lts.After-clear tie.the-claims reads.Pre reads.Post
+After-clear = lts.After-clear tie.the-claims reads.Pre reads.Post tie.handed_clauses
 
 abbrev After-slice_known-17-1 : Type 0
-After-slice_known-17-1 = lts.After-slice_known17 tie.the-claims reads.Pre reads.Post
+After-slice_known-17-1 = lts.After-slice_known17 tie.the-claims reads.Pre reads.Post tie.handed_clauses
 
 abbrev file_of : Start → File
 file_of s = lent s.args.separators.now s.args.numbers.now s.args.words.now s.args.owners.now
@@ -72,4 +72,4 @@ returns c =
     rw (none d)
     (leaves-cleared _ _ _ (pool_of s) _ done.ensures
     (mended_pool s.args.parameters s.args.growth (file_of s) (cleared (pool_of s)))
-    (cleared-is _ _ _ _ _ _ _ _ _ zeros.0 zeros.1.0 zeros.1.1 done.auto.1.1.1.1.1.1.0 done.auto.1.1.1.1.1.1.1.0 done.auto.1.1.1.1.1.1.1.1.0))
+    (cleared-is _ _ _ _ _ _ _ _ _ zeros.pool_after zeros.waiting_after zeros.poolowners_after done.auto.1.1.1.1.1.1.0 done.auto.1.1.1.1.1.1.1.0 done.auto.1.1.1.1.1.1.1.1.0))

@@ -1,5 +1,5 @@
-use mathlib.Core.Path.{◌≡◌, refl, sym, subst, ◌∙◌}
-use mathlib.Core.Bool.{true}
+use mathlib.Core.Path.{◌≡◌, refl, sym, subst, ◌∙◌, ap}
+use mathlib.Core.Bool.{true, not}
 use mathlib.Core.List.{List}
 use Prim.Native.Nat.{ℕ, ◌*◌, ◌≤◌}
 use native.Mathlib.Nat.{mul-le-mul}
@@ -22,22 +22,22 @@ use Rattle.mending.proofs.call.mend_file.Goals as goal
 use Rattle.mending.proofs.call.mend_file.Goals.{After-renew, Start}
 
 abbrev Else-not-items_valid : Type 0
-Else-not-items_valid = lts.Else1 tie.the-claims reads.Pre reads.Post
+Else-not-items_valid = lts.Else1 tie.the-claims reads.Pre reads.Post tie.handed_clauses
 
 abbrev After-find_homes : Type 0
-After-find_homes = lts.After-find_homes tie.the-claims reads.Pre reads.Post
+After-find_homes = lts.After-find_homes tie.the-claims reads.Pre reads.Post tie.handed_clauses
 
 abbrev After-collect-collected : Type 0
-After-collect-collected = lts.After-collect tie.the-claims reads.Pre reads.Post
+After-collect-collected = lts.After-collect tie.the-claims reads.Pre reads.Post tie.handed_clauses
 
 abbrev Then-not-collected : Type 0
-Then-not-collected = lts.Then2 tie.the-claims reads.Pre reads.Post
+Then-not-collected = lts.Then2 tie.the-claims reads.Pre reads.Post tie.handed_clauses
 
 abbrev Then-not-renew : Type 0
-Then-not-renew = lts.Then3 tie.the-claims reads.Pre reads.Post
+Then-not-renew = lts.Then3 tie.the-claims reads.Pre reads.Post tie.handed_clauses
 
 abbrev Else-not-renew : Type 0
-Else-not-renew = lts.Else3 tie.the-claims reads.Pre reads.Post
+Else-not-renew = lts.Else3 tie.the-claims reads.Pre reads.Post tie.handed_clauses
 
 abbrev file_of : Start → File
 file_of s = lent s.args.separators.now s.args.numbers.now s.args.words.now s.args.owners.now
@@ -53,7 +53,7 @@ abbrev start : Else-not-items_valid → Start
 start c = c.before.before.before.before.before.before.before.before.before
 
 valid : (c : Else-not-items_valid) → valid_items (file_of (start c)).numbers (file_of (start c)).words (file_of (start c)).owners ≡ true
-valid c = passed _ _ c.items_valid.ensures c.if-not-items_valid.false
+valid c = passed _ _ c.items_valid.ensures (ap not c.if-not-items_valid.false)
 
 -- the homes are found
 abbrev checked : After-find_homes → Else-not-items_valid
@@ -82,7 +82,7 @@ pub shape_of-owners-then-not-items_valid : goal.shape_of-owners-then-not-items_v
 shape_of-owners-then-not-items_valid c = refl
 
 pub returns-then-not-items_valid : goal.returns-then-not-items_valid
-returns-then-not-items_valid c = let s = c.before.before.before.before.before.before.before.before.before.before in mend_invalid _ _ (file_of s) (cleared (pool_of s)) s.requires.admitted (failed _ _ c.items_valid.ensures c.if-not-items_valid.true)
+returns-then-not-items_valid c = let s = c.before.before.before.before.before.before.before.before.before.before in mend_invalid _ _ (file_of s) (cleared (pool_of s)) s.requires.admitted (failed _ _ c.items_valid.ensures (ap not c.if-not-items_valid.true))
 
 pub first_multipliers-table-requires : goal.first_multipliers-table-requires
 first_multipliers-table-requires c = tabled (start c.before).requires.admitted
@@ -120,7 +120,7 @@ pub returns-then-not-collected : goal.returns-then-not-collected
 returns-then-not-collected c =
     let k = c.before.before.before.before.before.before in
     let s = begun k in
-    mend_differs s.args.parameters s.args.growth (file_of s) (cleared (pool_of s)) s.requires.admitted (valid (checked (housed k))) _ _ _ (collected k) (failed _ _ refl c.if-not-collected.true)
+    mend_differs s.args.parameters s.args.growth (file_of s) (cleared (pool_of s)) s.requires.admitted (valid (checked (housed k))) _ _ _ (collected k) (failed _ _ refl (ap not c.if-not-collected.true))
 
 pub renew-requires : goal.renew-requires
 renew-requires c =
@@ -128,7 +128,7 @@ renew-requires c =
     let s = begun k in
     let a = s.requires.admitted in
     let o = s.requires.pooled in
-    let t = passed _ _ refl c.if-not-collected.false in
+    let t = passed _ _ refl (ap not c.if-not-collected.false) in
     let v = valid (checked (housed k)) in record {
       parameters_value = a.homing.valid;
       sized = a.sized;
@@ -153,8 +153,8 @@ returns-then-not-renew c =
     let n = c.before.before.before.before.before.before.before.before.before.before.before.before.before.before.before.before in
     let k = n.before.before.before.before.before.before.before.before.before.before.before.before.before.before in
     let s = begun k in
-    let t = passed _ _ refl n.if-not-collected.false in
-    mend_over s.args.parameters s.args.growth (file_of s) (cleared (pool_of s)) s.requires.admitted (valid (checked (housed k))) _ _ _ (collected k) t (sym (failed _ _ n.renew.ensures.value c.if-not-renew.true)) _ n.renew.ensures.owners_value
+    let t = passed _ _ refl (ap not n.if-not-collected.false) in
+    mend_over s.args.parameters s.args.growth (file_of s) (cleared (pool_of s)) s.requires.admitted (valid (checked (housed k))) _ _ _ (collected k) t (sym (failed _ _ n.renew.ensures.value (ap not c.if-not-renew.true))) _ n.renew.ensures.owners_value
 
 abbrev after-renew_2 : Else-not-renew → After-renew
 after-renew_2 c = c.before.before.before.before.before.before.before.before.before.before.before.before.before.before.before
@@ -169,5 +169,5 @@ returns c =
     let n = c.before.before.before.before.before.before.before.before.before.before.before.before.before.before.before.before in
     let k = n.before.before.before.before.before.before.before.before.before.before.before.before.before.before in
     let s = begun k in
-    let t = passed _ _ refl n.if-not-collected.false in
-    mend_done s.args.parameters s.args.growth (file_of s) (cleared (pool_of s)) s.requires.admitted (valid (checked (housed k))) _ _ _ (collected k) t (sym (passed _ _ n.renew.ensures.value c.if-not-renew.false)) _ n.renew.ensures.owners_value
+    let t = passed _ _ refl (ap not n.if-not-collected.false) in
+    mend_done s.args.parameters s.args.growth (file_of s) (cleared (pool_of s)) s.requires.admitted (valid (checked (housed k))) _ _ _ (collected k) t (sym (passed _ _ n.renew.ensures.value (ap not c.if-not-renew.false))) _ n.renew.ensures.owners_value

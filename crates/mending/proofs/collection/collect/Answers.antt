@@ -1,5 +1,5 @@
 use mathlib.Core.Path.{◌≡◌, sym, ap, ◌∙◌}
-use mathlib.Core.Bool.{false≢true}
+use mathlib.Core.Bool.{false≢true, not}
 use Prim.Native.Nat.{◌+◌, ◌*◌, ◌≤◌}
 use native.Mathlib.Nat.{zero-add}
 use native.Mathlib.Omega.{arith}
@@ -18,22 +18,22 @@ use Rattle.mending.proofs.collection.collect.Goals as goal
 use Rattle.mending.proofs.collection.collect.Goals.{Start}
 
 abbrev After-gather-end : Type 0
-After-gather-end = lts.After-gather tie.the-claims reads.Pre reads.Post
+After-gather-end = lts.After-gather tie.the-claims reads.Pre reads.Post tie.handed_clauses
 
 abbrev After-sort_groups : Type 0
-After-sort_groups = lts.After-sort_groups tie.the-claims reads.Pre reads.Post
+After-sort_groups = lts.After-sort_groups tie.the-claims reads.Pre reads.Post tie.handed_clauses
 
 abbrev Then-not-all_agree : Type 0
-Then-not-all_agree = lts.Then1 tie.the-claims reads.Pre reads.Post
+Then-not-all_agree = lts.Then1 tie.the-claims reads.Pre reads.Post tie.handed_clauses
 
 abbrev After-drop_repeated-kept : Type 0
-After-drop_repeated-kept = lts.After-drop_repeated tie.the-claims reads.Pre reads.Post
+After-drop_repeated-kept = lts.After-drop_repeated tie.the-claims reads.Pre reads.Post tie.handed_clauses
 
 abbrev After-mark_ends : Type 0
-After-mark_ends = lts.After-mark_ends tie.the-claims reads.Pre reads.Post
+After-mark_ends = lts.After-mark_ends tie.the-claims reads.Pre reads.Post tie.handed_clauses
 
 abbrev After-slice_known-7-1 : Type 0
-After-slice_known-7-1 = lts.After-slice_known7 tie.the-claims reads.Pre reads.Post
+After-slice_known-7-1 = lts.After-slice_known7 tie.the-claims reads.Pre reads.Post tie.handed_clauses
 
 abbrev start : After-gather-end → Start
 start c = c.before.before.before.before.before.before.before.before.before.before.before
@@ -93,10 +93,10 @@ pub returns-then-not-all_agree : goal.returns-then-not-all_agree
 returns-then-not-all_agree c =
     let s = c.before.before.before.before.before in
     record {
-      alike_is = sym (failed _ _ c.all_agree.ensures c.if-not-all_agree.true) ∙ ap (neighbours_agree _ _) (sorted s);
+      alike_is = sym (failed _ _ c.all_agree.ensures (ap not c.if-not-all_agree.true)) ∙ ap (neighbours_agree _ _) (sorted s);
       inside = omega arith;
       words = λ e. absurd (false≢true e);
-      ends_are = λ e. absurd (false≢true e);
+      ends-are = λ e. absurd (false≢true e);
     }
 
 pub drop_repeated-kept-requires : goal.drop_repeated-kept-requires
@@ -108,9 +108,9 @@ mark_ends-requires c =
     let s = d.before.before.before.before.before.before in
     let g = grouping s in
     let e = d.drop_repeated-kept.ensures in record {
-      end_in_bounds = (omega (arith, e.0, end-inside s, d.drop_repeated-kept.auto.waiting), (groups g).long);
-      end_bound = (omega (arith, e.0, end-few s), (limits (start g).args.parameters (start g).requires.valid).pages_most);
-      waiting_value = rw e.1 (firsts_rise 0 0 _ (rw s.sort_groups.ensures (rises-ordered _)));
+      end_in_bounds = (omega (arith, e.upper_bound, end-inside s, d.drop_repeated-kept.auto.waiting), (groups g).long);
+      end_bound = (omega (arith, e.upper_bound, end-few s), (limits (start g).args.parameters (start g).requires.valid).pages_most);
+      waiting_value = rw e.waiting_after (firsts_rise 0 0 _ (rw s.sort_groups.ensures (rises-ordered _)));
     }
 
 abbrev after-drop-repeated : After-slice_known-7-1 → After-drop_repeated-kept
@@ -128,8 +128,8 @@ returns c =
     let s = d.before.before.before.before.before.before in
     let a = d.before.before in
     record {
-      alike_is = sym (passed _ _ a.all_agree.ensures a.if-not-all_agree.false) ∙ ap (neighbours_agree _ _) (sorted s);
+      alike_is = sym (passed _ _ a.all_agree.ensures (ap not a.if-not-all_agree.false)) ∙ ap (neighbours_agree _ _) (sorted s);
       inside = omega (arith, d.drop_repeated-kept.ensures.upper_bound, end-inside s, d.drop_repeated-kept.auto.waiting);
       words = λ e. d.drop_repeated-kept.ensures.waiting_after ∙ ap (firsts_after 0) (sorted s);
-      ends_are = λ e. c.mark_ends.ensures;
+      ends-are = λ e. c.mark_ends.ensures;
     }

@@ -1,10 +1,11 @@
-use mathlib.Core.Path.{◌≡◌, refl}
+use mathlib.Core.Path.{◌≡◌, refl, ap}
 use Prim.Native.Nat.{◌-◌}
 use native.Mathlib.Omega.{arith}
 use lib.ListN.{length}
 use Rattle.hashing.proofs.Bounds.{passed, failed}
 use Rattle.mending.proofs.Items.{Valid, valid-fails, valid-next, valid-all}
 use borrow.Author.Rules.{rules}
+use mathlib.Core.Bool.{not}
 use Rattle.mending.proofs.contents.items_valid.Goals as goal
 
 pub loop-i-init : goal.loop-i-init
@@ -23,7 +24,7 @@ pub returns-then-not-item_valid : goal.returns-then-not-item_valid
 returns-then-not-item_valid c =
     let i = c.before.before.before.before.before.before in
     let k = i.loop-i.invariant in
-    valid-fails _ _ _ _ k.2 k.0 k.1 i.loop-i-test.true (failed _ _ c.item_valid.ensures c.if-not-item_valid.true)
+    valid-fails _ _ _ _ k.2 k.0 k.1 i.loop-i-test.true (failed _ _ c.item_valid.ensures (ap not c.if-not-item_valid.true))
 
 pub loop-i-smaller : goal.loop-i-smaller
 loop-i-smaller c = omega (arith, c.loop-i-test.true)
@@ -32,7 +33,7 @@ pub loop-i-preserved : goal.loop-i-preserved
 loop-i-preserved c =
     let i = c.before.before.before.before.before.before in
     let k = i.loop-i.invariant in
-    (k.0, k.1, valid-next _ _ _ _ k.2 k.0 k.1 i.loop-i-test.true (passed _ _ c.item_valid.ensures c.if-not-item_valid.false))
+    (k.0, k.1, valid-next _ _ _ _ k.2 k.0 k.1 i.loop-i-test.true (passed _ _ c.item_valid.ensures (ap not c.if-not-item_valid.false)))
 
 pub returns : goal.returns
 returns c = valid-all _ _ _ _ c.loop-i.invariant.2 c.loop-i-test.false

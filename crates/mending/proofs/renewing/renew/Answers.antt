@@ -1,4 +1,4 @@
-use mathlib.Core.Path.{◌≡◌, ◌∙◌}
+use mathlib.Core.Path.{◌≡◌, ◌∙◌, ap}
 use native.Mathlib.Omega.{arith}
 use Rattle.hashing.proofs.Bounds.{limits}
 use Rattle.placement.specs.File.{File}
@@ -6,6 +6,7 @@ use Rattle.placement.specs.Hash.{lent}
 use Rattle.mending.proofs.Renewed.{settleable, renew_kept, renew_placed, applied-whole}
 use borrow.Author.Rules.{rules}
 use borrow.Author.Tests.{not-true, not-false}
+use mathlib.Core.Bool.{not}
 use Rattle.mending.proofs.renewing.renew.Lts as lts
 use Rattle.mending.proofs.renewing.renew.Tie as tie
 use Rattle.mending.proofs.renewing.renew.Reads as reads
@@ -13,13 +14,13 @@ use Rattle.mending.proofs.renewing.renew.Goals as goal
 use Rattle.mending.proofs.renewing.renew.Goals.{Start}
 
 abbrev After-place_all : Type 0
-After-place_all = lts.After-place_all tie.the-claims reads.Pre reads.Post
+After-place_all = lts.After-place_all tie.the-claims reads.Pre reads.Post tie.handed_clauses
 
 abbrev After-write_back : Type 0
-After-write_back = lts.After-write_back tie.the-claims reads.Pre reads.Post
+After-write_back = lts.After-write_back tie.the-claims reads.Pre reads.Post tie.handed_clauses
 
 abbrev After-slice_known-16-1 : Type 0
-After-slice_known-16-1 = lts.After-slice_known16 tie.the-claims reads.Pre reads.Post
+After-slice_known-16-1 = lts.After-slice_known16 tie.the-claims reads.Pre reads.Post tie.handed_clauses
 
 abbrev start : After-place_all → Start
 start c = c.before.before.before.before.before.before.before.before.before.before.before.before
@@ -35,8 +36,8 @@ returns-then-not-place_all c =
     let k = c.before.before.before.before.before.before.before in
     let s = start k in
     record {
-      value = (renew_kept s.args.parameters s.requires.parameters_value (file s) _ _ _ _ _ _ (rw (not-true k.place_all.result c.if-not-place_all.true) at k.place_all.ensures)).0;
-      owners_value = (renew_kept s.args.parameters s.requires.parameters_value (file s) _ _ _ _ _ _ (rw (not-true k.place_all.result c.if-not-place_all.true) at k.place_all.ensures)).1;
+      value = (renew_kept s.args.parameters s.requires.parameters_value (file s) _ _ _ _ _ _ (rw (not-true k.place_all.result (ap not c.if-not-place_all.true)) at k.place_all.ensures)).0;
+      owners_value = (renew_kept s.args.parameters s.requires.parameters_value (file s) _ _ _ _ _ _ (rw (not-true k.place_all.result (ap not c.if-not-place_all.true)) at k.place_all.ensures)).1;
     }
 
 pub write_back-requires : goal.write_back-requires
@@ -64,7 +65,7 @@ returns c =
     let chosen = back.before.before.before.before.before.before.before.before.before in
     let k = chosen.before.before.before.before.before.before in
     let s = start k in
-    let done = renew_placed s.args.parameters s.requires.parameters_value (file s) _ _ _ _ _ _ (rw (not-false k.place_all.result chosen.if-not-place_all.false) at k.place_all.ensures) s.requires.pooled.of_numbers (omega arith) s.requires.waiting_value in
+    let done = renew_placed s.args.parameters s.requires.parameters_value (file s) _ _ _ _ _ _ (rw (not-false k.place_all.result (ap not chosen.if-not-place_all.false)) at k.place_all.ensures) s.requires.pooled.of_numbers (omega arith) s.requires.waiting_value in
     let l = limits s.args.parameters s.requires.parameters_value in record {
       value = done.0;
       owners_value = back.write_back.ensures

@@ -9,19 +9,19 @@ use Rattle.mending.proofs.renewing.write_back.Goals as goal
 use Rattle.mending.proofs.renewing.write_back.Goals.{Start}
 
 abbrev After-fetch : Type 0
-After-fetch = lts.After-fetch tie.the-claims reads.Pre reads.Post
+After-fetch = lts.After-fetch tie.the-claims reads.Pre reads.Post tie.handed_clauses
 
 abbrev After-copy_32 : Type 0
-After-copy_32 = lts.After-copy_32 tie.the-claims reads.Pre reads.Post
+After-copy_32 = lts.After-copy_32 tie.the-claims reads.Pre reads.Post tie.handed_clauses
 
 abbrev After-copy_64 : Type 0
-After-copy_64 = lts.After-copy_64 tie.the-claims reads.Pre reads.Post
+After-copy_64 = lts.After-copy_64 tie.the-claims reads.Pre reads.Post tie.handed_clauses
 
 abbrev After-copy_8 : Type 0
-After-copy_8 = lts.After-copy_8 tie.the-claims reads.Pre reads.Post
+After-copy_8 = lts.After-copy_8 tie.the-claims reads.Pre reads.Post tie.handed_clauses
 
 abbrev After-slice_known-14-1 : Type 0
-After-slice_known-14-1 = lts.After-slice_known14 tie.the-claims reads.Pre reads.Post
+After-slice_known-14-1 = lts.After-slice_known14 tie.the-claims reads.Pre reads.Post tie.handed_clauses
 
 abbrev start : After-fetch → Start
 start f = f.before.before.before.before.before.before.before.before.before.before.before

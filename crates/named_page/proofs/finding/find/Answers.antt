@@ -22,16 +22,16 @@ use Rattle.named_page.proofs.finding.find.Goals as goal
 use Rattle.named_page.proofs.finding.find.Goals.{Start}
 
 abbrev Else-page-geometry : Type 0
-Else-page-geometry = lts.Else1 tie.the-claims reads.Pre reads.Post
+Else-page-geometry = lts.Else1 tie.the-claims reads.Pre reads.Post tie.handed_clauses
 
 abbrev After-page_sound : Type 0
-After-page_sound = lts.After-page_sound tie.the-claims reads.Pre reads.Post
+After-page_sound = lts.After-page_sound tie.the-claims reads.Pre reads.Post tie.handed_clauses
 
 abbrev After-search-found : Type 0
-After-search-found = lts.After-search tie.the-claims reads.Pre reads.Post
+After-search-found = lts.After-search tie.the-claims reads.Pre reads.Post tie.handed_clauses
 
 abbrev Else-not-found : Type 0
-Else-not-found = lts.Else3 tie.the-claims reads.Pre reads.Post
+Else-not-found = lts.Else3 tie.the-claims reads.Pre reads.Post tie.handed_clauses
 
 abbrev file_of : Start → File
 file_of s = lent s.args.separators.now s.args.numbers.now s.args.words.now s.args.owners.now
@@ -40,9 +40,9 @@ pub named_from-page-requires : goal.named_from-page-requires
 named_from-page-requires c =
     let pre = c.requires in
     record {
-      homing = pre.0.homing;
-      separators_len = pre.0.sized.of_separators;
-      home_value = pre.1.1.0;
+      homing = pre.ready.homing;
+      separators_len = pre.ready.sized.of_separators;
+      home_value = pre.home_value;
     }
 
 pub returns-then-page-geometry : goal.returns-then-page-geometry

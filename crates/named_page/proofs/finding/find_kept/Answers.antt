@@ -16,7 +16,7 @@ use Rattle.named_page.proofs.finding.find_kept.Goals as goal
 use Rattle.named_page.proofs.finding.find_kept.Goals.{Start}
 
 abbrev Else-not-named : Type 0
-Else-not-named = lts.Else1 tie.the-claims reads.Pre reads.Post
+Else-not-named = lts.Else1 tie.the-claims reads.Pre reads.Post tie.handed_clauses
 
 pub home-home-requires : goal.home-home-requires
 home-home-requires c = let ready = c.requires.ready.homing in record {
@@ -29,8 +29,8 @@ pub find-named-requires : goal.find-named-requires
 find-named-requires c =
     let pre = c.requires in
     record {
-      ready = pre.0;
-      number_value = pre.1.1;
+      ready = pre.ready;
+      number_value = pre.number_value;
       home_value = c.home-home.ensures;
       homes_len = refl;
     }
@@ -75,6 +75,6 @@ returns c =
     let s = start e in
     let found = e.find-named.ensures in
     record {
-      named_as = found.0;
-      known = λ t. named-known _ _ _ _ _ found.0 (opened e) _ _ _ found.1 s.requires.ready.sized s.requires.pool_len c.copy_32.ensures;
+      named_as = found.named_as;
+      known = λ t. named-known _ _ _ _ _ found.named_as (opened e) _ _ _ found.homed_as s.requires.ready.sized s.requires.pool_len c.copy_32.ensures;
     }

@@ -24,19 +24,19 @@ use Rattle.own_stars.proofs.entering.enter_one.Goals as goal
 use Rattle.own_stars.proofs.entering.enter_one.Goals.{After-enter_star, Start}
 
 abbrev After-named_from-page : Type 0
-After-named_from-page = lts.After-named_from tie.the-claims reads.Pre reads.Post
+After-named_from-page = lts.After-named_from tie.the-claims reads.Pre reads.Post tie.handed_clauses
 
 abbrev After-search-found : Type 0
-After-search-found = lts.After-search tie.the-claims reads.Pre reads.Post
+After-search-found = lts.After-search tie.the-claims reads.Pre reads.Post tie.handed_clauses
 
 abbrev In-On : Type 0
-In-On = lts.After-enum_told tie.the-claims reads.Pre reads.Post
+In-On = lts.After-enum_told tie.the-claims reads.Pre reads.Post tie.handed_clauses
 
 abbrev In-Unsound : Type 0
-In-Unsound = lts.After-enum_told2 tie.the-claims reads.Pre reads.Post
+In-Unsound = lts.After-enum_told2 tie.the-claims reads.Pre reads.Post tie.handed_clauses
 
 abbrev In-Overflows : Type 0
-In-Overflows = lts.After-enum_told3 tie.the-claims reads.Pre reads.Post
+In-Overflows = lts.After-enum_told3 tie.the-claims reads.Pre reads.Post tie.handed_clauses
 
 abbrev file : Start → File
 file s = lent s.args.separators.now s.args.numbers.now s.args.words.now s.args.owners.now
@@ -121,7 +121,7 @@ returns-in-On c t laid absent =
     let s = start c.before.before.before.before.before.before.before.before.before.before.before.before.before.before.before.before.before.before.before.before.before.before.before.before.before.before.before.before.before.before.before.before.before in
     let e = s.requires.enterable in
     let done = c.enter_star.ensures in
-    entered_on _ _ (file s) t s.requires.ready.homing.valid s.requires.ready.homing.growth laid (star_with s.args.number s.args.word s.args.owner) e.number e.valid absent _ _ done.0 done.1 _ c.enum_told-1.given.1
+    entered_on _ _ (file s) t s.requires.ready.homing.valid s.requires.ready.homing.growth laid (star_with s.args.number s.args.word s.args.owner) e.number e.valid absent _ _ done.value done.owners_value _ c.enum_told-1.given.1
 
 abbrev after-enter_star-2 : In-Unsound → After-enter_star
 after-enter_star-2 c = c.before.before.before.before.before.before.before.before.before.before.before.before.before.before.before.before
@@ -134,7 +134,7 @@ returns-in-Unsound c t laid absent =
     let s = start c.before.before.before.before.before.before.before.before.before.before.before.before.before.before.before.before.before.before.before.before.before.before.before.before.before.before.before.before.before.before.before.before.before in
     let e = s.requires.enterable in
     let done = c.enter_star.ensures in
-    entered-not _ _ (file s) t s.requires.ready.homing.valid s.requires.ready.homing.growth laid (star_with s.args.number s.args.word s.args.owner) e.number e.valid absent _ _ done.0 done.1 (λ page d. unsound-on _ page (sym c.enum_told-in-Unsound-1.given.1 ∙ d))
+    entered-not _ _ (file s) t s.requires.ready.homing.valid s.requires.ready.homing.growth laid (star_with s.args.number s.args.word s.args.owner) e.number e.valid absent _ _ done.value done.owners_value (λ page d. unsound-on _ page (sym c.enum_told-in-Unsound-1.given.1 ∙ d))
 
 abbrev after-enter_star-3 : In-Overflows → After-enter_star
 after-enter_star-3 c = c.before.before.before.before.before.before.before.before.before.before.before.before.before.before.before.before
@@ -147,4 +147,4 @@ returns-in-Overflows c t laid absent =
     let s = start c.before.before.before.before.before.before.before.before.before.before.before.before.before.before.before.before.before.before.before.before.before.before.before.before.before.before.before.before.before.before.before.before.before in
     let e = s.requires.enterable in
     let done = c.enter_star.ensures in
-    entered-not _ _ (file s) t s.requires.ready.homing.valid s.requires.ready.homing.growth laid (star_with s.args.number s.args.word s.args.owner) e.number e.valid absent _ _ done.0 done.1 (λ page d. overflows_on page (sym c.enum_told-in-Overflows-1.given.1 ∙ d))
+    entered-not _ _ (file s) t s.requires.ready.homing.valid s.requires.ready.homing.growth laid (star_with s.args.number s.args.word s.args.owner) e.number e.valid absent _ _ done.value done.owners_value (λ page d. overflows_on page (sym c.enum_told-in-Overflows-1.given.1 ∙ d))

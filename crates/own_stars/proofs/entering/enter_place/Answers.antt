@@ -9,7 +9,7 @@ use Rattle.own_stars.proofs.entering.enter_place.Goals as goal
 use Rattle.own_stars.proofs.entering.enter_place.Goals.{After-enter_one}
 
 abbrev After-slice_known-14-1 : Type 0
-After-slice_known-14-1 = lts.After-slice_known14 tie.the-claims reads.Pre reads.Post
+After-slice_known-14-1 = lts.After-slice_known14 tie.the-claims reads.Pre reads.Post tie.handed_clauses
 
 pub returns-then-own-place-eq0 : goal.returns-then-own-place-eq0
 returns-then-own-place-eq0 c =

@@ -16,10 +16,10 @@ use Rattle.own_stars.proofs.taking.take_one.Goals as goal
 use Rattle.own_stars.proofs.taking.take_one.Goals.{After-carry_out, Start}
 
 abbrev After-search-found : Type 0
-After-search-found = lts.After-search tie.the-claims reads.Pre reads.Post
+After-search-found = lts.After-search tie.the-claims reads.Pre reads.Post tie.handed_clauses
 
 abbrev After-slice_known-14-1 : Type 0
-After-slice_known-14-1 = lts.After-slice_known14 tie.the-claims reads.Pre reads.Post
+After-slice_known-14-1 = lts.After-slice_known14 tie.the-claims reads.Pre reads.Post tie.handed_clauses
 
 abbrev file : Start → File
 file s = lent s.args.separators.now s.args.numbers.now s.args.words.now s.args.owners.now

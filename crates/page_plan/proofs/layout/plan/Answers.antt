@@ -10,17 +10,17 @@ plannable : (s : Start)
 plannable s =
     let p = s.requires in
     record {
-      valid = p.0;
-      some = p.1.0.0;
-      pages = p.1.0.1.0;
-      of_planned = p.1.0.1.1;
-      of_numbers = p.1.1.0.0;
-      of_pool = p.1.1.0.1;
-      numbered = p.1.1.1.0;
-      within = p.1.1.1.1.0;
-      room = p.1.1.1.1.1.0.0;
-      few = p.1.1.1.1.1.0.1;
-      near = p.1.1.1.1.1.1;
+      valid = p.parameters_value;
+      some = p.count_nonzero.0;
+      pages = p.count_nonzero.1.0;
+      of_planned = p.count_nonzero.1.1;
+      of_numbers = p.places_in_bounds.0;
+      of_pool = p.places_in_bounds.1;
+      numbered = p.numbers_value;
+      within = p.pool_value;
+      room = p.numbers_in_bounds.0;
+      few = p.numbers_in_bounds.1;
+      near = p.waiting_value;
     }
 
 pub plan_pages-requires : goal.plan_pages-requires

@@ -21,10 +21,10 @@ use Rattle.page_plan.proofs.layout.plan_pages.Goals as goal
 use Rattle.page_plan.proofs.layout.plan_pages.Goals.{Start}
 
 abbrev After-gather-end : Type 0
-After-gather-end = lts.After-gather tie.the-claims reads.Pre reads.Post
+After-gather-end = lts.After-gather tie.the-claims reads.Pre reads.Post tie.handed_clauses
 
 abbrev After-settle_pages-from : Type 0
-After-settle_pages-from = lts.After-settle_pages tie.the-claims reads.Pre reads.Post
+After-settle_pages-from = lts.After-settle_pages tie.the-claims reads.Pre reads.Post tie.handed_clauses
 
 -- the stretch's words
 abbrev L : Start → List ℕ
@@ -90,7 +90,7 @@ settle_pages-from-requires c =
         few = omega (arith, p.few, d.gather-end.auto.waiting);
         order = omega (arith, d.gather-end.ensures.value);
         inside = omega (arith, d.gather-end.ensures.value, enough s, d.gather-end.auto.waiting);
-        grouped_are = rw (in_groups_lem d) (started-again _ _ _ _ _ _ (ready d));
+        grouped-are = rw (in_groups_lem d) (started-again _ _ _ _ _ _ (ready d));
         near = rw (carried_here d) p.near;
       };
       spare_bound = omega (arith, d.gather-end.ensures.value, enough s, p.few);

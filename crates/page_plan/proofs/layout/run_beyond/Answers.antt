@@ -9,6 +9,6 @@ run_by_16807-requires c =
     let k = c.before.before.before.before.before in
     let p = k.requires in
     record {
-      parameters_value = (p.0, the_other _ (limits _ p.0).multiplier_valid c.if-parameters-eq48271.false);
-      spare_bound = p.1;
+      parameters_value = (p.parameters_value, the_other _ (limits _ p.parameters_value).multiplier_valid c.if-parameters-eq48271.false);
+      spare_bound = p.spare_bound;
     }

@@ -12,7 +12,7 @@ use Rattle.page_plan.proofs.layout.run_by_48271.Reads as reads
 use Rattle.page_plan.proofs.layout.run_by_48271.Goals as goal
 
 abbrev After-multipliers-table : Type 0
-After-multipliers-table = lts.After-multipliers tie.the-claims reads.Pre reads.Post
+After-multipliers-table = lts.After-multipliers tie.the-claims reads.Pre reads.Post tie.handed_clauses
 
 pub multipliers-table-requires : goal.multipliers-table-requires
 multipliers-table-requires c =
@@ -28,8 +28,8 @@ settle_run-requires c =
     let k = c.before.before.before.before.before in
     let p = k.requires in
     record {
-      signers = whole-signers (copied k) p.0.0;
-      spare_bound = p.1;
+      signers = whole-signers (copied k) p.parameters_value.0;
+      spare_bound = p.spare_bound;
     }
 
 pub returns : goal.returns

@@ -10,10 +10,10 @@ pub settle-settled-requires : goal.settle-settled-requires
 settle-settled-requires c =
     let p = c.requires in
     record {
-      signers = p.0;
-      probing = p.1.0;
+      signers = p.signers;
+      probing = p.probing;
       slots_len = refl;
-      signable = p.1.1.0;
+      signable = p.signable;
     }
 
 pub overflow_cast-planned : goal.overflow_cast-planned
@@ -36,7 +36,7 @@ store_sources-requires c =
     let done = c.settle-settled.ensures in
     record {
       places_in_bounds = (s.requires.page_in_bounds.1, most);
-      kept_le_places = (done.1, omega (arith, done.0.size, done.1, most));
+      kept_le_places = (done.kept_le_places, omega (arith, done.settles.size, done.kept_le_places, most));
     }
 
 pub returns : goal.returns

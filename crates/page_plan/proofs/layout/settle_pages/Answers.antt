@@ -14,7 +14,7 @@ use Rattle.page_plan.proofs.layout.settle_pages.Goals as goal
 use Rattle.page_plan.proofs.layout.settle_pages.Goals.{Start}
 
 abbrev After-settle_run-near : Type 0
-After-settle_run-near = lts.After-settle_run tie.the-claims reads.Pre reads.Post
+After-settle_run-near = lts.After-settle_run tie.the-claims reads.Pre reads.Post tie.handed_clauses
 
 pub first_multipliers-table-requires : goal.first_multipliers-table-requires
 first_multipliers-table-requires c = (limits _ c.requires.settleable.valid).multiplier_valid

@@ -21,19 +21,19 @@ use Rattle.page_plan.proofs.layout.settle_run.Goals as goal
 use Rattle.page_plan.proofs.layout.settle_run.Goals.{Start}
 
 abbrev At-loop-v : Type 0
-At-loop-v = lts.At-loop tie.the-claims reads.Pre reads.Post goal.the-invariant-loop-v goal.the-decreases-loop-v
+At-loop-v = lts.At-loop tie.the-claims reads.Pre reads.Post goal.the-invariant-loop-v goal.the-decreases-loop-v tie.handed_clauses
 
 abbrev In-loop-v : Type 0
-In-loop-v = lts.In-loop tie.the-claims reads.Pre reads.Post goal.the-invariant-loop-v goal.the-decreases-loop-v
+In-loop-v = lts.In-loop tie.the-claims reads.Pre reads.Post goal.the-invariant-loop-v goal.the-decreases-loop-v tie.handed_clauses
 
 abbrev After-settle_page-arg-in-loop-v-2-1 : Type 0
-After-settle_page-arg-in-loop-v-2-1 = lts.After-settle_page-arg3 tie.the-claims reads.Pre reads.Post goal.the-invariant-loop-v goal.the-decreases-loop-v
+After-settle_page-arg-in-loop-v-2-1 = lts.After-settle_page-arg3 tie.the-claims reads.Pre reads.Post goal.the-invariant-loop-v goal.the-decreases-loop-v tie.handed_clauses
 
 abbrev After-settle_page-from : Type 0
-After-settle_page-from = lts.After-settle_page tie.the-claims reads.Pre reads.Post goal.the-invariant-loop-v goal.the-decreases-loop-v
+After-settle_page-from = lts.After-settle_page tie.the-claims reads.Pre reads.Post goal.the-invariant-loop-v goal.the-decreases-loop-v tie.handed_clauses
 
 abbrev After-slice_known-in-loop-v-3-1 : Type 0
-After-slice_known-in-loop-v-3-1 = lts.After-slice_known6 tie.the-claims reads.Pre reads.Post goal.the-invariant-loop-v goal.the-decreases-loop-v
+After-slice_known-in-loop-v-3-1 = lts.After-slice_known6 tie.the-claims reads.Pre reads.Post goal.the-invariant-loop-v goal.the-decreases-loop-v tie.handed_clauses
 
 abbrev start : At-loop-v → Start
 start c = c.before.before.before.before.before.before.before

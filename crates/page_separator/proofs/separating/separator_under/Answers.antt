@@ -19,7 +19,7 @@ use Rattle.page_separator.proofs.separating.separator_under.Goals as goal
 use Rattle.page_separator.proofs.separating.separator_under.Goals.{Start}
 
 abbrev After-tally_signatures : Type 0
-After-tally_signatures = lts.After-tally_signatures tie.the-claims reads.Pre reads.Post
+After-tally_signatures = lts.After-tally_signatures tie.the-claims reads.Pre reads.Post tie.handed_clauses
 
 abbrev start : After-tally_signatures → Start
 start k = k.before.before.before.before.before
@@ -46,11 +46,11 @@ pub tally_signatures-requires : goal.tally_signatures-requires
 tally_signatures-requires c =
     let p = c.requires in
     record {
-      signers = p.0;
-      probing = p.1.0;
+      signers = p.signers;
+      probing = p.probing;
       counts_len = (refl, λ v h. get_or-replicate 256 v 0 0 h);
-      signatures_len = p.1.1.0.1;
-      signable = p.1.1.1;
+      signatures_len = p.most_bound.1;
+      signable = p.signable;
     }
 
 pub counted_below-below-requires : goal.counted_below-below-requires

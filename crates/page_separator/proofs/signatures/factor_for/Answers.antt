@@ -12,7 +12,7 @@ use Rattle.page_separator.proofs.signatures.factor_for.Reads as reads
 use Rattle.page_separator.proofs.signatures.factor_for.Goals as goal
 
 abbrev Else-probe-last : Type 0
-Else-probe-last = lts.Else1 tie.the-claims reads.Pre reads.Post
+Else-probe-last = lts.Else1 tie.the-claims reads.Pre reads.Post tie.handed_clauses
 
 pub returns-then-probe-last : goal.returns-then-probe-last
 returns-then-probe-last c =

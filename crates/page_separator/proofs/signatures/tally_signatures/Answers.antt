@@ -20,10 +20,10 @@ use Rattle.page_separator.proofs.signatures.tally_signatures.Goals as goal
 use Rattle.page_separator.proofs.signatures.tally_signatures.Goals.{Start}
 
 abbrev At-loop-i : Type 0
-At-loop-i = lts.At-loop tie.the-claims reads.Pre reads.Post goal.the-invariant-loop-i goal.the-decreases-loop-i
+At-loop-i = lts.At-loop tie.the-claims reads.Pre reads.Post goal.the-invariant-loop-i goal.the-decreases-loop-i tie.handed_clauses
 
 abbrev After-signature_of-signature : Type 0
-After-signature_of-signature = lts.After-signature_of tie.the-claims reads.Pre reads.Post goal.the-invariant-loop-i goal.the-decreases-loop-i
+After-signature_of-signature = lts.After-signature_of tie.the-claims reads.Pre reads.Post goal.the-invariant-loop-i goal.the-decreases-loop-i tie.handed_clauses
 
 abbrev start : At-loop-i → Start
 start k = k.before.before.before.before
@@ -43,7 +43,7 @@ pub loop-i-init : goal.loop-i-init
 loop-i-init c =
     let p = c.requires in (
       factor_kept _ _ _ c.first_factor-factor.ensures,
-      (lacking_none _ _ _ _ _ _ p.1.0.order p.1.0.inside p.1.1.0.0 p.1.1.0.1, signed-none _ _ _ _ _ p.1.1.1.0),
+      (lacking_none _ _ _ _ _ _ p.probing.order p.probing.inside p.counts_len.0 p.counts_len.1, signed-none _ _ _ _ _ p.signatures_len),
     )
 
 pub offset_bounds-waiting-i : goal.offset_bounds-waiting-i

@@ -15,11 +15,11 @@ returns-then-all c =
     let w = written a.lo (take a.count (drop a.lo a.planned.now)) a.separators.now in
     let copied = c.copy_8.ensures ∙ paste_written a.separators.now a.lo (drop a.lo a.planned.now) a.count (rw (length-drop a.lo a.planned.now) (omega (arith, s.requires))) in
     record {
-      value = p.0;
-      separators_after = separators-written w a.separators.now p.0 c.if-all.true copied;
-      numbers_after = p.1.0;
-      words_after = p.1.1.0;
-      owners_after = p.1.1.1;
+      value = p.value;
+      separators_after = separators-written w a.separators.now p.value c.if-all.true copied;
+      numbers_after = p.numbers_after;
+      words_after = p.words_after;
+      owners_after = p.owners_after;
     }
 
 pub returns-else-all : goal.returns-else-all
@@ -28,9 +28,9 @@ returns-else-all c =
     let p = c.store_pages-all.ensures in
     let w = written a.lo (take a.count (drop a.lo a.planned.now)) a.separators.now in
     record {
-      value = p.0;
-      separators_after = separators-kept w a.separators.now p.0 c.if-all.false;
-      numbers_after = p.1.0;
-      words_after = p.1.1.0;
-      owners_after = p.1.1.1;
+      value = p.value;
+      separators_after = separators-kept w a.separators.now p.value c.if-all.false;
+      numbers_after = p.numbers_after;
+      words_after = p.words_after;
+      owners_after = p.owners_after;
     }

@@ -15,7 +15,7 @@ use Rattle.pages.proofs.position.position_valid.Goals as goal
 use Rattle.pages.proofs.position.position_valid.Goals.{Start}
 
 abbrev After-struct_told-1 : Type 0
-After-struct_told-1 = lts.After-struct_told tie.the-claims reads.Pre reads.Post
+After-struct_told-1 = lts.After-struct_told reads.Pre reads.Post
 
 abbrev start : After-struct_told-1 → Start
 start c = c.before.before.before.before

@@ -13,7 +13,7 @@ use Rattle.plan_transfer.proofs.moving.fetch.Goals as goal
 use Rattle.plan_transfer.proofs.moving.fetch.Goals.{Start}
 
 abbrev After-number_named : Type 0
-After-number_named = lts.After-number_named tie.the-claims reads.Pre reads.Post goal.the-invariant-loop-i goal.the-decreases-loop-i
+After-number_named = lts.After-number_named tie.the-claims reads.Pre reads.Post goal.the-invariant-loop-i goal.the-decreases-loop-i tie.handed_clauses
 
 pub loop-i-init : goal.loop-i-init
 loop-i-init c = (omega arith, (none _ _ _, (none _ _ _, none _ _ _)))

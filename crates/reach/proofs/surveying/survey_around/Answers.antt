@@ -13,7 +13,7 @@ use Rattle.reach.proofs.surveying.survey_around.Goals as goal
 use Rattle.reach.proofs.surveying.survey_around.Goals.{Start}
 
 abbrev After-survey-unsound : Type 0
-After-survey-unsound = lts.After-survey tie.the-claims reads.Pre reads.Post
+After-survey-unsound = lts.After-survey tie.the-claims reads.Pre reads.Post tie.handed_clauses
 
 abbrev file : Start → File
 file s = lent s.args.separators.now s.args.numbers.now s.args.words.now s.args.owners.now

@@ -14,18 +14,18 @@ use Rattle.reach.proofs.surveying.survey_pages.Goals as goal
 use Rattle.reach.proofs.surveying.survey_pages.Goals.{Start}
 
 abbrev After-slice_known-2-1 : Type 0
-After-slice_known-2-1 = lts.After-slice_known3 tie.the-claims reads.Pre reads.Post
+After-slice_known-2-1 = lts.After-slice_known3 tie.the-claims reads.Pre reads.Post tie.handed_clauses
 
 pub survey_around-requires : goal.survey_around-requires
 survey_around-requires c =
     let s = c.before.before.before.before.before.before.before.before.before in
     let p = s.requires in
     record {
-      ready = p.0;
-      homes_len = p.1.0;
+      ready = p.ready;
+      homes_len = p.homes_len;
       from_le_known = (c.if-from-known.true, ltb-true s.args.known s.args.stop c.if-known-stop.true);
-      stop_le_pages = p.1.1.1.0;
-      known = p.1.1.1.1;
+      stop_le_pages = p.stop_le_pages;
+      known = p.known;
     }
 
 abbrev file : Start → File
@@ -57,6 +57,6 @@ returns c =
     let s = start c.before in
     let d = c.survey.ensures in
     record {
-      value = lowest_first_lem _ _ (file s) _ _ _ d.0 _ (omega (arith, s.requires.from_le_stop));
-      homes_after = λ _. d.1;
+      value = lowest_first_lem _ _ (file s) _ _ _ d.lowest _ (omega (arith, s.requires.from_le_stop));
+      homes_after = λ _. d.homes_after;
     }

@@ -22,13 +22,13 @@ use Rattle.removal_reach.proofs.changed.plan_changed.Goals as goal
 use Rattle.removal_reach.proofs.changed.plan_changed.Goals.{Start}
 
 abbrev After-gather : Type 0
-After-gather = lts.After-gather tie.the-claims reads.Pre reads.Post
+After-gather = lts.After-gather tie.the-claims reads.Pre reads.Post tie.handed_clauses
 
 abbrev After-settle_changed : Type 0
-After-settle_changed = lts.After-settle_changed tie.the-claims reads.Pre reads.Post
+After-settle_changed = lts.After-settle_changed tie.the-claims reads.Pre reads.Post tie.handed_clauses
 
 abbrev After-slice_known-7-1 : Type 0
-After-slice_known-7-1 = lts.After-slice_known7 tie.the-claims reads.Pre reads.Post
+After-slice_known-7-1 = lts.After-slice_known7 tie.the-claims reads.Pre reads.Post tie.handed_clauses
 
 -- the stretch's words
 abbrev L : Start → List ℕ
@@ -95,7 +95,7 @@ settle_changed-requires c =
         few = omega (arith, p.few, d.gather.auto.waiting);
         order = omega arith;
         inside = omega (arith, end_is d, enough s, d.gather.auto.waiting);
-        grouped_are = rw (in_groups_lem d) (started-again _ _ _ _ _ _ (ready d));
+        grouped-are = rw (in_groups_lem d) (started-again _ _ _ _ _ _ (ready d));
         near = refl;
       };
       places_in_bounds = p.of_numbers;

@@ -10,8 +10,8 @@ pub settle_alone-settled-requires : goal.settle_alone-settled-requires
 settle_alone-settled-requires c =
     let p = c.requires in
     record {
-      parameters_value = p.0;
-      probing = p.1.0;
+      parameters_value = p.parameters_value;
+      probing = p.probing;
       slots_len = refl;
     }
 
@@ -35,7 +35,7 @@ store_sources-requires c =
     let done = c.settle_alone-settled.ensures in
     record {
       places_in_bounds = (s.requires.page_in_bounds.1, most);
-      kept_le_places = (done.1, omega (arith, done.0.size, done.1, most));
+      kept_le_places = (done.kept_le_places, omega (arith, done.settles.size, done.kept_le_places, most));
     }
 
 pub returns : goal.returns

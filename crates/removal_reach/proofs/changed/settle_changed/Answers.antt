@@ -22,19 +22,19 @@ use Rattle.removal_reach.proofs.changed.settle_changed.Goals as goal
 use Rattle.removal_reach.proofs.changed.settle_changed.Goals.{Start}
 
 abbrev At-loop-v : Type 0
-At-loop-v = lts.At-loop tie.the-claims reads.Pre reads.Post goal.the-invariant-loop-v goal.the-decreases-loop-v
+At-loop-v = lts.At-loop tie.the-claims reads.Pre reads.Post goal.the-invariant-loop-v goal.the-decreases-loop-v tie.handed_clauses
 
 abbrev In-loop-v : Type 0
-In-loop-v = lts.In-loop tie.the-claims reads.Pre reads.Post goal.the-invariant-loop-v goal.the-decreases-loop-v
+In-loop-v = lts.In-loop tie.the-claims reads.Pre reads.Post goal.the-invariant-loop-v goal.the-decreases-loop-v tie.handed_clauses
 
 abbrev After-plan_page-from : Type 0
-After-plan_page-from = lts.After-plan_page tie.the-claims reads.Pre reads.Post goal.the-invariant-loop-v goal.the-decreases-loop-v
+After-plan_page-from = lts.After-plan_page tie.the-claims reads.Pre reads.Post goal.the-invariant-loop-v goal.the-decreases-loop-v tie.handed_clauses
 
 abbrev After-slice_known-in-loop-v-3-1 : Type 0
-After-slice_known-in-loop-v-3-1 = lts.After-slice_known6 tie.the-claims reads.Pre reads.Post goal.the-invariant-loop-v goal.the-decreases-loop-v
+After-slice_known-in-loop-v-3-1 = lts.After-slice_known6 tie.the-claims reads.Pre reads.Post goal.the-invariant-loop-v goal.the-decreases-loop-v tie.handed_clauses
 
 abbrev After-count_stars-stored : Type 0
-After-count_stars-stored = lts.After-count_stars tie.the-claims reads.Pre reads.Post goal.the-invariant-loop-v goal.the-decreases-loop-v
+After-count_stars-stored = lts.After-count_stars tie.the-claims reads.Pre reads.Post goal.the-invariant-loop-v goal.the-decreases-loop-v tie.handed_clauses
 
 abbrev start : At-loop-v → Start
 start c = c.before.before.before.before.before.before.before

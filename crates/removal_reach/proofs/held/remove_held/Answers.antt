@@ -21,16 +21,16 @@ use Rattle.removal_reach.proofs.held.remove_held.Goals as goal
 use Rattle.removal_reach.proofs.held.remove_held.Goals.{After-carry_out, After-carry_out-2, Start}
 
 abbrev Then-separators-first : Type 0
-Then-separators-first = lts.Then1 tie.the-claims reads.Pre reads.Post
+Then-separators-first = lts.Then1 tie.the-claims reads.Pre reads.Post tie.handed_clauses
 
 abbrev After-slice_known-then-separators-first-7-1 : Type 0
-After-slice_known-then-separators-first-7-1 = lts.After-slice_known15 tie.the-claims reads.Pre reads.Post
+After-slice_known-then-separators-first-7-1 = lts.After-slice_known15 tie.the-claims reads.Pre reads.Post tie.handed_clauses
 
 abbrev After-decide_removal-decision : Type 0
-After-decide_removal-decision = lts.After-decide_removal tie.the-claims reads.Pre reads.Post
+After-decide_removal-decision = lts.After-decide_removal tie.the-claims reads.Pre reads.Post tie.handed_clauses
 
 abbrev After-outcome_of : Type 0
-After-outcome_of = lts.After-outcome_of tie.the-claims reads.Pre reads.Post
+After-outcome_of = lts.After-outcome_of tie.the-claims reads.Pre reads.Post tie.handed_clauses
 
 abbrev file : Start → File
 file s = lent s.args.separators.now s.args.numbers.now s.args.words.now s.args.owners.now

@@ -18,16 +18,16 @@ use Rattle.removal_reach.proofs.removal.decide_long.Goals as goal
 use Rattle.removal_reach.proofs.removal.decide_long.Goals.{Start}
 
 abbrev After-survey_pages-bad : Type 0
-After-survey_pages-bad = lts.After-survey_pages tie.the-claims reads.Pre reads.Post
+After-survey_pages-bad = lts.After-survey_pages tie.the-claims reads.Pre reads.Post tie.handed_clauses
 
 abbrev Else-bad-stop : Type 0
-Else-bad-stop = lts.Else1 tie.the-claims reads.Pre reads.Post
+Else-bad-stop = lts.Else1 tie.the-claims reads.Pre reads.Post tie.handed_clauses
 
 abbrev After-plan_changed-changed : Type 0
-After-plan_changed-changed = lts.After-plan_changed tie.the-claims reads.Pre reads.Post
+After-plan_changed-changed = lts.After-plan_changed tie.the-claims reads.Pre reads.Post tie.handed_clauses
 
 abbrev Then-first_raisable-stop : Type 0
-Then-first_raisable-stop = lts.Then2 tie.the-claims reads.Pre reads.Post
+Then-first_raisable-stop = lts.Then2 tie.the-claims reads.Pre reads.Post tie.handed_clauses
 
 abbrev file : Start → File
 file s = lent s.args.separators.now s.args.numbers.now s.args.words.now s.args.owners.now
@@ -52,8 +52,8 @@ ready c =
     let s = begun c in
     let pre = s.requires in
     let surveyed = c.survey_pages-bad in
-    removal_plannable _ _ _ _ _ _ (reach s) pre.0.ready.homing.valid pre.0.ready.sized _ surveyed.ensures.0 c.if-bad-stop.false _ _ pre.1.0.0
-    (homes-long c) surveyed.ensures.1 _ _ pre.1.0.1 pre.1.0.1
+    removal_plannable _ _ _ _ _ _ (reach s) pre.removes.ready.homing.valid pre.removes.ready.sized _ surveyed.ensures.0 c.if-bad-stop.false _ _ pre.pool_len.0
+    (homes-long c) surveyed.ensures.1 _ _ pre.pool_len.1 pre.pool_len.1
 
 pub overflow_add-stop : goal.overflow_add-stop
 overflow_add-stop c = let s = c.before.before.before.before.before.before.before.before.before.before in omega (arith, (reach s).inside, (limits _ s.requires.removes.ready.homing.valid).pages_most)
@@ -118,15 +118,15 @@ first_raisable-requires c =
     let pre = s.requires in
     let surveyed = (told d).survey_pages-bad in
     let R = reach s in record {
-      parameters_value = pre.0.ready.homing.valid;
+      parameters_value = pre.removes.ready.homing.valid;
       homed = record {
-        separators = pre.0.ready.sized.of_separators;
-        numbers = pre.0.ready.sized.of_numbers;
+        separators = pre.removes.ready.sized.of_separators;
+        numbers = pre.removes.ready.sized.of_numbers;
         homes = d.plan_changed-changed.auto.pool ∙ homes-long (told d);
         low = omega (arith, d.plan_changed-changed.ensures.high, R.order);
         high = omega (arith, R.inside);
         kept =
-            rest-kept _ _ _ _ _ _ R pre.0.ready.homing.valid pre.0.ready.sized _ surveyed.ensures.0 (told d).if-bad-stop.false _ _ pre.1.0.0 (homes-long (told d)) surveyed.ensures.1
+            rest-kept _ _ _ _ _ _ R pre.removes.ready.homing.valid pre.removes.ready.sized _ surveyed.ensures.0 (told d).if-bad-stop.false _ _ pre.pool_len.0 (homes-long (told d)) surveyed.ensures.1
             _ _ _ _ d.plan_changed-changed.ensures;
       };
     }
@@ -144,10 +144,10 @@ returns-then-first_raisable-stop c =
     let pre = s.requires in
     let surveyed = (told d).survey_pages-bad in
     let C = d.plan_changed-changed.ensures in
-    removal_decided _ _ _ _ _ _ (reach s) pre.0.ready.homing.valid pre.0.ready.sized _ surveyed.ensures.0 (told d).if-bad-stop.false _ _ pre.1.0.0 (homes-long (told d)) surveyed.ensures.1
-    s.args.star.page _ s.args.planned.now _ _ pre.1.1.0 (omega (arith, pre.1.1.0, d.plan_changed-changed.auto)) C
+    removal_decided _ _ _ _ _ _ (reach s) pre.removes.ready.homing.valid pre.removes.ready.sized _ surveyed.ensures.0 (told d).if-bad-stop.false _ _ pre.pool_len.0 (homes-long (told d)) surveyed.ensures.1
+    s.args.star.page _ s.args.planned.now _ _ pre.pages_in_bounds (omega (arith, pre.pages_in_bounds, d.plan_changed-changed.auto)) C
     (λ h.
-    rest-ruled _ _ _ _ _ _ (reach s) pre.0.ready.homing.valid pre.0.ready.sized _ surveyed.ensures.0 (told d).if-bad-stop.false _ _ pre.1.0.0 (homes-long (told d)) surveyed.ensures.1
+    rest-ruled _ _ _ _ _ _ (reach s) pre.removes.ready.homing.valid pre.removes.ready.sized _ surveyed.ensures.0 (told d).if-bad-stop.false _ _ pre.pool_len.0 (homes-long (told d)) surveyed.ensures.1
     d.plan_changed-changed.result _ C.high c.first_raisable.ensures c.if-first_raisable-stop.true)
 
 pub decide_whole-requires : goal.decide_whole-requires

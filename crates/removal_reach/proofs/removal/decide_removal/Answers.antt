@@ -12,19 +12,19 @@ use Rattle.removal_reach.proofs.removal.decide_removal.Goals as goal
 use Rattle.removal_reach.proofs.removal.decide_removal.Goals.{Start}
 
 abbrev After-stretch_end-last : Type 0
-After-stretch_end-last = lts.After-stretch_end tie.the-claims reads.Pre reads.Post
+After-stretch_end-last = lts.After-stretch_end tie.the-claims reads.Pre reads.Post tie.handed_clauses
 
 abbrev After-decide_whole : Type 0
-After-decide_whole = lts.After-decide_whole tie.the-claims reads.Pre reads.Post
+After-decide_whole = lts.After-decide_whole tie.the-claims reads.Pre reads.Post tie.handed_clauses
 
 abbrev After-slice_known-then-last-from-lt8-3-1 : Type 0
-After-slice_known-then-last-from-lt8-3-1 = lts.After-slice_known6 tie.the-claims reads.Pre reads.Post
+After-slice_known-then-last-from-lt8-3-1 = lts.After-slice_known6 tie.the-claims reads.Pre reads.Post tie.handed_clauses
 
 abbrev After-decide_long : Type 0
-After-decide_long = lts.After-decide_long tie.the-claims reads.Pre reads.Post
+After-decide_long = lts.After-decide_long tie.the-claims reads.Pre reads.Post tie.handed_clauses
 
 abbrev After-slice_known-6-1 : Type 0
-After-slice_known-6-1 = lts.After-slice_known9 tie.the-claims reads.Pre reads.Post
+After-slice_known-6-1 = lts.After-slice_known9 tie.the-claims reads.Pre reads.Post tie.handed_clauses
 
 abbrev file : Start → File
 file s = lent s.args.separators.now s.args.numbers.now s.args.words.now s.args.owners.now

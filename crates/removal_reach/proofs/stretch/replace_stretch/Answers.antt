@@ -9,13 +9,13 @@ use Rattle.removal_reach.proofs.stretch.replace_stretch.Goals as goal
 use Rattle.removal_reach.proofs.stretch.replace_stretch.Goals.{After-apply, Start}
 
 abbrev After-planned-1 : Type 0
-After-planned-1 = lts.After-planned tie.the-claims reads.Pre reads.Post
+After-planned-1 = lts.After-planned tie.the-claims reads.Pre reads.Post tie.handed_clauses
 
 abbrev After-plan-left : Type 0
-After-plan-left = lts.After-plan tie.the-claims reads.Pre reads.Post
+After-plan-left = lts.After-plan tie.the-claims reads.Pre reads.Post tie.handed_clauses
 
 abbrev After-slice_known-16-1 : Type 0
-After-slice_known-16-1 = lts.After-slice_known16 tie.the-claims reads.Pre reads.Post
+After-slice_known-16-1 = lts.After-slice_known16 tie.the-claims reads.Pre reads.Post tie.handed_clauses
 
 abbrev start : After-planned-1 → Start
 start c = c.before.before.before.before.before.before.before.before.before.before
@@ -64,6 +64,6 @@ returns c =
     let behind = stretch-behind _ _ _ _ _ _ _ L _ _ _ _ _ _ planned.plan-left.ensures in
     record {
       value = placed.0;
-      owners_value = applied-lists _ _ _ _ _ _ _ _ _ _ _ _ _ left.0 left.1.0 left.1.1.0 left.1.1.1.0 ∙ placed.1;
-      pool_unchanged = left.1.1.1.1 ∙ behind;
+      owners_value = applied-lists _ _ _ _ _ _ _ _ _ _ _ _ _ left.separators_after left.numbers_after left.words_after left.owners_after ∙ placed.1;
+      pool_unchanged = left.pool_unchanged ∙ behind;
     }

@@ -18,7 +18,7 @@ use Rattle.report_filing.proofs.held_star.file_held.Goals as goal
 use Rattle.report_filing.proofs.held_star.file_held.Goals.{Start}
 
 abbrev Else-report-ne0 : Type 0
-Else-report-ne0 = lts.Else2 tie.the-claims reads.Pre reads.Post
+Else-report-ne0 = lts.Else2 tie.the-claims reads.Pre reads.Post tie.handed_clauses
 
 pub returns-then-not-may_alter : goal.returns-then-not-may_alter
 unfolding placed refused_by
@@ -53,7 +53,7 @@ returns-then-report-ne0 c pool fits =
     let removing = c.before.before.before.before.before.before.before.before.before.before.before.before.before.before.before.before.before.before.before.before.before.before.before.before.before in
     let done = c.remove_held.ensures in
     filed-removal s.requires.ready s.requires.sought pool fits s.requires.held_value (ap not (ne_eqb _ 0 removing.if-report-ne0.true))
-    (sym removing.may_alter.ensures ∙ removing.if-not-may_alter.false) _ _ _ c.placed_from.ensures done.0 done.1
+    (sym removing.may_alter.ensures ∙ removing.if-not-may_alter.false) _ _ _ c.placed_from.ensures done.value done.owners_value
 
 -- a change
 abbrev begun : Else-report-ne0 → Start

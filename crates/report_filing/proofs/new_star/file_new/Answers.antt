@@ -49,4 +49,4 @@ returns c pool fits =
     let packing = c.before.before.before.before.before.before.before.before.before.before.before.before.before.before.before.before.before.before.before.before.before.before.before.before.before in
     let done = c.enter_star.ensures in
     filed-entry s.requires.ready s.requires.sought pool fits s.requires.held_value.0 (entering s)
-    packing.pack-word.result (packing.pack-word.ensures ∙ ap packed packing.position_of.ensures) _ _ _ c.placed_from.ensures done.0 done.1
+    packing.pack-word.result (packing.pack-word.ensures ∙ ap packed packing.position_of.ensures) _ _ _ c.placed_from.ensures done.value done.owners_value

@@ -21,35 +21,35 @@ use Rattle.report_filing.proofs.one_report.file_report.Goals as goal
 use Rattle.report_filing.proofs.one_report.file_report.Goals.{Start}
 
 abbrev Else-not-number_valid : Type 0
-Else-not-number_valid = lts.Else1 tie.the-claims reads.Pre reads.Post
+Else-not-number_valid = lts.Else1 tie.the-claims reads.Pre reads.Post tie.handed_clauses
 
 abbrev Else-not-position_fits : Type 0
-Else-not-position_fits = lts.Else2 tie.the-claims reads.Pre reads.Post
+Else-not-position_fits = lts.Else2 tie.the-claims reads.Pre reads.Post tie.handed_clauses
 
 abbrev After-find_kept-named : Type 0
-After-find_kept-named = lts.After-find_kept tie.the-claims reads.Pre reads.Post
+After-find_kept-named = lts.After-find_kept tie.the-claims reads.Pre reads.Post tie.handed_clauses
 
 pub returns-then-not-number_valid : goal.returns-then-not-number_valid
 unfolding placed refused_by
 returns-then-not-number_valid c pool fits =
     let s = c.before.before.before.before.before.before.before.before.before.before in
-    bad_number s.requires.ready pool s.args.report fits (failed _ _ c.number_valid.ensures c.if-not-number_valid.true)
+    bad_number s.requires.ready pool s.args.report fits (failed _ _ c.number_valid.ensures (ap not c.if-not-number_valid.true))
 
 numbered : (c : Else-not-number_valid) → valid_number c.args.report.number ≡ true
-numbered c = passed _ _ c.number_valid.ensures c.if-not-number_valid.false
+numbered c = passed _ _ c.number_valid.ensures (ap not c.if-not-number_valid.false)
 
 pub returns-then-not-position_fits : goal.returns-then-not-position_fits
 unfolding placed refused_by
 returns-then-not-position_fits c pool fits =
     let s = c.before.before.before.before.before.before.before.before.before.before.before.before in
-    bad_position s.requires.ready pool s.args.report fits (numbered c.before.before.before) (failed _ _ c.position_fits.ensures c.if-not-position_fits.true)
+    bad_position s.requires.ready pool s.args.report fits (numbered c.before.before.before) (failed _ _ c.position_fits.ensures (ap not c.if-not-position_fits.true))
 
 -- the report meets neither 3 nor 4
 abbrev start : Else-not-position_fits → Start
 start c = c.before.before.before.before.before.before.before.before.before.before.before
 
 positioned : (c : Else-not-position_fits) → is_removal (start c).args.report || valid_position (reported_position (start c).args.report) ≡ true
-positioned c = passed _ _ c.position_fits.ensures c.if-not-position_fits.false
+positioned c = passed _ _ c.position_fits.ensures (ap not c.if-not-position_fits.false)
 
 pub find_kept-named-requires : goal.find_kept-named-requires
 find_kept-named-requires c =

@@ -23,10 +23,10 @@ use Rattle.rule_check.proofs.telling.check_file.Goals as goal
 use Rattle.rule_check.proofs.telling.check_file.Goals.{Start}
 
 abbrev Else-unsound-pages : Type 0
-Else-unsound-pages = lts.Else1 tie.the-claims reads.Pre reads.Post
+Else-unsound-pages = lts.Else1 tie.the-claims reads.Pre reads.Post tie.handed_clauses
 
 abbrev After-compare_planned-spot : Type 0
-After-compare_planned-spot = lts.After-compare_planned tie.the-claims reads.Pre reads.Post
+After-compare_planned-spot = lts.After-compare_planned tie.the-claims reads.Pre reads.Post tie.handed_clauses
 
 abbrev file : Start → File
 file s = lent s.args.separators.now s.args.numbers.now s.args.words.now s.args.owners.now
@@ -35,8 +35,8 @@ pub survey_pages-unsound-requires : goal.survey_pages-unsound-requires
 survey_pages-unsound-requires c =
     let pre = c.requires in
     record {
-      ready = pre.0;
-      homes_len = pre.1.of_numbers;
+      ready = pre.ready;
+      homes_len = pre.pooled.of_numbers;
       from_le_stop = omega arith;
       stop_le_pages = le_refl _;
       known = known-none _ _ _ _ _ (le_refl _);

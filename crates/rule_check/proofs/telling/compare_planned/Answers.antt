@@ -16,8 +16,8 @@ use Rattle.rule_check.proofs.telling.compare_planned.Goals.{Start}
 abbrev file : Start → File
 file s = lent s.args.separators.now s.args.numbers.now s.args.words.now s.args.owners.now
 
-pool_long : (s : Start) → length s.args.pool.now ≡ s.args.geometry.parameters.pages * s.args.geometry.parameters.places
-pool_long s = homes-long _ _ (file s) s.requires.ready.homing.valid s.requires.ready.homing.growth s.requires.ready.sized s.requires.pages_value _ s.requires.pool_value
+pool-long : (s : Start) → length s.args.pool.now ≡ s.args.geometry.parameters.pages * s.args.geometry.parameters.places
+pool-long s = homes-long _ _ (file s) s.requires.ready.homing.valid s.requires.ready.homing.growth s.requires.ready.sized s.requires.pages_value _ s.requires.pool_value
 
 prepared : (s : Start) → Gatherable (hash_of s.args.geometry.parameters s.args.geometry.growth) s.args.geometry.parameters.places 0 s.args.geometry.parameters.pages (file s) s.args.pool.now
 prepared s = ready _ _ (file s) s.requires.ready.homing.valid s.requires.ready.homing.growth s.requires.ready.sized s.requires.pages_value _ s.requires.pool_value
@@ -46,7 +46,7 @@ fetch-requires c =
     let s = c.before.before.before.before.before.before.before.before.before.before.before.before.before.before.before.before.before.before.before.before.before.before.before in
     let k = c.plan.auto in
     record {
-      in_bounds = omega (arith, k.1.1.0, pool_long s);
+      in_bounds = omega (arith, k.1.1.0, pool-long s);
       in_bounds_2 = omega (arith, k.1.1.1.0, s.requires.waiting_len);
       in_bounds_3 = omega (arith, s.requires.poolowners_len);
     }
@@ -58,7 +58,7 @@ compare-requires c =
     let k = c.plan.auto in
     let n = c.fetch.auto in record {
       pages_in_bounds = (omega (arith, s.requires.ready.sized.of_separators), omega (arith, l.pages_most, k.1.1.1.1.0));
-      places_in_bounds = (omega (arith, s.requires.ready.sized.of_numbers), omega (arith, n.1.1.1.0, k.1.1.0, pool_long s));
+      places_in_bounds = (omega (arith, s.requires.ready.sized.of_numbers), omega (arith, n.1.1.1.0, k.1.1.0, pool-long s));
       places_in_bounds_2 = (omega (arith, s.requires.ready.sized.of_words_lem), omega (arith, n.1.1.1.1.0, k.1.1.1.0, s.requires.waiting_len));
       places_in_bounds_3 = (omega (arith, s.requires.ready.sized.of_owners), omega (arith, n.1.1.1.1.1.0, s.requires.poolowners_len));
     }
@@ -73,7 +73,7 @@ returns c =
       place_value = c.compare.ensures.place_value
           ∙ spot_ruled p _ (file s) s.requires.ready.homing.valid s.requires.ready.homing.growth s.requires.ready.sized s.requires.pages_value _ s.requires.pool_value _ _ _ _ _ _ _
           (planned-ruled p _ (file s) s.requires.ready.homing.valid s.requires.ready.homing.growth s.requires.ready.sized s.requires.pages_value _ s.requires.pool_value _ _ _ _ _ l.pages_most planned.ensures)
-          (planned.auto.1.1.0 ∙ pool_long s)
+          (planned.auto.1.1.0 ∙ pool-long s)
           (planned.auto.1.1.1.0 ∙ s.requires.waiting_len)
           s.requires.poolowners_len
           (omega (arith, l.pages_most, planned.auto.1.1.1.1.0))

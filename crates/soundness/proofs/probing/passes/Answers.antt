@@ -12,10 +12,10 @@ pub probe-requires : goal.probe-requires
 probe-requires c =
     let p = c.requires in
     record {
-      signers = p.0;
-      home_le_start = (omega arith, (p.1.0.0, p.1.0.1.1));
-      stop_bound = (p.1.0.1.0, p.1.1);
-      number_value = none_first _ _ _ _ (omega (arith, p.1.0));
+      signers = p.signers;
+      home_le_start = (omega arith, (p.home_le_page.0, p.home_le_page.1.1));
+      stop_bound = (p.home_le_page.1.0, p.home_in_bounds);
+      number_value = none_first _ _ _ _ (omega (arith, p.home_le_page));
     }
 
 pub returns : goal.returns

@@ -22,13 +22,13 @@ use Rattle.soundness.proofs.probing.probe.Goals as goal
 use Rattle.soundness.proofs.probing.probe.Goals.{Start}
 
 abbrev In-loop-page : Type 0
-In-loop-page = lts.In-loop tie.the-claims reads.Pre reads.Post goal.the-invariant-loop-page goal.the-decreases-loop-page
+In-loop-page = lts.In-loop tie.the-claims reads.Pre reads.Post goal.the-invariant-loop-page goal.the-decreases-loop-page tie.handed_clauses
 
 abbrev After-shared_slice_known-in-loop-page-2-1 : Type 0
-After-shared_slice_known-in-loop-page-2-1 = lts.After-shared_slice_known4 tie.the-claims reads.Pre reads.Post goal.the-invariant-loop-page goal.the-decreases-loop-page
+After-shared_slice_known-in-loop-page-2-1 = lts.After-shared_slice_known4 tie.the-claims reads.Pre reads.Post goal.the-invariant-loop-page goal.the-decreases-loop-page tie.handed_clauses
 
 pub loop-page-init : goal.loop-page-init
-loop-page-init c = let p = c.requires in (omega arith, (p.1.0.1.0, probed-from _ _ _ _ _ p.1.0.1.0 p.1.0.1.1 p.1.1.1))
+loop-page-init c = let p = c.requires in (omega arith, (p.home_le_start.1.0, probed-from _ _ _ _ _ p.home_le_start.1.0 p.home_le_start.1.1 p.number_value))
 
 pub overflow_sub-factor : goal.overflow_sub-factor
 overflow_sub-factor c = omega (arith, c.loop-page.invariant.0, c.requires.home_le_start.0)

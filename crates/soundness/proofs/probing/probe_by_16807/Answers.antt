@@ -18,9 +18,9 @@ pub probe-requires : goal.probe-requires
 probe-requires c =
     let s = c.before.before.before.before in
     let p = s.requires in
-    let table = c.multipliers-table.ensures ∙ ap multipliers (sym p.0.1) in record {
-      signers = whole-signers table p.0.0;
-      home_le_start = (p.1.0.0, (p.1.0.1.0, omega arith));
-      stop_bound = (p.1.0.1.1, omega (arith, p.1.0, whole_long (multiplier_of s.args.parameters) table));
-      number_value = p.1.1;
+    let table = c.multipliers-table.ensures ∙ ap multipliers (sym p.parameters_value.1) in record {
+      signers = whole-signers table p.parameters_value.0;
+      home_le_start = (p.home_le_start.0, (p.home_le_start.1.0, omega arith));
+      stop_bound = (p.home_le_start.1.1, omega (arith, p.home_le_start, whole_long (multiplier_of s.args.parameters) table));
+      number_value = p.number_value;
     }

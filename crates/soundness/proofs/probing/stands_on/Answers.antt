@@ -9,8 +9,8 @@ use Rattle.soundness.proofs.Probed.{none_first, named_here, named-before-top, na
 use Rattle.soundness.proofs.probing.stands_on.Goals as goal
 use Rattle.soundness.proofs.probing.stands_on.Goals.{Start}
 
-pages_most : (c : Start) → c.args.geometry.parameters.pages ≤ 1024
-pages_most c = (limits c.args.geometry.parameters c.requires.signers.valid).pages_most
+pages-most : (c : Start) → c.args.geometry.parameters.pages ≤ 1024
+pages-most c = (limits c.args.geometry.parameters c.requires.signers.valid).pages_most
 
 pub returns-then-page-home : goal.returns-then-page-home
 returns-then-page-home c =
@@ -22,7 +22,7 @@ passes-requires c =
     let s = c.before.before.before.before.before.before.before.before in
     record {
       signers = s.requires.signers;
-      home_le_page = (omega arith, (omega (arith, pages_most s), omega (arith, s.requires.1)));
+      home_le_page = (omega arith, (omega (arith, pages-most s), omega (arith, s.requires.1)));
       home_in_bounds = omega (arith, s.requires.page_lt_pages.1);
     }
 
@@ -39,7 +39,7 @@ probe-requires c =
     let low : s.args.home ≤ s.args.page = omega arith in record {
       signers = s.requires.signers;
       home_le_start = (omega arith, (omega arith, omega (arith, s.requires.1)));
-      stop_bound = (omega (arith, pages_most s, s.requires.page_lt_pages.0), omega (arith, s.requires.page_lt_pages.1));
+      stop_bound = (omega (arith, pages-most s, s.requires.page_lt_pages.0), omega (arith, s.requires.page_lt_pages.1));
       number_value = none_first _ _ _ _ (omega (arith, s.requires.1));
     }
 

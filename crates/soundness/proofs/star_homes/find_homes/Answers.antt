@@ -14,7 +14,7 @@ use Rattle.soundness.proofs.star_homes.find_homes.Goals as goal
 use Rattle.soundness.proofs.star_homes.find_homes.Goals.{Start}
 
 abbrev After-slice_known-in-loop-i-1 : Type 0
-After-slice_known-in-loop-i-1 = lts.After-slice_known2 tie.the-claims reads.Pre reads.Post goal.the-invariant-loop-i goal.the-decreases-loop-i
+After-slice_known-in-loop-i-1 = lts.After-slice_known2 tie.the-claims reads.Pre reads.Post goal.the-invariant-loop-i goal.the-decreases-loop-i tie.handed_clauses
 
 pub loop-i-init : goal.loop-i-init
 loop-i-init c = let s = c.args in (omega arith, refl, paste-zero s.homes.now s.to (homes_of s.geometry.parameters s.geometry.growth (drop s.first s.numbers.now)))
@@ -25,8 +25,8 @@ find_block-i-requires c =
     let p = c.requires in
     let inside = c.loop-i-test.true in
     record {
-      homing = p.0;
-      le = (omega (arith, inside), (omega (arith, inside, p.1.0), omega (arith, inside, p.1.1, l.1)));
+      homing = p.homing;
+      le = (omega (arith, inside), (omega (arith, inside, p.in_bounds.0), omega (arith, inside, p.in_bounds.1, l.1)));
     }
 
 abbrev start : After-slice_known-in-loop-i-1 → Start

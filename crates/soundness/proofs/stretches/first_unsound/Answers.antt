@@ -5,6 +5,8 @@ use borrow.Author.Rules.{rules}
 use Rattle.hashing.proofs.Bounds.{limits, passed, failed}
 use Rattle.soundness.specs.Stretch.{sound_of}
 use Rattle.soundness.proofs.Lent.{Passed, passed_none, passed-next, passed-found, passed-all, page-items, items-part, homes-part}
+use mathlib.Core.Path.{ap}
+use mathlib.Core.Bool.{not}
 use Rattle.soundness.proofs.stretches.first_unsound.Lts as lts
 use Rattle.soundness.proofs.stretches.first_unsound.Tie as tie
 use Rattle.soundness.proofs.stretches.first_unsound.Reads as reads
@@ -12,7 +14,7 @@ use Rattle.soundness.proofs.stretches.first_unsound.Goals as goal
 use Rattle.soundness.proofs.stretches.first_unsound.Goals.{Start}
 
 abbrev In-loop-page : Type 0
-In-loop-page = lts.In-loop tie.the-claims reads.Pre reads.Post goal.the-invariant-loop-page goal.the-decreases-loop-page
+In-loop-page = lts.In-loop tie.the-claims reads.Pre reads.Post goal.the-invariant-loop-page goal.the-decreases-loop-page tie.handed_clauses
 
 pub loop-page-init : goal.loop-page-init
 loop-page-init c = passed_none _ _ _ c.requires.homed_items.order
@@ -54,13 +56,13 @@ lent_sound-requires c =
     }
 
 pub returns-then-not-lent_sound : goal.returns-then-not-lent_sound
-returns-then-not-lent_sound c = passed-found c.loop-page.invariant c.loop-page-test.true (failed _ _ c.lent_sound.ensures c.if-not-lent_sound.true)
+returns-then-not-lent_sound c = passed-found c.loop-page.invariant c.loop-page-test.true (failed _ _ c.lent_sound.ensures (ap not c.if-not-lent_sound.true))
 
 pub loop-page-smaller : goal.loop-page-smaller
 loop-page-smaller c = omega (arith, c.loop-page-test.true)
 
 pub loop-page-preserved : goal.loop-page-preserved
-loop-page-preserved c = passed-next c.loop-page.invariant c.loop-page-test.true (passed _ _ c.lent_sound.ensures c.if-not-lent_sound.false)
+loop-page-preserved c = passed-next c.loop-page.invariant c.loop-page-test.true (passed _ _ c.lent_sound.ensures (ap not c.if-not-lent_sound.false))
 
 pub returns : goal.returns
 returns c = passed-all c.loop-page.invariant c.loop-page-test.false

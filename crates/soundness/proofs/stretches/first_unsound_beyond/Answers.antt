@@ -9,6 +9,6 @@ pub first_unsound_by_16807-requires : goal.first_unsound_by_16807-requires
 first_unsound_by_16807-requires c =
     let p = c.requires in
     record {
-      parameters_value = (p.0, the_other _ (limits _ p.0).multiplier_valid c.if-geometry-eq48271.false);
-      homed_items = p.1;
+      parameters_value = (p.parameters_value, the_other _ (limits _ p.parameters_value).multiplier_valid c.if-geometry-eq48271.false);
+      homed_items = p.homed_items;
     }

@@ -17,9 +17,9 @@ pub first_unsound-requires : goal.first_unsound-requires
 first_unsound-requires c =
     let s = c.before.before.before.before.before.before.before.before in
     let p = s.requires in
-    let table = c.multipliers-table.ensures ∙ ap multipliers (sym p.0.1) in
+    let table = c.multipliers-table.ensures ∙ ap multipliers (sym p.parameters_value.1) in
     record {
-      signers = whole-signers table p.0.0;
+      signers = whole-signers table p.parameters_value.0;
       table_len = whole_long (multiplier_of s.args.geometry.parameters) table;
-      homed_items = p.1;
+      homed_items = p.homed_items;
     }

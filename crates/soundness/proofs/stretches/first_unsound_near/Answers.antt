@@ -1,5 +1,5 @@
 -- `soundness::stretches::first_unsound_near` meets its contract. The invariant: the pages before this one are sound.
-use mathlib.Core.Path.{sym, ◌∙◌}
+use mathlib.Core.Path.{sym, ◌∙◌, ap}
 use mathlib.Core.Logic.{⊎_elim}
 use Prim.Native.Nat.{◌+◌, ◌-◌, ◌*◌, ◌<◌}
 use native.Mathlib.Omega.{arith}
@@ -12,6 +12,7 @@ use Rattle.placement.specs.Hash.{sound_at, lent}
 use Rattle.placement.proofs.Prepared.{first-long, first-signers}
 use Rattle.soundness.specs.Stretch.{Items, HomesAt}
 use Rattle.soundness.proofs.Lent.{Passed, passed_none, passed-next, passed-found, passed-all, passed_then, lowest_same, page-items, both-items, here-items, rest-items, homes-here, sound-own, sound-there}
+use mathlib.Core.Bool.{not}
 use Rattle.soundness.proofs.stretches.first_unsound_near.Lts as lts
 use Rattle.soundness.proofs.stretches.first_unsound_near.Tie as tie
 use Rattle.soundness.proofs.stretches.first_unsound_near.Reads as reads
@@ -19,7 +20,7 @@ use Rattle.soundness.proofs.stretches.first_unsound_near.Goals as goal
 use Rattle.soundness.proofs.stretches.first_unsound_near.Goals.{Start}
 
 abbrev In-loop-page : Type 0
-In-loop-page = lts.In-loop tie.the-claims reads.Pre reads.Post goal.the-invariant-loop-page goal.the-decreases-loop-page
+In-loop-page = lts.In-loop tie.the-claims reads.Pre reads.Post goal.the-invariant-loop-page goal.the-decreases-loop-page tie.handed_clauses
 
 pub loop-page-init : goal.loop-page-init
 loop-page-init c = passed_none _ _ _ c.requires.from_le_stop.0
@@ -127,7 +128,7 @@ pub returns-then-not-lent_sound : goal.returns-then-not-lent_sound
 returns-then-not-lent_sound c =
     let l = c.before.before.before.before.before.before.before.before in
     let s = start l in
-    passed-found l.loop-page.invariant l.loop-page-test.true (sym (sound-own s.args.geometry (file s) l.loop-page.page) ∙ failed _ _ c.lent_sound.ensures c.if-not-lent_sound.true)
+    passed-found l.loop-page.invariant l.loop-page-test.true (sym (sound-own s.args.geometry (file s) l.loop-page.page) ∙ failed _ _ c.lent_sound.ensures (ap not c.if-not-lent_sound.true))
 
 pub loop-page-smaller : goal.loop-page-smaller
 loop-page-smaller c = omega (arith, c.loop-page-test.true)

@@ -1,5 +1,5 @@
 -- `soundness::stretches::lent_sound` meets its contract. The invariant: the first i items are admitted.
-use mathlib.Core.Path.{◌≡◌, sym, ◌∙◌}
+use mathlib.Core.Path.{◌≡◌, sym, ◌∙◌, ap}
 use Prim.Native.Nat.{◌+◌, ◌-◌, ◌≤◌, ◌<◌}
 use native.Mathlib.Omega.{arith}
 use lib.ListN.{length, drop}
@@ -10,6 +10,7 @@ use Rattle.soundness.specs.Survey.{sound_in}
 use Rattle.soundness.specs.Stretch.{sound_from}
 use Rattle.soundness.proofs.Items.{Admitting, admitting-all}
 use Rattle.soundness.proofs.Lent.{star-home, lent_none, lent-refused, lent-more, page-refused}
+use mathlib.Core.Bool.{not}
 use Rattle.soundness.proofs.stretches.lent_sound.Lts as lts
 use Rattle.soundness.proofs.stretches.lent_sound.Tie as tie
 use Rattle.soundness.proofs.stretches.lent_sound.Reads as reads
@@ -17,13 +18,13 @@ use Rattle.soundness.proofs.stretches.lent_sound.Goals as goal
 use Rattle.soundness.proofs.stretches.lent_sound.Goals.{Start}
 
 abbrev After-struct_known-1 : Type 0
-After-struct_known-1 = lts.After-struct_known tie.the-claims reads.Pre reads.Post goal.the-invariant-loop-i goal.the-decreases-loop-i
+After-struct_known-1 = lts.After-struct_known tie.the-claims reads.Pre reads.Post goal.the-invariant-loop-i goal.the-decreases-loop-i tie.handed_clauses
 
 abbrev In-loop-i : Type 0
-In-loop-i = lts.In-loop tie.the-claims reads.Pre reads.Post goal.the-invariant-loop-i goal.the-decreases-loop-i
+In-loop-i = lts.In-loop tie.the-claims reads.Pre reads.Post goal.the-invariant-loop-i goal.the-decreases-loop-i tie.handed_clauses
 
 abbrev After-loop-i : Type 0
-After-loop-i = lts.After-loop tie.the-claims reads.Pre reads.Post goal.the-invariant-loop-i goal.the-decreases-loop-i
+After-loop-i = lts.After-loop tie.the-claims reads.Pre reads.Post goal.the-invariant-loop-i goal.the-decreases-loop-i tie.handed_clauses
 
 pub returns-then-top_of-separators : goal.returns-then-top_of-separators
 unfolding sound_from sound_in
@@ -102,7 +103,7 @@ returns-then-not-item c =
     let l = c.before.before.before.before.before.before.before.before in
     let s = (start l).args in
     page-refused s.geometry s.separators.now s.numbers.now s.words.now s.owners.now s.at s.page
-    (lent-refused _ _ _ _ s.numbers.now s.words.now s.owners.now s.at l.loop-i.invariant.1 l.loop-i-test.true (failed _ _ c.admitted-item.ensures.sound c.if-not-item.true))
+    (lent-refused _ _ _ _ s.numbers.now s.words.now s.owners.now s.at l.loop-i.invariant.1 l.loop-i-test.true (failed _ _ c.admitted-item.ensures.sound (ap not c.if-not-item.true)))
 
 pub loop-i-smaller : goal.loop-i-smaller
 loop-i-smaller c = omega (arith, c.loop-i-test.true)

@@ -15,10 +15,10 @@ use Rattle.soundness.proofs.stretches.sound_at_home.Goals as goal
 use Rattle.soundness.proofs.stretches.sound_at_home.Goals.{Start}
 
 abbrev After-struct_known-1 : Type 0
-After-struct_known-1 = lts.After-struct_known tie.the-claims reads.Pre reads.Post goal.the-invariant-loop-i goal.the-decreases-loop-i
+After-struct_known-1 = lts.After-struct_known tie.the-claims reads.Pre reads.Post goal.the-invariant-loop-i goal.the-decreases-loop-i tie.handed_clauses
 
 abbrev In-loop-i : Type 0
-In-loop-i = lts.In-loop tie.the-claims reads.Pre reads.Post goal.the-invariant-loop-i goal.the-decreases-loop-i
+In-loop-i = lts.In-loop tie.the-claims reads.Pre reads.Post goal.the-invariant-loop-i goal.the-decreases-loop-i tie.handed_clauses
 
 pub returns-then-separators-page : goal.returns-then-separators-page
 returns-then-separators-page c = λ e. absurd (false≢true e)

@@ -1,7 +1,7 @@
 -- `soundness::testing::admitted` meets its contract.
 -- Assumes nothing.
-use mathlib.Core.Path.{sym, ◌∙◌}
-use mathlib.Core.Bool.{false≢true}
+use mathlib.Core.Path.{sym, ◌∙◌, ap}
+use mathlib.Core.Bool.{false≢true, not}
 use borrow.Author.Rules.{rules}
 use borrow.Author.Tests.{eq-eqb, ne_eqb}
 use Rattle.hashing.proofs.Bounds.{failed, passed}
@@ -20,7 +20,7 @@ returns-then-number-eq0 c =
 pub returns-then-not-ordered : goal.returns-then-not-ordered
 returns-then-not-ordered c =
     record {
-      sound = sym (refused-item _ _ _ _ _ _ _ _ c.if-number-eq0.false (failed _ _ c.ordered.ensures c.if-not-ordered.true));
+      sound = sym (refused-item _ _ _ _ _ _ _ _ c.if-number-eq0.false (failed _ _ c.ordered.ensures (ap not c.if-not-ordered.true)));
       home = λ e. absurd (false≢true e);
       last = λ e. absurd (false≢true e);
     }
@@ -28,20 +28,20 @@ returns-then-not-ordered c =
 pub stands_on-requires : goal.stands_on-requires
 stands_on-requires c =
     let p = c.requires in
-    let placed = in_order _ _ _ (passed _ _ c.ordered.ensures c.if-not-ordered.false) in
+    let placed = in_order _ _ _ (passed _ _ c.ordered.ensures (ap not c.if-not-ordered.false)) in
     record {
-      signers = p.0;
-      separators_len = p.1.0;
-      page_lt_pages = (p.1.1.0, p.1.1.1.1 c.if-number-eq0.false);
-      home_value = p.1.1.1.0 placed.0 placed.1;
+      signers = p.signers;
+      separators_len = p.separators_len;
+      page_lt_pages = (p.page_lt_pages, p.home_in_bounds c.if-number-eq0.false);
+      home_value = p.home_value placed.0 placed.1;
     }
 
 pub returns : goal.returns
 returns c =
     let star = c.if-number-eq0.false in
-    let placed = in_order _ _ _ (passed _ _ c.ordered.ensures c.if-not-ordered.false) in
+    let placed = in_order _ _ _ (passed _ _ c.ordered.ensures (ap not c.if-not-ordered.false)) in
     record {
-      sound = c.stands_on.ensures ∙ sym (passed-item _ _ _ _ _ _ _ _ star (passed _ _ c.ordered.ensures c.if-not-ordered.false));
+      sound = c.stands_on.ensures ∙ sym (passed-item _ _ _ _ _ _ _ _ star (passed _ _ c.ordered.ensures (ap not c.if-not-ordered.false)));
       home = λ e. rw (ne_eqb _ _ star) (c.requires.home_value placed.0 placed.1);
       last = λ e. rw (ne_eqb _ _ star);
     }

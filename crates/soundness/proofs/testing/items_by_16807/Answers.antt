@@ -18,9 +18,9 @@ pub items_sound-requires : goal.items_sound-requires
 items_sound-requires c =
     let s = c.before.before.before.before.before in
     let p = s.requires in
-    let table = c.multipliers-table.ensures ∙ ap multipliers (sym p.0.1) in
+    let table = c.multipliers-table.ensures ∙ ap multipliers (sym p.parameters_value.1) in
     record {
-      signers = whole-signers table p.0.0;
-      testable = p.1;
-      signable_on = λ i h star. omega (arith, whole_long (multiplier_of s.args.geometry.parameters) table, p.1.inside, (limits _ p.0.0).pages_most);
+      signers = whole-signers table p.parameters_value.0;
+      testable = p.testable;
+      signable_on = λ i h star. omega (arith, whole_long (multiplier_of s.args.geometry.parameters) table, p.testable.inside, (limits _ p.parameters_value.0).pages_most);
     }

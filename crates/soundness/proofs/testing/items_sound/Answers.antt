@@ -1,7 +1,7 @@
 -- `soundness::testing::items_sound` meets its contract. The invariant: the first i items are admitted, and their homes kept.
 -- Assumes nothing.
-use mathlib.Core.Path.{◌≡◌, sym, ◌∙◌}
-use mathlib.Core.Bool.{false≢true, and-false}
+use mathlib.Core.Path.{◌≡◌, sym, ◌∙◌, ap}
+use mathlib.Core.Bool.{false≢true, and-false, not}
 use Prim.Native.Nat.{ℕ, ◌-◌, ◌≤◌, ◌<◌}
 use lib.ListN.{get_or}
 use Rattle.placement.specs.File.{greatest}
@@ -18,7 +18,7 @@ use Rattle.soundness.proofs.testing.items_sound.Goals as goal
 use Rattle.soundness.proofs.testing.items_sound.Goals.{Start}
 
 abbrev Else-not-item : Type 0
-Else-not-item = lts.Else1 tie.the-claims reads.Pre reads.Post goal.the-invariant-loop-i goal.the-decreases-loop-i
+Else-not-item = lts.Else1 tie.the-claims reads.Pre reads.Post goal.the-invariant-loop-i goal.the-decreases-loop-i tie.handed_clauses
 
 pub loop-i-init : goal.loop-i-init
 loop-i-init c =
@@ -55,7 +55,7 @@ returns-then-not-item c =
     let item = c.admitted-item.ensures in
     let inside = c.loop-i-test.true in
     let done = c.loop-i.invariant.2 in
-    let refused = admitting-refused _ _ _ _ done.admitting inside (failed _ _ item.sound c.if-not-item.true) in
+    let refused = admitting-refused _ _ _ _ done.admitting inside (failed _ _ item.sound (ap not c.if-not-item.true)) in
     record { sound = simp (refused, and-false); long = done.long; homed = λ e. absurd (false≢true e) }
 
 abbrev start_of : Else-not-item → Start

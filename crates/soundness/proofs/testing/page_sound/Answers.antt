@@ -18,7 +18,7 @@ use Rattle.soundness.proofs.testing.page_sound.Goals as goal
 use Rattle.soundness.proofs.testing.page_sound.Goals.{Start}
 
 abbrev After-of_page : Type 0
-After-of_page = lts.After-of_page tie.the-claims reads.Pre reads.Post
+After-of_page = lts.After-of_page tie.the-claims reads.Pre reads.Post tie.handed_clauses
 
 pub returns-then-top_of-separators : goal.returns-then-top_of-separators
 unfolding sound_in

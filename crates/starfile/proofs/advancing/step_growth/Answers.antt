@@ -16,16 +16,16 @@ use Rattle.starfile.proofs.advancing.step_growth.Goals as goal
 use Rattle.starfile.proofs.advancing.step_growth.Goals.{Start}
 
 abbrev In_default : Type 0
-In_default = lts.After-enum_told tie.the-claims reads.Pre reads.Post
+In_default = lts.After-enum_told tie.the-claims reads.Pre reads.Post tie.handed_clauses
 
 abbrev After-step_second-stepped : Type 0
-After-step_second-stepped = lts.After-step_second tie.the-claims reads.Pre reads.Post
+After-step_second-stepped = lts.After-step_second tie.the-claims reads.Pre reads.Post tie.handed_clauses
 
 abbrev After-clear : Type 0
-After-clear = lts.After-clear tie.the-claims reads.Pre reads.Post
+After-clear = lts.After-clear tie.the-claims reads.Pre reads.Post tie.handed_clauses
 
 abbrev After-slice_known-17-1 : Type 0
-After-slice_known-17-1 = lts.After-slice_known17 tie.the-claims reads.Pre reads.Post
+After-slice_known-17-1 = lts.After-slice_known17 tie.the-claims reads.Pre reads.Post tie.handed_clauses
 
 abbrev file_of : Start → File
 file_of s = lent s.args.separators.now s.args.numbers.now s.args.words.now s.args.owners.now
@@ -84,4 +84,4 @@ returns c =
     (none d)
     (done.ensures (cleared (pool_of s)))
     (step-pool s.args.parameters s.args.growth (file_of s) (second_of s) (cleared (pool_of s)))
-    (cleared-is _ _ _ _ _ _ _ _ _ zeroed.0 zeroed.1.0 zeroed.1.1 done.auto.1.1.1.1.1.1.1.1.1.1.0 done.auto.1.1.1.1.1.1.1.1.1.1.1.0 done.auto.1.1.1.1.1.1.1.1.1.1.1.1.0)
+    (cleared-is _ _ _ _ _ _ _ _ _ zeroed.pool_after zeroed.waiting_after zeroed.poolowners_after done.auto.1.1.1.1.1.1.1.1.1.1.0 done.auto.1.1.1.1.1.1.1.1.1.1.1.0 done.auto.1.1.1.1.1.1.1.1.1.1.1.1.0)

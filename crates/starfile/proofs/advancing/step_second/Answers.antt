@@ -11,10 +11,10 @@ use Rattle.starfile.proofs.advancing.step_second.Goals as goal
 use Rattle.starfile.proofs.advancing.step_second.Goals.{Start}
 
 abbrev After-write_page-grown : Type 0
-After-write_page-grown = lts.After-write_page tie.the-claims reads.Pre reads.Post
+After-write_page-grown = lts.After-write_page tie.the-claims reads.Pre reads.Post tie.handed_clauses
 
 abbrev After-advanced : Type 0
-After-advanced = lts.After-advanced tie.the-claims reads.Pre reads.Post
+After-advanced = lts.After-advanced tie.the-claims reads.Pre reads.Post tie.handed_clauses
 
 abbrev file_of : Start → File
 file_of s = lent s.args.separators.now s.args.numbers.now s.args.words.now s.args.owners.now

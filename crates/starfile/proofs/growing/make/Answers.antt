@@ -8,7 +8,7 @@ use Rattle.starfile.proofs.growing.make.Goals as goal
 use Rattle.starfile.proofs.growing.make.Goals.{After-make}
 
 abbrev After-at_rest_after : Type 0
-After-at_rest_after = lts.After-at_rest_after tie.the-claims reads.Pre reads.Post
+After-at_rest_after = lts.After-at_rest_after tie.the-claims reads.Pre reads.Post tie.handed_clauses
 
 abbrev after-make : After-at_rest_after → After-make
 after-make c = c.before.before.before.before.before.before.before.before.before

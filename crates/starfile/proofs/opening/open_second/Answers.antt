@@ -4,6 +4,8 @@ use Rattle.placement.specs.Hash.{lent}
 use Rattle.hashing.proofs.Bounds.{passed, failed}
 use Rattle.starfile.proofs.Steps.{open_late, open_refused, open_accepted}
 use borrow.Author.Rules.{rules}
+use mathlib.Core.Path.{ap}
+use mathlib.Core.Bool.{not}
 use Rattle.starfile.proofs.opening.open_second.Lts as lts
 use Rattle.starfile.proofs.opening.open_second.Tie as tie
 use Rattle.starfile.proofs.opening.open_second.Reads as reads
@@ -11,13 +13,13 @@ use Rattle.starfile.proofs.opening.open_second.Goals as goal
 use Rattle.starfile.proofs.opening.open_second.Goals.{Start}
 
 abbrev After-plan_whole-grown : Type 0
-After-plan_whole-grown = lts.After-plan_whole tie.the-claims reads.Pre reads.Post
+After-plan_whole-grown = lts.After-plan_whole tie.the-claims reads.Pre reads.Post tie.handed_clauses
 
 abbrev After-empty : Type 0
-After-empty = lts.After-empty tie.the-claims reads.Pre reads.Post
+After-empty = lts.After-empty tie.the-claims reads.Pre reads.Post tie.handed_clauses
 
 abbrev After-state-1 : Type 0
-After-state-1 = lts.After-state tie.the-claims reads.Pre reads.Post
+After-state-1 = lts.After-state tie.the-claims reads.Pre reads.Post tie.handed_clauses
 
 abbrev file_of : Start → File
 file_of s = lent s.args.separators.now s.args.numbers.now s.args.words.now s.args.owners.now
@@ -40,7 +42,7 @@ plan_whole-grown-requires c = record {
 pub returns-then-not-accepted : goal.returns-then-not-accepted
 returns-then-not-accepted c =
     let s = c.before.before.before.before.before.before.before.before.before.before.before.before.before.before.before.before.before.before.before.before.before.before in
-    open_refused s.args.parameters s.args.growth (file_of s) (second_of s) c.plan_whole-grown.result c.if-growth.false c.plan_whole-grown.ensures (failed _ _ c.accepted.ensures c.if-not-accepted.true)
+    open_refused s.args.parameters s.args.growth (file_of s) (second_of s) c.plan_whole-grown.result c.if-growth.false c.plan_whole-grown.ensures (failed _ _ c.accepted.ensures (ap not c.if-not-accepted.true))
 
 pub empty-requires : goal.empty-requires
 empty-requires c = record {
@@ -57,4 +59,4 @@ after-plan_whole c = c.before.before.before.before.before.before.before.before.b
 pub returns : goal.returns
 returns c =
     let s = c.before.before.before.before.before.before.before.before.before.before.before.before.before.before.before.before.before.before.before.before.before.before.before.before.before.before.before.before.before.before.before.before.before.before.before.before in
-    open_accepted s.args.parameters s.args.growth (file_of s) (second_of s) c.plan_whole-grown.result c.if-growth.false c.plan_whole-grown.ensures (passed _ _ c.accepted.ensures c.if-not-accepted.false) c.empty.ensures
+    open_accepted s.args.parameters s.args.growth (file_of s) (second_of s) c.plan_whole-grown.result c.if-growth.false c.plan_whole-grown.ensures (passed _ _ c.accepted.ensures (ap not c.if-not-accepted.false)) c.empty.ensures

@@ -3,12 +3,14 @@ use Rattle.hashing.proofs.Bounds.{passed, failed}
 use Rattle.calls.specs.Answers.{due_said, refused_by}
 use Rattle.calls.specs.Records.{due_under}
 use borrow.Author.Rules.{rules}
+use mathlib.Core.Path.{ap}
+use mathlib.Core.Bool.{not}
 use Rattle.starfile.proofs.reading.due.Goals as goal
 
 pub returns-then-not-steps_valid : goal.returns-then-not-steps_valid
 unfolding due_said refused_by due_under
-returns-then-not-steps_valid c = rw (failed _ _ c.steps_valid.ensures c.if-not-steps_valid.true)
+returns-then-not-steps_valid c = rw (failed _ _ c.steps_valid.ensures (ap not c.if-not-steps_valid.true))
 
 pub returns : goal.returns
 unfolding due_under
-returns c = rw (passed _ _ c.steps_valid.ensures c.if-not-steps_valid.false) c.due.ensures
+returns c = rw (passed _ _ c.steps_valid.ensures (ap not c.if-not-steps_valid.false)) c.due.ensures

@@ -5,10 +5,12 @@ use Rattle.calls.specs.Calls.{file_fits_lem}
 use Rattle.calls.specs.Stores.{change_stopped_under}
 use Rattle.call_guard.proofs.Turned.{measured, in_turn_lem}
 use borrow.Author.Rules.{rules}
+use mathlib.Core.Path.{ap}
+use mathlib.Core.Bool.{not}
 use Rattle.starfile.proofs.stopping.change_stopped.Goals as goal
 
 pub out_of_turn-requires : goal.out_of_turn-requires
-out_of_turn-requires c = failed _ _ c.at_rest.ensures c.if-not-at_rest.true
+out_of_turn-requires c = failed _ _ c.at_rest.ensures (ap not c.if-not-at_rest.true)
 
 pub returns-then-not-at_rest : goal.returns-then-not-at_rest
 unfolding placed file_fits_lem change_stopped_under
@@ -16,4 +18,4 @@ returns-then-not-at_rest c = measured _ _ _ _ _ _ c.file_fits-fits.ensures (c.ou
 
 pub returns : goal.returns
 unfolding change_stopped_under
-returns c = rw (in_turn_lem _ _ _ _ _ _ (passed _ _ c.at_rest.ensures c.if-not-at_rest.false)) c.change_stopped.ensures
+returns c = rw (in_turn_lem _ _ _ _ _ _ (passed _ _ c.at_rest.ensures (ap not c.if-not-at_rest.false))) c.change_stopped.ensures

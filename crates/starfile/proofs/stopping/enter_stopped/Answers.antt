@@ -1,9 +1,10 @@
 -- `starfile::stopping::enter_stopped` meets its contract.
-use mathlib.Core.Path.{refl}
+use mathlib.Core.Path.{refl, ap}
 use Rattle.hashing.proofs.Bounds.{passed, failed}
 use Rattle.calls.specs.Stores.{enter_stopped_under}
 use Rattle.call_guard.proofs.Turned.{in_turn_lem}
 use borrow.Author.Rules.{rules}
+use mathlib.Core.Bool.{not}
 use Rattle.starfile.proofs.stopping.enter_stopped.Lts as lts
 use Rattle.starfile.proofs.stopping.enter_stopped.Tie as tie
 use Rattle.starfile.proofs.stopping.enter_stopped.Reads as reads
@@ -17,7 +18,7 @@ abbrev After-slice_known-14-1 : Type 0
 After-slice_known-14-1 = lts.After-slice_known17 tie.the-claims reads.Pre reads.Post
 
 pub turn_away-requires : goal.turn_away-requires
-turn_away-requires c = failed _ _ c.at_rest.ensures c.if-not-at_rest.true
+turn_away-requires c = failed _ _ c.at_rest.ensures (ap not c.if-not-at_rest.true)
 
 pub shape_of-separators-then-not-at_rest : goal.shape_of-separators-then-not-at_rest
 shape_of-separators-then-not-at_rest c = refl
@@ -43,4 +44,4 @@ after-enter_stopped c = c.before.before.before.before.before.before.before.befor
 
 pub returns : goal.returns
 unfolding enter_stopped_under
-returns c = rw (in_turn_lem _ _ _ _ _ _ (passed _ _ c.at_rest.ensures c.if-not-at_rest.false)) c.enter_stopped.ensures
+returns c = rw (in_turn_lem _ _ _ _ _ _ (passed _ _ c.at_rest.ensures (ap not c.if-not-at_rest.false))) c.enter_stopped.ensures

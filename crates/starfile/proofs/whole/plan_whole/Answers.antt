@@ -21,10 +21,10 @@ accept_growth-outcome-requires c =
     let pre = c.requires in
     let e = sym c.step_of-step.ensures ∙ c.step-in-To-1.given.1 in
     record {
-      ready = prepared c.first_multipliers-table.ensures pre.0;
-      pool_len = pre.1.0;
-      waiting_len = pre.1.1;
-      movable = step-movable _ _ _ e pre.0.homing.growth;
+      ready = prepared c.first_multipliers-table.ensures pre.admitted;
+      pool_len = pre.poolnumbers_len;
+      waiting_len = pre.poolwords_len;
+      movable = step-movable _ _ _ e pre.admitted.homing.growth;
     }
 
 pub grown_by-requires : goal.grown_by-requires

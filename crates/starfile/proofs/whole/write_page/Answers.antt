@@ -14,10 +14,10 @@ use Rattle.starfile.proofs.whole.write_page.Goals as goal
 use Rattle.starfile.proofs.whole.write_page.Goals.{Start}
 
 abbrev After-step_page-outcome : Type 0
-After-step_page-outcome = lts.After-step_page tie.the-claims reads.Pre reads.Post
+After-step_page-outcome = lts.After-step_page tie.the-claims reads.Pre reads.Post tie.handed_clauses
 
 abbrev After-grown_by : Type 0
-After-grown_by = lts.After-grown_by tie.the-claims reads.Pre reads.Post
+After-grown_by = lts.After-grown_by tie.the-claims reads.Pre reads.Post tie.handed_clauses
 
 abbrev file_of : Start → File
 file_of s = lent s.args.separators.now s.args.numbers.now s.args.words.now s.args.owners.now
@@ -33,11 +33,11 @@ step_page-outcome-requires c =
     let pre = c.requires in
     let e = sym c.step_of-way.ensures ∙ c.way-in-To-1.given.1 in
     record {
-      ready = prepared c.first_multipliers-table.ensures pre.0;
-      sized = pre.1.0;
-      pooled = pre.1.1.0;
-      movable = step-movable _ _ _ e pre.0.homing.growth;
-      step_lt_pages = pre.1.1.1;
+      ready = prepared c.first_multipliers-table.ensures pre.admitted;
+      sized = pre.sized;
+      pooled = pre.pooled;
+      movable = step-movable _ _ _ e pre.admitted.homing.growth;
+      step_lt_pages = pre.step_lt_pages;
     }
 
 pub grown_by-requires : goal.grown_by-requires
@@ -65,6 +65,6 @@ returns-in-To c =
     let e = sym c.step_of-way.ensures ∙ c.way-in-To-1.given.1 in
     let done = c.step_page-outcome.ensures in
     record {
-      grows_as = growth_planned _ _ (file_of s) e done.0 c.grown_by.ensures;
-      steps_as = page-stepped _ _ (file_of s) e (second_of s) s.args.step done.1;
+      grows_as = growth_planned _ _ (file_of s) e done.value c.grown_by.ensures;
+      steps_as = page-stepped _ _ (file_of s) e (second_of s) s.args.step done.secondowners_value;
     }

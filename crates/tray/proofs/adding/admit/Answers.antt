@@ -7,6 +7,7 @@ use Rattle.calls.specs.Shape.{admission_number}
 use Rattle.reports.specs.TrayCalls.{tray_refusal}
 use Rattle.tray.specs.Refusals.{report_refusal}
 use Rattle.tray.proofs.Refused.{record_is, report-turned}
+use mathlib.Core.Bool.{not}
 use Rattle.tray.proofs.adding.admit.Goals as goal
 use Rattle.tray.proofs.adding.admit.Goals.{In_default, Start}
 
@@ -22,20 +23,20 @@ none c = sym (c.admit.ensures ∙ record_is _ _ _) ∙ ap admission_number c.enu
 
 pub returns-then-not-number_valid : goal.returns-then-not-number_valid
 unfolding report_refusal
-returns-then-not-number_valid c = rw (none c.before.before, failed _ _ c.number_valid.ensures c.if-not-number_valid.true)
+returns-then-not-number_valid c = rw (none c.before.before, failed _ _ c.number_valid.ensures (ap not c.if-not-number_valid.true))
 
 pub returns-then-not-placed_well : goal.returns-then-not-placed_well
 unfolding report_refusal
 returns-then-not-placed_well c =
-    rw (none c.before.before.before.before, passed _ _ c.number_valid.ensures c.if-not-number_valid.false, failed _ _ c.placed_well.ensures c.if-not-placed_well.true)
+    rw (none c.before.before.before.before, passed _ _ c.number_valid.ensures (ap not c.if-not-number_valid.false), failed _ _ c.placed_well.ensures (ap not c.if-not-placed_well.true))
 
 pub returns-then-count-ge256 : goal.returns-then-count-ge256
 unfolding report_refusal
 returns-then-count-ge256 c =
     rw (
       none c.before.before.before.before.before,
-      passed _ _ c.number_valid.ensures c.if-not-number_valid.false,
-      passed _ _ c.placed_well.ensures c.if-not-placed_well.false,
+      passed _ _ c.number_valid.ensures (ap not c.if-not-number_valid.false),
+      passed _ _ c.placed_well.ensures (ap not c.if-not-placed_well.false),
       le-ltb _ 256 c.if-count-ge256.true,
     )
 
@@ -44,7 +45,7 @@ unfolding report_refusal
 returns c =
     rw (
       none c.before.before.before.before.before,
-      passed _ _ c.number_valid.ensures c.if-not-number_valid.false,
-      passed _ _ c.placed_well.ensures c.if-not-placed_well.false,
+      passed _ _ c.number_valid.ensures (ap not c.if-not-number_valid.false),
+      passed _ _ c.placed_well.ensures (ap not c.if-not-placed_well.false),
       lt-ltb _ 256 c.if-count-ge256.false,
     )

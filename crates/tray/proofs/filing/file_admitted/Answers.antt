@@ -13,10 +13,10 @@ use Rattle.tray.proofs.filing.file_admitted.Goals as goal
 use Rattle.tray.proofs.filing.file_admitted.Goals.{Start}
 
 abbrev After-file_reports-filed : Type 0
-After-file_reports-filed = lts.After-file_reports tie.the-claims reads.Pre reads.Post
+After-file_reports-filed = lts.After-file_reports tie.the-claims reads.Pre reads.Post tie.handed_clauses
 
 abbrev After-clear : Type 0
-After-clear = lts.After-clear tie.the-claims reads.Pre reads.Post
+After-clear = lts.After-clear tie.the-claims reads.Pre reads.Post tie.handed_clauses
 
 abbrev from-filed : After-file_reports-filed → Start
 from-filed d = d.before.before.before.before.before.before.before.before.before.before.before.before.before.before.before.before

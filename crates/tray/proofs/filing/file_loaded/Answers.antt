@@ -19,37 +19,37 @@ use Rattle.tray.proofs.filing.file_loaded.Goals as goal
 use Rattle.tray.proofs.filing.file_loaded.Goals.{Start}
 
 abbrev After-slice_known-8-1 : Type 0
-After-slice_known-8-1 = lts.After-slice_known8 tie.the-claims reads.Pre reads.Post
+After-slice_known-8-1 = lts.After-slice_known8 tie.the-claims reads.Pre reads.Post tie.handed_clauses
 
 abbrev After-all_fit-lent : Type 0
-After-all_fit-lent = lts.After-all_fit tie.the-claims reads.Pre reads.Post
+After-all_fit-lent = lts.After-all_fit tie.the-claims reads.Pre reads.Post tie.handed_clauses
 
 abbrev After-all_fit-fits : Type 0
-After-all_fit-fits = lts.After-all_fit2 tie.the-claims reads.Pre reads.Post
+After-all_fit-fits = lts.After-all_fit2 tie.the-claims reads.Pre reads.Post tie.handed_clauses
 
 abbrev In_default : Type 0
-In_default = lts.After-enum_told tie.the-claims reads.Pre reads.Post
+In_default = lts.After-enum_told tie.the-claims reads.Pre reads.Post tie.handed_clauses
 
 abbrev Then-growth : Type 0
-Then-growth = lts.Then1 tie.the-claims reads.Pre reads.Post
+Then-growth = lts.Then1 tie.the-claims reads.Pre reads.Post tie.handed_clauses
 
 abbrev After-clear : Type 0
-After-clear = lts.After-clear tie.the-claims reads.Pre reads.Post
+After-clear = lts.After-clear tie.the-claims reads.Pre reads.Post tie.handed_clauses
 
 abbrev Else-growth : Type 0
-Else-growth = lts.Else1 tie.the-claims reads.Pre reads.Post
+Else-growth = lts.Else1 tie.the-claims reads.Pre reads.Post tie.handed_clauses
 
 abbrev After-file_admitted-arg-1 : Type 0
-After-file_admitted-arg-1 = lts.After-file_admitted-arg tie.the-claims reads.Pre reads.Post
+After-file_admitted-arg-1 = lts.After-file_admitted-arg tie.the-claims reads.Pre reads.Post tie.handed_clauses
 
 abbrev After-slice_known-9-1 : Type 0
-After-slice_known-9-1 = lts.After-slice_known12 tie.the-claims reads.Pre reads.Post
+After-slice_known-9-1 = lts.After-slice_known12 tie.the-claims reads.Pre reads.Post tie.handed_clauses
 
 abbrev After-slice_known-13-1 : Type 0
-After-slice_known-13-1 = lts.After-slice_known16 tie.the-claims reads.Pre reads.Post
+After-slice_known-13-1 = lts.After-slice_known16 tie.the-claims reads.Pre reads.Post tie.handed_clauses
 
 abbrev After-struct_known-2-1 : Type 0
-After-struct_known-2-1 = lts.After-struct_known2 tie.the-claims reads.Pre reads.Post
+After-struct_known-2-1 = lts.After-struct_known2 tie.the-claims reads.Pre reads.Post tie.handed_clauses
 
 abbrev file_of : Start → File
 file_of s = lent s.args.separators.now s.args.numbers.now s.args.words.now s.args.owners.now

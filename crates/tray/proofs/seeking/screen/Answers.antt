@@ -1,6 +1,6 @@
 -- `tray::seeking::screen` meets its contract.
 use mathlib.Core.Path.{◌≡◌, sym, ap, ◌∙◌}
-use mathlib.Core.Bool.{Bool, true, ◌&&◌}
+use mathlib.Core.Bool.{Bool, true, ◌&&◌, not}
 use Prim.Native.Nat.{◌≤◌}
 use native.Mathlib.Omega.{arith}
 use lib.ListN.{length}
@@ -60,7 +60,7 @@ pub returns-then-not-number_valid : goal.returns-then-not-number_valid
 unfolding screen_refusal
 returns-then-not-number_valid c =
     let e = c.turn_away-then-not-number_valid.ensures in
-    (e.0 ∙ rw (none c.before.before.before.before, failed _ _ c.number_valid.ensures c.if-not-number_valid.true), (e.1 ∙ none-scanned _ _ _ (rw e.0 (omega arith)), rw e.1 (omega arith)))
+    (e.0 ∙ rw (none c.before.before.before.before, failed _ _ c.number_valid.ensures (ap not c.if-not-number_valid.true)), (e.1 ∙ none-scanned _ _ _ (rw e.0 (omega arith)), rw e.1 (omega arith)))
 
 well : (c : In_default)
     → (valid_multiplier (begun c.before.before.before).args.parameters.multiplier ≡ true)
@@ -76,10 +76,10 @@ pub returns-then-not-passes : goal.returns-then-not-passes
 unfolding screen_refusal scanned
 returns-then-not-passes c =
     let n = c.before.before.before in
-    (sym (rw (none n.before.before, passed _ _ n.number_valid.ensures n.if-not-number_valid.false)), (rw (← c.passes.ensures, not-true c.passes.result c.if-not-passes.true), omega arith))
+    (sym (rw (none n.before.before, passed _ _ n.number_valid.ensures (ap not n.if-not-number_valid.false))), (rw (← c.passes.ensures, not-true c.passes.result (ap not c.if-not-passes.true)), omega arith))
 
 pub returns : goal.returns
 unfolding screen_refusal scanned
 returns c =
     let n = c.before.before.before in
-    (sym (rw (none n.before.before, passed _ _ n.number_valid.ensures n.if-not-number_valid.false)), (rw (← c.passes.ensures, not-false c.passes.result c.if-not-passes.false), (well n.before.before).1.1))
+    (sym (rw (none n.before.before, passed _ _ n.number_valid.ensures (ap not n.if-not-number_valid.false))), (rw (← c.passes.ensures, not-false c.passes.result (ap not c.if-not-passes.false)), (well n.before.before).1.1))

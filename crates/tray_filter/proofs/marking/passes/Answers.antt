@@ -7,6 +7,8 @@ use Rattle.tray_filter.proofs.marking.passes.Reads as reads
 use Rattle.tray_filter.proofs.marking.passes.Lts as lts
 use Rattle.tray_filter.proofs.marking.bit_at.Reads as bit-at-reads
 use Rattle.tray_filter.proofs.marking.hash_bits.Reads as hash-bits-reads
+use mathlib.Core.Path.{ap}
+use mathlib.Core.Bool.{not}
 use Rattle.tray_filter.proofs.marking.passes.Goals as goal
 
 -- src/marking.rt:83:9
@@ -18,7 +20,7 @@ bit_at-requires c =
 -- src/marking.rt:84:9
 pub returns-then-not-bit_at : goal.returns-then-not-bit_at
 unfolding Bits·passes
-returns-then-not-bit_at c = rw (← c.hash_bits-bits.ensures.0, ← c.bit_at.ensures, not-true c.bit_at.result c.if-not-bit_at.true)
+returns-then-not-bit_at c = rw (← c.hash_bits-bits.ensures.0, ← c.bit_at.ensures, not-true c.bit_at.result (ap not c.if-not-bit_at.true))
 
 -- src/marking.rt:86:9
 pub bit_at-requires-2 : goal.bit_at-requires-2
@@ -31,7 +33,7 @@ pub returns-then-not-bit_at-2 : goal.returns-then-not-bit_at-2
 unfolding Bits·passes
 returns-then-not-bit_at-2 c =
     let h = c.hash_bits-bits.ensures in
-    rw (← h.0, ← h.1.0, ← c.bit_at.ensures, not-false c.bit_at.result c.if-not-bit_at.false, ← c.bit_at-2.ensures, not-true c.bit_at-2.result c.if-not-bit_at-2.true)
+    rw (← h.0, ← h.1.0, ← c.bit_at.ensures, not-false c.bit_at.result (ap not c.if-not-bit_at.false), ← c.bit_at-2.ensures, not-true c.bit_at-2.result (ap not c.if-not-bit_at-2.true))
 
 -- src/marking.rt:89:5
 pub bit_at-requires-3 : goal.bit_at-requires-3
@@ -44,4 +46,4 @@ pub returns : goal.returns
 unfolding Bits·passes
 returns c =
     let h = c.hash_bits-bits.ensures in
-    rw (← h.0, ← h.1.0, ← h.1.1, ← c.bit_at.ensures, not-false c.bit_at.result c.if-not-bit_at.false, ← c.bit_at-2.ensures, not-false c.bit_at-2.result c.if-not-bit_at-2.false) c.bit_at-3.ensures
+    rw (← h.0, ← h.1.0, ← h.1.1, ← c.bit_at.ensures, not-false c.bit_at.result (ap not c.if-not-bit_at.false), ← c.bit_at-2.ensures, not-false c.bit_at-2.result (ap not c.if-not-bit_at-2.false)) c.bit_at-3.ensures
