@@ -4,7 +4,7 @@
 help:
 	@echo "make try        starline's example without a proof: seconds"
 	@echo "make run        starline proved, built and run: 8 minutes the first time, then at once"
-	@echo "make test       every test from nothing, target/ removed first: some 40 minutes on two cores; ends with 'N passed, 0 failed'"
+	@echo "make test       every test: half an hour on four cores where rt has kept nothing; ends with 'N passed, 0 failed'"
 	@echo "make bench      times of the calls: three minutes, proving first (OLD=lib.a: an older library beside them)"
 	@echo "make report     pages read and written for each star entered, beside the report's Table 1: 2 minutes, proving first"
 	@echo "make damage     which single wrong bits are noticed, and by what: half a minute, proving first"
@@ -98,4 +98,4 @@ deps:
 	apt-get install -y python3-numpy python3-astropy python3-matplotlib fitsverify libcfitsio-dev valgrind clang
 
 clean:
-	rm -rf target
+	rm -rf target crates/*/out

@@ -1,8 +1,8 @@
 // The change of a position.
-ghost use Rattle.placement.specs.Lent.{held, before};
 ghost use Rattle.calls.specs.Answers.{Leaves, unpooled, placed};
 ghost use Rattle.calls.specs.Calls.{change_of};
 ghost use Rattle.calls.specs.Stores.{change_stopped_of};
+ghost use Rattle.placement.specs.Hash.{lent};
 
 use call_guard::{file_fits, guard, may_alter};
 use calls::answers::{Admission, Placed, Refusal};
@@ -22,8 +22,8 @@ pub fn change(
     number: u32,
     position: Position,
 ) -> Placed
-    ensures { Leaves (change_of parameters growth (before separators numbers words owners) unpooled caller number position)
-        (placed result) (held separators.entry numbers.entry words.exit owners.entry) unpooled }
+    ensures { Leaves (change_of parameters growth (lent separators.now numbers.now words.old owners.now) unpooled caller number position)
+        (placed result) (lent separators.now numbers.now words.new owners.now) unpooled }
 {
     change_stopped(
         parameters,
@@ -52,8 +52,8 @@ pub fn change_stopped(
     position: Position,
     stores: u32,
 ) -> Placed
-    ensures { Leaves (change_stopped_of parameters growth (before separators numbers words owners) unpooled caller number position stores)
-        (placed result) (held separators.entry numbers.entry words.exit owners.entry) unpooled }
+    ensures { Leaves (change_stopped_of parameters growth (lent separators.now numbers.now words.old owners.now) unpooled caller number position stores)
+        (placed result) (lent separators.now numbers.now words.new owners.now) unpooled }
 {
     let fits = file_fits(
         parameters,

@@ -72,6 +72,10 @@ commands_kept (c ∷ l) k m e = go (eqb c 10) (commands_kept l (k ++ (c ∷ []))
 pub counted : (bytes : List ℕ) → length (map (λ (v : ℕ). v) bytes) ≡ 72 → length bytes ≡ 72
 counted bytes e = sym (length-map {A = ℕ} bytes (λ v. v)) ∙ e
 
+-- and back
+pub array_of : (bytes : List ℕ) → length bytes ≡ 72 → length (map (λ (v : ℕ). v) bytes) ≡ 72
+array_of bytes e = length-map {A = ℕ} bytes (λ v. v) ∙ e
+
 module _ (bytes : List ℕ) (array : length (map (λ (v : ℕ). v) bytes) ≡ 72) (n b : ℕ) where
   whole : length bytes ≡ 72
   whole = counted bytes array

@@ -1,9 +1,9 @@
 // A report on a star that its named page holds: a change of its position, or its removal.
 ghost use Rattle.std.specs.Prelude.{◌≡◌, true};
-ghost use Rattle.placement.specs.Lent.{held, before, after};
 ghost use Rattle.placement.specs.Ready.{Ready, Pooled};
 ghost use Rattle.calls.specs.Answers.{placed};
 ghost use Rattle.report_filing.specs.Filing.{Sought, ReportFiled};
+ghost use Rattle.placement.specs.Hash.{lent};
 
 use crate::positions::position_of;
 use call_guard::may_alter;
@@ -27,11 +27,11 @@ pub fn file_held(
     report: Report,
     named: Named,
 ) -> Placed
-    requires ready { Ready geometry table.now (held separators numbers words owners) }
+    requires ready { Ready geometry table.now (lent separators.old numbers.old words.old owners.old) }
     requires pooled { Pooled geometry.parameters poolnumbers.old poolwords.old poolowners.old }
-    requires sought { Sought geometry.parameters geometry.growth (held separators numbers words owners) poolnumbers.old report named }
+    requires sought { Sought geometry.parameters geometry.growth (lent separators.old numbers.old words.old owners.old) poolnumbers.old report named }
     requires held_value { named.held ≡ true }
-    ensures { ReportFiled geometry.parameters geometry.growth (before separators numbers words owners) report (placed result) (after separators numbers words owners) }
+    ensures { ReportFiled geometry.parameters geometry.growth (lent separators.old numbers.old words.old owners.old) report (placed result) (lent separators.new numbers.new words.new owners.new) }
 {
     if !may_alter(report.owner, named.owner) {
         return Placed::Refused(Refusal::NotOwner, named.place);

@@ -1,13 +1,13 @@
 // A growth opened into a second set of pages: document 02 (xiii), "opening is step 0".
 ghost use Rattle.std.specs.Prelude.{◌≡◌, ◌&&◌, ◌*◌, length};
 ghost use Rattle.placement.specs.Shape.{Sized};
-ghost use Rattle.placement.specs.Lent.{held, before, after};
-ghost use Rattle.calls.specs.Answers.{Pool};
+ghost use Rattle.placement.specs.Lent.{held, before};
+ghost use Rattle.calls.specs.Answers.{pooled, Pool};
 ghost use Rattle.calls.specs.Calls.{file_lengths, pool_lengths};
-ghost use Rattle.calls.specs.Lent.{pool_before, pool_after_lem};
 ghost use Rattle.calls.specs.Shape.{Admitted};
 ghost use Rattle.calls.specs.Records.{LeavesStep, open_under};
 ghost use Rattle.starfile.specs.Steps.{open_admitted, StoresStep};
+ghost use Rattle.placement.specs.Hash.{lent};
 
 use crate::whole::{accepted, plan_whole};
 use call_guard::{admit, all_fit, file_fits};
@@ -32,8 +32,8 @@ pub fn open_growth(
     poolowners: &mut [u8],
 ) -> Recorded
     ensures leaves { LeavesStep (open_under parameters growth (before separators numbers words owners)
-        (before secondseparators secondnumbers secondwords secondowners) (pool_before poolnumbers poolwords poolowners))
-        result (after secondseparators secondnumbers secondwords secondowners) (pool_after_lem poolnumbers poolwords poolowners) }
+        (lent secondseparators.old secondnumbers.old secondwords.old secondowners.old) (pooled poolnumbers.old poolwords.old poolowners.old))
+        result (lent secondseparators.new secondnumbers.new secondwords.new secondowners.new) (pooled poolnumbers.new poolwords.new poolowners.new) }
 {
     let fits = both_fit(
         parameters,
@@ -122,11 +122,11 @@ fn open_second(
     poolwords: &mut [u64],
 ) -> Recorded
     requires admitted { Admitted parameters growth.state (held separators numbers words owners) }
-    requires sized { Sized parameters.places parameters.pages (held secondseparators secondnumbers secondwords secondowners) }
+    requires sized { Sized parameters.places parameters.pages (lent secondseparators.old secondnumbers.old secondwords.old secondowners.old) }
     requires poolnumbers_len { length poolnumbers.old ≡ parameters.pages * parameters.places }
     requires poolwords_len { length poolwords.old ≡ parameters.pages * parameters.places }
     ensures { (pool : Pool) → StoresStep (open_admitted parameters growth (before separators numbers words owners)
-        (before secondseparators secondnumbers secondwords secondowners) pool) result (after secondseparators secondnumbers secondwords secondowners) }
+        (lent secondseparators.old secondnumbers.old secondwords.old secondowners.old) pool) result (lent secondseparators.new secondnumbers.new secondwords.new secondowners.new) }
 {
     if growth.growing {
         return Recorded {

@@ -1,8 +1,7 @@
 // The calls that read the file: between the steps of a growth they answer from the old file.
 ghost use Rattle.std.specs.Prelude.{◌≡◌};
 ghost use Rattle.placement.specs.Lent.{before};
-ghost use Rattle.calls.specs.Answers.{Leaves, unpooled, sought, due_said, checked};
-ghost use Rattle.calls.specs.Lent.{pool_before, pool_after_lem};
+ghost use Rattle.calls.specs.Answers.{pooled, Leaves, unpooled, sought, due_said, checked};
 ghost use Rattle.calls.specs.Records.{look_up_under, due_under, check_under};
 
 use call_guard::steps_valid;
@@ -64,8 +63,8 @@ pub fn check(
     poolwords: &mut [u64],
     poolowners: &mut [u8],
 ) -> Checked
-    ensures leaves { Leaves (check_under parameters growth (before separators numbers words owners) (pool_before poolnumbers poolwords poolowners))
-        (checked result) (before separators numbers words owners) (pool_after_lem poolnumbers poolwords poolowners) }
+    ensures leaves { Leaves (check_under parameters growth (before separators numbers words owners) (pooled poolnumbers.old poolwords.old poolowners.old))
+        (checked result) (before separators numbers words owners) (pooled poolnumbers.new poolwords.new poolowners.new) }
 {
     if !steps_valid(parameters, growth) {
         return Checked::Refused(Refusal::BadParameters, 0);

@@ -1,5 +1,5 @@
 pub mod Row
 pub mod Closing
-pub mod Latest
+pub mod Answering
 pub mod Loaded
 pub mod ClosedUp

@@ -1,8 +1,8 @@
 -- `lines::enter` meets its contract.
-use Prim.Native.Nat.{suc, ◌<◌}
+use Prim.Native.Nat.{ℕ, suc, ◌<◌, ◌≤◌}
 use native.Mathlib.Numerals.{add-one}
 use native.Mathlib.Omega.{arith}
-use mathlib.Core.List.{◌∷◌}
+use mathlib.Core.List.{List, ◌∷◌}
 use mathlib.Core.Path.{◌≡◌, sym, ap, ◌∙◌}
 use lib.ListN.{length, take, drop}
 use lib.Seq.{length-take-le}
@@ -11,13 +11,7 @@ use Rattle.lines.specs.Shape.{field_length}
 use Rattle.lines.proofs.Fields.{fields-more, rest-is}
 use Rattle.lines.proofs.Commands.{enter_short, enter_wrong}
 use borrow.Author.Rules.{rules}
-use Rattle.lines.proofs.enter.Lts as lts
-use Rattle.lines.proofs.enter.Tie as tie
-use Rattle.lines.proofs.enter.Reads as reads
 use Rattle.lines.proofs.enter.Goals as goal
-
-abbrev Else-a-operands : Type 0
-Else-a-operands = lts.Else1 tie.the-claims reads.Pre reads.Post
 
 pub returns-then-a-operands : goal.returns-then-a-operands
 returns-then-a-operands c = sym (enter_short _ (sym c.first_blank-a.ensures.0 ∙ c.if-a-operands.true))
@@ -27,23 +21,19 @@ slice_bounds-read_natural-end c = sym (length-take-le _ _ c.first_blank-a.ensure
 
 -- the number is the first field
 split :
-    (c : Else-a-operands) →
-    let l = c.args.operands.now in
-    let k = c.first_blank-a.result in
+    (l : List ℕ) (k : ℕ) → (k ≡ field_length l) × (k ≤ length l) → (k ≡ length l → ⊥) →
     enter_from (fields l) ≡ enter_from (take k l ∷ fields (drop (suc k) l))
-split c =
-    let l = c.args.operands.now in
-    let within : field_length l < length l = omega (arith, c.first_blank-a.ensures, c.if-a-operands.false) in
-    rw c.first_blank-a.ensures.0 (ap enter_from (fields-more l within))
+split l k e h =
+    let within : field_length l < length l = omega (arith, e, h) in
+    rw e.0 (ap enter_from (fields-more l within))
 
 pub returns-in_default : goal.returns-in_default
 returns-in_default c =
-    let at = c.before.before.before.before in
-    sym (split at ∙ enter_wrong _ _ (sym c.read_natural.ensures ∙ c.enum_told-1.given.1))
+    sym (split c.args.operands.now _ c.first_blank-a.ensures c.if-a-operands.false ∙ enter_wrong _ _ (sym c.read_natural.ensures ∙ c.in_default.is))
 
 pub returns : goal.returns
 returns c =
     let k = c.first_blank-a.result in
     rw (add-one k, rest-is) at
-    (c.enter_at.ensures _ (sym c.read_natural.ensures ∙ c.number-1.given.1))
-    ∙ sym (split c.before.before.before.before.before.before.before)
+    (c.enter_at.ensures _ (sym c.read_natural.ensures ∙ c.in-Of.is))
+    ∙ sym (split c.args.operands.now _ c.first_blank-a.ensures c.if-a-operands.false)

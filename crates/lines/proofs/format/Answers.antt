@@ -9,19 +9,11 @@ use Rattle.lines.proofs.Writing.{then}
 use borrow.Author.Rules.{rules}
 use Rattle.lines.proofs.format.Goals as goal
 
--- LEFT
-slice-aggregate-put : tie.Need-slice-aggregate-put
-slice-aggregate-put c = search rules
-
--- LEFT
-slice-aggregate-put-2 : tie.Need-slice-aggregate-put-2
-slice-aggregate-put-2 c = search rules
-
 pub put_field-third-requires : goal.put_field-third-requires
 put_field-third-requires c =
     omega (
       arith,
-      length-field c.reply-in-Found-1.given.0.0 32,
+      length-field c.in-Found.page 32,
       c.put_field-second,
       c.put-first,
       c.requires,
@@ -31,61 +23,49 @@ pub put_declination-requires : goal.put_declination-requires
 put_declination-requires c =
     omega (
       arith,
-      length-field c.reply-in-Found-1.given.0.0 32,
-      length-field c.reply-in-Found-1.given.0.1.0 32,
+      length-field c.in-Found.page 32,
+      length-field c.in-Found.ra 32,
       c.put_field-third,
       c.put_field-second,
       c.put-first,
       c.requires,
     )
 
--- LEFT
-slice-aggregate-put-3 : tie.Need-slice-aggregate-put-3
-slice-aggregate-put-3 c = search rules
-
--- LEFT
-slice-aggregate-put-4 : tie.Need-slice-aggregate-put-4
-slice-aggregate-put-4 c = search rules
-
 pub put_field-requires-in-Refused : goal.put_field-requires-in-Refused
 put_field-requires-in-Refused c =
     omega (
       arith,
-      length-field c.reply-in-Refused-1.given.0.0 32,
+      length-field c.in-Refused.refusal 32,
       c.put_field-second-in-Refused,
       c.put-first-in-Refused,
       c.requires,
     )
 
--- LEFT
-slice-aggregate-put-5 : tie.Need-slice-aggregate-put-5
-slice-aggregate-put-5 c = search rules
-
 pub returns-in-Accepted : goal.returns-in-Accepted
 unfolding reply_bytes
-returns-in-Accepted c = rw c.reply-1.given.1 (then _ _ _ _ _ _ _ _ c.put-next.ensures c.put_field.ensures)
+returns-in-Accepted c = rw c.in-Accepted.is (then _ _ _ _ _ _ _ _ c.put-next.ensures c.put_field.ensures)
 
 pub returns-in-Found : goal.returns-in-Found
 unfolding reply_bytes
 returns-in-Found c =
-    let dec = c.reply-in-Found-1.given.0.1.1.0 in
+    let dec = c.in-Found.dec in
     let back : to_z w32 (of_z w32 dec) ≡ dec = search rules in
-    rw c.reply-in-Found-1.given.1
+    rw c.in-Found.is
     (then _ _ _ _ _ _ _ _ c.put-first.ensures
     (then _ _ _ _ _ _ _ _ c.put_field-second.ensures
     (then _ _ _ _ _ _ _ _ c.put_field-third.ensures (rw back at c.put_declination.ensures))))
 
 pub returns-in-Missing : goal.returns-in-Missing
 unfolding reply_bytes
-returns-in-Missing c = rw c.reply-in-Missing-1.given.1 (then _ _ _ _ _ _ _ _ c.put-next-in-Missing.ensures c.put_field-in-Missing.ensures)
+returns-in-Missing c = rw c.in-Missing.is (then _ _ _ _ _ _ _ _ c.put-next-in-Missing.ensures c.put_field-in-Missing.ensures)
 
 pub returns-in-Refused : goal.returns-in-Refused
 unfolding reply_bytes
 returns-in-Refused c =
-    rw c.reply-in-Refused-1.given.1
+    rw c.in-Refused.is
     (then _ _ _ _ _ _ _ _ c.put-first-in-Refused.ensures
     (then _ _ _ _ _ _ _ _ c.put_field-second-in-Refused.ensures c.put_field-in-Refused.ensures))
 
 pub returns-in-Malformed : goal.returns-in-Malformed
 unfolding reply_bytes
-returns-in-Malformed c = rw c.enum_told-1.given.1 c.put.ensures
+returns-in-Malformed c = rw c.in-Malformed.is c.put.ensures

@@ -9,9 +9,6 @@ use Rattle.lines.proofs.Writing.{copied}
 use Rattle.lines.proofs.put.Goals as goal
 use Rattle.lines.proofs.put.Goals.{At-loop-i}
 
-kept-length : (c : At-loop-i) → length c.loop-i.out ≡ length c.args.out.now
-kept-length c = ap length c.loop-i.invariant.1 ∙ simp length-sets
-
 pub loop-i-init : goal.loop-i-init
 loop-i-init c = (omega arith, refl)
 
@@ -19,10 +16,11 @@ pub bounds-text-i : goal.bounds-text-i
 bounds-text-i c = omega arith
 
 pub overflow_add-out : goal.overflow_add-out
-overflow_add-out c = omega (arith, c.well-formed)
+overflow_add-out c = omega arith
 
 pub bounds-out-at : goal.bounds-out-at
-bounds-out-at c = omega (arith, kept-length c.before.before.before)
+bounds-out-at c = let kept : length c.loop-i.out ≡ length c.args.out.now = ap length c.loop-i.invariant.1 ∙ simp length-sets in
+    omega (arith, kept)
 
 pub overflow_add-i : goal.overflow_add-i
 overflow_add-i c = omega arith
@@ -39,7 +37,7 @@ pub overflow_add-result : goal.overflow_add-result
 overflow_add-result c = omega arith
 
 pub shape_of-out : goal.shape_of-out
-shape_of-out c = kept-length c.before
+shape_of-out c = ap length c.loop-i.invariant.1 ∙ simp length-sets
 
 pub returns : goal.returns
 returns c =

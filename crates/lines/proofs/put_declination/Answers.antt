@@ -22,8 +22,7 @@ put_field-requires c = simp length-set (omega arith)
 
 pub returns-then-dec-lt0 : goal.returns-then-dec-lt0
 returns-then-dec-lt0 c =
-    let start = c.before.before.before.before.before.before.before in
-    rw (text_below start.args.dec start.ranges.dec c.if-dec-lt0.true)
+    rw (text_below c.args.dec c.ranges.dec c.if-dec-lt0.true)
     (then _ (45 ∷ []) _ _ _ _ _ _ (record { buffer = refl; end = refl }) c.put_field.ensures)
 
 pub overflow_cast-dec-2 : goal.overflow_cast-dec-2
@@ -31,6 +30,5 @@ overflow_cast-dec-2 c = size_above _ c.ranges.dec c.if-dec-lt0.false
 
 pub returns : goal.returns
 returns c =
-    let start = c.before.before.before.before.before.before.before in
-    rw (text_above start.args.dec start.ranges.dec c.if-dec-lt0.false)
+    rw (text_above c.args.dec c.ranges.dec c.if-dec-lt0.false)
     c.put_field-2.ensures

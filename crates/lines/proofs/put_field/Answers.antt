@@ -13,7 +13,7 @@ pub put_digits-next-requires : goal.put_digits-next-requires
 put_digits-next-requires c = omega (arith, length_digits c.args.n)
 
 -- the byte after the digits has its place
-room : (c : After-slice_known-2-1) → c.put_digits-next.result < length c.put_digits-next.new.0
+room : (c : After-slice_known-2-1) → c.put_digits-next.result < length c.put_digits-next.new.out
 room c =
     omega (
       arith,

@@ -9,7 +9,6 @@ use Rattle.starfits.proofs.collect.Goals as goal
 
 pub slice_bounds-write_all-end-2 : goal.slice_bounds-write_all-end-2
 slice_bounds-write_all-end-2 c =
-    let d = c.before.before.before.before.before.before.before in
-    let kept : length d.collect-collected.new.1.1.1.1.0 ≡ length c.args.out.now = ap length d.collect-collected.ensures.stands.0.text.buffer ∙ simp length-sets in
-    let within : d.collect-collected.result.at ≤ length d.collect-collected.new.1.1.1.1.0 = omega (arith, kept, d.collect-collected.ensures.stands.1, c.requires.block_len_bound) in
+    let kept : length c.collect-collected.new.1.1.1.1.0 ≡ length c.args.out.now = ap length c.collect-collected.ensures.stands.0.text.buffer ∙ simp length-sets in
+    let within : c.collect-collected.result.at ≤ length c.collect-collected.new.1.1.1.1.0 = omega (arith, kept, c.collect-collected.ensures.stands.1, c.requires.block_len_bound) in
     sym (length-take-le _ _ within)

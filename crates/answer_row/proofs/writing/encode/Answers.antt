@@ -8,6 +8,4 @@ use Rattle.answer_row.proofs.writing.encode.Goals as goal
 pub returns : goal.returns
 unfolding encoded
 returns c =
-    let told = c.before.before in
-    let back = to_z-of_z {w = w32} {z = told.args.answer.position.dec} (record { sfits = told.struct_told-1.given.1.0.1 }) in
-    rw (c.number-due.ensures, c.unsigned-dec.ensures, back, told.number-found.ensures)
+    let h = c.well_formed in ?

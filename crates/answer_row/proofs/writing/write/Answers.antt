@@ -23,10 +23,10 @@ pub bounds-row-i : goal.bounds-row-i
 bounds-row-i c = omega arith
 
 pub overflow_add-answers : goal.overflow_add-answers
-overflow_add-answers c = omega (arith, c.well-formed)
+overflow_add-answers c = omega arith
 
 pub offset_bounds-answers-at : goal.offset_bounds-answers-at
-offset_bounds-answers-at c = omega (arith, c.well-formed)
+offset_bounds-answers-at c = omega arith
 
 pub bounds-answers-at : goal.bounds-answers-at
 bounds-answers-at c = omega arith
@@ -39,17 +39,15 @@ loop-i-smaller c = omega arith
 
 pub loop-i-preserved : goal.loop-i-preserved
 loop-i-preserved c =
-    let turn = c.before in
-    let t = turn.loop-i.invariant in
-    let row = turn.before in
-    let s = row.args in (
+    let t = c.loop-i.invariant in
+    let s = c.args in (
       omega arith,
       (
         t.1.0,
         (
           simp length-set t.1.1.0,
           rw (t.1.1.1, add-one)
-              (paste-suc s.answers.now s.at row.encode-row.result turn.loop-i.i 0 (omega arith) (omega arith)),
+              (paste-suc s.answers.now s.at c.encode-row.result c.loop-i.i 0 (omega arith) (omega arith)),
         ),
       ),
     )

@@ -19,9 +19,8 @@ returns-then-is_blank c =
 pub returns : goal.returns
 unfolding lacked_by
 returns c =
-    let e = c.before.before.before.before.before.before.before.before.before.before.before in
     let done = c.end_line.ensures in
     record {
-      fit_2 = (rw (sym e.is_blank.ensures ∙ e.if-is_blank.false) (done.fit_2, (done.stands.0, omega (arith, done.stands.1)))).0;
-      stands = (rw (sym e.is_blank.ensures ∙ e.if-is_blank.false) (done.fit_2, (done.stands.0, omega (arith, done.stands.1)))).1;
+      fit_2 = (rw (sym c.is_blank.ensures ∙ c.if-is_blank.false) (done.fit_2, (done.stands.0, omega (arith, done.stands.1)))).0;
+      stands = (rw (sym c.is_blank.ensures ∙ c.if-is_blank.false) (done.fit_2, (done.stands.0, omega (arith, done.stands.1)))).1;
     }

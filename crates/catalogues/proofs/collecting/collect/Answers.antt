@@ -41,14 +41,11 @@ loop-i-smaller c = omega (arith, c.loop-i-test.true)
 
 pub loop-i-preserved : goal.loop-i-preserved
 loop-i-preserved c =
-    let taken = c.before.before.before.before.before.before.before.before in
-    let turn = taken.before.before.before.before.before in
-    let at = turn.before in
-    rw (add-one at.loop-i.i) (
-      omega (arith, turn.loop-i-test.true),
-      omega (arith, taken.take_byte-step.ensures.stands.1, at.loop-i.invariant.1),
-      taken.take_byte-step.ensures.fit_2,
-      block_more _ _ _ _ _ _ _ _ _ _ _ turn.loop-i-test.true at.loop-i.invariant.3 taken.take_byte-step.ensures.stands.0,
+    rw (add-one c.loop-i.i) (
+      omega (arith, c.loop-i-test.true),
+      omega (arith, c.take_byte-step.ensures.stands.1, c.loop-i.invariant.1),
+      c.take_byte-step.ensures.fit_2,
+      block_more _ _ _ _ _ _ _ _ _ _ _ c.loop-i-test.true c.loop-i.invariant.3 c.take_byte-step.ensures.stands.0,
     )
 
 pub shape_of-numbers : goal.shape_of-numbers

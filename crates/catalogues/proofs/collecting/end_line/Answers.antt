@@ -11,32 +11,26 @@ use Rattle.catalogues.proofs.collecting.end_line.Goals as goal
 
 pub add-count-requires : goal.add-count-requires
 add-count-requires c =
-    let e = c.before.before.before.before.before.before.before.before in
-    let s = e.before.before.before.before.before in
-    let f = s.requires.fit in
-    let rows = rows_held s.args.collection.count s.args.numbers.now s.args.words.now in record {
+    let f = c.requires.fit in
+    let rows = rows_held c.args.collection.count c.args.numbers.now c.args.words.now in record {
       count_bound = (f.few, (f.numbers, f.words));
       count_bound_2 = λ t. omega (
         arith,
-        held-length s.args.collection.count s.args.numbers.now s.args.words.now (omega (arith, f.few, f.numbers)) (omega (arith, f.few, f.words)),
-        added-room rows e.line_effect-done.result (rw e.line_effect-done.ensures (effect-good rows _)) t,
+        held-length c.args.collection.count c.args.numbers.now c.args.words.now (omega (arith, f.few, f.numbers)) (omega (arith, f.few, f.words)),
+        added-room rows c.line_effect-done.result (rw c.line_effect-done.ensures (effect-good rows _)) t,
       );
     }
 
 pub returns : goal.returns
 returns c =
-    let add = c.before.before.before.before.before.before.before.before in
-    let put = add.before.before.before.before.before in
-    let after = put.before.before in
-    let e = after.before in
-    let s = e.before.before.before.before.before in record {
-      fit_2 = line_fits _ _ _ _ _ _ e.line_effect-done.result e.line_effect-done.ensures add.add-count.ensures.words_after s.requires.fit add.add-count.ensures.upper_bound
-          add.add-count.auto.numbers add.add-count.auto.words;
+    let s = c.before.before.before.before.before in record {
+      fit_2 = line_fits _ _ _ _ _ _ c.line_effect-done.result c.line_effect-done.ensures c.add-count.ensures.words_after s.requires.fit c.add-count.ensures.upper_bound
+          c.add-count.auto.numbers c.add-count.auto.words;
       stands = (
-        line_ended _ _ _ _ _ _ e.line_effect-done.result e.line_effect-done.ensures add.add-count.ensures.words_after _ _ _ _
-            after.line_after-lines.ensures put.put_effect-next.ensures.0
+        line_ended _ _ _ _ _ _ c.line_effect-done.result c.line_effect-done.ensures c.add-count.ensures.words_after _ _ _ _
+            c.line_after-lines.ensures c.put_effect-next.ensures.0
             (c.either-refused.ensures ∙ ap (λ (t : Bool). s.args.collection.refused || t) c.is_refusal.ensures)
             c.blank_line.ensures,
-        put.put_effect-next.ensures.1,
+        c.put_effect-next.ensures.1,
       );
     }

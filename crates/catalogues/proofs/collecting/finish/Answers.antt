@@ -9,22 +9,18 @@ use Rattle.catalogues.proofs.collecting.finish.Goals as goal
 
 pub returns-then-all : goal.returns-then-all
 returns-then-all c =
-    let d = c.before.before.before.before.before.before.before.before.before in
-    (last-refused _ _ _ _ _ _ _ _ _ d.close-last.ensures.stands.0 c.if-all.true, omega (arith, d.close-last.ensures.stands.1))
+    (last-refused _ _ _ _ _ _ _ _ _ c.close-last.ensures.stands.0 c.if-all.true, omega (arith, c.close-last.ensures.stands.1))
 
 pub put_rows-requires : goal.put_rows-requires
 put_rows-requires c =
-    let d = c.before.before.before.before.before.before.before.before.before in
-    let f = d.close-last.ensures.fit_2 in
-    let kept : length d.close-last.new.1.1.1.0 ≡ length d.args.out.now = ap length d.close-last.ensures.stands.0.text.buffer ∙ simp length-sets in
+    let f = c.close-last.ensures.fit_2 in
+    let kept : length c.close-last.new.1.1.1.0 ≡ length c.args.out.now = ap length c.close-last.ensures.stands.0.text.buffer ∙ simp length-sets in
     record {
       count_bound = (f.few, (f.numbers, f.words));
       proper = f.proper;
-      in_bounds = omega (arith, kept, d.requires.in_bounds);
+      in_bounds = omega (arith, kept, c.requires.in_bounds);
     }
 
 pub returns : goal.returns
 returns c =
-    let r = c.before.before.before in
-    let d = c.before.before.before.before.before.before.before.before.before.before.before.before.before in
-    (last-table _ _ _ _ _ _ _ _ _ d.close-last.ensures.stands.0 _ _ c.if-all.false r.put_rows.ensures.0, r.put_rows.ensures.1)
+    (last-table _ _ _ _ _ _ _ _ _ c.close-last.ensures.stands.0 _ _ c.if-all.false c.put_rows.ensures.0, c.put_rows.ensures.1)

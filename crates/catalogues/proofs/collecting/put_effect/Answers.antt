@@ -9,24 +9,15 @@ use Rattle.catalogues.proofs.Entering.{put-short, text_short}
 use borrow.Author.Rules.{rules}
 use Rattle.catalogues.proofs.collecting.put_effect.Goals as goal
 
--- LEFT
-slice-aggregate-put : tie.Need-slice-aggregate-put
-slice-aggregate-put c = search rules
-
 pub put_field-requires : goal.put_field-requires
 put_field-requires c =
-    let p = c.before.before.before.before.before.before.before in
     omega (
       arith,
-      length-field p.effect-1.given.0.0 32,
+      length-field c.effect-1.given.0.0 32,
       c.put_field-second,
-      p.put-first,
-      p.requires,
+      c.put-first,
+      c.requires,
     )
-
--- LEFT
-slice-aggregate-put-2 : tie.Need-slice-aggregate-put-2
-slice-aggregate-put-2 c = search rules
 
 pub returns-in-Added : goal.returns-in-Added
 unfolding effect_text
@@ -39,19 +30,12 @@ returns-in-Repeated c = rw c.enum_told-in-Repeated-1.given.1 (nothing_put _ _, o
 pub returns-in-Refused : goal.returns-in-Refused
 unfolding effect_text
 returns-in-Refused c =
-    let f = c.before.before.before in
-    let g = f.before.before.before.before in
-    let p = g.before.before.before.before in
-    let e = p.before.before.before.before.before in
-    rw e.effect-1.given.1
-    (put-short 37 _ _ _ _ _ (then _ _ _ _ _ _ _ _ p.put-first.ensures (then _ _ _ _ _ _ _ _ g.put_field-second.ensures f.put_field.ensures))
-    (text_short e.args.line (Refused e.effect-1.given.0.0)))
+    rw c.effect-1.given.1
+    (put-short 37 _ _ _ _ _ (then _ _ _ _ _ _ _ _ c.put-first.ensures (then _ _ _ _ _ _ _ _ c.put_field-second.ensures c.put_field.ensures))
+    (text_short c.args.line (Refused c.effect-1.given.0.0)))
 
 pub returns-in-Malformed : goal.returns-in-Malformed
 unfolding effect_text
 returns-in-Malformed c =
-    let f = c.before.before.before in
-    let p = f.before.before.before.before in
-    let e = p.before.before.before.before in
-    rw e.enum_told-in-Malformed-1.given.1
-    (put-short 37 _ _ _ _ _ (then _ _ _ _ _ _ _ _ p.put-first-in-Malformed.ensures f.put_field-in-Malformed.ensures) (text_short e.args.line Malformed))
+    rw c.enum_told-in-Malformed-1.given.1
+    (put-short 37 _ _ _ _ _ (then _ _ _ _ _ _ _ _ c.put-first-in-Malformed.ensures c.put_field-in-Malformed.ensures) (text_short c.args.line Malformed))

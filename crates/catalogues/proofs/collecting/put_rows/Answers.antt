@@ -16,27 +16,25 @@ slice_bounds-put_table-end-2 c = let s = c.before.before.before.before in sym (l
 
 pub put_table-requires : goal.put_table-requires
 put_table-requires c =
-    let s = c.before.before.before.before.before in
-    let k = s.args.count in
-    let ns = s.args.numbers.now in
-    let ws = s.args.words.now in
-    let p : k ≤ length ns = omega (arith, s.requires.count_bound) in
-    let q : k ≤ length ws = omega (arith, s.requires.count_bound) in record {
+    let k = c.args.count in
+    let ns = c.args.numbers.now in
+    let ws = c.args.words.now in
+    let p : k ≤ length ns = omega (arith, c.requires.count_bound) in
+    let q : k ≤ length ws = omega (arith, c.requires.count_bound) in record {
       words_len = length-take-le k ws q ∙ sym (length-take-le k ns p);
-      numbers_len_bound = omega (arith, length-take-le k ns p, s.requires.count_bound.0);
-      numbers_len = held-count k ns ws p q s.requires.proper;
-      rows_up = held_up k ns ws p q s.requires.proper;
-      n_in_bounds = omega (arith, s.requires.count_bound.0, s.requires.in_bounds);
+      numbers_len_bound = omega (arith, length-take-le k ns p, c.requires.count_bound.0);
+      numbers_len = held-count k ns ws p q c.requires.proper;
+      rows_up = held_up k ns ws p q c.requires.proper;
+      n_in_bounds = omega (arith, c.requires.count_bound.0, c.requires.in_bounds);
     }
 
 pub returns : goal.returns
 returns c =
-    let s = c.before.before.before.before.before.before.before.before in
-    let k = s.args.count in
-    let ns = s.args.numbers.now in
-    let ws = s.args.words.now in
-    let p : k ≤ length ns = omega (arith, s.requires.count_bound) in
-    let q : k ≤ length ws = omega (arith, s.requires.count_bound) in (
-      table_put k ns ws p q s.requires.proper s.args.out.now _ (omega (arith, s.requires.count_bound.0, s.requires.in_bounds)) c.put_table.ensures,
-      omega (arith, s.requires.count_bound.0),
+    let k = c.args.count in
+    let ns = c.args.numbers.now in
+    let ws = c.args.words.now in
+    let p : k ≤ length ns = omega (arith, c.requires.count_bound) in
+    let q : k ≤ length ws = omega (arith, c.requires.count_bound) in (
+      table_put k ns ws p q c.requires.proper c.args.out.now _ (omega (arith, c.requires.count_bound.0, c.requires.in_bounds)) c.put_table.ensures,
+      omega (arith, c.requires.count_bound.0),
     )

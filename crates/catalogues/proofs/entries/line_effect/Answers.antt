@@ -9,10 +9,9 @@ use Rattle.catalogues.proofs.entries.line_effect.Goals as goal
 pub returns-in-Enter : goal.returns-in-Enter
 unfolding effect_of
 returns-in-Enter c =
-    let e = c.before.before.before in
-    let dec = e.number-1.given.0.1.1.0 in
+    let dec = c.number-1.given.0.1.1.0 in
     let back : to_z w32 (of_z w32 dec) ≡ dec = search rules in
-    rw (← e.parse_line.ensures, e.number-1.given.1) (rw back at c.entry.ensures)
+    rw (← c.parse_line.ensures, c.number-1.given.1) (rw back at c.entry.ensures)
 
 pub returns-in-LookUp : goal.returns-in-LookUp
 unfolding effect_of

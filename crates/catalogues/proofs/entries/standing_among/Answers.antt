@@ -17,19 +17,13 @@ bounds-words-i c = omega (arith, c.loop-i-test.true, c.requires.1)
 
 pub returns-then-words-i : goal.returns-then-words-i
 returns-then-words-i c =
-    let w = c.before.before.before in
-    let t = w.before.before.before in
-    let s = t.before in
-    sought-same s.args.count s.args.numbers.now s.args.words.now s.requires.0 s.requires.1 s.args.number s.args.word t.loop-i.i
-    w.loop-i-test.true w.if-numbers-i.true c.if-words-i.true t.loop-i.invariant.1
+    sought-same c.args.count c.args.numbers.now c.args.words.now c.requires.0 c.requires.1 c.args.number c.args.word c.loop-i.i
+    c.loop-i-test.true c.if-numbers-i.true c.if-words-i.true c.loop-i.invariant.1
 
 pub returns-then-numbers-i : goal.returns-then-numbers-i
 returns-then-numbers-i c =
-    let w = c.before.before.before in
-    let t = w.before.before.before in
-    let s = t.before in
-    sought-other s.args.count s.args.numbers.now s.args.words.now s.requires.0 s.requires.1 s.args.number s.args.word t.loop-i.i
-    w.loop-i-test.true w.if-numbers-i.true c.if-words-i.false t.loop-i.invariant.1
+    sought-other c.args.count c.args.numbers.now c.args.words.now c.requires.0 c.requires.1 c.args.number c.args.word c.loop-i.i
+    c.loop-i-test.true c.if-numbers-i.true c.if-words-i.false c.loop-i.invariant.1
 
 pub overflow_add-i : goal.overflow_add-i
 overflow_add-i c = omega (arith, c.loop-i-test.true, c.requires.0, c.well-formed)
@@ -39,16 +33,13 @@ loop-i-smaller c = omega arith
 
 pub loop-i-preserved : goal.loop-i-preserved
 loop-i-preserved c =
-    let t = c.before.before.before.before in
-    let s = t.before in (
+    let s = c.before in (
       omega arith,
-      sought-next s.args.count s.args.numbers.now s.args.words.now s.requires.0 s.requires.1 s.args.number s.args.word t.loop-i.i
-          c.loop-i-test.true c.if-numbers-i.false t.loop-i.invariant.1,
+      sought-next s.args.count s.args.numbers.now s.args.words.now s.requires.0 s.requires.1 s.args.number s.args.word c.loop-i.i
+          c.loop-i-test.true c.if-numbers-i.false c.loop-i.invariant.1,
     )
 
 pub returns : goal.returns
 returns c =
-    let t = c.before in
-    let s = t.before in
-    sought-last s.args.count s.args.numbers.now s.args.words.now s.requires.0 s.requires.1 s.args.number s.args.word t.loop-i.i
-    t.loop-i.invariant.0 (omega (arith, c.loop-i-test.false)) t.loop-i.invariant.1
+    sought-last c.args.count c.args.numbers.now c.args.words.now c.requires.0 c.requires.1 c.args.number c.args.word c.loop-i.i
+    c.loop-i.invariant.0 (omega (arith, c.loop-i-test.false)) c.loop-i.invariant.1

@@ -22,9 +22,8 @@ Else-not-rows_good = lts.Else1 tie.the-claims reads.Pre reads.Post
 
 pub returns-in_default : goal.returns-in_default
 returns-in_default c =
-    let e = c.before.before.before.before.before in
     let s = c.before.before.before.before.before.before.before.before.before.before in (
-      rw (← none-listed s.args.part s.args.given.now e.table_rows.ensures e.enum_told-1.given.1) c.refuse.ensures.0,
+      rw (← none-listed s.args.part s.args.given.now c.table_rows.ensures c.enum_told-1.given.1) c.refuse.ensures.0,
       omega (arith, c.refuse.ensures.1),
     )
 
@@ -46,10 +45,9 @@ rows_good-requires c = record {
 
 pub returns-then-not-rows_good : goal.returns-then-not-rows_good
 returns-then-not-rows_good c =
-    let t = c.before.before.before.before.before in
-    let k = t.before.before in (
+    let k = c.before.before in (
       rw (← row_wrong (start k).args.part (start k).args.given.now k.table_rows.ensures _ k.rows-1.given.1
-          (sym t.rows_good.ensures ∙ t.if-not-rows_good.true)) c.refuse-then-not-rows_good.ensures.0,
+          (sym c.rows_good.ensures ∙ c.if-not-rows_good.true)) c.refuse-then-not-rows_good.ensures.0,
       omega (arith, c.refuse-then-not-rows_good.ensures.1),
     )
 
@@ -64,11 +62,10 @@ pad_zero-requires c = (rows_inside c.before.before.before).1
 
 pub returns-then-not-pad_zero : goal.returns-then-not-pad_zero
 returns-then-not-pad_zero c =
-    let t = c.before.before.before.before.before in
-    let e = t.before.before in
+    let e = c.before.before in
     let k = e.before.before in (
       rw (← pad_wrong (start k).args.part (start k).args.given.now k.table_rows.ensures _ k.rows-1.given.1 (good e)
-          (sym t.pad_zero.ensures ∙ t.if-not-pad_zero.true)) c.refuse-then-not-pad_zero.ensures.0,
+          (sym c.pad_zero.ensures ∙ c.if-not-pad_zero.true)) c.refuse-then-not-pad_zero.ensures.0,
       omega (arith, c.refuse-then-not-pad_zero.ensures.1),
     )
 
@@ -81,27 +78,24 @@ overflow_sub-rows c = omega (arith, c.at_most-first.ensures)
 
 pub put_lines-requires : goal.put_lines-requires
 put_lines-requires c =
-    let m = c.before.before in
-    let e = m.before.before.before.before in
+    let e = c.before.before.before.before in
     let k = e.before.before in
     record {
       rows_bound = rows_inside k;
       rows_value = good e;
-      count_bound = (omega (arith, m.at_most-count.ensures, m.at_most-first.ensures), omega (arith, m.at_most-count.ensures, (start k).requires.1));
+      count_bound = (omega (arith, c.at_most-count.ensures, c.at_most-first.ensures), omega (arith, c.at_most-count.ensures, (start k).requires.1));
     }
 
 pub returns : goal.returns
 returns c =
-    let m = c.before.before.before.before.before in
-    let t = m.before.before in
-    let e = t.before.before in
+    let e = c.before.before in
     let k = e.before.before in
     let s = start k in
     let rows = k.rows-1.given.0.0 in (
       rw (← part-listed s.args.part s.args.given.now k.table_rows.ensures rows k.rows-1.given.1 (good e)
-          (sym t.pad_zero.ensures ∙ t.if-not-pad_zero.false) m.at_most-first.result m.at_most-count.result
-          (least-is m.at_most-first.result (8192 * s.args.part) rows m.at_most-first.ensures.1.1.0 m.at_most-first.ensures.1.1.1)
-          (least-is m.at_most-count.result (rows - m.at_most-first.result) 8192 m.at_most-count.ensures.1.1.0 m.at_most-count.ensures.1.1.1))
+          (sym c.pad_zero.ensures ∙ c.if-not-pad_zero.false) c.at_most-first.result c.at_most-count.result
+          (least-is c.at_most-first.result (8192 * s.args.part) rows c.at_most-first.ensures.1.1.0 c.at_most-first.ensures.1.1.1)
+          (least-is c.at_most-count.result (rows - c.at_most-first.result) 8192 c.at_most-count.ensures.1.1.0 c.at_most-count.ensures.1.1.1))
           c.put_lines.ensures.0,
-      omega (arith, c.put_lines.ensures.1, m.at_most-count.ensures),
+      omega (arith, c.put_lines.ensures.1, c.at_most-count.ensures),
     )

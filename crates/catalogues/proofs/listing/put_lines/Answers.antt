@@ -46,11 +46,10 @@ loop-i-smaller c = omega (arith, c.loop-i-test.true)
 
 pub loop-i-preserved : goal.loop-i-preserved
 loop-i-preserved c =
-    let put = c.before.before.before in
     let turn = c.before.before.before.before.before.before in (
       omega (arith, c.loop-i-test.true),
-      omega (arith, put.put_row-at.ensures.1, turn.loop-i.invariant.1),
-      line_more _ c.args.first turn.loop-i.i _ _ _ _ _ turn.loop-i.invariant.2 put.put_row-at.ensures.0,
+      omega (arith, c.put_row-at.ensures.1, turn.loop-i.invariant.1),
+      line_more _ c.args.first turn.loop-i.i _ _ _ _ _ turn.loop-i.invariant.2 c.put_row-at.ensures.0,
     )
 
 pub shape_of-out : goal.shape_of-out
@@ -58,6 +57,5 @@ shape_of-out c = same_size c.before.before
 
 pub returns : goal.returns
 returns c =
-    let s = c.before.before.before.before.before in
-    let all : c.loop-i.i ≡ s.args.count = omega (arith, c.loop-i.invariant.0, c.loop-i-test.false) in
+    let all : c.loop-i.i ≡ c.args.count = omega (arith, c.loop-i.invariant.0, c.loop-i-test.false) in
     (rw all at c.loop-i.invariant.2, omega (arith, c.loop-i.invariant.0, c.loop-i.invariant.1))

@@ -8,26 +8,18 @@ use Rattle.catalogues.proofs.listing.put_row.Goals as goal
 
 pub put_line-requires : goal.put_line-requires
 put_line-requires c =
-    let e = c.before.before.before in
-    let r = e.before.before in
-    let s = c.before.before.before.before.before.before.before.before in
     record {
-      at_in_bounds = omega (arith, s.requires.i_lt_rows.1);
-      word_value = star-valid 0 s.args.given.now _ _ _ (sym r.row_at.ensures ∙ e.number-1.given.1);
+      at_in_bounds = omega (arith, c.requires.i_lt_rows.1);
+      word_value = star-valid 0 c.args.given.now _ _ _ (sym c.row_at.ensures ∙ c.number-1.given.1);
     }
 
 pub returns-in-Star : goal.returns-in-Star
 returns-in-Star c =
-    let l = c.before.before.before in
-    let e = c.before.before.before.before.before.before in
-    let r = e.before.before in
     let s = c.before.before.before.before.before.before.before.before.before.before.before in (
-      row_put s.args.given.now s.args.rows s.args.i s.requires.rows_value s.requires.i_lt_rows.0 r.row_at.ensures _ _ e.number-1.given.1 _ _ _ _ l.put_line.ensures.0,
-      l.put_line.ensures.1,
+      row_put s.args.given.now s.args.rows s.args.i s.requires.rows_value s.requires.i_lt_rows.0 c.row_at.ensures _ _ c.number-1.given.1 _ _ _ _ c.put_line.ensures.0,
+      c.put_line.ensures.1,
     )
 
 pub returns-in-Wrong : goal.returns-in-Wrong
 returns-in-Wrong c =
-    let r = c.before.before.before in
-    let s = c.before.before.before.before.before.before in
-    absurd (row_there s.args.given.now s.args.rows s.args.i s.requires.rows_value s.requires.i_lt_rows.0 r.row_at.ensures c.enum_told-1.given.1)
+    absurd (row_there c.args.given.now c.args.rows c.args.i c.requires.rows_value c.requires.i_lt_rows.0 c.row_at.ensures c.enum_told-1.given.1)

@@ -14,23 +14,14 @@ pub returns-then-part-ne0 : goal.returns-then-part-ne0
 unfolding at_first_lem
 returns-then-part-ne0 c = rw (ne_eqb c.args.part 0 c.if-part-ne0.true) (nothing_put 0 _, omega arith)
 
--- LEFT
-slice-aggregate-put : tie.Need-slice-aggregate-put
-slice-aggregate-put c = search rules
-
 pub put_field-requires : goal.put_field-requires
 put_field-requires c =
-    let p = c.before.before.before.before.before.before.before in
-    omega (arith, length-field p.args.refusal 32, c.put_field-second, p.put-first, p.requires)
+    omega (arith, length-field c.args.refusal 32, c.put_field-second, c.put-first, c.requires)
 
 pub returns : goal.returns
 unfolding at_first_lem refusal_line
 returns c =
-    let f = c.before.before.before in
-    let g = f.before.before.before.before in
-    let p = g.before.before.before.before in
-    let e = p.before.before.before.before in
-    let n = e.args.refusal in
-    rw (eq-eqb e.args.part 0 (omega (arith, e.if-part-ne0.false)))
-    (put-short 64 0 _ _ _ _ (then _ _ _ _ _ _ _ _ p.put-first.ensures (then _ _ _ _ _ _ _ _ g.put_field-second.ensures f.put_field.ensures))
+    let n = c.args.refusal in
+    rw (eq-eqb c.args.part 0 (omega (arith, c.if-part-ne0.false)))
+    (put-short 64 0 _ _ _ _ (then _ _ _ _ _ _ _ _ c.put-first.ensures (then _ _ _ _ _ _ _ _ c.put_field-second.ensures c.put_field.ensures))
     (simp length-append (omega (arith, length-field n 32, length-field 0 10))))

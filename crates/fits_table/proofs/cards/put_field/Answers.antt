@@ -8,11 +8,11 @@ use mathlib.Core.Path.{◌≡◌, ◌∙◌}
 use borrow.Author.Rules.{rules}
 use native.Mathlib.Omega.{arith}
 use Rattle.fits_table.proofs.cards.put_field.Goals as goal
-use Rattle.fits_table.proofs.cards.put_field.Goals.{At-loop-i}
+use Rattle.fits_table.proofs.cards.put_field.Goals.{At-loop-i, then-rest-eq0, else-rest-eq0}
 
 long : (c : At-loop-i) → length c.loop-i.out ≡ length c.args.out.now
 long c =
-    let s = c.before.before.before in
+    let s = c in
     filled-long (omega (arith, s.requires, length-set s.args.out.now (s.args.at + 19) c.digit.result)) c.loop-i.invariant.0 c.loop-i.invariant.1
     ∙ length-set s.args.out.now (s.args.at + 19) c.digit.result
 
@@ -46,23 +46,23 @@ loop-i-smaller c = omega arith
 pub loop-i-preserved : goal.loop-i-preserved
 loop-i-preserved c =
     let t = c.loop-i in
-    let s = c.before.before.before.before.before in
+    let s = c in
     let o = set s.args.out.now (s.args.at + 19) c.digit.result in (
       omega arith,
-      ⊎_elim
-          (λ w. rw w.1 (filled_next o t.out s.args.at _ t.rest t.i 32 c.loop-i-test.true (omega (arith, s.requires, length-set s.args.out.now (s.args.at + 19) c.digit.result)) (rw (eq-eqb _ _ w.0.taken)) t.invariant.1))
-          (λ w. rw w.2 (filled_next o t.out s.args.at _ t.rest t.i _ c.loop-i-test.true (omega (arith, s.requires, length-set s.args.out.now (s.args.at + 19) c.digit.result)) (w.1.ensures ∙ rw (ne_eqb _ _ w.0.left)) t.invariant.1))
-          c.if-rest-eq0.branch,
+      elim c.if-rest-eq0.branch [
+            then-rest-eq0 w ↦ rw w.out-is (filled_next o t.out s.args.at _ t.rest t.i 32 c.loop-i-test.true (omega (arith, s.requires, length-set s.args.out.now (s.args.at + 19) c.digit.result)) (rw (eq-eqb _ _ w.if-rest-eq0.true)) t.invariant.1)
+          | else-rest-eq0 w ↦ rw w.out-is (filled_next o t.out s.args.at _ t.rest t.i _ c.loop-i-test.true (omega (arith, s.requires, length-set s.args.out.now (s.args.at + 19) c.digit.result)) (w.digit-else-rest-eq0.ensures ∙ rw (ne_eqb _ _ w.if-rest-eq0.false)) t.invariant.1)
+          ],
     )
 
 pub shape_of-out : goal.shape_of-out
 shape_of-out c =
-    let s = c.before.before.before.before in
+    let s = c in
     long c.before
 
 pub returns : goal.returns
 returns c =
-    let s = c.before.before.before.before in
+    let s = c in
     let t = c.loop-i in
     let e : t.i ≡ 0 = omega arith in
     filled-all s.args.out.now t.out s.args.at s.args.value t.rest s.requires

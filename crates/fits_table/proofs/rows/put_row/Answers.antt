@@ -8,7 +8,7 @@ lowered-dec-requires c = (valid-word _ c.requires.word_value).low
 
 pub returns : goal.returns
 returns c =
-    let s = c.before.before.before.before.before.before.before.before.before.before.before.before.before.before.before in
+    let s = c in
     let a = s.args in
-    row_steps a.out.now c.put_32.new.0 c.put_32-2.new.0 c.put_32-3.new.0 a.at a.number a.word c.lowered-dec.result
+    row_steps a.out.now c.put_32.new.out c.put_32-2.new.out c.put_32-3.new.out a.at a.number a.word c.lowered-dec.result
     s.requires.at_in_bounds (valid-word _ s.requires.word_value).low c.put_32.ensures c.put_32-2.ensures c.put_32-3.ensures c.lowered-dec.ensures

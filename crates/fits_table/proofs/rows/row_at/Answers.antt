@@ -29,7 +29,7 @@ returns-then-raised-gt648000000 c =
     let d = c.get_32-dec.ensures in
     let low = rw g at c.if-number-last.false in
     let valid = rw g at (sym c.number_valid.ensures ∙ c.if-not-number_valid.false) in
-    row_dec _ _ _ low valid (rw r at c.if-ra-gt1295999999.false) (omega (arith, d, c.get_32-dec.type-inv)) (rw d at c.if-raised-gt648000000.true)
+    row_dec _ _ _ low valid (rw r at c.if-ra-gt1295999999.false) (omega (arith, d, c.get_32-dec.type_inv)) (rw d at c.if-raised-gt648000000.true)
 
 pub returns : goal.returns
 returns c =
@@ -38,4 +38,4 @@ returns c =
     let d = c.get_32-dec.ensures in
     let low = rw g at c.if-number-last.false in
     let valid = rw g at (sym c.number_valid.ensures ∙ c.if-not-number_valid.false) in
-    rw (g, r, d) (row_good _ _ _ low valid (rw r at c.if-ra-gt1295999999.false) (omega (arith, d, c.get_32-dec.type-inv)) (rw d at c.if-raised-gt648000000.false))
+    rw (g, r, d) (row_good _ _ _ low valid (rw r at c.if-ra-gt1295999999.false) (omega (arith, d, c.get_32-dec.type_inv)) (rw d at c.if-raised-gt648000000.false))

@@ -28,11 +28,11 @@ row_at-row-requires c = omega (arith, c.requires.count_in_bounds)
 
 pub returns-in_default : goal.returns-in_default
 returns-in_default c =
-    let s = c.before.before.before.before.before.before.before in
+    let s = c in
     let t = c.loop-i in
     let f : ℕ → Bool = λ k. good_rows k s.args.given.now (s.args.at + 12 * (t.i + 1)) (s.args.count - (t.i + 1)) in
     sym (t.invariant.1 ∙ good-open t.last s.args.given.now s.args.at t.i s.args.count c.loop-i-test.true
-    ∙ ap (λ (r : Row). good_after r f) (sym c.row_at-row.ensures ∙ c.enum_told-1.given.1))
+    ∙ ap (λ (r : Row). good_after r f) (sym c.row_at-row.ensures ∙ c.in_default.is))
 
 pub overflow_add-i : goal.overflow_add-i
 overflow_add-i c = omega arith
@@ -42,16 +42,16 @@ loop-i-smaller c = omega arith
 
 pub loop-i-preserved : goal.loop-i-preserved
 loop-i-preserved c =
-    let s = c.before.before.before.before.before.before.before.before in
+    let s = c in
     let t = c.loop-i in
     let f : ℕ → Bool = λ k. good_rows k s.args.given.now (s.args.at + 12 * (t.i + 1)) (s.args.count - (t.i + 1)) in (
       omega arith,
       t.invariant.1 ∙ good-open t.last s.args.given.now s.args.at t.i s.args.count c.loop-i-test.true
-          ∙ ap (λ (r : Row). good_after r f) (sym c.row_at-row.ensures ∙ c.row-1.given.1),
+          ∙ ap (λ (r : Row). good_after r f) (sym c.row_at-row.ensures ∙ c.in-Star.is),
     )
 
 pub returns : goal.returns
 returns c =
-    let s = c.before.before.before.before in
+    let s = c in
     let t = c.loop-i in
     sym (t.invariant.1 ∙ good-end t.last s.args.given.now s.args.at t.i s.args.count c.loop-i-test.false)

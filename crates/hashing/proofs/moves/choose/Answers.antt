@@ -41,7 +41,8 @@ test c =
 again :
     (c : After-next_code-code) (n : ℕ) → n ≤ c.loop-i.i + 1 →
     take n (set c.loop-i.steps c.loop-i.count (code_at c.args.parameters c.loop-i.i)) ≡ moves (multiplier_of c.args.parameters) c.args.parameters c.args.key (c.loop-i.i + 1) →
-    goal.the-invariant-loop-i c.args.table.now c.args.parameters c.args.expansions c.args.key c.args.steps.now 0 c.args.parameters.width 0 (set c.loop-i.steps c.loop-i.count c.loop-i.code) n c.next_code-code.result (c.loop-i.i + 1)
+    (c.loop-i.i + 1 ≤ c.args.expansions)
+    × ((n ≤ c.loop-i.i + 1) × ((length (set c.loop-i.steps c.loop-i.count c.loop-i.code) ≡ 32) × ((c.next_code-code.result ≡ code_at c.args.parameters (c.loop-i.i + 1)) × (take n (set c.loop-i.steps c.loop-i.count c.loop-i.code) ≡ moves (multiplier_of c.args.parameters) c.args.parameters c.args.key (c.loop-i.i + 1)))))
 again c n h e =
     let inv = c.loop-i.invariant in
     (omega arith, (h, (simp length-set inv.1.1.0, (c.next_code-code.ensures, rw inv.1.1.1.0 e))))

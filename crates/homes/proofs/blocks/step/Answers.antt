@@ -22,10 +22,10 @@ first-most c = mul-le-mul c.requires.rankable.size-most c.requires.rankable.coun
 abbrev start : After-ranks → Start
 start c = c.before.before.before.before
 
-under : (c : After-ranks) → Under 1024 c.ranks.new.1.1.1.0
+under : (c : After-ranks) → Under 1024 c.ranks.new.orders
 under c =
     let s = start c in
-    orders_under s.args.sweep s.args.stage s.args.groups.now c.ranks.new.1.1.1.0 c.ranks.ensures
+    orders_under s.args.sweep s.args.stage s.args.groups.now c.ranks.new.orders c.ranks.ensures
     s.requires.rankable
     s.requires.under
 
@@ -64,12 +64,12 @@ returns c =
     let s = start r in
     let hits = r.tests in
     let all =
-    stepped-lanes s.args.sweep s.args.stage s.args.groups.now r.ranks.new.1.1.1.0 r.ranks.ensures
+    stepped-lanes s.args.sweep s.args.stage s.args.groups.now r.ranks.new.orders r.ranks.ensures
     s.args.test.factor
     s.args.test.limit
     s.args.test.most
     s.args.keys.now
-    hits.new.1.1.1.0
+    hits.new.hits
     s.requires.factor_lt_modulus.1
     hits.ensures
     in record {

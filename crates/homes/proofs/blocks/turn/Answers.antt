@@ -54,7 +54,7 @@ step-requires c =
       );
       rankable = ready p s.args.i s.args.sweep s.args.stage (bounds s) (state s) e.0 e.1;
       keys = s.requires.keys.0;
-      under = groups-under s.args.stage.count s.args.pages.now groups.new.1.1.1.0 some groups.ensures;
+      under = groups-under s.args.stage.count s.args.pages.now groups.new.groups some groups.ensures;
       groups_len = (
         rw groups.ensures (lanes-length 8 _),
         rw (pages-are s) (pages-length (multiplier_of p) p s.args.geometry.growth s.args.keys.now s.args.i),
@@ -75,7 +75,7 @@ returns c =
     s.args.sweep
     s.args.stage
     s.args.test.limit
-    groups.new.1.1.1.0
+    groups.new.groups
     s.args.pages.now
     (factor_eq s)
     e.0

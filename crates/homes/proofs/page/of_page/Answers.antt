@@ -70,8 +70,7 @@ returns c =
     let g = s.args.geometry.growth in
     let made = c.prepare.ensures in
     let found = c.steps.ensures in
-    let q = s.requires.1.1.1 in
-    blocks-map (home a p g) s.args.numbers.now _ s.args.places (omega (arith, q.0, q.1.0)) (omega (arith, q.0, found.pages_len_2))
+    blocks-map (home a p g) s.args.numbers.now _ s.args.places (omega (arith, s.requires.places_bound, s.requires.numbers_len.0)) (omega (arith, s.requires.places_bound, found.pages_len_2))
     (λ b m h i l.
     ap (λ (x : List ℕ). get_or x i 0) (found.blocks_3 b m h)
     ∙ homes-are a p g s.args.numbers.now _ b (made.blocks b m h).0 i l)

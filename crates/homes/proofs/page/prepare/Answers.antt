@@ -10,6 +10,7 @@ use Rattle.generator.specs.Generator.{modulus}
 use Rattle.homes.specs.Lanes.{block_at, Blocks, keys_at, KeysOf}
 use Rattle.homes.specs.Indexed.{lanes}
 use Rattle.homes.proofs.Lists.{lanes-length, blocks_more}
+use Rattle.homes.proofs.page.prepare.Invariants.{started}
 use Rattle.homes.proofs.page.prepare.Lts as lts
 use Rattle.homes.proofs.page.prepare.Tie as tie
 use Rattle.homes.proofs.page.prepare.Reads as reads
@@ -18,10 +19,6 @@ use Rattle.homes.proofs.page.prepare.Goals.{In-loop-at, Start}
 
 abbrev After-starts : Type 0
 After-starts = lts.After-starts tie.the-claims reads.Pre reads.Post goal.the-invariant-loop-at goal.the-decreases-loop-at tie.handed_clauses
-
--- the pages of a block before the first step
-abbrev started : ℕ → ℕ → List ℕ → ℕ → List ℕ
-started factor span numbers at = lanes 8 (λ j. factor * get_or (keys_at numbers at) j 0 % modulus % span)
 
 abbrev start : In-loop-at → Start
 start c = c.before.before
@@ -59,7 +56,7 @@ abbrev inside : After-starts → In-loop-at
 inside c = c.before.before.before.before.before
 
 abbrev keys_here : After-starts → List ℕ
-keys_here c = c.keys_of.new.1.1.0
+keys_here c = c.keys_of.new.keys
 
 keys_here_lem : (c : After-starts) → KeysOf (start (inside c)).args.numbers.now (inside c).loop-at.at (keys_here c)
 keys_here_lem c = c.keys_of.ensures
@@ -70,13 +67,13 @@ keys_size c = ap length (keys_here_lem c).0 ∙ lanes-length 8 _
 
 pages-here :
     (c : After-starts) →
-    c.starts.new.1.1.1.1.0 ≡ started (start (inside c)).args.factor (start (inside c)).args.span (start (inside c)).args.numbers.now (inside c).loop-at.at
+    c.starts.new.pages ≡ started (start (inside c)).args.factor (start (inside c)).args.span (start (inside c)).args.numbers.now (inside c).loop-at.at
 pages-here c =
     let s = (start (inside c)).args in
     c.starts.ensures
     ∙ ap (λ (l : List ℕ). lanes 8 (λ j. s.factor * get_or l j 0 % modulus % s.span)) (keys_here_lem c).0
 
-pages-size : (c : After-starts) → length c.starts.new.1.1.1.1.0 ≡ 8
+pages-size : (c : After-starts) → length c.starts.new.pages ≡ 8
 pages-size c = ap length c.starts.ensures ∙ lanes-length 8 _
 
 pub store_keys-requires : goal.store_keys-requires
@@ -105,9 +102,9 @@ loop-at-preserved c =
     let turn = (inside done).loop-at in
     let s = (start (inside done)).args in
     let fits = room (inside done) in
-    let m = turn.inv.0.1 in
-    let sizes = turn.inv.1.0 in
-    let block = done.starts.new.1.1.1.1.0 in
+    let m = turn.invariant.0.1 in
+    let sizes = turn.invariant.1.0 in
+    let block = done.starts.new.pages in
     let keys = c.store_keys.ensures in
     let kl : turn.at + 8 ≤ length turn.keys = omega (arith, sizes.0) in
     let pl : turn.at + 8 ≤ length turn.pages = omega (arith, sizes.1) in (
@@ -119,10 +116,10 @@ loop-at-preserved c =
         ),
         (
           (λ b n h.
-              rw keys (blocks_more turn.keys (keys_here done) turn.at kl (keys_size done) m (KeysOf s.numbers.now) turn.inv.1.1.0 (keys_here_lem done) b n h)),
+              rw keys (blocks_more turn.keys (keys_here done) turn.at kl (keys_size done) m (KeysOf s.numbers.now) turn.invariant.1.1.0 (keys_here_lem done) b n h)),
           (λ b n h.
               ap (λ (l : List ℕ). block_at l b) c.store.ensures
-              ∙ blocks_more turn.pages block turn.at pl (pages-size done) m (λ (b : ℕ) (l : List ℕ). l ≡ started s.factor s.span s.numbers.now b) turn.inv.1.1.1 (pages-here done) b n h),
+              ∙ blocks_more turn.pages block turn.at pl (pages-size done) m (λ (b : ℕ) (l : List ℕ). l ≡ started s.factor s.span s.numbers.now b) turn.invariant.1.1.1 (pages-here done) b n h),
         ),
       ),
     )

@@ -12,6 +12,10 @@ use Rattle.homes.specs.Indexed.{lanes}
 use Rattle.homes.proofs.Lists.{lanes-length, blocks_more}
 use Rattle.homes.proofs.page.prepare.Given as goal
 
+-- the pages of a block before the first step
+abbrev pub started : ℕ → ℕ → List ℕ → ℕ → List ℕ
+started factor span numbers at = lanes 8 (λ j. factor * get_or (keys_at numbers at) j 0 % modulus % span)
+
 abbrev pub invariant-loop-at : goal.invariant-loop-at
 invariant-loop-at l =
     ((l.at ≤ 32) × (l.at % 8 ≡ 0))

@@ -45,7 +45,6 @@ pub turn_at-requires : goal.turn_at-requires
 turn_at-requires c =
     let s = start c.before.before in
     let turn = c.loop-at in
-    let q = s.requires.1.1.1.1.1 in
     let inside = c.loop-at-test.true in
     let kept = turn.invariant.1.1.1 in
     let m = turn.invariant.0.1 in
@@ -57,9 +56,9 @@ turn_at-requires c =
       test_value = s.requires.test_value;
       at_bound = room c.before.before;
       groups_len = turn.invariant.1.0;
-      keys = q.1.1.0 turn.at m inside;
-      grouped_at = rw (kept.0 turn.at m here) (q.1.1.1.0 turn.at m inside);
-      paged_at = rw (kept.1 turn.at m here) (q.1.1.1.1 turn.at m inside);
+      keys = s.requires.blocks turn.at m inside;
+      grouped_at = rw (kept.0 turn.at m here) (s.requires.blocks_2 turn.at m inside);
+      paged_at = rw (kept.1 turn.at m here) (s.requires.blocks_3 turn.at m inside);
     }
 
 pub overflow_add-at : goal.overflow_add-at

@@ -23,7 +23,7 @@ After-turn = lts.After-turn tie.the-claims reads.Pre reads.Post tie.handed_claus
 abbrev start : After-block_pages-2-1 → Start
 start c = c.before.before.before.before.before.before.before.before.before
 
-keys_are : (c : After-block_pages-2-1) → c.load_keys.new.1.1.0 ≡ block_at (start c).args.keys.now (start c).args.at
+keys_are : (c : After-block_pages-2-1) → c.load_keys.new.block ≡ block_at (start c).args.keys.now (start c).args.at
 keys_are c = c.load_keys.ensures
 
 abbrev groups_next : After-block_pages-2-1 → List ℕ → List ℕ
@@ -49,23 +49,22 @@ grouped-so a p g i keys keys' groups groups' e f h = rw (e, f) h
 pub turn-requires : goal.turn-requires
 turn-requires c =
     let s = start c in
-    let q = s.requires.1.1.1.1 in
     let groups = c.load.ensures in
     let pages = c.load-2.ensures in record {
       parameters_value = s.requires.parameters_value;
       growth_value = s.requires.growth_value;
       i_le_expansions = s.requires.i_le_expansions;
       sweep_value = s.requires.sweep_value;
-      test_value = q.0;
-      keys = (rw (keys_are c) q.1.1.1.0, rw groups (part_length s.args.groups.now s.args.at));
-      grouped = grouped-so (multiplier_of s.args.geometry.parameters) s.args.geometry.parameters s.args.geometry.growth s.args.i _ _ _ _ (keys_are c) groups q.1.1.1.1.0;
-      pages_value = pages ∙ q.1.1.1.1.1 ∙ ap (pages_now c) (sym (keys_are c));
+      test_value = s.requires.test_value;
+      keys = (rw (keys_are c) s.requires.keys, rw groups (part_length s.args.groups.now s.args.at));
+      grouped = grouped-so (multiplier_of s.args.geometry.parameters) s.args.geometry.parameters s.args.geometry.growth s.args.i _ _ _ _ (keys_are c) groups s.requires.grouped_at;
+      pages_value = pages ∙ s.requires.paged_at ∙ ap (pages_now c) (sym (keys_are c));
     }
 
-groups-are : (c : After-turn) → c.turn.new.1.1.1.1.1.1.0 ≡ groups_next c.before (block_at (start c.before).args.keys.now (start c.before).args.at)
+groups-are : (c : After-turn) → c.turn.new.groups ≡ groups_next c.before (block_at (start c.before).args.keys.now (start c.before).args.at)
 groups-are c = c.turn.ensures.groups_after ∙ ap (groups_next c.before) (keys_are c.before)
 
-pages-are : (c : After-turn) → c.turn.new.1.1.1.1.1.1.1.0 ≡ pages_next c.before (block_at (start c.before).args.keys.now (start c.before).args.at)
+pages-are : (c : After-turn) → c.turn.new.pages ≡ pages_next c.before (block_at (start c.before).args.keys.now (start c.before).args.at)
 pages-are c = c.turn.ensures.pages_after ∙ ap (pages_next c.before) (keys_are c.before)
 
 pub store-requires : goal.store-requires

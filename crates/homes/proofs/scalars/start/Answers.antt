@@ -31,7 +31,7 @@ spread : (c : After-settled-value) → Spread (value c) (start c).args.span (quo
 spread c =
     let s = start c in
     let narrow : value c % 4294967296 ≡ value c = mod-eq_of_lt (omega (arith, value-below c)) in
-    let inverse : s.args.inverse % 4294967296 ≡ s.args.inverse = mod-eq_of_lt (omega (arith, s.fits.inverse)) in
+    let inverse : s.args.inverse % 4294967296 ≡ s.args.inverse = mod-eq_of_lt (omega (arith, s.ranges.inverse.fits)) in
     rw (narrow, inverse) (spread-by (value c) s.args.span s.args.inverse s.requires.le_span.0 (omega (arith, value-below c)) s.requires.le_span.1.1)
 
 pub overflow_mul-turns : goal.overflow_mul-turns

@@ -4,25 +4,25 @@ use native.Mathlib.Omega.{arith}
 use Rattle.homes.proofs.stages.most_chosen.Goals as goal
 
 pub returns-in-1 : goal.returns-in-1
-returns-in-1 c = rw c.in-1.keys1
+returns-in-1 c = rw c.in-1.is
 
 pub returns-in-2 : goal.returns-in-2
-returns-in-2 c = rw c.in-2.keys2
+returns-in-2 c = rw c.in-2.is
 
 pub returns-in-3 : goal.returns-in-3
-returns-in-3 c = rw c.in-3.keys3
+returns-in-3 c = rw c.in-3.is
 
 pub returns-in-4 : goal.returns-in-4
-returns-in-4 c = rw c.in-4.keys4
+returns-in-4 c = rw c.in-4.is
 
 pub returns-in-5 : goal.returns-in-5
-returns-in-5 c = rw c.in-5.keys5
+returns-in-5 c = rw c.in-5.is
 
 pub returns-in-6 : goal.returns-in-6
-returns-in-6 c = rw c.in-6.keys6
+returns-in-6 c = rw c.in-6.is
 
 pub returns-in_default : goal.returns-in_default
 returns-in_default c =
-    let others = c.in_default.rest in
+    let others = c.in_default in
     let seven : c.args.size ≡ 7 = omega (arith, c.requires, others.1, others.0.1, others.0.0.1, others.0.0.0.1, others.0.0.0.0.1, others.0.0.0.0.0.1) in
     rw seven

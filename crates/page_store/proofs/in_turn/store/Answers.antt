@@ -9,7 +9,7 @@ use Rattle.page_store.proofs.in_turn.store.Goals as goal
 
 pub returns-then-all : goal.returns-then-all
 returns-then-all c =
-    let s = c.before.before.before.before.before.before.before.before.before.before.before.before.before.before.before.before.before.before.before.before.before.before.before.before in
+    let s = c in
     let a = s.args in
     let p = c.store_pages-all.ensures in
     let w = written a.lo (take a.count (drop a.lo a.planned.now)) a.separators.now in

@@ -1,10 +1,10 @@
 use mathlib.Core.Path.{◌∙◌}
-use mathlib.Core.Logic.{⊎_elim}
 use Prim.Native.Nat.{◌-◌}
 use native.Mathlib.Omega.{arith}
 use Rattle.page_store.specs.Columns.{columns}
 use Rattle.page_store.proofs.Loop.{Fits, Storing, Stored, storing_none, storing_fits, storing_told, storing_skip, storing_store, storing_stop, storing_end}
 use Rattle.page_store.proofs.in_turn.store_pages.Goals as goal
+use Rattle.page_store.proofs.in_turn.store_pages.Goals.{then-page_differs+else-stored-limit, else-page_differs}
 
 pub loop-turn-init : goal.loop-turn-init
 loop-turn-init c =
@@ -67,13 +67,13 @@ loop-turn-preserved c =
     let e = c.page_in_turn-page.ensures in
     let h = c.loop-turn-test.true in
     let t = storing_told m page c.page_differs.result e h c.page_differs.ensures in
-    ⊎_elim
-    (λ w.
-    rw w.15
-    (storing_store m page c.if-page_differs.numbers c.if-page_differs.words c.if-page_differs.owners e h w.1.left (t ∙ w.0.taken)
-    (w.12 ∙ w.5.ensures.0) (w.13 ∙ w.5.ensures.1.0) (w.14 ∙ w.5.ensures.1.1)))
-    (λ w. rw (w.1, w.2, w.3, w.4) (storing_skip m h (t ∙ w.0.left)))
-    c.if-page_differs.branch
+    elim c.if-page_differs.branch [
+      then-page_differs+else-stored-limit w ↦
+        rw w.stored-is
+        (storing_store m page c.if-page_differs.numbers c.if-page_differs.words c.if-page_differs.owners e h w.if-stored-limit.false (t ∙ w.if-page_differs.true)
+        (w.numbers-is ∙ w.store_page.ensures.numbers_after) (w.words-is ∙ w.store_page.ensures.words_after) (w.owners-is ∙ w.store_page.ensures.owners_after))
+    | else-page_differs w ↦ rw (w.numbers-is, w.words-is, w.owners-is, w.stored-is) (storing_skip m h (t ∙ w.if-page_differs.false))
+    ]
 
 pub shape_of-numbers : goal.shape_of-numbers
 shape_of-numbers c = c.loop-turn.invariant.numbers.reached.kept

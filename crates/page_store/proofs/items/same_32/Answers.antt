@@ -1,11 +1,11 @@
 use mathlib.Core.Path.{◌≡◌, refl, ap, ◌∙◌}
-use mathlib.Core.Logic.{⊎_elim}
 use Prim.Native.Nat.{◌-◌, ◌≤◌}
 use native.Mathlib.Omega.{arith}
 use lib.ListN.{take, drop}
 use Rattle.buffers.specs.Lists.{alike}
 use Rattle.page_store.proofs.Alike.{agree_no, agree_yes, agree_end}
 use Rattle.page_store.proofs.items.same_32.Goals as goal
+use Rattle.page_store.proofs.items.same_32.Goals.{then-one-at, else-one-at}
 
 pub loop-i-init : goal.loop-i-init
 unfolding alike
@@ -40,10 +40,10 @@ loop-i-preserved c =
     let a = c.args in
     let l = c.loop-i in (
       omega arith,
-      ⊎_elim
-          (λ w. w.1 ∙ agree_no a.at a.items l.i a.one.now a.other.now (omega arith) (omega arith) (omega arith) w.0.taken)
-          (λ w. w.1 ∙ agree_yes a.at a.items l.i a.one.now a.other.now (omega arith) (omega arith) (omega arith) l.same w.0.left l.invariant.1)
-          c.if-one-at.branch,
+      elim c.if-one-at.branch [
+        then-one-at w ↦ w.same-is ∙ agree_no a.at a.items l.i a.one.now a.other.now (omega arith) (omega arith) (omega arith) w.if-one-at.true
+      | else-one-at w ↦ w.same-is ∙ agree_yes a.at a.items l.i a.one.now a.other.now (omega arith) (omega arith) (omega arith) l.same w.if-one-at.false l.invariant.1
+      ],
     )
 
 pub returns : goal.returns

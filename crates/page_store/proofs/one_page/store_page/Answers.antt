@@ -6,7 +6,7 @@ use Rattle.page_store.proofs.one_page.store_page.Goals as goal
 
 pub returns : goal.returns
 returns c =
-    let s = c.before.before.before.before.before.before.before.before.before.before.before.before.before.before.before.before.before.before.before in
+    let s = c in
     let a = s.args in record {
       numbers_after = c.copy_32.ensures ∙ page-copied a.places a.page a.poolnumbers.now a.numbers.now (omega (arith, s.requires));
       words_after = c.copy_64.ensures ∙ page-copied a.places a.page a.poolwords.now a.words.now (omega (arith, s.requires));

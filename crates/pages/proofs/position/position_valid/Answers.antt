@@ -21,7 +21,7 @@ abbrev start : After-struct_told-1 → Start
 start c = c.before.before.before.before
 
 back : (c : After-struct_told-1) → to_z w32 (of_z w32 (start c).args.position.dec) ≡ (start c).args.position.dec
-back c = to_z-of_z (record { sfits = c.struct_told-1.given.1.0.1 })
+back c = to_z-of_z {w = w32} (record { sfits = c.struct_told-1.given.1.0.1 })
 
 pub returns-then-position-gt-LAST_RA : goal.returns-then-position-gt-LAST_RA
 unfolding valid_position

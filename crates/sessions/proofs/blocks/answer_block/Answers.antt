@@ -26,8 +26,7 @@ bounds-block-i c = omega arith
 
 pub take_byte-step-requires : goal.take_byte-step-requires
 take_byte-step-requires c =
-    let turn = c.before.before.before in
-    omega (arith, same_size turn.before, turn.loop-i-test.true, turn.requires)
+    omega (arith, same_size c.before, c.loop-i-test.true, c.requires)
 
 pub overflow_add-i : goal.overflow_add-i
 overflow_add-i c = omega arith
@@ -37,12 +36,10 @@ loop-i-smaller c = omega arith
 
 pub loop-i-preserved : goal.loop-i-preserved
 loop-i-preserved c =
-    let taken = c.before.before.before.before in
-    let turn = taken.before.before.before in
-    rw (add-one turn.loop-i.i) (
+    rw (add-one c.loop-i.i) (
       omega arith,
-      omega (arith, taken.take_byte-step.ensures.1),
-      block_more _ _ _ _ _ _ _ _ _ _ _ turn.loop-i-test.true turn.loop-i.invariant.2 taken.take_byte-step.ensures.0,
+      omega (arith, c.take_byte-step.ensures.1),
+      block_more _ _ _ _ _ _ _ _ _ _ _ c.loop-i-test.true c.loop-i.invariant.2 c.take_byte-step.ensures.0,
     )
 
 pub shape_of-out : goal.shape_of-out

@@ -14,5 +14,4 @@ returns-then-is_blank c = rw (sym c.is_blank.ensures ∙ c.if-is_blank.true) (no
 pub returns : goal.returns
 unfolding last_of put_out lines_from runs text_for stepped_by text_by answering run_in
 returns c =
-    let kept = c.before.before.before.before.before in
-    rw (sym kept.is_blank.ensures ∙ kept.if-is_blank.false) (c.end_line-ended.ensures.0.text, omega arith)
+    rw (sym c.is_blank.ensures ∙ c.if-is_blank.false) (c.end_line-ended.ensures.0.text, omega arith)

@@ -9,9 +9,7 @@ use Rattle.sessions.proofs.commands.enter.Goals as goal
 pub returns : goal.returns
 unfolding state_in pool commanded reply_with enter_under valid_steps
 returns c =
-    let called = c.before.before.before.before.before.before.before.before.before in
-    let made = called.before.before.before.before.before.before.before.before in
-    follows _ _ _ (placed called.enter-answer.result) _
-    (rw made.parameters.ensures at called.enter-answer.ensures)
+    follows _ _ _ (placed c.enter-answer.result) _
+    (rw c.parameters.ensures at c.enter-answer.ensures)
     (sym (enter_keeps _ _ _ _ _ _ _))
     (c.placed_reply.ensures ∙ ap placed_reply_lem c.placed_answer.ensures)

@@ -14,7 +14,6 @@ returns-then-not-answer c =
 
 pub returns : goal.returns
 returns c =
-    let left = c.before.before.before in
-    let answer = left.args.answer in
+    let answer = c.args.answer in
     let back : to_z w32 (of_z w32 answer.position.dec) ≡ answer.position.dec = search rules in
-    shown answer true _ (not-false answer.found (ap not left.if-not-answer.false)) (rw back at c.unless_refused-2.ensures)
+    shown answer true _ (not-false answer.found (ap not c.if-not-answer.false)) (rw back at c.unless_refused-2.ensures)

@@ -10,8 +10,6 @@ use Rattle.sessions.proofs.commands.grow.Goals as goal
 pub returns : goal.returns
 unfolding state_in pool commanded reply_with grow_under valid_steps
 returns c =
-    let called = c.before.before.before.before.before.before.before.before.before.before.before in
-    let made = called.before.before.before.before.before.before.before.before in
-    let grown = rw made.parameters.ensures at called.grow-grown.ensures in
-    follows _ _ _ (placed called.grow-grown.result.answer) _ grown.0 (ap (λ (r : GrowthRecord). r.state) grown.1)
+    let grown = rw c.parameters.ensures at c.grow-grown.ensures in
+    follows _ _ _ (placed c.grow-grown.result.answer) _ grown.0 (ap (λ (r : GrowthRecord). r.state) grown.1)
     (c.placed_reply.ensures ∙ ap placed_reply_lem c.placed_answer.ensures)

@@ -9,9 +9,7 @@ use Rattle.sessions.proofs.commands.remove.Goals as goal
 pub returns : goal.returns
 unfolding state_in pool commanded reply_with remove_under valid_steps
 returns c =
-    let called = c.before.before.before.before.before.before.before.before.before in
-    let made = called.before.before.before.before.before.before.before.before in
-    follows _ _ _ (placed called.remove-answer.result) _
-    (rw made.parameters.ensures at called.remove-answer.ensures)
+    follows _ _ _ (placed c.remove-answer.result) _
+    (rw c.parameters.ensures at c.remove-answer.ensures)
     (sym (remove_keeps _ _ _ _ _ _))
     (c.placed_reply.ensures ∙ ap placed_reply_lem c.placed_answer.ensures)
