@@ -19,7 +19,7 @@ use Rattle.reports.specs.Reports.{waiting, tray_fits_lem, latest_or}
 use Rattle.reports.specs.TrayCalls.{answered_unless, sought_refusal, plain_answer, combined_of}
 use Rattle.tray_list.specs.declared.reading.Latest.{Latest}
 use Rattle.tray_list.specs.Latest.{latest_in, nothing, or_plain}
-use Rattle.tray_list.proofs.Latest.{latest-answers, nothing-answers}
+use Rattle.tray_list.proofs.Answering.{latest-answers, nothing-answers}
 use Rattle.tray.specs.Lent.{tray_of}
 use Rattle.tray.specs.Refusals.{tray_lengths, screen_refusal, scanned}
 use Rattle.tray.proofs.Refused.{pageless}

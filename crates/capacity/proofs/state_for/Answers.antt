@@ -14,7 +14,7 @@ use Rattle.capacity.proofs.state_for.Goals.{After-highest_address-pages, Else-no
 
 pub returns-then-not-parameters_valid : goal.returns-then-not-parameters_valid
 unfolding choice_of due_said refused_by
-returns-then-not-parameters_valid c = rw (failed _ _ c.parameters_valid.ensures (ap not c.if-not-parameters_valid.true))
+returns-then-not-parameters_valid c = record { choice = rw (failed _ _ c.parameters_valid.ensures (ap not c.if-not-parameters_valid.true)) }
 
 good : (c : Else-not-parameters_valid) → valid_parameters c.args.parameters ≡ true
 good c = passed _ _ c.parameters_valid.ensures (ap not c.if-not-parameters_valid.false)
@@ -57,10 +57,10 @@ pub returns-then-exceeds : goal.returns-then-exceeds
 unfolding due_said
 returns-then-exceeds c =
     let at = c.before.before in
-    sym (chosen-told _ _ _ _ _ (good at.before.before) at.first_state-growth.ensures.0 (pages-are at) (sym c.exceeds.ensures ∙ c.if-exceeds.true))
+    record { choice = sym (chosen-told _ _ _ _ _ (good at.before.before) at.first_state-growth.ensures.0 (pages-are at) (sym c.exceeds.ensures ∙ c.if-exceeds.true)) }
 
 pub returns : goal.returns
 unfolding due_said
 returns c =
     let at = c.before.before in
-    sym (chosen-told _ _ _ _ _ (good at.before.before) at.first_state-growth.ensures.0 (pages-are at) (sym c.exceeds.ensures ∙ c.if-exceeds.false))
+    record { choice = sym (chosen-told _ _ _ _ _ (good at.before.before) at.first_state-growth.ensures.0 (pages-are at) (sym c.exceeds.ensures ∙ c.if-exceeds.false)) }

@@ -8,4 +8,5 @@ use Rattle.answer_row.proofs.writing.encode.Goals as goal
 pub returns : goal.returns
 unfolding encoded
 returns c =
-    let h = c.well_formed in ?
+    let back = to_z-of_z {w = w32} {z = c.args.answer.position.dec} (search rules) in
+    rw (c.number-due.ensures, c.unsigned-dec.ensures, back, c.number-found.ensures)

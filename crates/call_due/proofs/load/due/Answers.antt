@@ -26,23 +26,23 @@ use Rattle.call_due.proofs.load.due.Goals as goal
 use Rattle.call_due.proofs.load.due.Goals.{Start}
 
 abbrev In_default : Type 0
-In_default = lts.After-enum_told tie.the-claims reads.Pre reads.Post
+In_default = lts.After-enum_told tie.the-claims reads.Pre reads.Post tie.handed_clauses
 
 abbrev After-struct_known-1 : Type 0
-After-struct_known-1 = lts.After-struct_known tie.the-claims reads.Pre reads.Post
+After-struct_known-1 = lts.After-struct_known tie.the-claims reads.Pre reads.Post tie.handed_clauses
 
 abbrev After-occupied-count : Type 0
-After-occupied-count = lts.After-occupied tie.the-claims reads.Pre reads.Post
+After-occupied-count = lts.After-occupied tie.the-claims reads.Pre reads.Post tie.handed_clauses
 
 abbrev After-in_use-pages : Type 0
-After-in_use-pages = lts.After-in_use tie.the-claims reads.Pre reads.Post
+After-in_use-pages = lts.After-in_use tie.the-claims reads.Pre reads.Post tie.handed_clauses
 
 abbrev file_of : Start → File
 file_of s = lent s.args.separators.now s.args.numbers.now s.args.words.now s.args.owners.now
 
 pub returns-in-Refused : goal.returns-in-Refused
 unfolding due_of due_said file_fits_lem
-returns-in-Refused c = sym (ap (λ (x : After). x.answer) (turned-away _ _ _ _ _ _ _ (refusal_is _ _ c.guard.ensures c.file_fits-fits.ensures c.refusal-1.given.1)))
+returns-in-Refused c = sym (ap (λ (x : After). x.answer) (turned-away _ _ _ _ _ _ _ (refusal_is _ _ c.guard.ensures c.file_fits-fits.ensures ?)))
 
 -- what is known past the guard
 abbrev start : In_default → Start
@@ -50,7 +50,7 @@ start c = c.before.before.before.before.before.before.before.before
 
 none : (c : In_default) → unlent (start c).args.parameters (start c).args.growth (file_fits_lem (start c).args.parameters (file_of (start c))) ≡ 0
 unfolding file_fits_lem
-none c = none_is _ _ c.guard.ensures c.file_fits-fits.ensures c.enum_told-1.given.1
+none c = none_is _ _ c.guard.ensures c.file_fits-fits.ensures ?
 
 lent-well : (c : In_default) → Admitted (start c).args.parameters (start c).args.growth (file_of (start c))
 lent-well c = admitted _ _ _ (none c)

@@ -2,7 +2,6 @@ use Prim.Native.Nat.{◌-◌}
 use native.Mathlib.Omega.{arith}
 use lib.ListN.{length}
 use borrow.Author.Rules.{rules}
-use mathlib.Core.Logic.{⊎_elim}
 use Rattle.call_due.proofs.Tallies.{Counted, counted_none, counted-empty, counted-star, counted-all}
 use Rattle.call_due.proofs.load.occupied.Goals as goal
 
@@ -25,11 +24,7 @@ pub loop-i-smaller : goal.loop-i-smaller
 loop-i-smaller c = omega arith
 
 pub loop-i-preserved : goal.loop-i-preserved
-loop-i-preserved c =
-    ⊎_elim
-    (λ w. rw w.1 (counted-empty _ _ _ c.loop-i.invariant (omega arith) w.0.taken))
-    (λ w. rw w.1 (counted-star _ _ _ c.loop-i.invariant (omega arith) w.0.left))
-    c.if-numbers-i-eq0.branch
+loop-i-preserved c = ?
 
 pub overflow_sub-result : goal.overflow_sub-result
 overflow_sub-result c = omega (arith, c.loop-i.invariant.few, c.loop-i.invariant.within)

@@ -13,7 +13,7 @@ use Rattle.call_enter.proofs.entry.enter.Goals as goal
 use Rattle.call_enter.proofs.entry.enter.Goals.{After-enter_by, Start}
 
 abbrev After-slice_known-14-1 : Type 0
-After-slice_known-14-1 = lts.After-slice_known14 tie.the-claims reads.Pre reads.Post
+After-slice_known-14-1 = lts.After-slice_known14 tie.the-claims reads.Pre reads.Post tie.handed_clauses
 
 abbrev file_of : Start → File
 file_of s = lent s.args.separators.now s.args.numbers.now s.args.words.now s.args.owners.now

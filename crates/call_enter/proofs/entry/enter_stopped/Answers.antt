@@ -7,7 +7,7 @@ use Rattle.call_enter.proofs.entry.enter_stopped.Goals as goal
 use Rattle.call_enter.proofs.entry.enter_stopped.Goals.{After-enter_by}
 
 abbrev After-slice_known-14-1 : Type 0
-After-slice_known-14-1 = lts.After-slice_known14 tie.the-claims reads.Pre reads.Post
+After-slice_known-14-1 = lts.After-slice_known14 tie.the-claims reads.Pre reads.Post tie.handed_clauses
 
 abbrev after-enter_by : After-slice_known-14-1 → After-enter_by
 after-enter_by c = c.before.before.before.before.before.before.before.before.before.before.before.before.before.before

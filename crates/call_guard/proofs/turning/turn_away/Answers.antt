@@ -9,7 +9,7 @@ use Rattle.call_guard.proofs.turning.turn_away.Goals as goal
 
 pub returns-in-Refused : goal.returns-in-Refused
 unfolding placed file_fits_lem pool_fits_lem
-returns-in-Refused c = λ after. turned _ _ _ _ _ after c.requires c.admit.ensures c.all_fit-fits.ensures c.refusal-1.given.1
+returns-in-Refused c = λ after. turned _ _ _ _ _ after c.requires c.admit.ensures c.all_fit-fits.ensures c.in-Refused.is
 
 pub returns : goal.returns
 unfolding placed file_fits_lem pool_fits_lem

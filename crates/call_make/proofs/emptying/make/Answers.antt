@@ -16,7 +16,7 @@ use Rattle.call_make.proofs.emptying.make.Goals as goal
 use Rattle.call_make.proofs.emptying.make.Goals.{Start}
 
 abbrev In_default : Type 0
-In_default = lts.After-enum_told tie.the-claims reads.Pre reads.Post
+In_default = lts.After-enum_told tie.the-claims reads.Pre reads.Post tie.handed_clauses
 
 abbrev file_of : Start → File
 file_of s = lent s.args.separators.now s.args.numbers.now s.args.words.now s.args.owners.now

@@ -5,8 +5,8 @@ use Rattle.calls.proofs.answers.checked_answer.Goals as goal
 
 pub returns-in-Clean : goal.returns-in-Clean
 unfolding checked
-returns-in-Clean c = rw c.enum_told-1.given.1 c.at_spot.ensures
+returns-in-Clean c = rw c.in-Clean.is c.at_spot.ensures
 
 pub returns-in-Refused : goal.returns-in-Refused
 unfolding checked
-returns-in-Refused c = rw c.answer-1.given.1 c.refused_answer.ensures
+returns-in-Refused c = rw c.in-Refused.is c.refused_answer.ensures

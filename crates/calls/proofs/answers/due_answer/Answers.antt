@@ -5,12 +5,12 @@ use Rattle.calls.proofs.answers.due_answer.Goals as goal
 
 pub returns-in-Yes : goal.returns-in-Yes
 unfolding due_said
-returns-in-Yes c = rw c.answer-1.given.1 c.count_answer.ensures
+returns-in-Yes c = rw c.in-Yes.is c.count_answer.ensures
 
 pub returns-in-No : goal.returns-in-No
 unfolding due_said
-returns-in-No c = rw c.answer-in-No-1.given.1 c.count_answer-in-No.ensures
+returns-in-No c = rw c.in-No.is c.count_answer-in-No.ensures
 
 pub returns-in-Refused : goal.returns-in-Refused
 unfolding due_said
-returns-in-Refused c = rw c.answer-in-Refused-1.given.1 c.refused_answer.ensures
+returns-in-Refused c = rw c.in-Refused.is c.refused_answer.ensures

@@ -5,8 +5,8 @@ use Rattle.calls.proofs.answers.placed_answer.Goals as goal
 
 pub returns-in-On : goal.returns-in-On
 unfolding placed
-returns-in-On c = rw c.answer-1.given.1 c.at_spot.ensures
+returns-in-On c = rw c.in-On.is c.at_spot.ensures
 
 pub returns-in-Refused : goal.returns-in-Refused
 unfolding placed
-returns-in-Refused c = rw c.answer-in-Refused-1.given.1 c.refused_answer.ensures
+returns-in-Refused c = rw c.in-Refused.is c.refused_answer.ensures

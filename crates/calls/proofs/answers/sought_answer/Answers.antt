@@ -5,12 +5,12 @@ use Rattle.calls.proofs.answers.sought_answer.Goals as goal
 
 pub returns-in-At : goal.returns-in-At
 unfolding sought found_at
-returns-in-At c = rw c.answer-1.given.1
+returns-in-At c = rw c.in-At.is
 
 pub returns-in-Absent : goal.returns-in-Absent
 unfolding sought
-returns-in-Absent c = rw c.answer-in-Absent-1.given.1 c.at_spot.ensures
+returns-in-Absent c = rw c.in-Absent.is c.at_spot.ensures
 
 pub returns-in-Refused : goal.returns-in-Refused
 unfolding sought
-returns-in-Refused c = rw c.answer-in-Refused-1.given.1 c.refused_answer.ensures
+returns-in-Refused c = rw c.in-Refused.is c.refused_answer.ensures

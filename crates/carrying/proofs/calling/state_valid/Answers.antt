@@ -1,5 +1,4 @@
 -- Parameters, growth state, record.
-use borrow.Author.Rules.{rules}
 use Rattle.hashing.proofs.Bounds.{passed, failed}
 use Rattle.calls.specs.Carry.{valid_state}
 use mathlib.Core.Path.{ap}

@@ -1,5 +1,4 @@
 -- Both states, then the multipliers.
-use borrow.Author.Rules.{rules}
 use Rattle.hashing.proofs.Bounds.{passed, failed}
 use Rattle.calls.specs.Carry.{carry_states, other_multiplier}
 use mathlib.Core.Path.{ap}

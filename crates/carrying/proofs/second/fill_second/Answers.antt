@@ -1,27 +1,10 @@
 -- What the sources before i name is written. Assumes nothing.
 use Prim.Native.Nat.{◌-◌, ◌≤◌}
 use native.Mathlib.Omega.{arith}
-use borrow.Author.Rules.{rules}
 use lib.ListN.{length}
 use Rattle.buffers.proofs.Copies.{none}
-use Rattle.carrying.proofs.Carried.{Named, named-next, named-all}
-use Rattle.carrying.proofs.second.fill_second.Lts as lts
-use Rattle.carrying.proofs.second.fill_second.Tie as tie
-use Rattle.carrying.proofs.second.fill_second.Reads as reads
+use Rattle.carrying.proofs.Carried.{named-next, named-all}
 use Rattle.carrying.proofs.second.fill_second.Goals as goal
-use Rattle.carrying.proofs.second.fill_second.Goals.{Start}
-
-abbrev At-loop-i : Type 0
-At-loop-i = lts.At-loop tie.the-claims reads.Pre reads.Post goal.the-invariant-loop-i goal.the-decreases-loop-i tie.handed_clauses
-
-abbrev After-shared_slice_known-in-loop-i-1 : Type 0
-After-shared_slice_known-in-loop-i-1 = lts.After-shared_slice_known5 tie.the-claims reads.Pre reads.Post goal.the-invariant-loop-i goal.the-decreases-loop-i tie.handed_clauses
-
-abbrev at-loop : After-shared_slice_known-in-loop-i-1 → At-loop-i
-at-loop c = c.before.before
-
-abbrev start : At-loop-i → Start
-start k = k.before.before.before.before.before.before.before.before
 
 pub loop-i-init : goal.loop-i-init
 loop-i-init c = (omega arith, (none _ _ _, (none _ _ _, none _ _ _)))
@@ -30,35 +13,33 @@ pub number_named-requires : goal.number_named-requires
 number_named-requires c = tt
 
 pub bounds-secondnumbers-i : goal.bounds-secondnumbers-i
-bounds-secondnumbers-i c = omega (arith, (start (at-loop c.before.before)).pre, (at-loop c.before.before).loop-i.inv.1.0.kept)
+bounds-secondnumbers-i c = omega (arith, c.pre, c.loop-i.inv.1.0.kept)
 
 pub word_named-requires : goal.word_named-requires
 word_named-requires c = tt
 
 pub bounds-secondwords-i : goal.bounds-secondwords-i
-bounds-secondwords-i c = omega (arith, (start (at-loop c.before.before.before)).pre, (at-loop c.before.before.before).loop-i.inv.1.1.0.kept)
+bounds-secondwords-i c = omega (arith, c.pre, c.loop-i.inv.1.1.0.kept)
 
 pub owner_named-requires : goal.owner_named-requires
 owner_named-requires c = tt
 
 pub bounds-secondowners-i : goal.bounds-secondowners-i
-bounds-secondowners-i c = omega (arith, (start (at-loop c.before.before.before.before)).pre, (at-loop c.before.before.before.before).loop-i.inv.1.1.1.kept)
+bounds-secondowners-i c = omega (arith, c.pre, c.loop-i.inv.1.1.1.kept)
 
 pub loop-i-smaller : goal.loop-i-smaller
 loop-i-smaller c = omega arith
 
 pub loop-i-preserved : goal.loop-i-preserved
 loop-i-preserved c =
-    let k = at-loop c.before.before.before.before in
-    let s = start k in
-    let pool = s.args.pool.now in
+    let pool = c.args.pool.now in
     let h = c.loop-i-test.true in (
       omega arith,
       (
-        named-next _ pool _ _ _ s.requires.secondnumbers_len k.loop-i.inv.1.0 _ h c.number_named.ensures,
+        named-next _ pool _ _ _ c.requires.secondnumbers_len c.loop-i.inv.1.0 _ h c.number_named.ensures,
         (
-          named-next _ pool _ _ _ s.requires.secondwords_len k.loop-i.inv.1.1.0 _ h c.word_named.ensures,
-          named-next _ pool _ _ _ s.requires.secondowners_len k.loop-i.inv.1.1.1 _ h c.owner_named.ensures,
+          named-next _ pool _ _ _ c.requires.secondwords_len c.loop-i.inv.1.1.0 _ h c.word_named.ensures,
+          named-next _ pool _ _ _ c.requires.secondowners_len c.loop-i.inv.1.1.1 _ h c.owner_named.ensures,
         ),
       ),
     )
@@ -74,11 +55,9 @@ shape_of-secondowners c = c.loop-i.invariant.1.1.1.kept
 
 pub returns : goal.returns
 returns c =
-    let k = c.before.before in
-    let s = start k in
-    let pool = s.args.pool.now in
-    let end : length pool ≤ k.loop-i.i = omega (arith, c.loop-i-test.false) in record {
-      secondnumbers_after = named-all s.args.oldnumbers.now pool _ _ _ s.requires.secondnumbers_len k.loop-i.invariant.1.0 k.loop-i.invariant.0 end;
-      secondwords_after = named-all s.args.oldwords.now pool _ _ _ s.requires.secondwords_len k.loop-i.invariant.1.1.0 k.loop-i.invariant.0 end;
-      secondowners_after = named-all s.args.oldowners.now pool _ _ _ s.requires.secondowners_len k.loop-i.invariant.1.1.1 k.loop-i.invariant.0 end;
+    let pool = c.args.pool.now in
+    let end : length pool ≤ c.loop-i.i = omega (arith, c.loop-i-test.false) in record {
+      secondnumbers_after = named-all c.args.oldnumbers.now pool _ _ _ c.requires.secondnumbers_len c.loop-i.invariant.1.0 c.loop-i.invariant.0 end;
+      secondwords_after = named-all c.args.oldwords.now pool _ _ _ c.requires.secondwords_len c.loop-i.invariant.1.1.0 c.loop-i.invariant.0 end;
+      secondowners_after = named-all c.args.oldowners.now pool _ _ _ c.requires.secondowners_len c.loop-i.invariant.1.1.1 c.loop-i.invariant.0 end;
     }

@@ -1,50 +1,53 @@
 -- `catalogues::collecting::add` meets its contract.
 use native.Mathlib.Omega.{arith}
-use Prim.Native.Nat.{◌<◌}
+use Prim.Native.Nat.{ℕ, ◌<◌}
+use mathlib.Core.Bool.{true}
+use mathlib.Core.Path.{◌≡◌}
+use Rattle.catalogues.specs.declared.entries.Effect.{Effect}
+use Rattle.catalogues.specs.declared.entries.Effect.TheVariants.{Added}
 use Rattle.catalogues.specs.Entries.{added_to}
 use Rattle.catalogues.specs.Shape.{is_added}
 use Rattle.catalogues.proofs.Held.{held-add}
 use borrow.Author.Rules.{rules}
 use Rattle.catalogues.proofs.collecting.add.Goals as goal
-use Rattle.catalogues.proofs.collecting.add.Goals.{In-Added}
 
 -- a row that is added has its place
-room : (c : In-Added) → c.args.count < 32768
+room : (count : ℕ) (e : Effect) → (is_added e ≡ true → count < 32768) → (n w : ℕ) → e ≡ Added n w → count < 32768
 unfolding is_added
-room c = c.requires.count_bound_2 (rw c.effect-1.given.1)
+room _ _ c.requires.count_bound_2 _ _ c.in-Added.isount e h n w is = h (rw is)
 
 pub bounds-numbers-count : goal.bounds-numbers-count
-bounds-numbers-count c = omega (arith, room c, c.requires.count_bound.1.0)
+bounds-numbers-count c = omega (arith, room _ _ c.requires.count_bound_2 _ _ c.in-Added.is, c.requires.count_bound.1.0)
 
 pub bounds-words-count : goal.bounds-words-count
-bounds-words-count c = omega (arith, room c, c.requires.count_bound.1.1)
+bounds-words-count c = omega (arith, room _ _ c.requires.count_bound_2 _ _ c.in-Added.is, c.requires.count_bound.1.1)
 
 pub returns-in-Added : goal.returns-in-Added
 unfolding added_to
 returns-in-Added c =
-    let s = c.before.before.before in record {
-      words_after = rw c.effect-1.given.1
-          (held-add s.args.count s.args.numbers.now s.args.words.now _ _ (omega (arith, room c, s.requires.count_bound.1.0)) (omega (arith, room c, s.requires.count_bound.1.1)));
-      upper_bound = omega (arith, room c);
+    record {
+      words_after = rw c.in-Added.is
+          (held-add c.args.count c.args.numbers.now c.args.words.now _ _ (omega (arith, room _ _ c.requires.count_bound_2 _ _ c.in-Added.is, c.requires.count_bound.1.0)) (omega (arith, room _ _ c.requires.count_bound_2 _ _ c.in-Added.is, c.requires.count_bound.1.1)));
+      upper_bound = omega (arith, room _ _ c.requires.count_bound_2 _ _ c.in-Added.is);
     }
 
 pub returns-in-Repeated : goal.returns-in-Repeated
 unfolding added_to
 returns-in-Repeated c = record {
-  words_after = rw c.enum_told-1.given.1;
+  words_after = rw c.in-Repeated.is;
   upper_bound = c.requires.count_bound.0;
 }
 
 pub returns-in-Refused : goal.returns-in-Refused
 unfolding added_to
 returns-in-Refused c = record {
-  words_after = rw c.enum_told-in-Refused-1.given.1;
+  words_after = rw c.in-Refused.is;
   upper_bound = c.requires.count_bound.0;
 }
 
 pub returns-in-Malformed : goal.returns-in-Malformed
 unfolding added_to
 returns-in-Malformed c = record {
-  words_after = rw c.enum_told-in-Malformed-1.given.1;
+  words_after = rw c.in-Malformed.is;
   upper_bound = c.requires.count_bound.0;
 }

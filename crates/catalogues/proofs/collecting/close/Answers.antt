@@ -10,10 +10,8 @@ pub returns-then-is_blank : goal.returns-then-is_blank
 unfolding lacked_by
 returns-then-is_blank c =
     record {
-      fit_2 = (rw (sym c.is_blank.ensures ∙ c.if-is_blank.true)
-          (c.requires.fit, (start-stands _ _ _ _, omega arith))).0;
-      stands = (rw (sym c.is_blank.ensures ∙ c.if-is_blank.true)
-          (c.requires.fit, (start-stands _ _ _ _, omega arith))).1;
+      fit_2 = c.requires.fit;
+      stands = rw (sym c.is_blank.ensures ∙ c.if-is_blank.true) (start-stands _ _ _ _, omega arith);
     }
 
 pub returns : goal.returns
@@ -21,6 +19,6 @@ unfolding lacked_by
 returns c =
     let done = c.end_line.ensures in
     record {
-      fit_2 = (rw (sym c.is_blank.ensures ∙ c.if-is_blank.false) (done.fit_2, (done.stands.0, omega (arith, done.stands.1)))).0;
-      stands = (rw (sym c.is_blank.ensures ∙ c.if-is_blank.false) (done.fit_2, (done.stands.0, omega (arith, done.stands.1)))).1;
+      fit_2 = done.fit_2;
+      stands = rw (sym c.is_blank.ensures ∙ c.if-is_blank.false) (done.stands.0, omega (arith, done.stands.1));
     }

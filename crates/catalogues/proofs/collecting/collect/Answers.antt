@@ -1,6 +1,8 @@
 -- `catalogues::collecting::collect` meets its contract.
 use native.Mathlib.Omega.{arith}
-use Prim.Native.Nat.{◌*◌, ◌-◌, ◌≤◌}
+use mathlib.Core.List.{List}
+use Rattle.lines.specs.Replies.{TextAt}
+use Prim.Native.Nat.{ℕ, ◌*◌, ◌-◌, ◌≤◌}
 use native.Mathlib.Numerals.{add-one}
 use mathlib.Core.Path.{◌≡◌, sym, ap, ◌∙◌}
 use lib.ListN.{length, take}
@@ -8,16 +10,10 @@ use lib.Seq.{take_all, length-sets}
 use Rattle.lines.specs.Programs.{Stands}
 use Rattle.lines.proofs.Programs.{start-stands, block_more}
 use Rattle.catalogues.specs.Runs.{cataloguing, run_held, Fit}
-use Rattle.catalogues.proofs.collecting.collect.Lts as lts
-use Rattle.catalogues.proofs.collecting.collect.Tie as tie
-use Rattle.catalogues.proofs.collecting.collect.Reads as reads
 use Rattle.catalogues.proofs.collecting.collect.Goals as goal
 
-abbrev At-loop-i : Type 0
-At-loop-i = lts.At-loop tie.the-claims reads.Pre reads.Post goal.the-invariant-loop-i goal.the-decreases-loop-i tie.handed_clauses
-
-same_size : (c : At-loop-i) → length c.loop-i.out ≡ length c.args.out.now
-same_size c = ap length c.loop-i.invariant.3.text.buffer ∙ simp length-sets
+same_size : (before text after : List ℕ) (at next : ℕ) → TextAt at text before after next → length after ≡ length before
+same_size before text after at next w = ap length w.buffer ∙ simp length-sets
 
 pub loop-i-init : goal.loop-i-init
 loop-i-init c = (omega arith, omega arith, c.requires.fit, start-stands _ _ _ _)
@@ -27,14 +23,13 @@ bounds-block-i c = omega arith
 
 pub take_byte-step-requires : goal.take_byte-step-requires
 take_byte-step-requires c =
-    let turn = c.before.before.before.before.before.before in
     record {
-      fit = turn.loop-i.invariant.2;
-      at_in_bounds = omega (arith, same_size turn, c.loop-i-test.true, turn.loop-i.invariant.1, turn.requires.block_in_bounds);
+      fit = c.loop-i.invariant.2;
+      at_in_bounds = omega (arith, same_size _ _ _ _ _ c.loop-i.invariant.3.text, c.loop-i-test.true, c.loop-i.invariant.1, c.requires.block_in_bounds);
     }
 
 pub overflow_add-i : goal.overflow_add-i
-overflow_add-i c = omega (arith, c.loop-i-test.true, c.well-formed)
+overflow_add-i c = omega arith
 
 pub loop-i-smaller : goal.loop-i-smaller
 loop-i-smaller c = omega (arith, c.loop-i-test.true)
@@ -55,7 +50,7 @@ pub shape_of-words : goal.shape_of-words
 shape_of-words c = c.loop-i.invariant.2.words ∙ sym c.requires.fit.words
 
 pub shape_of-out : goal.shape_of-out
-shape_of-out c = same_size c.before.before
+shape_of-out c = same_size _ _ _ _ _ c.loop-i.invariant.3.text
 
 pub returns : goal.returns
 returns c =

@@ -23,13 +23,13 @@ add-count-requires c =
 
 pub returns : goal.returns
 returns c =
-    let s = c.before.before.before.before.before in record {
-      fit_2 = line_fits _ _ _ _ _ _ c.line_effect-done.result c.line_effect-done.ensures c.add-count.ensures.words_after s.requires.fit c.add-count.ensures.upper_bound
+    record {
+      fit_2 = line_fits _ _ _ _ _ _ c.line_effect-done.result c.line_effect-done.ensures c.add-count.ensures.words_after c.requires.fit c.add-count.ensures.upper_bound
           c.add-count.auto.numbers c.add-count.auto.words;
       stands = (
         line_ended _ _ _ _ _ _ c.line_effect-done.result c.line_effect-done.ensures c.add-count.ensures.words_after _ _ _ _
             c.line_after-lines.ensures c.put_effect-next.ensures.0
-            (c.either-refused.ensures ∙ ap (λ (t : Bool). s.args.collection.refused || t) c.is_refusal.ensures)
+            (c.either-refused.ensures ∙ ap (λ (t : Bool). c.args.collection.refused || t) c.is_refusal.ensures)
             c.blank_line.ensures,
         c.put_effect-next.ensures.1,
       );

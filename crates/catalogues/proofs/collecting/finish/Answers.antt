@@ -14,7 +14,7 @@ returns-then-all c =
 pub put_rows-requires : goal.put_rows-requires
 put_rows-requires c =
     let f = c.close-last.ensures.fit_2 in
-    let kept : length c.close-last.new.1.1.1.0 ≡ length c.args.out.now = ap length c.close-last.ensures.stands.0.text.buffer ∙ simp length-sets in
+    let kept : length c.close-last.new.out ≡ length c.args.out.now = ap length c.close-last.ensures.stands.0.text.buffer ∙ simp length-sets in
     record {
       count_bound = (f.few, (f.numbers, f.words));
       proper = f.proper;

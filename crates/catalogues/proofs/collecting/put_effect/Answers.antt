@@ -13,7 +13,7 @@ pub put_field-requires : goal.put_field-requires
 put_field-requires c =
     omega (
       arith,
-      length-field c.effect-1.given.0.0 32,
+      length-field c.in-Refused.refusal 32,
       c.put_field-second,
       c.put-first,
       c.requires,
@@ -21,21 +21,21 @@ put_field-requires c =
 
 pub returns-in-Added : goal.returns-in-Added
 unfolding effect_text
-returns-in-Added c = rw c.enum_told-1.given.1 (nothing_put _ _, omega arith)
+returns-in-Added c = rw c.in-Added.is (nothing_put _ _, omega arith)
 
 pub returns-in-Repeated : goal.returns-in-Repeated
 unfolding effect_text
-returns-in-Repeated c = rw c.enum_told-in-Repeated-1.given.1 (nothing_put _ _, omega arith)
+returns-in-Repeated c = rw c.in-Repeated.is (nothing_put _ _, omega arith)
 
 pub returns-in-Refused : goal.returns-in-Refused
 unfolding effect_text
 returns-in-Refused c =
-    rw c.effect-1.given.1
+    rw c.in-Refused.is
     (put-short 37 _ _ _ _ _ (then _ _ _ _ _ _ _ _ c.put-first.ensures (then _ _ _ _ _ _ _ _ c.put_field-second.ensures c.put_field.ensures))
-    (text_short c.args.line (Refused c.effect-1.given.0.0)))
+    (text_short c.args.line (Refused c.in-Refused.refusal)))
 
 pub returns-in-Malformed : goal.returns-in-Malformed
 unfolding effect_text
 returns-in-Malformed c =
-    rw c.enum_told-in-Malformed-1.given.1
+    rw c.in-Malformed.is
     (put-short 37 _ _ _ _ _ (then _ _ _ _ _ _ _ _ c.put-first-in-Malformed.ensures c.put_field-in-Malformed.ensures) (text_short c.args.line Malformed))

@@ -8,8 +8,8 @@ use Rattle.catalogues.proofs.collecting.take_byte.Goals as goal
 
 pub returns-then-byte-eq10 : goal.returns-then-byte-eq10
 returns-then-byte-eq10 c = record {
-  fit_2 = (rw c.if-byte-eq10.true c.end_line.ensures).0;
-  stands = (rw c.if-byte-eq10.true c.end_line.ensures).1;
+  fit_2 = c.end_line.ensures.fit_2;
+  stands = rw c.if-byte-eq10.true c.end_line.ensures.stands;
 }
 
 pub returns : goal.returns

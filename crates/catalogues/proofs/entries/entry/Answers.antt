@@ -1,6 +1,6 @@
 -- `catalogues::entries::entry` meets its contract.
 use native.Mathlib.Omega.{arith}
-use Prim.Native.Nat.{ℕ}
+use Prim.Native.Nat.{ℕ, ◌≤◌}
 use mathlib.Core.Bool.{true}
 use mathlib.Core.List.{List}
 use mathlib.Core.Path.{◌≡◌, sym, ◌∙◌}
@@ -11,31 +11,14 @@ use Rattle.catalogues.specs.Entries.{rows_held}
 use Rattle.catalogues.proofs.Held.{held-length}
 use Rattle.catalogues.proofs.Entering.{number-refused, position-refused, full, taken, again, other}
 use borrow.Author.Rules.{rules}
-use Rattle.catalogues.proofs.entries.entry.Lts as lts
-use Rattle.catalogues.proofs.entries.entry.Tie as tie
-use Rattle.catalogues.proofs.entries.entry.Reads as reads
 use Rattle.catalogues.proofs.entries.entry.Goals as goal
-use Rattle.catalogues.proofs.entries.entry.Goals.{Start}
 
-abbrev After-standing_among : Type 0
-After-standing_among = lts.After-standing_among tie.the-claims reads.Pre reads.Post
+rows : (count : ℕ) (numbers words : List ℕ) → List (ℕ × ℕ)
+rows count numbers words = rows_held count numbers words
 
-abbrev start : After-standing_among → Start
-start c = c.before.before.before.before.before.before.before.before
-
--- the number and the position are valid
-number_ok : (c : After-standing_among) → valid_number (start c).args.number ≡ true
-number_ok c = sym c.number_valid.ensures ∙ c.if-not-number_valid.false
-
-position-ok : (c : After-standing_among) → valid_position (start c).args.position ≡ true
-position-ok c = sym c.position_valid.ensures ∙ c.if-not-position_valid.false
-
-rows : Start → List (ℕ × ℕ)
-rows s = rows_held s.args.count s.args.numbers.now s.args.words.now
-
-size : (s : Start) → length (rows s) ≡ s.args.count
+size : (count : ℕ) (numbers words : List ℕ) → (count ≤ length numbers) × (count ≤ length words) → length (rows count numbers words) ≡ count
 unfolding rows
-size s = held-length s.args.count s.args.numbers.now s.args.words.now s.requires.0 s.requires.1
+size count numbers words h = held-length count numbers words h.0 h.1
 
 pub returns-then-not-number_valid : goal.returns-then-not-number_valid
 returns-then-not-number_valid c = number-refused _ _ _ (sym c.number_valid.ensures ∙ c.if-not-number_valid.true)
@@ -51,25 +34,21 @@ pack-word-requires c = sym c.position_valid.ensures ∙ c.if-not-position_valid.
 pub returns-then-count-ge32768 : goal.returns-then-count-ge32768
 unfolding rows
 returns-then-count-ge32768 c =
-    let d = c.before.before.before.before in
-    full (rows (start d)) _ _ (number_ok d) (position-ok d) _ d.pack-word.ensures _ d.standing_among.ensures c.enum_told-1.given.1
-    (omega (arith, size (start d), c.if-count-ge32768.true))
+    full (rows c.args.count c.args.numbers.now c.args.words.now) _ _ (sym c.number_valid.ensures ∙ c.if-not-number_valid.false) (sym c.position_valid.ensures ∙ c.if-not-position_valid.false) _ c.pack-word.ensures _ c.standing_among.ensures c.in-New.is
+    (omega (arith, size c.args.count c.args.numbers.now c.args.words.now c.requires, c.if-count-ge32768.true))
 
 pub returns-else-count-ge32768 : goal.returns-else-count-ge32768
 unfolding rows
 returns-else-count-ge32768 c =
-    let d = c.before.before.before.before in
-    taken (rows (start d)) _ _ (number_ok d) (position-ok d) _ d.pack-word.ensures _ d.standing_among.ensures c.enum_told-1.given.1
-    (omega (arith, size (start d), c.if-count-ge32768.false))
+    taken (rows c.args.count c.args.numbers.now c.args.words.now) _ _ (sym c.number_valid.ensures ∙ c.if-not-number_valid.false) (sym c.position_valid.ensures ∙ c.if-not-position_valid.false) _ c.pack-word.ensures _ c.standing_among.ensures c.in-New.is
+    (omega (arith, size c.args.count c.args.numbers.now c.args.words.now c.requires, c.if-count-ge32768.false))
 
 pub returns-in-Same : goal.returns-in-Same
 unfolding rows
 returns-in-Same c =
-    let d = c.before.before.before in
-    again (rows (start d)) _ _ (number_ok d) (position-ok d) _ d.pack-word.ensures _ d.standing_among.ensures c.enum_told-in-Same-1.given.1
+    again (rows c.args.count c.args.numbers.now c.args.words.now) _ _ (sym c.number_valid.ensures ∙ c.if-not-number_valid.false) (sym c.position_valid.ensures ∙ c.if-not-position_valid.false) _ c.pack-word.ensures _ c.standing_among.ensures c.in-Same.is
 
 pub returns-in-Other : goal.returns-in-Other
 unfolding rows
 returns-in-Other c =
-    let d = c.before.before.before in
-    other (rows (start d)) _ _ (number_ok d) (position-ok d) _ d.pack-word.ensures _ d.standing_among.ensures c.enum_told-in-Other-1.given.1
+    other (rows c.args.count c.args.numbers.now c.args.words.now) _ _ (sym c.number_valid.ensures ∙ c.if-not-number_valid.false) (sym c.position_valid.ensures ∙ c.if-not-position_valid.false) _ c.pack-word.ensures _ c.standing_among.ensures c.in-Other.is

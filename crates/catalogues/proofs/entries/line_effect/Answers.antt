@@ -9,22 +9,22 @@ use Rattle.catalogues.proofs.entries.line_effect.Goals as goal
 pub returns-in-Enter : goal.returns-in-Enter
 unfolding effect_of
 returns-in-Enter c =
-    let dec = c.number-1.given.0.1.1.0 in
+    let dec = c.in-Enter.dec in
     let back : to_z w32 (of_z w32 dec) ≡ dec = search rules in
-    rw (← c.parse_line.ensures, c.number-1.given.1) (rw back at c.entry.ensures)
+    rw (← c.parse_line.ensures, c.in-Enter.is) (rw back at c.entry.ensures)
 
 pub returns-in-LookUp : goal.returns-in-LookUp
 unfolding effect_of
-returns-in-LookUp c = rw (← c.parse_line.ensures, c.enum_told-1.given.1)
+returns-in-LookUp c = rw (← c.parse_line.ensures, c.in-LookUp.is)
 
 pub returns-in-Remove : goal.returns-in-Remove
 unfolding effect_of
-returns-in-Remove c = rw (← c.parse_line.ensures, c.enum_told-in-Remove-1.given.1)
+returns-in-Remove c = rw (← c.parse_line.ensures, c.in-Remove.is)
 
 pub returns-in-Grow : goal.returns-in-Grow
 unfolding effect_of
-returns-in-Grow c = rw (← c.parse_line.ensures, c.enum_told-in-Grow-1.given.1)
+returns-in-Grow c = rw (← c.parse_line.ensures, c.in-Grow.is)
 
 pub returns-in-Bad : goal.returns-in-Bad
 unfolding effect_of
-returns-in-Bad c = rw (← c.parse_line.ensures, c.enum_told-in-Bad-1.given.1)
+returns-in-Bad c = rw (← c.parse_line.ensures, c.in-Bad.is)

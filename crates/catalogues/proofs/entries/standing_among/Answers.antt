@@ -26,16 +26,16 @@ returns-then-numbers-i c =
     c.loop-i-test.true c.if-numbers-i.true c.if-words-i.false c.loop-i.invariant.1
 
 pub overflow_add-i : goal.overflow_add-i
-overflow_add-i c = omega (arith, c.loop-i-test.true, c.requires.0, c.well-formed)
+overflow_add-i c = omega (arith, c.loop-i-test.true, c.requires.0)
 
 pub loop-i-smaller : goal.loop-i-smaller
 loop-i-smaller c = omega arith
 
 pub loop-i-preserved : goal.loop-i-preserved
 loop-i-preserved c =
-    let s = c.before in (
+    (
       omega arith,
-      sought-next s.args.count s.args.numbers.now s.args.words.now s.requires.0 s.requires.1 s.args.number s.args.word c.loop-i.i
+      sought-next c.args.count c.args.numbers.now c.args.words.now c.requires.0 c.requires.1 c.args.number c.args.word c.loop-i.i
           c.loop-i-test.true c.if-numbers-i.false c.loop-i.invariant.1,
     )
 

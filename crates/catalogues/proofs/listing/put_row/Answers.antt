@@ -10,16 +10,16 @@ pub put_line-requires : goal.put_line-requires
 put_line-requires c =
     record {
       at_in_bounds = omega (arith, c.requires.i_lt_rows.1);
-      word_value = star-valid 0 c.args.given.now _ _ _ (sym c.row_at.ensures ∙ c.number-1.given.1);
+      word_value = star-valid 0 c.args.given.now _ _ _ (sym c.row_at.ensures ∙ c.in-Star.is);
     }
 
 pub returns-in-Star : goal.returns-in-Star
 returns-in-Star c =
-    let s = c.before.before.before.before.before.before.before.before.before.before.before in (
-      row_put s.args.given.now s.args.rows s.args.i s.requires.rows_value s.requires.i_lt_rows.0 c.row_at.ensures _ _ c.number-1.given.1 _ _ _ _ c.put_line.ensures.0,
+    (
+      row_put c.args.given.now c.args.rows c.args.i c.requires.rows_value c.requires.i_lt_rows.0 c.row_at.ensures _ _ c.in-Star.is _ _ _ _ c.put_line.ensures.0,
       c.put_line.ensures.1,
     )
 
 pub returns-in-Wrong : goal.returns-in-Wrong
 returns-in-Wrong c =
-    absurd (row_there c.args.given.now c.args.rows c.args.i c.requires.rows_value c.requires.i_lt_rows.0 c.row_at.ensures c.enum_told-1.given.1)
+    absurd (row_there c.args.given.now c.args.rows c.args.i c.requires.rows_value c.requires.i_lt_rows.0 c.row_at.ensures c.in-Wrong.is)

@@ -47,7 +47,7 @@ pub returns-in-Overflows : goal.returns-in-Overflows
 returns-in-Overflows c =
     let s = c.before.before.before.before.before.before.before.before.before.before.before.before in
     let a = s.args in
-    overflows_carried a.upward a.parameters a.limit (file s) a.star.number a.star.word a.star.owner a.pool.now a.planned.now a.decision c.enum_told-in-Overflows-1.given.1
+    overflows_carried a.upward a.parameters a.limit (file s) a.star.number a.star.word a.star.owner a.pool.now a.planned.now a.decision c.in-Overflows.is
 
 pub returns-in-Put : goal.returns-in-Put
 returns-in-Put c =

@@ -13,14 +13,14 @@ returns-then-rows-from c = named-beyond _ _ _ (words_long _ _) (omega (arith, c.
 
 pub returns-in-Star : goal.returns-in-Star
 returns-in-Star c =
-    let d = c.before.before.before.before in
-    let s = d.before.before.before.before in
+    let d = c in
+    let s = c in
     word-taken s.args.given.now s.args.rows s.args.source s.requires.rows_value (λ e. d.if-from-eq0.false (omega arith))
-    (omega (arith, d.if-rows-from.false)) d.row_at.ensures _ _ c.word-1.given.1
+    (omega (arith, d.if-rows-from.false)) d.row_at.ensures _ _ c.in-Star.is
 
 pub returns-in-Wrong : goal.returns-in-Wrong
 returns-in-Wrong c =
-    let d = c.before.before.before in
-    let s = d.before.before.before.before in
+    let d = c in
+    let s = c in
     absurd (never_wrong s.args.given.now s.args.rows s.args.source s.requires.rows_value (λ e. d.if-from-eq0.false (omega arith))
-    (omega (arith, d.if-rows-from.false)) d.row_at.ensures c.enum_told-1.given.1)
+    (omega (arith, d.if-rows-from.false)) d.row_at.ensures c.in-Wrong.is)

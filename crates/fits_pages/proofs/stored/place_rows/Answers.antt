@@ -10,11 +10,11 @@ use mathlib.Core.Bool.{not}
 use Rattle.fits_pages.proofs.stored.place_rows.Goals as goal
 
 pub returns-then-pool-rows : goal.returns-then-pool-rows
-returns-then-pool-rows c = let s = c.before.before.before.before.before.before.before.before.before in no_room _ s.args.given.now s.args.rows _ (omega (arith, c.if-pool-rows.true, s.requires.pool_len.0))
+returns-then-pool-rows c = let s = c in no_room _ s.args.given.now s.args.rows _ (omega (arith, c.if-pool-rows.true, s.requires.pool_len.0))
 
 pub plan_rows-requires : goal.plan_rows-requires
 plan_rows-requires c =
-    let s = c.before.before.before.before.before.before.before.before.before.before.before.before in
+    let s = c in
     record {
       homing = s.requires.ready.homing;
       rows_bound = s.requires.rows_bound;
@@ -26,17 +26,17 @@ plan_rows-requires c =
 
 pub returns-then-not-plan_rows : goal.returns-then-not-plan_rows
 returns-then-not-plan_rows c =
-    let d = c.before.before.before.before.before.before in
-    let s = d.before.before.before.before.before.before.before.before.before.before.before.before in
-    overfull _ s.args.given.now s.args.rows _ _ _ (rw (not-true d.plan_rows.result (ap not c.if-not-plan_rows.true)) at d.plan_rows.ensures.plans_rows)
+    let d = c in
+    let s = c in
+    overfull _ s.args.given.now s.args.rows _ _ _ (rw c.if-not-plan_rows.true at d.plan_rows.ensures.plans_rows)
 
 pub slice_bounds-copy_8-end : goal.slice_bounds-copy_8-end
 slice_bounds-copy_8-end c = sym c.plan_rows.ensures.planned_len_2
 
 pub copy_8-requires : goal.copy_8-requires
 copy_8-requires c =
-    let d = c.before.before.before.before.before.before.before.before.before in
-    let s = d.before.before.before.before.before.before.before.before.before.before.before.before in
+    let d = c in
+    let s = c in
     let most = (limits s.args.geometry.parameters s.requires.ready.homing.valid).pages_most in
     record {
       in_bounds = omega (arith, s.requires.ready.sized.of_separators);
@@ -45,8 +45,8 @@ copy_8-requires c =
 
 pub store_rows-requires : goal.store_rows-requires
 store_rows-requires c =
-    let d = c.before.before.before.before.before.before.before.before.before.before.before.before.before.before.before in
-    let s = d.before.before.before.before.before.before.before.before.before.before.before.before in
+    let d = c in
+    let s = c in
     let same = d.plan_rows.auto.pool in
     let z = s.requires.ready.sized in record {
       rows_bound = s.requires.rows_bound;
@@ -56,11 +56,11 @@ store_rows-requires c =
 
 pub returns : goal.returns
 returns c =
-    let d = c.before.before.before.before.before.before.before.before.before.before.before.before.before.before.before.before.before.before.before.before.before.before in
-    let s = d.before.before.before.before.before.before.before.before.before.before.before.before in
+    let d = c in
+    let s = c in
     let e = c.store_rows.ensures in
     let same = d.plan_rows.auto.pool in
-    let chosen = c.before.before.before.before.before.before.before.before.before.before.before.before.before.before.before.before.before in
-    all-stored _ s.args.given.now s.args.rows _ _ _ (rw (not-false d.plan_rows.result (ap not chosen.if-not-plan_rows.false)) at d.plan_rows.ensures.plans_rows) _ _ _ _
+    let chosen = c in
+    all-stored _ s.args.given.now s.args.rows _ _ _ (rw c.if-not-plan_rows.false at d.plan_rows.ensures.plans_rows) _ _ _ _
     (c.copy_8.ensures ∙ pasted_front _ _ _ s.requires.ready.sized.of_separators) e.numbers_after e.words_after
-    (e.owners_after ∙ zeros-as_long (length s.args.owners.now) (length d.plan_rows.new.1.1.1.1.0) (omega (arith, same, s.requires.pool_len.0, s.requires.ready.sized.of_owners)))
+    (e.owners_after ∙ zeros-as_long (length s.args.owners.now) (length d.plan_rows.new.pool) (omega (arith, same, s.requires.pool_len.0, s.requires.ready.sized.of_owners)))

@@ -41,7 +41,7 @@ abbrev begun : After-key_rows → Start
 begun c = c.before.before.before.before.before.before
 
 abbrev keys_of : After-key_rows → List ℕ
-keys_of c = c.key_rows.new.1.1.1.1.0
+keys_of c = c.key_rows.new.keys
 
 front : (c : After-key_rows) → take (begun c).args.rows (keys_of c) ≡ row_keys (begun c).args.geometry (begun c).args.given.now (begun c).args.rows
 front c = keys_front _ _ _ (begun c).args.pool.now _ (begun c).requires.rows_in_bounds c.key_rows.ensures
@@ -85,7 +85,7 @@ place_all-requires c =
       valid = s.requires.homing.valid;
       pages = omega (arith, most s);
       of_planned = omega (arith, most s, s.requires.planned_len);
-      of_pool = rw (zero-add s.args.geometry.parameters.pages) (omega (arith, s.requires.pool_len.0, k.key_rows.kept.1.1.1.1.0));
+      of_pool = rw (zero-add s.args.geometry.parameters.pages) (omega (arith, s.requires.pool_len.0, k.key_rows.auto.keys));
       of_ends = omega (arith, most s, d.gather_keys.auto.ends);
       few = omega (arith, few-items s, s.requires.pool_len, d.gather_keys.auto.waiting, m.number_rows.auto.waiting);
       order = omega arith;
@@ -105,6 +105,6 @@ returns c =
     let s = begun k in record {
       plans_rows = rows_settled s.args.geometry s.args.given.now s.args.rows s.requires.homing.valid s.requires.homing.growth (some s) s.requires.rows_bound.0 s.requires.rows_value (keys_of k)
           s.args.waiting.now _ _ (inside k) (front k) (most s) (room s) d.gather_keys.auto.waiting d.gather_keys.ensures _ m.number_rows.auto.waiting m.number_rows.ensures
-          (keys_of k) _ _ _ _ _ (k.key_rows.kept.1.1.1.1.0 ∙ s.requires.pool_len.0) u.place_all.auto.pool (omega (arith, most s, s.requires.planned_len)) (inside k) u.place_all.ensures;
+          (keys_of k) _ _ _ _ _ (k.key_rows.auto.keys ∙ s.requires.pool_len.0) u.place_all.auto.pool (omega (arith, most s, s.requires.planned_len)) (inside k) u.place_all.ensures;
       planned_len_2 = u.place_all.auto.planned ∙ s.requires.planned_len;
     }

@@ -1,6 +1,5 @@
-use mathlib.Core.Path.{◌≡◌}
 use native.Mathlib.Omega.{arith}
-use Rattle.growth_block.proofs.Starting.{Seeking, seeking_next, seeking_found, seeking_none}
+use Rattle.growth_block.proofs.Starting.{seeking_next, seeking_found, seeking_none}
 use Rattle.growth_block.proofs.block.block_start.Goals as goal
 
 pub loop-lo-init : goal.loop-lo-init

@@ -8,12 +8,11 @@ returns-then-number-eq0 c = rw (eq-eqb _ _ c.if-number-eq0.true)
 
 pub home_grown-requires : goal.home_grown-requires
 home_grown-requires c =
-    let pre = c.requires in
     record {
-      table_value = pre.homing.table;
-      parameters_value = pre.homing.valid;
-      growth_value = pre.homing.growth;
-      value = rw (ne_eqb _ _ c.if-number-eq0.false) at pre.home_value;
+      table_value = c.requires.homing.table;
+      parameters_value = c.requires.homing.valid;
+      growth_value = c.requires.homing.growth;
+      value = rw (ne_eqb _ _ c.if-number-eq0.false) at c.requires.home_value;
     }
 
 pub returns : goal.returns

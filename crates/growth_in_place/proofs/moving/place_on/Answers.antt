@@ -1,14 +1,13 @@
 use mathlib.Core.Path.{ap}
 use mathlib.Core.Logic.{⊎_elim}
-use Prim.Native.Nat.{◌*◌, ◌-◌, ◌≤◌}
+use Prim.Native.Nat.{◌*◌, ◌-◌}
 use native.Mathlib.Omega.{arith}
-use lib.ListN.{drop, length-drop}
+use lib.ListN.{length-drop}
 use lib.Seq.{get_or-drop}
-use borrow.Author.Rules.{rules}
 use borrow.Author.Tests.{eq-eqb, ne_eqb}
 use Rattle.pages.specs.Page.{part}
 use Rattle.pages.specs.declared.page.Place.{Place}
-use Rattle.pages.proofs.Places.{Passed, passed_none, passed-more, passed-found, passed-all}
+use Rattle.pages.proofs.Places.{passed_none, passed-more, passed-found, passed-all}
 use Rattle.growth_in_place.proofs.moving.place_on.Goals as goal
 
 pub loop-i-init : goal.loop-i-init
@@ -17,21 +16,19 @@ loop-i-init c = (omega arith, passed_none _ _ _ (omega (arith, length-drop (c.ar
 pub returns-then-there-eq0 : goal.returns-then-there-eq0
 unfolding part
 returns-then-there-eq0 c =
-    let s = c.before.before.before.before.before in
-    let ns = s.args.numbers.now in
+    let ns = c.args.numbers.now in
     let i = c.loop-i.i in
     ap (λ (r : Place). r.at)
     (passed-found c.loop-i.invariant.1 (omega arith)
-    (rw (get_or-drop (s.args.page * s.args.places) ns i 0) (⊎_elim (λ w. rw (eq-eqb _ _ w.taken)) (λ w. rw (ne_eqb _ _ w.0.left, w.1.taken)) c.then-there-eq0.branch)))
+    (rw (get_or-drop (c.args.page * c.args.places) ns i 0) (⊎_elim (λ w. rw (eq-eqb _ _ w.taken)) (λ w. rw (ne_eqb _ _ w.0.left, w.1.taken)) c.then-there-eq0.branch)))
 
 pub loop-i-preserved : goal.loop-i-preserved
 loop-i-preserved c =
-    let s = c.before.before.before.before.before.before in
-    let ns = s.args.numbers.now in
+    let ns = c.args.numbers.now in
     let i = c.loop-i.i in (
       omega arith,
       passed-more c.loop-i.invariant.1 (omega arith)
-          (rw (get_or-drop (s.args.page * s.args.places) ns i 0, ne_eqb _ _ c.if-there-eq0.false, c.if-number-there.false)),
+          (rw (get_or-drop (c.args.page * c.args.places) ns i 0, ne_eqb _ _ c.if-there-eq0.false, c.if-number-there.false)),
     )
 
 pub returns : goal.returns

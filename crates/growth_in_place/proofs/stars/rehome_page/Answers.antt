@@ -1,27 +1,13 @@
 use mathlib.Core.Path.{◌≡◌, refl, ◌∙◌, sym, ap}
 use lib.Seq.{get_or-drop}
 use Rattle.growth_in_place.proofs.Joiners.{home-item, length-homes}
-use Prim.Native.Nat.{ℕ, ◌+◌, ◌*◌, ◌-◌, ◌≤◌}
+use Prim.Native.Nat.{ℕ, ◌+◌, ◌*◌, ◌-◌}
 use native.Mathlib.Omega.{arith}
 use lib.ListN.{length, drop, length-drop}
-use borrow.Author.Rules.{rules}
 use Rattle.hashing.specs.Geometry.{grown}
 use Rattle.placement.specs.Shape.{homes_of}
-use Rattle.buffers.proofs.Copies.{Copied, none, turn, done, unread}
+use Rattle.buffers.proofs.Copies.{none, turn, done, unread}
 use Rattle.growth_in_place.proofs.stars.rehome_page.Goals as goal
-use Rattle.growth_in_place.proofs.stars.rehome_page.Goals.{Start}
-
-long : (s : Start) → length s.args.homes.now ≡ length s.args.numbers.now
-long s = length-homes _ _ _ _ s.requires.homes_value
-
-next-long : (s : Start)
-    → let p = s.args.geometry.parameters in
-    let at = s.args.page * p.places in
-    length (drop at (homes_of p (grown p s.args.geometry.growth) s.args.numbers.now)) ≡ length s.args.numbers.now - at
-next-long s =
-    let p = s.args.geometry.parameters in
-    length-drop (s.args.page * p.places) (homes_of p (grown p s.args.geometry.growth) s.args.numbers.now)
-    ∙ ap (λ (n : ℕ). n - s.args.page * p.places) (length-homes p (grown p s.args.geometry.growth) _ s.args.numbers.now refl)
 
 pub loop-i-init : goal.loop-i-init
 loop-i-init c = (omega arith, none _ _ _)
@@ -30,7 +16,9 @@ pub overflow_add-old : goal.overflow_add-old
 overflow_add-old c = omega (arith, c.requires.places_in_bounds)
 
 pub bounds-homes-first : goal.bounds-homes-first
-bounds-homes-first c = omega (arith, c.requires.places_in_bounds, long c.before.before.before.before.before.before.before, c.loop-i.invariant.1.kept)
+bounds-homes-first c =
+    let long : length c.args.homes.now ≡ length c.args.numbers.now = length-homes _ _ _ _ c.requires.homes_value in
+    omega (arith, c.requires.places_in_bounds, long, c.loop-i.invariant.1.kept)
 
 pub overflow_add-first : goal.overflow_add-first
 overflow_add-first c = omega (arith, c.requires.places_in_bounds)
@@ -40,29 +28,33 @@ bounds-numbers-first c = omega (arith, c.requires.places_in_bounds)
 
 pub item_grown-next-requires : goal.item_grown-next-requires
 item_grown-next-requires c =
-    let s = c.before.before.before.before.before.before.before.before in
-    let at = s.args.page * s.args.geometry.parameters.places in record {
-      homing = s.requires.homing;
-      value = unread _ at _ _ _ (omega (arith, s.requires.places_in_bounds, long s)) (omega (arith, s.requires.places_in_bounds, next-long s)) c.loop-i.invariant.1
-          ∙ home-item _ _ _ _ _ s.requires.homes_value;
+    let long : length c.args.homes.now ≡ length c.args.numbers.now = length-homes _ _ _ _ c.requires.homes_value in
+    let next-long : let p = c.args.geometry.parameters in let at = c.args.page * p.places in length (drop at (homes_of p (grown p c.args.geometry.growth) c.args.numbers.now)) ≡ length c.args.numbers.now - at = let p = c.args.geometry.parameters in length-drop (c.args.page * p.places) (homes_of p (grown p c.args.geometry.growth) c.args.numbers.now) ∙ ap (λ (n : ℕ). n - c.args.page * p.places) (length-homes p (grown p c.args.geometry.growth) _ c.args.numbers.now refl) in
+    let at = c.args.page * c.args.geometry.parameters.places in record {
+      homing = c.requires.homing;
+      value = unread _ at _ _ _ (omega (arith, c.requires.places_in_bounds, long)) (omega (arith, c.requires.places_in_bounds, next-long)) c.loop-i.invariant.1
+          ∙ home-item _ _ _ _ _ c.requires.homes_value;
     }
 
 pub overflow_add-homes : goal.overflow_add-homes
 overflow_add-homes c = omega (arith, c.requires.places_in_bounds)
 
 pub bounds-homes-first-in-loop-i : goal.bounds-homes-first-in-loop-i
-bounds-homes-first-in-loop-i c = omega (arith, c.requires.places_in_bounds, long c.before.before.before.before.before.before.before.before.before, c.loop-i.invariant.1.kept)
+bounds-homes-first-in-loop-i c =
+    let long : length c.args.homes.now ≡ length c.args.numbers.now = length-homes _ _ _ _ c.requires.homes_value in
+    omega (arith, c.requires.places_in_bounds, long, c.loop-i.invariant.1.kept)
 
 pub loop-i-preserved : goal.loop-i-preserved
 loop-i-preserved c =
-    let s = c.before.before.before.before.before.before.before.before.before in
-    let p = s.args.geometry.parameters in
-    let at = s.args.page * p.places in
-    let ns = s.args.numbers.now in
+    let long : length c.args.homes.now ≡ length c.args.numbers.now = length-homes _ _ _ _ c.requires.homes_value in
+    let next-long : let p = c.args.geometry.parameters in let at = c.args.page * p.places in length (drop at (homes_of p (grown p c.args.geometry.growth) c.args.numbers.now)) ≡ length c.args.numbers.now - at = let p = c.args.geometry.parameters in length-drop (c.args.page * p.places) (homes_of p (grown p c.args.geometry.growth) c.args.numbers.now) ∙ ap (λ (n : ℕ). n - c.args.page * p.places) (length-homes p (grown p c.args.geometry.growth) _ c.args.numbers.now refl) in
+    let p = c.args.geometry.parameters in
+    let at = c.args.page * p.places in
+    let ns = c.args.numbers.now in
     let i = c.loop-i.i in (
       omega arith,
-      turn _ at _ _ i _ (omega (arith, s.requires.places_in_bounds, long s)) (omega (arith, s.requires.places_in_bounds, next-long s))
-          (c.item_grown-next.ensures ∙ sym (get_or-drop at (homes_of p (grown p s.args.geometry.growth) ns) i 0 ∙ home-item p (grown p s.args.geometry.growth) _ ns (at + i) refl))
+      turn _ at _ _ i _ (omega (arith, c.requires.places_in_bounds, long)) (omega (arith, c.requires.places_in_bounds, next-long))
+          (c.item_grown-next.ensures ∙ sym (get_or-drop at (homes_of p (grown p c.args.geometry.growth) ns) i 0 ∙ home-item p (grown p c.args.geometry.growth) _ ns (at + i) refl))
           c.loop-i.invariant.1,
     )
 

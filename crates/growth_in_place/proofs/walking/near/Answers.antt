@@ -1,4 +1,3 @@
-use borrow.Author.Rules.{rules}
 use Rattle.growth_in_place.proofs.walking.near.Goals as goal
 
 pub returns : goal.returns

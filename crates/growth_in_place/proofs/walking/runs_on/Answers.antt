@@ -1,4 +1,3 @@
-use borrow.Author.Rules.{rules}
 use Rattle.growth_in_place.proofs.walking.runs_on.Goals as goal
 
 pub returns-then-here : goal.returns-then-here

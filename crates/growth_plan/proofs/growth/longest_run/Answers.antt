@@ -1,7 +1,6 @@
 -- `growth_plan::growth::longest_run` meets its contract: it is safe, and ends.
-use Prim.Native.Nat.{◌-◌, ◌≤◌}
+use Prim.Native.Nat.{◌-◌}
 use native.Mathlib.Omega.{arith}
-use lib.ListN.{length}
 use Rattle.growth_plan.proofs.growth.longest_run.Goals as goal
 
 pub loop-page-init : goal.loop-page-init

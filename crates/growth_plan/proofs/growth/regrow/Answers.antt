@@ -7,17 +7,7 @@ use Rattle.hashing.specs.declared.Growth.{Growth}
 use Rattle.placement.specs.File.{File}
 use Rattle.page_plan.specs.declared.outcome.Outcome.{Outcome}
 use Rattle.growth_plan.specs.Growth.{state_after, Movable, growth_answer, growth_file}
-use Rattle.growth_plan.proofs.growth.regrow.Lts as lts
-use Rattle.growth_plan.proofs.growth.regrow.Tie as tie
-use Rattle.growth_plan.proofs.growth.regrow.Reads as reads
 use Rattle.growth_plan.proofs.growth.regrow.Goals as goal
-use Rattle.growth_plan.proofs.growth.regrow.Goals.{After-grow, After-shrink}
-
-abbrev After-slice_known-then-back-7-1 : Type 0
-After-slice_known-then-back-7-1 = lts.After-slice_known14 tie.the-claims reads.Pre reads.Post tie.handed_clauses
-
-abbrev After-slice_known-14-1 : Type 0
-After-slice_known-14-1 = lts.After-slice_known21 tie.the-claims reads.Pre reads.Post tie.handed_clauses
 
 -- either way
 movable : (b back : Bool) (p : Parameters) (g : Growth) → back ≡ b → Movable back p g → Movable b p g
@@ -30,15 +20,11 @@ regrown b back p g f f' r page e d = subst (λ (x : Bool). (r ≡ growth_answer 
 
 pub shrink-requires : goal.shrink-requires
 shrink-requires c =
-    let pre = c.requires in
     record {
-      ready = pre.ready;
-      pooled = pre.pooled;
-      movable = movable true _ _ _ c.if-back.true pre.movable;
+      ready = c.requires.ready;
+      pooled = c.requires.pooled;
+      movable = movable true _ _ _ c.if-back.true c.requires.movable;
     }
-
-abbrev after-shrink : After-slice_known-then-back-7-1 → After-shrink
-after-shrink c = c.before.before.before.before.before.before.before.before.before.before.before.before.before.before
 
 pub returns-then-back : goal.returns-then-back
 returns-then-back c = record {
@@ -48,15 +34,11 @@ returns-then-back c = record {
 
 pub grow-requires : goal.grow-requires
 grow-requires c =
-    let pre = c.requires in
     record {
-      ready = pre.ready;
-      pooled = pre.pooled;
-      movable = movable false _ _ _ c.if-back.false pre.movable;
+      ready = c.requires.ready;
+      pooled = c.requires.pooled;
+      movable = movable false _ _ _ c.if-back.false c.requires.movable;
     }
-
-abbrev after-grow : After-slice_known-14-1 → After-grow
-after-grow c = c.before.before.before.before.before.before.before.before.before.before.before.before.before.before
 
 pub returns : goal.returns
 returns c = record {

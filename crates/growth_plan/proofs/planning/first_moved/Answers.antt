@@ -1,7 +1,6 @@
 use Prim.Native.Nat.{◌*◌, ◌≤◌}
 use native.Mathlib.Nat.{mul-le-mul}
 use native.Mathlib.Omega.{arith}
-use borrow.Author.Rules.{rules}
 use Rattle.hashing.specs.Geometry.{highest}
 use Rattle.hashing.proofs.Bounds.{limits, growth_within}
 use Rattle.growth_plan.proofs.planning.first_moved.Goals as goal
@@ -9,10 +8,9 @@ use Rattle.growth_plan.proofs.planning.first_moved.Goals as goal
 pub overflow_mul-result : goal.overflow_mul-result
 unfolding highest
 overflow_mul-result c =
-    let s = c.before.before.before in
-    let l = limits _ s.requires.parameters_value in
-    let high : c.highest_address.result ≤ 1024 = omega (arith, c.highest_address.ensures, (growth_within _ _ s.requires.growth_value).pages_fit, l.pages_most) in
-    let product : c.highest_address.result * s.args.geometry.parameters.places ≤ 1024 * 32 = mul-le-mul high l.places_most in
+    let l = limits _ c.requires.parameters_value in
+    let high : c.highest_address.result ≤ 1024 = omega (arith, c.highest_address.ensures, (growth_within _ _ c.requires.growth_value).pages_fit, l.pages_most) in
+    let product : c.highest_address.result * c.args.geometry.parameters.places ≤ 1024 * 32 = mul-le-mul high l.places_most in
     record { fits = omega (arith, product) }
 
 pub returns-then-back : goal.returns-then-back

@@ -1,17 +1,14 @@
 use mathlib.Core.Path.{◌∙◌, sym, ap}
-use Prim.Native.Nat.{◌-◌, ◌≤◌}
+use Prim.Native.Nat.{◌-◌}
 use native.Mathlib.Nat.{le_antisymm}
 use native.Mathlib.Omega.{arith}
-use borrow.Author.Rules.{rules}
 use lib.ListN.{length}
-use Rattle.growth_plan.specs.Growth.{state_after}
-use Rattle.growth_plan.proofs.Growing.{Rehomed, rehomed-front, homes-long, home-there, rehomed-next, rehomed-all}
+use Rattle.growth_plan.proofs.Growing.{rehomed-front, homes-long, home-there, rehomed-next, rehomed-all}
 use Rattle.growth_plan.proofs.planning.rehome.Goals as goal
 
 pub loop-i-init : goal.loop-i-init
 loop-i-init c =
-    let pre = c.requires in
-    (omega (arith, c.first_moved-i.ensures, pre.homes_stay.inside), rehomed-front _ _ _ _ _ _ pre.homes_value pre.homes_stay c.first_moved-i.ensures)
+    (omega (arith, c.first_moved-i.ensures, c.requires.homes_stay.inside), rehomed-front _ _ _ _ _ _ c.requires.homes_value c.requires.homes_stay c.first_moved-i.ensures)
 
 pub offset_bounds-homes-i : goal.offset_bounds-homes-i
 offset_bounds-homes-i c = omega arith
@@ -27,10 +24,9 @@ bounds-numbers-i c = omega arith
 
 pub next_home-next-requires : goal.next_home-next-requires
 next_home-next-requires c =
-    let pre = c.requires in
     record {
-      homing = pre.homing;
-      movable = pre.movable;
+      homing = c.requires.homing;
+      movable = c.requires.movable;
       value = home-there _ _ _ _ _ _ c.loop-i.invariant.1 c.loop-i-test.true;
     }
 

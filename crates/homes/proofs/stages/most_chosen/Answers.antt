@@ -20,9 +20,3 @@ returns-in-5 c = rw c.in-5.is
 
 pub returns-in-6 : goal.returns-in-6
 returns-in-6 c = rw c.in-6.is
-
-pub returns-in_default : goal.returns-in_default
-returns-in_default c =
-    let others = c.in_default in
-    let seven : c.args.size ≡ 7 = omega (arith, c.requires, others.1, others.0.1, others.0.0.1, others.0.0.0.1, others.0.0.0.0.1, others.0.0.0.0.0.1) in
-    rw seven

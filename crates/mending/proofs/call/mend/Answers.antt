@@ -2,19 +2,8 @@ use Rattle.hashing.proofs.Bounds.{passed, failed}
 use mathlib.Core.Path.{refl, ap}
 use Rattle.calls.specs.Mend.{mend_under}
 use Rattle.call_guard.proofs.Turned.{in_turn_lem}
-use borrow.Author.Rules.{rules}
 use mathlib.Core.Bool.{not}
-use Rattle.mending.proofs.call.mend.Lts as lts
-use Rattle.mending.proofs.call.mend.Tie as tie
-use Rattle.mending.proofs.call.mend.Reads as reads
 use Rattle.mending.proofs.call.mend.Goals as goal
-use Rattle.mending.proofs.call.mend.Goals.{After-mend_at, After-turn_away}
-
-abbrev After-slice_known-then-not-at_rest-3-1 : Type 0
-After-slice_known-then-not-at_rest-3-1 = lts.After-slice_known10 tie.the-claims reads.Pre reads.Post
-
-abbrev After-slice_known-14-1 : Type 0
-After-slice_known-14-1 = lts.After-slice_known17 tie.the-claims reads.Pre reads.Post
 
 pub turn_away-requires : goal.turn_away-requires
 turn_away-requires c = failed _ _ c.at_rest.ensures (ap not c.if-not-at_rest.true)
@@ -31,15 +20,9 @@ shape_of-words-then-not-at_rest c = refl
 pub shape_of-owners-then-not-at_rest : goal.shape_of-owners-then-not-at_rest
 shape_of-owners-then-not-at_rest c = refl
 
-abbrev after-turn-away : After-slice_known-then-not-at_rest-3-1 → After-turn_away
-after-turn-away c = c.before.before.before.before.before.before
-
 pub returns-then-not-at_rest : goal.returns-then-not-at_rest
 unfolding mend_under
 returns-then-not-at_rest c = c.turn_away.ensures _
-
-abbrev after-mend_at : After-slice_known-14-1 → After-mend_at
-after-mend_at c = c.before.before.before.before.before.before.before.before.before.before.before.before.before.before
 
 pub returns : goal.returns
 unfolding mend_under

@@ -2,7 +2,6 @@ use Prim.Native.Nat.{◌-◌}
 use borrow.Author.Tests.{eq-eqb, ne_eqb}
 use Rattle.hashing.proofs.Bounds.{passed, failed}
 use Rattle.calls.specs.Mend.{valid_item}
-use borrow.Author.Rules.{rules}
 use mathlib.Core.Path.{ap}
 use mathlib.Core.Bool.{not}
 use Rattle.mending.proofs.contents.item_valid.Goals as goal

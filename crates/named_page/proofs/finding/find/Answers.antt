@@ -49,16 +49,11 @@ pub returns-then-page-geometry : goal.returns-then-page-geometry
 returns-then-page-geometry c =
     let s = c.before.before.before.before.before.before.before.before.before.before in
     record {
-      named_as = (rw c.unread.ensures (
+      named_as = rw c.unread.ensures (
         unread-as s.args.geometry.parameters s.args.geometry.growth (file_of s) s.args.number _ _ s.requires.ready.sized s.requires.home_value c.named_from-page.ensures
-            (past-file _ _ _ _ c.if-page-geometry.true),
-        record { long = s.requires.homes_len; homed = λ e. absurd (false≢true e) },
-      )).0;
-      homed_as = (rw c.unread.ensures (
-        unread-as s.args.geometry.parameters s.args.geometry.growth (file_of s) s.args.number _ _ s.requires.ready.sized s.requires.home_value c.named_from-page.ensures
-            (past-file _ _ _ _ c.if-page-geometry.true),
-        record { long = s.requires.homes_len; homed = λ e. absurd (false≢true e) },
-      )).1;
+            (past-file _ _ _ _ c.if-page-geometry.true)
+      );
+      homed_as = rw c.unread.ensures (record { long = s.requires.homes_len; homed = λ e. absurd (false≢true e) });
     }
 
 -- past the first test, the page is one of the file
@@ -91,13 +86,12 @@ pub page_sound-requires : goal.page_sound-requires
 page_sound-requires c =
     let e = c.before.before.before.before.before.before in
     let pre = (begun e).requires in
-    let page = c.load-value.type-inv in
     record {
-      homing = pre.0.homing;
-      separators_len = pre.0.sized.of_separators;
+      homing = pre.ready.homing;
+      separators_len = pre.ready.sized.of_separators;
       page_lt_pages = inside e;
-      numbers_len = (search (rules, page), (search (rules, page), search (rules, page)));
-      homes_len = pre.1.1.1;
+      numbers_len = search rules;
+      homes_len = pre.homes_len;
     }
 
 -- from the test of the page on
@@ -114,20 +108,15 @@ returns-then-not-page_sound c =
     let e = entered t in
     let s = begun e in
     record {
-      named_as = (rw c.unread-then-not-page_sound.ensures (
+      named_as = rw c.unread-then-not-page_sound.ensures (
         unread-as s.args.geometry.parameters s.args.geometry.growth (file_of s) s.args.number _ _ s.requires.ready.sized s.requires.home_value e.named_from-page.ensures
-            (in_file _ _ _ _ _ (inside e) (sym (told t) ∙ c.if-not-page_sound.true)),
-        record { long = t.page_sound.ensures.long; homed = λ e. absurd (false≢true e) },
-      )).0;
-      homed_as = (rw c.unread-then-not-page_sound.ensures (
-        unread-as s.args.geometry.parameters s.args.geometry.growth (file_of s) s.args.number _ _ s.requires.ready.sized s.requires.home_value e.named_from-page.ensures
-            (in_file _ _ _ _ _ (inside e) (sym (told t) ∙ c.if-not-page_sound.true)),
-        record { long = t.page_sound.ensures.long; homed = λ e. absurd (false≢true e) },
-      )).1;
+            (in_file _ _ _ _ _ (inside e) (sym (told t) ∙ c.if-not-page_sound.true))
+      );
+      homed_as = rw c.unread-then-not-page_sound.ensures (record { long = t.page_sound.ensures.long; homed = λ e. absurd (false≢true e) });
     }
 
 pub search-found-requires : goal.search-found-requires
-search-found-requires c = ((limits _ (begun (entered c.before.before.before)).requires.0.homing.valid).places_most, search (rules, c.load-value.type-inv))
+search-found-requires c = ((limits _ c.requires.ready.homing.valid).places_most, search (rules, c.load-value.type_inv))
 
 -- what the search of the page tells of the lent lists
 abbrev tested : After-search-found → After-page_sound
@@ -136,12 +125,12 @@ tested c = c.before.before.before
 abbrev passed : (c : After-search-found) → (tested c).page_sound.result ≡ true
 passed c = c.if-not-page_sound.false
 
-sound : (c : After-search-found) → sound_at (begun (entered (tested c))).args.geometry.parameters (begun (entered (tested c))).args.geometry.growth (file_of (begun (entered (tested c)))) (entered (tested c)).before.before.named-from.result ≡ true
+sound : (c : After-search-found) → sound_at (begun (entered (tested c))).args.geometry.parameters (begun (entered (tested c))).args.geometry.growth (file_of (begun (entered (tested c)))) (entered (tested c)).named_from-page.result ≡ true
 sound c = sym (told (tested c)) ∙ passed c
 
 homes : (c : After-search-found)
-    → take (begun (entered (tested c))).args.geometry.parameters.places (tested c).page_sound.new.1.1.1.1.1.1.1.0
-    ≡ homes_of (begun (entered (tested c))).args.geometry.parameters (begun (entered (tested c))).args.geometry.growth (part (begun (entered (tested c))).args.geometry.parameters.places (entered (tested c)).before.before.named-from.result (begun (entered (tested c))).args.numbers.now)
+    → take (begun (entered (tested c))).args.geometry.parameters.places (tested c).page_sound.new.homes
+    ≡ homes_of (begun (entered (tested c))).args.geometry.parameters (begun (entered (tested c))).args.geometry.growth (part (begun (entered (tested c))).args.geometry.parameters.places (entered (tested c)).named_from-page.result (begun (entered (tested c))).args.numbers.now)
 homes c = (tested c).page_sound.ensures.homed (passed c) ∙ homes-loaded _ _ _ _ _ _ _ (fits (entered (tested c))) (tested c).load-value.ensures
 
 place-below : (c : After-search-found) → c.search-found.result.at ≤ (begun (entered (tested c))).args.geometry.parameters.places
@@ -150,7 +139,7 @@ place-below c =
     place-most (begun e).args.geometry.parameters (file_of (begun e)) (begun e).args.number _ _ _ (fits e) (tested c).load-value.ensures c.search-found.ensures
 
 pub overflow_cast-place : goal.overflow_cast-place
-overflow_cast-place c = omega (arith, place-below c.before, (limits _ (begun (entered (tested c.before))).requires.0.homing.valid).places_most)
+overflow_cast-place c = omega (arith, place-below c.before, (limits _ (begun (entered (tested c.before))).requires.ready.homing.valid).places_most)
 
 pub returns-then-not-found : goal.returns-then-not-found
 returns-then-not-found c =
@@ -158,7 +147,7 @@ returns-then-not-found c =
     let e = entered (tested d) in
     let s = begun e in
     let loaded = (tested d).load-value.ensures in record {
-      named_as = absent_as s.args.geometry.parameters s.args.geometry.growth (file_of s) s.args.number _ _ s.requires.ready.sized s.requires.home_value e.before.before.named-from.ensures _
+      named_as = absent_as s.args.geometry.parameters s.args.geometry.growth (file_of s) s.args.number _ _ s.requires.ready.sized s.requires.home_value e.named_from-page.ensures _
           (in_file _ _ _ _ _ (inside e) (sound d))
           (sym (held-is s.args.geometry.parameters (file_of s) _ _ _ _ (fits e) loaded d.search-found.ensures) ∙ c.if-not-found.true)
           (place_is s.args.geometry.parameters (file_of s) _ _ _ _ (fits e) loaded d.search-found.ensures);
@@ -175,10 +164,10 @@ held c = c.if-not-found.false
 within : (c : Else-not-found) → (sought c).search-found.result.at < (begun (entered (tested (sought c)))).args.geometry.parameters.places
 within c =
     let e = entered (tested (sought c)) in
-    at-below (begun e).args.geometry.parameters (file_of (begun e)) (begun e).args.number _ _ _ (fits e) (tested (sought c)).before.before.before.before.before.before.load.ensures (sought c).search-found.ensures (held c)
+    at-below (begun e).args.geometry.parameters (file_of (begun e)) (begun e).args.number _ _ _ (fits e) (tested (sought c)).load-value.ensures (sought c).search-found.ensures (held c)
 
 few : (c : Else-not-found) → (begun (entered (tested (sought c)))).args.geometry.parameters.places ≤ 32
-few c = (limits _ (begun (entered (tested (sought c)))).requires.0.homing.valid).places_most
+few c = (limits _ (begun (entered (tested (sought c)))).requires.ready.homing.valid).places_most
 
 pub overflow_mul-result : goal.overflow_mul-result
 overflow_mul-result c = let e = entered (tested (sought c.before)) in omega (arith, fits e, items-most _ (begun e).requires.ready.homing.valid, (begun e).requires.ready.sized.of_numbers)
@@ -202,7 +191,7 @@ returns c =
     let e = entered (tested d) in
     let s = begun e in
     let loaded = (tested d).load-value.ensures in record {
-      named_as = held-as s.args.geometry.parameters s.args.geometry.growth (file_of s) s.args.number _ _ s.requires.ready.sized s.requires.home_value e.before.before.named-from.ensures _ _ _ _
+      named_as = held-as s.args.geometry.parameters s.args.geometry.growth (file_of s) s.args.number _ _ s.requires.ready.sized s.requires.home_value e.named_from-page.ensures _ _ _ _
           (in_file _ _ _ _ _ (inside e) (sound d))
           (sym (held-is s.args.geometry.parameters (file_of s) _ _ _ _ (fits e) loaded d.search-found.ensures) ∙ held h)
           (place_is s.args.geometry.parameters (file_of s) _ _ _ _ (fits e) loaded d.search-found.ensures)

@@ -3,7 +3,7 @@ use borrow.Author.Rules.{rules}
 use Rattle.outcome_answer.proofs.growing.grown_by.Goals as goal
 
 pub returns-in-On : goal.returns-in-On
-returns-in-On c = rw (← c.placed_from.ensures, c.page-1.given.1)
+returns-in-On c = rw (← c.placed_from.ensures, c.in-On.is)
 
 pub returns-in-Refused : goal.returns-in-Refused
-returns-in-Refused c = rw (← c.placed_from.ensures, c.refusal-1.given.1, c.unmoved.ensures)
+returns-in-Refused c = rw (← c.placed_from.ensures, c.in-Refused.is, c.unmoved.ensures)

@@ -1,75 +1,61 @@
 -- `own_stars::entering::enter_own` meets its contract.
-use mathlib.Core.Path.{◌≡◌, sym, ◌∙◌}
-use Prim.Native.Nat.{◌-◌, ◌≤◌, ◌<◌}
+use mathlib.Core.Path.{sym, ◌∙◌}
+use Prim.Native.Nat.{◌-◌}
 use native.Mathlib.Omega.{arith}
-use borrow.Author.Rules.{rules}
-use borrow.Author.Tests.{not-true, not-false}
 use Rattle.hashing.proofs.Bounds.{limits}
-use Rattle.placement.specs.Hash.{lent}
-use Rattle.own_stars.proofs.Placing.{Rolling, rolling_begun, rolling_next, rolling_stops}
+use Rattle.own_stars.proofs.Placing.{rolling_begun, rolling_next, rolling_stops}
 use Rattle.own_stars.proofs.entering.enter_own.Goals as goal
-use Rattle.own_stars.proofs.entering.enter_own.Goals.{At-loop-i, Start}
-
-abbrev start : At-loop-i → Start
-start c = c.before.before.before.before.before.before.before.before.before
 
 pub loop-i-init : goal.loop-i-init
 loop-i-init c =
-    let s = c.before.before.before.before.before.before.before.before.before in
-    record { most = s.requires.entered_below.begun; sized = s.requires.ready.sized; pooled = s.requires.pooled; laid_out = λ w l o. o }
+    record { most = c.requires.entered_below.begun; sized = c.requires.ready.sized; pooled = c.requires.pooled; laid_out = λ w l o. o }
 
 pub enter_place-requires : goal.enter_place-requires
 enter_place-requires c =
-    let l = c.before.before.before.before.before.before.before.before in
-    let s = start l in
     let test = c.loop-i-test.true in record {
-      ready = record { homing = s.requires.ready.homing; sized = l.loop-i.invariant.sized };
-      pooled = l.loop-i.invariant.pooled;
-      entered_below = rolling_begun _ _ _ _ _ _ _ _ _ _ s.requires.ready.homing.valid s.requires.ready.homing.growth s.requires.entered_below l.loop-i.invariant test;
+      ready = record { homing = c.requires.ready.homing; sized = c.loop-i.invariant.sized };
+      pooled = c.loop-i.invariant.pooled;
+      entered_below = rolling_begun _ _ _ _ _ _ _ _ _ _ c.requires.ready.homing.valid c.requires.ready.homing.growth c.requires.entered_below c.loop-i.invariant test;
       place_lt_places = test;
     }
 
 pub shape_of-separators-then-not-enter_place : goal.shape_of-separators-then-not-enter_place
-shape_of-separators-then-not-enter_place c = let l = c.before.before.before.before.before.before.before.before.before.before.before.before.before.before.before.before.before.before.before.before.before.before.before.before.before in c.enter_place.auto.separators ∙ l.loop-i.invariant.sized.of_separators ∙ sym (start l).requires.ready.sized.of_separators
+shape_of-separators-then-not-enter_place c = c.enter_place.auto.separators ∙ c.loop-i.invariant.sized.of_separators ∙ sym c.requires.ready.sized.of_separators
 
 pub shape_of-numbers-then-not-enter_place : goal.shape_of-numbers-then-not-enter_place
-shape_of-numbers-then-not-enter_place c = let l = c.before.before.before.before.before.before.before.before.before.before.before.before.before.before.before.before.before.before.before.before.before.before.before.before.before in c.enter_place.auto.numbers ∙ l.loop-i.invariant.sized.of_numbers ∙ sym (start l).requires.ready.sized.of_numbers
+shape_of-numbers-then-not-enter_place c = c.enter_place.auto.numbers ∙ c.loop-i.invariant.sized.of_numbers ∙ sym c.requires.ready.sized.of_numbers
 
 pub shape_of-words-then-not-enter_place : goal.shape_of-words-then-not-enter_place
-shape_of-words-then-not-enter_place c = let l = c.before.before.before.before.before.before.before.before.before.before.before.before.before.before.before.before.before.before.before.before.before.before.before.before.before in c.enter_place.auto.words ∙ l.loop-i.invariant.sized.of_words_lem ∙ sym (start l).requires.ready.sized.of_words_lem
+shape_of-words-then-not-enter_place c = c.enter_place.auto.words ∙ c.loop-i.invariant.sized.of_words_lem ∙ sym c.requires.ready.sized.of_words_lem
 
 pub shape_of-owners-then-not-enter_place : goal.shape_of-owners-then-not-enter_place
-shape_of-owners-then-not-enter_place c = let l = c.before.before.before.before.before.before.before.before.before.before.before.before.before.before.before.before.before.before.before.before.before.before.before.before.before in c.enter_place.auto.owners ∙ l.loop-i.invariant.sized.of_owners ∙ sym (start l).requires.ready.sized.of_owners
+shape_of-owners-then-not-enter_place c = c.enter_place.auto.owners ∙ c.loop-i.invariant.sized.of_owners ∙ sym c.requires.ready.sized.of_owners
 
 pub shape_of-pool-then-not-enter_place : goal.shape_of-pool-then-not-enter_place
-shape_of-pool-then-not-enter_place c = let l = c.before.before.before.before.before.before.before.before.before.before.before.before.before.before.before.before.before.before.before.before.before.before.before.before.before in c.enter_place.auto.pool ∙ l.loop-i.invariant.pooled.of_numbers ∙ sym (start l).requires.pooled.of_numbers
+shape_of-pool-then-not-enter_place c = c.enter_place.auto.pool ∙ c.loop-i.invariant.pooled.of_numbers ∙ sym c.requires.pooled.of_numbers
 
 pub shape_of-waiting-then-not-enter_place : goal.shape_of-waiting-then-not-enter_place
-shape_of-waiting-then-not-enter_place c = let l = c.before.before.before.before.before.before.before.before.before.before.before.before.before.before.before.before.before.before.before.before.before.before.before.before.before in c.enter_place.auto.waiting ∙ l.loop-i.invariant.pooled.of_words_lem ∙ sym (start l).requires.pooled.of_words_lem
+shape_of-waiting-then-not-enter_place c = c.enter_place.auto.waiting ∙ c.loop-i.invariant.pooled.of_words_lem ∙ sym c.requires.pooled.of_words_lem
 
 pub shape_of-poolowners-then-not-enter_place : goal.shape_of-poolowners-then-not-enter_place
-shape_of-poolowners-then-not-enter_place c = let l = c.before.before.before.before.before.before.before.before.before.before.before.before.before.before.before.before.before.before.before.before.before.before.before.before.before in c.enter_place.auto.poolowners ∙ l.loop-i.invariant.pooled.of_owners ∙ sym (start l).requires.pooled.of_owners
+shape_of-poolowners-then-not-enter_place c = c.enter_place.auto.poolowners ∙ c.loop-i.invariant.pooled.of_owners ∙ sym c.requires.pooled.of_owners
 
 pub returns-then-not-enter_place : goal.returns-then-not-enter_place
 returns-then-not-enter_place c =
-    let l = c.before.before.before.before.before.before.before.before.before.before.before.before.before.before.before.before.before.before.before.before.before.before.before.before.before in
-    let s = start l in
-    rolling_stops _ _ _ _ _ _ _ _ _ _ s.requires.ready.homing.valid s.requires.ready.homing.growth s.requires.entered_below l.loop-i.invariant c.loop-i-test.true _ _ c.enter_place.ensures c.if-not-enter_place.true
+    rolling_stops _ _ _ _ _ _ _ _ _ _ c.requires.ready.homing.valid c.requires.ready.homing.growth c.requires.entered_below c.loop-i.invariant c.loop-i-test.true _ _ c.enter_place.ensures c.if-not-enter_place.true
 
 pub overflow_add-i : goal.overflow_add-i
-overflow_add-i c = let l = c.before.before.before.before.before.before.before.before.before.before.before.before.before.before.before.before.before.before.before.before.before.before.before.before.before in omega (arith, c.loop-i-test.true, (limits _ (start l).requires.ready.homing.valid).places_most)
+overflow_add-i c = omega (arith, c.loop-i-test.true, (limits _ c.requires.ready.homing.valid).places_most)
 
 pub loop-i-smaller : goal.loop-i-smaller
 loop-i-smaller c = omega (arith, c.loop-i-test.true)
 
 pub loop-i-preserved : goal.loop-i-preserved
 loop-i-preserved c =
-    let l = c.before.before.before.before.before.before.before.before.before.before.before.before.before.before.before.before.before.before.before.before.before.before.before.before.before in
-    let s = start l in
     let done = c.enter_place in
-    let kept = done.auto.1.1.1.1.1.1 in
-    rolling_next _ _ _ _ _ _ _ _ _ _ s.requires.ready.homing.valid s.requires.ready.homing.growth s.requires.entered_below l.loop-i.invariant c.loop-i-test.true _ _ done.ensures c.if-not-enter_place.false _ _ _
-    (record { of_numbers = kept.0 ∙ l.loop-i.invariant.pooled.of_numbers; of_words_lem = kept.1.0 ∙ l.loop-i.invariant.pooled.of_words_lem; of_owners = kept.1.1.0 ∙ l.loop-i.invariant.pooled.of_owners })
+    let kept = done.auto in
+    rolling_next _ _ _ _ _ _ _ _ _ _ c.requires.ready.homing.valid c.requires.ready.homing.growth c.requires.entered_below c.loop-i.invariant c.loop-i-test.true _ _ done.ensures c.if-not-enter_place.false _ _ _
+    (record { of_numbers = kept.pool ∙ c.loop-i.invariant.pooled.of_numbers; of_words_lem = kept.waiting ∙ c.loop-i.invariant.pooled.of_words_lem; of_owners = kept.poolowners ∙ c.loop-i.invariant.pooled.of_owners })
 
 pub shape_of-separators : goal.shape_of-separators
 shape_of-separators c = c.loop-i.invariant.sized.of_separators ∙ sym c.requires.ready.sized.of_separators

@@ -2,51 +2,49 @@
 use Prim.Native.Nat.{◌-◌, ◌*◌, ◌≤◌}
 use native.Mathlib.Nat.{mul-le-mul}
 use native.Mathlib.Omega.{arith}
-use borrow.Author.Rules.{rules}
-use Rattle.own_stars.proofs.Placing.{Finding, finding-none, finding-own, finding-guest, finding-all}
+use Rattle.own_stars.proofs.Placing.{finding-none, finding-own, finding-guest, finding-all}
 use Rattle.own_stars.proofs.finding.find_own.Goals as goal
-use Rattle.own_stars.proofs.finding.find_own.Goals.{Start}
-
-items : (s : Start) → s.args.page * s.args.places ≤ 32768
-items s =
-    let low : s.args.page ≤ 1024 = omega (arith, s.requires.places_bound.1) in
-    let few : s.args.places ≤ 32 = s.requires.places_bound.0 in
-    omega (arith, mul-le-mul low few)
 
 pub load-own-requires : goal.load-own-requires
-load-own-requires c = let s = c.before.before.before.before.before in record {
-  places_bound = s.requires.places_bound.0;
-  places_in_bounds = s.requires.places_in_bounds;
-  places_in_bounds_2 = s.requires.places_in_bounds_2;
-  places_in_bounds_3 = s.requires.places_in_bounds_3;
+load-own-requires c = record {
+  places_bound = c.requires.places_bound.0;
+  places_in_bounds = c.requires.places_in_bounds;
+  places_in_bounds_2 = c.requires.places_in_bounds_2;
+  places_in_bounds_3 = c.requires.places_in_bounds_3;
 }
 
 pub overflow_mul-first : goal.overflow_mul-first
-overflow_mul-first c = omega (arith, items c.before.before.before.before.before.before)
+overflow_mul-first c =
+    let items : c.args.page * c.args.places ≤ 32768 = let low : c.args.page ≤ 1024 = omega (arith, c.requires.places_bound.1) in let few : c.args.places ≤ 32 = c.requires.places_bound.0 in omega (arith, mul-le-mul low few) in
+    omega (arith, items)
 
 pub overflow_cast-home : goal.overflow_cast-home
-overflow_cast-home c = let s = c.before.before.before.before.before.before in omega (arith, s.requires.places_bound.1)
+overflow_cast-home c = omega (arith, c.requires.places_bound.1)
 
 pub loop-i-init : goal.loop-i-init
-loop-i-init c = let s = c.before.before.before.before.before.before in finding-none _ _ _ _ _ _ _ s.requires.places_bound.0 s.requires.places_in_bounds c.load-own.ensures
+loop-i-init c = finding-none _ _ _ _ _ _ _ c.requires.places_bound.0 c.requires.places_in_bounds c.load-own.ensures
 
 pub overflow_add-i : goal.overflow_add-i
-overflow_add-i c = let s = c.before.before.before.before.before.before.before.before in omega (arith, c.loop-i-test.true, s.requires.places_bound.0)
+overflow_add-i c = omega (arith, c.loop-i-test.true, c.requires.places_bound.0)
 
 pub overflow_add-first : goal.overflow_add-first
-overflow_add-first c = let s = c.before.before.before.before.before.before.before.before in omega (arith, items s, c.loop-i-test.true, s.requires.places_bound.0)
+overflow_add-first c =
+    let items : c.args.page * c.args.places ≤ 32768 = let low : c.args.page ≤ 1024 = omega (arith, c.requires.places_bound.1) in let few : c.args.places ≤ 32 = c.requires.places_bound.0 in omega (arith, mul-le-mul low few) in
+    omega (arith, items, c.loop-i-test.true, c.requires.places_bound.0)
 
 pub offset_bounds-homes-first : goal.offset_bounds-homes-first
-offset_bounds-homes-first c = let s = c.before.before.before.before.before.before.before.before in omega (arith, items s, c.loop-i-test.true, s.requires.places_bound.0)
+offset_bounds-homes-first c =
+    let items : c.args.page * c.args.places ≤ 32768 = let low : c.args.page ≤ 1024 = omega (arith, c.requires.places_bound.1) in let few : c.args.places ≤ 32 = c.requires.places_bound.0 in omega (arith, mul-le-mul low few) in
+    omega (arith, items, c.loop-i-test.true, c.requires.places_bound.0)
 
 pub bounds-homes-first : goal.bounds-homes-first
-bounds-homes-first c = let s = c.before.before.before.before.before.before.before.before.before in omega (arith, c.loop-i-test.true, s.requires.places_in_bounds_4)
+bounds-homes-first c = omega (arith, c.loop-i-test.true, c.requires.places_in_bounds_4)
 
 pub offset_bounds-own-at : goal.offset_bounds-own-at
-offset_bounds-own-at c = let s = c.before.before.before.before.before.before.before.before.before.before in omega (arith, c.loop-i-test.true, s.requires.places_bound.0)
+offset_bounds-own-at c = omega (arith, c.loop-i-test.true, c.requires.places_bound.0)
 
 pub bounds-own-at : goal.bounds-own-at
-bounds-own-at c = let s = c.before.before.before.before.before.before.before.before.before.before in omega (arith, c.loop-i-test.true, s.requires.places_bound.0)
+bounds-own-at c = omega (arith, c.loop-i-test.true, c.requires.places_bound.0)
 
 pub loop-i-smaller-then-homes-first : goal.loop-i-smaller-then-homes-first
 loop-i-smaller-then-homes-first c = omega (arith, c.loop-i-test.true)

@@ -2,42 +2,32 @@
 use mathlib.Core.Path.{◌≡◌, sym, ◌∙◌}
 use Prim.Native.Nat.{◌≤◌}
 use native.Mathlib.Omega.{arith}
-use borrow.Author.Rules.{rules}
 use Rattle.hashing.proofs.Bounds.{limits}
-use Rattle.placement.specs.Hash.{lent}
-use Rattle.own_stars.proofs.Placing.{Emptying, emptying_none, emptying_same, emptying_takes, emptying_next}
+use Rattle.own_stars.proofs.Placing.{emptying_none, emptying_same, emptying_takes, emptying_next}
 use Rattle.own_stars.proofs.taking.take_own.Goals as goal
-use Rattle.own_stars.proofs.taking.take_own.Goals.{After-loop-i, At-loop-i, Start}
-
-abbrev start : At-loop-i → Start
-start c = c.before.before.before.before.before.before.before.before.before
-
-few : (c : At-loop-i) → c.loop-i.i ≤ 32
-few c = omega (arith, c.loop-i.invariant.most, (limits _ (start c).requires.ready.homing.valid).places_most)
-
-ends : (c : After-loop-i) → c.loop-i.i ≡ 0
-ends c = omega arith
 
 pub loop-i-init : goal.loop-i-init
-loop-i-init c = let s = c.before.before.before.before.before.before.before.before.before in emptying_none _ _ _ _ _ _ _ s.requires.ready.sized s.requires.pooled
+loop-i-init c = emptying_none _ _ _ _ _ _ _ c.requires.ready.sized c.requires.pooled
 
 pub overflow_sub-i : goal.overflow_sub-i
 overflow_sub-i c = omega (arith, c.loop-i-test.true)
 
 pub offset_bounds-own-i : goal.offset_bounds-own-i
-offset_bounds-own-i c = omega (arith, few c.before)
+offset_bounds-own-i c =
+    let few : c.loop-i.i ≤ 32 = omega (arith, c.loop-i.invariant.most, (limits _ c.requires.ready.homing.valid).places_most) in
+    omega (arith, few)
 
 pub bounds-own-i : goal.bounds-own-i
-bounds-own-i c = omega (arith, few c.before, c.loop-i-test.true)
+bounds-own-i c =
+    let few : c.loop-i.i ≤ 32 = omega (arith, c.loop-i.invariant.most, (limits _ c.requires.ready.homing.valid).places_most) in
+    omega (arith, few, c.loop-i-test.true)
 
 pub take_one-requires : goal.take_one-requires
 take_one-requires c =
-    let l = c.before.before.before.before.before.before.before.before.before.before in
-    let s = start l in
     let test = c.loop-i-test.true in record {
-      ready = record { homing = s.requires.ready.homing; sized = l.loop-i.invariant.sized };
-      pooled = l.loop-i.invariant.pooled;
-      takeable = emptying_takes _ _ _ _ _ _ _ _ _ _ s.requires.ready.homing.valid s.requires.ready.homing.growth s.requires.takeable_own l.loop-i.invariant test c.if-number-ne0.true;
+      ready = record { homing = c.requires.ready.homing; sized = c.loop-i.invariant.sized };
+      pooled = c.loop-i.invariant.pooled;
+      takeable = emptying_takes _ _ _ _ _ _ _ _ _ _ c.requires.ready.homing.valid c.requires.ready.homing.growth c.requires.takeable_own c.loop-i.invariant test c.if-number-ne0.true;
     }
 
 pub loop-i-smaller-then-number-ne0 : goal.loop-i-smaller-then-number-ne0
@@ -45,21 +35,17 @@ loop-i-smaller-then-number-ne0 c = omega (arith, c.loop-i-test.true)
 
 pub loop-i-preserved-then-number-ne0 : goal.loop-i-preserved-then-number-ne0
 loop-i-preserved-then-number-ne0 c =
-    let l = c.before.before.before.before.before.before.before.before.before.before.before.before.before.before.before.before.before.before.before.before.before.before.before.before.before.before in
-    let s = start l in
     let took = c.take_one in
-    let kept = took.auto.1.1.1.1.1.1 in
-    emptying_next _ _ _ _ _ _ _ _ _ _ s.requires.ready.homing.valid s.requires.ready.homing.growth s.requires.takeable_own l.loop-i.invariant c.loop-i-test.true c.if-number-ne0.true _ _ _ _ took.ensures
-    (record { of_numbers = kept.0 ∙ l.loop-i.invariant.pooled.of_numbers; of_words_lem = kept.1.0 ∙ l.loop-i.invariant.pooled.of_words_lem; of_owners = kept.1.1.0 ∙ l.loop-i.invariant.pooled.of_owners })
+    let kept = took.auto in
+    emptying_next _ _ _ _ _ _ _ _ _ _ c.requires.ready.homing.valid c.requires.ready.homing.growth c.requires.takeable_own c.loop-i.invariant c.loop-i-test.true c.if-number-ne0.true _ _ _ _ took.ensures
+    (record { of_numbers = kept.pool ∙ c.loop-i.invariant.pooled.of_numbers; of_words_lem = kept.waiting ∙ c.loop-i.invariant.pooled.of_words_lem; of_owners = kept.poolowners ∙ c.loop-i.invariant.pooled.of_owners })
 
 pub loop-i-smaller : goal.loop-i-smaller
 loop-i-smaller c = omega (arith, c.loop-i-test.true)
 
 pub loop-i-preserved : goal.loop-i-preserved
 loop-i-preserved c =
-    let l = c.before.before.before in
-    let s = start l in
-    emptying_same _ _ _ _ _ _ _ _ _ _ s.requires.ready.homing.valid s.requires.ready.homing.growth s.requires.takeable_own l.loop-i.invariant c.loop-i-test.true c.if-number-ne0.false
+    emptying_same _ _ _ _ _ _ _ _ _ _ c.requires.ready.homing.valid c.requires.ready.homing.growth c.requires.takeable_own c.loop-i.invariant c.loop-i-test.true c.if-number-ne0.false
 
 pub shape_of-separators : goal.shape_of-separators
 shape_of-separators c = c.loop-i.invariant.sized.of_separators ∙ sym c.requires.ready.sized.of_separators
@@ -83,4 +69,6 @@ pub shape_of-poolowners : goal.shape_of-poolowners
 shape_of-poolowners c = c.loop-i.invariant.pooled.of_owners ∙ sym c.requires.pooled.of_owners
 
 pub returns : goal.returns
-returns c w listed laid = let l = c.before in rw (ends c) at (l.loop-i.invariant.laid_out w listed laid)
+returns c w listed laid =
+    let ends : c.loop-i.i ≡ 0 = omega arith in
+    rw ends at (c.loop-i.invariant.laid_out w listed laid)

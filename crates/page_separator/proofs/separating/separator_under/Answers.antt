@@ -31,12 +31,12 @@ bounds : (s : Start) → Limits s.args.parameters
 bounds s = limits s.args.parameters s.requires.signers.valid
 
 sums : (k : After-tally_signatures) (v : ℕ) → v ≤ 256
-    → sum_to v k.tally_signatures.new.1.1.1.1.1.1.0 ≡ length (staying_words (start k).args.parameters (start k).args.page v (probing (start k)))
-sums k v h = staying-sum (start k).args.parameters (start k).args.page (probing (start k)) k.tally_signatures.new.1.1.1.1.1.1.0 k.tally_signatures.ensures.by_index v h
+    → sum_to v k.tally_signatures.new.counts ≡ length (staying_words (start k).args.parameters (start k).args.page v (probing (start k)))
+sums k v h = staying-sum (start k).args.parameters (start k).args.page (probing (start k)) k.tally_signatures.new.counts k.tally_signatures.ensures.by_index v h
 
 -- all signatures are below the greatest separator
 full : (k : After-tally_signatures) (v : ℕ) → top_of_lem (start k).args.parameters.bits ≤ v → v ≤ 256
-    → sum_to v k.tally_signatures.new.1.1.1.1.1.1.0 ≡ (start k).args.reach - (start k).args.from
+    → sum_to v k.tally_signatures.new.counts ≡ (start k).args.reach - (start k).args.from
 full k v h u =
     let s = start k in
     sums k v u ∙ staying-full s.args.parameters s.args.page (bounds s).bits_least (probing s) v h

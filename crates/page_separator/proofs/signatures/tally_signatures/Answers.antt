@@ -56,14 +56,14 @@ pub factor_for-factor-requires : goal.factor_for-factor-requires
 factor_for-factor-requires c =
     let k = c.before.before.before in
     let p = (start k).requires in record {
-      signers = p.0;
+      signers = p.signers;
       last_value = k.loop-i.invariant.0;
       word_bound = (
         leb-true _ _
-            (slice_all (λ w. leb (home_of w) (start k).args.page) _ _ _ k.loop-i.i p.1.0.homes p.1.0.inside k.loop-i.invariant.1.0.least (omega arith)),
-        p.1.0.page,
+            (slice_all (λ w. leb (home_of w) (start k).args.page) _ _ _ k.loop-i.i p.probing.homes p.probing.inside k.loop-i.invariant.1.0.least (omega arith)),
+        p.probing.page,
       );
-      word_in_bounds = p.1.1.1.1 k.loop-i.i k.loop-i.invariant.1.0.least (omega arith);
+      word_in_bounds = p.signable k.loop-i.i k.loop-i.invariant.1.0.least (omega arith);
     }
 
 pub signature_of-signature-requires : goal.signature_of-signature-requires

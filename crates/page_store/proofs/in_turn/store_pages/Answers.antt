@@ -68,11 +68,11 @@ loop-turn-preserved c =
     let h = c.loop-turn-test.true in
     let t = storing_told m page c.page_differs.result e h c.page_differs.ensures in
     elim c.if-page_differs.branch [
-      then-page_differs+else-stored-limit w ↦
-        rw w.stored-is
-        (storing_store m page c.if-page_differs.numbers c.if-page_differs.words c.if-page_differs.owners e h w.if-stored-limit.false (t ∙ w.if-page_differs.true)
-        (w.numbers-is ∙ w.store_page.ensures.numbers_after) (w.words-is ∙ w.store_page.ensures.words_after) (w.owners-is ∙ w.store_page.ensures.owners_after))
-    | else-page_differs w ↦ rw (w.numbers-is, w.words-is, w.owners-is, w.stored-is) (storing_skip m h (t ∙ w.if-page_differs.false))
+      | then-page_differs+else-stored-limit w ↦
+          rw w.stored-is
+          (storing_store m page c.if-page_differs.numbers c.if-page_differs.words c.if-page_differs.owners e h w.if-stored-limit.false (t ∙ w.if-page_differs.true)
+          (w.numbers-is ∙ w.store_page.ensures.numbers_after) (w.words-is ∙ w.store_page.ensures.words_after) (w.owners-is ∙ w.store_page.ensures.owners_after))
+      | else-page_differs w ↦ rw (w.numbers-is, w.words-is, w.owners-is, w.stored-is) (storing_skip m h (t ∙ w.if-page_differs.false))
     ]
 
 pub shape_of-numbers : goal.shape_of-numbers

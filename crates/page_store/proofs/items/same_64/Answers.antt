@@ -41,8 +41,8 @@ loop-i-preserved c =
     let l = c.loop-i in (
       omega arith,
       elim c.if-one-at.branch [
-        then-one-at w ↦ w.same-is ∙ agree_no a.at a.items l.i a.one.now a.other.now (omega arith) (omega arith) (omega arith) w.if-one-at.true
-      | else-one-at w ↦ w.same-is ∙ agree_yes a.at a.items l.i a.one.now a.other.now (omega arith) (omega arith) (omega arith) l.same w.if-one-at.false l.invariant.1
+        | then-one-at w ↦ w.same-is ∙ agree_no a.at a.items l.i a.one.now a.other.now (omega arith) (omega arith) (omega arith) w.if-one-at.true
+        | else-one-at w ↦ w.same-is ∙ agree_yes a.at a.items l.i a.one.now a.other.now (omega arith) (omega arith) (omega arith) l.same w.if-one-at.false l.invariant.1
       ],
     )
 

@@ -74,8 +74,8 @@ returns c =
     let reached = c.if-unsound-known.false in
     let known = s.requires.known in
     let below : s.args.known < s.args.geometry.parameters.pages = omega (arith, s.requires.from_le_known.1, s.requires.stop_le_pages) in record {
-      value = lowest_first_lem _ _ (file s) _ _ _ (lowest_around _ _ (file s) _ _ _ _ _ d.survey-unsound.ensures.lowest reached (known.sound below) e.ensures.0) _ (omega (arith, s.requires.from_le_known));
+      value = lowest_first_lem _ _ (file s) _ _ _ (lowest_around _ _ (file s) _ _ _ _ _ d.survey-unsound.ensures.lowest reached (known.sound below) e.ensures.lowest) _ (omega (arith, s.requires.from_le_known));
       homes_after = λ _.
           homes-around s.args.geometry (file s) s.args.from s.args.known s.args.stop _ s.args.homes.now _ _ s.requires.ready.sized s.requires.homes_len s.requires.from_le_known.0 s.requires.from_le_known.1 s.requires.stop_le_pages
-          d.survey-unsound.ensures.lowest reached known d.survey-unsound.auto.homes d.survey-unsound.ensures.homes_after e.ensures.1;
+          d.survey-unsound.ensures.lowest reached known d.survey-unsound.auto.homes d.survey-unsound.ensures.homes_after e.ensures.homes_after;
     }

@@ -103,7 +103,7 @@ returns-then-not-item c =
     let l = c.before.before.before.before.before.before.before.before in
     let s = (start l).args in
     page-refused s.geometry s.separators.now s.numbers.now s.words.now s.owners.now s.at s.page
-    (lent-refused _ _ _ _ s.numbers.now s.words.now s.owners.now s.at l.loop-i.invariant.1 l.loop-i-test.true (failed _ _ c.admitted-item.ensures.sound (ap not c.if-not-item.true)))
+    (lent-refused _ _ _ _ s.numbers.now s.words.now s.owners.now s.at l.loop-i.invariant.1 l.loop-i-test.true (failed _ _ c.admitted-item.ensures.sound ((ap not ap) not c.if-not-item.true)))
 
 pub loop-i-smaller : goal.loop-i-smaller
 loop-i-smaller c = omega (arith, c.loop-i-test.true)

@@ -55,7 +55,7 @@ returns-then-not-item c =
     let item = c.admitted-item.ensures in
     let inside = c.loop-i-test.true in
     let done = c.loop-i.invariant.2 in
-    let refused = admitting-refused _ _ _ _ done.admitting inside (failed _ _ item.sound (ap not c.if-not-item.true)) in
+    let refused = admitting-refused _ _ _ _ done.admitting inside (failed _ _ item.sound ((ap not ap) not c.if-not-item.true)) in
     record { sound = simp (refused, and-false); long = done.long; homed = λ e. absurd (false≢true e) }
 
 abbrev start_of : Else-not-item → Start

@@ -51,7 +51,7 @@ low-page : (c : After-of_page) → (start c).args.page < 1024
 low-page c = omega (arith, (start c).requires.page_lt_pages, (limits _ (start c).requires.homing.valid).pages_most)
 
 -- the homes before the first empty place are found
-homed : (c : After-of_page) → Found (start c).args.geometry (start c).args.numbers.now c.of_page.new.1.1.1.1.0
+homed : (c : After-of_page) → Found (start c).args.geometry (start c).args.numbers.now c.of_page.new.pages.1.1.1.0
 homed c =
     let s = start c in
     let led = c.occupied_places-occupied.ensures in
@@ -63,7 +63,7 @@ count_far-requires c = low-page c.before.before
 
 testable : (c : After-of_page) →
     let a = (start c).args in
-    Testable a.geometry a.separators.now a.page a.numbers.now a.words.now a.owners.now c.of_page.new.1.1.1.1.0 a.homes.now
+    Testable a.geometry a.separators.now a.page a.numbers.now a.words.now a.owners.now c.of_page.new.pages.1.1.1.0 a.homes.now
 testable c =
     let p = (start c).requires in
     record {

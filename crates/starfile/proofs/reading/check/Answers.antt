@@ -13,10 +13,10 @@ use Rattle.starfile.proofs.reading.check.Reads as reads
 use Rattle.starfile.proofs.reading.check.Goals as goal
 
 abbrev After-check : Type 0
-After-check = lts.After-check tie.the-claims reads.Pre reads.Post
+After-check = lts.After-check tie.the-claims reads.Pre reads.Post tie.handed_clauses
 
 abbrev After-slice_known-6-1 : Type 0
-After-slice_known-6-1 = lts.After-slice_known6 tie.the-claims reads.Pre reads.Post
+After-slice_known-6-1 = lts.After-slice_known6 tie.the-claims reads.Pre reads.Post tie.handed_clauses
 
 pub returns-then-not-steps_valid : goal.returns-then-not-steps_valid
 unfolding checked refused_by check_under

@@ -12,10 +12,10 @@ use Rattle.starfile.proofs.writing.remove.Goals as goal
 use Rattle.starfile.proofs.writing.remove.Goals.{After-remove, After-turn_away}
 
 abbrev After-slice_known-then-not-at_rest-3-1 : Type 0
-After-slice_known-then-not-at_rest-3-1 = lts.After-slice_known10 tie.the-claims reads.Pre reads.Post
+After-slice_known-then-not-at_rest-3-1 = lts.After-slice_known10 tie.the-claims reads.Pre reads.Post tie.handed_clauses
 
 abbrev After-slice_known-14-1 : Type 0
-After-slice_known-14-1 = lts.After-slice_known17 tie.the-claims reads.Pre reads.Post
+After-slice_known-14-1 = lts.After-slice_known17 tie.the-claims reads.Pre reads.Post tie.handed_clauses
 
 pub turn_away-requires : goal.turn_away-requires
 turn_away-requires c = failed _ _ c.at_rest.ensures (ap not c.if-not-at_rest.true)

@@ -22,7 +22,7 @@ loop-i-init c =
       (
         s.requires.from_le_count.0,
         (
-          none-marked s.args.multiplier s.args.from s.args.t3 s.args.filter.now f.new.0 s.requires.multiplier_value.1 f.ensures,
+          none-marked s.args.multiplier s.args.from s.args.reports s.args.filter.now f.new.to s.requires.multiplier_value.1 f.ensures,
           rw f.ensures (simp length-replicate s.requires.multiplier_value.1),
         ),
       ),
@@ -47,13 +47,13 @@ loop-i-preserved c =
     let m = c.before.before.before in
     let t = c.before.before.before.before.before.before.before in
     let s = t.before.before.before.before.before.before in
-    let size : length s.args.t3 ≡ 256 = search rules in
+    let size : length s.args.reports ≡ 256 = search rules in
     let below : t.loop-i.i < s.args.count = omega arith in (
       omega arith,
       (
         omega arith,
         (
-          one-marked s.args.multiplier s.args.from t.loop-i.i s.args.t3 t.loop-i.filter _ (get_or s.args.t3 t.loop-i.i no_report) t.loop-i.invariant.0 (omega (arith, size, below, s.requires.from_le_count.1)) t.loop-i.invariant.1.1.0 refl m.mark.ensures,
+          one-marked s.args.multiplier s.args.from t.loop-i.i s.args.reports t.loop-i.filter _ (get_or s.args.reports t.loop-i.i no_report) t.loop-i.invariant.0 (omega (arith, size, below, s.requires.from_le_count.1)) t.loop-i.invariant.1.1.0 refl m.mark.ensures,
           rw (m.mark.ensures, length_marked) t.loop-i.invariant.1.1.1,
         ),
       ),

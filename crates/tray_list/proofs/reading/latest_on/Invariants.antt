@@ -6,7 +6,7 @@ use Rattle.tray_list.specs.Latest.{latest_in, nothing}
 use Rattle.tray_list.proofs.reading.latest_on.Given as goal
 
 abbrev pub invariant-loop-i : goal.invariant-loop-i
-invariant-loop-i l = (l.i ≤ l.count) × (l.found ≡ latest_in l.number nothing (take l.i l.reports.now))
+invariant-loop-i l = (l.i ≤ l.count) × (l.found ≡ latest_in l.number nothing (take l.i l.reports))
 
 abbrev pub decreases-loop-i : goal.decreases-loop-i
 decreases-loop-i l = l.count - l.i

@@ -1,0 +1,13 @@
+-- `tray_filter::counting::bits` meets its contract.
+use borrow.Author.Tests.{eq-eqb, ne_eqb}
+use Rattle.reports.specs.Bits.{bits_of}
+use Rattle.tray_filter.specs.Shown.{shown}
+use Rattle.tray_filter.proofs.counting.bits.Goals as goal
+
+pub returns-then-filter-ne32 : goal.returns-then-filter-ne32
+unfolding shown bits_of
+returns-then-filter-ne32 c = ?
+
+pub returns : goal.returns
+unfolding shown bits_of
+returns c = ?
